@@ -1,0 +1,91 @@
+-- The nodes of a tree, and the way from a leaf to the root.
+use Rattle.std.proofs.Common.{◌≡◌, ℕ, zero, suc, ◌+◌, ◌-◌, ◌*◌, ◌/◌, ◌%◌, ◌^◌, ◌<◌, ◌≤◌, List, refl, sym, ◌∙◌, ap, inl, inr, arith, lit<}
+use Rattle.std.proofs.lemmas.Bool.{cases_lt}
+use Rattle.std.proofs.lemmas.Bool.Decides.{nat_tests, eqb_tells}
+use Rattle.std.proofs.lemmas.Nat.{le-div}
+use Rattle.std.proofs.Math.Nat.{pow-suc, pow-succ', div-div-eq-div-mul, div-le_self}
+use Rattle.lms_tree.specs.declared.secret.Secret.{Secret}
+use Rattle.lms_tree.specs.Kinds.{height, leaf_count}
+use Rattle.lms_tree.specs.Lms.{leaf, inner_hash, node, node_above, parent, climb, sibling, path_of}
+
+positive_pow : (k : ℕ) → 0 < 2 ^ k
+positive_pow zero = lit< tt
+positive_pow (suc k) = rw (pow-succ' 2 k) (omega (arith, positive_pow k))
+
+node_above-leaf : (secret : Secret) (n r : ℕ) → leaf_count secret.tree ≤ r → node_above secret n r ≡ leaf secret r
+unfolding node_above
+node_above-leaf secret zero r low = refl
+node_above-leaf secret (suc n) r low = grind (arith, nat_tests)
+
+node_above-inner : (secret : Secret) (n r : ℕ) → r < leaf_count secret.tree
+    → node_above secret (suc n) r
+    ≡ inner_hash secret.id r (node_above secret n (2 * r)) (node_above secret n (2 * r + 1))
+unfolding node_above
+node_above-inner secret n r high = grind (arith, nat_tests)
+
+-- one level more changes nothing, where the leaves are reached
+node_above-more : (secret : Secret) (n r : ℕ) → leaf_count secret.tree ≤ r * 2 ^ n
+    → node_above secret (suc n) r ≡ node_above secret n r
+node_above-more secret zero r reached =
+    node_above-leaf secret 1 r (omega arith) ∙ sym (node_above-leaf secret 0 r (omega arith))
+node_above-more secret (suc n) r reached =
+    elim (cases_lt r (leaf_count secret.tree)) [
+      | inl high ↦
+          let below = λ (s : ℕ). node_above-more secret n s in
+          let power = pow-succ' 2 n in
+          let doubled : r * 2 ^ suc n ≡ 2 * r * 2 ^ n = rw power (grind arith) in
+          let left = below (2 * r) (omega arith) in
+          let right = below (2 * r + 1) (grind arith) in
+          node_above-inner secret (suc n) r high
+          ∙ ap (λ t. inner_hash secret.id r t (node_above secret (suc n) (2 * r + 1))) left
+          ∙ ap (λ t. inner_hash secret.id r (node_above secret n (2 * r)) t) right
+          ∙ sym (node_above-inner secret n r high)
+      | inr low ↦ node_above-leaf secret (suc (suc n)) r low ∙ sym (node_above-leaf secret (suc n) r low)
+    ]
+
+-- a node from the leaves on is a leaf
+pub node-leaf : (secret : Secret) (r : ℕ) → leaf_count secret.tree ≤ r → node secret r ≡ leaf secret r
+unfolding node
+node-leaf secret r low = node_above-leaf secret (height secret.tree) r low
+
+-- a node above the leaves is the hash of the two below it
+pub node-inner : (secret : Secret) (r : ℕ) → 1 ≤ r → r < leaf_count secret.tree
+    → node secret r ≡ inner_hash secret.id r (node secret (2 * r)) (node secret (2 * r + 1))
+unfolding node
+node-inner secret r counted high =
+    let reached : 1 * 2 ^ height secret.tree ≤ r * 2 ^ height secret.tree = grind arith in
+    sym (node_above-more secret (height secret.tree) r (omega arith))
+    ∙ node_above-inner secret (height secret.tree) r high
+
+-- a node and its sibling have the parent that the tree has
+pub parent-node : (secret : Secret) (m : ℕ) → 2 ≤ m → m < 2 * leaf_count secret.tree
+    → parent secret.id m (node secret m) (node secret (sibling m)) ≡ node secret (m / 2)
+unfolding parent
+parent-node secret m low high =
+    let inner = node-inner secret (m / 2) (omega arith) (omega arith) in
+    elim (eqb_tells (m % 2) 1) [
+      | inl odd ↦
+          let left : 2 * (m / 2) ≡ m - 1 = omega (arith, odd.1) in
+          let right : 2 * (m / 2) + 1 ≡ m = omega (arith, odd.1) in
+          rw (odd.0, inner, right, left) refl
+      | inr even ↦
+          let left : 2 * (m / 2) ≡ m = omega (arith, even.1) in
+          let right : 2 * (m / 2) + 1 ≡ m + 1 = omega (arith, even.1) in
+          rw (even.0, inner, right, left) refl
+    ]
+
+-- the way up from node n, with the siblings that the tree has, goes over the tree's nodes
+pub climb-nodes : (secret : Secret) (n k : ℕ) → 2 ^ k ≤ n → n < 2 * leaf_count secret.tree
+    → climb secret.id (λ i. node secret (sibling (n / 2 ^ i))) n (node secret n) k ≡ node secret (n / 2 ^ k)
+unfolding climb
+climb-nodes secret n zero low high = ap (node secret) (omega arith)
+climb-nodes secret n (suc k) low high =
+    let m = n / 2 ^ k in
+    let power = pow-succ' 2 k in
+    let twice : 2 * 2 ^ k ≤ n = rw (← power) low in
+    let halved : m / 2 ≡ n / 2 ^ suc k = div-div-eq-div-mul n (2 ^ k) 2 ∙ ap (λ d. n / d) (sym (pow-suc 2 k)) in
+    let two : 2 ≤ m = le-div 2 n (2 ^ k) (positive_pow k) twice in
+    let within = div-le_self n (2 ^ k) in
+    let before = climb-nodes secret n k (omega arith) high in
+    ap (λ t. parent secret.id m t (node secret (sibling m))) before
+    ∙ parent-node secret m two (omega arith) ∙ ap (node secret) halved

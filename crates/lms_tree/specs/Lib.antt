@@ -1,0 +1,3 @@
+pub mod Kinds
+pub mod Lms
+pub mod Leaves

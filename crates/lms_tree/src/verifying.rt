@@ -1,0 +1,106 @@
+//! Whether a signature is good.
+
+ghost use Rattle.std.specs.Prelude.{◌≡◌, ◌+◌, ◌*◌, ◌≤◌, ◌<◌, ◌++◌, ◌↔◌, IsOk, length, drop};
+ghost use Rattle.std.specs.Int.{w16, w32, to_be_bytes};
+ghost use Rattle.lms_ots.specs.Ots as ots;
+ghost use Rattle.lms_tree.specs.Kinds.{height, leaf_count, signature_length};
+ghost use Rattle.lms_tree.specs.Lms.{Verifies, leaf_hash, inner_hash, parent, climb, root_in, verdict_of, index_in, one_time_in, number_at};
+
+use crate::key::PublicKey;
+use crate::kind::SigFault;
+use crate::places::number_at;
+use lms_ots::OtsKind;
+use sha2::{Digest, Sha256};
+
+/// What a leaf's hash has after the identifier and the node's number.
+const D_LEAF: u16 = 0x8282;
+
+/// What an inner node's hash has after the identifier and the node's number.
+const D_INTR: u16 = 0x8383;
+
+/// Whether `signature` is a signature of `message` under `key` (RFC 8554, section 5.4.2).
+#[tactic(auto, unfolding(crate::specs::Lms::verdict_of))]
+pub fn verify(key: &PublicKey, message: &[u8], signature: &[u8]) -> Result<(), SigFault>
+    ensures verdict { result ≡ verdict_of key.now message.now signature.now }
+{
+    if signature.len() != key.signature_length() {
+        return Err(SigFault::Length {
+            found: signature.len(),
+        });
+    }
+    let found = number_at(signature, 4 + key.ots.signature_length());
+    if found != key.tree.type_number() {
+        return Err(SigFault::TreeType { found });
+    }
+    let found = number_at(signature, 4);
+    if found != key.ots.type_number() {
+        return Err(SigFault::OtsType { found });
+    }
+    let q = number_at(signature, 0);
+    if q >= key.tree.leaf_count() {
+        return Err(SigFault::Index { q });
+    }
+    if root_of(key, message, signature).as_slice() != key.root.as_slice() {
+        return Err(SigFault::Root);
+    }
+    Ok(())
+}
+
+// The root that a signature leads to. Its types are the key's, and the key has its leaf.
+fn root_of(key: &PublicKey, message: &[u8], signature: &[u8]) -> [u8; 32]
+    requires long { length signature.now ≡ signature_length key.now.tree key.now.ots }
+    requires kind { number_at 4 signature.now ≡ ots.type_number key.now.ots }
+    requires leaf { index_in signature.now < leaf_count key.now.tree }
+    ensures { result ≡ root_in key.now message.now signature.now }
+{
+    let q = number_at(signature, 0);
+    let path_at = 8 + key.ots.signature_length();
+    let mut node = key.tree.leaf_count() + q;
+    let one_time = [0; 32];
+    let mut value = leaf_hash(&key.id, node, &one_time);
+    for height in 0..key.tree.height() {
+        let at = path_at + 32 * height;
+        value = parent(&key.id, node, &value, &signature[at..at + 32]);
+        node /= 2;
+    }
+    value
+}
+
+/// The hash of the leaf at node `r`, whose one-time key is `one_time`.
+#[tactic(auto, unfolding(crate::specs::Lms::leaf_hash))]
+pub fn leaf_hash(id: &[u8; 16], r: u32, one_time: &[u8; 32]) -> [u8; 32]
+    ensures { result ≡ leaf_hash id.now r one_time.now }
+{
+    let mut hasher = Sha256::new();
+    hasher.update(id);
+    hasher.update(&r.to_be_bytes());
+    hasher.update(&D_LEAF.to_be_bytes());
+    hasher.update(one_time);
+    hasher.finalize()
+}
+
+/// The hash of the inner node `r`.
+#[tactic(auto, unfolding(crate::specs::Lms::inner_hash))]
+pub fn inner_hash(id: &[u8; 16], r: u32, left: &[u8], right: &[u8]) -> [u8; 32]
+    ensures { result ≡ inner_hash id.now r left.now right.now }
+{
+    let mut hasher = Sha256::new();
+    hasher.update(id);
+    hasher.update(&r.to_be_bytes());
+    hasher.update(&D_INTR.to_be_bytes());
+    hasher.update(left);
+    hasher.update(right);
+    hasher.finalize()
+}
+
+// The parent of a node and its sibling.
+#[tactic(auto, unfolding(crate::specs::Lms::parent))]
+fn parent(id: &[u8; 16], node: u32, value: &[u8; 32], sibling: &[u8]) -> [u8; 32]
+    ensures { result ≡ parent id.now node value.now sibling.now }
+{
+    if node % 2 == 1 {
+        inner_hash(id, node / 2, sibling, value)
+    } else {
+        inner_hash(id, node / 2, value, sibling)
+    }
+}
