@@ -1,7 +1,6 @@
 -- Digits, chains and the values of a key: their bounds, their lengths, and how they join.
 use Rattle.std.proofs.Common.{◌≡◌, ℕ, zero, suc, ◌+◌, ◌-◌, ◌*◌, ◌/◌, ◌%◌, ◌^◌, ◌<◌, ◌≤◌, List, [], ◌∷◌, ◌++◌, length, take, drop, refl, sym, ◌∙◌, ap, arith, length-append, length-drop, append_assoc, append-nil, add-one, inl, inr}
-use Rattle.std.specs.Prelude.{slice_range}
-use Rattle.std.proofs.lemmas.List.{take-append-le, take_at, drop_at, drop-append-le}
+use Rattle.std.proofs.lemmas.List.{take-append-le, drop_at, drop-append-le}
 use Rattle.std.proofs.lemmas.Nat.{and_le_l}
 use Rattle.std.proofs.lemmas.Bool.{cases_lt}
 use Rattle.std.proofs.Math.Nat.{add-suc, mod-eq_of_lt}
@@ -83,16 +82,16 @@ unfolding joined
 joined-at values zero i even below = absurd (omega arith)
 joined-at values (suc n) i even below =
     elim (cases_lt i n) [
-        inl lt ↦
-            let long = length-joined values n even in
-            let inside : 32 * i ≤ length (joined values n) = omega arith in
-            let room : 32 ≤ length (drop (32 * i) (joined values n)) = omega (arith, length-drop (32 * i) (joined values n)) in
-            rw (drop-append-le (32 * i) (joined values n) (values n) inside)
-                (take-append-le 32 (drop (32 * i) (joined values n)) (values n) room ∙ joined-at values n i even lt)
+      | inl lt ↦
+          let long = length-joined values n even in
+          let inside : 32 * i ≤ length (joined values n) = omega arith in
+          let room : 32 ≤ length (drop (32 * i) (joined values n)) = omega (arith, length-drop (32 * i) (joined values n)) in
+          rw (drop-append-le (32 * i) (joined values n) (values n) inside)
+          (take-append-le 32 (drop (32 * i) (joined values n)) (values n) room ∙ joined-at values n i even lt)
       | inr ge ↦
-            let same : i ≡ n = omega arith in
-            let place : length (joined values n) ≡ 32 * i = omega (arith, length-joined values n even) in
-            rw (drop_at (joined values n) (values n) (32 * i) place, same) (take_whole (values n) 32 (even.each n))
+          let same : i ≡ n = omega arith in
+          let place : length (joined values n) ≡ 32 * i = omega (arith, length-joined values n even) in
+          rw (drop_at (joined values n) (values n) (32 * i) place, same) (take_whole (values n) 32 (even.each n))
     ]
 
 -- the joined values follow from the single ones
@@ -140,7 +139,7 @@ checksum-is kind s sum n shift summed all shifted =
 pub signature_value-laid_out : (kind : OtsKind) (id : List ℕ) (q : ℕ) (seed hash digits : List ℕ) (i : ℕ)
     → digits ≡ with_checksum kind hash
     → chain (hash_prefix id q i) 0 (coef digits i (width kind)) (secret id q seed i)
-        ≡ signature_value kind id q seed hash i
+    ≡ signature_value kind id q seed hash i
 unfolding signature_value digit
 signature_value-laid_out kind id q seed hash digits i laid =
     ap (λ d. chain (hash_prefix id q i) 0 (coef d i (width kind)) (secret id q seed i)) laid
@@ -148,7 +147,7 @@ signature_value-laid_out kind id q seed hash digits i laid =
 pub candidate_end-laid_out : (kind : OtsKind) (id : List ℕ) (q : ℕ) (hash digits signature value : List ℕ) (i : ℕ)
     → digits ≡ with_checksum kind hash → value ≡ value_in signature i
     → chain (hash_prefix id q i) (coef digits i (width kind)) (greatest_digit kind - coef digits i (width kind)) value
-        ≡ candidate_end kind id q hash signature i
+    ≡ candidate_end kind id q hash signature i
 unfolding candidate_end digit
 candidate_end-laid_out kind id q hash digits signature value i laid same = rw (laid, same) refl
 

@@ -1,5 +1,5 @@
 -- Every signature opens to the public value of its key.
-use Rattle.std.proofs.Common.{◌≡◌, ℕ, ◌+◌, ◌-◌, ◌*◌, ◌<◌, ◌≤◌, List, ◌++◌, length, take, drop, refl, sym, ◌∙◌, ap, arith, length-append, append_assoc, eq-eqb, Ok}
+use Rattle.std.proofs.Common.{◌≡◌, ℕ, ◌+◌, ◌-◌, ◌*◌, ◌<◌, List, ◌++◌, length, take, drop, refl, sym, ◌∙◌, ap, arith, length-append, append_assoc, eq-eqb, Ok}
 use Rattle.std.specs.Prelude.{slice_range}
 use Rattle.std.specs.Int.{w32, to_be_bytes, from_be_bytes}
 use Rattle.std.proofs.lemmas.List.{take_at, drop_at}
@@ -41,7 +41,7 @@ signature_value-even : (kind : OtsKind) (id : List ℕ) (q : ℕ) (seed hash : L
     → Even (signature_value kind id q seed hash)
 unfolding signature_value
 signature_value-even kind id q seed hash = record {
-    each = λ i. length-chain (hash_prefix id q i) 0 (digit kind hash i) (secret id q seed i) (length-secret id q seed i);
+  each = λ i. length-chain (hash_prefix id q i) 0 (digit kind hash i) (secret id q seed i) (length-secret id q seed i);
 }
 
 laid_out : (kind : OtsKind) (c : List ℕ) → length c ≡ 32 → IsLaidOut (to_be_bytes w32 (type_number kind)) c
@@ -63,7 +63,7 @@ pub type_in-signature_of : (kind : OtsKind) (id : List ℕ) (q : ℕ) (seed c me
 unfolding signature_of type_in
 type_in-signature_of kind id q seed c message long =
     ap (from_be_bytes w32) (take-layout (to_be_bytes w32 (type_number kind)) c
-        (joined (signature_value kind id q seed (message_hash id q c message)) (chain_count kind)) (laid_out kind c long))
+    (joined (signature_value kind id q seed (message_hash id q c message)) (chain_count kind)) (laid_out kind c long))
     ∙ type-read kind
 
 pub randomizer_in-signature_of : (kind : OtsKind) (id : List ℕ) (q : ℕ) (seed c message : List ℕ) → length c ≡ 32
@@ -75,7 +75,7 @@ randomizer_in-signature_of kind id q seed c message long =
 pub value_in-signature_of : (kind : OtsKind) (id : List ℕ) (q : ℕ) (seed c message : List ℕ) (i : ℕ) → length c ≡ 32
     → i < chain_count kind
     → value_in (signature_of kind id q seed c message) i
-        ≡ signature_value kind id q seed (message_hash id q c message) i
+    ≡ signature_value kind id q seed (message_hash id q c message) i
 unfolding signature_of value_in
 value_in-signature_of kind id q seed c message i long below =
     let values = signature_value kind id q seed (message_hash id q c message) in
@@ -86,8 +86,8 @@ value_in-signature_of kind id q seed c message i long below =
 -- the steps of a chain that a signature leaves lead to the chain's end
 whole_chain : (kind : OtsKind) (id : List ℕ) (q : ℕ) (seed hash : List ℕ) (i : ℕ)
     → chain (hash_prefix id q i) (digit kind hash i) (greatest_digit kind - digit kind hash i)
-            (signature_value kind id q seed hash i)
-        ≡ public_end kind id q seed i
+    (signature_value kind id q seed hash i)
+    ≡ public_end kind id q seed i
 unfolding signature_value public_end
 whole_chain kind id q seed hash i =
     let prefix = hash_prefix id q i in
@@ -102,7 +102,7 @@ whole_chain kind id q seed hash i =
 pub candidate_end-signature_of : (kind : OtsKind) (id : List ℕ) (q : ℕ) (seed c message : List ℕ) (i : ℕ) → length c ≡ 32
     → i < chain_count kind
     → candidate_end kind id q (message_hash id q c message) (signature_of kind id q seed c message) i
-        ≡ public_end kind id q seed i
+    ≡ public_end kind id q seed i
 unfolding candidate_end
 candidate_end-signature_of kind id q seed c message i long below =
     let value = value_in-signature_of kind id q seed c message i long below in
@@ -114,14 +114,14 @@ ends_hash-ext : (kind : OtsKind) (id : List ℕ) (q : ℕ) (these those : ℕ �
 unfolding ends_hash
 ends_hash-ext kind id q these those same =
     ap (λ v. sha256 (hash_prefix id q d_pblc ++ v))
-        (joined-ext these those (chain_count kind) same)
+    (joined-ext these those (chain_count kind) same)
 
 candidate_value-signature_of : (kind : OtsKind) (id : List ℕ) (q : ℕ) (seed c message : List ℕ) → length c ≡ 32
     → candidate_value kind id q message (signature_of kind id q seed c message) ≡ public_value kind id q seed
 unfolding candidate_value public_value
 candidate_value-signature_of kind id q seed c message long =
     rw (randomizer_in-signature_of kind id q seed c message long)
-        (ends_hash-ext kind id q _ _ (λ i below. candidate_end-signature_of kind id q seed c message i long below))
+    (ends_hash-ext kind id q _ _ (λ i below. candidate_end-signature_of kind id q seed c message i long below))
 
 -- the candidate of bytes of the kind's length and type
 pub candidate_of-ok : (kind : OtsKind) (id : List ℕ) (q : ℕ) (message signature : List ℕ)
@@ -134,6 +134,6 @@ candidate_of-ok kind id q message signature long typed =
 pub signatures_open : (kind : OtsKind) → SignaturesOpen kind
 signatures_open kind id q seed c message long =
     candidate_of-ok kind id q message (signature_of kind id q seed c message)
-        (length-signature_of kind id q seed c message long)
-        (type_in-signature_of kind id q seed c message long)
+    (length-signature_of kind id q seed c message long)
+    (type_in-signature_of kind id q seed c message long)
     ∙ ap Ok (candidate_value-signature_of kind id q seed c message long)

@@ -1,7 +1,7 @@
 //! LM-OTS one-time signatures of RFC 8554 (section 4) over SHA-256 with n = 32. No call takes memory.
 #![tactic(auto)]
 
-ghost use Rattle.std.specs.Prelude.{◌≡◌, ◌-◌, ◌<◌, ◌≤◌, ◌++◌, ◌↔◌, IsTrue, length};
+ghost use Rattle.std.specs.Prelude.{◌≡◌, ◌≢◌, IsOk, ◌-◌, ◌<◌, ◌≤◌, ◌++◌, ◌↔◌, IsTrue, length};
 ghost use Rattle.sha2.specs.Hashers.{Holds256};
 ghost use Rattle.lms_ots.specs.Ots.{type_number, chain_count, signature_length, coef, greatest_digit, width, chain, hash_prefix, secret, public_end, public_value, message_hash, signature_of, type_in, value_in, candidate_value, candidate_of, SignaturesOpen};
 
@@ -13,6 +13,8 @@ use sha2::{Digest, Sha256};
 mod chain;
 mod digits;
 mod kind;
+#[cfg(test)]
+mod tests;
 
 /// What a hash of chain ends begins with, after the identifier and the leaf's number.
 const D_PBLC: u16 = 0x8080;
@@ -66,7 +68,14 @@ pub fn candidate(
     message: &[u8],
     signature: &[u8],
 ) -> Result<[u8; 32], OtsFault>
-    ensures { result ≡ candidate_of kind id.now q message.now signature.now }
+    ensures value { result ≡ candidate_of kind id.now q message.now signature.now }
+    ensures ok { IsOk result ↔ ((length signature.now ≡ signature_length kind)
+        × (type_in signature.now ≡ type_number kind)) }
+    ensures wrong_length { (result ≡ Err (OtsFault.WrongLength (length signature.now)))
+        ↔ (length signature.now ≢ signature_length kind) }
+    ensures wrong_type { (result ≡ Err (OtsFault.WrongType (type_in signature.now)))
+        ↔ ((length signature.now ≡ signature_length kind)
+        × (type_in signature.now ≢ type_number kind)) }
 {
     if signature.len() != kind.signature_length() {
         return Err(OtsFault::WrongLength {

@@ -6,4 +6,4 @@ use Rattle.lms_ots.proofs.candidate_value.Given as goal
 abbrev pub invariant-loop-index : goal.invariant-loop-index
 invariant-loop-index l =
     Holds256 l.hasher (hash_prefix l.id l.q d_pblc
-        ++ joined (candidate_end l.kind l.id l.q (message_hash l.id l.q (randomizer_in l.signature) l.message) l.signature) l.index)
+    ++ joined (candidate_end l.kind l.id l.q (message_hash l.id l.q (randomizer_in l.signature) l.message) l.signature) l.index)

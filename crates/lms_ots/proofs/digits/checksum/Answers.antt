@@ -7,4 +7,4 @@ pub returns : goal.returns
 returns c =
     let divisor : c.from-index-end.result ≡ width c.args.kind = c.from-index-end.ensures ∙ c.width.ensures in
     checksum-is c.args.kind c.args.hash.now c.loop-index.sum c.loop-index.index c.checksum_shift.result
-        c.loop-index.invariant.summed (rw (sym divisor) (omega arith)) c.checksum_shift.ensures
+    c.loop-index.invariant.summed (rw (sym divisor) (omega arith)) c.checksum_shift.ensures

@@ -6,10 +6,10 @@ use Rattle.lms_ots.proofs.chain.Chain.step.Goals as goal
 
 stepped : (c : goal.After-digest) → IsStepped c.args.self.now.bytes c.put.new.out c.args.j c.args.value.now
 stepped c = record {
-    old_long = omega arith;
-    new_long = omega (arith, length-set {A = ℕ});
-    value_long = omega arith;
-    written = c.put.ensures;
+  old_long = omega arith;
+  new_long = omega (arith, length-set {A = ℕ});
+  value_long = omega arith;
+  written = c.put.ensures;
 }
 
 pub returns-clause-value : goal.returns-clause-value
