@@ -1,15 +1,14 @@
 -- Digits, chains and the values of a key: their bounds, their lengths, and how they join.
-use Rattle.std.proofs.Common.{◌≡◌, ℕ, zero, suc, ◌+◌, ◌-◌, ◌*◌, ◌<◌, ◌≤◌, List, [], ◌∷◌, ◌++◌, length, take, drop, refl, sym, ◌∙◌, ap, arith, length-append, length-drop, inl, inr}
-use Rattle.std.specs.Prelude.{slice_range}
-use Rattle.std.proofs.lemmas.List.{take-append-le, take_at, drop_at, drop-append-le}
+use Rattle.std.proofs.Common.{◌≡◌, ℕ, zero, suc, ◌+◌, ◌-◌, ◌*◌, ◌/◌, ◌%◌, ◌^◌, ◌<◌, ◌≤◌, List, [], ◌∷◌, ◌++◌, length, take, drop, refl, sym, ◌∙◌, ap, arith, length-append, length-drop, append_assoc, append-nil, add-one, inl, inr}
+use Rattle.std.proofs.lemmas.List.{take-append-le, drop_at, drop-append-le}
 use Rattle.std.proofs.lemmas.Nat.{and_le_l}
 use Rattle.std.proofs.lemmas.Bool.{cases_lt}
-use Rattle.std.proofs.Math.Nat.{add-suc}
+use Rattle.std.proofs.Math.Nat.{add-suc, mod-eq_of_lt}
 use Rattle.std.proofs.Math.Seq.{take-length}
 use Rattle.sha2.proofs.Facts256.{length-sha256}
 use Rattle.lms_ots.specs.declared.kind.OtsKind.{OtsKind}
 use Rattle.lms_ots.specs.declared.kind.OtsKind.TheVariants.{W1, W2, W4, W8}
-use Rattle.lms_ots.specs.Ots.{chain, chain_count, chain_prefix, chain_step, coef, digit, ends_hash, greatest_digit, joined, message_hash, public_value, secret, signature_length}
+use Rattle.lms_ots.specs.Ots.{chain, chain_count, hash_prefix, checksum, checksum_shift, chain_step, coef, complement_sum, digit, ends_hash, greatest_digit, joined, message_hash, candidate_end, public_value, secret, signature_length, signature_value, value_in, width, with_checksum}
 
 -- the digits of 0x1234 that RFC 8554 gives as examples (3.1.3)
 coef-example_bit : coef (0x12 ∷ 0x34 ∷ []) 7 1 ≡ 0
@@ -83,16 +82,16 @@ unfolding joined
 joined-at values zero i even below = absurd (omega arith)
 joined-at values (suc n) i even below =
     elim (cases_lt i n) [
-        inl lt ↦
-            let long = length-joined values n even in
-            let inside : 32 * i ≤ length (joined values n) = omega arith in
-            let room : 32 ≤ length (drop (32 * i) (joined values n)) = omega (arith, length-drop (32 * i) (joined values n)) in
-            rw (drop-append-le (32 * i) (joined values n) (values n) inside)
-                (take-append-le 32 (drop (32 * i) (joined values n)) (values n) room ∙ joined-at values n i even lt)
+      | inl lt ↦
+          let long = length-joined values n even in
+          let inside : 32 * i ≤ length (joined values n) = omega arith in
+          let room : 32 ≤ length (drop (32 * i) (joined values n)) = omega (arith, length-drop (32 * i) (joined values n)) in
+          rw (drop-append-le (32 * i) (joined values n) (values n) inside)
+          (take-append-le 32 (drop (32 * i) (joined values n)) (values n) room ∙ joined-at values n i even lt)
       | inr ge ↦
-            let same : i ≡ n = omega arith in
-            let place : length (joined values n) ≡ 32 * i = omega (arith, length-joined values n even) in
-            rw (drop_at (joined values n) (values n) (32 * i) place, same) (take_whole (values n) 32 (even.each n))
+          let same : i ≡ n = omega arith in
+          let place : length (joined values n) ≡ 32 * i = omega (arith, length-joined values n even) in
+          rw (drop_at (joined values n) (values n) (32 * i) place, same) (take_whole (values n) 32 (even.each n))
     ]
 
 -- the joined values follow from the single ones
@@ -104,3 +103,57 @@ joined-ext these those (suc n) same =
     let before = joined-ext these those n (λ i lt. same i (omega arith)) in
     let last : these n ≡ those n = same n (omega arith) in
     rw (before, last) refl
+
+-- what is fed to a hasher: nothing yet, and one value more
+pub joined-none : (head : List ℕ) (values : ℕ → List ℕ) → head ++ joined values 0 ≡ head
+unfolding joined
+joined-none head values = append-nil head
+
+pub joined-more : (head : List ℕ) (values : ℕ → List ℕ) (n : ℕ) (value : List ℕ) → value ≡ values n
+    → head ++ joined values (n + 1) ≡ head ++ joined values n ++ value
+unfolding joined
+joined-more head values n value same = rw (add-one, append_assoc, same) refl
+
+complement_sum-le : (s : List ℕ) (w n : ℕ) → complement_sum s w n ≤ n * (2 ^ w - 1)
+unfolding complement_sum
+complement_sum-le s w zero = omega arith
+complement_sum-le s w (suc n) =
+    let before = complement_sum-le s w n in
+    grind arith
+
+-- the checksum is not cut off where it is taken as 16 bits
+pub checksum-fits : (kind : OtsKind) (s : List ℕ) → checksum kind s < 2 ^ 16
+unfolding checksum
+checksum-fits W1 s = omega (arith, complement_sum-le s 1 256)
+checksum-fits W2 s = omega (arith, complement_sum-le s 2 128)
+checksum-fits W4 s = omega (arith, complement_sum-le s 4 64)
+checksum-fits W8 s = omega (arith, complement_sum-le s 8 32)
+
+pub checksum-is : (kind : OtsKind) (s : List ℕ) (sum n shift : ℕ) → sum ≡ complement_sum s (width kind) n
+    → n ≡ 256 / width kind → shift ≡ checksum_shift kind → sum * 2 ^ shift % 2 ^ 16 ≡ checksum kind s
+unfolding checksum
+checksum-is kind s sum n shift summed all shifted =
+    rw (summed, all, shifted) (mod-eq_of_lt (checksum-fits kind s))
+
+-- a value from the digits that are laid out once, in a signature and of a candidate
+pub signature_value-laid_out : (kind : OtsKind) (id : List ℕ) (q : ℕ) (seed hash digits : List ℕ) (i : ℕ)
+    → digits ≡ with_checksum kind hash
+    → chain (hash_prefix id q i) 0 (coef digits i (width kind)) (secret id q seed i)
+    ≡ signature_value kind id q seed hash i
+unfolding signature_value digit
+signature_value-laid_out kind id q seed hash digits i laid =
+    ap (λ d. chain (hash_prefix id q i) 0 (coef d i (width kind)) (secret id q seed i)) laid
+
+pub candidate_end-laid_out : (kind : OtsKind) (id : List ℕ) (q : ℕ) (hash digits signature value : List ℕ) (i : ℕ)
+    → digits ≡ with_checksum kind hash → value ≡ value_in signature i
+    → chain (hash_prefix id q i) (coef digits i (width kind)) (greatest_digit kind - coef digits i (width kind)) value
+    ≡ candidate_end kind id q hash signature i
+unfolding candidate_end digit
+candidate_end-laid_out kind id q hash digits signature value i laid same = rw (laid, same) refl
+
+pub value_in-range : (signature : List ℕ) (i at : ℕ) → at ≡ 36 + 32 * i
+    → take (at + 32 - at) (drop at signature) ≡ value_in signature i
+unfolding value_in
+value_in-range signature i at place =
+    let bytes : at + 32 - at ≡ 68 + 32 * i - (36 + 32 * i) = omega arith in
+    rw (bytes, place) refl

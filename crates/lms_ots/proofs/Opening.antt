@@ -1,13 +1,13 @@
 -- Every signature opens to the public value of its key.
-use Rattle.std.proofs.Common.{◌≡◌, ℕ, ◌+◌, ◌-◌, ◌*◌, ◌<◌, ◌≤◌, List, ◌++◌, length, take, drop, refl, sym, ◌∙◌, ap, arith, length-append, append_assoc, eq-eqb, Ok}
+use Rattle.std.proofs.Common.{◌≡◌, ℕ, ◌+◌, ◌-◌, ◌*◌, ◌<◌, List, ◌++◌, length, take, drop, refl, sym, ◌∙◌, ap, arith, length-append, append_assoc, eq-eqb, Ok}
 use Rattle.std.specs.Prelude.{slice_range}
-use Rattle.std.specs.Int.{w16, w32, to_be_bytes, from_be_bytes}
+use Rattle.std.specs.Int.{w32, to_be_bytes, from_be_bytes}
 use Rattle.std.proofs.lemmas.List.{take_at, drop_at}
 use Rattle.std.proofs.Math.Seq.{drop-append-add}
 use Rattle.sha2.specs.Sha256.{sha256}
 use Rattle.lms_ots.specs.declared.kind.OtsKind.{OtsKind}
 use Rattle.lms_ots.specs.declared.kind.OtsKind.TheVariants.{W1, W2, W4, W8}
-use Rattle.lms_ots.specs.Ots.{SignaturesOpen, candidate_end, candidate_of, candidate_value, chain, chain_count, chain_prefix, digit, ends_hash, greatest_digit, joined, message_hash, public_end, public_value, randomizer_in, secret, signature_length, signature_of, signature_value, type_in, type_number, value_in}
+use Rattle.lms_ots.specs.Ots.{SignaturesOpen, candidate_end, candidate_of, candidate_value, chain, chain_count, d_pblc, hash_prefix, digit, ends_hash, greatest_digit, joined, message_hash, public_end, public_value, randomizer_in, secret, signature_length, signature_of, signature_value, type_in, type_number, value_in}
 use Rattle.lms_ots.proofs.Chains.{Even, chain-add, digit-le, joined-at, joined-ext, length-chain, length-joined, length-secret, signature_length-is}
 
 -- bytes in the layout of a signature: a type of 4, a randomizer of 32, and the values
@@ -41,7 +41,7 @@ signature_value-even : (kind : OtsKind) (id : List ℕ) (q : ℕ) (seed hash : L
     → Even (signature_value kind id q seed hash)
 unfolding signature_value
 signature_value-even kind id q seed hash = record {
-    each = λ i. length-chain (chain_prefix id q i) 0 (digit kind hash i) (secret id q seed i) (length-secret id q seed i);
+  each = λ i. length-chain (hash_prefix id q i) 0 (digit kind hash i) (secret id q seed i) (length-secret id q seed i);
 }
 
 laid_out : (kind : OtsKind) (c : List ℕ) → length c ≡ 32 → IsLaidOut (to_be_bytes w32 (type_number kind)) c
@@ -63,7 +63,7 @@ pub type_in-signature_of : (kind : OtsKind) (id : List ℕ) (q : ℕ) (seed c me
 unfolding signature_of type_in
 type_in-signature_of kind id q seed c message long =
     ap (from_be_bytes w32) (take-layout (to_be_bytes w32 (type_number kind)) c
-        (joined (signature_value kind id q seed (message_hash id q c message)) (chain_count kind)) (laid_out kind c long))
+    (joined (signature_value kind id q seed (message_hash id q c message)) (chain_count kind)) (laid_out kind c long))
     ∙ type-read kind
 
 pub randomizer_in-signature_of : (kind : OtsKind) (id : List ℕ) (q : ℕ) (seed c message : List ℕ) → length c ≡ 32
@@ -75,7 +75,7 @@ randomizer_in-signature_of kind id q seed c message long =
 pub value_in-signature_of : (kind : OtsKind) (id : List ℕ) (q : ℕ) (seed c message : List ℕ) (i : ℕ) → length c ≡ 32
     → i < chain_count kind
     → value_in (signature_of kind id q seed c message) i
-        ≡ signature_value kind id q seed (message_hash id q c message) i
+    ≡ signature_value kind id q seed (message_hash id q c message) i
 unfolding signature_of value_in
 value_in-signature_of kind id q seed c message i long below =
     let values = signature_value kind id q seed (message_hash id q c message) in
@@ -85,12 +85,12 @@ value_in-signature_of kind id q seed c message i long below =
 
 -- the steps of a chain that a signature leaves lead to the chain's end
 whole_chain : (kind : OtsKind) (id : List ℕ) (q : ℕ) (seed hash : List ℕ) (i : ℕ)
-    → chain (chain_prefix id q i) (digit kind hash i) (greatest_digit kind - digit kind hash i)
-            (signature_value kind id q seed hash i)
-        ≡ public_end kind id q seed i
+    → chain (hash_prefix id q i) (digit kind hash i) (greatest_digit kind - digit kind hash i)
+    (signature_value kind id q seed hash i)
+    ≡ public_end kind id q seed i
 unfolding signature_value public_end
 whole_chain kind id q seed hash i =
-    let prefix = chain_prefix id q i in
+    let prefix = hash_prefix id q i in
     let d = digit kind hash i in
     let left = greatest_digit kind - d in
     let all : d + left ≡ greatest_digit kind = omega (arith, digit-le kind hash i) in
@@ -102,7 +102,7 @@ whole_chain kind id q seed hash i =
 pub candidate_end-signature_of : (kind : OtsKind) (id : List ℕ) (q : ℕ) (seed c message : List ℕ) (i : ℕ) → length c ≡ 32
     → i < chain_count kind
     → candidate_end kind id q (message_hash id q c message) (signature_of kind id q seed c message) i
-        ≡ public_end kind id q seed i
+    ≡ public_end kind id q seed i
 unfolding candidate_end
 candidate_end-signature_of kind id q seed c message i long below =
     let value = value_in-signature_of kind id q seed c message i long below in
@@ -113,15 +113,15 @@ ends_hash-ext : (kind : OtsKind) (id : List ℕ) (q : ℕ) (these those : ℕ �
     → ends_hash kind id q these ≡ ends_hash kind id q those
 unfolding ends_hash
 ends_hash-ext kind id q these those same =
-    ap (λ v. sha256 (id ++ to_be_bytes w32 q ++ to_be_bytes w16 0x8080 ++ v))
-        (joined-ext these those (chain_count kind) same)
+    ap (λ v. sha256 (hash_prefix id q d_pblc ++ v))
+    (joined-ext these those (chain_count kind) same)
 
 candidate_value-signature_of : (kind : OtsKind) (id : List ℕ) (q : ℕ) (seed c message : List ℕ) → length c ≡ 32
     → candidate_value kind id q message (signature_of kind id q seed c message) ≡ public_value kind id q seed
 unfolding candidate_value public_value
 candidate_value-signature_of kind id q seed c message long =
     rw (randomizer_in-signature_of kind id q seed c message long)
-        (ends_hash-ext kind id q _ _ (λ i below. candidate_end-signature_of kind id q seed c message i long below))
+    (ends_hash-ext kind id q _ _ (λ i below. candidate_end-signature_of kind id q seed c message i long below))
 
 -- the candidate of bytes of the kind's length and type
 pub candidate_of-ok : (kind : OtsKind) (id : List ℕ) (q : ℕ) (message signature : List ℕ)
@@ -134,6 +134,6 @@ candidate_of-ok kind id q message signature long typed =
 pub signatures_open : (kind : OtsKind) → SignaturesOpen kind
 signatures_open kind id q seed c message long =
     candidate_of-ok kind id q message (signature_of kind id q seed c message)
-        (length-signature_of kind id q seed c message long)
-        (type_in-signature_of kind id q seed c message long)
+    (length-signature_of kind id q seed c message long)
+    (type_in-signature_of kind id q seed c message long)
     ∙ ap Ok (candidate_value-signature_of kind id q seed c message long)

@@ -73,13 +73,23 @@ with_checksum kind hash = hash ++ to_be_bytes w16 (checksum kind hash)
 unfoldable pub digit : OtsKind → List ℕ → ℕ → ℕ
 digit kind hash i = coef (with_checksum kind hash) i (width kind)
 
+-- ---- what is hashed (4.3, 4.5, 4.6, 7.1)
+
+-- D_PBLC, before the ends of a key's chains
+abbrev pub d_pblc : ℕ
+d_pblc = 0x8080
+
+-- D_MESG, before a message
+abbrev pub d_mesg : ℕ
+d_mesg = 0x8181
+
+-- I || u32str(q) || u16str(tag), with which each hash begins: in chain i the tag is i
+unfoldable pub hash_prefix : List ℕ → ℕ → ℕ → List ℕ
+hash_prefix id q tag = id ++ to_be_bytes w32 q ++ to_be_bytes w16 tag
+
 -- ---- chains (4.3, 4.5, 4.6)
 
--- what each hash of chain i begins with: I || u32str(q) || u16str(i)
-unfoldable pub chain_prefix : List ℕ → ℕ → ℕ → List ℕ
-chain_prefix id q i = id ++ to_be_bytes w32 q ++ to_be_bytes w16 i
-
--- one step: H(I || u32str(q) || u16str(i) || u8str(j) || tmp)
+-- one step: H(I || u32str(q) || u16str(i) || u8str(j) || tmp), from what the chain's hashes begin with
 unfoldable pub chain_step : List ℕ → ℕ → List ℕ → List ℕ
 chain_step prefix j value = sha256 (prefix ++ j ∷ value)
 
@@ -90,7 +100,7 @@ chain prefix j (suc n) value = chain_step prefix (j + n) (chain prefix j n value
 
 -- x[i]: H(I || u32str(q) || u16str(i) || u8str(0xff) || SEED) (appendix A)
 unfoldable pub secret : List ℕ → ℕ → List ℕ → ℕ → List ℕ
-secret id q seed i = chain_step (chain_prefix id q i) 0xff seed
+secret id q seed i = chain_step (hash_prefix id q i) 0xff seed
 
 -- the values of chains 0, 1, .., n - 1, joined
 unfoldable pub joined : (ℕ → List ℕ) → ℕ → List ℕ
@@ -100,14 +110,14 @@ joined values (suc n) = joined values n ++ values n
 -- H(I || u32str(q) || u16str(D_PBLC) || y[0] || .. || y[p-1]) for the ends y of the chains
 unfoldable pub ends_hash : OtsKind → List ℕ → ℕ → (ℕ → List ℕ) → List ℕ
 ends_hash kind id q ends =
-    sha256 (id ++ to_be_bytes w32 q ++ to_be_bytes w16 0x8080 ++ joined ends (chain_count kind))
+    sha256 (hash_prefix id q d_pblc ++ joined ends (chain_count kind))
 
 -- ---- the public value (4.3)
 
 -- y[i]: x[i] after all the steps of its chain
 unfoldable pub public_end : OtsKind → List ℕ → ℕ → List ℕ → ℕ → List ℕ
 public_end kind id q seed i =
-    chain (chain_prefix id q i) 0 (greatest_digit kind) (secret id q seed i)
+    chain (hash_prefix id q i) 0 (greatest_digit kind) (secret id q seed i)
 
 -- K
 unfoldable pub public_value : OtsKind → List ℕ → ℕ → List ℕ → List ℕ
@@ -117,12 +127,12 @@ public_value kind id q seed = ends_hash kind id q (public_end kind id q seed)
 
 -- Q: H(I || u32str(q) || u16str(D_MESG) || C || message)
 unfoldable pub message_hash : List ℕ → ℕ → List ℕ → List ℕ → List ℕ
-message_hash id q c message = sha256 (id ++ to_be_bytes w32 q ++ to_be_bytes w16 0x8181 ++ c ++ message)
+message_hash id q c message = sha256 (hash_prefix id q d_mesg ++ c ++ message)
 
 -- y[i]: x[i] after as many steps as digit i of the hash says
 unfoldable pub signature_value : OtsKind → List ℕ → ℕ → List ℕ → List ℕ → ℕ → List ℕ
 signature_value kind id q seed hash i =
-    chain (chain_prefix id q i) 0 (digit kind hash i) (secret id q seed i)
+    chain (hash_prefix id q i) 0 (digit kind hash i) (secret id q seed i)
 
 -- u32str(type) || C || y[0] || .. || y[p-1]
 unfoldable pub signature_of : OtsKind → List ℕ → ℕ → List ℕ → List ℕ → List ℕ → List ℕ
@@ -145,7 +155,7 @@ value_in signature i = slice_range signature (36 + 32 * i) (68 + 32 * i)
 -- z[i]: y[i] after the steps of its chain that are left
 unfoldable pub candidate_end : OtsKind → List ℕ → ℕ → List ℕ → List ℕ → ℕ → List ℕ
 candidate_end kind id q hash signature i =
-    chain (chain_prefix id q i) (digit kind hash i) (greatest_digit kind - digit kind hash i)
+    chain (hash_prefix id q i) (digit kind hash i) (greatest_digit kind - digit kind hash i)
     (value_in signature i)
 
 -- Kc of a signature that has the kind's length and type

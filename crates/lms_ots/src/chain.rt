@@ -1,7 +1,7 @@
 //! Hash chains, each in a buffer of its own that keeps what all its steps begin with.
 
 ghost use Rattle.std.specs.Prelude.{◌≡◌, ◌+◌, ◌-◌, ◌≤◌, ◌++◌, length, take};
-ghost use Rattle.lms_ots.specs.Ots.{chain, chain_prefix, chain_step};
+ghost use Rattle.lms_ots.specs.Ots.{chain, hash_prefix, chain_step};
 
 use sha2::{Digest, Sha256};
 
@@ -21,8 +21,9 @@ pub struct Chain {
 
 impl Chain {
     /// Chain `index` of the key of leaf `q`.
+    #[tactic(auto, unfolding(crate::specs::Ots::hash_prefix))]
     pub fn new(id: &[u8; 16], q: u32, index: u16) -> Chain
-        ensures { take 22 result.bytes ≡ chain_prefix id.now q index }
+        ensures { take 22 result.bytes ≡ hash_prefix id.now q index }
     {
         let mut bytes = [0; 55];
         put(&mut bytes, 0, id);
@@ -32,6 +33,7 @@ impl Chain {
     }
 
     /// The value after step `j` from `value`.
+    #[tactic(auto, unfolding(crate::specs::Ots::chain_step))]
     pub fn step(&mut self, j: u8, value: &[u8; 32]) -> [u8; 32]
         ensures value { result ≡ chain_step (take 22 self.old.bytes) j value.now }
         ensures same { take 22 self.new.bytes ≡ take 22 self.old.bytes }
@@ -42,6 +44,7 @@ impl Chain {
     }
 
     /// The value after the steps from `from` up to, and without, `to`.
+    #[tactic(auto, unfolding(crate::specs::Ots::chain))]
     pub fn walk(&mut self, from: u8, to: u8, mut value: [u8; 32]) -> [u8; 32]
         requires { from ≤ to }
         ensures value { result ≡ chain (take 22 self.old.bytes) from (to - from) value }

@@ -21,6 +21,7 @@ pub fn digit(kind: OtsKind, bytes: &[u8], index: usize) -> u8
 }
 
 /// The checksum of a hash: how far its digits are below the greatest, shifted to the left.
+#[tactic(auto, unfolding(crate::specs::Ots::complement_sum))]
 fn checksum(kind: OtsKind, hash: &[u8; 32]) -> u16
     ensures { result ≡ checksum kind hash.now }
 {
@@ -32,6 +33,7 @@ fn checksum(kind: OtsKind, hash: &[u8; 32]) -> u16
 }
 
 /// The hash and its checksum.
+#[tactic(auto, unfolding(crate::specs::Ots::with_checksum))]
 pub fn with_checksum(kind: OtsKind, hash: &[u8; 32]) -> [u8; 34]
     ensures { result ≡ with_checksum kind hash.now }
 {

@@ -1,10 +1,9 @@
 //! LM-OTS one-time signatures of RFC 8554 (section 4) over SHA-256 with n = 32. No call takes memory.
 #![tactic(auto)]
 
-ghost use Rattle.std.specs.Prelude.{◌≡◌, ◌-◌, ◌<◌, ◌≤◌, ◌++◌, ◌↔◌, IsTrue, length};
-ghost use Rattle.std.specs.Int.{w16, w32, to_be_bytes};
+ghost use Rattle.std.specs.Prelude.{◌≡◌, ◌≢◌, IsOk, ◌-◌, ◌<◌, ◌≤◌, ◌++◌, ◌↔◌, IsTrue, length};
 ghost use Rattle.sha2.specs.Hashers.{Holds256};
-ghost use Rattle.lms_ots.specs.Ots.{type_number, chain_count, signature_length, coef, greatest_digit, width, chain, chain_prefix, secret, public_end, public_value, message_hash, signature_of, type_in, value_in, candidate_value, candidate_of, SignaturesOpen};
+ghost use Rattle.lms_ots.specs.Ots.{type_number, chain_count, signature_length, coef, greatest_digit, width, chain, hash_prefix, secret, public_end, public_value, message_hash, signature_of, type_in, value_in, candidate_value, candidate_of, SignaturesOpen};
 
 use chain::{Chain, put};
 use digits::{digit, with_checksum};
@@ -14,6 +13,8 @@ use sha2::{Digest, Sha256};
 mod chain;
 mod digits;
 mod kind;
+#[cfg(test)]
+mod tests;
 
 /// What a hash of chain ends begins with, after the identifier and the leaf's number.
 const D_PBLC: u16 = 0x8080;
@@ -35,6 +36,7 @@ pub fn public_hash(kind: OtsKind, id: &[u8; 16], q: u32, seed: &[u8; 32]) -> [u8
 
 /// Writes the one-time signature of `message` with the randomizer `c` into `out` (RFC 8554,
 /// section 4.5). A leaf must never sign two messages.
+#[tactic(auto, unfolding(crate::specs::Ots::signature_of))]
 pub fn sign_into(
     kind: OtsKind,
     id: &[u8; 16],
@@ -58,6 +60,7 @@ pub fn sign_into(
 
 /// The public hash to which a signature of `message` opens (RFC 8554, section 4.6): the signature is
 /// good under the key whose public hash this is.
+#[tactic(auto, unfolding(crate::specs::Ots::candidate_of))]
 pub fn candidate(
     kind: OtsKind,
     id: &[u8; 16],
@@ -65,7 +68,14 @@ pub fn candidate(
     message: &[u8],
     signature: &[u8],
 ) -> Result<[u8; 32], OtsFault>
-    ensures { result ≡ candidate_of kind id.now q message.now signature.now }
+    ensures value { result ≡ candidate_of kind id.now q message.now signature.now }
+    ensures ok { IsOk result ↔ ((length signature.now ≡ signature_length kind)
+        × (type_in signature.now ≡ type_number kind)) }
+    ensures wrong_length { (result ≡ Err (OtsFault.WrongLength (length signature.now)))
+        ↔ (length signature.now ≢ signature_length kind) }
+    ensures wrong_type { (result ≡ Err (OtsFault.WrongType (type_in signature.now)))
+        ↔ ((length signature.now ≡ signature_length kind)
+        × (type_in signature.now ≢ type_number kind)) }
 {
     if signature.len() != kind.signature_length() {
         return Err(OtsFault::WrongLength {
@@ -84,9 +94,10 @@ pub fn signatures_open(kind: OtsKind)
     ensures { SignaturesOpen kind }
 {}
 
+#[tactic(auto, unfolding(crate::specs::Ots::hash_prefix))]
 // A hasher that was fed the identifier, the leaf's number and `tag`.
 fn hasher_of(id: &[u8; 16], q: u32, tag: u16) -> Sha256
-    ensures { Holds256 result (id.now ++ to_be_bytes w32 q ++ to_be_bytes w16 tag) }
+    ensures { Holds256 result (hash_prefix id.now q tag) }
 {
     let mut hasher = Sha256::new();
     hasher.update(id);
@@ -96,6 +107,7 @@ fn hasher_of(id: &[u8; 16], q: u32, tag: u16) -> Sha256
 }
 
 // The hash Q of a message with its randomizer.
+#[tactic(auto, unfolding(crate::specs::Ots::message_hash))]
 fn message_hash(id: &[u8; 16], q: u32, c: &[u8], message: &[u8]) -> [u8; 32]
     ensures { result ≡ message_hash id.now q c.now message.now }
 {
@@ -106,6 +118,7 @@ fn message_hash(id: &[u8; 16], q: u32, c: &[u8], message: &[u8]) -> [u8; 32]
 }
 
 // The end of a chain.
+#[tactic(auto, unfolding(crate::specs::Ots::public_end, crate::specs::Ots::secret))]
 fn public_end(kind: OtsKind, id: &[u8; 16], q: u32, seed: &[u8; 32], index: u16) -> [u8; 32]
     ensures { result ≡ public_end kind id.now q seed.now index }
 {
@@ -115,6 +128,7 @@ fn public_end(kind: OtsKind, id: &[u8; 16], q: u32, seed: &[u8; 32], index: u16)
 }
 
 // The value of a chain in a signature.
+#[tactic(auto, unfolding(crate::specs::Ots::secret))]
 fn signature_value(
     kind: OtsKind,
     id: &[u8; 16],
@@ -124,7 +138,7 @@ fn signature_value(
     index: u16,
 ) -> [u8; 32]
     requires { index < chain_count kind }
-    ensures { result ≡ chain (chain_prefix id.now q index) 0 (coef digits.now index (width kind))
+    ensures { result ≡ chain (hash_prefix id.now q index) 0 (coef digits.now index (width kind))
         (secret id.now q seed.now index) }
 {
     let mut chain = Chain::new(id, q, index);
@@ -144,7 +158,7 @@ fn candidate_end(
     requires chains { index < chain_count kind }
     requires length { length value.now ≡ 32 }
     ensures { let first = coef digits.now index (width kind) in
-        result ≡ chain (chain_prefix id.now q index) first (greatest_digit kind - first) value.now }
+        result ≡ chain (hash_prefix id.now q index) first (greatest_digit kind - first) value.now }
 {
     let mut start = [0; 32];
     start.copy_from_slice(value);
@@ -153,6 +167,7 @@ fn candidate_end(
 }
 
 // The type's number at the start of a signature.
+#[tactic(auto, unfolding(crate::specs::Ots::type_in))]
 fn type_in(signature: &[u8]) -> u32
     requires { 4 ≤ length signature.now }
     ensures { result ≡ type_in signature.now }
