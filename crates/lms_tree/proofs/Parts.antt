@@ -24,6 +24,13 @@ front_more s i j le =
     ap (λ t. t ++ take n (drop i s)) (sym short) ∙ ap (λ t. take i (take (i + n) s) ++ t) (sym at)
     ∙ take-append-drop i (take (i + n) s) ∙ ap (λ k. take k s) both
 
+-- a list is its three parts
+pub three_parts : (s a b c : List ℕ) (i j n : ℕ) → i ≤ j → j ≤ n → length s ≡ n
+    → a ≡ take i s → b ≡ slice_range s i j → c ≡ slice_range s j n → s ≡ a ++ b ++ c
+three_parts s a b c i j n ij jn long is_a is_b is_c =
+    let all : take n s ≡ s = take_all n s (omega arith) in
+    rw (is_a, is_b, is_c, front_more s i j ij, front_more s j n jn, all) refl
+
 -- a list is its four parts
 pub four_parts : (s a b c d : List ℕ) (i j k n : ℕ) → i ≤ j → j ≤ k → k ≤ n → length s ≡ n
     → a ≡ take i s → b ≡ slice_range s i j → c ≡ slice_range s j k → d ≡ slice_range s k n

@@ -1,12 +1,16 @@
 -- The nodes of a tree, and the way from a leaf to the root.
-use Rattle.std.proofs.Common.{◌≡◌, ℕ, zero, suc, ◌+◌, ◌-◌, ◌*◌, ◌/◌, ◌%◌, ◌^◌, ◌<◌, ◌≤◌, List, refl, sym, ◌∙◌, ap, inl, inr, arith, lit<}
+use Rattle.std.proofs.Common.{◌≡◌, ℕ, zero, suc, ◌+◌, ◌-◌, ◌*◌, ◌/◌, ◌%◌, ◌^◌, ◌<◌, ◌≤◌, List, refl, sym, ◌∙◌, ap, inl, inr, arith, lit<, lit≤, add-one, take, drop}
 use Rattle.std.proofs.lemmas.Bool.{cases_lt}
 use Rattle.std.proofs.lemmas.Bool.Decides.{nat_tests, eqb_tells}
 use Rattle.std.proofs.lemmas.Nat.{le-div}
 use Rattle.std.proofs.Math.Nat.{pow-suc, pow-succ', div-div-eq-div-mul, div-le_self}
+use Rattle.lms_ots.specs.declared.kind.OtsKind.{OtsKind}
+use Rattle.lms_ots.specs.declared.kind.OtsKind.TheVariants.{W1, W2, W4, W8}
+use Rattle.lms_ots.specs.Ots as ots
+use Rattle.lms_tree.specs.declared.key.PublicKey.{PublicKey}
 use Rattle.lms_tree.specs.declared.secret.Secret.{Secret}
 use Rattle.lms_tree.specs.Kinds.{height, leaf_count}
-use Rattle.lms_tree.specs.Lms.{leaf, inner_hash, node, node_above, parent, climb, sibling, path_of}
+use Rattle.lms_tree.specs.Lms.{leaf, leaf_hash, inner_hash, index_in, one_time_in, sibling_in, root_in, root_from, node, node_above, parent, climb, sibling, path_of}
 
 positive_pow : (k : ℕ) → 0 < 2 ^ k
 positive_pow zero = lit< tt
@@ -89,3 +93,45 @@ climb-nodes secret n (suc k) low high =
     let before = climb-nodes secret n k (omega arith) high in
     ap (λ t. parent secret.id m t (node secret (sibling m))) before
     ∙ parent-node secret m two (omega arith) ∙ ap (node secret) halved
+
+-- ---- one level up, as a loop goes
+
+pub halved_more : (n k m : ℕ) → m ≡ n / 2 ^ k → m / 2 ≡ n / 2 ^ (k + 1)
+halved_more n k m same =
+    ap (λ t. t / 2) same ∙ div-div-eq-div-mul n (2 ^ k) 2 ∙ ap (λ d. n / d) (sym (pow-suc 2 k))
+    ∙ ap (λ j. n / 2 ^ j) (sym (add-one k))
+
+pub climb-more : (id : List ℕ) (path : ℕ → List ℕ) (n : ℕ) (start : List ℕ) (k m : ℕ) (value beside next : List ℕ)
+    → m ≡ n / 2 ^ k → value ≡ climb id path n start k → beside ≡ path k → next ≡ parent id m value beside
+    → next ≡ climb id path n start (k + 1)
+unfolding climb
+climb-more id path n start k m value beside next is_m is_value is_beside is_next =
+    is_next ∙ ap (λ t. parent id t value beside) is_m ∙ ap (λ t. parent id (n / 2 ^ k) t beside) is_value
+    ∙ ap (λ t. parent id (n / 2 ^ k) (climb id path n start k) t) is_beside
+    ∙ ap (climb id path n start) (sym (add-one k))
+
+-- a one-time signature has more bytes than its type and its randomizer
+pub one_time-long : (kind : OtsKind) → 36 ≤ ots.signature_length kind
+one_time-long W1 = lit≤ tt
+one_time-long W2 = lit≤ tt
+one_time-long W4 = lit≤ tt
+one_time-long W8 = lit≤ tt
+
+-- the root that is reached from the parts of a signature
+pub root_in-reached : (key : PublicKey) (message signature : List ℕ) (q long leaves k : ℕ) (one_time first value : List ℕ)
+    → q ≡ index_in signature → long ≡ ots.signature_length key.ots → leaves ≡ leaf_count key.tree
+    → k ≡ height key.tree
+    → one_time ≡ ots.candidate_value key.ots key.id q message (take (8 + long - 4 - 4) (drop 4 signature))
+    → first ≡ leaf_hash key.id (leaves + q) one_time
+    → value ≡ climb key.id (sibling_in key.ots signature) (leaf_count key.tree + q) first k
+    → value ≡ root_in key message signature
+unfolding root_in root_from
+root_in-reached key message signature q long leaves k one_time first value is_q is_long is_leaves is_k is_one_time is_first is_value =
+    let size : 8 + long - 4 - 4 ≡ 4 + ots.signature_length key.ots - 4 = omega arith in
+    let start : first ≡ leaf_hash key.id (leaf_count key.tree + q) (ots.candidate_value key.ots key.id q message (one_time_in key.ots signature)) =
+        is_first ∙ ap (λ n. leaf_hash key.id (n + q) one_time) is_leaves
+        ∙ ap (leaf_hash key.id (leaf_count key.tree + q)) (is_one_time
+        ∙ ap (λ n. ots.candidate_value key.ots key.id q message (take n (drop 4 signature))) size) in
+    is_value ∙ ap (climb key.id (sibling_in key.ots signature) (leaf_count key.tree + q) first) is_k
+    ∙ ap (λ v. climb key.id (sibling_in key.ots signature) (leaf_count key.tree + q) v (height key.tree)) start
+    ∙ ap (λ n. root_from key.tree key.id n (ots.candidate_value key.ots key.id n message (one_time_in key.ots signature)) (sibling_in key.ots signature)) is_q

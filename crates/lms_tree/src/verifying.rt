@@ -9,7 +9,7 @@ ghost use Rattle.lms_tree.specs.Lms.{Verifies, leaf_hash, inner_hash, parent, cl
 use crate::key::PublicKey;
 use crate::kind::SigFault;
 use crate::places::number_at;
-use lms_ots::OtsKind;
+use lms_ots::{OtsKind, candidate};
 use sha2::{Digest, Sha256};
 
 /// What a leaf's hash has after the identifier and the node's number.
@@ -47,6 +47,7 @@ pub fn verify(key: &PublicKey, message: &[u8], signature: &[u8]) -> Result<(), S
 }
 
 // The root that a signature leads to. Its types are the key's, and the key has its leaf.
+#[tactic(auto, unfolding(crate::specs::Lms::root_in, crate::specs::Lms::root_from))]
 fn root_of(key: &PublicKey, message: &[u8], signature: &[u8]) -> [u8; 32]
     requires long { length signature.now ≡ signature_length key.now.tree key.now.ots }
     requires kind { number_at 4 signature.now ≡ ots.type_number key.now.ots }
@@ -56,7 +57,7 @@ fn root_of(key: &PublicKey, message: &[u8], signature: &[u8]) -> [u8; 32]
     let q = number_at(signature, 0);
     let path_at = 8 + key.ots.signature_length();
     let mut node = key.tree.leaf_count() + q;
-    let one_time = [0; 32];
+    let one_time = one_time_value(key.ots, &key.id, q, message, &signature[4..path_at - 4]);
     let mut value = leaf_hash(&key.id, node, &one_time);
     for height in 0..key.tree.height() {
         let at = path_at + 32 * height;
@@ -64,6 +65,18 @@ fn root_of(key: &PublicKey, message: &[u8], signature: &[u8]) -> [u8; 32]
         node /= 2;
     }
     value
+}
+
+// The one-time key that a one-time signature of the kind opens to.
+fn one_time_value(kind: OtsKind, id: &[u8; 16], q: u32, message: &[u8], one_time: &[u8]) -> [u8; 32]
+    requires long { length one_time.now ≡ ots.signature_length kind }
+    requires kind { ots.type_in one_time.now ≡ ots.type_number kind }
+    ensures { result ≡ ots.candidate_value kind id.now q message.now one_time.now }
+{
+    match candidate(kind, id, q, message, one_time) {
+        Ok(value) => value,
+        Err(_) => unreachable!(),
+    }
 }
 
 /// The hash of the leaf at node `r`, whose one-time key is `one_time`.
