@@ -2,3 +2,4 @@ pub mod Keys
 pub mod Parts
 pub mod Roots
 pub mod Verdicts
+pub mod NodeLists

@@ -4,10 +4,16 @@
 
 pub use key::PublicKey;
 pub use kind::{KeyFault, SigFault, TreeKind};
+pub use signing::{SecretKey, Tree};
+pub use spending::{Leaf, Leaves};
 pub use verifying::verify;
 
+mod hashes;
 mod key;
 mod kind;
+mod nodes;
 mod places;
 mod secret;
+mod signing;
+mod spending;
 mod verifying;

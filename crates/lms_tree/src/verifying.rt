@@ -1,26 +1,20 @@
 //! Whether a signature is good.
 
-ghost use Rattle.std.specs.Prelude.{◌≡◌, ◌+◌, ◌*◌, ◌≤◌, ◌<◌, ◌++◌, ◌↔◌, IsOk, length, drop};
-ghost use Rattle.std.specs.Int.{w16, w32, to_be_bytes};
+ghost use Rattle.std.specs.Prelude.{◌≡◌, ◌<◌, ◌↔◌, IsOk, length};
 ghost use Rattle.lms_ots.specs.Ots as ots;
-ghost use Rattle.lms_tree.specs.Kinds.{height, leaf_count, signature_length};
-ghost use Rattle.lms_tree.specs.Lms.{Verifies, leaf_hash, inner_hash, parent, climb, root_in, verdict_of, index_in, one_time_in, number_at};
+ghost use Rattle.lms_tree.specs.Kinds.{leaf_count, signature_length};
+ghost use Rattle.lms_tree.specs.Lms.{Verifies, parent, root_in, verdict_of, index_in, number_at};
 
+use crate::hashes::{inner_hash, leaf_hash};
 use crate::key::PublicKey;
 use crate::kind::SigFault;
 use crate::places::number_at;
 use lms_ots::{OtsKind, candidate};
-use sha2::{Digest, Sha256};
-
-/// What a leaf's hash has after the identifier and the node's number.
-const D_LEAF: u16 = 0x8282;
-
-/// What an inner node's hash has after the identifier and the node's number.
-const D_INTR: u16 = 0x8383;
 
 /// Whether `signature` is a signature of `message` under `key` (RFC 8554, section 5.4.2).
 #[tactic(auto, unfolding(crate::specs::Lms::verdict_of))]
 pub fn verify(key: &PublicKey, message: &[u8], signature: &[u8]) -> Result<(), SigFault>
+    ensures decides { IsOk result ↔ Verifies key.now message.now signature.now }
     ensures verdict { result ≡ verdict_of key.now message.now signature.now }
 {
     if signature.len() != key.signature_length() {
@@ -77,33 +71,6 @@ fn one_time_value(kind: OtsKind, id: &[u8; 16], q: u32, message: &[u8], one_time
         Ok(value) => value,
         Err(_) => unreachable!(),
     }
-}
-
-/// The hash of the leaf at node `r`, whose one-time key is `one_time`.
-#[tactic(auto, unfolding(crate::specs::Lms::leaf_hash))]
-pub fn leaf_hash(id: &[u8; 16], r: u32, one_time: &[u8; 32]) -> [u8; 32]
-    ensures { result ≡ leaf_hash id.now r one_time.now }
-{
-    let mut hasher = Sha256::new();
-    hasher.update(id);
-    hasher.update(&r.to_be_bytes());
-    hasher.update(&D_LEAF.to_be_bytes());
-    hasher.update(one_time);
-    hasher.finalize()
-}
-
-/// The hash of the inner node `r`.
-#[tactic(auto, unfolding(crate::specs::Lms::inner_hash))]
-pub fn inner_hash(id: &[u8; 16], r: u32, left: &[u8], right: &[u8]) -> [u8; 32]
-    ensures { result ≡ inner_hash id.now r left.now right.now }
-{
-    let mut hasher = Sha256::new();
-    hasher.update(id);
-    hasher.update(&r.to_be_bytes());
-    hasher.update(&D_INTR.to_be_bytes());
-    hasher.update(left);
-    hasher.update(right);
-    hasher.finalize()
 }
 
 // The parent of a node and its sibling.
