@@ -3,3 +3,4 @@ pub mod Parts
 pub mod Roots
 pub mod Verdicts
 pub mod NodeLists
+pub mod Signatures

@@ -1,9 +1,10 @@
 -- The nodes of a tree, and the way from a leaf to the root.
-use Rattle.std.proofs.Common.{◌≡◌, ℕ, zero, suc, ◌+◌, ◌-◌, ◌*◌, ◌/◌, ◌%◌, ◌^◌, ◌<◌, ◌≤◌, List, refl, sym, ◌∙◌, ap, inl, inr, arith, lit<, lit≤, add-one, take, drop}
+use Rattle.std.proofs.Common.{◌≡◌, ℕ, zero, suc, ◌+◌, ◌-◌, ◌*◌, ◌/◌, ◌%◌, ◌^◌, ◌<◌, ◌≤◌, List, refl, sym, ◌∙◌, ap, inl, inr, arith, lit<, lit≤, add-one, take, drop, length}
 use Rattle.std.proofs.lemmas.Bool.{cases_lt}
 use Rattle.std.proofs.lemmas.Bool.Decides.{nat_tests, eqb_tells}
 use Rattle.std.proofs.lemmas.Nat.{le-div}
-use Rattle.std.proofs.Math.Nat.{pow-suc, pow-succ', div-div-eq-div-mul, div-le_self}
+use Rattle.std.proofs.Math.Nat.{pow-suc, pow-succ', div-div-eq-div-mul, div-le_self, div-eq_of_lt-le}
+use Rattle.sha2.proofs.Facts256.{length-sha256}
 use Rattle.lms_ots.specs.declared.kind.OtsKind.{OtsKind}
 use Rattle.lms_ots.specs.declared.kind.OtsKind.TheVariants.{W1, W2, W4, W8}
 use Rattle.lms_ots.specs.Ots as ots
@@ -12,7 +13,7 @@ use Rattle.lms_tree.specs.declared.secret.Secret.{Secret}
 use Rattle.lms_tree.specs.Kinds.{height, leaf_count}
 use Rattle.lms_tree.specs.Lms.{leaf, leaf_hash, inner_hash, index_in, one_time_in, sibling_in, root_in, root_from, node, node_above, parent, climb, sibling, path_of}
 
-positive_pow : (k : ℕ) → 0 < 2 ^ k
+pub positive_pow : (k : ℕ) → 0 < 2 ^ k
 positive_pow zero = lit< tt
 positive_pow (suc k) = rw (pow-succ' 2 k) (omega (arith, positive_pow k))
 
@@ -60,6 +61,19 @@ node-inner secret r counted high =
     let reached : 1 * 2 ^ height secret.tree ≤ r * 2 ^ height secret.tree = grind arith in
     sym (node_above-more secret (height secret.tree) r (omega arith))
     ∙ node_above-inner secret (height secret.tree) r high
+
+length-node_above : (secret : Secret) (n r : ℕ) → length (node_above secret n r) ≡ 32
+unfolding node_above leaf leaf_hash inner_hash
+length-node_above secret zero r = length-sha256 _
+length-node_above secret (suc n) r =
+    elim (cases_lt r (leaf_count secret.tree)) [
+      | inl high ↦ ap length (node_above-inner secret n r high) ∙ length-sha256 _
+      | inr low ↦ ap length (node_above-leaf secret (suc n) r low) ∙ length-sha256 _
+    ]
+
+pub length-node : (secret : Secret) (r : ℕ) → length (node secret r) ≡ 32
+unfolding node
+length-node secret r = length-node_above secret (height secret.tree) r
 
 -- a node and its sibling have the parent that the tree has
 pub parent-node : (secret : Secret) (m : ℕ) → 2 ≤ m → m < 2 * leaf_count secret.tree
@@ -135,3 +149,23 @@ root_in-reached key message signature q long leaves k one_time first value is_q 
     is_value ∙ ap (climb key.id (sibling_in key.ots signature) (leaf_count key.tree + q) first) is_k
     ∙ ap (λ v. climb key.id (sibling_in key.ots signature) (leaf_count key.tree + q) v (height key.tree)) start
     ∙ ap (λ n. root_from key.tree key.id n (ots.candidate_value key.ots key.id n message (one_time_in key.ots signature)) (sibling_in key.ots signature)) is_q
+
+-- ---- the law: a signature opens to the root
+
+leaf-at : (secret : Secret) (r q : ℕ) → r - leaf_count secret.tree ≡ q
+    → leaf_hash secret.id r (ots.public_value secret.ots secret.id q secret.seed) ≡ leaf secret r
+unfolding leaf
+leaf-at secret r q number = ap (λ i. leaf_hash secret.id r (ots.public_value secret.ots secret.id i secret.seed)) (sym number)
+
+pub path-opens : (secret : Secret) (q : ℕ) → q < leaf_count secret.tree
+    → root_from secret.tree secret.id q (ots.public_value secret.ots secret.id q secret.seed) (path_of secret q) ≡ node secret 1
+unfolding root_from path_of
+path-opens secret q within =
+    let leaves = leaf_count secret.tree in
+    let n = leaves + q in
+    let number : n - leaves ≡ q = omega arith in
+    let bottom : leaf_hash secret.id n (ots.public_value secret.ots secret.id q secret.seed) ≡ node secret n =
+        leaf-at secret n q number ∙ sym (node-leaf secret n (omega arith)) in
+    let top : n / 2 ^ height secret.tree ≡ 1 = div-eq_of_lt-le (2 ^ height secret.tree) (omega arith) (omega arith) in
+    ap (λ v. climb secret.id (λ i. node secret (sibling (n / 2 ^ i))) n v (height secret.tree)) bottom
+    ∙ climb-nodes secret n (height secret.tree) (omega arith) (omega arith) ∙ ap (node secret) top
