@@ -1,15 +1,20 @@
 -- The kinds that numbers stand for.
-use Rattle.std.proofs.Common.{◌≡◌, ℕ, ◌≤◌, ◌<◌, ◌↔◌, List, ◌++◌, length, take, get_or, Option, Some, None, IsSome, IfSome, refl, subst, ap, sym, ◌∙◌, lit≤, arith}
+use Rattle.std.proofs.Common.{◌≡◌, ℕ, ◌≤◌, ◌<◌, ◌↔◌, List, ◌++◌, length, take, get_or, Option, Some, None, IsSome, IfSome, refl, subst, ap, sym, ◌∙◌, lit≤, lit<, arith, ◌^◌, drop, Ok, Err, eq-eqb, length-append, if◌then◌else◌}
 use Rattle.std.proofs.lemmas.Bool.{false≢true}
 use Rattle.std.proofs.lemmas.Bool.Decides.{nat_tests}
 use Rattle.std.specs.Prelude.{slice_range}
 use Rattle.std.specs.Int.{w32, to_be_bytes}
+use Rattle.std.proofs.lemmas.List.{take_at, drop_at, take_all}
+use Rattle.std.proofs.lemmas.Nat.{from_be_bytes-to_be_bytes_4}
 use Rattle.lms_ots.specs.declared.kind.OtsKind.{OtsKind}
 use Rattle.lms_ots.specs.declared.kind.OtsKind.TheVariants.{W1, W2, W4, W8}
 use Rattle.lms_ots.specs.Ots as ots
 use Rattle.lms_tree.specs.declared.kind.TreeKind.{TreeKind}
+use Rattle.lms_tree.specs.declared.kind.TreeKind.TheVariants.{H5, H10, H15}
+use Rattle.lms_tree.specs.declared.kind.KeyFault.TheVariants as key_fault
+use Rattle.lms_tree.specs.declared.key.PublicKey.{PublicKey}
 use Rattle.lms_tree.specs.Kinds.{type_number}
-use Rattle.lms_tree.specs.Lms.{ots_of, number_at, key_bytes}
+use Rattle.lms_tree.specs.Lms.{ots_of, tree_of, number_at, key_bytes, key_in, key_with}
 use Rattle.lms_tree.proofs.Parts.{four_parts, number-spelled}
 
 ots_of-none : (n : ℕ) → ((1 ≤ n) × (n ≤ 4) → ⊥) → None ≡ ots_of n
@@ -32,3 +37,43 @@ key-spelled s long below tree typed kind signed =
     let first : to_be_bytes w32 (type_number tree) ≡ take 4 s = ap (to_be_bytes w32) typed ∙ number-spelled s 0 below (omega arith) in
     let second : to_be_bytes w32 (ots.type_number kind) ≡ slice_range s 4 8 = ap (to_be_bytes w32) signed ∙ number-spelled s 4 below (omega arith) in
     four_parts s _ _ _ _ 4 8 24 56 (lit≤ tt) (lit≤ tt) (lit≤ tt) long first second refl refl
+
+tree-read : (tree : TreeKind) → tree_of (type_number tree) ≡ Some tree
+tree-read H5 = refl
+tree-read H10 = refl
+tree-read H15 = refl
+
+ots-read : (kind : OtsKind) → ots_of (ots.type_number kind) ≡ Some kind
+ots-read W1 = refl
+ots-read W2 = refl
+ots-read W4 = refl
+ots-read W8 = refl
+
+tree-number : (tree : TreeKind) → type_number tree < 2 ^ 32
+tree-number H5 = lit< tt
+tree-number H10 = lit< tt
+tree-number H15 = lit< tt
+
+ots-number : (kind : OtsKind) → ots.type_number kind < 2 ^ 32
+ots-number W1 = lit< tt
+ots-number W2 = lit< tt
+ots-number W4 = lit< tt
+ots-number W8 = lit< tt
+
+-- the bytes of a key are read as the key
+pub key_in-key_bytes : (key : PublicKey) → length key.id ≡ 16 → length key.root ≡ 32 → key_in (key_bytes key) ≡ Ok key
+unfolding key_in key_bytes
+key_in-key_bytes key id_long root_long =
+    let bytes = to_be_bytes w32 (type_number key.tree) ++ to_be_bytes w32 (ots.type_number key.ots) ++ key.id ++ key.root in
+    let long : length bytes ≡ 56 = omega (arith, length-append key.id key.root) in
+    let first : number_at 0 bytes ≡ type_number key.tree = from_be_bytes-to_be_bytes_4 (type_number key.tree) (tree-number key.tree) in
+    let second : number_at 4 bytes ≡ ots.type_number key.ots = from_be_bytes-to_be_bytes_4 (ots.type_number key.ots) (ots-number key.ots) in
+    let id : slice_range bytes 8 24 ≡ key.id = take_at key.id key.root 16 id_long in
+    let behind : drop 16 (key.id ++ key.root) ≡ key.root = drop_at key.id key.root 16 id_long in
+    let root : slice_range bytes 24 56 ≡ key.root = ap (take 32) behind ∙ take_all 32 key.root (omega arith) in
+    let tree : tree_of (number_at 0 bytes) ≡ Some key.tree = ap tree_of first ∙ tree-read key.tree in
+    let kind : ots_of (number_at 4 bytes) ≡ Some key.ots = ap ots_of second ∙ ots-read key.ots in
+    ap (λ b. if b then key_with bytes (tree_of (number_at 0 bytes)) (ots_of (number_at 4 bytes)) else Err (key_fault.Length (length bytes))) (eq-eqb (length bytes) 56 long)
+    ∙ ap (λ t. key_with bytes t (ots_of (number_at 4 bytes))) tree ∙ ap (key_with bytes (Some key.tree)) kind
+    ∙ ap (λ i. Ok (record { tree = key.tree; ots = key.ots; id = i; root = slice_range bytes 24 56 })) id
+    ∙ ap (λ r. Ok (record { tree = key.tree; ots = key.ots; id = key.id; root = r })) root

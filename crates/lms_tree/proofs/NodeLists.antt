@@ -24,30 +24,30 @@ pub leaves-more : (secret : Secret) (nodes : List (List ℕ)) (q place : ℕ) (v
     → q < leaf_count secret.tree → place ≡ leaf_count secret.tree + q → value ≡ leaf secret (leaf_count secret.tree + q)
     → HoldsLeaves secret (set nodes place value) (q + 1)
 leaves-more secret nodes q place value holds within is_place is_value = record {
-    long = length-set nodes place value ∙ holds.long;
-    each = λ k below. elim (cases_lt k q) [
-      | inl lt ↦
-          let other : leaf_count secret.tree + k ≢ place = omega arith in
-          get_or-set_other nodes place (leaf_count secret.tree + k) value [] other ∙ holds.each k lt
-      | inr ge ↦
-          let same : leaf_count secret.tree + k ≡ place = omega arith in
-          let last : k ≡ q = omega arith in
-          ap (λ i. get_or (set nodes place value) i []) same
-          ∙ get_or-set_same nodes place value [] (omega (arith, holds.long))
-          ∙ is_value ∙ ap (λ i. leaf secret (leaf_count secret.tree + i)) (sym last)
-          ∙ sym (node-leaf secret (leaf_count secret.tree + k) (omega arith))
-    ];
-  }
+  long = length-set nodes place value ∙ holds.long;
+  each = λ k below. elim (cases_lt k q) [
+    | inl lt ↦
+        let other : leaf_count secret.tree + k ≢ place = omega arith in
+        get_or-set_other nodes place (leaf_count secret.tree + k) value [] other ∙ holds.each k lt
+    | inr ge ↦
+        let same : leaf_count secret.tree + k ≡ place = omega arith in
+        let last : k ≡ q = omega arith in
+        ap (λ i. get_or (set nodes place value) i []) same
+        ∙ get_or-set_same nodes place value [] (omega (arith, holds.long))
+        ∙ is_value ∙ ap (λ i. leaf secret (leaf_count secret.tree + i)) (sym last)
+        ∙ sym (node-leaf secret (leaf_count secret.tree + k) (omega arith))
+  ];
+}
 
 pub leaves-all : (secret : Secret) (nodes : List (List ℕ)) (count : ℕ) → HoldsLeaves secret nodes count
     → leaf_count secret.tree ≤ count → HoldsFrom secret nodes (leaf_count secret.tree)
 leaves-all secret nodes count holds all = record {
-    long = holds.long;
-    each = λ r low high.
+  long = holds.long;
+  each = λ r low high.
       let q = r - leaf_count secret.tree in
       let same : leaf_count secret.tree + q ≡ r = omega arith in
       ap (λ i. get_or nodes i []) (sym same) ∙ holds.each q (omega arith) ∙ ap (node secret) same;
-  }
+}
 
 -- an inner node is put before those that stand
 pub inner-more : (secret : Secret) (nodes : List (List ℕ)) (above r : ℕ) (value : List ℕ) → HoldsFrom secret nodes above
@@ -56,9 +56,9 @@ pub inner-more : (secret : Secret) (nodes : List (List ℕ)) (above r : ℕ) (va
     → HoldsFrom secret (set nodes r value) r
 inner-more secret nodes above r value holds next counted within is_value =
     let here : value ≡ node secret r =
-        is_value ∙ ap (λ t. inner_hash secret.id r t (get_or nodes (2 * r + 1) [])) (holds.each (2 * r) (omega arith) (omega arith))
-        ∙ ap (inner_hash secret.id r (node secret (2 * r))) (holds.each (2 * r + 1) (omega arith) (omega arith))
-        ∙ sym (node-inner secret r counted within) in
+    is_value ∙ ap (λ t. inner_hash secret.id r t (get_or nodes (2 * r + 1) [])) (holds.each (2 * r) (omega arith) (omega arith))
+    ∙ ap (inner_hash secret.id r (node secret (2 * r))) (holds.each (2 * r + 1) (omega arith) (omega arith))
+    ∙ sym (node-inner secret r counted within) in
     record {
       long = length-set nodes r value ∙ holds.long;
       each = λ k low high. elim (cases_lt r k) [
@@ -106,7 +106,7 @@ path-more secret nodes q place k m beside first before out holds within below is
     let stands = sibling-stands secret q k within below in
     let there : beside ≡ sibling (n / 2 ^ k) = is_beside ∙ ap sibling is_m in
     let copied : get_or nodes beside [] ≡ path_of secret q k =
-        ap (λ i. get_or nodes i []) there ∙ holds.each (sibling (n / 2 ^ k)) stands.0 stands.1 in
+    ap (λ i. get_or nodes i []) there ∙ holds.each (sibling (n / 2 ^ k)) stands.0 stands.1 in
     let long : length (get_or nodes beside []) ≡ 32 = ap length copied ∙ length-node secret (sibling (n / 2 ^ k)) in
     let size : place + 32 * (k + 1) ≡ place + 32 * k + length (get_or nodes beside []) = omega arith in
     ap (λ i. take i out) size ∙ now ∙ ap (λ t. t ++ get_or nodes beside []) was

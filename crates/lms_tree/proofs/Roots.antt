@@ -143,9 +143,9 @@ unfolding root_in root_from
 root_in-reached key message signature q long leaves k one_time first value is_q is_long is_leaves is_k is_one_time is_first is_value =
     let size : 8 + long - 4 - 4 ≡ 4 + ots.signature_length key.ots - 4 = omega arith in
     let start : first ≡ leaf_hash key.id (leaf_count key.tree + q) (ots.candidate_value key.ots key.id q message (one_time_in key.ots signature)) =
-        is_first ∙ ap (λ n. leaf_hash key.id (n + q) one_time) is_leaves
-        ∙ ap (leaf_hash key.id (leaf_count key.tree + q)) (is_one_time
-        ∙ ap (λ n. ots.candidate_value key.ots key.id q message (take n (drop 4 signature))) size) in
+    is_first ∙ ap (λ n. leaf_hash key.id (n + q) one_time) is_leaves
+    ∙ ap (leaf_hash key.id (leaf_count key.tree + q)) (is_one_time
+    ∙ ap (λ n. ots.candidate_value key.ots key.id q message (take n (drop 4 signature))) size) in
     is_value ∙ ap (climb key.id (sibling_in key.ots signature) (leaf_count key.tree + q) first) is_k
     ∙ ap (λ v. climb key.id (sibling_in key.ots signature) (leaf_count key.tree + q) v (height key.tree)) start
     ∙ ap (λ n. root_from key.tree key.id n (ots.candidate_value key.ots key.id n message (one_time_in key.ots signature)) (sibling_in key.ots signature)) is_q
@@ -165,7 +165,7 @@ path-opens secret q within =
     let n = leaves + q in
     let number : n - leaves ≡ q = omega arith in
     let bottom : leaf_hash secret.id n (ots.public_value secret.ots secret.id q secret.seed) ≡ node secret n =
-        leaf-at secret n q number ∙ sym (node-leaf secret n (omega arith)) in
+    leaf-at secret n q number ∙ sym (node-leaf secret n (omega arith)) in
     let top : n / 2 ^ height secret.tree ≡ 1 = div-eq_of_lt-le (2 ^ height secret.tree) (omega arith) (omega arith) in
     ap (λ v. climb secret.id (λ i. node secret (sibling (n / 2 ^ i))) n v (height secret.tree)) bottom
     ∙ climb-nodes secret n (height secret.tree) (omega arith) (omega arith) ∙ ap (node secret) top

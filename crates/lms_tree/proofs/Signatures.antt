@@ -39,12 +39,12 @@ signature-written secret q message c b1 b3 b4 part number kind long is_long is_c
     let four : 4 ≡ 0 + length number = omega arith in
     let begun : take 4 b1 ≡ number = ap (λ n. take n b1) four ∙ first in
     let middle : take (8 + long - 4) (put_mid 4 (8 + long - 4 - 4) b1 part) ≡ take 4 b1 ++ part =
-        take-put_mid 4 (8 + long - 4 - 4) b1 part (8 + long - 4) (omega arith) (omega arith) in
+    take-put_mid 4 (8 + long - 4 - 4) b1 part (8 + long - 4) (omega arith) (omega arith) in
     let place : 8 + long ≡ 8 + long - 4 + length kind = omega arith in
     let tail = ots.joined (path_of secret q) (height secret.tree) in
     let whole : take (8 + long + 32 * height secret.tree) b4 ≡ b4 = take_all (8 + long + 32 * height secret.tree) b4 (omega arith) in
     let one_time : part ≡ ots.signature_of secret.ots secret.id q secret.seed (randomizer secret q message) message =
-        is_part ∙ ap (λ r. ots.signature_of secret.ots secret.id q secret.seed r message) is_c in
+    is_part ∙ ap (λ r. ots.signature_of secret.ots secret.id q secret.seed r message) is_c in
     sym whole ∙ third ∙ ap (λ t. t ++ tail) (ap (λ n. take n b3) place ∙ second ∙ ap (λ t. t ++ kind) (middle ∙ ap (λ t. t ++ part) begun))
     ∙ ap (λ t. t ++ part ++ kind ++ tail) is_number
     ∙ ap (λ t. to_be_bytes w32 q ++ t ++ kind ++ tail) one_time

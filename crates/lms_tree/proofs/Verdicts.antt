@@ -79,10 +79,10 @@ verifies-laid : (key : PublicKey) (message signature : List ℕ) (good : Verifie
     (to_be_bytes w32 (type_number key.tree)) (ots.joined good.path (height key.tree)) (ots.signature_length key.ots)
 unfolding signature_bytes
 verifies-laid key message signature good = record {
-    spelled = good.spelled;
-    a_long = refl;
-    o_long = length-ots_bytes key.ots good.c good.y good.c_is_hash good.y_are_hashes;
-    t_long = refl;
+  spelled = good.spelled;
+  a_long = refl;
+  o_long = length-ots_bytes key.ots good.c good.y good.c_is_hash good.y_are_hashes;
+  t_long = refl;
 }
 
 pub verifies-length : (key : PublicKey) (message signature : List ℕ) → Verifies key message signature
@@ -196,7 +196,7 @@ one_time-spelled key message signature has =
     let long : length o ≡ 36 + 32 * p = omega (arith, length-one_time_in key message signature has, signature_length-is key.ots) in
     let front : take 4 o ≡ slice_range signature 4 8 = take-take 4 (4 + n - 4) (drop 4 signature) (omega arith) in
     let t : to_be_bytes w32 (ots.type_number key.ots) ≡ take 4 o =
-        ap (to_be_bytes w32) (sym has.ots_type) ∙ number-spelled signature 4 has.below (omega (arith, has.long)) ∙ sym front in
+    ap (to_be_bytes w32) (sym has.ots_type) ∙ number-spelled signature 4 has.below (omega (arith, has.long)) ∙ sym front in
     sym (three_parts o _ _ _ 4 36 (36 + 32 * p) (lit≤ tt) (omega arith) long t refl (row-whole o 36 p))
 
 c-long : (key : PublicKey) (message signature : List ℕ) → HasParts key message signature
@@ -230,7 +230,7 @@ parts-verify key message signature has =
     let spelled = one_time-spelled key message signature has in
     let q : to_be_bytes w32 (index_in signature) ≡ take 4 signature = number-spelled signature 0 has.below (omega (arith, has.long)) in
     let t : to_be_bytes w32 (type_number key.tree) ≡ slice_range signature (4 + n) (4 + n + 4) =
-        ap (to_be_bytes w32) (sym has.tree_type) ∙ number-spelled signature (4 + n) has.below (omega (arith, has.long)) in
+    ap (to_be_bytes w32) (sym has.tree_type) ∙ number-spelled signature (4 + n) has.below (omega (arith, has.long)) in
     record {
       q = index_in signature;
       c = c_in key.ots signature;

@@ -2,3 +2,4 @@ pub mod Kinds
 pub mod Lms
 pub mod Leaves
 pub mod Nodes
+pub use Rattle.lms_ots.specs.Ots

@@ -4,8 +4,8 @@ ghost use Rattle.std.specs.Prelude.{◌≡◌, IfOk};
 ghost use Rattle.lms_tree.specs.Kinds.{signature_length};
 ghost use Rattle.lms_tree.specs.Lms.{key_bytes, key_in};
 
-use crate::places::{number_at, put};
 use crate::kind::{KeyFault, TreeKind};
+use crate::places::{number_at, put};
 use lms_ots::OtsKind;
 
 /// The public half of a key (RFC 8554, section 5.3).
@@ -52,7 +52,8 @@ impl PublicKey {
     /// The key's 56 bytes.
     #[tactic(auto, unfolding(crate::specs::Lms::key_bytes))]
     pub fn write(&self) -> [u8; 56]
-        ensures { result ≡ key_bytes self.now }
+        ensures bytes { result ≡ key_bytes self.now }
+        ensures read_back { key_in result ≡ Ok self.now }
     {
         let mut bytes = [0; 56];
         put(&mut bytes, 0, &self.tree.type_number().to_be_bytes());

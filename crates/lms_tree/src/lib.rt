@@ -16,4 +16,6 @@ mod places;
 mod secret;
 mod signing;
 mod spending;
+#[cfg(test)]
+mod tests;
 mod verifying;

@@ -119,13 +119,7 @@ impl Tree {
 }
 
 // Writes the signature of `message` by leaf `q`.
-fn write_signature(
-    secret: &Secret,
-    nodes: &[[u8; 32]],
-    q: u32,
-    message: &[u8],
-    out: &mut [u8],
-)
+fn write_signature(secret: &Secret, nodes: &[[u8; 32]], q: u32, message: &[u8], out: &mut [u8])
     requires nodes { HoldsFrom secret.now nodes.now 1 }
     requires leaf { q < leaf_count secret.now.tree }
     requires long { length out.old ≡ signature_length secret.now.tree secret.now.ots }

@@ -11,7 +11,8 @@ loop-height-init c =
 
 pub loop-height-preserved : goal.loop-height-preserved
 loop-height-preserved c =
-    let k = c.loop-height.height in
-    (halved_more _ k _ c.loop-height.invariant.0
-    , path-more c.args.secret.now c.args.nodes.now c.args.q c.args.place k _ _ _ _ _ c.requires.nodes c.requires.leaf (omega arith)
-    c.loop-height.invariant.0 c.sibling.ensures c.loop-height.invariant.1 c.put.ensures)
+    let k = c.loop-height.height in (
+      halved_more _ k _ c.loop-height.invariant.0,
+      path-more c.args.secret.now c.args.nodes.now c.args.q c.args.place k _ _ _ _ _ c.requires.nodes c.requires.leaf (omega arith)
+          c.loop-height.invariant.0 c.sibling.ensures c.loop-height.invariant.1 c.put.ensures,
+    )

@@ -18,10 +18,11 @@ loop-height-init c = (omega arith, refl)
 
 pub loop-height-preserved : goal.loop-height-preserved
 loop-height-preserved c =
-    let k = c.loop-height.height in
-    (halved_more _ k _ c.loop-height.invariant.0
-    , climb-more _ _ _ _ k _ _ _ _ c.loop-height.invariant.0 c.loop-height.invariant.1
-    (rw c.signature_length-path_at.ensures refl) c.parent-value.ensures)
+    let k = c.loop-height.height in (
+      halved_more _ k _ c.loop-height.invariant.0,
+      climb-more _ _ _ _ k _ _ _ _ c.loop-height.invariant.0 c.loop-height.invariant.1
+          (rw c.signature_length-path_at.ensures refl) c.parent-value.ensures,
+    )
 
 pub returns : goal.returns
 returns c =

@@ -36,19 +36,21 @@ returns-then-q-leaf_count-clause-decides c =
 pub returns-then-ne-clause-decides : goal.returns-then-ne-clause-decides
 returns-then-ne-clause-decides c =
     refused _ (λ good.
-      let same = (bytes_eq-Decides c.as_slice.result.now c.as_slice-2.result.now).1
-          (c.as_slice.ensures ∙ c.root_of.ensures ∙ verifies-root c.args.key.now c.args.message.now c.args.signature.now good ∙ sym c.as_slice-2.ensures) in
-      false≢true (sym (c.if-ne.ensures ∙ ap not same)))
+    let same = (bytes_eq-Decides c.as_slice.result.now c.as_slice-2.result.now).1
+    (c.as_slice.ensures ∙ c.root_of.ensures ∙ verifies-root c.args.key.now c.args.message.now c.args.signature.now good ∙ sym c.as_slice-2.ensures) in
+    false≢true (sym (c.if-ne.ensures ∙ ap not same)))
 
 pub returns-clause-decides : goal.returns-clause-decides
 returns-clause-decides c =
     let place = c.signature_length-2.ensures in
-    let equal = (bytes_eq-Decides c.as_slice.result.now c.as_slice-2.result.now).0 (true_from_not _ c.if-ne.ensures) in
-    (λ _. parts-verify c.args.key.now c.args.message.now c.args.signature.now (record {
-      below = λ k. Fits-lt-pow (c.type_inv.signature k);
-      long = omega arith;
-      tree_type = rw (← place) (sym c.number_at-found.ensures ∙ c.if-found-type_number.false ∙ c.type_number.ensures);
-      ots_type = sym c.number_at-found-2.ensures ∙ c.if-found-type_number-2.false ∙ c.type_number-2.ensures;
-      has_leaf = omega arith;
-      opens = sym c.root_of.ensures ∙ sym c.as_slice.ensures ∙ equal ∙ c.as_slice-2.ensures;
-    }), λ _. refl)
+    let equal = (bytes_eq-Decides c.as_slice.result.now c.as_slice-2.result.now).0 (true_from_not _ c.if-ne.ensures) in (
+      λ _. parts-verify c.args.key.now c.args.message.now c.args.signature.now (record {
+        below = λ k. Fits-lt-pow (c.type_inv.signature k);
+        long = omega arith;
+        tree_type = rw (← place) (sym c.number_at-found.ensures ∙ c.if-found-type_number.false ∙ c.type_number.ensures);
+        ots_type = sym c.number_at-found-2.ensures ∙ c.if-found-type_number-2.false ∙ c.type_number-2.ensures;
+        has_leaf = omega arith;
+        opens = sym c.root_of.ensures ∙ sym c.as_slice.ensures ∙ equal ∙ c.as_slice-2.ensures;
+      }),
+      λ _. refl,
+    )
