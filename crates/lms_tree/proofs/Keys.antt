@@ -1,5 +1,5 @@
 -- The kinds that numbers stand for.
-use Rattle.std.proofs.Common.{◌≡◌, ℕ, ◌≤◌, ◌<◌, ◌↔◌, List, ◌++◌, length, take, get_or, Option, Some, None, IsSome, IfSome, refl, subst, ap, sym, ◌∙◌, lit≤, lit<, arith, ◌^◌, drop, Ok, Err, eq-eqb, length-append, if◌then◌else◌}
+use Rattle.std.proofs.Common.{◌≡◌, ℕ, ◌≤◌, ◌<◌, ◌↔◌, List, ◌++◌, length, take, get_or, Option, Some, None, IsSome, IfSome, refl, subst, ap, ◌∙◌, lit≤, lit<, arith, ◌^◌, drop, Ok, Err, eq-eqb, length-append, if◌then◌else◌}
 use Rattle.std.proofs.lemmas.Bool.{false≢true}
 use Rattle.std.proofs.lemmas.Bool.Decides.{nat_tests}
 use Rattle.std.specs.Prelude.{slice_range}

@@ -1,5 +1,5 @@
 -- Signatures: how their bytes come about, and that they verify.
-use Rattle.std.proofs.Common.{◌≡◌, ℕ, ◌+◌, ◌-◌, ◌*◌, ◌<◌, ◌≤◌, List, ◌++◌, length, take, refl, sym, ◌∙◌, ap, arith, Ok}
+use Rattle.std.proofs.Common.{◌≡◌, ℕ, ◌+◌, ◌-◌, ◌*◌, ◌<◌, List, ◌++◌, length, take, refl, sym, ◌∙◌, ap, arith}
 use Rattle.std.specs.Int.{w32, to_be_bytes}
 use Rattle.std.proofs.lemmas.List.{take_all}
 use Rattle.std.proofs.lemmas.Slice.{take-put_mid}
@@ -11,7 +11,7 @@ use Rattle.lms_ots.proofs.Chains.{length-chain, length-secret}
 use Rattle.lms_ots.proofs.Opening.{length-signature_of, type_in-signature_of, candidate_of-ok, signatures_open}
 use Rattle.lms_tree.specs.declared.secret.Secret.{Secret}
 use Rattle.lms_tree.specs.Kinds.{type_number, height, leaf_count, signature_length}
-use Rattle.lms_tree.specs.Lms.{Verifies, ots_bytes, path_of, public_of, randomizer, root_from, signature_bytes, signature_of, node}
+use Rattle.lms_tree.specs.Lms.{Verifies, ots_bytes, path_of, public_of, randomizer, root_from, signature_bytes, signature_of}
 use Rattle.lms_tree.proofs.Roots.{one_time-long, length-node, path-opens}
 
 length-randomizer : (secret : Secret) (q : ℕ) (message : List ℕ) → length (randomizer secret q message) ≡ 32

@@ -1,7 +1,7 @@
 -- LMS signatures (RFC 8554, section 5) over SHA-256 with m = 32, as functions on lists of bytes.
 -- Section numbers are the RFC's. I is the tree's identifier of 16 bytes, q a leaf's number, r a
 -- node's number: the root is node 1, and below node r are the nodes 2r and 2r + 1.
-use Rattle.std.specs.Prelude.{◌≡◌, ℕ, zero, suc, ◌+◌, ◌-◌, ◌*◌, ◌/◌, ◌%◌, ◌^◌, ◌==◌, ◌<◌, nat_lt, nat_le, if◌then◌else◌, List, [], ◌∷◌, ◌++◌, length, take, drop, slice_range, bytes_eq, codes, Result, Ok, Err, Option, Some, None}
+use Rattle.std.specs.Prelude.{◌≡◌, ℕ, zero, suc, ◌+◌, ◌-◌, ◌*◌, ◌/◌, ◌%◌, ◌^◌, ◌==◌, ◌<◌, nat_lt, nat_le, if◌then◌else◌, List, ◌++◌, length, slice_range, bytes_eq, codes, Result, Ok, Err, Option, Some, None}
 use Rattle.std.specs.Int.{w16, w32, to_be_bytes, from_be_bytes}
 use Rattle.sha2.specs.Sha256.{sha256}
 use Rattle.lms_ots.specs.declared.kind.OtsKind.{OtsKind}

@@ -1,4 +1,4 @@
-use Rattle.std.proofs.Common.{◌+◌, ◌*◌, take, refl, arith, sym, append-nil, add-zero, ap, ◌∙◌}
+use Rattle.std.proofs.Common.{take, arith, sym, append-nil, add-zero, ap, ◌∙◌}
 use Rattle.lms_ots.specs.Ots as ots
 use Rattle.lms_tree.proofs.NodeLists.{path-more}
 use Rattle.lms_tree.proofs.Roots.{halved_more}

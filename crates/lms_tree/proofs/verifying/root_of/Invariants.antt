@@ -1,5 +1,4 @@
 use Rattle.std.proofs.Common.{◌≡◌, ◌+◌, ◌/◌, ◌^◌}
-use Rattle.lms_ots.specs.Ots as ots
 use Rattle.lms_tree.specs.Kinds.{leaf_count}
 use Rattle.lms_tree.specs.Lms.{climb, sibling_in}
 use Rattle.lms_tree.proofs.verifying.root_of.Given as goal

@@ -1,4 +1,4 @@
-use Rattle.std.proofs.Common.{sym, ◌∙◌, arith}
+use Rattle.std.proofs.Common.{◌∙◌, arith}
 use Rattle.std.proofs.Math.Facts.{Fits-lt-pow}
 use Rattle.lms_tree.proofs.Keys.{key-spelled}
 use Rattle.lms_tree.proofs.key.PublicKey.read.Goals as goal
