@@ -1,6 +1,6 @@
 -- The order of entries: how many there can be, and what an insert and a filter keep of it.
-use Rattle.std.proofs.Common.{◌≡◌, ℕ, suc, ◌+◌, ◌*◌, ◌<◌, ◌≤◌, Bool, true, false, ◌&&◌, eqb, cond, List, [], ◌∷◌, Option, Some, None, length, refl, ap, ◌∙◌, arith, filter}
-use Rattle.std.specs.List.{AllByRecursion, find, insert, prefix_len}
+use Rattle.std.proofs.Common.{◌≡◌, ℕ, suc, ◌+◌, ◌*◌, ◌<◌, ◌≤◌, Bool, true, false, cond, List, [], ◌∷◌, Some, None, length, refl, ap, ◌∙◌, arith, filter}
+use Rattle.std.specs.List.{AllByRecursion, insert, prefix_len}
 use Rattle.std.proofs.lemmas.Bool.{cond_both}
 use Rattle.std.proofs.lemmas.Bool.Decides.{nat_tests}
 use Rattle.ff_ids.specs.declared.AccBody.{AccBody}

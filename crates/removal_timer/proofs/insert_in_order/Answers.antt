@@ -1,5 +1,4 @@
 use Rattle.std.proofs.Common.{arith}
-use Rattle.std.proofs.lemmas.Grind.{common_steps}
 use Rattle.std.proofs.lemmas.List.Sums.{prefix_len-le-length}
 use Rattle.ff_ids.specs.Steps.{comes_first}
 use Rattle.removal_timer.proofs.KeptLemmas.{insert_is}

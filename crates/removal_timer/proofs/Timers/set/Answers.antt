@@ -1,7 +1,7 @@
 use Rattle.std.proofs.Common.{◌≡◌, ℕ, ◌<◌, None, arith}
 use Rattle.ff_ids.specs.declared.AccBody.{AccBody}
 use Rattle.ff_ids.specs.Steps.{with_kept}
-use Rattle.removal_timer.specs.Kept.{entry_at, IsInOrder}
+use Rattle.removal_timer.specs.Kept.{entry_at}
 use Rattle.removal_timer.proofs.KeptLemmas.{IsInOrder-with_kept, length-in_order, length-with_kept}
 use Rattle.removal_timer.proofs.Timers.set.Goals as goal
 
