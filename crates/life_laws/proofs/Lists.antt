@@ -92,3 +92,13 @@ map-filter_agree {X} {Y} f h p same (x ∷ xs) =
     cond_both (p x) (x ∷ filter p xs) (filter p xs) T
     (λ yes. ap (λ y. y ∷ map f (filter p xs)) (same x yes) ∙ ap (λ ys. h x ∷ ys) (map-filter_agree f h p same xs))
     (λ no. map-filter_agree f h p same xs)
+
+pub In-append_cases : {X : Type 0} (xs ys : List X) (x : X) → In (xs ++ ys) x → In xs x ⊎ In ys x
+In-append_cases [] ys x h = inr h
+In-append_cases (z ∷ zs) ys x (inl e) = inl (inl e)
+In-append_cases (z ∷ zs) ys x (inr h) = elim (In-append_cases zs ys x h) [ inl i ↦ inl (inr i) | inr j ↦ inr j ]
+
+pub In-from_map : {X Y : Type 0} (f : X → Y) (xs : List X) (y : Y) → In (map f xs) y → (x : X) × (In xs x × (f x ≡ y))
+In-from_map f [] y h = absurd h
+In-from_map f (z ∷ zs) y (inl e) = (z, (inl refl, e))
+In-from_map f (z ∷ zs) y (inr h) = let r = In-from_map f zs y h in (r.0, (inr r.1.0, r.1.1))
