@@ -1,0 +1,54 @@
+-- Faults: why a note or an accusation is refused, the first condition that holds being the answer.
+use Rattle.std.specs.Prelude.{ℕ, Bool, ◌&&◌, not, ◌==◌, nat_le, if◌then◌else◌, Option, Some, None}
+use Rattle.std.specs.List.{list_any}
+use Rattle.std.specs.declared.cmp.Ordering.{Ordering}
+use Rattle.std.specs.declared.cmp.Ordering.TheVariants.{Less, Equal, Greater}
+use Rattle.ff_ids.specs.declared.NoteBody.{NoteBody}
+use Rattle.ff_ids.specs.declared.AccBody.{AccBody}
+use Rattle.ff_ids.specs.declared.Fault.{Fault}
+use Rattle.ff_ids.specs.declared.Fault.TheVariants as faults
+use Rattle.ff_ids.specs.Masks.{ring_count, enables, good_mask}
+use Rattle.ff_ids.specs.Notes.{note_cmp, newest}
+use Rattle.ff_ids.specs.Views.{State, is_member, in_view, monitor, is_number}
+
+-- How a note compares with the newest decides: a smaller one is older, an equal one is known.
+abbrev pub fault_beside : NoteBody → Ordering → Option Fault
+fault_beside kept Less = Some (faults.Older kept.epoch kept.mask)
+fault_beside kept Equal = Some faults.Known
+fault_beside kept Greater = None
+
+abbrev pub fault_after : Option NoteBody → NoteBody → Option Fault
+fault_after None n = None
+fault_after (Some kept) n = fault_beside kept (note_cmp n kept)
+
+-- Why a note is refused, in a group of tolerance t.
+abbrev pub note_fault : ℕ → State → NoteBody → Option Fault
+note_fault t s n =
+    if not (is_member s n.member) then Some faults.UnknownMember
+    else (if not (good_mask t n.mask.0) then Some faults.BadMask
+    else fault_after (newest s.notes n.member) n)
+
+abbrev pub same_accusation : AccBody → AccBody → Bool
+same_accusation a b = (a.accuser == b.accuser) && (a.accused == b.accused) && (a.epoch == b.epoch) && (a.ring.0 == b.ring.0)
+
+-- The same accusation is kept.
+abbrev pub is_kept : State → AccBody → Bool
+is_kept s a = list_any (λ p. same_accusation p.0 a) s.kept
+
+-- Why an accusation is refused whose numbers are in order, given the newest note of the accused.
+abbrev pub fault_under : State → AccBody → Option NoteBody → Option Fault
+fault_under s a None = Some faults.NoNote
+fault_under s a (Some n) =
+    if not (n.epoch == a.epoch) then Some (faults.OtherEpoch n.epoch)
+    else (if not (in_view s a.accused) then Some faults.NotInView
+    else (if not (enables n.mask.0 a.ring.0) then Some faults.RingDisabled
+    else (if not (is_number (monitor s a.ring.0 a.accused) a.accuser) then Some (faults.NotMonitor (monitor s a.ring.0 a.accused))
+    else (if is_kept s a then Some faults.Standing else None))))
+
+-- Why an accusation is refused, in a group of tolerance t.
+abbrev pub accusation_fault : ℕ → State → AccBody → Option Fault
+accusation_fault t s a =
+    if not (is_member s a.accuser && is_member s a.accused) then Some faults.UnknownMember
+    else (if a.accuser == a.accused then Some faults.SelfAccusation
+    else (if nat_le (ring_count t) a.ring.0 then Some faults.BadRing
+    else fault_under s a (newest s.notes a.accused)))

@@ -1,0 +1,19 @@
+-- Masks: the rings that a note enables.
+use Rattle.std.specs.Prelude.{ℕ, ◌+◌, ◌*◌, ◌/◌, ◌%◌, ◌^◌, Bool, ◌&&◌, ◌==◌, nat_lt, List, length, filter}
+use Rattle.std.specs.List.{range_with_len}
+
+-- A group of tolerance t has 2t+1 rings, numbered from 0.
+abbrev pub ring_count : ℕ → ℕ
+ring_count t = 2 * t + 1
+
+-- The mask enables the ring: its bit is set.
+abbrev pub enables : ℕ → ℕ → Bool
+enables mask ring = mask / 2 ^ ring % 2 == 1
+
+-- The rings of a group of so many rings that the mask enables, in order.
+abbrev pub enabled : ℕ → ℕ → List ℕ
+enabled rings mask = filter (enables mask) (range_with_len 0 rings)
+
+-- No ring at or above 2t+1 is enabled, and more than t rings are.
+abbrev pub good_mask : ℕ → ℕ → Bool
+good_mask t mask = nat_lt mask (2 ^ ring_count t) && nat_lt t (length (enabled (ring_count t) mask))

@@ -1,0 +1,186 @@
+//! The plain types of the membership protocol, and in `specs/` its definitions: masks, the order on a
+//! ring, notes, the view, faults, steps and lives. No call takes memory.
+#![tactic(auto)]
+
+ghost use Rattle.std.specs.Prelude.{◌≡◌, ◌<◌, ◌≤◌, length};
+ghost use Rattle.ff_ids.specs.Masks.{enables, enabled, good_mask as is_good};
+
+mod text;
+
+use std::marker::Model;
+
+/// How many member numbers there are: they are 0 to 1,023.
+pub const MEMBERS: u16 = 1024;
+
+/// The number of a member, 0 to 1,023. Contracts see it as that number.
+#[derive(Clone, Copy, Debug, PartialEq, Eq, PartialOrd, Ord)]
+pub struct MemberId {
+    number: u16,
+}
+
+impl Model for MemberId {
+    ghost use Rattle.std.specs.Prelude.{ℕ, ◌<◌};
+
+    ghost Value = { ℕ };
+
+    ghost view = { λ m. m.number };
+
+    ghost invariant = { λ m. m.number < 1024 };
+
+    ghost inverse = { λ n. record { number = n } };
+}
+
+impl MemberId {
+    pub fn new(number: u16) -> MemberId
+        requires { number < 1024 }
+        ensures { result ≡ number }
+    {
+        MemberId { number }
+    }
+
+    pub fn get(self) -> u16
+        ensures value { result ≡ self }
+        ensures range { result < 1024 }
+    {
+        self.number
+    }
+}
+
+/// The epoch of a note, 1 to 18446744073709551615. Contracts see it as that number.
+#[derive(Clone, Copy, Debug, PartialEq, Eq, PartialOrd, Ord)]
+pub struct Epoch {
+    number: u64,
+}
+
+impl Model for Epoch {
+    ghost use Rattle.std.specs.Prelude.{ℕ, ◌<◌};
+
+    ghost Value = { ℕ };
+
+    ghost view = { λ e. e.number };
+
+    ghost invariant = { λ e. 0 < e.number };
+
+    ghost inverse = { λ n. record { number = n } };
+}
+
+impl Epoch {
+    pub fn new(number: u64) -> Epoch
+        requires { 0 < number }
+        ensures { result ≡ number }
+    {
+        Epoch { number }
+    }
+
+    pub fn get(self) -> u64
+        ensures value { result ≡ self }
+        ensures range { 0 < result }
+    {
+        self.number
+    }
+}
+
+/// The number of a ring. A group of tolerance t has the rings 0 to 2t; the type holds any value.
+#[derive(Clone, Copy, Debug, PartialEq, Eq, PartialOrd, Ord)]
+pub struct RingNo(pub u8);
+
+/// The rings that a note enables: bit r stands for ring r. The type holds any value.
+#[derive(Clone, Copy, Debug, PartialEq, Eq, PartialOrd, Ord)]
+pub struct Mask(pub u32);
+
+/// What the members of one group agree on.
+#[derive(Clone, Copy, Debug, PartialEq, Eq)]
+pub struct Group {
+    /// Tells this group's records from those of any other.
+    pub tag: [u8; 16],
+    /// How many of the 2t+1 rings a mask may disable, 1 to 15.
+    pub t: u8,
+    /// For how many ticks an accusation stands before it removes, 1 to 10,000.
+    pub timeout: u32,
+    /// A node probes and gossips at each tick that is a multiple of it, 1 to 1,000.
+    pub period: u32,
+    /// How many pings in a row go unanswered before a member counts as silent, 1 to 16.
+    pub misses: u8,
+}
+
+/// What a member says of itself: its epoch, and the rings on which it may be monitored.
+#[derive(Clone, Copy, Debug, PartialEq, Eq)]
+pub struct NoteBody {
+    pub member: MemberId,
+    pub epoch: Epoch,
+    pub mask: Mask,
+}
+
+/// What a monitor says of a silent member: that it was silent at this epoch, on this ring.
+#[derive(Clone, Copy, Debug, PartialEq, Eq)]
+pub struct AccBody {
+    pub accuser: MemberId,
+    pub accused: MemberId,
+    pub epoch: Epoch,
+    pub ring: RingNo,
+}
+
+/// Why a record is refused. The first that holds, in the order of the rules, is the answer.
+#[derive(Clone, Copy, Debug, PartialEq, Eq)]
+pub enum Fault {
+    /// The number has joined before.
+    AlreadyMember,
+    /// The member of the note, the accuser or the accused has not joined.
+    UnknownMember,
+    /// The mask enables a ring at or above 2t+1, or fewer than t+1 rings.
+    BadMask,
+    /// The note is the newest of its member.
+    Known,
+    /// The newest note of the member, whose epoch and mask these are, is greater.
+    Older { epoch: Epoch, mask: Mask },
+    /// The accuser is the accused.
+    SelfAccusation,
+    /// The ring is at or above 2t+1.
+    BadRing,
+    /// The accused has no note.
+    NoNote,
+    /// The newest note of the accused has this epoch, and not the accusation's.
+    OtherEpoch { kept: Epoch },
+    /// The accused is not in the view.
+    NotInView,
+    /// The newest note of the accused disables the ring.
+    RingDisabled,
+    /// The monitor of the accused on this ring is this one, or nobody.
+    NotMonitor { monitor: Option<MemberId> },
+    /// The same accusation is kept.
+    Standing,
+}
+
+impl Mask {
+    /// Whether the ring is enabled.
+    pub fn enables(self, ring: RingNo) -> bool
+        requires { ring.0 < 32 }
+        ensures { result ≡ enables self.0 ring.0 }
+    {
+        (self.0 >> ring.0) % 2 == 1
+    }
+}
+
+/// How many of the first rings the mask enables.
+fn enabled_below(mask: Mask, rings: u8) -> u8
+    requires { rings < 32 }
+    ensures { result ≡ length (enabled rings mask.0) }
+{
+    let mut count = 0u8;
+    for ring in 0..rings {
+        if mask.enables(RingNo(ring)) {
+            count += 1;
+        }
+    }
+    count
+}
+
+/// Whether a note may carry this mask in a group of tolerance `t`: no ring at or above 2t+1 is enabled,
+/// and at least t+1 rings are.
+pub fn good_mask(t: u8, mask: Mask) -> bool
+    requires { t ≤ 15 }
+    ensures { result ≡ is_good t mask.0 }
+{
+    let rings = 2 * t + 1;
+    mask.0 < 1u32 << rings && enabled_below(mask, rings) > t
+}
