@@ -1,9 +1,9 @@
 //! LM-OTS one-time signatures of RFC 8554 (section 4) over SHA-256 with n = 32. No call takes memory.
 #![tactic(auto)]
 
-ghost use Rattle.std.specs.Prelude.{◌≡◌, ◌≢◌, IsOk, ◌-◌, ◌<◌, ◌≤◌, ◌++◌, ◌↔◌, IsTrue, length};
+ghost use Rattle.std.specs.Prelude.{IsOk, ◌≡◌, ◌≢◌, ◌-◌, ◌<◌, ◌≤◌, ◌↔◌, length};
 ghost use Rattle.sha2.specs.Hashers.{Holds256};
-ghost use Rattle.lms_ots.specs.Ots.{type_number, chain_count, signature_length, coef, greatest_digit, width, chain, hash_prefix, secret, public_end, public_value, message_hash, signature_of, type_in, value_in, candidate_value, candidate_of, SignaturesOpen};
+ghost use Rattle.lms_ots.specs.Ots.{type_number, chain_count, signature_length, coef, greatest_digit, width, chain, hash_prefix, secret, public_end, public_value, message_hash, signature_of, type_in, candidate_value, candidate_of, SignaturesOpen};
 
 use chain::{Chain, put};
 use digits::{digit, with_checksum};
@@ -36,7 +36,6 @@ pub fn public_hash(kind: OtsKind, id: &[u8; 16], q: u32, seed: &[u8; 32]) -> [u8
 
 /// Writes the one-time signature of `message` with the randomizer `c` into `out` (RFC 8554,
 /// section 4.5). A leaf must never sign two messages.
-#[tactic(auto, unfolding(crate::specs::Ots::signature_of))]
 pub fn sign_into(
     kind: OtsKind,
     id: &[u8; 16],
@@ -94,8 +93,8 @@ pub fn signatures_open(kind: OtsKind)
     ensures { SignaturesOpen kind }
 {}
 
-#[tactic(auto, unfolding(crate::specs::Ots::hash_prefix))]
 // A hasher that was fed the identifier, the leaf's number and `tag`.
+#[tactic(auto, unfolding(crate::specs::Ots::hash_prefix))]
 fn hasher_of(id: &[u8; 16], q: u32, tag: u16) -> Sha256
     ensures { Holds256 result (hash_prefix id.now q tag) }
 {
