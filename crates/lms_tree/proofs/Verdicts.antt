@@ -1,6 +1,8 @@
 -- What the relation `Verifies` says of the parts of a signature, and when it holds.
-use Rattle.std.proofs.Common.{◌≡◌, ℕ, zero, suc, ◌+◌, ◌-◌, ◌*◌, ◌/◌, ◌<◌, ◌≤◌, ◌^◌, List, ◌++◌, length, take, drop, get_or, refl, sym, ◌∙◌, ap, arith, lit<, lit≤, length-append, append_assoc}
-use Rattle.std.specs.Prelude.{slice_range}
+use Rattle.std.proofs.Common.{◌≡◌, ℕ, zero, suc, ◌+◌, ◌-◌, ◌*◌, ◌/◌, ◌<◌, ◌≤◌, ◌^◌, List, ◌++◌, length, take, drop, get_or, refl, sym, ◌∙◌, ap, arith, lit<, lit≤, length-append, append_assoc, Bool, true, false, Result, Ok, Err}
+use Rattle.std.specs.Prelude.{slice_range, is_ok, if◌then◌else◌}
+use Rattle.std.proofs.lemmas.Bool.{false≢true, eq-eqb, eqb-true, lt-ltb, ltb-true}
+use Rattle.std.proofs.lemmas.Slice.Eq.{bytes_eq-Decides}
 use Rattle.std.specs.Int.{w32, to_be_bytes, from_be_bytes}
 use Rattle.std.proofs.lemmas.List.{take_at, drop_at, take-take, drop-drop, append_cancel_left}
 use Rattle.std.proofs.lemmas.Nat.{from_be_bytes-to_be_bytes_4}
@@ -10,9 +12,10 @@ use Rattle.lms_ots.specs.Ots as ots
 use Rattle.lms_ots.proofs.Chains.{signature_length-is}
 use Rattle.lms_tree.specs.declared.kind.TreeKind.{TreeKind}
 use Rattle.lms_tree.specs.declared.kind.TreeKind.TheVariants.{H5, H10, H15}
+use Rattle.lms_tree.specs.declared.kind.SigFault.{SigFault}
 use Rattle.lms_tree.specs.declared.key.PublicKey.{PublicKey}
 use Rattle.lms_tree.specs.Kinds.{type_number, height, leaf_count, signature_length}
-use Rattle.lms_tree.specs.Lms.{Verifies, AreHashes, climb, index_in, number_at, one_time_in, ots_bytes, parent, root_from, root_in, sibling_in, signature_bytes, tree_type_in}
+use Rattle.lms_tree.specs.Lms.{Verifies, AreHashes, climb, index_in, number_at, one_time_in, ots_bytes, parent, root_from, root_in, sibling_in, signature_bytes, tree_type_in, verdict_of}
 use Rattle.lms_tree.proofs.Parts.{three_parts, four_parts, front_more, joined-row, joined_at, length-joined_below, length-slice_range, middle, number-spelled}
 use Rattle.lms_tree.proofs.Roots.{one_time-long}
 
@@ -245,3 +248,59 @@ parts-verify key message signature has =
       opens = ap (λ o. root_from key.tree key.id (index_in signature) (ots.candidate_value key.ots key.id (index_in signature) message o) (sibling_in key.ots signature)) spelled
           ∙ has.opens;
     }
+
+-- ---- the verdict as a test
+
+record AllTrue (a b c d e : Bool) : Type 0 where
+  first : a ≡ true
+  second : b ≡ true
+  third : c ≡ true
+  fourth : d ≡ true
+  fifth : e ≡ true
+
+abbrev judged : (a b c d e : Bool) (A B C D E : SigFault) → Result (Unit {0}) SigFault
+judged a b c d e A B C D E =
+    if a then (if b then (if c then (if d then (if e then Ok tt else Err E) else Err D) else Err C) else Err B) else Err A
+
+ladder : (a b c d e : Bool) (A B C D E : SigFault)
+    → is_ok (judged a b c d e A B C D E) ≡ true
+    → AllTrue a b c d e
+ladder true true true true true A B C D E ok = record { first = refl; second = refl; third = refl; fourth = refl; fifth = refl }
+ladder true true true true false A B C D E ok = absurd (false≢true ok)
+ladder true true true false e A B C D E ok = absurd (false≢true ok)
+ladder true true false d e A B C D E ok = absurd (false≢true ok)
+ladder true false c d e A B C D E ok = absurd (false≢true ok)
+ladder false b c d e A B C D E ok = absurd (false≢true ok)
+
+-- bytes that the verdict calls good verify
+pub verdict-verifies : (key : PublicKey) (message signature : List ℕ) → ((k : ℕ) → get_or signature k 0 < 256)
+    → is_ok (verdict_of key message signature) ≡ true → Verifies key message signature
+unfolding verdict_of
+verdict-verifies key message signature below ok =
+    let all = ladder _ _ _ _ _ _ _ _ _ _ ok in
+    parts-verify key message signature (record {
+      below = below;
+      long = eqb-true _ _ all.first;
+      tree_type = eqb-true _ _ all.second;
+      ots_type = eqb-true _ _ all.third;
+      has_leaf = ltb-true _ _ all.fourth;
+      opens = (bytes_eq-Decides _ _).0 all.fifth;
+    })
+
+climbed : (a b c d e : Bool) (A B C D E : SigFault) → AllTrue a b c d e
+    → judged a b c d e A B C D E ≡ Ok tt
+climbed a b c d e A B C D E all = rw (all.first, all.second, all.third, all.fourth, all.fifth) refl
+
+-- what verifies the verdict calls good
+pub verifies-verdict : (key : PublicKey) (message signature : List ℕ) → Verifies key message signature
+    → verdict_of key message signature ≡ Ok tt
+unfolding verdict_of
+verifies-verdict key message signature good =
+    climbed _ _ _ _ _ _ _ _ _ _
+    (record {
+      first = eq-eqb _ _ (verifies-length key message signature good);
+      second = eq-eqb _ _ (verifies-tree_type key message signature good);
+      third = eq-eqb _ _ (verifies-ots_type key message signature good);
+      fourth = lt-ltb _ _ (verifies-has_leaf key message signature good);
+      fifth = (bytes_eq-Decides _ _).1 (verifies-root key message signature good);
+    })
