@@ -1,0 +1,4 @@
+pub mod Slots
+pub mod Life
+pub mod Holds
+pub mod Reports
