@@ -1,4 +1,4 @@
-pub mod Slots
+pub mod Kept
 pub mod Life
 pub mod Holds
 pub mod Reports

@@ -11,13 +11,13 @@ ghost use Rattle.ff_ids.specs.Faults.{note_fault};
 ghost use Rattle.ff_ids.specs.Steps.{after_note, joined};
 ghost use Rattle.ff_ids.specs.Lives.{opening};
 ghost use Rattle.monitor_rule.specs.Joined.{Joined, with_member, is_joined};
-ghost use Rattle.membership.specs.Slots.{slot_at, places_in, note_in, is_live, is_live_at, live_members, slot_fault, with_note, comes_in};
+ghost use Rattle.membership.specs.Kept.{places_at, note_at, expired_at, is_live_at, comes_in, kept_fault};
 ghost use Rattle.membership.specs.Life.{has_joined};
 ghost use Rattle.membership.specs.Holds.{Holds};
 ghost use Rattle.membership.specs.Reports.{nothing, Reports, Answers, join_fault};
 
+mod kept;
 mod report;
-mod slots;
 
 pub use report::Changes;
 
@@ -28,7 +28,7 @@ use fields::NoMemory;
 use ff_ids::{Fault, Group, MemberId, NoteBody, RingNo};
 use monitor_rule::Rings;
 use ring_order::Places;
-use slots::{Slot, accept_note, check_note, empty_slots, is_live, is_taken, newest_note, places_of};
+use kept::{brings_in, check_note, has_places, is_live, none_yet, note_in, places_of, set_note, zeros};
 
 /// The membership of one life. Contracts see what is kept of the life; which states that may stand for is said
 /// by `Holds`.
@@ -36,7 +36,9 @@ use slots::{Slot, accept_note, check_note, empty_slots, is_live, is_taken, newes
 pub struct Membership {
     group: Group,
     moment: u64,
-    slots: Vec<Option<Slot>>,
+    places: Vec<Option<Places>>,
+    notes: Vec<Option<NoteBody>>,
+    expired: Vec<u64>,
     rings: Rings,
 }
 
@@ -46,9 +48,9 @@ impl Model for Membership {
 
     ghost Value = { Life };
 
-    ghost view = { λ m. record { group = m.group; moment = m.moment; slots = m.slots.items; kept = [] } };
+    ghost view = { λ m. record { group = m.group; moment = m.moment; places = m.places.items; notes = m.notes.items; expired = m.expired.items; kept = [] } };
 
-    ghost invariant = { λ m. IsSound m.group m.slots.items m.rings };
+    ghost invariant = { λ m. IsSound m.group m.places.items m.notes.items m.expired.items m.rings };
 }
 
 impl Membership {
@@ -62,7 +64,9 @@ impl Membership {
         Ok(Membership {
             group,
             moment: 0,
-            slots: empty_slots(alloc)?,
+            places: none_yet(alloc)?,
+            notes: none_yet(alloc)?,
+            expired: zeros(alloc)?,
             rings,
         })
     }
@@ -86,21 +90,21 @@ impl Membership {
         ensures value { (s : State) → Holds self.now s → result ≡ member_of_state s member }
         ensures joined { result ≡ has_joined self.now member }
     {
-        is_taken(&self.slots, member)
+        has_places(&self.places, member)
     }
 
     /// Whether the member is in the view.
     pub fn in_view(&self, member: MemberId) -> bool
         ensures { (s : State) → Holds self.now s → result ≡ in_view_of s member }
     {
-        is_live(&self.slots, member)
+        is_live(&self.notes, &self.expired, member)
     }
 
     /// The newest note of the member.
     pub fn note_of(&self, member: MemberId) -> Option<NoteBody>
         ensures { (s : State) → Holds self.now s → result ≡ newest s.notes member }
     {
-        newest_note(&self.slots, member)
+        note_in(&self.notes, member)
     }
 
     /// The member of the view that monitors this one on the ring, or none where nobody else is in the view.
@@ -109,7 +113,7 @@ impl Membership {
         requires member { has_joined self.now member ≡ true }
         ensures { (s : State) → Holds self.now s → result ≡ monitor_of s ring.0 member }
     {
-        let places = places_of(&self.slots, member);
+        let places = places_of(&self.places, member);
         self.rings.monitor(ring, member, places)
     }
 
@@ -119,7 +123,7 @@ impl Membership {
         requires member { has_joined self.now member ≡ true }
         ensures { (s : State) → Holds self.now s → result ≡ successor_of s ring.0 member }
     {
-        let places = places_of(&self.slots, member);
+        let places = places_of(&self.places, member);
         self.rings.successor(ring, member, places)
     }
 
@@ -131,14 +135,10 @@ impl Membership {
         ensures same { OnErr result (self.new ≡ self.old) }
         ensures group { self.new.group ≡ self.old.group }
     {
-        if is_taken(&self.slots, member) {
+        if has_places(&self.places, member) {
             return Err(Fault::AlreadyMember);
         }
-        self.slots[member.get() as usize] = Some(Slot {
-            places,
-            newest: None,
-            expired: 0,
-        });
+        self.places[member.get() as usize] = Some(places);
         Ok(())
     }
 
@@ -153,10 +153,31 @@ impl Membership {
         ensures group { self.new.group ≡ self.old.group }
     {
         out.clear();
-        check_note(self.group.t, &self.slots, &note)?;
-        if accept_note(&mut self.slots, &mut self.rings, note) {
+        check_note(self.group.t, &self.places, &self.notes, &note)?;
+        if self.accept(&note) {
             out.report_entry(note.member);
         }
         Ok(())
+    }
+
+    /// Makes a note without a fault the newest of its member, and the answer is whether that brings the member
+    /// into the view.
+    fn accept(&mut self, note: &NoteBody) -> bool
+        requires { kept_fault self.old.group.t (places_at self.old.places note.now.member) (note_at self.old.notes note.now.member) note.now
+            ≡ None }
+        ensures value { result
+            ≡ comes_in (expired_at self.old.expired note.now.member) (note_at self.old.notes note.now.member) note.now }
+        ensures kept { self.new
+            ≡ record self.old { notes = slice_set self.old.notes note.now.member (Some note.now) } }
+        ensures range { note.now.member < 1024 }
+        ensures positive { 0 < note.now.epoch }
+    {
+        let enters = brings_in(&self.notes, &self.expired, note);
+        set_note(&mut self.notes, note);
+        if enters {
+            let places = places_of(&self.places, note.member);
+            self.rings.join(note.member, places);
+        }
+        enters
     }
 }
