@@ -5,3 +5,4 @@ pub mod Views
 pub mod Faults
 pub mod Steps
 pub mod Lives
+pub mod Texts

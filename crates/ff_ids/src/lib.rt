@@ -5,6 +5,8 @@
 ghost use Rattle.std.specs.Prelude.{◌≡◌, ◌<◌, ◌≤◌, length};
 ghost use Rattle.ff_ids.specs.Masks.{enables, enabled, good_mask as is_good};
 
+mod text;
+
 use std::marker::Model;
 
 /// How many member numbers there are: they are 0 to 1,023.

@@ -1,1 +1,4 @@
 pub mod RowLemmas
+pub mod KeyOrder
+pub mod Top
+pub mod NearestLaws

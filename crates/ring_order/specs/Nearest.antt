@@ -1,8 +1,36 @@
--- The keys of members on a ring.
-use Rattle.std.specs.Prelude.{ℕ, List, map}
-use Rattle.ff_ids.specs.Rings.{Key}
+-- The keys of listed members on a ring, and the nearest of them to a member on either side.
+use Rattle.std.specs.Prelude.{◌≡◌, ℕ, Bool, ◌==◌, if◌then◌else◌, List, Option, Some, None, map}
+use Rattle.ff_ids.specs.Rings.{Key, cyc, nearest_before, nearest_after, IsNearestBefore, IsNearestAfter}
 use Rattle.ff_ids.specs.Views.{key_at}
+use Rattle.ring_order.specs.declared.Side.{Side}
+use Rattle.ring_order.specs.declared.Side.TheVariants.{Before, After}
 
 -- The keys on the ring of members given with their places.
 abbrev pub keys_of : ℕ → List (List (List ℕ) × ℕ) → List Key
 keys_of ring live = map (λ p. key_at ring p.0 p.1) live
+
+-- The number is that of the nearest of the keys before m.
+abbrev pub IsNumberBefore : List Key → Key → ℕ → Type 0
+IsNumberBefore keys m n = (v : Key) × (v.number ≡ n) × IsNearestBefore keys m v
+
+-- The number is that of the nearest of the keys after m.
+abbrev pub IsNumberAfter : List Key → Key → ℕ → Type 0
+IsNumberAfter keys m n = (v : Key) × (v.number ≡ n) × IsNearestAfter keys m v
+
+-- The second key lies between the first and m, on m's given side.
+abbrev pub nearer : Side → Key → Key → Key → Bool
+nearer Before m v w = cyc v w m
+nearer After m v w = cyc m w v
+
+abbrev pub nearest : Side → List Key → Key → Option ℕ
+nearest Before keys m = nearest_before keys m
+nearest After keys m = nearest_after keys m
+
+-- The nearest of a member's neighbours seen so far, if any, and one more.
+abbrev pub nearest_with : (Key → Key → Bool) → Option Key → Key → Option Key
+nearest_with near None w = Some w
+nearest_with near (Some v) w = if near v w then Some w else Some v
+
+-- The member itself is no neighbour of its own.
+abbrev pub nearest_so_far : (Key → Key → Bool) → ℕ → Option Key → Key → Option Key
+nearest_so_far near m best w = if w.number == m then best else nearest_with near best w

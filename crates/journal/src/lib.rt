@@ -1,0 +1,61 @@
+//! The texts of events, faults and member lists, as a trace writes them. Each call adds one text to the end
+//! of a list of bytes; where memory is refused, that list is as it was.
+#![tactic(auto)]
+
+ghost use Rattle.std.specs.Prelude.{◌≡◌, ◌++◌, OnOk, OnErr};
+ghost use Rattle.ff_ids.specs.Texts.{fault_text, monitor_text};
+ghost use Rattle.journal.specs.Events.{event_text, members_text};
+
+mod event;
+mod members;
+
+pub use event::{Event, What};
+use ff_ids::{Fault, MemberId};
+use fields::NoMemory;
+use members::members_line;
+
+/// Adds `at NOW ` and what happened, without a line feed.
+pub fn write_event(event: &Event, out: &mut Vec<u8>) -> Result<(), NoMemory>
+    ensures ok { OnOk result (out.new.items ≡ out.old.items ++ event_text event.now) }
+    ensures refused { OnErr result (out.new.items ≡ out.old.items) }
+{
+    let text = format!(in *out.allocator(); "{event}")?;
+    out.extend_from_slice(text.as_bytes())?;
+    Ok(())
+}
+
+/// Adds the words of a fault, as `older 5 31`.
+pub fn write_fault(fault: &Fault, out: &mut Vec<u8>) -> Result<(), NoMemory>
+    ensures ok { OnOk result (out.new.items ≡ out.old.items ++ fault_text fault.now) }
+    ensures refused { OnErr result (out.new.items ≡ out.old.items) }
+{
+    let text = format!(in *out.allocator(); "{fault}")?;
+    out.extend_from_slice(text.as_bytes())?;
+    Ok(())
+}
+
+/// Adds the numbers of the members in their order, with one space between two, or `nobody`.
+pub fn write_members(members: &[MemberId], out: &mut Vec<u8>) -> Result<(), NoMemory>
+    ensures ok { OnOk result (out.new.items ≡ out.old.items ++ members_text members.now) }
+    ensures refused { OnErr result (out.new.items ≡ out.old.items) }
+{
+    let text = members_line(*out.allocator(), members)?;
+    out.extend_from_slice(text.as_bytes())?;
+    Ok(())
+}
+
+/// Adds the number of the monitor, or `none`.
+pub fn write_monitor(monitor: Option<MemberId>, out: &mut Vec<u8>) -> Result<(), NoMemory>
+    ensures ok { OnOk result (out.new.items ≡ out.old.items ++ monitor_text monitor) }
+    ensures refused { OnErr result (out.new.items ≡ out.old.items) }
+{
+    let text = match monitor {
+        Some(member) => member.to_string(*out.allocator())?,
+        None => String::from_str(*out.allocator(), "none")?,
+    };
+    out.extend_from_slice(text.as_bytes())?;
+    Ok(())
+}
+
+#[cfg(test)]
+mod tests;

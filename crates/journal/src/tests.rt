@@ -1,0 +1,91 @@
+use super::*;
+use ff_ids::{AccBody, Epoch, Mask, RingNo};
+use std::test::Fail;
+
+fn at(moment: u64, what: What) -> Event {
+    Event { moment, what }
+}
+
+fn accusation() -> AccBody {
+    AccBody {
+        accuser: MemberId::new(3),
+        accused: MemberId::new(1023),
+        epoch: Epoch::new(u64::MAX),
+        ring: RingNo(4),
+    }
+}
+
+#[test]
+fn writes_each_event(rt: HostRuntime) -> Result<(), Fail> {
+    let events = [
+        at(0, What::Entered(MemberId::new(0))),
+        at(10, What::Expired(accusation())),
+        at(3, What::Removed(MemberId::new(2))),
+        at(u64::MAX, What::Fell(accusation())),
+    ];
+    let mut out = Vec::new(rt.alloc());
+    for event in &events {
+        write_event(event, &mut out)?;
+        out.push(b'\n')?;
+    }
+    let lines = "at 0 entered 0
+at 10 expired 3 1023 18446744073709551615 4
+at 3 removed 2
+at 18446744073709551615 fell 3 1023 18446744073709551615 4
+";
+    assert_eq!(rt; out.as_slice(), lines.as_bytes());
+    Ok(())
+}
+
+#[test]
+fn writes_each_fault(rt: HostRuntime) -> Result<(), Fail> {
+    let epoch = Epoch::new(5);
+    let monitor = Some(MemberId::new(20));
+    let faults = [
+        Fault::AlreadyMember,
+        Fault::UnknownMember,
+        Fault::BadMask,
+        Fault::Known,
+        Fault::Older {
+            epoch,
+            mask: Mask(31),
+        },
+        Fault::SelfAccusation,
+        Fault::BadRing,
+        Fault::NoNote,
+        Fault::OtherEpoch { kept: epoch },
+        Fault::NotInView,
+        Fault::RingDisabled,
+        Fault::NotMonitor { monitor },
+        Fault::NotMonitor { monitor: None },
+        Fault::Standing,
+    ];
+    let mut out = Vec::new(rt.alloc());
+    for fault in &faults {
+        write_fault(fault, &mut out)?;
+        out.push(b',')?;
+    }
+    let texts =
+        "already-member,unknown-member,bad-mask,known,older 5 31,self-accusation,bad-ring,no-note,\
+other-epoch 5,not-in-view,ring-disabled,not-monitor 20,not-monitor none,standing,";
+    assert_eq!(rt; out.as_slice(), texts.as_bytes());
+    Ok(())
+}
+
+#[test]
+fn writes_members_and_monitors(rt: HostRuntime) -> Result<(), Fail> {
+    let members = [MemberId::new(0), MemberId::new(7), MemberId::new(1023)];
+    let mut out = Vec::new(rt.alloc());
+    for count in 0..4 {
+        write_members(&members[..count], &mut out)?;
+        out.push(b',')?;
+    }
+    write_monitor(Some(members[2]), &mut out)?;
+    out.push(b',')?;
+    write_monitor(None, &mut out)?;
+    assert_eq!(rt;
+        out.as_slice(),
+        b"nobody,0,0 7,0 7 1023,1023,none".as_slice()
+    );
+    Ok(())
+}

@@ -1,0 +1,6 @@
+use Rattle.life_laws.proofs.AnsweredLemmas.{none_accepted, none_expires}
+use Rattle.life_laws.proofs.answers_hold.Goals as goal
+
+pub returns : goal.returns
+returns c = λ g s events i j n a low at older.
+    (none_accepted g s events i j n a low at older, none_expires g s events i j n a low at older)

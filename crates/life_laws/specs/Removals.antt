@@ -1,0 +1,38 @@
+-- Removals: what each rests on, and what an answer rules out.
+use Rattle.std.specs.Prelude.{◌≡◌, ℕ, ◌<◌, true, List, Some, None, All, Contains, slice_get}
+use Rattle.ff_ids.specs.declared.NoteBody.{NoteBody}
+use Rattle.ff_ids.specs.declared.AccBody.{AccBody}
+use Rattle.ff_ids.specs.declared.Group.{Group}
+use Rattle.ff_ids.specs.Views.{Member, State, is_unanswered_by}
+use Rattle.ff_ids.specs.Faults.{note_fault}
+use Rattle.ff_ids.specs.Steps.{Event, Notes, Stepped, after_note}
+use Rattle.ff_ids.specs.Lives.{opening, reports, state_at, IsAcceptedAt, IsJustified}
+
+-- In every life each removal rests on an accusation.
+abbrev pub EachLifeIsJustified : Type 0
+EachLifeIsJustified = (g : Group) (members : List Member) (events : List Event) → IsJustified g (opening members) events
+
+-- The event at place i is this note, and it is accepted.
+pub record IsNoteAcceptedAt (g : Group) (s : State) (events : List Event) (i : ℕ) (n : NoteBody) : Type 0 where
+  pub event : slice_get events i ≡ Some (Notes n)
+  pub no_fault : note_fault g.t (state_at g s events i) n ≡ None
+
+-- The event at place j reports that the accusation expired.
+pub record ExpiresAt (g : Group) (s : State) (events : List Event) (j : ℕ) (a : AccBody) : Type 0 where
+  pub report : Stepped
+  pub reported : slice_get (reports g s events) j ≡ Some report
+  pub expired : Contains report.expired a
+
+-- The accusation is against the note's member, at an epoch below the note's.
+pub record IsOlderThan (a : AccBody) (n : NoteBody) : Type 0 where
+  pub against : a.accused ≡ n.member
+  pub older : a.epoch < n.epoch
+
+-- Once a note is accepted, no accusation of an older epoch against its member is accepted, or expires.
+abbrev pub AnswersHold : Type 0
+AnswersHold = (g : Group) (s : State) (events : List Event) (i j : ℕ) (n : NoteBody) (a : AccBody) → i < j → IsNoteAcceptedAt g s events i n → IsOlderThan a n → ¬ (IsAcceptedAt g s events j a) × ¬ (ExpiresAt g s events j a)
+
+-- An accepted note ends each acceptance against its member that it answers: what stays is at its epoch, on a
+-- ring that it enables.
+abbrev pub AnswerEndsAcceptance : Type 0
+AnswerEndsAcceptance = (g : Group) (s : State) (n : NoteBody) → note_fault g.t s n ≡ None → All (λ q. q.0.accused ≡ n.member → is_unanswered_by q.0 n ≡ true) (after_note s n).state.kept

@@ -1,0 +1,41 @@
+//! Laws that hold in every life, whatever its events are. Each is the contract of a function that does
+//! nothing.
+#![tactic(auto)]
+
+ghost use Rattle.life_laws.specs.Newest.{NewestIsGreatest, OrderOfNotes, OrderOfGoodNotes};
+ghost use Rattle.life_laws.specs.Sameness.{OneView};
+ghost use Rattle.life_laws.specs.Removals.{AnswerEndsAcceptance, AnswersHold, EachLifeIsJustified};
+
+/// The newest note of a member is the greatest of its notes, and there is none exactly where it has no note.
+pub fn newest_is_greatest()
+    ensures { NewestIsGreatest }
+{}
+
+/// Whatever the order and the repeats in which notes come, the newest kept note of each member is the
+/// greatest of those that have a good mask and whose member has joined.
+pub fn order_of_notes()
+    ensures all { OrderOfNotes }
+    ensures good { OrderOfGoodNotes }
+{}
+
+/// Two states with the same notes and the same expired accusations have the same view.
+pub fn one_view()
+    ensures { OneView }
+{}
+
+/// In every life each member that leaves the view does so at a tick, and an accusation accepted earlier
+/// against it stood in each state between, for the timeout at least.
+pub fn each_life_is_justified()
+    ensures { EachLifeIsJustified }
+{}
+
+/// Once a note is accepted, no accusation of an older epoch against its member is accepted or expires.
+pub fn answers_hold()
+    ensures { AnswersHold }
+{}
+
+/// An accepted note ends the acceptance of each accusation against its member that has another epoch or is on
+/// a ring which the note disables.
+pub fn answer_ends_acceptance()
+    ensures { AnswerEndsAcceptance }
+{}

@@ -1,0 +1,4 @@
+pub mod Kinds
+pub mod Lms
+pub mod Leaves
+pub mod Nodes

@@ -1,0 +1,14 @@
+-- Counts of faults. They never fall, and stand still at the end of their type.
+use Rattle.std.specs.Prelude.{ℕ, ◌+◌, ◌≤◌, min}
+
+-- the largest count
+abbrev pub last_count : ℕ
+last_count = 18446744073709551615
+
+-- a count after one more
+abbrev pub next_count : ℕ → ℕ
+next_count n = min (n + 1) last_count
+
+-- a count rose, or stood at the end of its type already
+abbrev pub Rose : ℕ → ℕ → Type 0
+Rose old new = next_count old ≤ new

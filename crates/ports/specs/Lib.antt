@@ -1,0 +1,6 @@
+pub mod Count
+pub mod Contents
+pub mod Reading
+pub mod Writing
+pub mod Device
+pub mod Memory

@@ -1,0 +1,25 @@
+-- What a write did, by its answer.
+use Rattle.std.specs.Prelude.{◌≡◌, ℕ, ◌<◌, ◌≤◌, Option, List, take}
+use Rattle.ports.specs.declared.Given.{Given}
+use Rattle.ports.specs.declared.Given.TheVariants.{Took, Failed}
+use Rattle.ports.specs.Contents.{with_back}
+
+-- what holds where the write failed
+abbrev pub OnWriteFailed : Given → Type 0 → Type 0
+OnWriteFailed (Took n) P = Unit {0}
+OnWriteFailed Failed P = P
+
+-- no more bytes than the piece has
+abbrev pub TookAtMost : Given → ℕ → Type 0
+TookAtMost (Took n) size = n ≤ size
+TookAtMost Failed size = Unit {0}
+
+-- some byte, where the piece has any
+abbrev pub TookSome : Given → ℕ → Type 0
+TookSome (Took n) size = 0 < size → 0 < n
+TookSome Failed size = Unit {0}
+
+-- the bytes taken before and after the write of the piece
+abbrev pub Gives : Option (List ℕ) → Option (List ℕ) → List ℕ → Given → Type 0
+Gives before after piece (Took n) = after ≡ with_back before (take n piece)
+Gives before after piece Failed = after ≡ before

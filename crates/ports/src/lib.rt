@@ -1,0 +1,189 @@
+//! The outside as traits: where bytes come from and go to, a disk, a link and a clock.
+//!
+//! Each but the clock has a count of faults that contracts see. It never falls, and a call answers
+//! `Failed` only where it rose in that call. Objects may tell their contents; those in memory do.
+#![tactic(auto)]
+
+ghost use Rattle.std.specs.Prelude.{ℕ, ◌≤◌, Option, List, length, IfOk, OnErr};
+ghost use Rattle.ports.specs.Count.{Rose};
+ghost use Rattle.ports.specs.Contents.{Wrote};
+ghost use Rattle.ports.specs.Reading.{OnReadFailed, GotAtMost, GotSome, Reads, EndsUsedUp};
+ghost use Rattle.ports.specs.Writing.{OnWriteFailed, TookAtMost, TookSome, Gives};
+ghost use Rattle.ports.specs.Device.{OnOpenFailed, OnReceiveFailed, ReceivedAtMost, OnSendFailed};
+
+mod memory;
+
+pub use memory::{MemorySink, MemorySource};
+
+/// The answer of a read.
+#[derive(Clone, Copy, Debug, PartialEq, Eq)]
+pub enum Taken {
+    /// So many bytes lie in front of the buffer: at least one, if the buffer holds any.
+    Got(usize),
+    /// No byte is left.
+    End,
+    /// Nothing was read.
+    Failed,
+}
+
+/// The answer of a write.
+#[derive(Clone, Copy, Debug, PartialEq, Eq)]
+pub enum Given {
+    /// So many bytes in front of the piece were taken: at least one, if the piece has any.
+    Took(usize),
+    /// Nothing was taken.
+    Failed,
+}
+
+/// The answer of opening a file or a port.
+#[derive(Clone, Copy, Debug, PartialEq, Eq)]
+pub enum Opened {
+    /// It is open.
+    Done,
+    /// It is not.
+    Failed,
+    /// Memory was refused.
+    OutOfMemory,
+}
+
+/// The answer of a receive.
+#[derive(Clone, Copy, Debug, PartialEq, Eq)]
+pub enum Received {
+    /// So many bytes of a datagram lie in front of the buffer.
+    Got(usize),
+    /// No datagram is there.
+    Nothing,
+    /// Nothing was received.
+    Failed,
+}
+
+/// The answer of a send.
+#[derive(Clone, Copy, Debug, PartialEq, Eq)]
+pub enum Sent {
+    /// The datagram was handed over.
+    Done,
+    /// It may not have been.
+    Failed,
+    /// Memory was refused.
+    OutOfMemory,
+}
+
+/// A call of the outside failed, and the count of faults rose in it.
+#[derive(Clone, Copy, Debug, PartialEq, Eq)]
+pub struct Failed;
+
+/// Where bytes come from.
+pub trait Source {
+    /// How often a call failed.
+    ghost faults: { Self → ℕ };
+
+    /// The bytes left, where they are told.
+    ghost left: { Self → Option (List ℕ) };
+
+    /// Takes bytes that are left into the front of the buffer.
+    fn read(&mut self, buf: &mut [u8]) -> Taken
+        ensures kept { faults self.old ≤ faults self.new }
+        ensures failed { OnReadFailed result (Rose (faults self.old) (faults self.new)) }
+        ensures fits { GotAtMost result (length buf.old) }
+        ensures some { GotSome result (length buf.old) }
+        ensures reads { Reads (left self.old) (left self.new) buf.new result }
+        ensures end { EndsUsedUp (left self.old) result };
+}
+
+/// Where bytes go to.
+pub trait Sink {
+    /// How often a call failed.
+    ghost faults: { Self → ℕ };
+
+    /// The bytes taken, where they are told.
+    ghost taken: { Self → Option (List ℕ) };
+
+    /// Takes bytes from the front of the piece. Taking none of a piece that has some is a fault.
+    fn write(&mut self, bytes: &[u8]) -> Given
+        ensures kept { faults self.old ≤ faults self.new }
+        ensures failed { OnWriteFailed result (Rose (faults self.old) (faults self.new)) }
+        ensures fits { TookAtMost result (length bytes.now) }
+        ensures some { TookSome result (length bytes.now) }
+        ensures gives { Gives (taken self.old) (taken self.new) bytes.now result };
+}
+
+/// Files, one of which is open at a time.
+pub trait Disk {
+    /// How often a call failed.
+    ghost faults: { Self → ℕ };
+
+    /// Opens the file of that name, an empty one if there is none.
+    fn open(&mut self, name: &str) -> Opened
+        ensures kept { faults self.old ≤ faults self.new }
+        ensures failed { OnOpenFailed result (Rose (faults self.old) (faults self.new)) };
+
+    /// The file's length in bytes.
+    fn len(&mut self) -> Result<u64, Failed>
+        ensures kept { faults self.old ≤ faults self.new }
+        ensures failed { OnErr result (Rose (faults self.old) (faults self.new)) };
+
+    /// Reads from a place into the front of the buffer, up to its end or the file's, and gives the
+    /// number of bytes.
+    fn read_at(&mut self, place: u64, buf: &mut [u8]) -> Result<usize, Failed>
+        ensures kept { faults self.old ≤ faults self.new }
+        ensures failed { OnErr result (Rose (faults self.old) (faults self.new)) }
+        ensures fits { IfOk result (λ n. n ≤ length buf.old) };
+
+    /// Writes the bytes at a place.
+    fn write_at(&mut self, place: u64, bytes: &[u8]) -> Result<(), Failed>
+        ensures kept { faults self.old ≤ faults self.new }
+        ensures failed { OnErr result (Rose (faults self.old) (faults self.new)) };
+
+    /// After it, a crash leaves what was written.
+    fn sync(&mut self) -> Result<(), Failed>
+        ensures kept { faults self.old ≤ faults self.new }
+        ensures failed { OnErr result (Rose (faults self.old) (faults self.new)) };
+}
+
+/// Datagrams between ports of this machine.
+pub trait Link {
+    /// How often a call failed.
+    ghost faults: { Self → ℕ };
+
+    /// Makes this port the one to receive at.
+    fn bind(&mut self, port: u16) -> Opened
+        ensures kept { faults self.old ≤ faults self.new }
+        ensures failed { OnOpenFailed result (Rose (faults self.old) (faults self.new)) };
+
+    /// Takes the next datagram into the front of the buffer, cut to its length.
+    fn receive(&mut self, buf: &mut [u8]) -> Received
+        ensures kept { faults self.old ≤ faults self.new }
+        ensures failed { OnReceiveFailed result (Rose (faults self.old) (faults self.new)) }
+        ensures fits { ReceivedAtMost result (length buf.old) };
+
+    /// Sends a datagram to a port.
+    fn send(&mut self, port: u16, bytes: &[u8]) -> Sent
+        ensures kept { faults self.old ≤ faults self.new }
+        ensures failed { OnSendFailed result (Rose (faults self.old) (faults self.new)) };
+}
+
+/// A clock.
+pub trait Clock {
+    /// Milliseconds from some fixed moment, never falling.
+    fn now(&mut self) -> u64;
+}
+
+/// Writes the whole slice. Where the sink tells the bytes taken, they gained the slice; after
+/// `Failed`, a front of it that is not the whole.
+pub fn write_all<O: Sink>(out: &mut O, bytes: &[u8]) -> Result<(), Failed>
+    ensures kept { O.faults out.old ≤ O.faults out.new }
+    ensures failed { OnErr result (Rose (O.faults out.old) (O.faults out.new)) }
+    ensures wrote { Wrote (O.taken out.old) (O.taken out.new) bytes.now result }
+{
+    let mut written = 0;
+    while written < bytes.len() {
+        match out.write(&bytes[written..]) {
+            Given::Took(count) => written += count,
+            Given::Failed => return Err(Failed),
+        }
+    }
+    Ok(())
+}
+
+#[cfg(test)]
+mod tests;

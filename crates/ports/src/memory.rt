@@ -1,0 +1,236 @@
+//! A source and a sink in memory, which tell their contents and fail where they are told to.
+ghost use Rattle.std.specs.Prelude.{◌≡◌, ◌≤◌, if◌then◌else◌, List, [], length, Some, None, IfOk, OnErr};
+ghost use Rattle.ports.specs.Count.{Rose, next_count};
+ghost use Rattle.ports.specs.Reading.{OnReadFailed, GotAtMost, GotSome, Reads, EndsUsedUp};
+ghost use Rattle.ports.specs.Writing.{OnWriteFailed, TookAtMost, TookSome, Gives};
+ghost use Rattle.ports.specs.Memory.{is_failing, SourceState, read_answer, after_read, filled, SinkState, write_answer, after_write};
+
+use crate::{Given, Sink, Source, Taken};
+use fields::NoMemory;
+use std::alloc::Global;
+use std::marker::Model;
+
+/// Which calls are to fail, how many came, and how many failed. The counts stand still at the end of
+/// their type.
+#[derive(Drop)]
+struct Calls {
+    fail: Vec<u64>,
+    made: u64,
+    failed: u64,
+}
+
+impl Calls {
+    fn new(fail: Vec<u64>) -> Calls
+        ensures { result ≡ record {
+          fail = fail;
+          made = 0;
+          failed = 0;
+        } }
+    {
+        Calls {
+            fail,
+            made: 0,
+            failed: 0,
+        }
+    }
+
+    /// Counts a failure.
+    fn count_failure(&mut self)
+        ensures { self.new ≡ record self.old { failed = next_count self.old.failed } }
+    {
+        self.failed = self.failed.saturating_add(1);
+    }
+
+    /// Counts a call, and its failure if it is one of those that are to fail.
+    fn next_fails(&mut self) -> bool
+        ensures answer { result ≡ is_failing self.old.fail.items self.old.made }
+        ensures after { self.new ≡ record self.old {
+          made = next_count self.old.made;
+          failed = if result then next_count self.old.failed else self.old.failed;
+        } }
+    {
+        let number = self.made;
+        self.made = number.saturating_add(1);
+        if self.fail.as_slice().contains(&number) {
+            self.count_failure();
+            return true;
+        }
+        false
+    }
+}
+
+/// A source in memory. Contracts see the bytes left, the step, the numbers of the failing calls, and
+/// how many calls came and failed.
+#[derive(Drop)]
+pub struct MemorySource {
+    bytes: Vec<u8>,
+    place: usize,
+    step: usize,
+    calls: Calls,
+}
+
+impl Model for MemorySource {
+    ghost use Rattle.std.specs.Prelude.{◌≤◌, drop, length};
+    ghost use Rattle.ports.specs.Memory.{SourceState};
+
+    ghost Value = { SourceState };
+
+    ghost view = { λ s. record {
+      unread = drop s.place s.bytes.items;
+      step = s.step;
+      failing = s.calls.fail.items;
+      calls = s.calls.made;
+      failures = s.calls.failed;
+    } };
+
+    ghost invariant = { λ s. (1 ≤ s.step) × (s.place ≤ length s.bytes.items) };
+}
+
+impl MemorySource {
+    /// A source of these bytes, which moves at most `step` bytes per call and fails at the calls
+    /// numbered in `fail`, from 0.
+    pub fn new(bytes: Vec<u8>, step: usize, fail: Vec<u64>) -> MemorySource
+        requires { 1 ≤ step }
+        ensures { result ≡ record {
+          unread = bytes.items;
+          step = step;
+          failing = fail.items;
+          calls = 0;
+          failures = 0;
+        } }
+    {
+        MemorySource {
+            bytes,
+            place: 0,
+            step,
+            calls: Calls::new(fail),
+        }
+    }
+}
+
+impl Source for MemorySource {
+    ghost faults = { λ s. s.failures };
+
+    ghost left = { λ s. Some s.unread };
+
+    /// Failures come before the end. A read into an empty buffer is `Got(0)` while bytes are left.
+    fn read(&mut self, buf: &mut [u8]) -> Taken
+        ensures kept { self.old.failures ≤ self.new.failures }
+        ensures failed { OnReadFailed result (Rose self.old.failures self.new.failures) }
+        ensures fits { GotAtMost result (length buf.old) }
+        ensures some { GotSome result (length buf.old) }
+        ensures reads { Reads (Some self.old.unread) (Some self.new.unread) buf.new result }
+        ensures end { EndsUsedUp (Some self.old.unread) result }
+        ensures answer { result ≡ read_answer self.old (length buf.old) }
+        ensures after { self.new ≡ after_read self.old result }
+        ensures filled { buf.new ≡ filled self.old buf.old result }
+    {
+        if self.calls.next_fails() {
+            return Taken::Failed;
+        }
+        let left = self.bytes.len() - self.place;
+        if left == 0 {
+            return Taken::End;
+        }
+        let count = self.step.min(buf.len().min(left));
+        buf[..count].copy_from_slice(&self.bytes[self.place..self.place + count]);
+        self.place += count;
+        Taken::Got(count)
+    }
+}
+
+/// A sink in memory, with room taken when it is made. Contracts see the bytes taken, the room, the
+/// step, the numbers of the failing calls, and how many calls came and failed.
+#[derive(Drop)]
+pub struct MemorySink {
+    bytes: Vec<u8>,
+    room: usize,
+    step: usize,
+    calls: Calls,
+}
+
+impl Model for MemorySink {
+    ghost use Rattle.std.specs.Prelude.{◌≤◌, length, vec_capacity};
+    ghost use Rattle.ports.specs.Memory.{SinkState};
+
+    ghost Value = { SinkState };
+
+    ghost view = { λ s. record {
+      written = s.bytes.items;
+      room = s.room;
+      step = s.step;
+      failing = s.calls.fail.items;
+      calls = s.calls.made;
+      failures = s.calls.failed;
+    } };
+
+    ghost invariant = { λ s. (1 ≤ s.step) × (length s.bytes.items ≤ s.room) × (s.room ≤ vec_capacity s.bytes) };
+}
+
+impl MemorySink {
+    /// A sink with room for `room` bytes, which takes at most `step` bytes per call and fails at the
+    /// calls numbered in `fail`, from 0.
+    pub fn new(
+        alloc: Global,
+        room: usize,
+        step: usize,
+        fail: Vec<u64>,
+    ) -> Result<MemorySink, NoMemory>
+        requires { 1 ≤ step }
+        ensures { IfOk result (λ sink. sink ≡ record {
+          written = [];
+          room = room;
+          step = step;
+          failing = fail.items;
+          calls = 0;
+          failures = 0;
+        }) }
+    {
+        let bytes = Vec::with_capacity(alloc, room)?;
+        Ok(MemorySink {
+            bytes,
+            room,
+            step,
+            calls: Calls::new(fail),
+        })
+    }
+
+    /// The bytes that it took.
+    pub fn bytes(&self) -> &[u8]
+        ensures { result.now ≡ self.now.written }
+    {
+        self.bytes.as_slice()
+    }
+}
+
+impl Sink for MemorySink {
+    ghost faults = { λ s. s.failures };
+
+    ghost taken = { λ s. Some s.written };
+
+    /// Takes what fits. With no room left, a piece that has bytes is a fault; an empty piece is
+    /// `Took(0)`.
+    fn write(&mut self, bytes: &[u8]) -> Given
+        ensures kept { self.old.failures ≤ self.new.failures }
+        ensures failed { OnWriteFailed result (Rose self.old.failures self.new.failures) }
+        ensures fits { TookAtMost result (length bytes.now) }
+        ensures some { TookSome result (length bytes.now) }
+        ensures gives { Gives (Some self.old.written) (Some self.new.written) bytes.now result }
+        ensures answer { result ≡ write_answer self.old (length bytes.now) }
+        ensures after { self.new ≡ after_write self.old bytes.now result }
+    {
+        if self.calls.next_fails() {
+            return Given::Failed;
+        }
+        if bytes.is_empty() {
+            return Given::Took(0);
+        }
+        let room = self.room - self.bytes.len();
+        let count = self.step.min(bytes.len().min(room));
+        if count == 0 || self.bytes.extend_from_slice(&bytes[..count]).is_err() {
+            self.calls.count_failure();
+            return Given::Failed;
+        }
+        Given::Took(count)
+    }
+}
