@@ -1,17 +1,14 @@
 -- What a new member changes, and what stands at the opening.
-use Rattle.std.proofs.Common.{◌≡◌, ◌≢◌, ℕ, ◌<◌, ◌≤◌, Bool, true, false, eqb, List, [], ◌∷◌, length, ⊎_elim, Option, Some, None, refl, ap, sym, ◌∙◌, subst, arith, is_some, get_or-set_same, get_or-set_other, length-set}
+use Rattle.std.proofs.Common.{◌≡◌, ◌≢◌, ℕ, ◌<◌, ◌≤◌, true, false, eqb, List, [], length, ⊎_elim, Option, Some, None, refl, ap, sym, ◌∙◌, subst, arith, is_some, get_or-set_same, get_or-set_other, length-set}
 use Rattle.std.specs.Prelude.{IfSome, slice_set, map, filter}
-use Rattle.std.specs.Option.{option_map_or}
-use Rattle.std.specs.List.{range_with_len}
 use Rattle.std.proofs.lemmas.Bool.{eqb-true, eqb-false, false≢true}
 use Rattle.ff_ids.specs.declared.Group.{Group}
 use Rattle.ff_ids.specs.declared.NoteBody.{NoteBody}
 use Rattle.ff_ids.specs.Masks.{ring_count}
-use Rattle.ff_ids.specs.Views.{all_numbers}
 use Rattle.monitor_rule.specs.Joined.{Joined}
-use Rattle.membership.specs.Kept.{places_at, note_at, expired_at, is_live, is_live_at, member_at, live_members, PlacesList, NoteList}
+use Rattle.membership.specs.Kept.{places_at, note_at, expired_at, is_live, is_live_at, member_at, PlacesList, NoteList}
 use Rattle.membership.specs.Life.{IsSound}
-use Rattle.membership.proofs.NumberLemmas.{either_bool, AreAll, all_length, AtEach, AtEach-all, filter-range_none}
+use Rattle.membership.proofs.NumberLemmas.{either_bool, all_length, AtEach, AtEach-all, filter-range_none}
 use Rattle.membership.proofs.SoundLemmas.{live_members-same}
 
 places_at-set : (places : PlacesList) (m : ℕ) (p : List (List ℕ)) → m < length places → places_at (slice_set places m (Some p)) m ≡ Some p
@@ -39,11 +36,11 @@ IsSound-added group places notes expired view m p sound below absent long =
       all_notes = sound.all_notes;
       all_expired = sound.all_expired;
       placed = λ k. ⊎_elim (λ t. subst (λ q. IfSome (places_at (slice_set places m (Some p)) q) (λ ps. length ps ≡ ring_count group.t)) (sym (eqb-true k m t)) (subst (λ o. IfSome o (λ ps. length ps ≡ ring_count group.t)) (sym (places_at-set places m p inside)) long))
-        (λ t. subst (λ o. IfSome o (λ ps. length ps ≡ ring_count group.t)) (sym (places_at-other places m k p (eqb-false k m t))) (sound.placed k))
-        (either_bool (eqb k m));
+          (λ t. subst (λ o. IfSome o (λ ps. length ps ≡ ring_count group.t)) (sym (places_at-other places m k p (eqb-false k m t))) (sound.placed k))
+          (either_bool (eqb k m));
       noted = λ k gone. ⊎_elim (λ t. ap (note_at notes) (eqb-true k m t) ∙ sound.noted m none)
-        (λ t. sound.noted k (sym (places_at-other places m k p (eqb-false k m t)) ∙ gone))
-        (either_bool (eqb k m));
+          (λ t. sound.noted k (sym (places_at-other places m k p (eqb-false k m t)) ∙ gone))
+          (either_bool (eqb k m));
       rings = sound.rings;
       viewed = sound.viewed ∙ sym (live_members-same places (slice_set places m (Some p)) notes notes expired expired (λ k. refl) (λ k live. ⊎_elim (λ t. absurd (dead (expired_at expired k) (note_at notes k) (ap (note_at notes) (eqb-true k m t) ∙ sound.noted m none) live)) (λ t. places_at-other places m k p (eqb-false k m t)) (either_bool (eqb k m))));
     }

@@ -1,23 +1,22 @@
 -- What is kept, and the states that it stands for.
-use Rattle.std.proofs.Common.{◌≡◌, ◌≢◌, ℕ, zero, suc, ◌+◌, ◌<◌, ◌≤◌, max, Bool, true, false, cond, not, ◌&&◌, ◌||◌, eqb, leb, ltb, List, [], ◌∷◌, map, Option, Some, None, Result, Ok, Err, refl, ap, sym, ◌∙◌, subst, arith, unwrap_or, is_some, length}
+use Rattle.std.proofs.Common.{◌≡◌, ℕ, ◌<◌, max, Bool, true, false, cond, not, ◌&&◌, ◌||◌, eqb, leb, List, [], ◌∷◌, map, Option, Some, None, Ok, refl, ap, sym, ◌∙◌, subst, arith, unwrap_or}
 use Rattle.std.specs.Prelude.{nat_le, nat_lt, IfSome}
-use Rattle.std.specs.List.{filter, range_with_len}
-use Rattle.std.proofs.lemmas.Bool.{eqb-true, eqb-false, lt-leb}
+use Rattle.std.specs.List.{filter}
+use Rattle.std.proofs.lemmas.Bool.{eqb-true, lt-leb}
 use Rattle.std.proofs.lemmas.Bool.Decides.{nat_tests}
-use Rattle.std.proofs.lemmas.Grind.{common_steps}
 use Rattle.ff_ids.specs.declared.NoteBody.{NoteBody}
 use Rattle.ff_ids.specs.declared.AccBody.{AccBody}
 use Rattle.ff_ids.specs.declared.Fault.{Fault}
-use Rattle.ff_ids.specs.Notes.{newest, greater_note, note_cmp}
+use Rattle.ff_ids.specs.Notes.{newest, greater_note}
 use Rattle.ff_ids.specs.Rings.{Key}
-use Rattle.ff_ids.specs.Views.{State, Member, has_expired, in_view, is_member, places_of, all_numbers, view, key_at, key_of}
-use Rattle.ff_ids.specs.Faults.{note_fault, fault_after}
+use Rattle.ff_ids.specs.Views.{State, Member, has_expired, in_view, is_member, all_numbers, view, key_at, key_of}
+use Rattle.ff_ids.specs.Faults.{note_fault}
 use Rattle.monitor_rule.specs.Joined.{keys_on}
-use Rattle.membership.specs.Kept.{places_at, note_at, expired_at, is_live, is_live_at, member_at, live_members, kept_fault, PlacesList, NoteList}
-use Rattle.membership.specs.Life.{Life}
+use Rattle.membership.specs.Kept.{places_at, is_live, is_live_at, member_at, live_members, kept_fault}
+use Rattle.membership.specs.Life.{Life, has_joined}
 use Rattle.membership.specs.Holds.{Holds, HoldsAt, greatest_epoch}
 use Rattle.membership.specs.Reports.{Answers}
-use Rattle.membership.proofs.NumberLemmas.{either_bool, AreAll, all_length, AtEach, AtEach-all, map-filter_range_agree, filter-range_agree}
+use Rattle.membership.proofs.NumberLemmas.{all_length, AtEach, AtEach-all, map-filter_range_agree}
 
 leb-max : (k x y : ℕ) → leb k (max x y) ≡ (leb k x || leb k y)
 leb-max k x y = grind (arith, nat_tests)
@@ -95,3 +94,7 @@ keys_on-live l s ring h =
 pub none_from_answers : (f : Option Fault) (u : Unit {0}) → Answers f (Ok u) → f ≡ None
 none_from_answers None u h = refl
 none_from_answers (Some fault) u h = cc
+
+-- who has joined, by what is kept
+pub has_joined-held : (l : Life) (s : State) (m : ℕ) → Holds l s → m < 1024 → has_joined l m ≡ is_member s m
+has_joined-held l s m h below = sym (h.at_number m below).member

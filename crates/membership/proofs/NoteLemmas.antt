@@ -1,21 +1,20 @@
 -- What an accepted note changes.
-use Rattle.std.proofs.Common.{◌≡◌, ◌≢◌, ℕ, suc, ◌+◌, ◌<◌, ◌≤◌, Bool, true, false, cond, not, ◌&&◌, ◌||◌, eqb, List, [], ◌∷◌, map, length, ⊎_elim, Option, Some, None, refl, ap, sym, ◌∙◌, subst, arith, is_some}
-use Rattle.std.specs.Prelude.{IfSome, slice_set}
-use Rattle.std.specs.List.{filter, range_with_len}
+use Rattle.std.proofs.Common.{◌≡◌, ◌≢◌, ℕ, ◌<◌, Bool, true, false, cond, not, ◌&&◌, eqb, List, [], ◌∷◌, length, ⊎_elim, Option, Some, None, refl, ap, sym, ◌∙◌, subst, arith}
+use Rattle.std.specs.Prelude.{slice_set}
+use Rattle.std.specs.List.{filter}
 use Rattle.std.specs.Ordering.{is_lt}
 use Rattle.std.specs.declared.cmp.Ordering.{Ordering}
-use Rattle.std.specs.declared.cmp.Ordering.TheVariants.{Less, Equal, Greater}
-use Rattle.std.proofs.lemmas.Bool.{eqb-true, eqb-false, eq-eqb, ne_eqb, false≢true}
+use Rattle.std.proofs.lemmas.Bool.{eqb-true, eqb-false, eq-eqb, ne_eqb}
 use Rattle.ff_ids.specs.declared.NoteBody.{NoteBody}
 use Rattle.ff_ids.specs.Notes.{newest, greater_note, note_cmp}
 use Rattle.ff_ids.specs.Faults.{fault_after, fault_beside}
-use Rattle.ff_ids.specs.Views.{State, in_view, all_numbers, view}
+use Rattle.ff_ids.specs.Views.{State, in_view, all_numbers}
 use Rattle.ff_ids.specs.Steps.{only_before, after_note}
 use Rattle.membership.specs.Kept.{places_at, note_at, expired_at, is_live, is_live_at, comes_in}
 use Rattle.membership.specs.Life.{Life}
 use Rattle.membership.specs.Holds.{Holds, HoldsAt}
-use Rattle.membership.specs.Reports.{Report, Reports, nothing}
-use Rattle.membership.proofs.NumberLemmas.{either_bool, AreAll, all_length, AtEach, AtEach-all, filter-filter, filter-range_none, filter-range_one}
+use Rattle.membership.specs.Reports.{Reports, nothing}
+use Rattle.membership.proofs.NumberLemmas.{either_bool, all_length, AtEach, AtEach-all, filter-filter, filter-range_none, filter-range_one}
 use Rattle.membership.proofs.HoldLemmas.{in_view-held, in_view-at}
 use Rattle.membership.proofs.SoundLemmas.{beside, note_at-set, note_at-other, stays_live, others_live}
 
@@ -73,14 +72,14 @@ noted l n = record l { notes = slice_set l.notes n.member (Some n) }
 pub HoldsAt-noted : (l : Life) (s : State) (n : NoteBody) → Holds l s → Accepts l n → (k : ℕ) → k < 1024 → HoldsAt (with_accepted s n) k (places_at l.places k) (note_at (noted l n).notes k) (expired_at l.expired k)
 HoldsAt-noted l s n h a k below =
     ⊎_elim (λ t.
-      let e : k ≡ n.member = eqb-true k n.member t in
-      let here = at_member s n _ _ _ (h.at_number n.member a.below) a.newer a.positive in
-      let same = note_at-set l.notes n.member n (omega (arith, a.long, a.below)) in
-      subst (λ m. HoldsAt (with_accepted s n) m (places_at l.places m) (note_at (noted l n).notes m) (expired_at l.expired m)) (sym e) (subst (λ note. HoldsAt (with_accepted s n) n.member (places_at l.places n.member) note (expired_at l.expired n.member)) (sym same) here))
+    let e : k ≡ n.member = eqb-true k n.member t in
+    let here = at_member s n _ _ _ (h.at_number n.member a.below) a.newer a.positive in
+    let same = note_at-set l.notes n.member n (omega (arith, a.long, a.below)) in
+    subst (λ m. HoldsAt (with_accepted s n) m (places_at l.places m) (note_at (noted l n).notes m) (expired_at l.expired m)) (sym e) (subst (λ note. HoldsAt (with_accepted s n) n.member (places_at l.places n.member) note (expired_at l.expired n.member)) (sym same) here))
     (λ t.
-      let apart : k ≢ n.member = eqb-false k n.member t in
-      let there = at_other s n k _ _ _ (h.at_number k below) apart in
-      subst (λ note. HoldsAt (with_accepted s n) k (places_at l.places k) note (expired_at l.expired k)) (sym (note_at-other l.notes n.member k n apart)) there)
+    let apart : k ≢ n.member = eqb-false k n.member t in
+    let there = at_other s n k _ _ _ (h.at_number k below) apart in
+    subst (λ note. HoldsAt (with_accepted s n) k (places_at l.places k) note (expired_at l.expired k)) (sym (note_at-other l.notes n.member k n apart)) there)
     (either_bool (eqb k n.member))
 
 pub in_view-noted : (l : Life) (s : State) (n : NoteBody) → Holds l s → Accepts l n → (k : ℕ) → k < 1024 → in_view (with_accepted s n) k ≡ is_live_at (noted l n).notes l.expired k
@@ -93,9 +92,9 @@ live_here l n a = ap (is_live (expired_at l.expired n.member)) (note_at-set l.no
 pub live_still : (l : Life) (n : NoteBody) → Accepts l n → (k : ℕ) → is_live_at l.notes l.expired k ≡ true → is_live_at (noted l n).notes l.expired k ≡ true
 live_still l n a k live =
     ⊎_elim (λ t.
-      let e : k ≡ n.member = eqb-true k n.member t in
-      let was : is_live_at l.notes l.expired n.member ≡ true = subst (λ m. is_live_at l.notes l.expired m ≡ true) e live in
-      subst (λ m. is_live_at (noted l n).notes l.expired m ≡ true) (sym e) (live_here l n a ∙ stays_live (expired_at l.expired n.member) (note_at l.notes n.member) n a.newer was))
+    let e : k ≡ n.member = eqb-true k n.member t in
+    let was : is_live_at l.notes l.expired n.member ≡ true = subst (λ m. is_live_at l.notes l.expired m ≡ true) e live in
+    subst (λ m. is_live_at (noted l n).notes l.expired m ≡ true) (sym e) (live_here l n a ∙ stays_live (expired_at l.expired n.member) (note_at l.notes n.member) n a.newer was))
     (λ t. others_live l.notes l.expired n.member k n (eqb-false k n.member t) ∙ live)
     (either_bool (eqb k n.member))
 

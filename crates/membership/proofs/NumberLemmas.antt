@@ -1,7 +1,7 @@
 -- Filters of the numbers.
-use Rattle.std.proofs.Common.{◌≡◌, ◌≢◌, ℕ, zero, suc, ◌+◌, ◌<◌, ◌≤◌, Bool, true, false, cond, not, ◌&&◌, ◌||◌, eqb, List, [], ◌∷◌, map, refl, ap, sym, ◌∙◌, arith, ◌⊎◌, ⊎_elim, inl, inr}
-use Rattle.std.specs.List.{filter, range_with_len, list_any}
-use Rattle.std.proofs.lemmas.Bool.{eqb-true, eqb-false, ne_eqb, eq-eqb, le-leb, false≢true, leb-false, lt-leb}
+use Rattle.std.proofs.Common.{◌≡◌, ◌≢◌, ℕ, zero, suc, ◌+◌, ◌<◌, ◌≤◌, Bool, true, false, cond, ◌&&◌, ◌||◌, eqb, List, [], ◌∷◌, map, refl, ap, sym, ◌∙◌, arith, ◌⊎◌, ⊎_elim, inl, inr}
+use Rattle.std.specs.List.{filter, range_with_len}
+use Rattle.std.proofs.lemmas.Bool.{eqb-true, eqb-false, ne_eqb, le-leb, lt-leb}
 use Rattle.std.specs.Prelude.{nat_le}
 use Rattle.ff_ids.specs.Views.{Member, all_numbers}
 use Rattle.monitor_rule.specs.Joined.{with_member, without_member, is_joined}
@@ -53,14 +53,14 @@ pub filter-range_one : (p : ℕ → Bool) (a n m : ℕ) → a ≤ m → m < a + 
 filter-range_one p a zero m low high here others = absurd (omega arith)
 filter-range_one p a (suc n) m low high here others =
     ⊎_elim (λ e.
-      let at : a ≡ m = eqb-true a m e in
-      let rest : filter p (range_with_len (a + 1) n) ≡ [] = filter-range_none p (a + 1) n (record { each = λ k l h. others.each k (omega arith) (omega arith) (λ same. absurd (omega arith)) }) in
-      let now : p a ≡ true = rw at here in
-      rw (now, rest, at) refl)
+    let at : a ≡ m = eqb-true a m e in
+    let rest : filter p (range_with_len (a + 1) n) ≡ [] = filter-range_none p (a + 1) n (record { each = λ k l h. others.each k (omega arith) (omega arith) (λ same. absurd (omega arith)) }) in
+    let now : p a ≡ true = rw at here in
+    rw (now, rest, at) refl)
     (λ e.
-      let apart : a ≢ m = eqb-false a m e in
-      let now : p a ≡ false = AtEach-here a n _ others apart in
-      rw now (filter-range_one p (a + 1) n m (omega (arith, apart)) (omega arith) here (AtEach-next a n _ others)))
+    let apart : a ≢ m = eqb-false a m e in
+    let now : p a ≡ false = AtEach-here a n _ others apart in
+    rw now (filter-range_one p (a + 1) n m (omega (arith, apart)) (omega arith) here (AtEach-next a n _ others)))
     (either_bool (eqb a m))
 
 filter-both : (b c : Bool) (q : ℕ → Bool) (x : ℕ) (xs : List ℕ) → q x ≡ c → filter q (cond b (x ∷ xs) xs) ≡ cond (b && c) (x ∷ filter q xs) (filter q xs)
@@ -108,10 +108,10 @@ with_member-front : (f : ℕ → Member) (numbered : Numbered f) (p : ℕ → Bo
 with_member-front f numbered p x a zero le = refl
 with_member-front f numbered p x a (suc n) le =
     ⊎_elim (λ e.
-      let below : nat_le x.number (f a).number ≡ true = le-leb x.number (f a).number (rw (numbered.number a) le) in
-      ap (with_member x) (kept_here f p a n e) ∙ with_here x (f a) _ below ∙ ap (λ ms. x ∷ ms) (sym (kept_here f p a n e)))
+    let below : nat_le x.number (f a).number ≡ true = le-leb x.number (f a).number (rw (numbered.number a) le) in
+    ap (with_member x) (kept_here f p a n e) ∙ with_here x (f a) _ below ∙ ap (λ ms. x ∷ ms) (sym (kept_here f p a n e)))
     (λ e.
-      ap (with_member x) (kept_not f p a n e) ∙ with_member-front f numbered p x (a + 1) n (omega arith) ∙ ap (λ ms. x ∷ ms) (sym (kept_not f p a n e)))
+    ap (with_member x) (kept_not f p a n e) ∙ with_member-front f numbered p x (a + 1) n (omega arith) ∙ ap (λ ms. x ∷ ms) (sym (kept_not f p a n e)))
     (either_bool (p a))
 
 -- a member is put among those that a test keeps
@@ -119,22 +119,22 @@ pub with_member-range : (f : ℕ → Member) (numbered : Numbered f) (p q : ℕ 
 with_member-range f numbered p q m a zero low high before after others = absurd (omega arith)
 with_member-range f numbered p q m a (suc n) low high before after others =
     ⊎_elim (λ e.
-      let at : a ≡ m = eqb-true a m e in
-      let rest : kept_from f p (a + 1) n ≡ kept_from f q (a + 1) n = ap (map f) (filter-range_agree p q (a + 1) n (record { each = λ k l h. sym (others.each k (omega arith) (omega arith) (λ same. absurd (omega arith))) })) in
-      let was : p a ≡ false = rw at before in
-      let is : q a ≡ true = rw at after in
-      let front = with_member-front f numbered p (f m) (a + 1) n (rw (numbered.number m) (omega arith)) in
-      let same : f m ≡ f a = ap f (sym at) in
-      ap (with_member (f m)) (kept_not f p a n was) ∙ front ∙ ap (λ x. x ∷ kept_from f p (a + 1) n) same ∙ ap (λ ms. f a ∷ ms) rest ∙ sym (kept_here f q a n is))
+    let at : a ≡ m = eqb-true a m e in
+    let rest : kept_from f p (a + 1) n ≡ kept_from f q (a + 1) n = ap (map f) (filter-range_agree p q (a + 1) n (record { each = λ k l h. sym (others.each k (omega arith) (omega arith) (λ same. absurd (omega arith))) })) in
+    let was : p a ≡ false = rw at before in
+    let is : q a ≡ true = rw at after in
+    let front = with_member-front f numbered p (f m) (a + 1) n (rw (numbered.number m) (omega arith)) in
+    let same : f m ≡ f a = ap f (sym at) in
+    ap (with_member (f m)) (kept_not f p a n was) ∙ front ∙ ap (λ x. x ∷ kept_from f p (a + 1) n) same ∙ ap (λ ms. f a ∷ ms) rest ∙ sym (kept_here f q a n is))
     (λ e.
-      let apart : a ≢ m = eqb-false a m e in
-      let same : q a ≡ p a = AtEach-here a n _ others apart in
-      let rest = with_member-range f numbered p q m (a + 1) n (omega (arith, apart)) (omega arith) before after (AtEach-next a n _ others) in
-      ⊎_elim (λ t.
-        let above : nat_le (f m).number (f a).number ≡ false = rw (numbered.number m, numbered.number a) (lt-leb m a (omega (arith, apart))) in
-        ap (with_member (f m)) (kept_here f p a n t) ∙ with_later (f m) (f a) _ above ∙ ap (λ ms. f a ∷ ms) rest ∙ sym (kept_here f q a n (same ∙ t)))
-      (λ t. ap (with_member (f m)) (kept_not f p a n t) ∙ rest ∙ sym (kept_not f q a n (same ∙ t)))
-      (either_bool (p a)))
+    let apart : a ≢ m = eqb-false a m e in
+    let same : q a ≡ p a = AtEach-here a n _ others apart in
+    let rest = with_member-range f numbered p q m (a + 1) n (omega (arith, apart)) (omega arith) before after (AtEach-next a n _ others) in
+    ⊎_elim (λ t.
+    let above : nat_le (f m).number (f a).number ≡ false = rw (numbered.number m, numbered.number a) (lt-leb m a (omega (arith, apart))) in
+    ap (with_member (f m)) (kept_here f p a n t) ∙ with_later (f m) (f a) _ above ∙ ap (λ ms. f a ∷ ms) rest ∙ sym (kept_here f q a n (same ∙ t)))
+    (λ t. ap (with_member (f m)) (kept_not f p a n t) ∙ rest ∙ sym (kept_not f q a n (same ∙ t)))
+    (either_bool (p a)))
     (either_bool (eqb a m))
 
 -- and is taken out of them
@@ -142,21 +142,21 @@ pub without_member-range : (f : ℕ → Member) (numbered : Numbered f) (p q : �
 without_member-range f numbered p q m a zero low high before after others = absurd (omega arith)
 without_member-range f numbered p q m a (suc n) low high before after others =
     ⊎_elim (λ e.
-      let at : a ≡ m = eqb-true a m e in
-      let rest : kept_from f p (a + 1) n ≡ kept_from f q (a + 1) n = ap (map f) (filter-range_agree p q (a + 1) n (record { each = λ k l h. sym (others.each k (omega arith) (omega arith) (λ same. absurd (omega arith))) })) in
-      let was : p a ≡ true = rw at before in
-      let is : q a ≡ false = rw at after in
-      let here : eqb (f a).number m ≡ true = rw (numbered.number a) e in
-      ap (without_member m) (kept_here f p a n was) ∙ without_here m (f a) _ here ∙ rest ∙ sym (kept_not f q a n is))
+    let at : a ≡ m = eqb-true a m e in
+    let rest : kept_from f p (a + 1) n ≡ kept_from f q (a + 1) n = ap (map f) (filter-range_agree p q (a + 1) n (record { each = λ k l h. sym (others.each k (omega arith) (omega arith) (λ same. absurd (omega arith))) })) in
+    let was : p a ≡ true = rw at before in
+    let is : q a ≡ false = rw at after in
+    let here : eqb (f a).number m ≡ true = rw (numbered.number a) e in
+    ap (without_member m) (kept_here f p a n was) ∙ without_here m (f a) _ here ∙ rest ∙ sym (kept_not f q a n is))
     (λ e.
-      let apart : a ≢ m = eqb-false a m e in
-      let same : q a ≡ p a = AtEach-here a n _ others apart in
-      let rest = without_member-range f numbered p q m (a + 1) n (omega (arith, apart)) (omega arith) before after (AtEach-next a n _ others) in
-      ⊎_elim (λ t.
-        let there : eqb (f a).number m ≡ false = rw (numbered.number a) e in
-        ap (without_member m) (kept_here f p a n t) ∙ without_later m (f a) _ there ∙ ap (λ ms. f a ∷ ms) rest ∙ sym (kept_here f q a n (same ∙ t)))
-      (λ t. ap (without_member m) (kept_not f p a n t) ∙ rest ∙ sym (kept_not f q a n (same ∙ t)))
-      (either_bool (p a)))
+    let apart : a ≢ m = eqb-false a m e in
+    let same : q a ≡ p a = AtEach-here a n _ others apart in
+    let rest = without_member-range f numbered p q m (a + 1) n (omega (arith, apart)) (omega arith) before after (AtEach-next a n _ others) in
+    ⊎_elim (λ t.
+    let there : eqb (f a).number m ≡ false = rw (numbered.number a) e in
+    ap (without_member m) (kept_here f p a n t) ∙ without_later m (f a) _ there ∙ ap (λ ms. f a ∷ ms) rest ∙ sym (kept_here f q a n (same ∙ t)))
+    (λ t. ap (without_member m) (kept_not f p a n t) ∙ rest ∙ sym (kept_not f q a n (same ∙ t)))
+    (either_bool (p a)))
     (either_bool (eqb a m))
 
 is_joined-below : (f : ℕ → Member) (numbered : Numbered f) (p : ℕ → Bool) (m a n : ℕ) → m < a → is_joined (kept_from f p a n) m ≡ false
@@ -173,19 +173,19 @@ pub is_joined-range : (f : ℕ → Member) (numbered : Numbered f) (p : ℕ → 
 is_joined-range f numbered p m a zero low high = absurd (omega arith)
 is_joined-range f numbered p m a (suc n) low high =
     ⊎_elim (λ e.
-      let at : a ≡ m = eqb-true a m e in
-      let here : eqb (f a).number m ≡ true = rw (numbered.number a) e in
-      let same : p a ≡ p m = ap p at in
-      ⊎_elim (λ t. ap (λ ms. is_joined ms m) (kept_here f p a n t) ∙ joined_here m (f a) _ here ∙ sym t ∙ same)
-      (λ t. ap (λ ms. is_joined ms m) (kept_not f p a n t) ∙ is_joined-below f numbered p m (a + 1) n (omega arith) ∙ sym t ∙ same)
-      (either_bool (p a)))
+    let at : a ≡ m = eqb-true a m e in
+    let here : eqb (f a).number m ≡ true = rw (numbered.number a) e in
+    let same : p a ≡ p m = ap p at in
+    ⊎_elim (λ t. ap (λ ms. is_joined ms m) (kept_here f p a n t) ∙ joined_here m (f a) _ here ∙ sym t ∙ same)
+    (λ t. ap (λ ms. is_joined ms m) (kept_not f p a n t) ∙ is_joined-below f numbered p m (a + 1) n (omega arith) ∙ sym t ∙ same)
+    (either_bool (p a)))
     (λ e.
-      let apart : a ≢ m = eqb-false a m e in
-      let there : eqb (f a).number m ≡ false = rw (numbered.number a) e in
-      let rest = is_joined-range f numbered p m (a + 1) n (omega (arith, apart)) (omega arith) in
-      ⊎_elim (λ t. ap (λ ms. is_joined ms m) (kept_here f p a n t) ∙ joined_later m (f a) _ there ∙ rest)
-      (λ t. ap (λ ms. is_joined ms m) (kept_not f p a n t) ∙ rest)
-      (either_bool (p a)))
+    let apart : a ≢ m = eqb-false a m e in
+    let there : eqb (f a).number m ≡ false = rw (numbered.number a) e in
+    let rest = is_joined-range f numbered p m (a + 1) n (omega (arith, apart)) (omega arith) in
+    ⊎_elim (λ t. ap (λ ms. is_joined ms m) (kept_here f p a n t) ∙ joined_later m (f a) _ there ∙ rest)
+    (λ t. ap (λ ms. is_joined ms m) (kept_not f p a n t) ∙ rest)
+    (either_bool (p a)))
     (either_bool (eqb a m))
 
 -- all numbers, as a range whose length a proof does not compute

@@ -1,24 +1,24 @@
 -- What stands between what is kept and the rings.
-use Rattle.std.proofs.Common.{◌≡◌, ◌≢◌, ℕ, suc, ◌+◌, ◌<◌, ◌≤◌, Bool, true, false, cond, not, ◌&&◌, ◌||◌, eqb, List, [], ◌∷◌, map, set, get_or, ⊎_elim, Option, Some, None, refl, ap, sym, ◌∙◌, subst, arith, unwrap_or, is_some, length, get_or-set_same, get_or-set_other, length-set}
-use Rattle.std.specs.Prelude.{nat_le, nat_lt, IfSome, slice_set}
+use Rattle.std.proofs.Common.{◌≡◌, ◌≢◌, ℕ, ◌<◌, ◌≤◌, Bool, true, false, cond, not, ◌&&◌, eqb, List, [], map, ⊎_elim, Option, Some, None, refl, ap, sym, ◌∙◌, subst, arith, unwrap_or, is_some, length, get_or-set_same, get_or-set_other, length-set}
+use Rattle.std.specs.Prelude.{nat_lt, slice_set}
 use Rattle.std.specs.Ordering.{nat_cmp, ordering_then}
 use Rattle.std.specs.declared.cmp.Ordering.{Ordering}
 use Rattle.std.specs.declared.cmp.Ordering.TheVariants.{Less, Equal, Greater}
-use Rattle.std.specs.List.{filter, range_with_len}
+use Rattle.std.specs.List.{filter}
 use Rattle.std.proofs.lemmas.Bool.{eqb-true, eqb-false, false≢true}
 use Rattle.std.proofs.lemmas.Bool.Decides.{nat_tests}
 use Rattle.ff_ids.specs.declared.Group.{Group}
 use Rattle.ff_ids.specs.declared.NoteBody.{NoteBody}
 use Rattle.ff_ids.specs.declared.Fault.{Fault}
 use Rattle.ff_ids.specs.declared.Fault.TheVariants as faults
-use Rattle.ff_ids.specs.Masks.{ring_count, good_mask}
+use Rattle.ff_ids.specs.Masks.{good_mask}
 use Rattle.ff_ids.specs.Notes.{note_cmp}
 use Rattle.ff_ids.specs.Faults.{fault_after, fault_beside}
-use Rattle.ff_ids.specs.Views.{Member, all_numbers}
+use Rattle.ff_ids.specs.Views.{Member}
 use Rattle.monitor_rule.specs.Joined.{Joined, with_member, is_joined}
 use Rattle.membership.specs.Kept.{places_at, note_at, expired_at, is_live, is_live_at, member_at, live_members, kept_fault, comes_in, PlacesList, NoteList}
 use Rattle.membership.specs.Life.{IsSound}
-use Rattle.membership.proofs.NumberLemmas.{either_bool, AreAll, all_length, AtEach, AtEach-all, Numbered, with_member-range, is_joined-range, map-filter_range_agree, filter-range_agree}
+use Rattle.membership.proofs.NumberLemmas.{either_bool, all_length, AtEach, AtEach-all, Numbered, with_member-range, is_joined-range, map-filter_range_agree}
 
 member_at-numbered : (places : PlacesList) → Numbered (member_at places)
 member_at-numbered places = record { number = λ m. refl }

@@ -1,6 +1,6 @@
 -- What is kept of each member, by number: its places, its newest note, and the greatest epoch of an accusation
 -- against it that expired, 0 for none.
-use Rattle.std.specs.Prelude.{◌≡◌, ℕ, Bool, false, ◌&&◌, not, nat_lt, if◌then◌else◌, List, [], Option, Some, None, is_some, IsSome, IfSome, unwrap_or, map, filter, slice_index_or, length}
+use Rattle.std.specs.Prelude.{ℕ, Bool, false, ◌&&◌, not, nat_lt, if◌then◌else◌, List, [], Option, Some, None, unwrap_or, map, filter, slice_index_or}
 use Rattle.std.specs.Option.{option_map_or}
 use Rattle.ff_ids.specs.declared.NoteBody.{NoteBody}
 use Rattle.ff_ids.specs.declared.Fault.{Fault}
@@ -8,7 +8,6 @@ use Rattle.ff_ids.specs.declared.Fault.TheVariants as faults
 use Rattle.ff_ids.specs.Masks.{good_mask}
 use Rattle.ff_ids.specs.Faults.{fault_after}
 use Rattle.ff_ids.specs.Views.{Member, all_numbers}
-use Rattle.monitor_rule.specs.Joined.{Joined, with_member}
 
 -- The places with which each number joined, and none where it has not.
 abbrev pub PlacesList : Type 0

@@ -7,11 +7,10 @@ ghost use Rattle.ff_ids.specs.Faults.{fault_beside};
 ghost use Rattle.membership.specs.Kept.{places_at, note_at, expired_at, is_live_at, kept_fault, comes_in};
 ghost use Rattle.membership.specs.Reports.{Answers};
 
-use std::alloc::{AllocError, Global};
-use std::cmp::Ordering;
-
 use ff_ids::{Fault, MemberId, NoteBody, good_mask};
 use ring_order::Places;
+use std::alloc::{AllocError, Global};
+use std::cmp::Ordering;
 
 /// How many member numbers there are.
 const NUMBERS: usize = 1024;

@@ -19,16 +19,16 @@ ghost use Rattle.membership.specs.Reports.{nothing, Reports, Answers, join_fault
 mod kept;
 mod report;
 
+use ff_ids::{Fault, Group, MemberId, NoteBody, RingNo};
+use fields::NoMemory;
+use kept::{
+    brings_in, check_note, has_places, is_live, none_yet, note_in, places_of, set_note, zeros,
+};
+use monitor_rule::Rings;
 pub use report::Changes;
-
+use ring_order::Places;
 use std::alloc::Global;
 use std::marker::Model;
-
-use fields::NoMemory;
-use ff_ids::{Fault, Group, MemberId, NoteBody, RingNo};
-use monitor_rule::Rings;
-use ring_order::Places;
-use kept::{brings_in, check_note, has_places, is_live, none_yet, note_in, places_of, set_note, zeros};
 
 /// The membership of one life. Contracts see what is kept of the life; which states that may stand for is said
 /// by `Holds`.
@@ -179,5 +179,57 @@ impl Membership {
             self.rings.join(note.member, places);
         }
         enters
+    }
+}
+
+#[cfg(test)]
+mod tests {
+    use super::*;
+    use ff_ids::{Epoch, Mask};
+    use ring_order::number_places;
+    use std::test::Fail;
+
+    fn note(member: u16, epoch: u64, mask: u32) -> NoteBody
+        requires member { member < 1024 }
+        requires epoch { 0 < epoch }
+    {
+        NoteBody {
+            member: MemberId::new(member),
+            epoch: Epoch::new(epoch),
+            mask: Mask(mask),
+        }
+    }
+
+    #[test]
+    fn notes_bring_members_in(rt: HostRuntime) -> Result<(), Fail> {
+        let group = Group {
+            tag: [7; 16],
+            t: 1,
+            timeout: 3,
+            period: 1,
+            misses: 1,
+        };
+        let (a, b) = (MemberId::new(5), MemberId::new(9));
+        let mut out = Changes::new(rt.alloc()).ok().ok_or("no memory")?;
+        let mut life = Membership::open(rt.alloc(), group).ok().ok_or("no memory")?;
+        assert_eq!(rt; life.group().t, 1);
+        assert_eq!(rt; life.add_member(a, number_places(&[10, 2, 5])), Ok(()));
+        assert_eq!(rt; life.add_member(b, number_places(&[20, 9, 5])), Ok(()));
+        assert_eq!(rt;
+            life.add_member(b, number_places(&[20, 9, 5])),
+            Err(Fault::AlreadyMember)
+        );
+        assert_eq!(rt; life.put_note(note(5, 1, 7), &mut out), Ok(()));
+        assert_eq!(rt; life.put_note(note(9, 1, 3), &mut out), Ok(()));
+        assert_eq!(rt; out.entered().first().copied(), Some(b));
+        assert_eq!(rt; life.put_note(note(9, 1, 3), &mut out), Err(Fault::Known));
+        assert_eq!(rt; life.put_note(note(9, 1, 8), &mut out), Err(Fault::BadMask));
+        assert!(rt; out.entered().is_empty());
+        assert!(rt; life.in_view(a) && life.is_member(a));
+        assert_eq!(rt; life.monitor(RingNo(0), a), Some(b));
+        assert_eq!(rt; life.successor(RingNo(0), a), Some(b));
+        assert_eq!(rt; life.note_of(b), Some(note(9, 1, 3)));
+        assert_eq!(rt; life.now(), 0);
+        Ok(())
     }
 }

@@ -3,11 +3,10 @@
 ghost use Rattle.std.specs.Prelude.{◌≡◌, [], ◌∷◌, ◌++◌, List, ℕ, length, ◌≤◌, IfOk};
 ghost use Rattle.membership.specs.Reports.{nothing};
 
+use ff_ids::{AccBody, MemberId};
+use fields::NoMemory;
 use std::alloc::Global;
 use std::marker::Model;
-
-use fields::NoMemory;
-use ff_ids::{AccBody, MemberId};
 
 /// How many member numbers there are.
 const NUMBERS: usize = 1024;

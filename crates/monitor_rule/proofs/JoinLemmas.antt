@@ -1,14 +1,13 @@
 -- Members put in and taken out.
-use Rattle.std.proofs.Common.{◌≡◌, ℕ, zero, suc, ◌+◌, ◌<◌, ◌≤◌, Bool, true, false, cond, not, eqb, leb, ◌||◌, List, [], ◌∷◌, ◌++◌, length, map, take, drop, refl, ap, sym, ◌∙◌, subst, arith, insert, remove, ◌⊎◌, ⊎_elim, inl, inr}
+use Rattle.std.proofs.Common.{◌≡◌, ℕ, suc, ◌+◌, ◌<◌, ◌≤◌, Bool, true, false, cond, not, eqb, ◌||◌, List, [], ◌∷◌, length, refl, ap, ◌∙◌, arith, insert, remove}
 use Rattle.std.specs.Prelude.{nat_le}
 use Rattle.std.proofs.lemmas.List.{length-map}
 use Rattle.std.specs.List.{position_or_len}
-use Rattle.std.proofs.lemmas.Bool.{leb-true, leb-false, eqb-true, eqb-false, ne_eqb, eq-eqb, le-leb, or_parts, or_cases, or_from}
-use Rattle.std.proofs.lemmas.Bool.Decides.{nat_tests}
+use Rattle.std.proofs.lemmas.Bool.{leb-true, leb-false, eqb-false, ne_eqb, or_parts, or_from}
 use Rattle.ff_ids.specs.Views.{Member}
 use Rattle.monitor_rule.specs.Joined.{with_member, without_member, is_joined, members_of, IsInOrder, IsKept}
 
-abbrev Pair : Type 0
+abbrev pub Pair : Type 0
 Pair = List (List ℕ) × ℕ
 
 abbrev pub member_of : Pair → Member

@@ -4,16 +4,15 @@
 ghost use Rattle.std.specs.Prelude.{◌≡◌, ℕ, ◌<◌, ◌≤◌, true, false, List, [], length, map, insert, remove, nat_le, IfOk, vec_len, vec_capacity, if◌then◌else◌};
 ghost use Rattle.std.specs.List.{position_or_len};
 ghost use Rattle.ff_ids.specs.Masks.{ring_count};
-ghost use Rattle.ff_ids.specs.Rings.{nearest_before as spec_before, nearest_after as spec_after};
+ghost use Rattle.ff_ids.specs.Rings.{nearest_before as number_before, nearest_after as number_after};
 ghost use Rattle.ff_ids.specs.Views.{key_at};
 ghost use Rattle.monitor_rule.specs.Joined.{with_member, without_member, is_joined, keys_on, members_of};
 
+use ff_ids::{Group, MemberId, RingNo};
+use fields::NoMemory;
+use ring_order::{Places, nearest_after, nearest_before};
 use std::alloc::Global;
 use std::marker::Model;
-
-use fields::NoMemory;
-use ff_ids::{Group, MemberId, RingNo};
-use ring_order::Places;
 
 /// How many members there is room for.
 const ROOM: usize = 1024;
@@ -91,9 +90,9 @@ impl Rings {
         requires ring { ring.0 < self.now.rings }
         requires placed { length places.now ≡ self.now.rings }
         ensures { result
-            ≡ spec_before (keys_on ring.0 self.now.members) (key_at ring.0 places.now member) }
+            ≡ number_before (keys_on ring.0 self.now.members) (key_at ring.0 places.now member) }
     {
-        None
+        nearest_before(ring, places, member, &self.joined)
     }
 
     /// The nearest joined member after this one on the ring, or none where no other has joined. The member
@@ -102,8 +101,38 @@ impl Rings {
         requires ring { ring.0 < self.now.rings }
         requires placed { length places.now ≡ self.now.rings }
         ensures { result
-            ≡ spec_after (keys_on ring.0 self.now.members) (key_at ring.0 places.now member) }
+            ≡ number_after (keys_on ring.0 self.now.members) (key_at ring.0 places.now member) }
     {
-        None
+        nearest_after(ring, places, member, &self.joined)
+    }
+}
+
+#[cfg(test)]
+mod tests {
+    use super::*;
+    use ring_order::number_places;
+    use std::test::Fail;
+
+    #[test]
+    fn neighbours_of_the_joined(rt: HostRuntime) -> Result<(), Fail> {
+        let group = Group {
+            tag: [7; 16],
+            t: 1,
+            timeout: 3,
+            period: 1,
+            misses: 1,
+        };
+        let mut rings = Rings::open(rt.alloc(), &group).ok().ok_or("no memory")?;
+        rings.join(MemberId::new(7), &number_places(&[30, 2, 5]));
+        let own = number_places(&[20, 9, 5]);
+        let ring = RingNo(0);
+        assert_eq!(rt;
+            rings.monitor(ring, MemberId::new(3), &own),
+            Some(MemberId::new(7))
+        );
+        assert_eq!(rt; rings.successor(ring, MemberId::new(7), &own), None);
+        rings.leave(MemberId::new(7));
+        assert_eq!(rt; rings.monitor(ring, MemberId::new(3), &own), None);
+        Ok(())
     }
 }

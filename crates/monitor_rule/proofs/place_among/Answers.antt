@@ -1,7 +1,5 @@
-use Rattle.std.proofs.Common.{◌≡◌, ℕ, ◌<◌, true, nat_le, length, arith, List, refl, sym, []}
+use Rattle.std.proofs.Common.{ℕ, nat_le, length, arith, List, sym, []}
 use Rattle.std.proofs.lemmas.List.Sums.{position_or_len_is}
-use Rattle.std.proofs.lemmas.Bool.{le-leb}
-use Rattle.std.proofs.lemmas.Grind.{common_steps}
 use Rattle.monitor_rule.proofs.place_among.Goals as goal
 
 pub returns-then-number-get-clause-value : goal.returns-then-number-get-clause-value

@@ -1,7 +1,7 @@
-use Rattle.std.proofs.Common.{◌≡◌, ◌∙◌, ap, refl, sym, subst, Some, None, cond, List, [], ℕ, Option, unwrap_or}
-use Rattle.monitor_rule.specs.Joined.{Joined, with_member}
-use Rattle.membership.specs.Life.{Life, IsSound}
-use Rattle.membership.specs.Kept.{places_at, note_at, expired_at, comes_in, kept_fault, member_at}
+use Rattle.std.proofs.Common.{◌≡◌, ◌∙◌, ap, refl, sym, Some, cond, List, [], ℕ, Option, unwrap_or}
+use Rattle.monitor_rule.specs.Joined.{with_member}
+use Rattle.membership.specs.Life.{Life}
+use Rattle.membership.specs.Kept.{places_at, note_at, kept_fault, member_at}
 use Rattle.membership.proofs.SoundLemmas.{absent_before, IsSound-noted}
 use Rattle.membership.proofs.Membership.accept.Goals as goal
 

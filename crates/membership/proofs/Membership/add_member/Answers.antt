@@ -1,4 +1,4 @@
-use Rattle.std.proofs.Common.{◌≡◌, ◌∙◌, ap, sym, subst, length, is_some}
+use Rattle.std.proofs.Common.{◌∙◌, ap, sym, is_some}
 use Rattle.ff_ids.specs.Masks.{ring_count}
 use Rattle.membership.specs.Kept.{PlacesList, places_at}
 use Rattle.membership.specs.Life.{Life}

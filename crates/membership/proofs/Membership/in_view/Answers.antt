@@ -1,8 +1,6 @@
-use Rattle.std.proofs.Common.{◌≡◌, ◌∙◌, sym, subst}
-use Rattle.ff_ids.specs.Views.{in_view, State}
+use Rattle.std.proofs.Common.{sym, subst}
 use Rattle.membership.specs.Life.{Life}
 use Rattle.membership.specs.Holds.{Holds}
-use Rattle.membership.specs.Kept.{is_live_at}
 use Rattle.membership.proofs.HoldLemmas.{in_view-at}
 use Rattle.membership.proofs.Membership.in_view.Goals as goal
 

@@ -1,10 +1,6 @@
-use Rattle.std.proofs.Common.{◌≡◌, ◌∙◌, ap, sym, subst, refl, None, true, false, cond, ◌∷◌, [], ◌<◌, length}
-use Rattle.ff_ids.specs.Views.{State}
-use Rattle.ff_ids.specs.Steps.{after_note}
+use Rattle.std.proofs.Common.{◌∙◌, ap, sym, subst, cond, ◌∷◌, []}
 use Rattle.membership.specs.Life.{Life}
-use Rattle.membership.specs.Holds.{Holds}
-use Rattle.membership.specs.Kept.{note_at, places_at, kept_fault, expired_at, comes_in}
-use Rattle.membership.specs.Reports.{Report, Reports, nothing}
+use Rattle.membership.specs.Reports.{Report, nothing}
 use Rattle.membership.proofs.HoldLemmas.{none_from_answers}
 use Rattle.membership.proofs.SoundLemmas.{no_fault}
 use Rattle.membership.proofs.NoteLemmas.{Accepts, report-noted}
@@ -19,6 +15,6 @@ returns-clause-changes c = λ s h.
     let accepts = subst (λ (l : Life). Accepts l c.args.note) c.self.view_is inside in
     let reports = report-noted c.args.self.now s c.args.note h accepts (sym (ap (λ (l : Life). l.kept) c.self.view_is)) c.accept.result c.accept.ensures.value in
     elim c.if-accept.branch [
-      then-accept w ↦ w.out-is ∙ w.report_entry.ensures ∙ ap (λ (r : Report). record r { entered = c.args.note.member ∷ [] }) c.clear.ensures ∙ sym (ap (λ b. cond b (record nothing { entered = c.args.note.member ∷ [] }) nothing) w.if-accept.true) ∙ reports
-    | else-accept w ↦ w.out-is ∙ c.clear.ensures ∙ sym (ap (λ b. cond b (record nothing { entered = c.args.note.member ∷ [] }) nothing) w.if-accept.false) ∙ reports
+      | then-accept w ↦ w.out-is ∙ w.report_entry.ensures ∙ ap (λ (r : Report). record r { entered = c.args.note.member ∷ [] }) c.clear.ensures ∙ sym (ap (λ b. cond b (record nothing { entered = c.args.note.member ∷ [] }) nothing) w.if-accept.true) ∙ reports
+      | else-accept w ↦ w.out-is ∙ c.clear.ensures ∙ sym (ap (λ b. cond b (record nothing { entered = c.args.note.member ∷ [] }) nothing) w.if-accept.false) ∙ reports
     ]

@@ -1,4 +1,4 @@
-use Rattle.std.proofs.Common.{◌≡◌, ℕ, None, length, slice_index_or}
+use Rattle.std.proofs.Common.{◌≡◌, ℕ, length, slice_index_or}
 use Rattle.membership.proofs.kept.zeros.Given as goal
 
 abbrev pub invariant-loop-number : goal.invariant-loop-number

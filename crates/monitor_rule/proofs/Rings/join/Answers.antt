@@ -1,4 +1,4 @@
-use Rattle.std.proofs.Common.{◌≡◌, ◌<◌, List, ℕ, length, arith, is_ok, vec_capacity, ap, sym, ◌∙◌}
+use Rattle.std.proofs.Common.{List, ℕ, length, arith, is_ok, vec_capacity, ap, sym, ◌∙◌}
 use Rattle.monitor_rule.specs.Joined.{Joined, is_joined, with_member}
 use Rattle.monitor_rule.proofs.JoinLemmas.{place, JoinedAfter, JoinedAfter-insert}
 use Rattle.monitor_rule.proofs.Rings.join.Goals as goal

@@ -1,4 +1,4 @@
-use Rattle.std.proofs.Common.{◌≡◌, ◌<◌, List, ℕ, length, arith, ap, sym, ◌∙◌}
+use Rattle.std.proofs.Common.{List, ℕ, length, arith, ap, ◌∙◌}
 use Rattle.monitor_rule.specs.Joined.{Joined, is_joined, without_member, members_of}
 use Rattle.monitor_rule.proofs.JoinLemmas.{place, LeftAfter, LeftAfter-remove}
 use Rattle.monitor_rule.proofs.Rings.leave.Goals as goal
