@@ -1,0 +1,100 @@
+-- What is kept, and the states that it stands for.
+use Rattle.std.proofs.Common.{◌≡◌, ℕ, ◌<◌, max, Bool, true, false, cond, not, ◌&&◌, ◌||◌, eqb, leb, List, [], ◌∷◌, map, Option, Some, None, Ok, refl, ap, sym, ◌∙◌, subst, arith, unwrap_or}
+use Rattle.std.specs.Prelude.{nat_le, nat_lt, IfSome}
+use Rattle.std.specs.List.{filter}
+use Rattle.std.proofs.lemmas.Bool.{eqb-true, lt-leb}
+use Rattle.std.proofs.lemmas.Bool.Decides.{nat_tests}
+use Rattle.ff_ids.specs.declared.NoteBody.{NoteBody}
+use Rattle.ff_ids.specs.declared.AccBody.{AccBody}
+use Rattle.ff_ids.specs.declared.Fault.{Fault}
+use Rattle.ff_ids.specs.Notes.{newest, greater_note}
+use Rattle.ff_ids.specs.Rings.{Key}
+use Rattle.ff_ids.specs.Views.{State, Member, has_expired, in_view, is_member, all_numbers, view, key_at, key_of}
+use Rattle.ff_ids.specs.Faults.{note_fault}
+use Rattle.monitor_rule.specs.Joined.{keys_on}
+use Rattle.membership.specs.Kept.{places_at, is_live, is_live_at, member_at, live_members, kept_fault}
+use Rattle.membership.specs.Life.{Life, has_joined}
+use Rattle.membership.specs.Holds.{Holds, HoldsAt, greatest_epoch}
+use Rattle.membership.specs.Reports.{Answers}
+use Rattle.membership.proofs.NumberLemmas.{all_length, AtEach, AtEach-all, map-filter_range_agree}
+
+leb-max : (k x y : ℕ) → leb k (max x y) ≡ (leb k x || leb k y)
+leb-max k x y = grind (arith, nat_tests)
+
+expired_more : (b : Bool) (a : AccBody) (n : NoteBody) (rest : Bool) (greatest : ℕ) → rest ≡ nat_le n.epoch greatest → ((b && nat_le n.epoch a.epoch) || rest) ≡ nat_le n.epoch (cond b (max a.epoch greatest) greatest)
+expired_more true a n rest greatest e = rw e (sym (leb-max n.epoch a.epoch greatest))
+expired_more false a n rest greatest e = e
+
+-- some accusation of at least the note's epoch expired where the greatest is at least that
+pub has_expired-greatest : (expired : List AccBody) (n : NoteBody) → 0 < n.epoch → has_expired expired n ≡ nat_le n.epoch (greatest_epoch expired n.member)
+has_expired-greatest [] n h = sym (lt-leb n.epoch 0 h)
+has_expired-greatest (a ∷ expired) n h =
+    expired_more (eqb a.accused n.member) a n (has_expired expired n) (greatest_epoch expired n.member) (has_expired-greatest expired n h)
+
+-- of this member, where there is a note
+abbrev pub IsOf : ℕ → Option NoteBody → Type 0
+IsOf m o = IfSome o (λ n. n.member ≡ m)
+
+greater_of : (b : Bool) (x other : NoteBody) (m : ℕ) → x.member ≡ m → other.member ≡ m → (cond b other x).member ≡ m
+greater_of true x other m h k = k
+greater_of false x other m h k = h
+
+greater_note-member : (x : NoteBody) (o : Option NoteBody) (m : ℕ) → x.member ≡ m → IsOf m o → (greater_note x o).member ≡ m
+greater_note-member x None m h k = h
+greater_note-member x (Some other) m h k = greater_of _ x other m h k
+
+newest_more : (b : Bool) (x : NoteBody) (o : Option NoteBody) (m : ℕ) → (b ≡ true → x.member ≡ m) → IsOf m o → IsOf m (cond b (Some (greater_note x o)) o)
+newest_more true x o m h k = greater_note-member x o m (h refl) k
+newest_more false x o m h k = k
+
+-- the newest note of a member is of that member
+pub newest-member : (notes : List NoteBody) (m : ℕ) → IsOf m (newest notes m)
+newest-member [] m = tt
+newest-member (x ∷ notes) m = newest_more (eqb x.member m) x (newest notes m) m (eqb-true x.member m) (newest-member notes m)
+
+not_le : (a b : ℕ) → not (nat_le a b) ≡ nat_lt b a
+not_le a b = grind (arith, nat_tests)
+
+in_view_some : (s : State) (m epoch : ℕ) (n : NoteBody) → n.member ≡ m → greatest_epoch s.expired m ≡ epoch → 0 < n.epoch → not (has_expired s.expired n) ≡ nat_lt epoch n.epoch
+in_view_some s m epoch n own greatest positive =
+    let e : has_expired s.expired n ≡ nat_le n.epoch epoch = has_expired-greatest s.expired n positive ∙ ap (λ k. nat_le n.epoch (greatest_epoch s.expired k)) own ∙ ap (nat_le n.epoch) greatest in
+    ap not e ∙ not_le n.epoch epoch
+
+in_view_by : (s : State) (m epoch : ℕ) (note : Option NoteBody) → newest s.notes m ≡ note → IsOf m note → greatest_epoch s.expired m ≡ epoch → IfSome note (λ n. 0 < n.epoch) → in_view s m ≡ is_live epoch note
+in_view_by s m epoch None e own greatest positive = rw e refl
+in_view_by s m epoch (Some n) e own greatest positive = rw e (in_view_some s m epoch n own greatest positive)
+
+-- the view, by what is kept
+pub in_view-held : (s : State) (m : ℕ) (places : Option (List (List ℕ))) (note : Option NoteBody) (epoch : ℕ) → HoldsAt s m places note epoch → in_view s m ≡ is_live epoch note
+in_view-held s m places note epoch h =
+    in_view_by s m epoch note h.newest_note (subst (IsOf m) h.newest_note (newest-member s.notes m)) h.greatest h.positive
+
+pub in_view-at : (l : Life) (s : State) (m : ℕ) → Holds l s → m < 1024 → in_view s m ≡ is_live_at l.notes l.expired m
+in_view-at l s m h below = in_view-held s m _ _ _ (h.at_number m below)
+
+-- the faults of a note, by what is kept
+pub note_fault-held : (t : ℕ) (s : State) (n : NoteBody) (places : Option (List (List ℕ))) (note : Option NoteBody) (epoch : ℕ) → HoldsAt s n.member places note epoch → note_fault t s n ≡ kept_fault t places note n
+note_fault-held t s n None newest_note epoch h = rw h.member refl
+note_fault-held t s n (Some places) newest_note epoch h = rw (h.member, h.newest_note) refl
+
+keys_on-map : (f : ℕ → Member) (ring : ℕ) (xs : List ℕ) → keys_on ring (map f xs) ≡ map (λ m. key_at ring (f m).places (f m).number) xs
+keys_on-map f ring [] = refl
+keys_on-map f ring (x ∷ xs) = ap (λ (ks : List Key). key_at ring (f x).places (f x).number ∷ ks) (keys_on-map f ring xs)
+
+-- the keys of the view are those of the live members
+pub keys_on-live : (l : Life) (s : State) (ring : ℕ) → Holds l s → keys_on ring (live_members l.places l.notes l.expired) ≡ map (key_of s ring) (view s)
+keys_on-live l s ring h =
+    let all = all_length in
+    let same : AtEach 0 all.0 (λ m. is_live_at l.notes l.expired m ≡ in_view s m) = AtEach-all all.0 _ all.1.long (λ m below. sym (in_view-at l s m h below)) in
+    let keys : AtEach 0 all.0 (λ m. is_live_at l.notes l.expired m ≡ true → key_at ring (unwrap_or (places_at l.places m) []) m ≡ key_of s ring m) = AtEach-all all.0 _ all.1.long (λ m below live. ap (λ places. key_at ring places m) (sym (h.at_number m below).places)) in
+    let counted = map-filter_range_agree (λ m. key_at ring (unwrap_or (places_at l.places m) []) m) (key_of s ring) (is_live_at l.notes l.expired) (in_view s) 0 all.0 same keys in
+    keys_on-map (member_at l.places) ring (filter (is_live_at l.notes l.expired) all_numbers) ∙ subst (λ xs. map (λ m. key_at ring (unwrap_or (places_at l.places m) []) m) (filter (is_live_at l.notes l.expired) xs) ≡ map (key_of s ring) (filter (in_view s) xs)) (sym all.1.are) counted
+
+-- an answer of Ok means no fault
+pub none_from_answers : (f : Option Fault) (u : Unit {0}) → Answers f (Ok u) → f ≡ None
+none_from_answers None u h = refl
+none_from_answers (Some fault) u h = cc
+
+-- who has joined, by what is kept
+pub has_joined-held : (l : Life) (s : State) (m : ℕ) → Holds l s → m < 1024 → has_joined l m ≡ is_member s m
+has_joined-held l s m h below = sym (h.at_number m below).member

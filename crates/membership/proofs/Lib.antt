@@ -1,0 +1,5 @@
+pub mod NumberLemmas
+pub mod HoldLemmas
+pub mod SoundLemmas
+pub mod NoteLemmas
+pub mod AddLemmas

@@ -1,0 +1,4 @@
+pub mod Kept
+pub mod Life
+pub mod Holds
+pub mod Reports

@@ -1,0 +1,42 @@
+-- The members that have joined the rings, in order of number.
+use Rattle.std.specs.Prelude.{◌≡◌, ℕ, ◌+◌, ◌<◌, ◌≤◌, Bool, ◌==◌, nat_le, if◌then◌else◌, List, [], ◌∷◌, length, map}
+use Rattle.std.specs.List.{list_any}
+use Rattle.ff_ids.specs.Rings.{Key}
+use Rattle.ff_ids.specs.Views.{Member, key_at}
+
+-- How many rings there are, and who has joined, in order of number.
+pub record Joined : Type 0 where
+  pub rings : ℕ
+  pub members : List Member
+
+abbrev pub is_joined : List Member → ℕ → Bool
+is_joined members m = list_any (λ x. x.number == m) members
+
+-- The list with the member put in, in order of number.
+abbrev pub with_member : Member → List Member → List Member
+with_member m [] = m ∷ []
+with_member m (x ∷ members) = if nat_le m.number x.number then m ∷ x ∷ members else x ∷ with_member m members
+
+-- The list with the member of this number taken out.
+abbrev pub without_member : ℕ → List Member → List Member
+without_member m [] = []
+without_member m (x ∷ members) = if x.number == m then members else x ∷ without_member m members
+
+-- The keys of the members on the ring.
+abbrev pub keys_on : ℕ → List Member → List Key
+keys_on ring members = map (λ x. key_at ring x.places x.number) members
+
+-- The numbers rise from the bound on and are below 1,024, and each member has a place on each ring.
+abbrev pub IsInOrder : ℕ → ℕ → List Member → Type 0
+IsInOrder rings low [] = Unit {0}
+IsInOrder rings low (x ∷ members) = (low ≤ x.number) × (x.number < 1024) × (length x.places ≡ rings) × IsInOrder rings (x.number + 1) members
+
+-- What is kept as a list of pairs.
+abbrev pub members_of : List (List (List ℕ) × ℕ) → List Member
+members_of pairs = map (λ p. record { number = p.1; places = p.0 }) pairs
+
+-- There is room for every member, and those that have joined are in order.
+pub record IsKept (rings capacity : ℕ) (members : List Member) : Type 0 where
+  pub few : rings ≤ 31
+  pub room : 1024 ≤ capacity
+  pub in_order : IsInOrder rings 0 members
