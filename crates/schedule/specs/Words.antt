@@ -1,7 +1,8 @@
 -- The words of a line: one or more words of printable bytes, with one space between two words and none
 -- elsewhere.
-use Rattle.std.specs.Prelude.{ℕ, Bool, ◌&&◌, nat_lt, nat_le, ◌==◌, if◌then◌else◌, List, length, Option, Some, None}
+use Rattle.std.specs.Prelude.{ℕ, Bool, ◌&&◌, not, nat_le, ◌==◌, if◌then◌else◌, List, [], length, Option, Some, None}
 use Rattle.std.specs.List.{slice_split, list_all}
+use Rattle.std.specs.Borrow.{Bor}
 
 abbrev pub is_space : ℕ → Bool
 is_space b = b == 32
@@ -12,7 +13,7 @@ is_printable b = nat_le 33 b && nat_le b 126
 
 -- one or more printable bytes
 abbrev pub is_word : List ℕ → Bool
-is_word bytes = nat_lt 0 (length bytes) && list_all is_printable bytes
+is_word bytes = not (length bytes == 0) && list_all is_printable bytes
 
 -- the parts of a text between its spaces
 abbrev pub parts : List ℕ → List (List ℕ)
@@ -25,3 +26,8 @@ is_spaced text = list_all is_word (parts text)
 -- its spaces is a word.
 abbrev pub words_of : List ℕ → Option (List (List ℕ))
 words_of text = if is_spaced text then Some (parts text) else None
+
+-- the words in what is left of a line
+abbrev pub parts_left : Option (Bor (List ℕ)) → List (List ℕ)
+parts_left None = []
+parts_left (Some text) = parts text.now
