@@ -3,7 +3,7 @@ use Rattle.schedule.specs.declared.bad_word.BadWord.TheVariants as bad
 use Rattle.schedule.specs.declared.line.Line.TheVariants as lines
 use Rattle.schedule.specs.declared.line.Place.TheVariants as places
 use Rattle.schedule.specs.declared.line.Command.TheVariants.{Replay}
-use Rattle.schedule.specs.Grammar.{judge, opening, Progress, words_line, body_line, line_word, line_of, group_line, member_line, places_of, note_line, monitor_line, lone_line, header_line}
+use Rattle.schedule.specs.Grammar.{judge, opening, Progress, words_line, body_line, line_word, line_of, group_line, member_line, member_of, note_line, monitor_line, lone_line, header_line}
 
 at : ℕ → Progress
 at t = record { command = Replay; number = 3; place = places.Body t; ticks = 0 }
@@ -40,11 +40,11 @@ unfolding headed judge words_line body_line line_word line_of group_line
 r7 = refl
 
 r8 : judge (at 1) (codes "member 1024 0 0 0" ++ 10 ∷ []) ≡ Err bad.Limit
-unfolding at judge words_line body_line line_word line_of member_line places_of
+unfolding at judge words_line body_line line_word line_of member_line member_of
 r8 = refl
 
 r9 : judge (at 1) (codes "member 1023 0 4294967295 7" ++ 10 ∷ []) ≡ Ok (lines.Member 1023 (0 ∷ 4294967295 ∷ 7 ∷ []))
-unfolding at judge words_line body_line line_word line_of member_line places_of
+unfolding at judge words_line body_line line_word line_of member_line member_of
 r9 = refl
 
 r10 : judge (at 1) (codes "note 2 0 7" ++ 10 ∷ []) ≡ Err bad.Limit

@@ -114,18 +114,17 @@ group_line args = do
   timeout ← number_within 1 10000 w.1
   Ok (lines.Group t timeout)
 
--- member M P0 P1 .., with a place on each of the 2t+1 rings
-unfoldable pub places_of : ℕ → List (List ℕ) → Result (ℕ × List ℕ) BadWord
-places_of t [] = Err bad.Count
-places_of t (m ∷ places) = if length places == 2 * t + 1 then (do
+-- a member and its places, when the words are as many as they should be
+unfoldable pub member_of : List (List ℕ) → Result Line BadWord
+member_of [] = Err bad.Count
+member_of (m ∷ more) = do
   member ← member_number m
-  numbers ← place_numbers places
-  Ok (member, numbers)) else Err bad.Count
+  places ← place_numbers more
+  Ok (lines.Member member places)
 
+-- member M P0 P1 .., with a place on each of the 2t+1 rings
 unfoldable pub member_line : ℕ → List (List ℕ) → Result Line BadWord
-member_line t args = do
-  m ← places_of t args
-  Ok (lines.Member m.0 m.1)
+member_line t args = if length args == 2 * t + 2 then member_of args else Err bad.Count
 
 -- note M EPOCH MASK
 unfoldable pub note_line : List (List ℕ) → Result Line BadWord
@@ -245,12 +244,27 @@ after p l = record { command = p.command; number = p.number + 1; place = place_a
 -- ## What the reader answers
 
 -- An answer, beside the judgement of the line: the same, or want of memory.
-abbrev pub Answers : Result Line BadWord → Result Line LineFault → Type 0
+abbrev pub Answers : {X : Type 0} → Result X BadWord → Result X LineFault → Type 0
 Answers judged (Ok l) = judged ≡ Ok l
 Answers judged (Err (faults.Bad w)) = judged ≡ Err w
 Answers judged (Err faults.OutOfMemory) = Unit {0}
+
+-- What a function returned, seen by view, is what the definition gives.
+abbrev pub Gives : {X Y : Type 0} → (X → Y) → Result X BadWord → Result Y BadWord → Type 0
+Gives view (Ok x) defined = defined ≡ Ok (view x)
+Gives view (Err w) defined = defined ≡ Err w
 
 -- the progress behind an answer: a refusal changes nothing
 abbrev pub progress_after : Progress → Result Line LineFault → Progress
 progress_after p (Ok l) = after p l
 progress_after p (Err fault) = p
+
+-- The tolerance of a group is at most 15.
+abbrev pub IsBounded : Line → Type 0
+IsBounded lines.Header = Unit {0}
+IsBounded (lines.Group t timeout) = t ≤ 15
+IsBounded (lines.Member m ps) = Unit {0}
+IsBounded (lines.Note n) = Unit {0}
+IsBounded lines.View = Unit {0}
+IsBounded (lines.Monitor r m) = Unit {0}
+IsBounded lines.End = Unit {0}

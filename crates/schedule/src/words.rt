@@ -1,10 +1,11 @@
 //! The words of a line.
 
-ghost use Rattle.std.specs.Prelude.{◌≡◌, ◌∷◌, drop, length, slice_get, position};
+ghost use Rattle.std.specs.Prelude.{◌≡◌, [], ◌∷◌, length, position, MatchOption, IfNone};
 ghost use Rattle.std.specs.List.{list_all};
-ghost use Rattle.std.specs.Option.{option_copied};
+ghost use Rattle.schedule.specs.Grammar.{Gives, none, two, three};
 ghost use Rattle.schedule.specs.Words.{is_space, is_printable, is_word, is_spaced, parts, parts_left, words_of};
 
+use crate::bad_word::BadWord;
 use std::marker::Model;
 
 fn is_printable(bytes: &[u8]) -> bool
@@ -81,11 +82,41 @@ impl<'a> Words<'a> {
 
     /// Takes the next word.
     pub(crate) fn next(&mut self) -> Option<&'a [u8]>
-        ensures word { option_copied result ≡ slice_get self.old 0 }
-        ensures left { self.new ≡ drop 1 self.old }
+        ensures word { MatchOption result (self.old ≡ []) (λ w. self.old ≡ w.now ∷ self.new) }
+        ensures end { IfNone result (self.new ≡ []) }
     {
         let (word, left) = first_part(self.left?);
         self.left = left;
         Some(word)
+    }
+
+    /// Nothing, if no word is left.
+    pub(crate) fn none(mut self) -> Result<(), BadWord>
+        ensures { result ≡ none self.entry }
+    {
+        match self.next() {
+            None => Ok(()),
+            Some(_) => Err(BadWord::Count),
+        }
+    }
+
+    /// The words that are left, if they are two.
+    pub(crate) fn two(mut self) -> Result<(&'a [u8], &'a [u8]), BadWord>
+        ensures { Gives (λ x. (x.0.now, x.1.now)) result (two self.entry) }
+    {
+        match (self.next(), self.next(), self.next()) {
+            (Some(first), Some(second), None) => Ok((first, second)),
+            _ => Err(BadWord::Count),
+        }
+    }
+
+    /// The words that are left, if they are three.
+    pub(crate) fn three(mut self) -> Result<(&'a [u8], &'a [u8], &'a [u8]), BadWord>
+        ensures { Gives (λ x. (x.0.now, x.1.now, x.2.now)) result (three self.entry) }
+    {
+        match (self.next(), self.next(), self.next(), self.next()) {
+            (Some(first), Some(second), Some(third), None) => Ok((first, second, third)),
+            _ => Err(BadWord::Count),
+        }
     }
 }
