@@ -4,6 +4,7 @@
 #![tactic(auto)]
 
 mod bad_word;
+mod form;
 mod line;
 mod lines;
 mod numbers;
