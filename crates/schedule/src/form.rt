@@ -14,15 +14,26 @@ use ff_ids::{Mask, NoteBody, RingNo};
 pub(crate) fn line_word(word: &[u8]) -> Result<LineWord, BadWord>
     ensures { result ≡ line_word word.now }
 {
-    match word {
-        b"group" => Ok(LineWord::Group),
-        b"member" => Ok(LineWord::Member),
-        b"note" => Ok(LineWord::Note),
-        b"view" => Ok(LineWord::View),
-        b"monitor" => Ok(LineWord::Monitor),
-        b"end" => Ok(LineWord::End),
-        b"accuse" | b"tick" | b"life" => Err(BadWord::NotBuilt),
-        _ => Err(BadWord::Word),
+    if word == b"group".as_slice() {
+        Ok(LineWord::Group)
+    } else if word == b"member".as_slice() {
+        Ok(LineWord::Member)
+    } else if word == b"note".as_slice() {
+        Ok(LineWord::Note)
+    } else if word == b"view".as_slice() {
+        Ok(LineWord::View)
+    } else if word == b"monitor".as_slice() {
+        Ok(LineWord::Monitor)
+    } else if word == b"end".as_slice() {
+        Ok(LineWord::End)
+    } else if word == b"accuse".as_slice() {
+        Err(BadWord::NotBuilt)
+    } else if word == b"tick".as_slice() {
+        Err(BadWord::NotBuilt)
+    } else if word == b"life".as_slice() {
+        Err(BadWord::NotBuilt)
+    } else {
+        Err(BadWord::Word)
     }
 }
 
