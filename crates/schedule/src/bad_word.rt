@@ -1,8 +1,10 @@
 //! The bad words: why a line is refused.
 
 ghost use Rattle.std.specs.Prelude.{◌≡◌, Some};
+ghost use Rattle.schedule.specs.declared.bad_word.LineFault.TheVariants.{Bad, OutOfMemory};
 ghost use Rattle.schedule.specs.Texts.{bad_word_text};
 
+use std::alloc::{AllocError, AllocFailed};
 use std::fmt;
 
 /// Why a line is refused: the first of these, in this order, that holds.
@@ -65,4 +67,28 @@ pub enum LineFault {
     Bad(BadWord),
     /// The places of a `member` line found no memory.
     OutOfMemory,
+}
+
+impl From<BadWord> for LineFault {
+    ghost from_gives = { λ w e. e ≡ Bad w };
+
+    fn from(word: BadWord) -> LineFault {
+        LineFault::Bad(word)
+    }
+}
+
+impl From<AllocError> for LineFault {
+    ghost from_gives = { λ _ e. e ≡ OutOfMemory };
+
+    fn from(_refused: AllocError) -> LineFault {
+        LineFault::OutOfMemory
+    }
+}
+
+impl<T: Drop> From<AllocFailed<T>> for LineFault {
+    ghost from_gives = { λ _ e. e ≡ OutOfMemory };
+
+    fn from(_refused: AllocFailed<T>) -> LineFault {
+        LineFault::OutOfMemory
+    }
 }

@@ -7,6 +7,7 @@ mod bad_word;
 mod form;
 mod line;
 mod lines;
+mod member;
 mod numbers;
 mod words;
 
