@@ -108,7 +108,9 @@ pub(crate) fn monitor_line(t: u8, args: Words) -> Result<Line, BadWord>
 /// A line of one word.
 #[tactic(auto, unfolding(crate::specs::Grammar::lone_line))]
 pub(crate) fn lone_line(line: Line, args: Words) -> Result<Line, BadWord>
+    requires { IsBounded line }
     ensures value { result ≡ lone_line line args.entry }
+    ensures bounded { IfOk result (λ l. IsBounded l) }
 {
     args.none()?;
     Ok(line)

@@ -34,7 +34,9 @@ fn is_numeral(word: &[u8]) -> bool
 fn with_digit(number: u64, digit: u8) -> Option<u64>
     ensures { SomeIff result (10 * number + (digit - 48) < 2 ^ 64) (10 * number + (digit - 48)) }
 {
-    number.checked_mul(10)?.checked_add(u64::from(digit.saturating_sub(b'0')))
+    number
+        .checked_mul(10)?
+        .checked_add(u64::from(digit.saturating_sub(b'0')))
 }
 
 /// The number that the digits stand for, if 64 bits hold it.

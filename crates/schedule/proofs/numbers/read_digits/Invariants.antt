@@ -5,5 +5,5 @@ use Rattle.schedule.proofs.numbers.read_digits.Given as goal
 abbrev pub invariant-loop-digit : goal.invariant-loop-digit
 invariant-loop-digit l = record {
   exact : read_digits l.number (drop l.digit-index l.digits) ≡ read_digits 0 l.digits;
-  fits : l.number < 2 ^ 64
+  fits : l.number < 2 ^ 64;
 }
