@@ -1,6 +1,6 @@
 -- The lines of a schedule in the direct form: what has been read of a text, and what the next line is, or
 -- the first word of the table of bad words that holds.
-use Rattle.std.specs.Prelude.{◌≡◌, ℕ, ◌+◌, ◌*◌, ◌-◌, ◌^◌, ◌≤◌, Bool, true, false, ◌&&◌, not, nat_lt, nat_le, ◌==◌, if◌then◌else◌, List, [], ◌∷◌, length, take, slice_index, Option, Some, None, Result, Ok, Err, codes}
+use Rattle.std.specs.Prelude.{◌≡◌, ℕ, ◌+◌, ◌*◌, ◌-◌, ◌^◌, ◌≤◌, Bool, true, false, ◌&&◌, not, nat_lt, nat_le, ◌==◌, if◌then◌else◌, List, [], ◌∷◌, length, take, slice_index, Option, Some, None, Result, Ok, Err, IsOkAnd, codes}
 use Rattle.std.specs.Str.{bytes_eq}
 use Rattle.schedule.specs.declared.bad_word.BadWord.{BadWord}
 use Rattle.schedule.specs.declared.bad_word.BadWord.TheVariants as bad
@@ -243,11 +243,24 @@ after p l = record { command = p.command; number = p.number + 1; place = place_a
 
 -- ## What the reader answers
 
--- An answer, beside the judgement of the line: the same, or want of memory.
-abbrev pub Answers : {X : Type 0} → Result X BadWord → Result X LineFault → Type 0
-Answers judged (Ok l) = judged ≡ Ok l
-Answers judged (Err (faults.Bad w)) = judged ≡ Err w
-Answers judged (Err faults.OutOfMemory) = Unit {0}
+-- An answer, beside the judgement: the same; or want of memory, where it is a value that takes some.
+abbrev pub AnswersBy : {X : Type 0} → (X → Type 0) → Result X BadWord → Result X LineFault → Type 0
+AnswersBy Takes judged (Ok x) = judged ≡ Ok x
+AnswersBy Takes judged (Err (faults.Bad w)) = judged ≡ Err w
+AnswersBy Takes judged (Err faults.OutOfMemory) = IsOkAnd judged Takes
+
+abbrev pub TakesMemory : Line → Type 0
+TakesMemory lines.Header = ⊥
+TakesMemory (lines.Group t timeout) = ⊥
+TakesMemory (lines.Member m ps) = Unit {0}
+TakesMemory (lines.Note n) = ⊥
+TakesMemory lines.View = ⊥
+TakesMemory (lines.Monitor r m) = ⊥
+TakesMemory lines.End = ⊥
+
+-- An answer for a line: want of memory comes only where the line is a good one, of a member.
+abbrev pub Answers : Result Line BadWord → Result Line LineFault → Type 0
+Answers judged answer = AnswersBy TakesMemory judged answer
 
 -- What a function returned, seen by view, is what the definition gives.
 abbrev pub Gives : {X Y : Type 0} → (X → Y) → Result X BadWord → Result Y BadWord → Type 0

@@ -1,6 +1,6 @@
 //! The reader of lines.
 
-ghost use Rattle.std.specs.Prelude.{◌≡◌, ◌≤◌, ◌+◌, ◌↔◌, IsOk, IfErr, IfOk, OnOk};
+ghost use Rattle.std.specs.Prelude.{◌≡◌, ◌≤◌, ◌+◌, is_ok, IfErr, IfOk, OnOk};
 ghost use Rattle.schedule.specs.Words.{words_of};
 ghost use Rattle.schedule.specs.Grammar.{IsSound, IsBounded, Answers, opening, tolerance, has_line_feed, before_line_feed, header_line, line_of, body_line, words_line, judge, after, place_after, progress_after, is_start, is_ended};
 
@@ -189,7 +189,7 @@ impl Lines {
 
     /// Ends the text: refused with `end` where no line `end` was read.
     pub fn end(&self) -> Result<(), LineFault>
-        ensures ended { IsOk result ↔ (self.now.place ≡ Place.Ended) }
+        ensures ended { is_ok result ≡ is_ended self.now.place }
         ensures missing { IfErr result (λ e. e ≡ LineFault.Bad BadWord.End) }
     {
         if self.progress.place == Place::Ended {

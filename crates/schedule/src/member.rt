@@ -1,7 +1,7 @@
 //! The `member` line, the only one that takes memory.
 
-ghost use Rattle.std.specs.Prelude.{◌≡◌, ◌≤◌, IfOk};
-ghost use Rattle.schedule.specs.Grammar.{Answers, IsBounded, place_numbers, member_of, member_line};
+ghost use Rattle.std.specs.Prelude.{◌≡◌, IsOk, IfOk, MatchResult, ⊤};
+ghost use Rattle.schedule.specs.Grammar.{AnswersBy, Answers, IsBounded, place_numbers, member_of, member_line};
 
 use crate::bad_word::{BadWord, LineFault};
 use crate::line::{Line, PlaceList};
@@ -9,10 +9,21 @@ use crate::numbers::{member_number, number_32};
 use crate::words::Words;
 use std::alloc::Global;
 
-/// The places that the words spell.
-fn place_numbers(alloc: Global, mut words: Words) -> Result<PlaceList, LineFault>
-    ensures { Answers (place_numbers words.entry) result }
+/// The first bad word of the places that the words spell.
+fn check_places(mut words: Words) -> Result<(), BadWord>
+    ensures { MatchResult result (λ _. IsOk (place_numbers words.entry)) (λ w. place_numbers words.entry ≡ Err w) }
 {
+    while let Some(word) = words.next() {
+        number_32(word)?;
+    }
+    Ok(())
+}
+
+/// The places that the words spell. They are read before memory is asked for.
+fn place_numbers(alloc: Global, mut words: Words) -> Result<PlaceList, LineFault>
+    ensures { AnswersBy (λ _. ⊤) (place_numbers words.entry) result }
+{
+    check_places(words.again())?;
     let mut places = Vec::with_capacity(alloc, words.count())?;
     while let Some(word) = words.next() {
         let place = number_32(word)?;

@@ -70,6 +70,13 @@ impl<'a> Words<'a> {
         }
     }
 
+    /// The same words.
+    pub(crate) fn again(&self) -> Words<'a>
+        ensures { result ≡ self.now }
+    {
+        Words { left: self.left }
+    }
+
     /// How many words are left.
     pub(crate) fn count(&self) -> usize
         ensures { result ≡ length self.now }
