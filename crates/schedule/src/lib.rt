@@ -14,3 +14,6 @@ mod words;
 pub use bad_word::{BadWord, LineFault};
 pub use line::{Command, Line, Place, PlaceList, Progress};
 pub use lines::Lines;
+
+#[cfg(test)]
+mod tests;
