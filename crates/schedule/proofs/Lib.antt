@@ -1,0 +1,3 @@
+mod Rows
+pub mod NumberLemmas
+pub mod WordLemmas

@@ -1,0 +1,101 @@
+//! The lines that are read, and what is kept between them.
+
+ghost use Rattle.std.specs.Prelude.{◌≡◌};
+
+use ff_ids::{MemberId, NoteBody, RingNo};
+use std::marker::Model;
+
+/// The command whose text is read.
+#[derive(Clone, Copy, Debug, PartialEq, Eq)]
+pub enum Command {
+    /// A schedule.
+    Replay,
+}
+
+/// One line of a schedule in the direct form.
+#[derive(Debug, Drop)]
+pub enum Line {
+    /// `fireflies 1 direct`
+    Header,
+    /// `group T TIMEOUT`: the tolerance, 1 to 15, and the timeout in ticks, 1 to 10,000.
+    Group { t: u8, timeout: u32 },
+    /// `member M P0 P1 ..`: a member, and its place on each of the 2t+1 rings.
+    Member { member: MemberId, places: PlaceList },
+    /// `note M EPOCH MASK`
+    Note(NoteBody),
+    /// `view`
+    View,
+    /// `monitor RING M`: the ring is 0 to 2t.
+    Monitor { ring: RingNo, member: MemberId },
+    /// `end`
+    End,
+}
+
+/// The places of a member, one for each ring from ring 0 on. Contracts see the list of them.
+#[derive(Debug, Drop)]
+pub struct PlaceList {
+    places: Vec<u32>,
+}
+
+impl Model for PlaceList {
+    ghost use Rattle.std.specs.Prelude.{ℕ, List};
+
+    ghost Value = { List ℕ };
+
+    ghost view = { λ p. p.places.items };
+}
+
+impl PlaceList {
+    pub fn new(places: Vec<u32>) -> PlaceList
+        ensures { result ≡ places.items }
+    {
+        PlaceList { places }
+    }
+
+    pub fn as_slice(&self) -> &[u32]
+        ensures { result.now ≡ self.now }
+    {
+        self.places.as_slice()
+    }
+
+    pub fn into_vec(self) -> Vec<u32>
+        ensures { result.items ≡ self }
+    {
+        self.places
+    }
+}
+
+/// Where in the text the next line stands.
+#[derive(Clone, Copy, Debug, PartialEq, Eq)]
+pub enum Place {
+    /// It is the header.
+    Start,
+    /// The header was read, and the group comes next.
+    Headed,
+    /// Below the group, whose tolerance is `t`.
+    Body { t: u8 },
+    /// The line `end` was read.
+    Ended,
+}
+
+/// What has been read of a text.
+#[derive(Clone, Copy, Debug, PartialEq, Eq)]
+pub struct Progress {
+    pub command: Command,
+    /// The number of the next line, from 1.
+    pub number: u32,
+    pub place: Place,
+    /// The sum of the ticks so far.
+    pub ticks: u32,
+}
+
+/// The first words of the lines below the header.
+#[derive(Clone, Copy, Debug, PartialEq, Eq)]
+pub(crate) enum LineWord {
+    Group,
+    Member,
+    Note,
+    View,
+    Monitor,
+    End,
+}
