@@ -1,5 +1,5 @@
 -- Reading digits from the left.
-use Rattle.std.proofs.Common.{◌≡◌, ℕ, ◌+◌, ◌-◌, ◌*◌, ◌^◌, ◌<◌, ◌≤◌, Bool, true, false, List, [], ◌∷◌, length, drop, get_or, Option, Some, None, sym, ap, ◌∙◌, refl, arith, le-ltb, lt-ltb, add-one, drop-cons}
+use Rattle.std.proofs.Common.{◌≡◌, ℕ, ◌+◌, ◌-◌, ◌*◌, ◌^◌, ◌<◌, ◌≤◌, List, [], ◌∷◌, length, drop, get_or, Some, None, sym, ◌∙◌, refl, arith, le-ltb, lt-ltb, add-one, drop-cons}
 use Rattle.std.proofs.lemmas.List.{at_drop_all}
 use Rattle.schedule.specs.Numbers.{read_digits, fits_64}
 

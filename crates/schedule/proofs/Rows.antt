@@ -1,4 +1,4 @@
-use Rattle.std.proofs.Common.{◌≡◌, ℕ, ◌++◌, [], ◌∷◌, Ok, Err, refl, List, codes}
+use Rattle.std.proofs.Common.{◌≡◌, ℕ, ◌++◌, [], ◌∷◌, Ok, Err, refl, codes}
 use Rattle.schedule.specs.declared.bad_word.BadWord.TheVariants as bad
 use Rattle.schedule.specs.declared.line.Line.TheVariants as lines
 use Rattle.schedule.specs.declared.line.Place.TheVariants as places

@@ -2,3 +2,4 @@ pub mod Texts
 pub mod Words
 pub mod Numbers
 pub mod Grammar
+pub mod Fits

@@ -156,6 +156,8 @@ impl Model for Lines {
 }
 
 impl Lines {
+    ghost use Rattle.schedule.specs.Fits.{IsRead};
+
     /// A reader that has read nothing.
     pub fn open(command: Command) -> Lines
         ensures { result ≡ opening command }
@@ -170,12 +172,20 @@ impl Lines {
         }
     }
 
+    /// The number of the next line, from 1 on.
+    pub fn number(&self) -> u32
+        ensures { result ≡ self.now.number }
+    {
+        self.progress.number
+    }
+
     /// Reads the next line: its bytes up to and including its line feed. Where the input ends inside the
     /// line, it is what is left; and where more than 65,600 bytes stand before the line feed or the
     /// input's end, the first 65,601 of them are enough. Only a `member` line takes memory.
     pub fn line(&mut self, alloc: Global, bytes: &[u8]) -> Result<Line, LineFault>
         ensures answer { Answers (judge self.old bytes.now) result }
         ensures progress { self.new ≡ progress_after self.old result }
+        ensures read { IfOk result (IsRead self.old bytes.now) }
     {
         let progress = self.progress;
         let line = judge(alloc, progress, bytes)?;

@@ -1,4 +1,4 @@
-use Rattle.std.proofs.Common.{◌≡◌, ◌+◌, ◌-◌, ◌*◌, ◌^◌, ◌≤◌, drop, get_or, None, arith, rules}
+use Rattle.std.proofs.Common.{◌≡◌, ◌+◌, ◌-◌, ◌*◌, drop, get_or, None, arith}
 use Rattle.std.proofs.lemmas.Grind.{common_steps}
 use Rattle.schedule.specs.Numbers.{read_digits, fits_64}
 use Rattle.schedule.proofs.NumberLemmas.{read_digits-drop, read_digits-ge, fits_64-large, fits_64-all}

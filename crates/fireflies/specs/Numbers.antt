@@ -1,0 +1,12 @@
+-- The numbers with which the program exits.
+use Rattle.std.specs.Prelude.{ℕ}
+use Rattle.fireflies.specs.declared.status.Status.{Status}
+use Rattle.fireflies.specs.declared.status.Status.TheVariants as status
+
+abbrev pub status_number : Status → ℕ
+status_number status.Ok = 0
+status_number status.Usage = 2
+status_number (status.BadInput line _) = 3
+status_number status.ReadFault = 5
+status_number status.WriteFault = 6
+status_number status.OutOfMemory = 11

@@ -1,0 +1,96 @@
+// The top call.
+
+ghost use Rattle.std.specs.Prelude.{◌≡◌, ◌≢◌, ℕ, ◌≤◌, ◌⊎◌, ◌↔◌, true, false, List, map, Option, IfOk, string_bytes};
+ghost use Rattle.ports.specs.Count.{Rose};
+ghost use Rattle.replay.specs.Stops.{owed_at_first, StopsBy};
+ghost use Rattle.trace.specs.Played.{Trace, refusal};
+ghost use Rattle.fireflies.specs.Ends.{is_replay, Ends};
+
+use crate::status::Status;
+use fields::NoMemory;
+use ports::{Clock, Disk, Link, Sink, Source, write_all};
+use replay::{Stop, replay};
+use schedule::BadWord;
+use std::alloc::Global;
+
+/// Whether the words are those of the command `replay`.
+fn asks_for_replay(words: &[String]) -> bool
+    ensures { result ≡ is_replay (map string_bytes words.now) }
+{
+    match words {
+        [word] => word.as_str() == "replay",
+        _ => false,
+    }
+}
+
+/// The line that says which line is refused, and for which word.
+fn refusal_line(alloc: Global, line: u32, word: BadWord) -> Result<String, NoMemory>
+    ensures { IfOk result (λ text. string_bytes text ≡ refusal (line, word)) }
+{
+    Ok(format!(in alloc; "bad {line} {word}\n")?)
+}
+
+/// Writes the line that gives the cause of a stop, if it has one, and answers how the run ended.
+fn give_cause<O: Sink>(alloc: Global, out: &mut O, stop: Stop) -> Status
+    ensures sink { O.faults out.old ≤ O.faults out.new }
+    ensures read_fault { result ≡ Status.ReadFault → stop ≡ Stop.ReadFault }
+    ensures write_fault { result ≡ Status.WriteFault → (stop ≡ Stop.WriteFault) ⊎ Rose (O.faults out.old) (O.faults out.new) }
+    ensures command { result ≢ Status.Usage }
+    ensures ends { (t : Option Trace) (left : Option (List ℕ)) (before later : ℕ) → (stop ≡ Stop.ReadFault → Rose before later)
+        → StopsBy t (O.taken out.old) stop → Ends t (O.taken out.new) left before later result }
+{
+    match stop {
+        Stop::Bad { line, word } => match refusal_line(alloc, line, word) {
+            Ok(text) => match write_all(out, text.as_bytes()) {
+                Ok(()) => Status::BadInput { line, word },
+                Err(_) => Status::WriteFault,
+            },
+            Err(NoMemory) => Status::OutOfMemory,
+        },
+        Stop::ReadFault => match write_all(out, b"read fault\n") {
+            Ok(()) => Status::ReadFault,
+            Err(_) => Status::WriteFault,
+        },
+        Stop::WriteFault => Status::WriteFault,
+        Stop::OutOfMemory => Status::OutOfMemory,
+    }
+}
+
+/// Runs the command that the words name, from the source to the sink. The first cause that comes in the run
+/// ends it, and its line is the last that is written.
+pub fn run<S: Source, O: Sink, D: Disk, L: Link, C: Clock>(
+    alloc: Global,
+    words: &[String],
+    input: &mut S,
+    out: &mut O,
+    disk: &mut D,
+    link: &mut L,
+    clock: &mut C,
+) -> Status
+    // The words alone decide whether there is a command; without one nothing is touched.
+    ensures usage { (result ≡ Status.Usage) ↔ (is_replay (map string_bytes words.now) ≡ false) }
+    ensures untouched { result ≡ Status.Usage → (input.new ≡ input.old) × (out.new ≡ out.old) }
+
+    // What is written, by how the run ended.
+    ensures ends { is_replay (map string_bytes words.now) ≡ true → Ends (owed_at_first (O.taken out.old) (S.left input.old)) (O.taken out.new)
+        (S.left input.new) (S.faults input.old) (S.faults input.new) result }
+
+    // A fault of the source or the sink is answered only where its count rose in this call.
+    ensures source { S.faults input.old ≤ S.faults input.new }
+    ensures sink { O.faults out.old ≤ O.faults out.new }
+    ensures read_fault { result ≡ Status.ReadFault → Rose (S.faults input.old) (S.faults input.new) }
+    ensures write_fault { result ≡ Status.WriteFault → Rose (O.faults out.old) (O.faults out.new) }
+
+    // No command uses a disk, a link or a clock yet.
+    ensures disk { disk.new ≡ disk.old }
+    ensures link { link.new ≡ link.old }
+    ensures clock { clock.new ≡ clock.old }
+{
+    if !asks_for_replay(words) {
+        return Status::Usage;
+    }
+    match replay(alloc, input, out) {
+        Ok(()) => Status::Ok,
+        Err(stop) => give_cause(alloc, out, stop),
+    }
+}

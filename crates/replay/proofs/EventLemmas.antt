@@ -1,0 +1,118 @@
+-- What an event on the kept life makes of the recorded one.
+use Rattle.std.proofs.Common.{◌≡◌, ℕ, Bool, true, false, cond, List, [], ◌∷◌, ◌++◌, Option, Some, None, Result, Ok, Err, refl, ap, sym, ◌∙◌, subst, append_assoc, ◌+◌, add-one, zero-add}
+use Rattle.std.specs.Prelude.{codes}
+use Rattle.std.specs.List.{filter, range_with_len}
+use Rattle.ff_ids.proofs.MaskLemmas.{range_with_len-push}
+use Rattle.std.specs.Result.{OnErr, OnOk, result_err}
+use Rattle.std.proofs.lemmas.List.{append-nil}
+use Rattle.std.proofs.lemmas.Bool.{cond-false, cond-true}
+use Rattle.ff_ids.specs.declared.Fault.{Fault}
+use Rattle.ff_ids.specs.declared.Fault.TheVariants as faults
+use Rattle.ff_ids.specs.Steps.{Event, Joins, Stepped, joined, unchanged, unless_fault}
+use Rattle.ff_ids.specs.Texts.{fault_text}
+use Rattle.ff_ids.specs.Views.{State, all_numbers, in_view, is_member, view}
+use Rattle.membership.specs.Holds.{Holds}
+use Rattle.membership.specs.Life as kept
+use Rattle.membership.specs.Reports.{Answers, Report, Reports, join_fault, nothing, report_of}
+use Rattle.trace.specs.Answers.{Recorded, events_of, events_text, state_of, stepped, taken, verdict_on_joining}
+use Rattle.trace.proofs.LifeLemmas.{state_of-with_event}
+use Rattle.replay.specs.declared.life.Life.{Life}
+use Rattle.replay.specs.Plays.{PlaysOne, Tells}
+use Rattle.replay.specs.Reported.{events_in}
+
+-- What a call on the kept life did: the answer is the fault of the rules, and the life and the report are those of
+-- the step.
+pub record IsStepped (fault : Option Fault) (step : Stepped) (answer : Result (Unit {0}) Fault) (later : kept.Life) (report : Report) : Type 0 where
+  pub answered : result_err answer ≡ fault
+  pub holds : Holds later step.state
+  pub reported : report ≡ report_of step
+
+pub note-stepped : (fault : Option Fault) (s : State) (next : Stepped) (answer : Result (Unit {0}) Fault) (old later : kept.Life) (report : Report) → Holds old s → Answers fault answer → OnOk answer (Holds later next.state) → OnOk answer (Reports report next) → OnErr answer (later ≡ old) → OnErr answer (report ≡ nothing) → IsStepped fault (unless_fault fault s next) answer later report
+note-stepped None s next answer old later report holds answered ok reported same emptied =
+    let P : Result (Unit {0}) Fault → Type 0 = λ r. OnOk r (Holds later next.state) in
+    let Q : Result (Unit {0}) Fault → Type 0 = λ r. OnOk r (Reports report next) in
+    record { answered = ap result_err answered; holds = subst P answered ok; reported = subst Q answered reported }
+note-stepped (Some fault) s next answer old later report holds answered ok reported same emptied =
+    let P : Result (Unit {0}) Fault → Type 0 = λ r. OnErr r (later ≡ old) in
+    let Q : Result (Unit {0}) Fault → Type 0 = λ r. OnErr r (report ≡ nothing) in
+    record {
+      answered = ap result_err answered;
+      holds = subst (λ (l : kept.Life). Holds l s) (sym (subst P answered same)) holds;
+      reported = subst Q answered emptied;
+    }
+
+regroup : (old colon verdict feed events : List ℕ) → (old ++ colon ++ verdict ++ feed ++ events) ≡ old ++ (colon ++ verdict ++ feed ++ events)
+regroup old colon verdict feed events = simp append_assoc
+
+-- A step on the life, and what is written for it, is the answer of the line.
+pub tells-step : (life : Life) (r : Recorded) (e : Event) (verdict : List ℕ) (later : kept.Life) (report : Report) (moment : ℕ) (old new : List ℕ) → PlaysOne life r → later.group ≡ life.membership.group → Holds later (stepped r e).state → report ≡ report_of (stepped r e) → moment ≡ (stepped r e).state.moment → new ≡ old ++ codes " : " ++ verdict ++ 10 ∷ [] ++ events_text (events_in moment report) → Tells (taken r e verdict) (record { number = life.number; membership = later; changes = report }) old new
+tells-step life r e verdict later report moment old new plays group holds reported at text =
+    let events : events_in moment report ≡ events_of (stepped r e) =
+    ap (events_in moment) reported ∙ ap (λ (m : ℕ). events_in m (report_of (stepped r e))) at in
+    record {
+      plays = record {
+        group = group ∙ plays.group;
+        number = plays.number;
+        holds = subst (Holds later) (sym (state_of-with_event r e)) holds;
+      };
+      text = text ∙ ap (λ es. old ++ codes " : " ++ verdict ++ 10 ∷ [] ++ events_text es) events
+          ∙ regroup old (codes " : ") verdict (10 ∷ []) (events_text (events_of (stepped r e)));
+    }
+
+free : (b : Bool) (answer : Result (Unit {0}) Fault) → Answers (cond b (Some faults.AlreadyMember) None) answer → answer ≡ Ok tt → b ≡ false
+free true answer answered ok = cc
+free false answer answered ok = refl
+
+known : (b : Bool) (answer : Result (Unit {0}) Fault) (fault : Fault) → Answers (cond b (Some faults.AlreadyMember) None) answer → answer ≡ Err fault → (b ≡ true) × (fault ≡ faults.AlreadyMember)
+known true answer fault answered err = (refl, cc)
+known false answer fault answered err = cc
+
+-- A number joins that had not joined.
+pub tells-joined : (life : Life) (r : Recorded) (m : ℕ) (places : List (List ℕ)) (answer : Result (Unit {0}) Fault) (later : kept.Life) (old new : List ℕ) → PlaysOne life r → Answers (join_fault (state_of r) m) answer → answer ≡ Ok tt → Holds later (joined (state_of r) m places) → later.group ≡ life.membership.group → new ≡ old ++ (codes " : joined" ++ 10 ∷ []) → Tells (taken r (Joins m places) (verdict_on_joining (is_member (state_of r) m))) (record { number = life.number; membership = later; changes = life.changes }) old new
+tells-joined life r m places answer later old new plays answered ok holds group text =
+    let s = state_of r in
+    let new_one = free (is_member s m) answer answered ok in
+    let is : stepped r (Joins m places) ≡ unchanged (joined s m places) = cond-false (is_member s m) (unchanged s) (unchanged (joined s m places)) new_one in
+    let said : verdict_on_joining (is_member s m) ≡ codes "joined" = ap verdict_on_joining new_one in
+    record {
+      plays = record {
+        group = group ∙ plays.group;
+        number = plays.number;
+        holds = subst (Holds later) (sym (state_of-with_event r (Joins m places) ∙ ap (λ (x : Stepped). x.state) is)) holds;
+      };
+      text = text ∙ sym (ap (λ (v : List ℕ). old ++ (codes " : " ++ v ++ 10 ∷ [] ++ events_text (events_of (stepped r (Joins m places))))) said
+          ∙ ap (λ (x : Stepped). old ++ (codes " : " ++ codes "joined" ++ 10 ∷ [] ++ events_text (events_of x))) is);
+    }
+
+-- A number comes again.
+pub tells-known : (life : Life) (r : Recorded) (m : ℕ) (places : List (List ℕ)) (answer : Result (Unit {0}) Fault) (fault : Fault) (later : kept.Life) (old new : List ℕ) → PlaysOne life r → Answers (join_fault (state_of r) m) answer → answer ≡ Err fault → later ≡ life.membership → new ≡ old ++ codes " : " ++ (codes "refused " ++ fault_text fault) ++ 10 ∷ [] → Tells (taken r (Joins m places) (verdict_on_joining (is_member (state_of r) m))) (record { number = life.number; membership = later; changes = life.changes }) old new
+tells-known life r m places answer fault later old new plays answered err same text =
+    let s = state_of r in
+    let again = known (is_member s m) answer fault answered err in
+    let is : stepped r (Joins m places) ≡ unchanged s = cond-true (is_member s m) (unchanged s) (unchanged (joined s m places)) again.0 in
+    let said : verdict_on_joining (is_member s m) ≡ codes "refused " ++ fault_text fault =
+    ap verdict_on_joining again.0 ∙ ap (λ (f : Fault). codes "refused " ++ fault_text f) (sym again.1) in
+    record {
+      plays = record {
+        group = ap (λ (l : kept.Life). l.group) same ∙ plays.group;
+        number = plays.number;
+        holds = subst (Holds later) (sym (state_of-with_event r (Joins m places) ∙ ap (λ (x : Stepped). x.state) is)) (subst (λ (l : kept.Life). Holds l s) (sym same) plays.holds);
+      };
+      text = text
+          ∙ sym (append-nil (old ++ codes " : " ++ (codes "refused " ++ fault_text fault) ++ 10 ∷ []))
+          ∙ regroup old (codes " : ") (codes "refused " ++ fault_text fault) (10 ∷ []) []
+          ∙ sym (ap (λ (v : List ℕ). old ++ (codes " : " ++ v ++ 10 ∷ [] ++ events_text (events_of (stepped r (Joins m places))))) said
+          ∙ ap (λ (x : Stepped). old ++ (codes " : " ++ (codes "refused " ++ fault_text fault) ++ 10 ∷ [] ++ events_text (events_of x))) is);
+    }
+
+-- the numbers below the next one
+pub range_with_len-next : (n : ℕ) → range_with_len 0 (n + 1) ≡ range_with_len 0 n ++ n ∷ []
+range_with_len-next n = rw add-one (range_with_len-push 0 n ∙ ap (λ (k : ℕ). range_with_len 0 n ++ k ∷ []) (zero-add n))
+
+numbers-all : range_with_len 0 1024 ≡ all_numbers
+unfolding all_numbers
+numbers-all = refl
+
+-- the view goes over all numbers
+pub view-all : (s : State) (n : ℕ) → n ≡ 1024 → filter (in_view s) (range_with_len 0 n) ≡ view s
+view-all s n e = ap (λ (k : ℕ). filter (in_view s) (range_with_len 0 k)) e ∙ ap (filter (in_view s)) numbers-all

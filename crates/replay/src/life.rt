@@ -1,0 +1,180 @@
+// The life that is being recorded, and what a line brings to it. What is written behind a line goes to the
+// end of a text, as `specs/` of the trace says.
+
+ghost use Rattle.std.specs.Prelude.{◌≡◌, ◌<◌, ◌≤◌, ◌++◌, ◌∷◌, [], ℕ, List, Option, IfOk, OnOk, length, codes, filter};
+ghost use Rattle.std.specs.List.{range_with_len};
+ghost use Rattle.ff_ids.specs.Faults.{note_fault};
+ghost use Rattle.ff_ids.specs.Masks.{ring_count};
+ghost use Rattle.ff_ids.specs.Steps.{Stepped};
+ghost use Rattle.ff_ids.specs.Texts.{fault_text};
+ghost use Rattle.ff_ids.specs.Views.{State, in_view, view};
+ghost use Rattle.journal.specs.Events.{members_text};
+ghost use Rattle.membership.specs.Holds.{Holds};
+ghost use Rattle.membership.specs.Reports.{Reports};
+ghost use Rattle.trace.specs.Answers.{Recorded, answer as answer_to, answer_in, answer_text, events_of, events_text, first_life, monitor_answer, plain_group, verdict_on};
+ghost use Rattle.replay.specs.Plays.{Plays, PlaysOne, Tells, FitsLife, FitsOn};
+ghost use Rattle.replay.specs.Reported.{events_in};
+
+use crate::report::{Fate, Way, add, add_accusations, add_members, add_verdict};
+use ff_ids::{Fault, Group, MemberId, NoteBody, RingNo};
+use fields::NoMemory;
+use journal::{write_members, write_monitor};
+use membership::{Changes, Membership};
+use ring_order::number_places;
+use schedule::{Line, PlaceList};
+use std::alloc::Global;
+
+/// How many member numbers there are.
+const NUMBERS: u16 = 1024;
+
+/// A life, its number from 1 on, and room for what a step reports.
+#[derive(Drop)]
+pub struct Life {
+    pub number: u64,
+    pub membership: Membership,
+    pub changes: Changes,
+}
+
+/// Adds a line for each event of a report, in order.
+fn add_report(text: &mut Vec<u8>, moment: u64, report: &Changes) -> Result<(), NoMemory>
+    ensures { OnOk result (text.new.items ≡ text.old.items ++ events_text (events_in moment report.now)) }
+{
+    add_accusations(text, moment, report.expired(), Fate::Expired)?;
+    add_members(text, moment, report.removed(), Way::Out)?;
+    add_members(text, moment, report.entered(), Way::In)?;
+    add_accusations(text, moment, report.fell(), Fate::Fell)
+}
+
+/// The members of the view, in order of number.
+fn members_in_view(alloc: Global, membership: &Membership) -> Result<Vec<MemberId>, NoMemory>
+    ensures { (s : State) → Holds membership.now s → IfOk result (λ v. v.items ≡ view s) }
+{
+    let mut members = Vec::new(alloc);
+    for number in 0..NUMBERS {
+        let member = MemberId::new(number);
+        if membership.in_view(member) {
+            members.push(member)?;
+        }
+    }
+    Ok(members)
+}
+
+impl Life {
+    /// The first life of a group of tolerance `t`.
+    fn first(alloc: Global, t: u8, timeout: u32) -> Result<Life, NoMemory>
+        requires { t ≤ 15 }
+        ensures { IfOk result (λ life. PlaysOne life (first_life (plain_group t timeout))) }
+    {
+        let group = Group {
+            tag: [0; 16],
+            t,
+            timeout,
+            period: 1,
+            misses: 1,
+        };
+        Ok(Life {
+            number: 1,
+            membership: Membership::open(alloc, group)?,
+            changes: Changes::new(alloc)?,
+        })
+    }
+
+    /// A member joins.
+    fn join(
+        &mut self,
+        member: MemberId,
+        places: &PlaceList,
+        text: &mut Vec<u8>,
+    ) -> Result<(), NoMemory>
+        requires rings { length places.now ≡ ring_count self.old.membership.group.t }
+        requires few { length places.now ≤ 31 }
+        ensures { (r : Recorded) → PlaysOne self.old r → OnOk result (Tells (answer_in r (Line.Member member places.now)) self.new text.old.items text.new.items) }
+    {
+        match self
+            .membership
+            .add_member(member, number_places(places.as_slice()))
+        {
+            Ok(()) => add(text, b" : joined\n"),
+            Err(fault) => {
+                add_verdict(text, Some(fault))?;
+                add(text, b"\n")
+            }
+        }
+    }
+
+    /// A note comes.
+    fn take_note(&mut self, note: NoteBody, text: &mut Vec<u8>) -> Result<(), NoMemory>
+        ensures { (r : Recorded) → PlaysOne self.old r → OnOk result (Tells (answer_in r (Line.Note note)) self.new text.old.items text.new.items) }
+    {
+        let verdict = self.membership.put_note(note, &mut self.changes);
+        add_verdict(text, verdict.err())?;
+        add(text, b"\n")?;
+        add_report(text, self.membership.now(), &self.changes)
+    }
+
+    /// The view is asked for.
+    fn tell_view(&self, alloc: Global, text: &mut Vec<u8>) -> Result<(), NoMemory>
+        ensures { (r : Recorded) → PlaysOne self.now r → OnOk result (Tells (answer_in r Line.View) self.now text.old.items text.new.items) }
+    {
+        let members = members_in_view(alloc, &self.membership)?;
+        add(text, b" : ")?;
+        write_members(&members, text)?;
+        add(text, b"\n")
+    }
+
+    /// The monitor of a member is asked for.
+    fn tell_monitor(
+        &self,
+        ring: RingNo,
+        member: MemberId,
+        text: &mut Vec<u8>,
+    ) -> Result<(), NoMemory>
+        requires { ring.0 < ring_count self.now.membership.group.t }
+        ensures { (r : Recorded) → PlaysOne self.now r → OnOk result (Tells (answer_in r (Line.Monitor ring member)) self.now text.old.items text.new.items) }
+    {
+        if self.membership.is_member(member) {
+            add(text, b" : ")?;
+            write_monitor(self.membership.monitor(ring, member), text)?;
+        } else {
+            add_verdict(text, Some(Fault::UnknownMember))?;
+        }
+        add(text, b"\n")
+    }
+
+    /// Runs a line below that of the group.
+    fn answer(&mut self, alloc: Global, line: Line, text: &mut Vec<u8>) -> Result<(), NoMemory>
+        requires { FitsLife self.old line }
+        ensures { (r : Recorded) → PlaysOne self.old r → OnOk result (Tells (answer_in r line) self.new text.old.items text.new.items) }
+    {
+        match line {
+            Line::Header | Line::Group { .. } | Line::End => add(text, b"\n"),
+            Line::Member { member, places } => self.join(member, &places, text),
+            Line::Note(note) => self.take_note(note, text),
+            Line::View => self.tell_view(alloc, text),
+            Line::Monitor { ring, member } => self.tell_monitor(ring, member, text),
+        }
+    }
+}
+
+/// Runs a line, and adds its verdict, a line feed and a line for each event to the text. The line of the group
+/// begins the first life.
+pub fn answer(
+    alloc: Global,
+    life: &mut Option<Life>,
+    line: Line,
+    text: &mut Vec<u8>,
+) -> Result<(), NoMemory>
+    requires { FitsOn life.old line }
+    ensures plays { (r : Option Recorded) → Plays life.old r → OnOk result (Plays life.new (answer_to r line).recorded) }
+    ensures text { (r : Option Recorded) → Plays life.old r → OnOk result (text.new.items ≡ text.old.items ++ answer_text (answer_to r line)) }
+{
+    match life {
+        Some(life) => life.answer(alloc, line, text),
+        None => {
+            if let Line::Group { t, timeout } = line {
+                *life = Some(Life::first(alloc, t, timeout)?);
+            }
+            add(text, b"\n")
+        }
+    }
+}

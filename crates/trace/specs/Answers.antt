@@ -1,0 +1,117 @@
+-- Answers: what a line of a recorded text brings, by the rules of membership.
+use Rattle.std.specs.Prelude.{ℕ, ◌-◌, Bool, true, false, List, [], ◌∷◌, ◌++◌, Option, Some, None, map, flat_map, replicate, codes, if◌then◌else◌, take, length}
+use Rattle.ff_ids.specs.declared.Fault.{Fault}
+use Rattle.ff_ids.specs.declared.Fault.TheVariants as faults
+use Rattle.ff_ids.specs.declared.Group.{Group}
+use Rattle.ff_ids.specs.Faults.{note_fault}
+use Rattle.ff_ids.specs.Lives.{after, opening}
+use Rattle.ff_ids.specs.Steps.{Event, Joins, Notes, Stepped, step}
+use Rattle.ff_ids.specs.Texts.{fault_text, monitor_text}
+use Rattle.ff_ids.specs.Views.{Member, State, is_member, monitor, view}
+use Rattle.ring_order.specs.Rows.{place_of_number}
+use Rattle.journal.specs.declared.event.Event as reported
+use Rattle.journal.specs.declared.event.What.TheVariants as what
+use Rattle.journal.specs.Events.{event_text, members_text}
+use Rattle.schedule.specs.declared.line.Line.{Line}
+use Rattle.schedule.specs.declared.line.Line.TheVariants as lines
+
+-- A life that is being recorded: its group, its number from 1 on, who had joined as it opened, and its events so
+-- far, in the order in which they came.
+pub record Recorded : Type 0 where
+  pub group : Group
+  pub life : ℕ
+  pub members : List Member
+  pub events : List Event
+
+-- The state to which its events have brought it.
+unfoldable pub state_of : Recorded → State
+state_of r = after r.group (opening r.members) r.events
+
+-- What one more event does to it.
+abbrev pub stepped : Recorded → Event → Stepped
+stepped r e = step r.group (state_of r) e
+
+abbrev pub with_event : Recorded → Event → Recorded
+with_event r e = record r { events = r.events ++ e ∷ [] }
+
+-- What a line brings: the life after it, a verdict if the line has one, and the events that are reported
+-- under it.
+pub record Answer : Type 0 where
+  pub recorded : Option Recorded
+  pub verdict : Option (List ℕ)
+  pub events : List reported.Event
+
+-- A text of plain numbers has no tag, and says nothing of probes.
+abbrev pub plain_group : ℕ → ℕ → Group
+plain_group t timeout = record { tag = replicate 16 0; t = t; timeout = timeout; period = 1; misses = 1 }
+
+abbrev pub first_life : Group → Recorded
+first_life group = record { group = group; life = 1; members = []; events = [] }
+
+-- What a step reports, in order: expired accusations, removed members, entered ones, fallen accusations.
+abbrev pub events_of : Stepped → List reported.Event
+events_of r =
+    map (λ a. record { moment = r.state.moment; what = what.Expired a }) r.expired
+    ++ map (λ m. record { moment = r.state.moment; what = what.Removed m }) r.removed
+    ++ map (λ m. record { moment = r.state.moment; what = what.Entered m }) r.entered
+    ++ map (λ a. record { moment = r.state.moment; what = what.Fell a }) r.fell
+
+abbrev pub quiet : Option Recorded → Answer
+quiet recorded = record { recorded = recorded; verdict = None; events = [] }
+
+abbrev pub says : Recorded → List ℕ → Answer
+says r verdict = record { recorded = Some r; verdict = Some verdict; events = [] }
+
+-- The verdict on a record: accepted, or refused for its first fault.
+abbrev pub verdict_on : Option Fault → List ℕ
+verdict_on None = codes "accepted"
+verdict_on (Some fault) = codes "refused " ++ fault_text fault
+
+-- The verdict on a number that joins, by whether it has joined before.
+abbrev pub verdict_on_joining : Bool → List ℕ
+verdict_on_joining true = codes "refused " ++ fault_text faults.AlreadyMember
+verdict_on_joining false = codes "joined"
+
+-- Who monitors the member on the ring, where it has joined.
+abbrev pub monitor_answer : State → ℕ → ℕ → List ℕ
+monitor_answer s ring member =
+    if is_member s member then monitor_text (monitor s ring member) else codes "refused " ++ fault_text faults.UnknownMember
+
+-- An event with its verdict, and what it reports.
+abbrev pub taken : Recorded → Event → List ℕ → Answer
+taken r e verdict = record { recorded = Some (with_event r e); verdict = Some verdict; events = events_of (stepped r e) }
+
+abbrev pub places_at : List ℕ → List (List ℕ)
+places_at numbers = map place_of_number numbers
+
+-- What a line brings to the life that is being recorded.
+abbrev pub answer_in : Recorded → Line → Answer
+answer_in r lines.Header = quiet (Some r)
+answer_in r (lines.Group t timeout) = quiet (Some r)
+answer_in r (lines.Member member places) = taken r (Joins member (places_at places)) (verdict_on_joining (is_member (state_of r) member))
+answer_in r (lines.Note note) = taken r (Notes note) (verdict_on (note_fault r.group.t (state_of r) note))
+answer_in r lines.View = says r (members_text (view (state_of r)))
+answer_in r (lines.Monitor ring member) = says r (monitor_answer (state_of r) ring.0 member)
+answer_in r lines.End = quiet (Some r)
+
+-- What a line brings: the line of the group begins the first life.
+abbrev pub answer : Option Recorded → Line → Answer
+answer (Some r) line = answer_in r line
+answer None (lines.Group t timeout) = quiet (Some (first_life (plain_group t timeout)))
+answer None _ = quiet None
+
+abbrev pub verdict_text : Option (List ℕ) → List ℕ
+verdict_text None = []
+verdict_text (Some verdict) = codes " : " ++ verdict
+
+-- A line for each event.
+abbrev pub events_text : List reported.Event → List ℕ
+events_text events = flat_map (λ e. event_text e ++ 10 ∷ []) events
+
+-- What is written behind the text of a line: its verdict, and a line for each event.
+abbrev pub answer_text : Answer → List ℕ
+answer_text answer = verdict_text answer.verdict ++ 10 ∷ [] ++ events_text answer.events
+
+-- What is written for a line.
+abbrev pub told : List ℕ → Answer → List ℕ
+told line answer = take (length line - 1) line ++ answer_text answer
