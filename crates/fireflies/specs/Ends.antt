@@ -66,3 +66,12 @@ abbrev pub Ends : Option Trace → Option (List ℕ) → Option (List ℕ) → �
 Ends None taken left before later s = Unit {0}
 Ends (Some t) None left before later s = Unit {0}
 Ends (Some t) (Some taken) left before later s = EndsOf t taken left before later s
+
+-- The text of the trace is taken to its end.
+abbrev pub IsTaken : Option Trace → Type 0
+IsTaken None = ⊥
+IsTaken (Some t) = t.refused ≡ None
+
+-- The run came to the end of the text, or was refused memory.
+abbrev pub IsComplete : Status → Type 0
+IsComplete s = (s ≡ status.Ok) ⊎ (s ≡ status.OutOfMemory)

@@ -1,10 +1,11 @@
 // The top call.
 
-ghost use Rattle.std.specs.Prelude.{◌≡◌, ◌≢◌, ℕ, ◌≤◌, ◌⊎◌, ◌↔◌, true, false, List, map, Option, IfOk, string_bytes};
+ghost use Rattle.std.specs.Prelude.{◌≡◌, ◌≢◌, ℕ, ◌≤◌, ◌⊎◌, ◌↔◌, true, false, List, map, Option, IfOk, IfSome, string_bytes};
 ghost use Rattle.ports.specs.Count.{Rose};
 ghost use Rattle.replay.specs.Stops.{owed_at_first, StopsBy};
+ghost use Rattle.trace.specs.LivesIn.{IsUprightText};
 ghost use Rattle.trace.specs.Played.{Trace, refusal};
-ghost use Rattle.fireflies.specs.Ends.{is_replay, Ends};
+ghost use Rattle.fireflies.specs.Ends.{is_replay, Ends, IsComplete, IsTaken};
 
 use crate::status::Status;
 use fields::NoMemory;
@@ -58,6 +59,7 @@ fn give_cause<O: Sink>(alloc: Global, out: &mut O, stop: Stop) -> Status
 
 /// Runs the command that the words name, from the source to the sink. The first cause that comes in the run
 /// ends it, and its line is the last that is written.
+#[tactic(auto, using(crate::proofs::UprightLemmas::upright_left))]
 pub fn run<S: Source, O: Sink, D: Disk, L: Link, C: Clock>(
     alloc: Global,
     words: &[String],
@@ -74,6 +76,14 @@ pub fn run<S: Source, O: Sink, D: Disk, L: Link, C: Clock>(
     // What is written, by how the run ended.
     ensures ends { is_replay (map string_bytes words.now) ≡ true → Ends (owed_at_first (O.taken out.old) (S.left input.old)) (O.taken out.new)
         (S.left input.new) (S.faults input.old) (S.faults input.new) result }
+
+    // Where no line refuses the text and neither side failed, all of it is run, unless memory is refused.
+    ensures complete { is_replay (map string_bytes words.now) ≡ true → IsTaken (owed_at_first (O.taken out.old) (S.left input.old)) → IfSome (O.taken out.new)
+        (λ bytes. ¬ (Rose (S.faults input.old) (S.faults input.new)) → ¬ (Rose (O.faults out.old) (O.faults out.new)) → IsComplete result) }
+
+    // Each member that a trace of the text gives as removed was accused, by the member which that view had as
+    // its monitor on an enabled ring, and the accusation stood so and unanswered for the timeout.
+    ensures justified { IfSome (S.left input.old) IsUprightText }
 
     // A fault of the source or the sink is answered only where its count rose in this call.
     ensures source { S.faults input.old ≤ S.faults input.new }

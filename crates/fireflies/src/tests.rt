@@ -106,7 +106,7 @@ fn texts_are_played_or_refused(rt: HostRuntime) -> Result<(), Fail> {
     play_rows(&rt, rt.alloc(), &TEXTS)
 }
 
-const TEXTS: [Row; 30] = [
+const TEXTS: [Row; 36] = [
     (Front::None, SHORT, SHORT, 0),
     (Front::None, "", "bad 1 end\n", 3),
     (Front::Head, "end", "bad 3 line-feed\n", 3),
@@ -166,6 +166,17 @@ const TEXTS: [Row; 30] = [
     (Front::Head, "view\0\n", "bad 3 spaces\n", 3),
     (Front::Head, "view\u{7f}\n", "bad 3 spaces\n", 3),
     (Front::Head, "monitor 3 1\n", "bad 3 limit\n", 3),
+    (Front::Head, "tick 0\n", "bad 3 limit\n", 3),
+    (Front::Head, "tick 10001\n", "bad 3 limit\n", 3),
+    (Front::Head, "accuse 1 2 1 256\n", "bad 3 limit\n", 3),
+    (Front::Head, "accuse 1 2 0 0\n", "bad 3 limit\n", 3),
+    (
+        Front::Head,
+        "accuse 1 2 18446744073709551616 0\n",
+        "bad 3 number\n",
+        3,
+    ),
+    (Front::Head, "life 1\n", "bad 3 count\n", 3),
     (Front::Head, "group 1 3\n", "bad 3 order\n", 3),
     (Front::Head, "fireflies 1 direct\n", "bad 3 word\n", 3),
     (Front::Head, "view\nend\n", "view : nobody\nend\n", 0),
@@ -211,6 +222,84 @@ const NEWEST: [Row; 3] = [
         Front::Head,
         "member 5 50 50 50\nmember 6 50 50 50\nmember 7 60 60 60\nnote 5 1 7\nnote 6 1 7\nnote 7 1 7\nmonitor 0 6\nmonitor 0 5\nmonitor 0 7\nnote 5 18446744073709551615 7\nnote 5 18446744073709551615 7\nnote 5 1 7\nend\n",
         "member 5 50 50 50 : joined\nmember 6 50 50 50 : joined\nmember 7 60 60 60 : joined\nnote 5 1 7 : accepted\nat 0 entered 5\nnote 6 1 7 : accepted\nat 0 entered 6\nnote 7 1 7 : accepted\nat 0 entered 7\nmonitor 0 6 : 5\nmonitor 0 5 : 7\nmonitor 0 7 : 6\nnote 5 18446744073709551615 7 : accepted\nnote 5 18446744073709551615 7 : refused known\nnote 5 1 7 : refused older 18446744073709551615 7\nend\n",
+        0,
+    ),
+];
+
+#[test]
+fn accusations_and_time(rt: HostRuntime) -> Result<(), Fail> {
+    play_rows(&rt, rt.alloc(), &ACCUSED)
+}
+
+const ACCUSED: [Row; 10] = [
+    // an accusation stands for three ticks, and no fewer
+    (
+        Front::Base,
+        "accuse 1 2 1 0\ntick 2\nview\ntick 1\nview\naccuse 1 2 1 0\nend\n",
+        "accuse 1 2 1 0 : accepted\ntick 2\nview : 1 2 3\ntick 1\nat 3 expired 1 2 1 0\nat 3 removed 2\nview : 1 3\naccuse 1 2 1 0 : refused not-in-view\nend\n",
+        0,
+    ),
+    // a newer note rebuts it
+    (
+        Front::Base,
+        "accuse 1 2 1 0\ntick 2\nnote 2 2 7\ntick 5\naccuse 1 2 1 0\nview\nend\n",
+        "accuse 1 2 1 0 : accepted\ntick 2\nnote 2 2 7 : accepted\nat 2 fell 1 2 1 0\ntick 5\naccuse 1 2 1 0 : refused other-epoch 2\nview : 1 2 3\nend\n",
+        0,
+    ),
+    // a newcomer takes the place of the monitor
+    (
+        Front::Base,
+        "accuse 1 2 1 0\ntick 1\nmember 4 15 15 15\nnote 4 1 7\naccuse 1 4 1 0\ntick 3\naccuse 1 2 1 0\ntick 2\nview\ntick 1\nend\n",
+        "accuse 1 2 1 0 : accepted\ntick 1\nmember 4 15 15 15 : joined\nnote 4 1 7 : accepted\nat 1 entered 4\nat 1 fell 1 2 1 0\naccuse 1 4 1 0 : accepted\ntick 3\nat 4 expired 1 4 1 0\nat 4 removed 4\naccuse 1 2 1 0 : accepted\ntick 2\nview : 1 2 3\ntick 1\nat 7 expired 1 2 1 0\nat 7 removed 2\nend\n",
+        0,
+    ),
+    // each fault before all that come after it
+    (
+        Front::Base,
+        "note 2 2 6\naccuse 1 2 2 0\nnote 2 2 1\nnote 2 3 15\naccuse 3 2 2 1\naccuse 2 2 2 1\naccuse 1 2 2 3\naccuse 9 9 9 255\nend\n",
+        "note 2 2 6 : accepted\naccuse 1 2 2 0 : refused ring-disabled\nnote 2 2 1 : refused bad-mask\nnote 2 3 15 : refused bad-mask\naccuse 3 2 2 1 : refused not-monitor 1\naccuse 2 2 2 1 : refused self-accusation\naccuse 1 2 2 3 : refused bad-ring\naccuse 9 9 9 255 : refused unknown-member\nend\n",
+        0,
+    ),
+    // two that are due expire together
+    (
+        Front::Base,
+        "accuse 1 2 1 0\naccuse 3 1 1 0\ntick 3\nview\nend\n",
+        "accuse 1 2 1 0 : accepted\naccuse 3 1 1 0 : accepted\ntick 3\nat 3 expired 3 1 1 0\nat 3 expired 1 2 1 0\nat 3 removed 1\nat 3 removed 2\nview : 3\nend\n",
+        0,
+    ),
+    // a removed accuser accuses nobody
+    (
+        Front::Base,
+        "accuse 3 1 1 0\ntick 1\naccuse 1 2 1 0\ntick 2\nmonitor 0 2\nend\n",
+        "accuse 3 1 1 0 : accepted\ntick 1\naccuse 1 2 1 0 : accepted\ntick 2\nat 3 expired 3 1 1 0\nat 3 removed 1\nat 3 fell 1 2 1 0\nmonitor 0 2 : 3\nend\n",
+        0,
+    ),
+    // the greater mask of one epoch disables the ring
+    (
+        Front::Head,
+        "member 1 10 10 10\nmember 2 20 20 20\nmember 3 30 30 30\nnote 1 1 7\nnote 3 1 7\nnote 2 1 5\nnote 2 1 6\naccuse 1 2 1 0\nview\nend\n",
+        "member 1 10 10 10 : joined\nmember 2 20 20 20 : joined\nmember 3 30 30 30 : joined\nnote 1 1 7 : accepted\nat 0 entered 1\nnote 3 1 7 : accepted\nat 0 entered 3\nnote 2 1 5 : accepted\nat 0 entered 2\nnote 2 1 6 : accepted\naccuse 1 2 1 0 : refused ring-disabled\nview : 1 2 3\nend\n",
+        0,
+    ),
+    // what comes again is refused
+    (
+        Front::Base,
+        "note 1 1 7\nnote 1 1 7\naccuse 1 2 1 0\naccuse 1 2 1 0\naccuse 9 2 1 0\nmember 4 40 40 40\naccuse 3 4 1 0\nend\n",
+        "note 1 1 7 : refused known\nnote 1 1 7 : refused known\naccuse 1 2 1 0 : accepted\naccuse 1 2 1 0 : refused standing\naccuse 9 2 1 0 : refused unknown-member\nmember 4 40 40 40 : joined\naccuse 3 4 1 0 : refused no-note\nend\n",
+        0,
+    ),
+    // a new life keeps the members alone
+    (
+        Front::Base,
+        "accuse 1 2 1 0\ntick 1\nnote 2 2 7\nlife\nnote 1 1 7\nnote 2 1 7\nnote 3 1 7\naccuse 1 2 1 0\ntick 3\nend\n",
+        "accuse 1 2 1 0 : accepted\ntick 1\nnote 2 2 7 : accepted\nat 1 fell 1 2 1 0\nlife : 2\nnote 1 1 7 : accepted\nat 0 entered 1\nnote 2 1 7 : accepted\nat 0 entered 2\nnote 3 1 7 : accepted\nat 0 entered 3\naccuse 1 2 1 0 : accepted\ntick 3\nat 3 expired 1 2 1 0\nat 3 removed 2\nend\n",
+        0,
+    ),
+    // nobody monitors one who is alone
+    (
+        Front::Head,
+        "member 1 10 10 10\nmember 2 20 20 20\nnote 1 1 7\naccuse 2 1 1 0\nend\n",
+        "member 1 10 10 10 : joined\nmember 2 20 20 20 : joined\nnote 1 1 7 : accepted\nat 0 entered 1\naccuse 2 1 1 0 : refused not-monitor none\nend\n",
         0,
     ),
 ];
@@ -292,6 +381,13 @@ fn texts_at_the_limits(rt: HostRuntime) -> Result<(), Fail> {
             99_998,
             "view\n",
             "unknown-member\nbad 100001 lines\n",
+            3,
+        ),
+        (
+            "tick 10000\n",
+            100,
+            "tick 1\n",
+            "tick 10000\nbad 103 limit\n",
             3,
         ),
         ("v", 65_600, "\n", "group 1 3\nbad 3 word\n", 3),

@@ -8,12 +8,12 @@ use Rattle.ff_ids.specs.declared.NoteBody.{NoteBody}
 use Rattle.ff_ids.specs.declared.AccBody.{AccBody}
 use Rattle.ff_ids.specs.declared.Fault.{Fault}
 use Rattle.ff_ids.specs.Notes.{newest, greater_note}
-use Rattle.ff_ids.specs.Rings.{Key}
-use Rattle.ff_ids.specs.Views.{State, Member, has_expired, in_view, is_member, all_numbers, view, key_at, key_of}
+use Rattle.ff_ids.specs.Rings.{Key, nearest_before, nearest_after}
+use Rattle.ff_ids.specs.Views.{State, Member, has_expired, in_view, is_member, all_numbers, view, key_at, key_of, monitor, successor}
 use Rattle.ff_ids.specs.Faults.{note_fault}
 use Rattle.monitor_rule.specs.Joined.{keys_on}
-use Rattle.membership.specs.Kept.{places_at, is_live, is_live_at, member_at, live_members, kept_fault}
-use Rattle.membership.specs.Life.{Life, has_joined}
+use Rattle.membership.specs.Kept.{places_at, note_at, expired_at, is_live, is_live_at, member_at, live_members, kept_fault}
+use Rattle.membership.specs.Life.{Life, has_joined, live_monitor, live_successor, own_key}
 use Rattle.membership.specs.Holds.{Holds, HoldsAt, greatest_epoch}
 use Rattle.membership.specs.Reports.{Answers}
 use Rattle.membership.proofs.NumberLemmas.{all_length, AtEach, AtEach-all, map-filter_range_agree}
@@ -69,8 +69,18 @@ pub in_view-held : (s : State) (m : ℕ) (places : Option (List (List ℕ))) (no
 in_view-held s m places note epoch h =
     in_view_by s m epoch note h.newest_note (subst (IsOf m) h.newest_note (newest-member s.notes m)) h.greatest h.positive
 
+-- what is kept of each number is as the state says
+pub record HoldsEach (l : Life) (s : State) : Type 0 where
+  pub at_number : (m : ℕ) → m < 1024 → HoldsAt s m (places_at l.places m) (note_at l.notes m) (expired_at l.expired m)
+
+pub each_held : (l : Life) (s : State) → Holds l s → HoldsEach l s
+each_held l s h = record { at_number = h.at_number }
+
+pub in_view-each : (l : Life) (s : State) (m : ℕ) → HoldsEach l s → m < 1024 → in_view s m ≡ is_live_at l.notes l.expired m
+in_view-each l s m h below = in_view-held s m _ _ _ (h.at_number m below)
+
 pub in_view-at : (l : Life) (s : State) (m : ℕ) → Holds l s → m < 1024 → in_view s m ≡ is_live_at l.notes l.expired m
-in_view-at l s m h below = in_view-held s m _ _ _ (h.at_number m below)
+in_view-at l s m h below = in_view-each l s m (each_held l s h) below
 
 -- the faults of a note, by what is kept
 pub note_fault-held : (t : ℕ) (s : State) (n : NoteBody) (places : Option (List (List ℕ))) (note : Option NoteBody) (epoch : ℕ) → HoldsAt s n.member places note epoch → note_fault t s n ≡ kept_fault t places note n
@@ -82,13 +92,28 @@ keys_on-map f ring [] = refl
 keys_on-map f ring (x ∷ xs) = ap (λ (ks : List Key). key_at ring (f x).places (f x).number ∷ ks) (keys_on-map f ring xs)
 
 -- the keys of the view are those of the live members
-pub keys_on-live : (l : Life) (s : State) (ring : ℕ) → Holds l s → keys_on ring (live_members l.places l.notes l.expired) ≡ map (key_of s ring) (view s)
-keys_on-live l s ring h =
+pub keys_on-each : (l : Life) (s : State) (ring : ℕ) → HoldsEach l s → keys_on ring (live_members l.places l.notes l.expired) ≡ map (key_of s ring) (view s)
+keys_on-each l s ring h =
     let all = all_length in
-    let same : AtEach 0 all.0 (λ m. is_live_at l.notes l.expired m ≡ in_view s m) = AtEach-all all.0 _ all.1.long (λ m below. sym (in_view-at l s m h below)) in
+    let same : AtEach 0 all.0 (λ m. is_live_at l.notes l.expired m ≡ in_view s m) = AtEach-all all.0 _ all.1.long (λ m below. sym (in_view-each l s m h below)) in
     let keys : AtEach 0 all.0 (λ m. is_live_at l.notes l.expired m ≡ true → key_at ring (unwrap_or (places_at l.places m) []) m ≡ key_of s ring m) = AtEach-all all.0 _ all.1.long (λ m below live. ap (λ places. key_at ring places m) (sym (h.at_number m below).places)) in
     let counted = map-filter_range_agree (λ m. key_at ring (unwrap_or (places_at l.places m) []) m) (key_of s ring) (is_live_at l.notes l.expired) (in_view s) 0 all.0 same keys in
     keys_on-map (member_at l.places) ring (filter (is_live_at l.notes l.expired) all_numbers) ∙ subst (λ xs. map (λ m. key_at ring (unwrap_or (places_at l.places m) []) m) (filter (is_live_at l.notes l.expired) xs) ≡ map (key_of s ring) (filter (in_view s) xs)) (sym all.1.are) counted
+
+pub keys_on-live : (l : Life) (s : State) (ring : ℕ) → Holds l s → keys_on ring (live_members l.places l.notes l.expired) ≡ map (key_of s ring) (view s)
+keys_on-live l s ring h = keys_on-each l s ring (each_held l s h)
+
+own_key-each : (l : Life) (s : State) (ring m : ℕ) → HoldsEach l s → m < 1024 → own_key l ring m ≡ key_of s ring m
+own_key-each l s ring m h below = ap (λ p. key_at ring p m) (sym (h.at_number m below).places)
+
+-- so are monitors and successors
+pub live_monitor-each : (l : Life) (s : State) (ring m : ℕ) → HoldsEach l s → m < 1024 → live_monitor l ring m ≡ monitor s ring m
+live_monitor-each l s ring m h below =
+    ap (λ keys. nearest_before keys (own_key l ring m)) (keys_on-each l s ring h) ∙ ap (nearest_before _) (own_key-each l s ring m h below)
+
+pub live_successor-each : (l : Life) (s : State) (ring m : ℕ) → HoldsEach l s → m < 1024 → live_successor l ring m ≡ successor s ring m
+live_successor-each l s ring m h below =
+    ap (λ keys. nearest_after keys (own_key l ring m)) (keys_on-each l s ring h) ∙ ap (nearest_after _) (own_key-each l s ring m h below)
 
 -- an answer of Ok means no fault
 pub none_from_answers : (f : Option Fault) (u : Unit {0}) → Answers f (Ok u) → f ≡ None

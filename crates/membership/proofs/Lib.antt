@@ -3,3 +3,11 @@ pub mod HoldLemmas
 pub mod SoundLemmas
 pub mod NoteLemmas
 pub mod AddLemmas
+pub mod MonitorLemmas
+pub mod DropLemmas
+pub mod StandLemmas
+pub mod ExpireLemmas
+pub mod SettleLemmas
+pub mod TickLemmas
+pub mod AccuseLemmas
+pub mod NoteStepLemmas

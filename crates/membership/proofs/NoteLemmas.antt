@@ -34,7 +34,7 @@ newest_here : (notes : List NoteBody) (n : NoteBody) (kept : Option NoteBody) �
 newest_here notes n kept e h =
     ap (λ b. cond b (Some (greater_note n (newest notes n.member))) (newest notes n.member)) (eq-eqb n.member n.member refl) ∙ ap (λ o. Some (greater_note n o)) e ∙ ap Some (greater_note-newer kept n h)
 
-newest_other : (notes : List NoteBody) (n : NoteBody) (k : ℕ) → k ≢ n.member → newest (n ∷ notes) k ≡ newest notes k
+pub newest_other : (notes : List NoteBody) (n : NoteBody) (k : ℕ) → k ≢ n.member → newest (n ∷ notes) k ≡ newest notes k
 newest_other notes n k apart =
     ap (λ b. cond b (Some (greater_note n (newest notes k))) (newest notes k)) (ne_eqb n.member k (λ e. apart (sym e)))
 
@@ -85,7 +85,7 @@ HoldsAt-noted l s n h a k below =
 pub in_view-noted : (l : Life) (s : State) (n : NoteBody) → Holds l s → Accepts l n → (k : ℕ) → k < 1024 → in_view (with_accepted s n) k ≡ is_live_at (noted l n).notes l.expired k
 in_view-noted l s n h a k below = in_view-held _ k _ _ _ (HoldsAt-noted l s n h a k below)
 
-live_here : (l : Life) (n : NoteBody) → Accepts l n → is_live_at (noted l n).notes l.expired n.member ≡ is_live (expired_at l.expired n.member) (Some n)
+pub live_here : (l : Life) (n : NoteBody) → Accepts l n → is_live_at (noted l n).notes l.expired n.member ≡ is_live (expired_at l.expired n.member) (Some n)
 live_here l n a = ap (is_live (expired_at l.expired n.member)) (note_at-set l.notes n.member n (omega (arith, a.long, a.below)))
 
 -- who was live stays live
@@ -119,11 +119,11 @@ removed-noted l s n h a =
     let none : AtEach 0 all.0 (λ k. (in_view s k && not (in_view (with_accepted s n) k)) ≡ false) = AtEach-all all.0 _ all.1.long (λ k below. left_none _ _ (λ was. in_view-noted l s n h a k below ∙ live_still l n a k (sym (in_view-at l s k h below) ∙ was))) in
     filter-filter (λ k. not (in_view (with_accepted s n) k)) (in_view s) all_numbers ∙ subst (λ xs. filter (λ k. in_view s k && not (in_view (with_accepted s n) k)) xs ≡ []) (sym all.1.are) (filter-range_none _ 0 all.0 none)
 
-entry : (l : Life) (s : State) (n : NoteBody) → Holds l s → Accepts l n → (in_view (with_accepted s n) n.member && not (in_view s n.member)) ≡ comes_in (expired_at l.expired n.member) (note_at l.notes n.member) n
+pub entry : (l : Life) (s : State) (n : NoteBody) → Holds l s → Accepts l n → (in_view (with_accepted s n) n.member && not (in_view s n.member)) ≡ comes_in (expired_at l.expired n.member) (note_at l.notes n.member) n
 entry l s n h a =
     rw (in_view-noted l s n h a n.member a.below, in_view-at l s n.member h a.below, live_here l n a) (swapped (is_live_at l.notes l.expired n.member) (is_live (expired_at l.expired n.member) (Some n)))
 
-no_entry : (l : Life) (s : State) (n : NoteBody) → Holds l s → Accepts l n → (k : ℕ) → k < 1024 → k ≢ n.member → (in_view (with_accepted s n) k && not (in_view s k)) ≡ false
+pub no_entry : (l : Life) (s : State) (n : NoteBody) → Holds l s → Accepts l n → (k : ℕ) → k < 1024 → k ≢ n.member → (in_view (with_accepted s n) k && not (in_view s k)) ≡ false
 no_entry l s n h a k below apart =
     same_none (in_view s k) (in_view (with_accepted s n) k) (in_view-noted l s n h a k below ∙ others_live l.notes l.expired n.member k n apart ∙ sym (in_view-at l s k h below))
 
@@ -137,10 +137,3 @@ entered-noted l s n h a false e =
     let all = all_length in
     let none : AtEach 0 all.0 (λ k. (in_view (with_accepted s n) k && not (in_view s k)) ≡ false) = AtEach-all all.0 _ all.1.long (λ k below. ⊎_elim (λ t. subst (λ m. (in_view (with_accepted s n) m && not (in_view s m)) ≡ false) (sym (eqb-true k n.member t)) (entry l s n h a ∙ sym e)) (λ t. no_entry l s n h a k below (eqb-false k n.member t)) (either_bool (eqb k n.member))) in
     filter-filter (λ k. not (in_view s k)) (in_view (with_accepted s n)) all_numbers ∙ subst (λ xs. filter (λ k. in_view (with_accepted s n) k && not (in_view s k)) xs ≡ []) (sym all.1.are) (filter-range_none _ 0 all.0 none)
-
--- what is reported of a note, where nothing is kept
-pub report-noted : (l : Life) (s : State) (n : NoteBody) → Holds l s → Accepts l n → l.kept ≡ [] → (enters : Bool) → enters ≡ comes_in (expired_at l.expired n.member) (note_at l.notes n.member) n → Reports (cond enters (record nothing { entered = n.member ∷ [] }) nothing) (after_note s n)
-report-noted l s n h a empty true e =
-    rw (removed-noted l s n h a, entered-noted l s n h a true e, h.kept_same, empty) refl
-report-noted l s n h a empty false e =
-    rw (removed-noted l s n h a, entered-noted l s n h a false e, h.kept_same, empty) refl

@@ -13,10 +13,10 @@ pub record AtEach (a n : ℕ) (P : ℕ → Type 0) : Type 0 where
 abbrev Numbers : ℕ → ℕ → List ℕ
 Numbers a n = range_with_len a n
 
-AtEach-next : (a n : ℕ) (P : ℕ → Type 0) → AtEach a (suc n) P → AtEach (a + 1) n P
+pub AtEach-next : (a n : ℕ) (P : ℕ → Type 0) → AtEach a (suc n) P → AtEach (a + 1) n P
 AtEach-next a n P h = record { each = λ m low high. h.each m (omega arith) (omega arith) }
 
-AtEach-here : (a n : ℕ) (P : ℕ → Type 0) → AtEach a (suc n) P → P a
+pub AtEach-here : (a n : ℕ) (P : ℕ → Type 0) → AtEach a (suc n) P → P a
 AtEach-here a n P h = h.each a (omega arith) (omega arith)
 
 filter_one_more : (b c : Bool) (x : ℕ) (xs ys : List ℕ) → b ≡ c → xs ≡ ys → cond b (x ∷ xs) xs ≡ cond c (x ∷ ys) ys
@@ -63,12 +63,12 @@ filter-range_one p a (suc n) m low high here others =
     rw now (filter-range_one p (a + 1) n m (omega (arith, apart)) (omega arith) here (AtEach-next a n _ others)))
     (either_bool (eqb a m))
 
-filter-both : (b c : Bool) (q : ℕ → Bool) (x : ℕ) (xs : List ℕ) → q x ≡ c → filter q (cond b (x ∷ xs) xs) ≡ cond (b && c) (x ∷ filter q xs) (filter q xs)
+filter-both : {X : Type 0} (b c : Bool) (q : X → Bool) (x : X) (xs : List X) → q x ≡ c → filter q (cond b (x ∷ xs) xs) ≡ cond (b && c) (x ∷ filter q xs) (filter q xs)
 filter-both true c q x xs e = rw e refl
 filter-both false c q x xs e = refl
 
 -- one filter after another
-pub filter-filter : (q p : ℕ → Bool) (xs : List ℕ) → filter q (filter p xs) ≡ filter (λ x. p x && q x) xs
+pub filter-filter : {X : Type 0} (q p : X → Bool) (xs : List X) → filter q (filter p xs) ≡ filter (λ x. p x && q x) xs
 filter-filter q p [] = refl
 filter-filter q p (x ∷ xs) =
     filter-both (p x) (q x) q x (filter p xs) refl ∙ ap (λ ys. cond (p x && q x) (x ∷ ys) ys) (filter-filter q p xs)

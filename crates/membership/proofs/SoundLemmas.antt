@@ -1,5 +1,5 @@
 -- What stands between what is kept and the rings.
-use Rattle.std.proofs.Common.{◌≡◌, ◌≢◌, ℕ, ◌<◌, ◌≤◌, Bool, true, false, cond, not, ◌&&◌, eqb, List, [], map, ⊎_elim, Option, Some, None, refl, ap, sym, ◌∙◌, subst, arith, unwrap_or, is_some, length, get_or-set_same, get_or-set_other, length-set}
+use Rattle.std.proofs.Common.{◌≡◌, ◌≢◌, ℕ, ◌<◌, ◌≤◌, Bool, true, false, cond, not, ◌&&◌, eqb, List, [], map, ⊎_elim, Option, Some, None, refl, ap, sym, ◌∙◌, subst, arith, unwrap_or, is_some, length, get_or-set_same, get_or-set_other, length-set, zero, suc, replicate, get_or}
 use Rattle.std.specs.Prelude.{nat_lt, slice_set}
 use Rattle.std.specs.Ordering.{nat_cmp, ordering_then}
 use Rattle.std.specs.declared.cmp.Ordering.{Ordering}
@@ -18,7 +18,7 @@ use Rattle.ff_ids.specs.Views.{Member}
 use Rattle.monitor_rule.specs.Joined.{Joined, with_member, is_joined}
 use Rattle.membership.specs.Kept.{places_at, note_at, expired_at, is_live, is_live_at, member_at, live_members, kept_fault, comes_in, PlacesList, NoteList}
 use Rattle.membership.specs.Life.{IsSound}
-use Rattle.membership.proofs.NumberLemmas.{either_bool, all_length, AtEach, AtEach-all, Numbered, with_member-range, is_joined-range, map-filter_range_agree}
+use Rattle.membership.proofs.NumberLemmas.{either_bool, all_length, AtEach, AtEach-all, Numbered, with_member-range, is_joined-range, map-filter_range_agree, filter-range_none, AreAll}
 
 member_at-numbered : (places : PlacesList) → Numbered (member_at places)
 member_at-numbered places = record { number = λ m. refl }
@@ -98,7 +98,7 @@ comes_in_or_same : (was is : Bool) → (was ≡ true → is ≡ true) → (not w
 comes_in_or_same true is stays h = stays refl
 comes_in_or_same false is stays h = h
 
-comes_in_parts : (was is : Bool) → (not was && is) ≡ true → (was ≡ false) × (is ≡ true)
+pub comes_in_parts : (was is : Bool) → (not was && is) ≡ true → (was ≡ false) × (is ≡ true)
 comes_in_parts true is h = absurd (false≢true h)
 comes_in_parts false is h = (refl, h)
 
@@ -146,3 +146,25 @@ pub absent_before : (group : Group) (places : PlacesList) (notes : NoteList) (ex
 absent_before group places notes expired view n enters sound below e is =
     let parts = comes_in_parts (is_live_at notes expired n.member) (is_live (expired_at expired n.member) (Some n)) (sym e ∙ is) in
     ap (λ ms. is_joined ms n.member) sound.viewed ∙ is_joined-live places notes expired n.member below ∙ parts.0
+
+-- nothing is at any place of a list of nothing
+pub none_at : {X : Type 0} (n k : ℕ) → get_or {A = Option X} (replicate n None) k None ≡ None
+none_at zero k = refl
+none_at (suc n) zero = refl
+none_at (suc n) (suc k) = none_at n k
+
+-- nobody is on the rings where all notes are gone
+pub IsSound-cleared : (group : Group) (places : PlacesList) (notes notes' : NoteList) (expired expired' : List ℕ) (view view' : Joined) → IsSound group places notes expired view → length notes' ≡ length notes → ((m : ℕ) → note_at notes' m ≡ None) → length expired' ≡ length expired → view' ≡ record view { members = [] } → IsSound group places notes' expired' view'
+IsSound-cleared group places notes notes' expired expired' view view' sound long nothing long_expired e =
+    let all = all_length in
+    let none : AtEach 0 all.0 (λ k. is_live_at notes' expired' k ≡ false) = AtEach-all all.0 _ all.1.long (λ k below. ap (is_live (expired_at expired' k)) (nothing k)) in
+    record {
+      tolerance = sound.tolerance;
+      all_places = sound.all_places;
+      all_notes = long ∙ sound.all_notes;
+      all_expired = long_expired ∙ sound.all_expired;
+      placed = sound.placed;
+      noted = λ m _. nothing m;
+      rings = ap (λ (j : Joined). j.rings) e ∙ sound.rings;
+      viewed = ap (λ (j : Joined). j.members) e ∙ sym (subst (λ xs. map (member_at places) (filter (is_live_at notes' expired') xs) ≡ []) (sym all.1.are) (ap (map (member_at places)) (filter-range_none _ 0 all.0 none)));
+    }

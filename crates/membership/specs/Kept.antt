@@ -1,13 +1,14 @@
 -- What is kept of each member, by number: its places, its newest note, and the greatest epoch of an accusation
 -- against it that expired, 0 for none.
-use Rattle.std.specs.Prelude.{ℕ, Bool, false, ◌&&◌, not, nat_lt, if◌then◌else◌, List, [], Option, Some, None, unwrap_or, map, filter, slice_index_or}
+use Rattle.std.specs.Prelude.{◌∷◌, ◌||◌, nat_le, max, slice_set, ℕ, Bool, false, ◌&&◌, not, nat_lt, if◌then◌else◌, List, [], Option, Some, None, unwrap_or, map, filter, slice_index_or}
 use Rattle.std.specs.Option.{option_map_or}
 use Rattle.ff_ids.specs.declared.NoteBody.{NoteBody}
+use Rattle.ff_ids.specs.declared.AccBody.{AccBody}
 use Rattle.ff_ids.specs.declared.Fault.{Fault}
 use Rattle.ff_ids.specs.declared.Fault.TheVariants as faults
 use Rattle.ff_ids.specs.Masks.{good_mask}
 use Rattle.ff_ids.specs.Faults.{fault_after}
-use Rattle.ff_ids.specs.Views.{Member, all_numbers}
+use Rattle.ff_ids.specs.Views.{Member, all_numbers, is_unanswered_by, is_number}
 
 -- The places with which each number joined, and none where it has not.
 abbrev pub PlacesList : Type 0
@@ -47,3 +48,36 @@ kept_fault t (Some places) kept n = if not (good_mask t n.mask.0) then Some faul
 -- The note brings its member in.
 abbrev pub comes_in : ℕ → Option NoteBody → NoteBody → Bool
 comes_in expired kept n = not (is_live expired kept) && is_live expired (Some n)
+
+-- The accusation takes its member out of the view: its note is live, and of no greater epoch.
+abbrev pub takes_out : ℕ → Option NoteBody → AccBody → Bool
+takes_out expired kept a = option_map_or (λ n. nat_lt expired n.epoch && nat_le n.epoch a.epoch) kept false
+
+-- The epochs with that of an accusation that expires.
+abbrev pub raise : List ℕ → AccBody → List ℕ
+raise expired a = slice_set expired a.accused (max (expired_at expired a.accused) a.epoch)
+
+abbrev pub raised : List ℕ → List AccBody → List ℕ
+raised expired [] = expired
+raised expired (a ∷ due) = raised (raise expired a) due
+
+-- The members that the accusations take out of the view, one after another.
+abbrev pub leavers : NoteList → List ℕ → List AccBody → List ℕ
+leavers notes expired [] = []
+leavers notes expired (a ∷ due) =
+    if takes_out (expired_at expired a.accused) (note_at notes a.accused) a then a.accused ∷ leavers notes (raise expired a) due
+    else leavers notes (raise expired a) due
+
+-- The accused's newest note has the epoch and enables the ring.
+abbrev pub is_unanswered : NoteList → AccBody → Bool
+is_unanswered notes a = option_map_or (is_unanswered_by a) (note_at notes a.accused) false
+
+-- A kept accusation falls: its accused or its accuser is out of the view, it is answered, or its accused is the
+-- successor, if there is one, of the member that came in.
+abbrev pub falls : NoteList → List ℕ → Option ℕ → AccBody → Bool
+falls notes expired next a =
+    not (is_live_at notes expired a.accused) || not (is_live_at notes expired a.accuser) || not (is_unanswered notes a) || is_number next a.accused
+
+-- The same of an entry, given the successors by ring.
+abbrev pub falls_at : NoteList → List ℕ → List (Option ℕ) → AccBody × ℕ → Bool
+falls_at notes expired next p = falls notes expired (slice_index_or next p.0.ring.0 None) p.0

@@ -4,10 +4,14 @@ ghost use Rattle.std.specs.Prelude.{◌≡◌, ℕ, ◌<◌, ◌≤◌, true, fa
 ghost use Rattle.ff_ids.specs.Masks.{ring_count};
 ghost use Rattle.ff_ids.specs.Notes.{note_cmp};
 ghost use Rattle.ff_ids.specs.Faults.{fault_beside};
-ghost use Rattle.membership.specs.Kept.{places_at, note_at, expired_at, is_live_at, kept_fault, comes_in};
+ghost use Rattle.ff_ids.specs.Rings.{nearest_after as number_after};
+ghost use Rattle.ff_ids.specs.Views.{key_at};
+ghost use Rattle.monitor_rule.specs.Joined.{keys_on};
+ghost use Rattle.membership.specs.Kept.{takes_out as acc_takes_out, raise, is_unanswered, falls, places_at, note_at, expired_at, is_live_at, kept_fault, comes_in};
 ghost use Rattle.membership.specs.Reports.{Answers};
 
-use ff_ids::{Fault, MemberId, NoteBody, good_mask};
+use ff_ids::{AccBody, Fault, MemberId, NoteBody, RingNo, good_mask};
+use monitor_rule::Rings;
 use ring_order::Places;
 use std::alloc::{AllocError, Global};
 use std::cmp::Ordering;
@@ -144,4 +148,101 @@ pub fn set_note(notes: &mut Vec<Option<NoteBody>>, note: &NoteBody)
 {
     let _epoch = note.epoch.get();
     notes[note.member.get() as usize] = Some(*note);
+}
+
+/// Whether the accusation takes its member out of the view.
+pub fn takes_out(notes: &[Option<NoteBody>], expired: &[u64], acc: &AccBody) -> bool
+    requires notes { length notes.now ≡ 1024 }
+    requires expired { length expired.now ≡ 1024 }
+    ensures value { result
+        ≡ acc_takes_out (expired_at expired.now acc.now.accused) (note_at notes.now acc.now.accused) acc.now }
+    ensures range { acc.now.accused < 1024 }
+{
+    let index = acc.accused.get() as usize;
+    match &notes[index] {
+        Some(note) => expired[index] < note.epoch.get() && note.epoch.get() <= acc.epoch.get(),
+        None => false,
+    }
+}
+
+/// Counts the epoch of the accusation as expired.
+pub fn raise(expired: &mut Vec<u64>, acc: &AccBody)
+    requires { length expired.old.items ≡ 1024 }
+    ensures { expired.new.items ≡ raise expired.old.items acc.now }
+{
+    let index = acc.accused.get() as usize;
+    expired[index] = expired[index].max(acc.epoch.get());
+}
+
+/// Whether the newest note of the accused has the epoch and enables the ring.
+fn is_unanswered(notes: &[Option<NoteBody>], acc: &AccBody) -> bool
+    requires numbers { length notes.now ≡ 1024 }
+    requires ring { acc.now.ring.0 < 31 }
+    ensures { result ≡ is_unanswered notes.now acc.now }
+{
+    match &notes[acc.accused.get() as usize] {
+        Some(note) => note.epoch == acc.epoch && note.mask.enables(acc.ring),
+        None => false,
+    }
+}
+
+/// Whether the kept accusation falls, given the successor on each ring of a member that came in.
+pub fn falls(
+    notes: &[Option<NoteBody>],
+    expired: &[u64],
+    next: &[Option<MemberId>],
+    acc: &AccBody,
+) -> bool
+    requires notes { length notes.now ≡ 1024 }
+    requires expired { length expired.now ≡ 1024 }
+    requires next { length next.now ≡ 31 }
+    requires ring { acc.now.ring.0 < 31 }
+    ensures { result
+        ≡ falls notes.now expired.now (slice_index_or next.now acc.now.ring.0 None) acc.now }
+{
+    !is_live(notes, expired, acc.accused)
+        || !is_live(notes, expired, acc.accuser)
+        || !is_unanswered(notes, acc)
+        || next[acc.ring.0 as usize] == Some(acc.accused)
+}
+
+/// Forgets every note.
+pub fn forget_notes(notes: &mut Vec<Option<NoteBody>>)
+    ensures long { length notes.new.items ≡ length notes.old.items }
+    ensures none { (m : ℕ) → note_at notes.new.items m ≡ None }
+{
+    for index in 0..notes.len() {
+        notes[index] = None;
+    }
+}
+
+/// Forgets every epoch that expired.
+pub fn forget_epochs(expired: &mut Vec<u64>)
+    ensures long { length expired.new.items ≡ length expired.old.items }
+    ensures zero { (m : ℕ) → expired_at expired.new.items m ≡ 0 }
+{
+    for index in 0..expired.len() {
+        expired[index] = 0;
+    }
+}
+
+/// The successors of a member on the rings, of which there are so many.
+pub fn successors(
+    rings: &Rings,
+    count: u8,
+    member: MemberId,
+    places: &Places,
+) -> [Option<MemberId>; 31]
+    requires count { count ≡ rings.now.rings }
+    requires few { count ≤ 31 }
+    requires placed { length places.now ≡ rings.now.rings }
+    ensures long { length result ≡ 31 }
+    ensures each { (ring : ℕ) → ring < rings.now.rings → slice_index_or result ring None
+        ≡ number_after (keys_on ring rings.now.members) (key_at ring places.now member) }
+{
+    let mut next = [None; 31];
+    for ring in 0..count {
+        next[ring as usize] = rings.successor(RingNo(ring), member, places);
+    }
+    next
 }

@@ -84,6 +84,13 @@ impl Rings {
         let _ = self.joined.remove(index);
     }
 
+    /// Takes all members off the rings.
+    pub fn clear(&mut self)
+        ensures { self.new ≡ record self.old { members = [] } }
+    {
+        self.joined.clear();
+    }
+
     /// The nearest joined member before this one on the ring, or none where no other has joined. The member
     /// itself need not have joined.
     pub fn monitor(&self, ring: RingNo, member: MemberId, places: &Places) -> Option<MemberId>

@@ -1,21 +1,29 @@
 -- What an event on the kept life makes of the recorded one.
 use Rattle.std.proofs.Common.{◌≡◌, ℕ, Bool, true, false, cond, List, [], ◌∷◌, ◌++◌, Option, Some, None, Result, Ok, Err, refl, ap, sym, ◌∙◌, subst, append_assoc, ◌+◌, add-one, zero-add}
 use Rattle.std.specs.Prelude.{codes}
+use Rattle.std.specs.Fmt.{decimal}
 use Rattle.std.specs.List.{filter, range_with_len}
 use Rattle.ff_ids.proofs.MaskLemmas.{range_with_len-push}
 use Rattle.std.specs.Result.{OnErr, OnOk, result_err}
+use Rattle.std.proofs.lemmas.Grind.{flat_map-append}
 use Rattle.std.proofs.lemmas.List.{append-nil}
+use Rattle.journal.specs.declared.event.Event as reported
+use Rattle.journal.specs.Events.{event_text}
 use Rattle.std.proofs.lemmas.Bool.{cond-false, cond-true}
+use Rattle.ff_ids.specs.declared.AccBody.{AccBody}
 use Rattle.ff_ids.specs.declared.Fault.{Fault}
 use Rattle.ff_ids.specs.declared.Fault.TheVariants as faults
-use Rattle.ff_ids.specs.Steps.{Event, Joins, Stepped, joined, unchanged, unless_fault}
+use Rattle.ff_ids.specs.declared.Group.{Group}
+use Rattle.ff_ids.specs.Faults.{accusation_fault}
+use Rattle.ff_ids.specs.Lives.{opening}
+use Rattle.ff_ids.specs.Steps.{Accuses, Event, Joins, Stepped, Ticks, after_accusation, after_tick, joined, unchanged, unless_fault}
 use Rattle.ff_ids.specs.Texts.{fault_text}
 use Rattle.ff_ids.specs.Views.{State, all_numbers, in_view, is_member, view}
 use Rattle.membership.specs.Holds.{Holds}
 use Rattle.membership.specs.Life as kept
 use Rattle.membership.specs.Reports.{Answers, Report, Reports, join_fault, nothing, report_of}
-use Rattle.trace.specs.Answers.{Recorded, events_of, events_text, state_of, stepped, taken, verdict_on_joining}
-use Rattle.trace.proofs.LifeLemmas.{state_of-with_event}
+use Rattle.trace.specs.Answers.{Recorded, events_of, events_text, next_life, state_of, stepped, taken, tick_events, ticked, verdict_on, verdict_on_joining, with_ticks}
+use Rattle.trace.proofs.LifeLemmas.{state_of-next_life, state_of-with_event}
 use Rattle.replay.specs.declared.life.Life.{Life}
 use Rattle.replay.specs.Plays.{PlaysOne, Tells}
 use Rattle.replay.specs.Reported.{events_in}
@@ -116,3 +124,86 @@ numbers-all = refl
 -- the view goes over all numbers
 pub view-all : (s : State) (n : ℕ) → n ≡ 1024 → filter (in_view s) (range_with_len 0 n) ≡ view s
 view-all s n e = ap (λ (k : ℕ). filter (in_view s) (range_with_len 0 k)) e ∙ ap (filter (in_view s)) numbers-all
+
+accused-events : (fault : Option Fault) (s later : State) → events_of (unless_fault fault s (unchanged later)) ≡ []
+accused-events None s later = refl
+accused-events (Some fault) s later = refl
+
+accused-holds : (fault : Option Fault) (s next : State) (answer : Result (Unit {0}) Fault) (old later : kept.Life) → Holds old s → Answers fault answer → OnOk answer (Holds later next) → OnErr answer (later ≡ old) → (result_err answer ≡ fault) × Holds later (unless_fault fault s (unchanged next)).state
+accused-holds None s next answer old later holds answered ok same =
+    (ap result_err answered, subst (λ (r : Result (Unit {0}) Fault). OnOk r (Holds later next)) answered ok)
+accused-holds (Some fault) s next answer old later holds answered ok same = (
+  ap result_err answered,
+  subst (λ (l : kept.Life). Holds l s) (sym (subst (λ (r : Result (Unit {0}) Fault). OnErr r (later ≡ old)) answered same)) holds,
+)
+
+-- An accusation comes: it reports nothing, whether it is kept or refused.
+pub tells-accused : (life : Life) (r : Recorded) (a : AccBody) (answer : Result (Unit {0}) Fault) (later : kept.Life) (old new : List ℕ) → PlaysOne life r → Answers (accusation_fault r.group.t (state_of r) a) answer → OnOk answer (Holds later (after_accusation (state_of r) a)) → OnErr answer (later ≡ life.membership) → later.group ≡ life.membership.group → new ≡ old ++ codes " : " ++ verdict_on (result_err answer) ++ 10 ∷ [] → Tells (taken r (Accuses a) (verdict_on (accusation_fault r.group.t (state_of r) a))) (record { number = life.number; membership = later; changes = life.changes }) old new
+tells-accused life r a answer later old new plays answered ok same group text =
+    let s = state_of r in
+    let fault = accusation_fault r.group.t s a in
+    let done = accused-holds fault s (after_accusation s a) answer life.membership later plays.holds answered ok same in
+    let none : events_of (stepped r (Accuses a)) ≡ [] = accused-events fault s (after_accusation s a) in
+    record {
+      plays = record {
+        group = group ∙ plays.group;
+        number = plays.number;
+        holds = subst (Holds later) (sym (state_of-with_event r (Accuses a))) done.1;
+      };
+      text = text
+          ∙ ap (λ (f : Option Fault). old ++ codes " : " ++ verdict_on f ++ 10 ∷ []) done.0
+          ∙ sym (append-nil (old ++ codes " : " ++ verdict_on fault ++ 10 ∷ []))
+          ∙ regroup old (codes " : ") (verdict_on fault) (10 ∷ []) []
+          ∙ ap (λ es. old ++ (codes " : " ++ verdict_on fault ++ 10 ∷ [] ++ events_text es)) (sym none);
+    }
+
+-- So many ticks were run on the life, and told behind a line feed.
+pub record IsTicked (n : ℕ) (r : Recorded) (life : Life) (old new : List ℕ) : Type 0 where
+  pub plays : PlaysOne life (with_ticks n r)
+  pub text : new ≡ old ++ 10 ∷ [] ++ events_text (tick_events n r)
+
+pub ticked-none : (r : Recorded) (life : Life) (old new : List ℕ) → PlaysOne life r → new ≡ old ++ 10 ∷ [] → IsTicked 0 r life old new
+ticked-none r life old new plays text = record { plays = plays; text = text ∙ sym (append-nil (old ++ 10 ∷ [])) }
+
+events_text-append : (es more : List reported.Event) → events_text (es ++ more) ≡ events_text es ++ events_text more
+events_text-append es more = flat_map-append (λ e. event_text e ++ 10 ∷ []) es more
+
+pub ticked-more : (n : ℕ) (r : Recorded) (life : Life) (later : kept.Life) (report : Report) (moment : ℕ) (old mid new : List ℕ) → IsTicked n r life old mid → later.group ≡ life.membership.group → Holds later (after_tick life.membership.group.timeout (state_of (with_ticks n r))).state → Reports report (after_tick life.membership.group.timeout (state_of (with_ticks n r))) → ((s : State) → Holds later s → moment ≡ s.moment) → new ≡ mid ++ events_text (events_in moment report) → IsTicked (n + 1) r (record { number = life.number; membership = later; changes = report }) old new
+ticked-more n r life later report moment old mid new before group holds reported at text =
+    let now = with_ticks n r in
+    let same : after_tick life.membership.group.timeout (state_of now) ≡ stepped now Ticks =
+    ap (λ (g : Group). after_tick g.timeout (state_of now)) before.plays.group in
+    let held : Holds later (stepped now Ticks).state = subst (λ (t : Stepped). Holds later t.state) same holds in
+    let events : events_in moment report ≡ events_of (stepped now Ticks) =
+    ap (events_in moment) (reported ∙ ap report_of same) ∙ ap (λ (m : ℕ). events_in m (report_of (stepped now Ticks))) (at (stepped now Ticks).state held) in
+    subst (λ (k : ℕ). IsTicked k r (record { number = life.number; membership = later; changes = report }) old new) (sym (add-one n))
+    (record {
+      plays = record {
+        group = group ∙ before.plays.group;
+        number = before.plays.number;
+        holds = subst (Holds later) (sym (state_of-with_event now Ticks)) held;
+      };
+      text = text
+          ∙ ap (λ es. mid ++ events_text es) events
+          ∙ ap (λ (t : List ℕ). t ++ events_text (events_of (stepped now Ticks))) before.text
+          ∙ append_assoc (old ++ 10 ∷ []) (events_text (tick_events n r)) (events_text (events_of (stepped now Ticks)))
+          ∙ ap (λ (t : List ℕ). old ++ 10 ∷ [] ++ t) (sym (events_text-append (tick_events n r) (events_of (stepped now Ticks))));
+    })
+
+pub tells-ticked : (n : ℕ) (r : Recorded) (life : Life) (old new : List ℕ) → IsTicked n r life old new → Tells (ticked n r) life old new
+tells-ticked n r life old new t =
+    record { plays = t.plays; text = t.text ∙ append_assoc old (10 ∷ []) (events_text (tick_events n r)) }
+
+-- Another life begins.
+pub tells-another : (life : Life) (r : Recorded) (later : kept.Life) (old new : List ℕ) → PlaysOne life r → Holds later (opening (state_of r).members) → later.group ≡ life.membership.group → new ≡ old ++ (codes " : " ++ decimal (life.number + 1) ++ 10 ∷ []) → Tells (record { recorded = Some (next_life r); verdict = Some (decimal (r.life + 1)); events = [] }) (record { number = life.number + 1; membership = later; changes = life.changes }) old new
+tells-another life r later old new plays holds group text =
+    record {
+      plays = record {
+        group = group ∙ plays.group;
+        number = ap (λ (n : ℕ). n + 1) plays.number;
+        holds = subst (Holds later) (sym (state_of-next_life r)) holds;
+      };
+      text = text
+          ∙ ap (λ (n : ℕ). old ++ (codes " : " ++ decimal (n + 1) ++ 10 ∷ [])) plays.number
+          ∙ ap (λ (t : List ℕ). old ++ t) (sym (append-nil (codes " : " ++ decimal (r.life + 1) ++ 10 ∷ [])));
+    }

@@ -10,7 +10,7 @@ use Rattle.trace.specs.Answers.{Recorded}
 use Rattle.trace.specs.Lines.{lines_of}
 use Rattle.trace.specs.Played.{Trace, before, played}
 use Rattle.replay.specs.declared.life.Life.{Life}
-use Rattle.replay.specs.Plays.{Plays, IsPlacedAt}
+use Rattle.replay.specs.Plays.{Plays, IsPlacedBy}
 use Rattle.replay.specs.declared.player.Stop.{Stop}
 use Rattle.replay.specs.declared.player.Stop.TheVariants as stop
 
@@ -61,7 +61,7 @@ EndsOr (Some refused) result = result ≡ Err (stop.Bad refused.0 refused.1)
 pub record GoesOn (t : Option Trace) (taken left : Option (List ℕ)) (life : Option Life) (p : Progress) : Type 0 where
   pub recorded : Option Recorded
   pub plays : Plays life recorded
-  pub placed : IsPlacedAt p.place recorded
+  pub placed : IsPlacedBy p recorded
   pub owed : whole taken left p recorded ≡ t
 
 -- A turn that finds a line leaves the whole as it was; one that finds none leaves nothing to write.

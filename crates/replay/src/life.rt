@@ -1,7 +1,7 @@
 // The life that is being recorded, and what a line brings to it. What is written behind a line goes to the
 // end of a text, as `specs/` of the trace says.
 
-ghost use Rattle.std.specs.Prelude.{◌≡◌, ◌<◌, ◌≤◌, ◌++◌, ◌∷◌, [], ℕ, List, Option, IfOk, OnOk, length, codes, filter};
+ghost use Rattle.std.specs.Prelude.{◌≡◌, ◌<◌, ◌≤◌, ◌+◌, ◌++◌, ◌∷◌, [], ℕ, List, Option, IfOk, OnOk, length, codes, filter};
 ghost use Rattle.std.specs.List.{range_with_len};
 ghost use Rattle.ff_ids.specs.Faults.{note_fault};
 ghost use Rattle.ff_ids.specs.Masks.{ring_count};
@@ -16,7 +16,7 @@ ghost use Rattle.replay.specs.Plays.{Plays, PlaysOne, Tells, FitsLife, FitsOn};
 ghost use Rattle.replay.specs.Reported.{events_in};
 
 use crate::report::{Fate, Way, add, add_accusations, add_members, add_verdict};
-use ff_ids::{Fault, Group, MemberId, NoteBody, RingNo};
+use ff_ids::{AccBody, Fault, Group, MemberId, NoteBody, RingNo};
 use fields::NoMemory;
 use journal::{write_members, write_monitor};
 use membership::{Changes, Membership};
@@ -112,6 +112,42 @@ impl Life {
         add_report(text, self.membership.now(), &self.changes)
     }
 
+    /// An accusation comes.
+    fn take_accusation(&mut self, accusation: AccBody, text: &mut Vec<u8>) -> Result<(), NoMemory>
+        ensures { (r : Recorded) → PlaysOne self.old r → OnOk result (Tells (answer_in r (Line.Accuse accusation)) self.new text.old.items text.new.items) }
+    {
+        match self.membership.put_accusation(accusation) {
+            Ok(()) => add_verdict(text, None)?,
+            Err(fault) => add_verdict(text, Some(fault))?,
+        }
+        add(text, b"\n")
+    }
+
+    /// So many ticks come, one after another.
+    fn take_ticks(&mut self, ticks: u32, text: &mut Vec<u8>) -> Result<(), NoMemory>
+        requires { self.old.membership.moment + ticks ≤ 1000000 }
+        ensures { (r : Recorded) → PlaysOne self.old r → OnOk result (Tells (answer_in r (Line.Tick ticks)) self.new text.old.items text.new.items) }
+    {
+        add(text, b"\n")?;
+        for _tick in 0..ticks {
+            self.membership.tick(&mut self.changes);
+            add_report(text, self.membership.now(), &self.changes)?;
+        }
+        Ok(())
+    }
+
+    /// Another life begins, with the same members.
+    fn begin_another(&mut self, text: &mut Vec<u8>) -> Result<(), NoMemory>
+        requires { self.old.number ≤ 100000 }
+        ensures { (r : Recorded) → PlaysOne self.old r → OnOk result (Tells (answer_in r Line.Life) self.new text.old.items text.new.items) }
+    {
+        self.membership.new_life();
+        self.number += 1;
+        let number = self.number;
+        let verdict = format!(in *text.allocator(); " : {number}\n")?;
+        add(text, verdict.as_bytes())
+    }
+
     /// The view is asked for.
     fn tell_view(&self, alloc: Global, text: &mut Vec<u8>) -> Result<(), NoMemory>
         ensures { (r : Recorded) → PlaysOne self.now r → OnOk result (Tells (answer_in r Line.View) self.now text.old.items text.new.items) }
@@ -150,6 +186,9 @@ impl Life {
             Line::Header | Line::Group { .. } | Line::End => add(text, b"\n"),
             Line::Member { member, places } => self.join(member, &places, text),
             Line::Note(note) => self.take_note(note, text),
+            Line::Accuse(accusation) => self.take_accusation(accusation, text),
+            Line::Tick(ticks) => self.take_ticks(ticks, text),
+            Line::Life => self.begin_another(text),
             Line::View => self.tell_view(alloc, text),
             Line::Monitor { ring, member } => self.tell_monitor(ring, member, text),
         }

@@ -7,7 +7,7 @@ ghost use Rattle.schedule.specs.Fits.{IsRead};
 ghost use Rattle.schedule.specs.Grammar.{judge, after, opening};
 ghost use Rattle.trace.specs.Played.{end_fault};
 ghost use Rattle.trace.specs.Answers.{Recorded, answer as answer_to, told};
-ghost use Rattle.replay.specs.Plays.{Plays, IsPlaced, IsPlacedAt, FitsOn};
+ghost use Rattle.replay.specs.Plays.{Plays, IsKeptBy, IsPlacedBy, FitsOn};
 ghost use Rattle.replay.specs.Stops.{whole, owed_at_first, JudgedBy, Replays, Turns, EndsOr};
 
 use crate::life::{Life, answer};
@@ -139,14 +139,14 @@ impl Player {
         input: &mut S,
         out: &mut O,
     ) -> Result<bool, Stop>
-        requires { IsPlaced self.old.lines.place self.old.life }
+        requires { IsKeptBy self.old.lines self.old.life }
         ensures source { S.faults input.old ≤ S.faults input.new }
         ensures sink { O.faults out.old ≤ O.faults out.new }
         ensures read_fault { result ≡ Err Stop.ReadFault → Rose (S.faults input.old) (S.faults input.new) }
         ensures write_fault { result ≡ Err Stop.WriteFault → Rose (O.faults out.old) (O.faults out.new) }
         ensures few { result ≡ Ok true → self.old.lines.number ≤ 100000 }
         ensures counted { result ≡ Ok true → self.new.lines.number ≡ self.old.lines.number + 1 }
-        ensures turns { (r : Option Recorded) → Plays self.old.life r → IsPlacedAt self.old.lines.place r
+        ensures turns { (r : Option Recorded) → Plays self.old.life r → IsPlacedBy self.old.lines r
             → Turns (whole (O.taken out.old) (S.left input.old) self.old.lines r) (O.taken out.new) (S.left input.new) self.new.life self.new.lines result }
     {
         read_line(input, &mut self.line)?;

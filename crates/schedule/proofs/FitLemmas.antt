@@ -16,7 +16,7 @@ use Rattle.schedule.specs.declared.line.Place.TheVariants as places
 use Rattle.schedule.specs.declared.line.Progress.{Progress}
 use Rattle.schedule.specs.Words.{words_of}
 use Rattle.schedule.specs.Numbers.{number_of}
-use Rattle.schedule.specs.Grammar.{◌>>=◌, epoch_number, number_32, body_line, group_line, header_line, is_ended, is_group, is_start, has_line_feed, before_line_feed, judge, line_of, line_word, lone_line, may_stand, member_line, member_of, member_number, monitor_line, none, note_line, number_within, place_numbers, three, tolerance, two, within, words_line}
+use Rattle.schedule.specs.Grammar.{◌>>=◌, accuse_line, tick_line, epoch_number, number_32, body_line, group_line, header_line, is_ended, is_group, is_start, has_line_feed, before_line_feed, judge, line_of, line_word, lone_line, may_stand, member_line, member_of, member_number, monitor_line, four, none, note_line, one, number_within, place_numbers, three, tolerance, two, within, words_line}
 use Rattle.schedule.specs.Fits.{FitsAt, IsGroup, IsHeader, IsOfGroup, IsRead}
 
 -- what a step that may fail gave
@@ -66,82 +66,109 @@ group-fits args l e =
     let ticks = within_ok 1 10000 (number_of w.0.1) timeout.0 timeout.1 in
     subst IsGroup same (tolerance.0, tolerance.1, ticks.0, ticks.1)
 
-member_of-fits : (t : ℕ) (args : List (List ℕ)) (l : Line) → length args ≡ 2 * t + 2 → member_of args ≡ Ok l → IsOfGroup t l
+member_of-fits : (t ticks : ℕ) (args : List (List ℕ)) (l : Line) → length args ≡ 2 * t + 2 → member_of args ≡ Ok l → IsOfGroup t ticks l
 unfolding member_of
-member_of-fits t [] l count e = cc
-member_of-fits t (m ∷ more) l count e =
+member_of-fits t ticks [] l count e = cc
+member_of-fits t ticks (m ∷ more) l count e =
     let member = bind_ok (member_number m) (λ member. place_numbers more >>= (λ places. Ok (lines.Member member places))) l e in
     let places = bind_ok (place_numbers more) (λ places. Ok (lines.Member member.0 places)) l member.2 in
     let same : lines.Member member.0 places.0 ≡ l = let p = places.2 in cc in
     let behind : length more ≡ 2 * t + 1 = omega arith in
-    subst (IsOfGroup t) same (place_numbers-length more places.0 places.1 ∙ behind)
+    subst (IsOfGroup t ticks) same (place_numbers-length more places.0 places.1 ∙ behind)
 
-member-fits : (t : ℕ) (args : List (List ℕ)) (l : Line) → member_line t args ≡ Ok l → IsOfGroup t l
+member-fits : (t ticks : ℕ) (args : List (List ℕ)) (l : Line) → member_line t args ≡ Ok l → IsOfGroup t ticks l
 unfolding member_line
-member-fits t args l e =
+member-fits t ticks args l e =
     let h = held (eqb (length args) (2 * t + 2)) (member_of args) bad.Count l e in
-    member_of-fits t args l (eqb-true (length args) (2 * t + 2) h.0) h.1
+    member_of-fits t ticks args l (eqb-true (length args) (2 * t + 2) h.0) h.1
 
-note-fits : (t : ℕ) (args : List (List ℕ)) (l : Line) → note_line args ≡ Ok l → IsOfGroup t l
+note-fits : (t ticks : ℕ) (args : List (List ℕ)) (l : Line) → note_line args ≡ Ok l → IsOfGroup t ticks l
 unfolding note_line
-note-fits t args l e =
+note-fits t ticks args l e =
     let w = bind_ok (three args) (λ w. member_number w.0 >>= (λ member. epoch_number w.1 >>= (λ epoch. number_32 w.2 >>= (λ mask. Ok (lines.Note (record { member = member; epoch = epoch; mask = record { 0 = mask } })))))) l e in
     let member = bind_ok (member_number w.0.0) (λ member. epoch_number w.0.1 >>= (λ epoch. number_32 w.0.2 >>= (λ mask. Ok (lines.Note (record { member = member; epoch = epoch; mask = record { 0 = mask } }))))) l w.2 in
     let epoch = bind_ok (epoch_number w.0.1) (λ epoch. number_32 w.0.2 >>= (λ mask. Ok (lines.Note (record { member = member.0; epoch = epoch; mask = record { 0 = mask } })))) l member.2 in
     let mask = bind_ok (number_32 w.0.2) (λ mask. Ok (lines.Note (record { member = member.0; epoch = epoch.0; mask = record { 0 = mask } }))) l epoch.2 in
     let same : lines.Note (record { member = member.0; epoch = epoch.0; mask = record { 0 = mask.0 } }) ≡ l = let p = mask.2 in cc in
-    subst (IsOfGroup t) same tt
+    subst (IsOfGroup t ticks) same tt
 
-monitor-fits : (t : ℕ) (args : List (List ℕ)) (l : Line) → monitor_line t args ≡ Ok l → IsOfGroup t l
+monitor-fits : (t ticks : ℕ) (args : List (List ℕ)) (l : Line) → monitor_line t args ≡ Ok l → IsOfGroup t ticks l
 unfolding monitor_line
-monitor-fits t args l e =
+monitor-fits t ticks args l e =
     let w = bind_ok (two args) (λ w. number_within 0 (2 * t) w.0 >>= (λ ring. member_number w.1 >>= (λ member. Ok (lines.Monitor (record { 0 = ring }) member)))) l e in
     let ring = bind_ok (number_within 0 (2 * t) w.0.0) (λ ring. member_number w.0.1 >>= (λ member. Ok (lines.Monitor (record { 0 = ring }) member))) l w.2 in
     let member = bind_ok (member_number w.0.1) (λ member. Ok (lines.Monitor (record { 0 = ring.0 }) member)) l ring.2 in
     let same : lines.Monitor (record { 0 = ring.0 }) member.0 ≡ l = let p = member.2 in cc in
     let below = within_ok 0 (2 * t) (number_of w.0.0) ring.0 ring.1 in
     let lt : ring.0 < 2 * t + 1 = omega (arith, below.1) in
-    subst (IsOfGroup t) same lt
+    subst (IsOfGroup t ticks) same lt
 
-lone-fits : (t : ℕ) (line : Line) (args : List (List ℕ)) (l : Line) → IsOfGroup t line → lone_line line args ≡ Ok l → IsOfGroup t l
+lone-fits : (t ticks : ℕ) (line : Line) (args : List (List ℕ)) (l : Line) → IsOfGroup t ticks line → lone_line line args ≡ Ok l → IsOfGroup t ticks l
 unfolding lone_line
-lone-fits t line args l fits e =
+lone-fits t ticks line args l fits e =
     let w = bind_ok (none args) (λ _. Ok line) l e in
     let same : line ≡ l = let p = w.2 in cc in
-    subst (IsOfGroup t) same fits
+    subst (IsOfGroup t ticks) same fits
+
+accuse-fits : (t ticks : ℕ) (args : List (List ℕ)) (l : Line) → accuse_line args ≡ Ok l → IsOfGroup t ticks l
+unfolding accuse_line
+accuse-fits t ticks args l e =
+    let w = bind_ok (four args) (λ w. member_number w.0 >>= (λ accuser. member_number w.1 >>= (λ accused. epoch_number w.2 >>= (λ epoch. number_within 0 255 w.3 >>= (λ ring. Ok (lines.Accuse (record { accuser = accuser; accused = accused; epoch = epoch; ring = record { 0 = ring } }))))))) l e in
+    let accuser = bind_ok (member_number w.0.0) (λ accuser. member_number w.0.1 >>= (λ accused. epoch_number w.0.2 >>= (λ epoch. number_within 0 255 w.0.3 >>= (λ ring. Ok (lines.Accuse (record { accuser = accuser; accused = accused; epoch = epoch; ring = record { 0 = ring } })))))) l w.2 in
+    let accused = bind_ok (member_number w.0.1) (λ accused. epoch_number w.0.2 >>= (λ epoch. number_within 0 255 w.0.3 >>= (λ ring. Ok (lines.Accuse (record { accuser = accuser.0; accused = accused; epoch = epoch; ring = record { 0 = ring } }))))) l accuser.2 in
+    let epoch = bind_ok (epoch_number w.0.2) (λ epoch. number_within 0 255 w.0.3 >>= (λ ring. Ok (lines.Accuse (record { accuser = accuser.0; accused = accused.0; epoch = epoch; ring = record { 0 = ring } })))) l accused.2 in
+    let ring = bind_ok (number_within 0 255 w.0.3) (λ ring. Ok (lines.Accuse (record { accuser = accuser.0; accused = accused.0; epoch = epoch.0; ring = record { 0 = ring } }))) l epoch.2 in
+    let same : lines.Accuse (record { accuser = accuser.0; accused = accused.0; epoch = epoch.0; ring = record { 0 = ring.0 } }) ≡ l = let p = ring.2 in cc in
+    subst (IsOfGroup t ticks) same tt
+
+tick-fits : (t ticks : ℕ) (args : List (List ℕ)) (l : Line) → tick_line ticks args ≡ Ok l → IsOfGroup t ticks l
+unfolding tick_line
+tick-fits t ticks args l e =
+    let w = bind_ok (one args) (λ w. number_within 1 10000 w >>= (λ n. cond (leb (ticks + n) 1000000) (Ok (lines.Tick n)) (Err bad.Limit))) l e in
+    let n = bind_ok (number_within 1 10000 w.0) (λ n. cond (leb (ticks + n) 1000000) (Ok (lines.Tick n)) (Err bad.Limit)) l w.2 in
+    let h = held (leb (ticks + n.0) 1000000) (Ok (lines.Tick n.0)) bad.Limit l n.2 in
+    let same : lines.Tick n.0 ≡ l = let p = h.1 in cc in
+    let range = within_ok 1 10000 (number_of w.0) n.0 n.1 in
+    subst (IsOfGroup t ticks) same (range.0, range.1, leb-true (ticks + n.0) 1000000 h.0)
 
 -- a line other than that of the group fits below it
-line-fits : (t : ℕ) (word : LineWord) (args : List (List ℕ)) (l : Line) → not (is_group word) ≡ true → line_of t word args ≡ Ok l → IsOfGroup t l
+line-fits : (t ticks : ℕ) (word : LineWord) (args : List (List ℕ)) (l : Line) → not (is_group word) ≡ true → line_of t ticks word args ≡ Ok l → IsOfGroup t ticks l
 unfolding line_of
-line-fits t words.Group args l apart e = cc
-line-fits t words.Member args l apart e = member-fits t args l e
-line-fits t words.Note args l apart e = note-fits t args l e
-line-fits t words.View args l apart e = lone-fits t lines.View args l tt e
-line-fits t words.Monitor args l apart e = monitor-fits t args l e
-line-fits t words.End args l apart e = lone-fits t lines.End args l tt e
+line-fits t ticks words.Group args l apart e = cc
+line-fits t ticks words.Member args l apart e = member-fits t ticks args l e
+line-fits t ticks words.Note args l apart e = note-fits t ticks args l e
+line-fits t ticks words.Accuse args l apart e = accuse-fits t ticks args l e
+line-fits t ticks words.Tick args l apart e = tick-fits t ticks args l e
+line-fits t ticks words.View args l apart e = lone-fits t ticks lines.View args l tt e
+line-fits t ticks words.Monitor args l apart e = monitor-fits t ticks args l e
+line-fits t ticks words.Life args l apart e = lone-fits t ticks lines.Life args l tt e
+line-fits t ticks words.End args l apart e = lone-fits t ticks lines.End args l tt e
 
-group_word-fits : (t : ℕ) (word : LineWord) (args : List (List ℕ)) (l : Line) → is_group word ≡ true → line_of t word args ≡ Ok l → IsGroup l
+group_word-fits : (t ticks : ℕ) (word : LineWord) (args : List (List ℕ)) (l : Line) → is_group word ≡ true → line_of t ticks word args ≡ Ok l → IsGroup l
 unfolding line_of
-group_word-fits t words.Group args l is e = group-fits args l e
-group_word-fits t words.Member args l is e = cc
-group_word-fits t words.Note args l is e = cc
-group_word-fits t words.View args l is e = cc
-group_word-fits t words.Monitor args l is e = cc
-group_word-fits t words.End args l is e = cc
+group_word-fits t ticks words.Group args l is e = group-fits args l e
+group_word-fits t ticks words.Member args l is e = cc
+group_word-fits t ticks words.Note args l is e = cc
+group_word-fits t ticks words.Accuse args l is e = cc
+group_word-fits t ticks words.Tick args l is e = cc
+group_word-fits t ticks words.View args l is e = cc
+group_word-fits t ticks words.Monitor args l is e = cc
+group_word-fits t ticks words.Life args l is e = cc
+group_word-fits t ticks words.End args l is e = cc
 
-word-fits : (place : Place) (word : LineWord) (args : List (List ℕ)) (l : Line) → may_stand place (is_group word) ≡ true → line_of (tolerance place) word args ≡ Ok l → FitsAt place l
-word-fits places.Start word args l may e = cc
-word-fits places.Headed word args l may e = group_word-fits 0 word args l may e
-word-fits (places.Body t) word args l may e = line-fits t word args l may e
-word-fits places.Ended word args l may e = cc
+word-fits : (place : Place) (ticks : ℕ) (word : LineWord) (args : List (List ℕ)) (l : Line) → may_stand place (is_group word) ≡ true → line_of (tolerance place) ticks word args ≡ Ok l → FitsAt place ticks l
+word-fits places.Start ticks word args l may e = cc
+word-fits places.Headed ticks word args l may e = group_word-fits 0 ticks word args l may e
+word-fits (places.Body t) ticks word args l may e = line-fits t ticks word args l may e
+word-fits places.Ended ticks word args l may e = cc
 
-body-fits : (place : Place) (ws : List (List ℕ)) (l : Line) → body_line place ws ≡ Ok l → FitsAt place l
+body-fits : (p : Progress) (ws : List (List ℕ)) (l : Line) → body_line p ws ≡ Ok l → FitsAt p.place p.ticks l
 unfolding body_line
-body-fits place [] l e = cc
-body-fits place (first ∷ args) l e =
-    let word = bind_ok (line_word first) (λ word. cond (may_stand place (is_group word)) (line_of (tolerance place) word args) (Err bad.Order)) l e in
-    let may = held (may_stand place (is_group word.0)) (line_of (tolerance place) word.0 args) bad.Order l word.2 in
-    word-fits place word.0 args l may.0 may.1
+body-fits p [] l e = cc
+body-fits p (first ∷ args) l e =
+    let word = bind_ok (line_word first) (λ word. cond (may_stand p.place (is_group word)) (line_of (tolerance p.place) p.ticks word args) (Err bad.Order)) l e in
+    let may = held (may_stand p.place (is_group word.0)) (line_of (tolerance p.place) p.ticks word.0 args) bad.Order l word.2 in
+    word-fits p.place p.ticks word.0 args l may.0 may.1
 
 header-fits : (command : Command) (text : List ℕ) (l : Line) → header_line command text ≡ Ok l → IsHeader l
 unfolding header_line
@@ -151,16 +178,20 @@ header-fits Replay text l e =
       | inr h ↦ let r = avoided (bytes_eq text (codes "fireflies 1 world")) (Err bad.Header) bad.NotBuilt l h.1 in let p = r.1 in cc
     ]
 
-at_place : (command : Command) (place : Place) (text : List ℕ) (ws : List (List ℕ)) (l : Line) → cond (is_start place) (header_line command text) (body_line place ws) ≡ Ok l → FitsAt place l
-at_place command places.Start text ws l e = header-fits command text l e
-at_place command places.Headed text ws l e = body-fits places.Headed ws l e
-at_place command (places.Body t) text ws l e = body-fits (places.Body t) ws l e
-at_place command places.Ended text ws l e = body-fits places.Ended ws l e
+header-at : (place : Place) (ticks : ℕ) (l : Line) → is_start place ≡ true → IsHeader l → FitsAt place ticks l
+header-at places.Start ticks l start header = header
+header-at places.Headed ticks l start header = cc
+header-at (places.Body t) ticks l start header = cc
+header-at places.Ended ticks l start header = cc
 
-words-fit : (p : Progress) (text : List ℕ) (ws : Option (List (List ℕ))) (l : Line) → words_line p text ws ≡ Ok l → FitsAt p.place l
+words-fit : (p : Progress) (text : List ℕ) (ws : Option (List (List ℕ))) (l : Line) → words_line p text ws ≡ Ok l → FitsAt p.place p.ticks l
 unfolding words_line
 words-fit p text None l e = cc
-words-fit p text (Some ws) l e = at_place p.command p.place text ws l e
+words-fit p text (Some ws) l e =
+    elim (chosen (is_start p.place) (header_line p.command text) (body_line p ws) (Ok l) e) [
+      | inl h ↦ header-at p.place p.ticks l h.0 (header-fits p.command text l h.1)
+      | inr h ↦ body-fits p ws l h.1
+    ]
 
 pub judge-fits : (p : Progress) (bytes : List ℕ) (l : Line) → tolerance p.place ≤ 15 → judge p bytes ≡ Ok l → IsRead p bytes l
 unfolding judge

@@ -1,80 +1,108 @@
-use Rattle.std.proofs.Common.{◌≡◌, ℕ, ◌++◌, [], ◌∷◌, Ok, Err, refl, codes}
+-- Worked lines: what each is, or its first bad word. Each row is computed.
+use Rattle.std.proofs.Common.{◌≡◌, ℕ, ◌++◌, [], ◌∷◌, List, Result, Ok, Err, refl, codes}
+use Rattle.schedule.specs.declared.bad_word.BadWord.{BadWord}
 use Rattle.schedule.specs.declared.bad_word.BadWord.TheVariants as bad
+use Rattle.schedule.specs.declared.line.Line.{Line}
 use Rattle.schedule.specs.declared.line.Line.TheVariants as lines
 use Rattle.schedule.specs.declared.line.Place.TheVariants as places
 use Rattle.schedule.specs.declared.line.Command.TheVariants.{Replay}
-use Rattle.schedule.specs.Grammar.{judge, opening, Progress, words_line, body_line, line_word, line_of, group_line, member_line, member_of, note_line, monitor_line, lone_line, header_line}
+use Rattle.schedule.specs.Grammar.{Progress, opening, judge, words_line, header_line, body_line, line_word, line_of, group_line, member_line, member_of, note_line, accuse_line, tick_line, monitor_line, lone_line}
 
-at : ℕ → Progress
-at t = record { command = Replay; number = 3; place = places.Body t; ticks = 0 }
+-- the line with a line feed, at line 1; directly below the header; below a group of tolerance 1, with so many
+-- ticks before it; and behind `end`
+abbrev first : List ℕ → Result Line BadWord
+first text = judge (opening Replay) (text ++ 10 ∷ [])
 
-headed : Progress
-headed = record { command = Replay; number = 2; place = places.Headed; ticks = 0 }
+abbrev second : List ℕ → Result Line BadWord
+second text = judge (record { command = Replay; number = 2; place = places.Headed; ticks = 0 }) (text ++ 10 ∷ [])
 
-r1 : judge (opening Replay) (codes "fireflies 1 direct" ++ 10 ∷ []) ≡ Ok lines.Header
+abbrev third : ℕ → List ℕ → Result Line BadWord
+third ticks text = judge (record { command = Replay; number = 3; place = places.Body 1; ticks = ticks }) (text ++ 10 ∷ [])
+
+abbrev last : List ℕ → Result Line BadWord
+last text = judge (record { command = Replay; number = 4; place = places.Ended; ticks = 0 }) (text ++ 10 ∷ [])
+
+heads : (first (codes "fireflies 1 direct") ≡ Ok lines.Header)
+    × (first (codes "fireflies 1 world") ≡ Err bad.NotBuilt)
+    × (first (codes "fireflies 1  direct") ≡ Err bad.Spaces)
+    × (first (codes "fireflies 1") ≡ Err bad.Header)
+    × (first (codes "group 1 3") ≡ Err bad.Header)
+    × (judge (opening Replay) (codes "fireflies 1 direct") ≡ Err bad.LineFeed)
 unfolding judge words_line header_line
-r1 = refl
+heads = (refl, refl, refl, refl, refl, refl)
 
-r2 : judge (opening Replay) (codes "fireflies 1 world" ++ 10 ∷ []) ≡ Err bad.NotBuilt
-unfolding judge words_line header_line
-r2 = refl
+groups : (second (codes "group 1 1") ≡ Ok (lines.Group 1 1))
+    × (second (codes "group 15 10000") ≡ Ok (lines.Group 15 10000))
+    × (second (codes "group 16 3") ≡ Err bad.Limit)
+    × (second (codes "group 0 3") ≡ Err bad.Limit)
+    × (second (codes "group 1 0") ≡ Err bad.Limit)
+    × (second (codes "group 1 10001") ≡ Err bad.Limit)
+    × (second (codes "group 0 x") ≡ Err bad.Limit)
+    × (second (codes "group x 0") ≡ Err bad.Number)
+    × (second (codes "group 1") ≡ Err bad.Count)
+    × (second (codes "view 1") ≡ Err bad.Order)
+    × (second (codes "grup 1 3") ≡ Err bad.Word)
+    × (second (codes "fireflies 1 direct") ≡ Err bad.Word)
+unfolding judge words_line body_line line_word line_of group_line lone_line
+groups = (refl, refl, refl, refl, refl, refl, refl, refl, refl, refl, refl, refl)
 
-r3 : judge headed (codes "group 15 10000" ++ 10 ∷ []) ≡ Ok (lines.Group 15 10000)
-unfolding headed judge words_line body_line line_word line_of group_line
-r3 = refl
+spaces : (third 0 (codes "view") ≡ Ok lines.View)
+    × (third 0 (codes " view") ≡ Err bad.Spaces)
+    × (third 0 (codes "view ") ≡ Err bad.Spaces)
+    × (third 0 (codes "note  2") ≡ Err bad.Spaces)
+    × (third 0 (118 ∷ 127 ∷ []) ≡ Err bad.Spaces)
+    × (third 0 (9 ∷ []) ≡ Err bad.Spaces)
+    × (third 0 [] ≡ Err bad.Spaces)
+    × (third 0 (126 ∷ 33 ∷ []) ≡ Err bad.Word)
+    × (third 0 (codes "node 1") ≡ Err bad.Word)
+    × (third 0 (codes "group x") ≡ Err bad.Order)
+    × (third 0 (codes "view 01") ≡ Err bad.Count)
+    × (third 0 (codes "life") ≡ Ok lines.Life)
+    × (third 0 (codes "end") ≡ Ok lines.End)
+    × (last (codes "end") ≡ Err bad.AfterEnd)
+unfolding judge words_line body_line line_word line_of group_line lone_line
+spaces = (refl, refl, refl, refl, refl, refl, refl, refl, refl, refl, refl, refl, refl, refl)
 
-r4 : judge headed (codes "group 16 3" ++ 10 ∷ []) ≡ Err bad.Limit
-unfolding headed judge words_line body_line line_word line_of group_line
-r4 = refl
+members : (third 0 (codes "member 1023 0 4294967295 7") ≡ Ok (lines.Member 1023 (0 ∷ 4294967295 ∷ 7 ∷ [])))
+    × (third 0 (codes "member x 0 0") ≡ Err bad.Count)
+    × (third 0 (codes "member x 0 0 0 0") ≡ Err bad.Count)
+    × (third 0 (codes "member 1024 x 0 0") ≡ Err bad.Limit)
+    × (third 0 (codes "member 1 0 0 4294967296") ≡ Err bad.Limit)
+    × (third 0 (codes "member 1 00 0 4294967296") ≡ Err bad.Number)
+unfolding judge words_line body_line line_word line_of member_line member_of
+members = (refl, refl, refl, refl, refl, refl)
 
-r5 : judge headed (codes "view" ++ 10 ∷ []) ≡ Err bad.Order
-unfolding headed judge words_line body_line line_word line_of group_line
-r5 = refl
+notes : (third 0 (codes "note 0 1 0") ≡ Ok (lines.Note (record { member = 0; epoch = 1; mask = record { 0 = 0 } })))
+    × (third 0 (codes "note 1023 18446744073709551615 4294967295") ≡ Ok (lines.Note (record { member = 1023; epoch = 18446744073709551615; mask = record { 0 = 4294967295 } })))
+    × (third 0 (codes "note 2 0 07") ≡ Err bad.Limit)
+    × (third 0 (codes "note 2 01 4294967296") ≡ Err bad.Number)
+    × (third 0 (codes "note 2 18446744073709551616 7") ≡ Err bad.Number)
+    × (third 0 (codes "note 2 1 4294967296") ≡ Err bad.Limit)
+    × (third 0 (codes "note 2 -1 7") ≡ Err bad.Number)
+unfolding judge words_line body_line line_word line_of note_line
+notes = (refl, refl, refl, refl, refl, refl, refl)
 
-r6 : judge headed (codes "grup 1 3" ++ 10 ∷ []) ≡ Err bad.Word
-unfolding headed judge words_line body_line line_word line_of group_line
-r6 = refl
+accusations : (third 0 (codes "accuse 1 2 3 255") ≡ Ok (lines.Accuse (record { accuser = 1; accused = 2; epoch = 3; ring = record { 0 = 255 } })))
+    × (third 0 (codes "accuse 1 2 3 256") ≡ Err bad.Limit)
+    × (third 0 (codes "accuse 1 1024 x 256") ≡ Err bad.Limit)
+    × (third 0 (codes "accuse 1 2 0 x") ≡ Err bad.Limit)
+    × (third 0 (codes "accuse 1 2 18446744073709551616 0") ≡ Err bad.Number)
+    × (third 0 (codes "accuse 1 2 3") ≡ Err bad.Count)
+unfolding judge words_line body_line line_word line_of accuse_line
+accusations = (refl, refl, refl, refl, refl, refl)
 
-r7 : judge headed (codes "group 1" ++ 10 ∷ []) ≡ Err bad.Count
-unfolding headed judge words_line body_line line_word line_of group_line
-r7 = refl
+ticks : (third 0 (codes "tick 1") ≡ Ok (lines.Tick 1))
+    × (third 990000 (codes "tick 10000") ≡ Ok (lines.Tick 10000))
+    × (third 990001 (codes "tick 10000") ≡ Err bad.Limit)
+    × (third 1000000 (codes "tick 1") ≡ Err bad.Limit)
+    × (third 0 (codes "tick 0") ≡ Err bad.Limit)
+    × (third 0 (codes "tick 10001") ≡ Err bad.Limit)
+    × (third 0 (codes "tick") ≡ Err bad.Count)
+unfolding judge words_line body_line line_word line_of tick_line
+ticks = (refl, refl, refl, refl, refl, refl, refl)
 
-r8 : judge (at 1) (codes "member 1024 0 0 0" ++ 10 ∷ []) ≡ Err bad.Limit
-unfolding at judge words_line body_line line_word line_of member_line member_of
-r8 = refl
-
-r9 : judge (at 1) (codes "member 1023 0 4294967295 7" ++ 10 ∷ []) ≡ Ok (lines.Member 1023 (0 ∷ 4294967295 ∷ 7 ∷ []))
-unfolding at judge words_line body_line line_word line_of member_line member_of
-r9 = refl
-
-r10 : judge (at 1) (codes "note 2 0 7" ++ 10 ∷ []) ≡ Err bad.Limit
-unfolding at judge words_line body_line line_word line_of note_line
-r10 = refl
-
-r11 : judge (at 1) (codes "note 2 01 7" ++ 10 ∷ []) ≡ Err bad.Number
-unfolding at judge words_line body_line line_word line_of note_line
-r11 = refl
-
-r12 : judge (at 1) (codes "note 2 18446744073709551616 7" ++ 10 ∷ []) ≡ Err bad.Number
-unfolding at judge words_line body_line line_word line_of note_line
-r12 = refl
-
-r13 : judge (at 1) (codes "note 2  1 7" ++ 10 ∷ []) ≡ Err bad.Spaces
-unfolding at judge words_line body_line line_word line_of note_line
-r13 = refl
-
-r14 : judge (at 1) (codes "end") ≡ Err bad.LineFeed
-unfolding at judge words_line body_line line_word line_of lone_line
-r14 = refl
-
-r15 : judge (at 1) (codes "end" ++ 10 ∷ []) ≡ Ok lines.End
-unfolding at judge words_line body_line line_word line_of lone_line
-r15 = refl
-
-r16 : judge (at 1) (codes "monitor 2 0" ++ 10 ∷ []) ≡ Ok (lines.Monitor (record { 0 = 2 }) 0)
-unfolding at judge words_line body_line line_word line_of monitor_line
-r16 = refl
-
-r17 : judge (at 1) (codes "monitor 3 0" ++ 10 ∷ []) ≡ Err bad.Limit
-unfolding at judge words_line body_line line_word line_of monitor_line
-r17 = refl
+monitors : (third 0 (codes "monitor 2 0") ≡ Ok (lines.Monitor (record { 0 = 2 }) 0))
+    × (third 0 (codes "monitor 3 x") ≡ Err bad.Limit)
+    × (third 0 (codes "monitor 2 1024") ≡ Err bad.Limit)
+unfolding judge words_line body_line line_word line_of monitor_line
+monitors = (refl, refl, refl)

@@ -62,6 +62,11 @@ abbrev pub none : List (List ℕ) → Result (Unit {0}) BadWord
 none [] = Ok tt
 none (a ∷ more) = Err bad.Count
 
+abbrev pub one : List (List ℕ) → Result (List ℕ) BadWord
+one (a ∷ []) = Ok a
+one [] = Err bad.Count
+one (a ∷ b ∷ more) = Err bad.Count
+
 abbrev pub two : List (List ℕ) → Result (List ℕ × List ℕ) BadWord
 two (a ∷ b ∷ []) = Ok (a, b)
 two [] = Err bad.Count
@@ -74,6 +79,14 @@ three [] = Err bad.Count
 three (a ∷ []) = Err bad.Count
 three (a ∷ b ∷ []) = Err bad.Count
 three (a ∷ b ∷ c ∷ d ∷ more) = Err bad.Count
+
+abbrev pub four : List (List ℕ) → Result (List ℕ × List ℕ × List ℕ × List ℕ) BadWord
+four (a ∷ b ∷ c ∷ d ∷ []) = Ok (a, b, c, d)
+four [] = Err bad.Count
+four (a ∷ []) = Err bad.Count
+four (a ∷ b ∷ []) = Err bad.Count
+four (a ∷ b ∷ c ∷ []) = Err bad.Count
+four (a ∷ b ∷ c ∷ d ∷ e ∷ more) = Err bad.Count
 
 -- ## Numbers with a range
 
@@ -135,6 +148,23 @@ note_line args = do
   mask ← number_32 w.2
   Ok (lines.Note (record { member = member; epoch = epoch; mask = record { 0 = mask } }))
 
+-- accuse ACCUSER ACCUSED EPOCH RING, the ring being any that a record can name
+unfoldable pub accuse_line : List (List ℕ) → Result Line BadWord
+accuse_line args = do
+  w ← four args
+  accuser ← member_number w.0
+  accused ← member_number w.1
+  epoch ← epoch_number w.2
+  ring ← number_within 0 255 w.3
+  Ok (lines.Accuse (record { accuser = accuser; accused = accused; epoch = epoch; ring = record { 0 = ring } }))
+
+-- tick N, where there were so many ticks before it: the ticks of a schedule are at most 1000000
+unfoldable pub tick_line : ℕ → List (List ℕ) → Result Line BadWord
+tick_line ticks args = do
+  w ← one args
+  n ← number_within 1 10000 w
+  if nat_le (ticks + n) 1000000 then Ok (lines.Tick n) else Err bad.Limit
+
 -- monitor RING M, the ring being one of the 2t+1
 unfoldable pub monitor_line : ℕ → List (List ℕ) → Result Line BadWord
 monitor_line t args = do
@@ -151,26 +181,29 @@ lone_line line args = do
 
 -- ## Line words, and where they may stand
 
--- the line word that a word is; those of lines that are not read yet are named apart
+-- the line word that a word is
 unfoldable pub line_word : List ℕ → Result LineWord BadWord
 line_word word =
     if bytes_eq word (codes "group") then Ok words.Group
     else (if bytes_eq word (codes "member") then Ok words.Member
     else (if bytes_eq word (codes "note") then Ok words.Note
+    else (if bytes_eq word (codes "accuse") then Ok words.Accuse
+    else (if bytes_eq word (codes "tick") then Ok words.Tick
     else (if bytes_eq word (codes "view") then Ok words.View
     else (if bytes_eq word (codes "monitor") then Ok words.Monitor
+    else (if bytes_eq word (codes "life") then Ok words.Life
     else (if bytes_eq word (codes "end") then Ok words.End
-    else (if bytes_eq word (codes "accuse") then Err bad.NotBuilt
-    else (if bytes_eq word (codes "tick") then Err bad.NotBuilt
-    else (if bytes_eq word (codes "life") then Err bad.NotBuilt
     else Err bad.Word))))))))
 
 abbrev pub is_group : LineWord → Bool
 is_group words.Group = true
 is_group words.Member = false
 is_group words.Note = false
+is_group words.Accuse = false
+is_group words.Tick = false
 is_group words.View = false
 is_group words.Monitor = false
+is_group words.Life = false
 is_group words.End = false
 
 -- The line of the group stands directly below the header, and every other line below the group.
@@ -180,20 +213,23 @@ may_stand places.Headed is_group = is_group
 may_stand (places.Body t) is_group = not is_group
 may_stand places.Ended is_group = false
 
--- the line of this line word, in a group of tolerance t
-unfoldable pub line_of : ℕ → LineWord → List (List ℕ) → Result Line BadWord
-line_of t words.Group args = group_line args
-line_of t words.Member args = member_line t args
-line_of t words.Note args = note_line args
-line_of t words.View args = lone_line lines.View args
-line_of t words.Monitor args = monitor_line t args
-line_of t words.End args = lone_line lines.End args
+-- the line of this line word, in a group of tolerance t, where there were so many ticks before it
+unfoldable pub line_of : ℕ → ℕ → LineWord → List (List ℕ) → Result Line BadWord
+line_of t ticks words.Group args = group_line args
+line_of t ticks words.Member args = member_line t args
+line_of t ticks words.Note args = note_line args
+line_of t ticks words.Accuse args = accuse_line args
+line_of t ticks words.Tick args = tick_line ticks args
+line_of t ticks words.View args = lone_line lines.View args
+line_of t ticks words.Monitor args = monitor_line t args
+line_of t ticks words.Life args = lone_line lines.Life args
+line_of t ticks words.End args = lone_line lines.End args
 
-unfoldable pub body_line : Place → List (List ℕ) → Result Line BadWord
-body_line place [] = Err bad.Word
-body_line place (first ∷ args) = do
+unfoldable pub body_line : Progress → List (List ℕ) → Result Line BadWord
+body_line p [] = Err bad.Word
+body_line p (first ∷ args) = do
   word ← line_word first
-  if may_stand place (is_group word) then line_of (tolerance place) word args else Err bad.Order
+  if may_stand p.place (is_group word) then line_of (tolerance p.place) p.ticks word args else Err bad.Order
 
 -- ## The header
 
@@ -214,7 +250,7 @@ before_line_feed bytes = if has_line_feed bytes then take (length bytes - 1) byt
 
 unfoldable pub words_line : Progress → List ℕ → Option (List (List ℕ)) → Result Line BadWord
 words_line p text None = Err bad.Spaces
-words_line p text (Some ws) = if is_start p.place then header_line p.command text else body_line p.place ws
+words_line p text (Some ws) = if is_start p.place then header_line p.command text else body_line p ws
 
 -- What the next line is, or the first bad word that holds.
 unfoldable pub judge : Progress → List ℕ → Result Line BadWord
@@ -233,13 +269,29 @@ place_after place lines.Header = places.Headed
 place_after place (lines.Group t timeout) = places.Body t
 place_after place (lines.Member m ps) = place
 place_after place (lines.Note n) = place
+place_after place (lines.Accuse a) = place
+place_after place (lines.Tick n) = place
 place_after place lines.View = place
 place_after place (lines.Monitor r m) = place
+place_after place lines.Life = place
 place_after place lines.End = places.Ended
+
+-- the ticks of a line
+abbrev pub ticks_of : Line → ℕ
+ticks_of lines.Header = 0
+ticks_of (lines.Group t timeout) = 0
+ticks_of (lines.Member m ps) = 0
+ticks_of (lines.Note n) = 0
+ticks_of (lines.Accuse a) = 0
+ticks_of (lines.Tick n) = n
+ticks_of lines.View = 0
+ticks_of (lines.Monitor r m) = 0
+ticks_of lines.Life = 0
+ticks_of lines.End = 0
 
 -- the progress behind a line
 abbrev pub after : Progress → Line → Progress
-after p l = record { command = p.command; number = p.number + 1; place = place_after p.place l; ticks = p.ticks }
+after p l = record { command = p.command; number = p.number + 1; place = place_after p.place l; ticks = p.ticks + ticks_of l }
 
 -- ## What the reader answers
 
@@ -254,8 +306,11 @@ TakesMemory lines.Header = ⊥
 TakesMemory (lines.Group t timeout) = ⊥
 TakesMemory (lines.Member m ps) = Unit {0}
 TakesMemory (lines.Note n) = ⊥
+TakesMemory (lines.Accuse a) = ⊥
+TakesMemory (lines.Tick n) = ⊥
 TakesMemory lines.View = ⊥
 TakesMemory (lines.Monitor r m) = ⊥
+TakesMemory lines.Life = ⊥
 TakesMemory lines.End = ⊥
 
 -- An answer for a line: want of memory comes only where the line is a good one, of a member.
@@ -272,12 +327,29 @@ abbrev pub progress_after : Progress → Result Line LineFault → Progress
 progress_after p (Ok l) = after p l
 progress_after p (Err fault) = p
 
--- The tolerance of a group is at most 15.
-abbrev pub IsBounded : Line → Type 0
-IsBounded lines.Header = Unit {0}
-IsBounded (lines.Group t timeout) = t ≤ 15
-IsBounded (lines.Member m ps) = Unit {0}
-IsBounded (lines.Note n) = Unit {0}
-IsBounded lines.View = Unit {0}
-IsBounded (lines.Monitor r m) = Unit {0}
-IsBounded lines.End = Unit {0}
+-- The tolerance of a group is at most 15, and the ticks of a schedule are at most 1000000, where there were
+-- so many before the line.
+abbrev pub IsBounded : ℕ → Line → Type 0
+IsBounded ticks lines.Header = Unit {0}
+IsBounded ticks (lines.Group t timeout) = t ≤ 15
+IsBounded ticks (lines.Member m ps) = Unit {0}
+IsBounded ticks (lines.Note n) = Unit {0}
+IsBounded ticks (lines.Accuse a) = Unit {0}
+IsBounded ticks (lines.Tick n) = ticks + n ≤ 1000000
+IsBounded ticks lines.View = Unit {0}
+IsBounded ticks (lines.Monitor r m) = Unit {0}
+IsBounded ticks lines.Life = Unit {0}
+IsBounded ticks lines.End = Unit {0}
+
+-- A line with no ticks, in which the tolerance of a group is at most 15.
+abbrev pub IsPlain : Line → Type 0
+IsPlain lines.Header = Unit {0}
+IsPlain (lines.Group t timeout) = t ≤ 15
+IsPlain (lines.Member m ps) = Unit {0}
+IsPlain (lines.Note n) = Unit {0}
+IsPlain (lines.Accuse a) = Unit {0}
+IsPlain (lines.Tick n) = ⊥
+IsPlain lines.View = Unit {0}
+IsPlain (lines.Monitor r m) = Unit {0}
+IsPlain lines.Life = Unit {0}
+IsPlain lines.End = Unit {0}

@@ -2,7 +2,7 @@
 
 ghost use Rattle.std.specs.Prelude.{◌≡◌};
 
-use ff_ids::{MemberId, NoteBody, RingNo};
+use ff_ids::{AccBody, MemberId, NoteBody, RingNo};
 use std::marker::Model;
 
 /// The command whose text is read.
@@ -23,10 +23,16 @@ pub enum Line {
     Member { member: MemberId, places: PlaceList },
     /// `note M EPOCH MASK`
     Note(NoteBody),
+    /// `accuse ACCUSER ACCUSED EPOCH RING`: the ring is 0 to 255.
+    Accuse(AccBody),
+    /// `tick N`: 1 to 10,000 ticks.
+    Tick(u32),
     /// `view`
     View,
     /// `monitor RING M`: the ring is 0 to 2t.
     Monitor { ring: RingNo, member: MemberId },
+    /// `life`: a new life begins.
+    Life,
     /// `end`
     End,
 }
@@ -85,7 +91,7 @@ pub struct Progress {
     /// The number of the next line, from 1.
     pub number: u32,
     pub place: Place,
-    /// The sum of the ticks so far.
+    /// The sum of the ticks so far, at most 1,000,000.
     pub ticks: u32,
 }
 
@@ -95,7 +101,10 @@ pub(crate) enum LineWord {
     Group,
     Member,
     Note,
+    Accuse,
+    Tick,
     View,
     Monitor,
+    Life,
     End,
 }

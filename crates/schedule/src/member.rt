@@ -1,7 +1,7 @@
 //! The `member` line, the only one that takes memory.
 
 ghost use Rattle.std.specs.Prelude.{◌≡◌, IsOk, IfOk, MatchResult, ⊤};
-ghost use Rattle.schedule.specs.Grammar.{AnswersBy, Answers, IsBounded, place_numbers, member_of, member_line};
+ghost use Rattle.schedule.specs.Grammar.{AnswersBy, Answers, IsPlain, place_numbers, member_of, member_line};
 
 use crate::bad_word::{BadWord, LineFault};
 use crate::line::{Line, PlaceList};
@@ -36,7 +36,7 @@ fn place_numbers(alloc: Global, mut words: Words) -> Result<PlaceList, LineFault
 #[tactic(auto, unfolding(crate::specs::Grammar::member_of))]
 fn member_of(alloc: Global, mut args: Words) -> Result<Line, LineFault>
     ensures answer { Answers (member_of args.entry) result }
-    ensures bounded { IfOk result (λ l. IsBounded l) }
+    ensures plain { IfOk result (λ l. IsPlain l) }
 {
     let Some(member) = args.next() else {
         return Err(LineFault::Bad(BadWord::Count));
@@ -49,7 +49,7 @@ fn member_of(alloc: Global, mut args: Words) -> Result<Line, LineFault>
 #[tactic(auto, unfolding(crate::specs::Grammar::member_line))]
 pub(crate) fn member_line(alloc: Global, t: u8, args: Words) -> Result<Line, LineFault>
     ensures answer { Answers (member_line t args.entry) result }
-    ensures bounded { IfOk result (λ l. IsBounded l) }
+    ensures plain { IfOk result (λ l. IsPlain l) }
 {
     if args.count() == 2 * usize::from(t) + 2 {
         member_of(alloc, args)

@@ -2,7 +2,7 @@
 
 ghost use Rattle.std.specs.Prelude.{◌≡◌, [], ◌∷◌, length, position, MatchOption, IfNone};
 ghost use Rattle.std.specs.List.{list_all};
-ghost use Rattle.schedule.specs.Grammar.{Gives, none, two, three};
+ghost use Rattle.schedule.specs.Grammar.{Gives, none, one, two, three, four};
 ghost use Rattle.schedule.specs.Words.{is_space, is_printable, is_word, is_spaced, parts, parts_left, words_of};
 
 use crate::bad_word::BadWord;
@@ -107,6 +107,16 @@ impl<'a> Words<'a> {
         }
     }
 
+    /// The word that is left, if it is one.
+    pub(crate) fn one(mut self) -> Result<&'a [u8], BadWord>
+        ensures { Gives (λ w. w.now) result (one self.entry) }
+    {
+        match (self.next(), self.next()) {
+            (Some(word), None) => Ok(word),
+            _ => Err(BadWord::Count),
+        }
+    }
+
     /// The words that are left, if they are two.
     pub(crate) fn two(mut self) -> Result<(&'a [u8], &'a [u8]), BadWord>
         ensures { Gives (λ x. (x.0.now, x.1.now)) result (two self.entry) }
@@ -123,6 +133,24 @@ impl<'a> Words<'a> {
     {
         match (self.next(), self.next(), self.next(), self.next()) {
             (Some(first), Some(second), Some(third), None) => Ok((first, second, third)),
+            _ => Err(BadWord::Count),
+        }
+    }
+
+    /// The words that are left, if they are four.
+    pub(crate) fn four(mut self) -> Result<(&'a [u8], &'a [u8], &'a [u8], &'a [u8]), BadWord>
+        ensures { Gives (λ x. (x.0.now, x.1.now, x.2.now, x.3.now)) result (four self.entry) }
+    {
+        match (
+            self.next(),
+            self.next(),
+            self.next(),
+            self.next(),
+            self.next(),
+        ) {
+            (Some(first), Some(second), Some(third), Some(fourth), None) => {
+                Ok((first, second, third, fourth))
+            }
             _ => Err(BadWord::Count),
         }
     }

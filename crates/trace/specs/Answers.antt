@@ -1,11 +1,12 @@
 -- Answers: what a line of a recorded text brings, by the rules of membership.
-use Rattle.std.specs.Prelude.{ℕ, ◌-◌, Bool, true, false, List, [], ◌∷◌, ◌++◌, Option, Some, None, map, flat_map, replicate, codes, if◌then◌else◌, take, length}
+use Rattle.std.specs.Prelude.{ℕ, zero, suc, ◌+◌, ◌-◌, Bool, true, false, List, [], ◌∷◌, ◌++◌, Option, Some, None, map, flat_map, replicate, codes, if◌then◌else◌, take, length}
+use Rattle.std.specs.Fmt.{decimal}
 use Rattle.ff_ids.specs.declared.Fault.{Fault}
 use Rattle.ff_ids.specs.declared.Fault.TheVariants as faults
 use Rattle.ff_ids.specs.declared.Group.{Group}
-use Rattle.ff_ids.specs.Faults.{note_fault}
+use Rattle.ff_ids.specs.Faults.{accusation_fault, note_fault}
 use Rattle.ff_ids.specs.Lives.{after, opening}
-use Rattle.ff_ids.specs.Steps.{Event, Joins, Notes, Stepped, step}
+use Rattle.ff_ids.specs.Steps.{Accuses, Event, Joins, Notes, Stepped, Ticks, step}
 use Rattle.ff_ids.specs.Texts.{fault_text, monitor_text}
 use Rattle.ff_ids.specs.Views.{Member, State, is_member, monitor, view}
 use Rattle.ring_order.specs.Rows.{place_of_number}
@@ -81,6 +82,22 @@ monitor_answer s ring member =
 abbrev pub taken : Recorded → Event → List ℕ → Answer
 taken r e verdict = record { recorded = Some (with_event r e); verdict = Some verdict; events = events_of (stepped r e) }
 
+-- The life after so many ticks, and what each of them reports.
+abbrev pub with_ticks : ℕ → Recorded → Recorded
+with_ticks zero r = r
+with_ticks (suc n) r = with_event (with_ticks n r) Ticks
+
+abbrev pub tick_events : ℕ → Recorded → List reported.Event
+tick_events zero r = []
+tick_events (suc n) r = tick_events n r ++ events_of (stepped (with_ticks n r) Ticks)
+
+abbrev pub ticked : ℕ → Recorded → Answer
+ticked n r = record { recorded = Some (with_ticks n r); verdict = None; events = tick_events n r }
+
+-- A new life has the members of the one before, and nothing else of it.
+abbrev pub next_life : Recorded → Recorded
+next_life r = record { group = r.group; life = r.life + 1; members = (state_of r).members; events = [] }
+
 abbrev pub places_at : List ℕ → List (List ℕ)
 places_at numbers = map place_of_number numbers
 
@@ -90,8 +107,11 @@ answer_in r lines.Header = quiet (Some r)
 answer_in r (lines.Group t timeout) = quiet (Some r)
 answer_in r (lines.Member member places) = taken r (Joins member (places_at places)) (verdict_on_joining (is_member (state_of r) member))
 answer_in r (lines.Note note) = taken r (Notes note) (verdict_on (note_fault r.group.t (state_of r) note))
+answer_in r (lines.Accuse a) = taken r (Accuses a) (verdict_on (accusation_fault r.group.t (state_of r) a))
+answer_in r (lines.Tick n) = ticked n r
 answer_in r lines.View = says r (members_text (view (state_of r)))
 answer_in r (lines.Monitor ring member) = says r (monitor_answer (state_of r) ring.0 member)
+answer_in r lines.Life = record { recorded = Some (next_life r); verdict = Some (decimal (r.life + 1)); events = [] }
 answer_in r lines.End = quiet (Some r)
 
 -- What a line brings: the line of the group begins the first life.

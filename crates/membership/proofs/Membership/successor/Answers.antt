@@ -12,7 +12,7 @@ pub returns : goal.returns
 returns c = λ s h.
     let ring = c.args.ring.0 in
     let held = subst (λ (l : Life). Holds l s) (sym c.self.view_is) h in
-    let keys = ap (λ members. keys_on ring members) c.self.invariant.viewed ∙ keys_on-live _ s ring held in
+    let keys = ap (λ members. keys_on ring members) c.self.invariant.sound.viewed ∙ keys_on-live _ s ring held in
     let at = held.at_number c.args.member c.places_of-places.ensures.range in
     let placed = ap (λ (places : PlacesList). places_at places c.args.member) (sym c.deref.ensures.value) ∙ c.places_of-places.ensures.value in
     let own = ap (λ p. key_at ring p c.args.member) (sym (at.places ∙ ap (λ (o : Option (List (List ℕ))). unwrap_or o []) placed)) in

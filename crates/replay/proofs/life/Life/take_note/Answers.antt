@@ -14,7 +14,7 @@ returns c = λ r plays.
     let answered : Answers (note_fault r.group.t s c.args.note) c.put_note-verdict.result =
     subst (λ g. Answers (note_fault g.t s c.args.note) c.put_note-verdict.result) plays.group (put.fault s plays.holds) in
     let done = note-stepped (note_fault r.group.t s c.args.note) s (after_note s c.args.note) c.put_note-verdict.result c.args.self.now.membership c.put_note-verdict.new.self c.put_note-verdict.new.out plays.holds answered (put.step s plays.holds) (put.changes s plays.holds) put.same put.emptied in
-    let at : c.now.result ≡ (stepped r (Notes c.args.note)).state.moment = c.now.ensures (stepped r (Notes c.args.note)).state done.holds in
+    let at : c.now.result ≡ (stepped r (Notes c.args.note)).state.moment = c.now.ensures.value (stepped r (Notes c.args.note)).state done.holds in
     let said : c.err.result ≡ note_fault r.group.t s c.args.note = c.err.ensures.value ∙ done.answered in
     on_ok_weaker c.add_report.result
     (λ text. tells-step c.args.self.now r (Notes c.args.note) (verdict_on (note_fault r.group.t s c.args.note)) c.put_note-verdict.new.self c.put_note-verdict.new.out c.now.result _ _ plays put.group done.holds done.reported at (rw (c.in_ok-add.ensures, c.in_ok-add_verdict.ensures, said) at text))

@@ -4,7 +4,7 @@ use Rattle.schedule.specs.Grammar.{judge, after}
 use Rattle.ports.specs.Contents.{with_back}
 use Rattle.schedule.specs.Fits.{IsRead}
 use Rattle.trace.specs.Answers.{answer}
-use Rattle.replay.specs.Plays.{IsPlacedAt}
+use Rattle.replay.specs.Plays.{IsPlacedBy}
 use Rattle.replay.specs.Stops.{whole}
 use Rattle.replay.proofs.TurnLemmas.{line-told, stop-judged, stop-written}
 use Rattle.replay.proofs.PlaceLemmas.{fits-life, placed-after}
@@ -46,7 +46,7 @@ returns-clause-turns g c = λ r plays placed.
     let text = c.in_ok-tell.ensures.text r plays in
     let then_plays = c.in_ok-tell.ensures.plays r plays in
     let wrote = c.in_ok-write_text.ensures.wrote in
-    let placed_then : IsPlacedAt (after c.args.self.now.lines l).place (answer r l).recorded = placed-after c.args.self.now.lines r l placed fits in
+    let placed_then : IsPlacedBy (after c.args.self.now.lines l) (answer r l).recorded = placed-after c.args.self.now.lines r l placed fits in
     record {
       recorded = (answer r l).recorded;
       plays = then_plays;
@@ -55,4 +55,4 @@ returns-clause-turns g c = λ r plays placed.
     }
 
 pub tell-requires-clause-fits : goal.tell-requires-clause-fits
-tell-requires-clause-fits g c = fits-life c.args.self.now.lines.place c.args.self.now.life c.in_ok-line.line c.requires c.in_ok-line.ensures.read.tolerance c.in_ok-line.ensures.read.fits
+tell-requires-clause-fits g c = fits-life c.args.self.now.lines c.deref.result.now c.args.self.now.life c.in_ok-line.line c.requires c.in_ok-line.ensures.read
