@@ -1,6 +1,5 @@
 -- How a run ends: what it has written of its trace, and for which cause it stopped.
-use Rattle.std.specs.Prelude.{◌≡◌, ℕ, ◌⊎◌, Bool, false, List, [], ◌∷◌, ◌++◌, Option, Some, None, codes}
-use Rattle.std.specs.Str.{bytes_eq}
+use Rattle.std.specs.Prelude.{◌≡◌, ℕ, ◌⊎◌, List, [], ◌∷◌, ◌++◌, Option, Some, None, codes}
 use Rattle.ports.specs.Contents.{IsUsedUp}
 use Rattle.ports.specs.Count.{Rose}
 use Rattle.schedule.specs.declared.bad_word.BadWord.{BadWord}
@@ -8,12 +7,6 @@ use Rattle.trace.specs.Played.{Trace, refusal}
 use Rattle.replay.specs.Stops.{IsFront}
 use Rattle.fireflies.specs.declared.status.Status.{Status}
 use Rattle.fireflies.specs.declared.status.Status.TheVariants as status
-
--- The words are `replay` alone.
-abbrev pub is_replay : List (List ℕ) → Bool
-is_replay [] = false
-is_replay (word ∷ []) = bytes_eq word (codes "replay")
-is_replay (word ∷ other ∷ words) = false
 
 abbrev pub read_fault_line : List ℕ
 read_fault_line = codes "read fault" ++ 10 ∷ []

@@ -1,11 +1,13 @@
 //! The program: it makes the objects of the outside, calls `run`, and exits with the number of its answer.
 #![tactic(auto)]
 
+mod command;
 mod run;
 mod status;
 #[cfg(test)]
 mod tests;
 
+pub use command::Command;
 use edges::{Absent, NoClock, StdSink, StdSource};
 pub use run::run;
 pub use status::Status;

@@ -1,28 +1,21 @@
 // The top call.
 
-ghost use Rattle.std.specs.Prelude.{◌≡◌, ◌≢◌, ℕ, ◌≤◌, ◌⊎◌, ◌↔◌, true, false, List, map, Option, IfOk, IfSome, string_bytes};
+ghost use Rattle.std.specs.Prelude.{◌≡◌, ◌≢◌, ℕ, ◌≤◌, ◌⊎◌, ◌↔◌, List, map, Option, IfOk, IfSome, string_bytes};
 ghost use Rattle.ports.specs.Count.{Rose};
-ghost use Rattle.replay.specs.Stops.{owed_at_first, StopsBy};
+ghost use Rattle.replay.specs.Stops.{Replays, StopsBy};
 ghost use Rattle.trace.specs.LivesIn.{IsUprightText};
 ghost use Rattle.trace.specs.Played.{Trace, refusal};
-ghost use Rattle.fireflies.specs.Ends.{is_replay, Ends, IsComplete, IsTaken};
+ghost use Rattle.fireflies.specs.Commands.{command_of, owed_by};
+ghost use Rattle.fireflies.specs.Ends.{Ends, IsComplete, IsTaken};
 
+use crate::command::Command;
 use crate::status::Status;
 use fields::NoMemory;
 use ports::{Clock, Disk, Link, Sink, Source, write_all};
 use replay::{Stop, replay};
 use schedule::BadWord;
 use std::alloc::Global;
-
-/// Whether the words are those of the command `replay`.
-fn asks_for_replay(words: &[String]) -> bool
-    ensures { result ≡ is_replay (map string_bytes words.now) }
-{
-    match words {
-        [word] => word.as_str() == "replay",
-        _ => false,
-    }
-}
+use verifier::verify_input;
 
 /// The line that says which line is refused, and for which word.
 fn refusal_line(alloc: Global, line: u32, word: BadWord) -> Result<String, NoMemory>
@@ -57,6 +50,48 @@ fn give_cause<O: Sink>(alloc: Global, out: &mut O, stop: Stop) -> Status
     }
 }
 
+/// Does what the command says, from the source to the sink.
+fn carry_out<S: Source, O: Sink>(
+    alloc: Global,
+    command: Command,
+    input: &mut S,
+    out: &mut O,
+) -> Result<(), Stop>
+    ensures source { S.faults input.old ≤ S.faults input.new }
+    ensures sink { O.faults out.old ≤ O.faults out.new }
+    ensures read_fault { result ≡ Err Stop.ReadFault → Rose (S.faults input.old) (S.faults input.new) }
+    ensures write_fault { result ≡ Err Stop.WriteFault → Rose (O.faults out.old) (O.faults out.new) }
+    ensures trace { Replays (owed_by command (O.taken out.old) (S.left input.old)) (O.taken out.new) (S.left input.new) result }
+{
+    match command {
+        Command::Replay => replay(alloc, input, out),
+        Command::Verify => verify_input(alloc, input, out),
+    }
+}
+
+/// Does what the command says, and answers how the run ended.
+fn run_command<S: Source, O: Sink>(
+    alloc: Global,
+    command: Command,
+    input: &mut S,
+    out: &mut O,
+) -> Status
+    ensures command { result ≢ Status.Usage }
+    ensures ends { Ends (owed_by command (O.taken out.old) (S.left input.old)) (O.taken out.new)
+        (S.left input.new) (S.faults input.old) (S.faults input.new) result }
+    ensures complete { IsTaken (owed_by command (O.taken out.old) (S.left input.old)) → IfSome (O.taken out.new)
+        (λ bytes. ¬ (Rose (S.faults input.old) (S.faults input.new)) → ¬ (Rose (O.faults out.old) (O.faults out.new)) → IsComplete result) }
+    ensures source { S.faults input.old ≤ S.faults input.new }
+    ensures sink { O.faults out.old ≤ O.faults out.new }
+    ensures read_fault { result ≡ Status.ReadFault → Rose (S.faults input.old) (S.faults input.new) }
+    ensures write_fault { result ≡ Status.WriteFault → Rose (O.faults out.old) (O.faults out.new) }
+{
+    match carry_out(alloc, command, input, out) {
+        Ok(()) => Status::Ok,
+        Err(stop) => give_cause(alloc, out, stop),
+    }
+}
+
 /// Runs the command that the words name, from the source to the sink. The first cause that comes in the run
 /// ends it, and its line is the last that is written.
 #[tactic(auto, using(crate::proofs::UprightLemmas::upright_left))]
@@ -70,16 +105,16 @@ pub fn run<S: Source, O: Sink, D: Disk, L: Link, C: Clock>(
     clock: &mut C,
 ) -> Status
     // The words alone decide whether there is a command; without one nothing is touched.
-    ensures usage { (result ≡ Status.Usage) ↔ (is_replay (map string_bytes words.now) ≡ false) }
+    ensures usage { (result ≡ Status.Usage) ↔ (command_of (map string_bytes words.now) ≡ None) }
     ensures untouched { result ≡ Status.Usage → (input.new ≡ input.old) × (out.new ≡ out.old) }
 
     // What is written, by how the run ended.
-    ensures ends { is_replay (map string_bytes words.now) ≡ true → Ends (owed_at_first (O.taken out.old) (S.left input.old)) (O.taken out.new)
-        (S.left input.new) (S.faults input.old) (S.faults input.new) result }
+    ensures ends { IfSome (command_of (map string_bytes words.now)) (λ command. Ends (owed_by command (O.taken out.old) (S.left input.old))
+        (O.taken out.new) (S.left input.new) (S.faults input.old) (S.faults input.new) result) }
 
     // Where no line refuses the text and neither side failed, all of it is run, unless memory is refused.
-    ensures complete { is_replay (map string_bytes words.now) ≡ true → IsTaken (owed_at_first (O.taken out.old) (S.left input.old)) → IfSome (O.taken out.new)
-        (λ bytes. ¬ (Rose (S.faults input.old) (S.faults input.new)) → ¬ (Rose (O.faults out.old) (O.faults out.new)) → IsComplete result) }
+    ensures complete { IfSome (command_of (map string_bytes words.now)) (λ command. IsTaken (owed_by command (O.taken out.old) (S.left input.old))
+        → IfSome (O.taken out.new) (λ bytes. ¬ (Rose (S.faults input.old) (S.faults input.new)) → ¬ (Rose (O.faults out.old) (O.faults out.new)) → IsComplete result)) }
 
     // Each member that a trace of the text gives as removed was accused, by the member which that view had as
     // its monitor on an enabled ring, and the accusation stood so and unanswered for the timeout.
@@ -96,11 +131,8 @@ pub fn run<S: Source, O: Sink, D: Disk, L: Link, C: Clock>(
     ensures link { link.new ≡ link.old }
     ensures clock { clock.new ≡ clock.old }
 {
-    if !asks_for_replay(words) {
+    let Some(command) = Command::of(words) else {
         return Status::Usage;
-    }
-    match replay(alloc, input, out) {
-        Ok(()) => Status::Ok,
-        Err(stop) => give_cause(alloc, out, stop),
-    }
+    };
+    run_command(alloc, command, input, out)
 }

@@ -2,6 +2,8 @@
 
 ghost use Rattle.std.specs.Prelude.{◌≤◌};
 
+mod verifying;
+
 use super::run;
 use edges::{Absent, NoClock};
 use ports::{MemorySink, MemorySource};
@@ -306,7 +308,14 @@ const ACCUSED: [Row; 10] = [
 
 #[test]
 fn words_that_name_no_command(rt: HostRuntime) -> Result<(), Fail> {
-    for words in ["", "replay x", "node s 0", "soak 7 2 1", "--help"] {
+    for words in [
+        "",
+        "replay x",
+        "verify x",
+        "node s 0",
+        "soak 7 2 1",
+        "--help",
+    ] {
         let got = run_failing(rt.alloc(), words, SHORT, 1, &[], &[])?;
         assert_eq!(rt; got.number, 2);
         assert!(rt; got.written.is_empty());

@@ -60,7 +60,7 @@ rest-first (b ∷ front) rest f some =
       judged = take-short 65601 (b ∷ front) (omega (arith, f.short));
     }
 
-line-first : (by : Ending) (line rest : List ℕ) → EndsBy by line (Some rest) → 0 < length line → IsFirst line (lines_of (line ++ rest))
+pub line-first : (by : Ending) (line rest : List ℕ) → EndsBy by line (Some rest) → 0 < length line → IsFirst line (lines_of (line ++ rest))
 line-first ending.Feed line rest e some = fed-first line rest e
 line-first ending.Limit line rest e some = cut-first line rest e
 line-first ending.Input line rest e some = rest-first line rest e some
@@ -83,12 +83,12 @@ bad-written (Some taken) (Some left) (Some rest) p r by line w took ends some ba
     ap (λ (l : List ℕ). played (lines_of l) p r) same ∙ played-bad line (lines_of (line ++ rest)) p r w f bad in
     ap (before taken) e ∙ ap (λ (o : List ℕ). record { output = o; refused = Some (p.number, w) }) (append-nil taken)
 
-no_line-ends : (by : Ending) (line : List ℕ) (later : Option (List ℕ)) → EndsBy by line later → length line ≡ 0 → IsUsedUp later
+pub no_line-ends : (by : Ending) (line : List ℕ) (later : Option (List ℕ)) → EndsBy by line later → length line ≡ 0 → IsUsedUp later
 no_line-ends ending.Feed line later e none = absurd (omega (arith, none, ap length e.ended, length-append e.front (10 ∷ [])))
 no_line-ends ending.Limit line later e none = absurd (omega (arith, e.long))
 no_line-ends ending.Input line later e none = e.used_up
 
-no-bytes : (line : List ℕ) → length line ≡ 0 → line ≡ []
+pub no-bytes : (line : List ℕ) → length line ≡ 0 → line ≡ []
 no-bytes [] e = refl
 no-bytes (b ∷ line) e = absurd (omega arith)
 
@@ -118,7 +118,7 @@ feed_apart line clear fed =
     false≢true (sym same ∙ other)
 
 -- a line that is read ends with its line feed
-feed-ends : (by : Ending) (line rest : List ℕ) → EndsBy by line (Some rest) → has_line_feed line ≡ true → IsFed line
+pub feed-ends : (by : Ending) (line rest : List ℕ) → EndsBy by line (Some rest) → has_line_feed line ≡ true → IsFed line
 feed-ends ending.Feed line rest e fed = e
 feed-ends ending.Limit line rest e fed = absurd (feed_apart line e.clear fed)
 feed-ends ending.Input line rest e fed = absurd (feed_apart line e.clear fed)

@@ -6,4 +6,5 @@ mod player;
 mod reader;
 mod report;
 
-pub use player::{Stop, replay};
+pub use player::{Stop, replay, write_text};
+pub use reader::{Ending, ReadStop, read_line};

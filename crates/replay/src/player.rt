@@ -93,7 +93,7 @@ fn tell(
 }
 
 /// Writes the text.
-fn write_text<O: Sink>(out: &mut O, text: &[u8]) -> Result<(), Stop>
+pub fn write_text<O: Sink>(out: &mut O, text: &[u8]) -> Result<(), Stop>
     ensures kept { O.faults out.old ≤ O.faults out.new }
     ensures failed { OnErr result (Rose (O.faults out.old) (O.faults out.new)) }
     ensures wrote { Wrote (O.taken out.old) (O.taken out.new) text.now result }

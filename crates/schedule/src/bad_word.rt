@@ -32,7 +32,9 @@ pub enum BadWord {
     Count,
     /// `number`: this word is no number, or a number above 18446744073709551615.
     Number,
-    /// `limit`: this number is out of its range.
+    /// `hex`: this word isn't an even number of hexadecimal digits.
+    Hex,
+    /// `limit`: this number, or the number of these bytes, is out of its range.
     Limit,
     /// `end`: the input ends, and no line `end` was there.
     End,
@@ -54,6 +56,7 @@ impl fmt::Display for BadWord {
             BadWord::Order => write!(f, "order"),
             BadWord::Count => write!(f, "count"),
             BadWord::Number => write!(f, "number"),
+            BadWord::Hex => write!(f, "hex"),
             BadWord::Limit => write!(f, "limit"),
             BadWord::End => write!(f, "end"),
         }

@@ -13,7 +13,8 @@ mod words;
 
 pub use bad_word::{BadWord, LineFault};
 pub use line::{Command, Line, Place, PlaceList, Progress};
-pub use lines::Lines;
+pub use lines::{Lines, before_line_feed, has_line_feed};
+pub use words::Words;
 
 #[cfg(test)]
 mod tests;

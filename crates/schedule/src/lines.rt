@@ -22,14 +22,15 @@ const LINES: u32 = 100_000;
 /// How many bytes a line may have before its line feed.
 const BYTES: usize = 65_600;
 
-fn has_line_feed(bytes: &[u8]) -> bool
+/// Whether a line feed ends the bytes.
+pub fn has_line_feed(bytes: &[u8]) -> bool
     ensures { result ≡ has_line_feed bytes.now }
 {
     !bytes.is_empty() && bytes[bytes.len() - 1] == b'\n'
 }
 
 /// What stands before the line feed that ends the bytes, or all of them.
-fn before_line_feed(bytes: &[u8]) -> &[u8]
+pub fn before_line_feed(bytes: &[u8]) -> &[u8]
     ensures { result.now ≡ before_line_feed bytes.now }
 {
     if has_line_feed(bytes) {

@@ -45,7 +45,7 @@ fn first_part(text: &[u8]) -> (&[u8], Option<&[u8]>)
 
 /// The words of a line that are still to be read. Contracts see the list of them.
 #[derive(Drop)]
-pub(crate) struct Words<'a> {
+pub struct Words<'a> {
     left: Option<&'a [u8]>,
 }
 
@@ -60,7 +60,7 @@ impl<'a> Model for Words<'a> {
 
 impl<'a> Words<'a> {
     /// The words of the text, if it is words with one space between two and none elsewhere.
-    pub(crate) fn of(text: &'a [u8]) -> Option<Words<'a>>
+    pub fn of(text: &'a [u8]) -> Option<Words<'a>>
         ensures { result ≡ words_of text.now }
     {
         if is_spaced(text) {
@@ -88,7 +88,7 @@ impl<'a> Words<'a> {
     }
 
     /// Takes the next word.
-    pub(crate) fn next(&mut self) -> Option<&'a [u8]>
+    pub fn next(&mut self) -> Option<&'a [u8]>
         ensures word { MatchOption result (self.old ≡ []) (λ w. self.old ≡ w.now ∷ self.new) }
         ensures end { IfNone result (self.new ≡ []) }
     {
@@ -98,7 +98,7 @@ impl<'a> Words<'a> {
     }
 
     /// Nothing, if no word is left.
-    pub(crate) fn none(mut self) -> Result<(), BadWord>
+    pub fn none(mut self) -> Result<(), BadWord>
         ensures { result ≡ none self.entry }
     {
         match self.next() {

@@ -1,0 +1,59 @@
+//! A text with bytes, read line by line.
+
+use crate::VerifyLines;
+use schedule::{BadWord, LineFault};
+use std::test::Fail;
+
+const LINES: [&str; 5] = [
+    "fireflies 1 verify\n",
+    "key 0000000500000003A1a1A1a1a1a1a1a1a1a1a1a1a1a1a1a1b2b2b2b2b2b2b2b2b2b2b2b2b2b2b2b2b2b2b2b2b2b2b2b2b2b2b2b2b2b2b2b2\n",
+    "message 00fF\n",
+    "signature 0a0b0c\n",
+    "end\n",
+];
+
+#[test]
+fn reads_a_question(rt: HostRuntime) -> Result<(), Fail> {
+    let mut lines = VerifyLines::open();
+    for line in LINES {
+        assert_eq!(rt;
+            lines.line(rt.alloc(), line.as_bytes()),
+            Ok(()),
+            "for {line}"
+        );
+    }
+    assert_eq!(rt; lines.number(), 6);
+    let Ok(question) = lines.end() else {
+        panic!(rt; "a question");
+    };
+    assert_eq!(rt; question.message.as_slice(), b"\x00\xff".as_slice());
+    assert_eq!(rt; question.signature.as_slice(), b"\x0a\x0b\x0c".as_slice());
+    assert_eq!(rt; question.key.id, [0xa1; 16]);
+    Ok(())
+}
+
+#[test]
+fn bytes_at_the_limits(rt: HostRuntime) -> Result<(), Fail> {
+    for (place, word, bytes, wanted) in [
+        (2usize, "message ", 16_384u32, Ok(())),
+        (2, "message ", 16_385, Err(LineFault::Bad(BadWord::Limit))),
+        (3, "signature ", 10_000, Ok(())),
+        (3, "signature ", 10_001, Err(LineFault::Bad(BadWord::Limit))),
+    ] {
+        let mut lines = VerifyLines::open();
+        for line in LINES.iter().take(place) {
+            assert_eq!(rt; lines.line(rt.alloc(), line.as_bytes()), Ok(()));
+        }
+        let mut text = String::from_str(rt.alloc(), word)?;
+        for _ in 0..bytes {
+            text.push_str("5a")?;
+        }
+        text.push_str("\n")?;
+        assert_eq!(rt;
+            lines.line(rt.alloc(), text.as_bytes()),
+            wanted,
+            "for {bytes}"
+        );
+    }
+    Ok(())
+}
