@@ -1,0 +1,76 @@
+-- How one turn of the loop follows those before it.
+use Rattle.std.proofs.Common.{◌≡◌, ℕ, ◌+◌, ◌≤◌, List, [], ◌∷◌, ◌++◌, length, take, Option, Some, None, Result, Ok, Err, Bool, true, false, refl, ap, sym, ◌∙◌, append_assoc, arith, length-append}
+use Rattle.ports.specs.Contents.{with_back, with_front}
+use Rattle.ports.proofs.Contents.{with_back-more, with_back-nil, with_front-more, with_front-nil}
+use Rattle.text_trace.specs.Trace.{Owed, Owing, Steps, Waits, Writes, Ends, Refuses}
+use Rattle.text_trace.proofs.TraceLemmas.{steps-none, steps-join, ends-join, refuses-join}
+use Rattle.text_trace.proofs.WholeLemmas.{whole-none, whole-join}
+use Rattle.play.specs.declared.stop.Stop.{Stop}
+use Rattle.play.specs.declared.stop.Stop.TheVariants as stop
+use Rattle.play.specs.Plays.{Standing, Unfailed, Lines, Went, Ended, Refused, Unread, Unwritten, Starved, Follows, Plays, Turns, bytes_of}
+
+-- something is still owed
+pub owing-later : (C : Type 0) (A B : Owed C → Type 0) (first next : ℕ) (was now : Standing) → Owing C A → Went C A B first next was now → Owing C B
+owing-later C A B first next was now owing went =
+    let one = went.steps owing.owed owing.is in
+    record { owed = one.later; is = one.owes }
+
+unfailed-join : (was mid now : Standing) → Unfailed was mid → Unfailed mid now → Unfailed was now
+unfailed-join was mid now a b = record { reads = b.reads ∙ a.reads; writes = b.writes ∙ a.writes }
+
+-- no line was taken yet
+pub went-none : (C : Type 0) (A : Owed C → Type 0) (was : Standing) → Went C A A 1 1 was was
+went-none C A was = record {
+  lines = [];
+  bytes = [];
+  text = [];
+  whole = whole-none;
+  few = omega arith;
+  number = omega arith;
+  read = sym (with_front-nil was.left);
+  wrote = sym (with_back-nil was.taken);
+  steps = steps-none C A;
+  unfailed = record { reads = refl; writes = refl };
+}
+
+-- some lines, and then others
+pub went-join : (C : Type 0) (A B D : Owed C → Type 0) (first mid next : ℕ) (was then now : Standing) → Went C A B first mid was then → Went C B D mid next then now → Went C A D first next was now
+went-join C A B D first mid next was then now a b = record {
+  lines = a.lines ++ b.lines;
+  bytes = a.bytes ++ b.bytes;
+  text = a.text ++ b.text;
+  whole = whole-join a.lines b.lines a.bytes b.bytes a.whole b.whole;
+  few = omega (arith, a.few, b.few, length-append a.lines b.lines);
+  number = omega (arith, a.number, b.number, length-append a.lines b.lines);
+  read = with_front-more was.left then.left now.left a.bytes b.bytes a.read b.read;
+  wrote = with_back-more was.taken then.taken now.taken a.text b.text a.wrote b.wrote;
+  steps = steps-join C A B D a.lines b.lines a.text b.text a.steps b.steps;
+  unfailed = unfailed-join was then now a.unfailed b.unfailed;
+}
+
+lines-join : (C : Type 0) (A B : Owed C → Type 0) (first next : ℕ) (was then : Standing) (lines : List (List ℕ)) (bytes : List ℕ) (a : Went C A B first next was then) → Lines then lines bytes → Lines was (a.lines ++ lines) (a.bytes ++ bytes)
+lines-join C A B first next was then lines bytes a b = record {
+  whole = whole-join a.lines lines a.bytes bytes a.whole b.whole;
+  few = omega (arith, a.few, b.few, length-append a.lines lines);
+}
+
+read-join : (was then now : Option (List ℕ)) (a b part : List ℕ) → was ≡ with_front a then → then ≡ with_front (b ++ part) now → was ≡ with_front ((a ++ b) ++ part) now
+read-join was then now a b part first second = with_front-more was then now a (b ++ part) first second ∙ ap (λ (x : List ℕ). with_front x now) (sym (append_assoc a b part))
+
+wrote-join : (was then now : Option (List ℕ)) (a b more : List ℕ) → then ≡ with_back was a → now ≡ with_back then (b ++ more) → now ≡ with_back was ((a ++ b) ++ more)
+wrote-join was then now a b more first second = with_back-more was then now a (b ++ more) first second ∙ ap (λ (x : List ℕ). with_back was x) (sym (append_assoc a b more))
+
+ended-join : (C : Type 0) (A B D : Owed C → Type 0) (first next : ℕ) (was then now : Standing) → Went C A B first next was then → Ended C B D then now → Ended C A D was now
+ended-join C A B D first next was then now a b = record {
+  lines = a.lines ++ b.lines;
+  bytes = a.bytes ++ b.bytes;
+  text = a.text ++ b.text;
+  more = b.more;
+  taken = lines-join C A B first next was then b.lines b.bytes a b.taken;
+  read = with_front-more was.left then.left now.left a.bytes b.bytes a.read b.read;
+  used_up = b.used_up;
+  wrote = wrote-join was.taken then.taken now.taken a.text b.text b.more a.wrote b.wrote;
+  steps = steps-join C A B D a.lines b.lines a.text b.text a.steps b.steps;
+  ends = ?;
+  unfailed = unfailed-join was then now a.unfailed b.unfailed;
+}
