@@ -1,2 +1,2 @@
 pub mod TurnLemmas
-mod JoinLemmas
+pub mod JoinLemmas

@@ -1,6 +1,5 @@
 -- How parts of a trace join.
 use Rattle.std.proofs.Common.{◌≡◌, true, ℕ, List, [], ◌∷◌, ◌++◌, Option, Some, None, refl, ap, sym, ◌∙◌, append_assoc}
-use Rattle.std.proofs.lemmas.List.{append-nil}
 use Rattle.text_trace.specs.Lines.{has_no_feed}
 use Rattle.text_trace.specs.Trace.{Trace, before, Owed, GoesOn, Steps, Waits, Writes, Ends, Refuses}
 
@@ -29,17 +28,17 @@ steps-weaker C A B D lines text weaker steps = λ f owes.
     let one = steps f owes in
     record { later = one.later; owes = weaker one.later one.owes; same = one.same }
 
--- some lines, and then the end
-pub ends-join : (C : Type 0) (A B : Owed C → Type 0) (lines : List (List ℕ)) (text more : List ℕ) → Steps C A B lines text → Ends C B [] more → Ends C A lines (text ++ more)
-ends-join C A B lines text more first last = λ f owes.
+-- some lines, and then the others to the end
+pub ends-join : (C : Type 0) (A B : Owed C → Type 0) (lines others : List (List ℕ)) (text more : List ℕ) → Steps C A B lines text → Ends C B others more → Ends C A (lines ++ others) (text ++ more)
+ends-join C A B lines others text more first last = λ f owes.
     let one = first f owes in
-    ap f (sym (append-nil lines)) ∙ one.same [] ∙ ap (before text) (last one.later one.owes)
+    one.same others ∙ ap (before text) (last one.later one.owes)
 
--- some lines, and then one that is refused
-pub refuses-join : (C : Type 0) (A B : Owed C → Type 0) (lines : List (List ℕ)) (last : Option (List ℕ)) (text : List ℕ) (c : C) → Steps C A B lines text → Refuses C B [] last [] c → Refuses C A lines last text c
-refuses-join C A B lines (Some line) text c first last = λ f owes rest.
+-- some lines, then others, and then one that is refused
+pub refuses-join : (C : Type 0) (A B : Owed C → Type 0) (lines others : List (List ℕ)) (last : Option (List ℕ)) (text more : List ℕ) (c : C) → Steps C A B lines text → Refuses C B others last more c → Refuses C A (lines ++ others) last (text ++ more) c
+refuses-join C A B lines others (Some line) text more c first last = λ f owes rest.
     let one = first f owes in
-    one.same (line ∷ rest) ∙ ap (before text) (last one.later one.owes rest) ∙ ap (λ (o : List ℕ). record { output = o; cause = Some c }) (append-nil text)
-refuses-join C A B lines None text c first last = λ f owes.
+    ap f (append_assoc lines others (line ∷ rest)) ∙ one.same (others ++ line ∷ rest) ∙ ap (before text) (last one.later one.owes rest)
+refuses-join C A B lines others None text more c first last = λ f owes.
     let one = first f owes in
-    ap f (sym (append-nil lines)) ∙ one.same [] ∙ ap (before text) (last one.later one.owes) ∙ ap (λ (o : List ℕ). record { output = o; cause = Some c }) (append-nil text)
+    one.same others ∙ ap (before text) (last one.later one.owes)
