@@ -10,3 +10,6 @@ mod stop;
 pub use player::play;
 pub use script::{Refusal, Script};
 pub use stop::Stop;
+
+#[cfg(test)]
+mod tests;
