@@ -94,7 +94,7 @@ pub trait Source {
         ensures fits { GotAtMost result (length buf.old) }
         ensures some { GotSome result (length buf.old) }
         ensures reads { Reads (left self.old) (left self.new) buf.new result }
-        ensures end { EndsUsedUp (left self.old) result };
+        ensures end { EndsUsedUp (left self.new) result };
 }
 
 /// Where bytes go to.
