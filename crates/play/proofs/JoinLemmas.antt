@@ -1,7 +1,7 @@
 -- How one turn of the loop follows those before it.
 use Rattle.std.proofs.Common.{◌≡◌, ℕ, ◌+◌, ◌≤◌, List, [], ◌∷◌, ◌++◌, length, take, Option, Some, None, Result, Ok, Err, Bool, true, false, refl, ap, sym, ◌∙◌, subst, append_assoc, arith, length-append}
-use Rattle.ports.specs.Contents.{with_back, with_front}
-use Rattle.ports.proofs.Contents.{with_back-more, with_back-nil, with_front-more, with_front-nil}
+use Rattle.std.specs.Io.KnownBytes.{Appends, Consumes}
+use Rattle.std.proofs.KnownBytes.{Appends-nil, Appends-trans, Consumes-nil, Consumes-trans}
 use Rattle.ports.specs.Count.{next_count}
 use Rattle.text_trace.specs.Trace.{Owed, Owing, Steps, Waits, Writes, Ends, Refuses}
 use Rattle.text_trace.proofs.TraceLemmas.{steps-none, steps-join, ends-join, refuses-join}
@@ -28,8 +28,8 @@ went-none C A was = record {
   whole = whole-none;
   few = omega arith;
   number = omega arith;
-  read = sym (with_front-nil was.left);
-  wrote = sym (with_back-nil was.taken);
+  read = Consumes-nil was.left;
+  wrote = Appends-nil was.taken;
   steps = steps-none C A;
   unfailed = record { reads = refl; writes = refl };
 }
@@ -43,8 +43,8 @@ went-join C A B D first mid next was then now a b = record {
   whole = whole-join a.lines b.lines a.bytes b.bytes a.whole b.whole;
   few = omega (arith, a.few, b.few, length-append a.lines b.lines);
   number = omega (arith, a.number, b.number, length-append a.lines b.lines);
-  read = with_front-more was.left then.left now.left a.bytes b.bytes a.read b.read;
-  wrote = with_back-more was.taken then.taken now.taken a.text b.text a.wrote b.wrote;
+  read = Consumes-trans was.left then.left now.left a.bytes b.bytes a.read b.read;
+  wrote = Appends-trans was.taken then.taken now.taken a.text b.text a.wrote b.wrote;
   steps = steps-join C A B D a.lines b.lines a.text b.text a.steps b.steps;
   unfailed = unfailed-join was then now a.unfailed b.unfailed;
 }
@@ -55,11 +55,11 @@ lines-join C A B first next was then lines bytes a b = record {
   few = omega (arith, a.few, b.few, length-append a.lines lines);
 }
 
-read-join : (was then now : Option (List ℕ)) (a b part : List ℕ) → was ≡ with_front a then → then ≡ with_front (b ++ part) now → was ≡ with_front ((a ++ b) ++ part) now
-read-join was then now a b part first second = with_front-more was then now a (b ++ part) first second ∙ ap (λ (x : List ℕ). with_front x now) (sym (append_assoc a b part))
+read-join : (was then now : Option (List ℕ)) (a b part : List ℕ) → Consumes was then a → Consumes then now (b ++ part) → Consumes was now ((a ++ b) ++ part)
+read-join was then now a b part first second = subst (Consumes was now) (sym (append_assoc a b part)) (Consumes-trans was then now a (b ++ part) first second)
 
-wrote-join : (was then now : Option (List ℕ)) (a b more : List ℕ) → then ≡ with_back was a → now ≡ with_back then (b ++ more) → now ≡ with_back was ((a ++ b) ++ more)
-wrote-join was then now a b more first second = with_back-more was then now a (b ++ more) first second ∙ ap (λ (x : List ℕ). with_back was x) (sym (append_assoc a b more))
+wrote-join : (was then now : Option (List ℕ)) (a b more : List ℕ) → Appends was then a → Appends then now (b ++ more) → Appends was now ((a ++ b) ++ more)
+wrote-join was then now a b more first second = subst (Appends was now) (sym (append_assoc a b more)) (Appends-trans was then now a (b ++ more) first second)
 
 ended-join : (C : Type 0) (A B D : Owed C → Type 0) (first next : ℕ) (was then now : Standing) → Went C A B first next was then → Ended C B D then now → Ended C A D was now
 ended-join C A B D first next was then now a b = record {
@@ -68,7 +68,7 @@ ended-join C A B D first next was then now a b = record {
   text = a.text ++ b.text;
   more = b.more;
   taken = lines-join C A B first next was then b.lines b.bytes a b.taken;
-  read = with_front-more was.left then.left now.left a.bytes b.bytes a.read b.read;
+  read = Consumes-trans was.left then.left now.left a.bytes b.bytes a.read b.read;
   used_up = b.used_up;
   wrote = wrote-join was.taken then.taken now.taken a.text b.text b.more a.wrote b.wrote;
   steps = steps-join C A B D a.lines b.lines a.text b.text a.steps b.steps;
@@ -86,7 +86,7 @@ refused-join C A B first next number cause was then now a b = record {
   counted = omega (arith, a.number, b.counted, length-append a.lines b.lines);
   read = read-join was.left then.left now.left a.bytes b.bytes (bytes_of b.last) a.read b.read;
   stands = b.stands;
-  wrote = with_back-more was.taken then.taken now.taken a.text b.text a.wrote b.wrote;
+  wrote = Appends-trans was.taken then.taken now.taken a.text b.text a.wrote b.wrote;
   refuses = refuses-join C A B a.lines b.lines b.last a.text b.text cause a.steps b.refuses;
   unfailed = unfailed-join was then now a.unfailed b.unfailed;
 }
@@ -101,7 +101,7 @@ unread-join C A B first next was then now a b = record {
   read = read-join was.left then.left now.left a.bytes b.bytes b.part a.read b.read;
   clear = b.clear;
   short = b.short;
-  wrote = with_back-more was.taken then.taken now.taken a.text b.text a.wrote b.wrote;
+  wrote = Appends-trans was.taken then.taken now.taken a.text b.text a.wrote b.wrote;
   writes = steps-join C A B (Waits C) a.lines b.lines a.text b.text a.steps b.writes;
   failed = b.failed ∙ ap next_count a.unfailed.reads;
   kept = b.kept ∙ a.unfailed.writes;
@@ -141,7 +141,7 @@ starved-join C A B first next was then now a b = record {
   taken = lines-join C A B first next was then b.lines b.bytes a b.taken;
   read = read-join was.left then.left now.left a.bytes b.bytes b.part a.read b.read;
   one = b.one;
-  wrote = with_back-more was.taken then.taken now.taken a.text b.text a.wrote b.wrote;
+  wrote = Appends-trans was.taken then.taken now.taken a.text b.text a.wrote b.wrote;
   writes = steps-join C A B (Waits C) a.lines b.lines a.text b.text a.steps b.writes;
   unfailed = unfailed-join was then now a.unfailed b.unfailed;
 }

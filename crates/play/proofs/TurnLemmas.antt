@@ -1,9 +1,10 @@
 -- How one turn of the loop may end.
 use Rattle.std.proofs.Common.{◌≡◌, ℕ, ◌+◌, ◌-◌, ◌<◌, ◌≤◌, ◌⊎◌, inl, inr, true, false, List, [], ◌∷◌, ◌++◌, length, take, Option, Some, None, Result, Ok, Err, refl, ap, sym, ◌∙◌, subst, arith, length-append}
 use Rattle.std.proofs.lemmas.List.{append-nil}
-use Rattle.ports.specs.Contents.{with_back, with_front, IsUsedUp, TookFront}
+use Rattle.std.specs.Io.KnownBytes.{Appends, Consumes}
+use Rattle.ports.specs.Contents.{IsUsedUp, TookFront}
 use Rattle.ports.specs.Count.{next_count}
-use Rattle.ports.proofs.Contents.{with_back-nil, with_front-nil}
+use Rattle.std.proofs.KnownBytes.{Appends-nil, Consumes-nil}
 use Rattle.text_trace.specs.Lines.{has_no_feed, has_line_feed, AreWhole, IsFed, IsCut}
 use Rattle.text_trace.specs.Trace.{Owed, Owing, Steps, Waits, Writes, Ends, Refuses}
 use Rattle.text_trace.proofs.TraceLemmas.{steps-none, steps-weaker}
@@ -20,8 +21,8 @@ no-bytes (b ∷ line) e = absurd (omega arith)
 no_lines : (was : Standing) → Lines was [] []
 no_lines was = record { whole = whole-none; few = omega arith }
 
-nothing-read : (before after : Option (List ℕ)) (line : List ℕ) → before ≡ with_front line after → length line ≡ 0 → before ≡ with_front [] after
-nothing-read before after line front none = front ∙ ap (λ (l : List ℕ). with_front l after) (no-bytes line none)
+nothing-read : (before after : Option (List ℕ)) (line : List ℕ) → Consumes before after line → length line ≡ 0 → Consumes before after []
+nothing-read before after line front none = subst (Consumes before after) (no-bytes line none) front
 
 -- nothing was written yet
 writes-none : (C : Type 0) (A : Owed C → Type 0) → ((f : Owed C) → A f → Waits C f) → Writes C A [] []
@@ -49,7 +50,7 @@ is-fed ending.Limit line left e fed = absurd (feed_apart line e.clear fed)
 is-fed ending.Input line left e fed = absurd (feed_apart line e.clear fed)
 
 -- a line was taken, and its trace was written
-pub went-one : (C : Type 0) (A B : Owed C → Type 0) (first : ℕ) (was now : Standing) (line text : List ℕ) (by : Ending) → Reads was.left now.left line by → has_line_feed line ≡ true → Steps C A B (line ∷ []) text → now.taken ≡ with_back was.taken text → now.room < was.room → Unfailed was now → Went C A B first (first + 1) was now
+pub went-one : (C : Type 0) (A B : Owed C → Type 0) (first : ℕ) (was now : Standing) (line text : List ℕ) (by : Ending) → Reads was.left now.left line by → has_line_feed line ≡ true → Steps C A B (line ∷ []) text → Appends was.taken now.taken text → now.room < was.room → Unfailed was now → Went C A B first (first + 1) was now
 went-one C A B first was now line text by read fed steps wrote less unfailed = record {
   lines = line ∷ [];
   bytes = line;
@@ -64,7 +65,7 @@ went-one C A B first was now line text by read fed steps wrote less unfailed = r
 }
 
 -- no line was left, and what comes at the end was written
-pub ended-here : (C : Type 0) (A : Owed C → Type 0) (was now : Standing) (line text : List ℕ) (by : Ending) → Reads was.left now.left line by → length line ≡ 0 → Ends C A [] text → now.taken ≡ with_back was.taken text → Unfailed was now → Ended C A A was now
+pub ended-here : (C : Type 0) (A : Owed C → Type 0) (was now : Standing) (line text : List ℕ) (by : Ending) → Reads was.left now.left line by → length line ≡ 0 → Ends C A [] text → Appends was.taken now.taken text → Unfailed was now → Ended C A A was now
 ended-here C A was now line text by read none ends wrote unfailed = record {
   lines = [];
   bytes = [];
@@ -80,7 +81,7 @@ ended-here C A was now line text by read none ends wrote unfailed = record {
 }
 
 -- the line was refused, before anything was written
-pub refused-line : (C : Type 0) (A : Owed C → Type 0) (first : ℕ) (cause : C) (was now : Standing) (line : List ℕ) (by : Ending) → Reads was.left now.left line by → Refuses C A [] (Some line) [] cause → now.taken ≡ was.taken → Unfailed was now → Refused C A first first cause was now
+pub refused-line : (C : Type 0) (A : Owed C → Type 0) (first : ℕ) (cause : C) (was now : Standing) (line : List ℕ) (by : Ending) → Reads was.left now.left line by → Refuses C A [] (Some line) [] cause → Appends was.taken now.taken [] → Unfailed was now → Refused C A first first cause was now
 refused-line C A first cause was now line by read refuses same unfailed = record {
   lines = [];
   bytes = [];
@@ -90,13 +91,13 @@ refused-line C A first cause was now line by read refuses same unfailed = record
   counted = omega arith;
   read = read.front;
   stands = is-last by line now.left read.ends;
-  wrote = same ∙ sym (with_back-nil was.taken);
+  wrote = same;
   refuses = refuses;
   unfailed = unfailed;
 }
 
 -- the end was refused, before anything was written
-pub refused-end : (C : Type 0) (A : Owed C → Type 0) (first : ℕ) (cause : C) (was now : Standing) (line : List ℕ) (by : Ending) → Reads was.left now.left line by → length line ≡ 0 → Refuses C A [] None [] cause → now.taken ≡ was.taken → Unfailed was now → Refused C A first first cause was now
+pub refused-end : (C : Type 0) (A : Owed C → Type 0) (first : ℕ) (cause : C) (was now : Standing) (line : List ℕ) (by : Ending) → Reads was.left now.left line by → length line ≡ 0 → Refuses C A [] None [] cause → Appends was.taken now.taken [] → Unfailed was now → Refused C A first first cause was now
 refused-end C A first cause was now line by read none refuses same unfailed = record {
   lines = [];
   bytes = [];
@@ -106,13 +107,13 @@ refused-end C A first cause was now line by read none refuses same unfailed = re
   counted = omega arith;
   read = nothing-read was.left now.left line read.front none;
   stands = is-end by line now.left read.ends none;
-  wrote = same ∙ sym (with_back-nil was.taken);
+  wrote = same;
   refuses = refuses;
   unfailed = unfailed;
 }
 
 -- the read failed, before anything was written
-pub unread-here : (C : Type 0) (A : Owed C → Type 0) (was now : Standing) (part : List ℕ) → ReadsPart was.left now.left part → ((f : Owed C) → A f → Waits C f) → now.taken ≡ was.taken → now.read_faults ≡ next_count was.read_faults → now.write_faults ≡ was.write_faults → Unread C A was now
+pub unread-here : (C : Type 0) (A : Owed C → Type 0) (was now : Standing) (part : List ℕ) → ReadsPart was.left now.left part → ((f : Owed C) → A f → Waits C f) → Appends was.taken now.taken [] → now.read_faults ≡ next_count was.read_faults → now.write_faults ≡ was.write_faults → Unread C A was now
 unread-here C A was now part read waits same failed kept = record {
   lines = [];
   bytes = [];
@@ -122,7 +123,7 @@ unread-here C A was now part read waits same failed kept = record {
   read = read.front;
   clear = read.clear;
   short = read.short;
-  wrote = same ∙ sym (with_back-nil was.taken);
+  wrote = same;
   writes = writes-none C A waits;
   failed = failed;
   kept = kept;
@@ -169,7 +170,7 @@ unwritten-end C A was now line text by read none ends waits front failed kept = 
 }
 
 -- memory was refused, before anything was written
-pub starved-here : (C : Type 0) (A : Owed C → Type 0) (was now : Standing) (line : List ℕ) (by : Ending) → Reads was.left now.left line by → ((f : Owed C) → A f → Waits C f) → now.taken ≡ was.taken → Unfailed was now → Starved C A was now
+pub starved-here : (C : Type 0) (A : Owed C → Type 0) (was now : Standing) (line : List ℕ) (by : Ending) → Reads was.left now.left line by → ((f : Owed C) → A f → Waits C f) → Appends was.taken now.taken [] → Unfailed was now → Starved C A was now
 starved-here C A was now line by read waits same unfailed = record {
   lines = [];
   bytes = [];
@@ -178,7 +179,7 @@ starved-here C A was now line by read waits same unfailed = record {
   taken = no_lines was;
   read = read.front;
   one = is-up_to_line by line now.left read.ends;
-  wrote = same ∙ sym (with_back-nil was.taken);
+  wrote = same;
   writes = writes-none C A waits;
   unfailed = unfailed;
 }
@@ -191,9 +192,9 @@ starved-first C A was waits = record {
   part = [];
   text = [];
   taken = no_lines was;
-  read = sym (with_front-nil was.left);
+  read = Consumes-nil was.left;
   one = inl (refl, omega arith);
-  wrote = sym (with_back-nil was.taken);
+  wrote = Appends-nil was.taken;
   writes = writes-none C A waits;
   unfailed = record { reads = refl; writes = refl };
 }

@@ -1,8 +1,9 @@
 -- How a run over a text went: what it took, what it wrote, and why it stopped.
 use Rattle.std.specs.Prelude.{◌≡◌, ℕ, ◌+◌, ◌<◌, ◌≤◌, ◌⊎◌, true, List, [], ◌∷◌, ◌++◌, length, take, Option, Some, None, Bool, false, Result, Ok, Err}
-use Rattle.ports.specs.Contents.{with_back, with_front, IsUsedUp}
+use Rattle.std.specs.Io.KnownBytes.{Appends, Consumes}
+use Rattle.ports.specs.Contents.{IsUsedUp}
 use Rattle.ports.specs.Count.{next_count}
-use Rattle.text_trace.specs.Lines.{has_no_feed, AreWhole, IsCut, IsFed}
+use Rattle.text_trace.specs.Lines.{has_no_feed, line_bytes, seen_bytes, AreWhole, IsCut, IsFed}
 use Rattle.text_trace.specs.Trace.{Owed, Steps, Writes, Ends, Refuses}
 use Rattle.play.specs.Reading.{IsRest}
 use Rattle.play.specs.declared.stop.Stop.{Stop}
@@ -39,8 +40,8 @@ pub record Went (C : Type 0) (A B : Owed C → Type 0) (first next : ℕ) (was n
   pub whole : AreWhole lines bytes
   pub few : now.room + length lines ≤ was.room
   pub number : next ≡ first + length lines
-  pub read : was.left ≡ with_front bytes now.left
-  pub wrote : now.taken ≡ with_back was.taken text
+  pub read : Consumes was.left now.left bytes
+  pub wrote : Appends was.taken now.taken text
   pub steps : Steps C A B lines text
   pub unfailed : Unfailed was now
 
@@ -51,9 +52,9 @@ pub record Ended (C : Type 0) (A B : Owed C → Type 0) (was now : Standing) : T
   pub text : List ℕ
   pub more : List ℕ
   pub taken : Lines was lines bytes
-  pub read : was.left ≡ with_front bytes now.left
+  pub read : Consumes was.left now.left bytes
   pub used_up : IsUsedUp now.left
-  pub wrote : now.taken ≡ with_back was.taken (text ++ more)
+  pub wrote : Appends was.taken now.taken (text ++ more)
   pub steps : Steps C A B lines text
   pub ends : Ends C A lines (text ++ more)
   pub unfailed : Unfailed was now
@@ -78,9 +79,9 @@ pub record Refused (C : Type 0) (A : Owed C → Type 0) (first number : ℕ) (ca
   pub text : List ℕ
   pub taken : Lines was lines bytes
   pub counted : number ≡ first + length lines
-  pub read : was.left ≡ with_front (bytes ++ bytes_of last) now.left
+  pub read : Consumes was.left now.left (bytes ++ bytes_of last)
   pub stands : IsLast last now.left
-  pub wrote : now.taken ≡ with_back was.taken text
+  pub wrote : Appends was.taken now.taken text
   pub refuses : Refuses C A lines last text cause
   pub unfailed : Unfailed was now
 
@@ -92,10 +93,10 @@ pub record Unread (C : Type 0) (A : Owed C → Type 0) (was now : Standing) : Ty
   pub part : List ℕ
   pub text : List ℕ
   pub taken : Lines was lines bytes
-  pub read : was.left ≡ with_front (bytes ++ part) now.left
+  pub read : Consumes was.left now.left (bytes ++ part)
   pub clear : has_no_feed part ≡ true
-  pub short : length part ≤ 65600
-  pub wrote : now.taken ≡ with_back was.taken text
+  pub short : length part ≤ line_bytes
+  pub wrote : Appends was.taken now.taken text
   pub writes : Writes C A lines text
   pub failed : now.read_faults ≡ next_count was.read_faults
   pub kept : now.write_faults ≡ was.write_faults
@@ -114,18 +115,18 @@ pub record Unwritten (C : Type 0) (A : Owed C → Type 0) (was now : Standing) :
   pub more : List ℕ
   pub count : ℕ
   pub taken : Lines was lines bytes
-  pub read : was.left ≡ with_front (bytes ++ bytes_of last) now.left
+  pub read : Consumes was.left now.left (bytes ++ bytes_of last)
   pub stands : IsLast last now.left
   pub writes : Writes C A lines text
   pub follows : Follows C A lines last (text ++ more)
   pub short : count < length more
-  pub wrote : now.taken ≡ with_back was.taken (text ++ take count more)
+  pub wrote : Appends was.taken now.taken (text ++ take count more)
   pub failed : now.write_faults ≡ next_count was.write_faults
   pub kept : now.read_faults ≡ was.read_faults
 
 -- These bytes are no more than a line.
 abbrev pub IsUpToLine : List ℕ → Type 0
-IsUpToLine part = ((has_no_feed part ≡ true) × (length part ≤ 65601)) ⊎ IsFed part
+IsUpToLine part = ((has_no_feed part ≡ true) × (length part ≤ seen_bytes)) ⊎ IsFed part
 
 -- Memory was refused: whole lines were taken, and their trace was written; one line more at the most was taken.
 pub record Starved (C : Type 0) (A : Owed C → Type 0) (was now : Standing) : Type 0 where
@@ -134,9 +135,9 @@ pub record Starved (C : Type 0) (A : Owed C → Type 0) (was now : Standing) : T
   pub part : List ℕ
   pub text : List ℕ
   pub taken : Lines was lines bytes
-  pub read : was.left ≡ with_front (bytes ++ part) now.left
+  pub read : Consumes was.left now.left (bytes ++ part)
   pub one : IsUpToLine part
-  pub wrote : now.taken ≡ with_back was.taken text
+  pub wrote : Appends was.taken now.taken text
   pub writes : Writes C A lines text
   pub unfailed : Unfailed was now
 

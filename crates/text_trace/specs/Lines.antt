@@ -1,5 +1,5 @@
 -- Lines: a text cut behind each line feed, and what a reader sees of each line.
-use Rattle.std.specs.Prelude.{◌≡◌, ℕ, ◌-◌, ◌≤◌, Bool, true, ◌&&◌, ◌==◌, not, nat_lt, if◌then◌else◌, List, [], ◌∷◌, ◌++◌, length, map, slice_index, take}
+use Rattle.std.specs.Prelude.{◌≡◌, ℕ, ◌+◌, ◌-◌, ◌≤◌, Bool, true, ◌&&◌, ◌==◌, not, nat_lt, if◌then◌else◌, List, [], ◌∷◌, ◌++◌, length, map, slice_index, take}
 use Rattle.std.specs.List.{list_all, concat}
 
 -- The byte in front of the first line; with no line, a line of its own.
@@ -20,9 +20,13 @@ has_no_feed bytes = list_all (λ b. not (b == 10)) bytes
 abbrev pub has_line_feed : List ℕ → Bool
 has_line_feed bytes = nat_lt 0 (length bytes) && (slice_index bytes (length bytes - 1) == 10)
 
--- The most bytes that are seen of a line: one more than a line may have in front of its line feed.
+-- How many bytes a line may have in front of its line feed.
+abbrev pub line_bytes : ℕ
+line_bytes = 65600
+
+-- The most bytes that are seen of a line: one more, so that a longer line shows.
 abbrev pub seen_bytes : ℕ
-seen_bytes = 65601
+seen_bytes = line_bytes + 1
 
 -- The lines of a text as a reader sees them. This alone cuts a line.
 abbrev pub seen : List ℕ → List (List ℕ)
@@ -39,7 +43,7 @@ pub record IsFed (line : List ℕ) : Type 0 where
   pub front : List ℕ
   pub clear : has_no_feed front ≡ true
   pub ended : line ≡ front ++ 10 ∷ []
-  pub short : length front ≤ 65600
+  pub short : length front ≤ line_bytes
 
 -- The bytes are all that is seen of a longer line.
 pub record IsCut (line : List ℕ) : Type 0 where

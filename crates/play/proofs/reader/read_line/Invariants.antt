@@ -1,5 +1,5 @@
 use Rattle.std.proofs.Common.{◌≡◌, ◌≤◌, ◌-◌, true, vec_capacity, vec_len}
-use Rattle.ports.specs.Contents.{with_front}
+use Rattle.std.specs.Io.KnownBytes.{Consumes}
 use Rattle.text_trace.specs.Lines.{has_no_feed}
 use Rattle.play.proofs.reader.read_line.Given as goal
 
@@ -8,7 +8,7 @@ abbrev pub invariant-bytes : goal.invariant-bytes
 invariant-bytes g l = record {
   open_ : g.S.Source.is_open l.input ≡ true;
   faults : g.S.Source.faults l.input ≡ g.S.Source.faults l.fn.input;
-  front : g.S.Source.left l.fn.input ≡ with_front l.line.items (g.S.Source.left l.input);
+  front : Consumes (g.S.Source.left l.fn.input) (g.S.Source.left l.input) l.line.items;
   clear : has_no_feed l.line.items ≡ true;
   short : vec_len l.line ≤ 65601;
   room : 65601 ≤ vec_capacity l.line;
