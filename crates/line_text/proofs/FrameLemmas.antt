@@ -189,11 +189,18 @@ answer-that Takes judged l (Ok x) e h = ok_same x l judged e h
 answer-that Takes judged l (Err (faults.Bad w)) e h = cc
 answer-that {L} Takes judged l (Err faults.OutOfMemory) e h = subst (λ (r : Result L BadWord). IsOkAnd r Takes) e h
 
--- What the frame and a form find is the judgement.
-pub frame_bad : {L : Type 0} (Takes : L → Type 0) (next : Next L) (bytes : List ℕ) (w : BadWord) → first_of (frame_tests next.ended next.number bytes) ≡ Some w → judge next bytes ≡ Err w
+-- What the frame finds is the judgement.
+pub frame-bad : {L : Type 0} (next : Next L) (ended : Bool) (number : ℕ) (bytes : List ℕ) (w : BadWord) → ended ≡ next.ended → number ≡ next.number → first_of (frame_tests ended number bytes) ≡ Some w → judge next bytes ≡ Err w
 unfolding judge
-frame_bad Takes next bytes w e = rw e refl
+frame-bad next ended number bytes w e n bad =
+    let same : frame_tests ended number bytes ≡ frame_tests next.ended next.number bytes = ap (λ (b : Bool). frame_tests b number bytes) e ∙ ap (λ (k : ℕ). frame_tests next.ended k bytes) n in
+    rw (sym (ap first_of same) ∙ bad) refl
 
-pub frame_good : {L : Type 0} (next : Next L) (bytes : List ℕ) → first_of (frame_tests next.ended next.number bytes) ≡ None → judge next bytes ≡ row_line (next.row (words_in bytes)) (behind (words_in bytes))
+-- Where the frame finds nothing, what the form finds is the judgement.
+pub frame-good : {L : Type 0} (Takes : L → Type 0) (next : Next L) (ended : Bool) (number : ℕ) (bytes : List ℕ) (words : List (List ℕ)) (answer : Result L LineFault) → ended ≡ next.ended → number ≡ next.number → first_of (frame_tests ended number bytes) ≡ None
+    → words ≡ words_in bytes → AnswersBy Takes (row_line (next.row words) (behind words)) answer → AnswersBy Takes (judge next bytes) answer
 unfolding judge
-frame_good next bytes e = rw e refl
+frame-good Takes next ended number bytes words answer e n good in_line h =
+    let same : frame_tests ended number bytes ≡ frame_tests next.ended next.number bytes = ap (λ (b : Bool). frame_tests b number bytes) e ∙ ap (λ (k : ℕ). frame_tests next.ended k bytes) n in
+    rw (sym (ap first_of same) ∙ good)
+    (subst (λ (ws : List (List ℕ)). AnswersBy Takes (row_line (next.row ws) (behind ws)) answer) in_line h)

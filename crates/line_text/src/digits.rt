@@ -59,5 +59,8 @@ pub(crate) fn exact_bytes<const N: usize>(word: &[u8]) -> Result<[u8; N], BadWor
     if !is_hex(word) {
         return Err(BadWord::Hex);
     }
-    <[u8; N] as FromHex>::from_hex(word).map_err(|_| BadWord::Limit)
+    match <[u8; N] as FromHex>::from_hex(word) {
+        Ok(bytes) => Ok(bytes),
+        Err(_) => Err(BadWord::Limit),
+    }
 }

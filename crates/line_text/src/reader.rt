@@ -1,12 +1,12 @@
 //! The reader of the lines of a text.
 
-ghost use Rattle.std.specs.Prelude.{◌≡◌, is_ok, IfOk, IfErr};
+ghost use Rattle.std.specs.Prelude.{◌≡◌, ◌≤◌, is_ok, IfOk, IfErr, OnOk};
 ghost use Rattle.line_text.specs.Answers.{AnswersBy, AnswersThat, Refuses, next_line, progress_after};
 ghost use Rattle.line_text.specs.Frame.{IsLine, first_bad, judge};
 
 use crate::bad_word::{BadWord, LineFault};
 use crate::form::Form;
-use crate::frame::frame_words;
+use crate::frame::{TEXT_LINES, frame_words};
 use std::alloc::Global;
 use std::marker::Model;
 
@@ -70,11 +70,19 @@ impl<F: Form> Reader<F> {
         ensures taken { (l : F.Line) → IsLine (F.is_ended self.old.form) self.old.number (F.spells self.old.form) bytes.now l → AnswersThat F.takes_memory l result }
         ensures progress { self.new ≡ progress_after F.after self.old result }
     {
-        let words = frame_words(self.form.is_ended(), self.number, bytes)?;
-        let line = self.form.judge(alloc, words)?;
+        let line = self.judge(alloc, bytes)?;
         self.form.advance(&line);
         self.number += 1;
         Ok(line)
+    }
+
+    // What the next line is, or the first bad word that holds.
+    fn judge(&self, alloc: Global, bytes: &[u8]) -> Result<F::Line, LineFault>
+        ensures answer { AnswersBy F.takes_memory (judge (next_line F.is_ended F.row_for self.now) bytes.now) result }
+        ensures few { OnOk result (self.now.number ≤ TEXT_LINES) }
+    {
+        let words = frame_words(self.form.is_ended(), self.number, bytes)?;
+        self.form.judge(alloc, words)
     }
 
     /// Ends the text: refused with `end` where no line `end` was read.
