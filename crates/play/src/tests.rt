@@ -84,7 +84,10 @@ fn refused_line_ends_the_run_and_nothing_is_read_behind_it(rt: HostRuntime) -> R
     let mut out = sink(rt.alloc(), &[])?;
     let mut copier = Copier { room: 5 };
     let stop = Stop::Refused { line: 2, cause: 3 };
-    assert_eq!(rt; play(rt.alloc(), &mut copier, &mut input, &mut out), Err(stop));
+    assert_eq!(rt;
+        play(rt.alloc(), &mut copier, &mut input, &mut out),
+        Err(stop)
+    );
     assert_eq!(rt; out.bytes(), b"ab\n".as_slice());
     Ok(())
 }
@@ -94,7 +97,10 @@ fn failed_read_leaves_the_trace_of_whole_lines(rt: HostRuntime) -> Result<(), Fa
     let mut input = source(rt.alloc(), b"ab\n#\n", &[4])?;
     let mut out = sink(rt.alloc(), &[])?;
     let mut copier = Copier { room: 5 };
-    assert_eq!(rt; play(rt.alloc(), &mut copier, &mut input, &mut out), Err(Stop::ReadFault));
+    assert_eq!(rt;
+        play(rt.alloc(), &mut copier, &mut input, &mut out),
+        Err(Stop::ReadFault)
+    );
     assert_eq!(rt; out.bytes(), b"ab\n".as_slice());
     Ok(())
 }
@@ -104,7 +110,10 @@ fn failed_write_leaves_a_front(rt: HostRuntime) -> Result<(), Fail> {
     let mut input = source(rt.alloc(), b"abcdefghij\n", &[])?;
     let mut out = sink(rt.alloc(), &[1])?;
     let mut copier = Copier { room: 5 };
-    assert_eq!(rt; play(rt.alloc(), &mut copier, &mut input, &mut out), Err(Stop::WriteFault));
+    assert_eq!(rt;
+        play(rt.alloc(), &mut copier, &mut input, &mut out),
+        Err(Stop::WriteFault)
+    );
     assert_eq!(rt; out.bytes(), b"abcdefg".as_slice());
     Ok(())
 }
