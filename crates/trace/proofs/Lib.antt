@@ -1,3 +1,4 @@
 pub mod LifeLemmas
 pub mod WalkLemmas
 pub mod UprightLemmas
+pub mod ReplyLemmas
