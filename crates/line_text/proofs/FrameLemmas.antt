@@ -19,15 +19,15 @@ use Rattle.line_text.specs.Words.{is_space, is_printable, is_word, is_spaced, pa
 
 -- ## Tests that did not hold
 
-or_none : (a b : Option BadWord) → or_else a b ≡ None → (a ≡ None) × (b ≡ None)
+pub or_none : (a b : Option BadWord) → or_else a b ≡ None → (a ≡ None) × (b ≡ None)
 or_none None b e = (refl, e)
 or_none (Some bad_word) b e = cc
 
-passed : (word : BadWord) (b : Bool) → bad_where word b ≡ None → b ≡ false
+pub passed : (word : BadWord) (b : Bool) → bad_where word b ≡ None → b ≡ false
 passed w true e = cc
 passed w false e = refl
 
-unless_ok : {L : Type 0} (o : Option BadWord) (r : Result L BadWord) (l : L) → unless_bad o r ≡ Ok l → (o ≡ None) × (r ≡ Ok l)
+pub unless_ok : {L : Type 0} (o : Option BadWord) (r : Result L BadWord) (l : L) → unless_bad o r ≡ Ok l → (o ≡ None) × (r ≡ Ok l)
 unless_ok None r l e = (refl, e)
 unless_ok (Some bad_word) r l e = cc
 

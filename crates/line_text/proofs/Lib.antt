@@ -2,3 +2,4 @@ pub mod NumberLemmas
 pub mod WordLemmas
 pub mod HexWords
 pub mod FrameLemmas
+pub mod FieldLemmas
