@@ -30,6 +30,12 @@ pub enum Direct {
     Ended,
 }
 
+fn is_start(direct: Direct) -> bool
+    ensures { result ≡ is_start direct }
+{
+    matches!(direct, Direct::Start)
+}
+
 /// Whether a line with this word may stand here.
 fn may_stand(direct: Direct, word: LineWord) -> bool
     ensures { result ≡ may_stand direct word }
@@ -85,6 +91,8 @@ fn line_of(
 }
 
 impl Form for Direct {
+    ghost use Rattle.schedule_direct.specs.Laws.{direct-spelled, direct-taken};
+
     type Line = DirectLine;
 
     ghost is_sound = { IsSound };
@@ -104,7 +112,7 @@ impl Form for Direct {
     }
 
     fn judge(&self, alloc: Global, words: Words) -> Result<DirectLine, LineFault> {
-        if *self == Direct::Start {
+        if is_start(*self) {
             return Ok(header_line(words)?);
         }
         let (first, args) = words.split();
@@ -129,7 +137,7 @@ impl Form for Direct {
         };
     }
 
-    ghost spelled = { ? };
+    ghost spelled = { direct-spelled };
 
-    ghost taken = { ? };
+    ghost taken = { direct-taken };
 }
