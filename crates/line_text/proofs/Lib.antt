@@ -3,3 +3,4 @@ pub mod WordLemmas
 pub mod HexWords
 pub mod FrameLemmas
 pub mod FieldLemmas
+pub mod DigitLemmas
