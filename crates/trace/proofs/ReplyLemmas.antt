@@ -5,11 +5,12 @@ use Rattle.std.proofs.lemmas.List.{append-nil}
 use Rattle.ff_ids.specs.declared.Group.{Group}
 use Rattle.ff_ids.specs.Steps.{Accuses, Event, Joins, Notes, Ticks}
 use Rattle.ff_ids.specs.Views.{Member}
-use Rattle.schedule.specs.declared.bad_word.BadWord.{BadWord}
-use Rattle.schedule.specs.declared.line.Line.{Line}
-use Rattle.schedule.specs.declared.line.Line.TheVariants as lines
-use Rattle.schedule.specs.declared.line.Progress.{Progress}
-use Rattle.schedule.specs.Grammar as grammar
+use Rattle.line_text.specs.declared.bad_word.BadWord.{BadWord}
+use Rattle.schedule_direct.specs.declared.line.DirectLine.{DirectLine}
+use Rattle.schedule_direct.specs.declared.line.DirectLine.TheVariants as lines
+use Rattle.line_text.specs.Answers.{Progress}
+use Rattle.schedule_direct.specs.declared.direct.Direct.{Direct}
+use Rattle.schedule_direct.specs.Grammar as grammar
 use Rattle.trace.specs.Answers.{Answer, Recorded, answer, answer_in, next_life, places_at, with_event, with_ticks}
 use Rattle.trace.specs.Walk.{Taken, Walk, from_line, onto, walk}
 
@@ -59,7 +60,7 @@ record Goes (r : Recorded) (a : Answer) : Type 0 where
   is : a.recorded ≡ Some next
   later : Later r next
 
-goes : (r : Recorded) (line : Line) → Goes r (answer_in r line)
+goes : (r : Recorded) (line : DirectLine) → Goes r (answer_in r line)
 goes r lines.Header = record { next = r; is = refl; later = inr (extends-none r) }
 goes r (lines.Group t timeout) = record { next = r; is = refl; later = inr (extends-none r) }
 goes r (lines.Member m places) = record { next = with_event r (Joins m (places_at places)); is = refl; later = inr (extends-event r (Joins m (places_at places))) }
@@ -77,21 +78,21 @@ goes r lines.End = record { next = r; is = refl; later = inr (extends-none r) }
 abbrev AllLater : Recorded → List Taken → Type 0
 AllLater r taken = (j : ℕ) (t : Taken) (other : Recorded) → slice_get taken j ≡ Some t → t.before ≡ Some other → Later r other
 
-later-judged : (r : Recorded) (bytes : List ℕ) (judged : Result Line BadWord) (rest : Line → Walk) → ((l : Line) → AllLater (goes r l).next (rest l).taken) → AllLater r (from_line (Some r) bytes judged rest).taken
+later-judged : (r : Recorded) (bytes : List ℕ) (judged : Result DirectLine BadWord) (rest : DirectLine → Walk) → ((l : DirectLine) → AllLater (goes r l).next (rest l).taken) → AllLater r (from_line (Some r) bytes judged rest).taken
 later-judged r bytes (Err w) rest h = λ j t other at before. cc
 later-judged r bytes (Ok l) rest h = λ j t other at before. later-step r bytes l (rest l) (h l) j t other at before
   where
-    later-step : (r : Recorded) (bytes : List ℕ) (l : Line) (w : Walk) → AllLater (goes r l).next w.taken → (j : ℕ) (t : Taken) (other : Recorded) → slice_get (from_line (Some r) bytes (Ok l) (λ k. w)).taken j ≡ Some t → t.before ≡ Some other → Later r other
+    later-step : (r : Recorded) (bytes : List ℕ) (l : DirectLine) (w : Walk) → AllLater (goes r l).next w.taken → (j : ℕ) (t : Taken) (other : Recorded) → slice_get (from_line (Some r) bytes (Ok l) (λ k. w)).taken j ≡ Some t → t.before ≡ Some other → Later r other
     later-step r bytes l w h zero t other at before =
         let same : Some r ≡ Some other = ap (λ (x : Taken). x.before) (some-same _ t at) ∙ before in
         subst (Later r) (some-same r other same) (inr (extends-none r))
     later-step r bytes l w h (suc j) t other at before = later-more r (goes r l).next other (goes r l).later (h j t other at before)
 
-all-later : (lines : List (List ℕ)) (p : Progress) (r : Recorded) → AllLater r (walk lines p (Some r)).taken
+all-later : (lines : List (List ℕ)) (p : Progress Direct) (r : Recorded) → AllLater r (walk lines p (Some r)).taken
 all-later [] p r = λ j t other at before. cc
 all-later (bytes ∷ lines) p r =
-    later-judged r bytes (grammar.judge p bytes) (λ l. walk lines (grammar.after p l) (answer_in r l).recorded)
-    (λ l. subst (λ (recorded : Option Recorded). AllLater (goes r l).next (walk lines (grammar.after p l) recorded).taken) (sym (goes r l).is) (all-later lines (grammar.after p l) (goes r l).next))
+    later-judged r bytes (grammar.judge p bytes) (λ l. walk lines (grammar.behind p l) (answer_in r l).recorded)
+    (λ l. subst (λ (recorded : Option Recorded). AllLater (goes r l).next (walk lines (grammar.behind p l) recorded).taken) (sym (goes r l).is) (all-later lines (grammar.behind p l) (goes r l).next))
 
 -- what a line brought is its answer
 abbrev AllAnswered : List Taken → Type 0
@@ -101,15 +102,15 @@ answered-onto : (first : Taken) (w : Walk) → first.answer ≡ answer first.bef
 answered-onto first w is h zero t at = subst (λ (x : Taken). x.answer ≡ answer x.before x.line) (some-same first t at) is
 answered-onto first w is h (suc j) t at = h j t at
 
-answered-judged : (recorded : Option Recorded) (bytes : List ℕ) (judged : Result Line BadWord) (rest : Line → Walk) → ((l : Line) → AllAnswered (rest l).taken) → AllAnswered (from_line recorded bytes judged rest).taken
+answered-judged : (recorded : Option Recorded) (bytes : List ℕ) (judged : Result DirectLine BadWord) (rest : DirectLine → Walk) → ((l : DirectLine) → AllAnswered (rest l).taken) → AllAnswered (from_line recorded bytes judged rest).taken
 answered-judged recorded bytes (Err w) rest h = λ j t at. cc
 answered-judged recorded bytes (Ok l) rest h = answered-onto (record { bytes = bytes; before = recorded; line = l; answer = answer recorded l }) (rest l) refl (h l)
 
-pub all-answered : (lines : List (List ℕ)) (p : Progress) (recorded : Option Recorded) → AllAnswered (walk lines p recorded).taken
+pub all-answered : (lines : List (List ℕ)) (p : Progress Direct) (recorded : Option Recorded) → AllAnswered (walk lines p recorded).taken
 all-answered [] p recorded = λ j t at. cc
 all-answered (bytes ∷ lines) p recorded =
-    answered-judged recorded bytes (grammar.judge p bytes) (λ l. walk lines (grammar.after p l) (answer recorded l).recorded)
-    (λ l. all-answered lines (grammar.after p l) (answer recorded l).recorded)
+    answered-judged recorded bytes (grammar.judge p bytes) (λ l. walk lines (grammar.behind p l) (answer recorded l).recorded)
+    (λ l. all-answered lines (grammar.behind p l) (answer recorded l).recorded)
 
 -- what is recorded behind a line goes on to what a later line finds
 abbrev GoesOnTo : List Taken → Type 0
@@ -121,13 +122,13 @@ goes-onto first w here h zero (suc j) t u r other less at_i at_j is before =
     here r (ap (λ (x : Taken). x.answer.recorded) (some-same first t at_i) ∙ is) j u other at_j before
 goes-onto first w here h (suc i) (suc j) t u r other less at_i at_j is before = h i j t u r other (omega arith) at_i at_j is before
 
-goes-judged : (recorded : Option Recorded) (bytes : List ℕ) (judged : Result Line BadWord) (rest : Line → Walk) → ((l : Line) (r : Recorded) → (answer recorded l).recorded ≡ Some r → AllLater r (rest l).taken) → ((l : Line) → GoesOnTo (rest l).taken) → GoesOnTo (from_line recorded bytes judged rest).taken
+goes-judged : (recorded : Option Recorded) (bytes : List ℕ) (judged : Result DirectLine BadWord) (rest : DirectLine → Walk) → ((l : DirectLine) (r : Recorded) → (answer recorded l).recorded ≡ Some r → AllLater r (rest l).taken) → ((l : DirectLine) → GoesOnTo (rest l).taken) → GoesOnTo (from_line recorded bytes judged rest).taken
 goes-judged recorded bytes (Err w) rest here h = λ i j t u r other less at_i at_j is before. cc
 goes-judged recorded bytes (Ok l) rest here h = goes-onto (record { bytes = bytes; before = recorded; line = l; answer = answer recorded l }) (rest l) (here l) (h l)
 
-pub goes-on-to : (lines : List (List ℕ)) (p : Progress) (recorded : Option Recorded) → GoesOnTo (walk lines p recorded).taken
+pub goes-on-to : (lines : List (List ℕ)) (p : Progress Direct) (recorded : Option Recorded) → GoesOnTo (walk lines p recorded).taken
 goes-on-to [] p recorded = λ i j t u r other less at_i at_j is before. cc
 goes-on-to (bytes ∷ lines) p recorded =
-    goes-judged recorded bytes (grammar.judge p bytes) (λ l. walk lines (grammar.after p l) (answer recorded l).recorded)
-    (λ l r is. subst (λ (behind : Option Recorded). AllLater r (walk lines (grammar.after p l) behind).taken) (sym is) (all-later lines (grammar.after p l) r))
-    (λ l. goes-on-to lines (grammar.after p l) (answer recorded l).recorded)
+    goes-judged recorded bytes (grammar.judge p bytes) (λ l. walk lines (grammar.behind p l) (answer recorded l).recorded)
+    (λ l r is. subst (λ (behind : Option Recorded). AllLater r (walk lines (grammar.behind p l) behind).taken) (sym is) (all-later lines (grammar.behind p l) r))
+    (λ l. goes-on-to lines (grammar.behind p l) (answer recorded l).recorded)

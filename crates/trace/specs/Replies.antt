@@ -7,7 +7,7 @@ use Rattle.ff_ids.specs.Views.{is_unanswered_by}
 use Rattle.journal.specs.declared.event.Event as reported
 use Rattle.journal.specs.declared.event.What.TheVariants as what
 use Rattle.life_laws.specs.Removals.{IsOlderThan}
-use Rattle.schedule.specs.declared.line.Line.TheVariants as lines
+use Rattle.schedule_direct.specs.declared.line.DirectLine.TheVariants as lines
 use Rattle.trace.specs.Answers.{Recorded}
 use Rattle.trace.specs.Walk.{Taken, Walk}
 
