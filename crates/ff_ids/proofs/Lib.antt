@@ -1,2 +1,3 @@
+pub mod HexLemmas
 pub mod MaskLemmas
 pub mod Rows
