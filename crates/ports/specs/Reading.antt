@@ -1,14 +1,20 @@
 -- What a read did, by its answer.
-use Rattle.std.specs.Prelude.{◌≡◌, ℕ, ◌<◌, ◌≤◌, Option, List, take}
+use Rattle.std.specs.Prelude.{◌≡◌, ℕ, ◌<◌, ◌≤◌, Bool, true, false, Option, List, take}
 use Rattle.ports.specs.declared.Taken.{Taken}
 use Rattle.ports.specs.declared.Taken.TheVariants.{Got, End, Failed}
 use Rattle.ports.specs.Contents.{with_front, IsUsedUp}
 
--- what holds where the read failed
-abbrev pub OnReadFailed : Taken → Type 0 → Type 0
-OnReadFailed (Got n) P = Unit {0}
-OnReadFailed End P = Unit {0}
-OnReadFailed Failed P = P
+-- the read got bytes, so that the source may be read again
+abbrev pub has_got : Taken → Bool
+has_got (Got n) = true
+has_got End = false
+has_got Failed = false
+
+-- the read failed
+abbrev pub read_failed : Taken → Bool
+read_failed (Got n) = false
+read_failed End = false
+read_failed Failed = true
 
 -- no more bytes than the buffer holds
 abbrev pub GotAtMost : Taken → ℕ → Type 0

@@ -1,8 +1,8 @@
 //! A source and a sink in memory, which tell their contents and fail where they are told to.
-ghost use Rattle.std.specs.Prelude.{◌≡◌, ◌≤◌, if◌then◌else◌, List, [], length, Some, None, IfOk, OnErr};
-ghost use Rattle.ports.specs.Count.{Rose, next_count};
-ghost use Rattle.ports.specs.Reading.{OnReadFailed, GotAtMost, GotSome, Reads, EndsUsedUp};
-ghost use Rattle.ports.specs.Writing.{OnWriteFailed, TookAtMost, TookSome, Gives};
+ghost use Rattle.std.specs.Prelude.{◌≡◌, ◌≤◌, true, List, [], length, Some, None, IfOk};
+ghost use Rattle.ports.specs.Count.{counted, next_count};
+ghost use Rattle.ports.specs.Reading.{has_got, read_failed, GotAtMost, GotSome, Reads, EndsUsedUp};
+ghost use Rattle.ports.specs.Writing.{has_taken, write_failed, TookAtMost, TookSome, Gives};
 ghost use Rattle.ports.specs.Memory.{is_failing, SourceState, read_answer, after_read, filled, SinkState, write_answer, after_write};
 
 use crate::{Given, Sink, Source, Taken};
@@ -46,7 +46,7 @@ impl Calls {
         ensures answer { result ≡ is_failing self.old.fail.items self.old.made }
         ensures after { self.new ≡ record self.old {
           made = next_count self.old.made;
-          failed = if result then next_count self.old.failed else self.old.failed;
+          failed = counted result self.old.failed;
         } }
     {
         let number = self.made;
@@ -59,10 +59,11 @@ impl Calls {
     }
 }
 
-/// A source in memory. Contracts see the bytes left, the step, the numbers of the failing calls, and
+/// A source in memory. Contracts see whether it may be read, the bytes left, the step, the numbers of the failing calls, and
 /// how many calls came and failed.
 #[derive(Drop)]
 pub struct MemorySource {
+    is_open: bool,
     bytes: Vec<u8>,
     place: usize,
     step: usize,
@@ -76,6 +77,7 @@ impl Model for MemorySource {
     ghost Value = { SourceState };
 
     ghost view = { λ s. record {
+      is_open = s.is_open;
       unread = drop s.place s.bytes.items;
       step = s.step;
       failing = s.calls.fail.items;
@@ -92,6 +94,7 @@ impl MemorySource {
     pub fn new(bytes: Vec<u8>, step: usize, fail: Vec<u64>) -> MemorySource
         requires { 1 ≤ step }
         ensures { result ≡ record {
+          is_open = true;
           unread = bytes.items;
           step = step;
           failing = fail.items;
@@ -100,6 +103,7 @@ impl MemorySource {
         } }
     {
         MemorySource {
+            is_open: true,
             bytes,
             place: 0,
             step,
@@ -113,10 +117,13 @@ impl Source for MemorySource {
 
     ghost left = { λ s. Some s.unread };
 
+    ghost is_open = { λ s. s.is_open };
+
     /// Failures come before the end. A read into an empty buffer is `Got(0)` while bytes are left.
     fn read(&mut self, buf: &mut [u8]) -> Taken
-        ensures kept { self.old.failures ≤ self.new.failures }
-        ensures failed { OnReadFailed result (Rose self.old.failures self.new.failures) }
+        requires open { self.old.is_open ≡ true }
+        ensures going { self.new.is_open ≡ has_got result }
+        ensures faults { self.new.failures ≡ counted (read_failed result) self.old.failures }
         ensures fits { GotAtMost result (length buf.old) }
         ensures some { GotSome result (length buf.old) }
         ensures reads { Reads (Some self.old.unread) (Some self.new.unread) buf.new result }
@@ -126,10 +133,12 @@ impl Source for MemorySource {
         ensures filled { buf.new ≡ filled self.old buf.old result }
     {
         if self.calls.next_fails() {
+            self.is_open = false;
             return Taken::Failed;
         }
         let left = self.bytes.len() - self.place;
         if left == 0 {
+            self.is_open = false;
             return Taken::End;
         }
         let count = self.step.min(buf.len().min(left));
@@ -143,6 +152,7 @@ impl Source for MemorySource {
 /// step, the numbers of the failing calls, and how many calls came and failed.
 #[derive(Drop)]
 pub struct MemorySink {
+    is_open: bool,
     bytes: Vec<u8>,
     room: usize,
     step: usize,
@@ -156,6 +166,7 @@ impl Model for MemorySink {
     ghost Value = { SinkState };
 
     ghost view = { λ s. record {
+      is_open = s.is_open;
       written = s.bytes.items;
       room = s.room;
       step = s.step;
@@ -178,6 +189,7 @@ impl MemorySink {
     ) -> Result<MemorySink, NoMemory>
         requires { 1 ≤ step }
         ensures { IfOk result (λ sink. sink ≡ record {
+          is_open = true;
           written = [];
           room = room;
           step = step;
@@ -188,6 +200,7 @@ impl MemorySink {
     {
         let bytes = Vec::with_capacity(alloc, room)?;
         Ok(MemorySink {
+            is_open: true,
             bytes,
             room,
             step,
@@ -208,11 +221,14 @@ impl Sink for MemorySink {
 
     ghost taken = { λ s. Some s.written };
 
+    ghost is_open = { λ s. s.is_open };
+
     /// Takes what fits. With no room left, a piece that has bytes is a fault; an empty piece is
     /// `Took(0)`.
     fn write(&mut self, bytes: &[u8]) -> Given
-        ensures kept { self.old.failures ≤ self.new.failures }
-        ensures failed { OnWriteFailed result (Rose self.old.failures self.new.failures) }
+        requires open { self.old.is_open ≡ true }
+        ensures going { self.new.is_open ≡ has_taken result }
+        ensures faults { self.new.failures ≡ counted (write_failed result) self.old.failures }
         ensures fits { TookAtMost result (length bytes.now) }
         ensures some { TookSome result (length bytes.now) }
         ensures gives { Gives (Some self.old.written) (Some self.new.written) bytes.now result }
@@ -220,6 +236,7 @@ impl Sink for MemorySink {
         ensures after { self.new ≡ after_write self.old bytes.now result }
     {
         if self.calls.next_fails() {
+            self.is_open = false;
             return Given::Failed;
         }
         if bytes.is_empty() {
@@ -228,6 +245,7 @@ impl Sink for MemorySink {
         let room = self.room - self.bytes.len();
         let count = self.step.min(bytes.len().min(room));
         if count == 0 || self.bytes.extend_from_slice(&bytes[..count]).is_err() {
+            self.is_open = false;
             self.calls.count_failure();
             return Given::Failed;
         }

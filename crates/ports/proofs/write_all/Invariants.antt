@@ -1,11 +1,12 @@
-use Rattle.std.proofs.Common.{length, ◌-◌, ◌≤◌, ◌≡◌, take}
+use Rattle.std.proofs.Common.{length, ◌-◌, ◌≤◌, ◌≡◌, take, true}
 use Rattle.ports.specs.Contents.{with_back}
 use Rattle.ports.proofs.write_all.Given as goal
 
 abbrev pub invariant-loop-written : goal.invariant-loop-written
 invariant-loop-written g l = record {
   within : l.written ≤ length l.bytes;
-  kept : g.O.Sink.faults l.initial.out ≤ g.O.Sink.faults l.out;
+  open_ : g.O.Sink.is_open l.out ≡ true;
+  quiet : g.O.Sink.faults l.out ≡ g.O.Sink.faults l.initial.out;
   gained : g.O.Sink.taken l.out ≡ with_back (g.O.Sink.taken l.initial.out) (take l.written l.bytes);
 }
 
