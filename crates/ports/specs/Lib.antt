@@ -4,3 +4,4 @@ pub mod Reading
 pub mod Writing
 pub mod Device
 pub mod Memory
+pub mod Disk

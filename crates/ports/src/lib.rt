@@ -14,8 +14,10 @@ ghost use Rattle.ports.specs.Reading.{has_got, read_failed, GotAtMost, GotSome, 
 ghost use Rattle.ports.specs.Writing.{has_taken, write_failed, TookAtMost, TookSome, Gives};
 ghost use Rattle.ports.specs.Device.{OnOpenFailed, open_failed, receive_failed, ReceivedAtMost, send_failed};
 
+mod disk;
 mod memory;
 
+pub use disk::Disk;
 pub use memory::{MemorySink, MemorySource};
 
 /// The answer of a read.
@@ -116,39 +118,6 @@ pub trait Sink {
         ensures fits { TookAtMost result (length bytes.now) }
         ensures some { TookSome result (length bytes.now) }
         ensures gives { Gives (taken self.old) (taken self.new) bytes.now result };
-}
-
-/// Files, one of which is open at a time.
-pub trait Disk {
-    /// How often a call failed.
-    ghost faults: { Self → ℕ };
-
-    /// Opens the file of that name, an empty one if there is none.
-    fn open(&mut self, name: &str) -> Opened
-        ensures kept { faults self.old ≤ faults self.new }
-        ensures failed { OnOpenFailed result (Rose (faults self.old) (faults self.new)) };
-
-    /// The file's length in bytes.
-    fn len(&mut self) -> Result<u64, Failed>
-        ensures kept { faults self.old ≤ faults self.new }
-        ensures failed { OnErr result (Rose (faults self.old) (faults self.new)) };
-
-    /// Reads from a place into the front of the buffer, up to its end or the file's, and gives the
-    /// number of bytes.
-    fn read_at(&mut self, place: u64, buf: &mut [u8]) -> Result<usize, Failed>
-        ensures kept { faults self.old ≤ faults self.new }
-        ensures failed { OnErr result (Rose (faults self.old) (faults self.new)) }
-        ensures fits { IfOk result (λ n. n ≤ length buf.old) };
-
-    /// Writes the bytes at a place.
-    fn write_at(&mut self, place: u64, bytes: &[u8]) -> Result<(), Failed>
-        ensures kept { faults self.old ≤ faults self.new }
-        ensures failed { OnErr result (Rose (faults self.old) (faults self.new)) };
-
-    /// After it, a crash leaves what was written.
-    fn sync(&mut self) -> Result<(), Failed>
-        ensures kept { faults self.old ≤ faults self.new }
-        ensures failed { OnErr result (Rose (faults self.old) (faults self.new)) };
 }
 
 /// Datagrams between ports of this machine.
