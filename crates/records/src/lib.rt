@@ -4,11 +4,17 @@
 
 ghost use Rattle.std.specs.Prelude.{◌≡◌};
 
+pub use checked::Checked;
 pub use fault::FormFault;
 pub use reading::read_record;
+pub use signing::{Signed, signed_bytes};
+pub use writing::write_record;
 
+mod checked;
 mod fault;
 mod reading;
+mod signing;
+mod writing;
 
 use ff_ids::{AccBody, MemberId, NoteBody};
 use fields::Bytes;
