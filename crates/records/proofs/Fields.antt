@@ -73,14 +73,35 @@ bytes_take n r x s fits e =
     subst (λ (p : List ℕ × Reading). Takes r p.0 p.1 × (length p.0 ≡ n)) same
     (advanced-takes n r (take n r.left) fits long refl, omega (arith, length-take n r.left))
 
--- what is left after the first n bytes
-abbrev pub rest_of : Reading → ℕ → List ℕ → Reading
-rest_of r n rest = record { place = r.place + n; left = rest }
+-- ---- what was written is read again
 
-pub bytes_again : (x rest : List ℕ) (n : ℕ) (r : Reading) → length x ≡ n → r.left ≡ x ++ rest → bytes_at n r ≡ Ok (x, rest_of r n rest)
-bytes_again x rest n r len left =
+-- A step goes past the text, which stood in front of the rest.
+pub record Past (r : Reading) (text rest : List ℕ) (s : Reading) : Type 0 where
+  pub left : s.left ≡ rest
+  pub place : s.place ≡ r.place + length text
+
+-- Where the text is at the front, the step reads the value from it.
+abbrev pub Again : {A : Type 0} → (Reading → Result (A × Reading) ℕ) → A → List ℕ → Type 0
+Again {A} step x text = (r : Reading) (rest : List ℕ) → r.left ≡ text ++ rest → (s : Reading) × (step r ≡ Ok (x, s)) × Past r text rest s
+
+pub bytes_again : (x : List ℕ) (n : ℕ) → length x ≡ n → Again (bytes_at n) x x
+bytes_again x n len r rest left =
     let enough : ltb (length r.left) n ≡ false = le-ltb _ _ (rw left (omega (arith, length-append x rest))) in
-    rw (enough, left, take_at x rest n len, drop_at x rest n len) refl
+    let front : take n r.left ≡ x = ap (take n) left ∙ take_at x rest n len in
+    let behind : drop n r.left ≡ rest = ap (drop n) left ∙ drop_at x rest n len in
+    (advanced n r, rw enough (ap (λ (t : List ℕ). done (t, advanced n r)) front), record { left = behind; place = omega (arith, len) })
+
+pub then_again : {A B : Type 0} (f : Reading → Result (A × Reading) ℕ) (g : A → Reading → Result (B × Reading) ℕ) (x : A) (y : B) (t u : List ℕ)
+    → Again f x t → Again (g x) y u → Again (λ r. f r >>= λ p. g p.0 p.1) y (t ++ u)
+then_again f g x y t u first second r rest left =
+    let a = first r (u ++ rest) (left ∙ append_assoc t u rest) in
+    let b = second a.0 rest a.2.left in
+    (b.0, ap (λ v. v >>= λ p. g p.0 p.1) a.1 ∙ b.1, record { left = b.2.left; place = omega (arith, a.2.place, b.2.place, length-append t u) })
+
+pub map_again : {A B : Type 0} (f : Reading → Result (A × Reading) ℕ) (h : A → B) (x : A) (t : List ℕ) → Again f x t → Again (λ r. f r >>= λ p. Ok (h p.0, p.1)) (h x) t
+map_again f h x t first r rest left =
+    let a = first r rest left in
+    (a.0, ap (λ v. v >>= λ p. done (h p.0, p.1)) a.1, a.2)
 
 -- ---- numbers
 
@@ -132,18 +153,36 @@ number_takes w limit rule code Good r x s wide ruled fits e =
     let front : to_be_bytes w (code x) ≡ field = ap (to_be_bytes w) (sym b.0) ∙ wide.back field (omega (arith, length-take (byte_len w) r.left)) field_fits in
     (subst (Takes r (to_be_bytes w (code x))) k.1 (advanced-takes (byte_len w) r _ fits long front), b.1)
 
-pub number_again : {A : Type 0} (w : Width) (limit : ℕ) (rule : ℕ → Option A) (code : A → ℕ) (Good : A → Type 0) (x : A) (rest : List ℕ) (r : Reading)
-    → IsWide w limit → IsRule limit rule code Good → Good x → r.left ≡ to_be_bytes w (code x) ++ rest → number_at w rule r ≡ Ok (x, rest_of r (byte_len w) rest)
-number_again w limit rule code Good x rest r wide ruled good left =
+pub number_again : {A : Type 0} (w : Width) (limit : ℕ) (rule : ℕ → Option A) (code : A → ℕ) (Good : A → Type 0) (x : A)
+    → IsWide w limit → IsRule limit rule code Good → Good x → Again (number_at w rule) x (to_be_bytes w (code x))
+number_again w limit rule code Good x wide ruled good r rest left =
     let field = to_be_bytes w (code x) in
+    let k = byte_len w in
     let len = wide.len (code x) in
     let a = ruled.again x good in
-    let enough : ltb (length r.left) (byte_len w) ≡ false = le-ltb _ _ (rw left (omega (arith, length-append field rest, len))) in
-    let k = byte_len w in
+    let enough : ltb (length r.left) k ≡ false = le-ltb _ _ (rw left (omega (arith, length-append field rest, len))) in
     let front : take k r.left ≡ field = ap (take k) left ∙ take_at field rest k len in
     let behind : drop k r.left ≡ rest = ap (drop k) left ∙ drop_at field rest k len in
     let value : rule (from_be_bytes w (take k r.left)) ≡ Some x = ap (λ (t : List ℕ). rule (from_be_bytes w t)) front ∙ ap rule (wide.again (code x) a.1) ∙ a.0 in
-    rw enough (ap (kept k r) value ∙ ap (λ (t : List ℕ). done (x, rest_of r k t)) behind)
+    (advanced k r, rw enough (ap (kept k r) value), record { left = behind; place = omega (arith, len) })
+
+-- ---- bytes that are numbers
+
+pub byte_takes : {A : Type 0} (rule : ℕ → Option A) (r : Reading) (x : A) (s : Reading) → IsBytes r.left → byte_at rule r ≡ Ok (x, s)
+    → (b : ℕ) × (rule b ≡ Some x) × Takes r (b ∷ []) s
+byte_takes rule r x s fits e =
+    let g = guard_ok (ltb (length r.left) 1) r.place (kept 1 r (rule (get_or r.left 0 0))) (x, s) e in
+    let long : 1 ≤ length r.left = ltb-false _ _ g.0 in
+    let k = kept_ok 1 r (rule (get_or r.left 0 0)) (x, s) g.1 in
+    let front : get_or r.left 0 0 ∷ [] ≡ take 1 r.left = sym (take_more r.left 0 0 long) in
+    (get_or r.left 0 0, k.0, subst (Takes r (get_or r.left 0 0 ∷ [])) k.1 (advanced-takes 1 r _ fits long front))
+
+pub byte_again : {A : Type 0} (rule : ℕ → Option A) (x : A) (b : ℕ) → rule b ≡ Some x → Again (byte_at rule) x (b ∷ [])
+byte_again rule x b good r rest left =
+    let enough : ltb (length r.left) 1 ≡ false = le-ltb _ _ (rw left (omega arith)) in
+    let front : get_or r.left 0 0 ≡ b = ap (λ (t : List ℕ). get_or t 0 0) left in
+    let behind : drop 1 r.left ≡ rest = ap (drop 1) left in
+    (advanced 1 r, rw enough (ap (kept 1 r) (ap rule front ∙ good)), record { left = behind; place = omega arith })
 
 -- ---- rules
 
