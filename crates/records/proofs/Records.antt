@@ -3,6 +3,8 @@ use Rattle.std.proofs.Common.{◌≡◌, ℕ, zero, suc, ◌+◌, ◌^◌, ◌<�
 use Rattle.std.specs.Int.{w16, w32, w64, to_be_bytes}
 use Rattle.std.proofs.lemmas.Bool.{eqb-true, false≢true}
 use Rattle.std.proofs.lemmas.Bool.Decides.{nat_tests}
+use Rattle.std.proofs.lemmas.List.{take_at}
+use Rattle.std.specs.Prelude.{IfOk}
 use Rattle.fields.specs.Reading.{Reading, reading_of}
 use Rattle.ff_ids.specs.declared.NoteBody.{NoteBody}
 use Rattle.ff_ids.specs.declared.AccBody.{AccBody}
@@ -18,8 +20,9 @@ use Rattle.records.specs.declared.CertBody.{CertBody}
 use Rattle.records.specs.declared.Body.{Body}
 use Rattle.records.specs.declared.Body.TheVariants.{Certificate, Note, Accusation}
 use Rattle.records.specs.declared.Record.{Record}
+use Rattle.records.specs.declared.fault.FormFault.{FormFault}
 use Rattle.records.specs.Spelling.{certificate_bytes, note_bytes, accusation_bytes, body_bytes, record_bytes, IsCertificate, IsNote, IsAccusation, IsBody, HasLength, IsRecord}
-use Rattle.records.specs.Grammar.{◌>>=◌, number_at, byte_at, bytes_at, any_number, number_within, member_number, nonzero, signature_length, kind_number, key_at, certificate_at, note_at, accusation_at, body_of_kind, body_at, signature_at, record_at}
+use Rattle.records.specs.Grammar.{◌>>=◌, number_at, byte_at, bytes_at, any_number, number_within, member_number, nonzero, signature_length, kind_number, key_at, certificate_at, note_at, accusation_at, body_of_kind, body_at, signature_at, record_at, GivesRecord, IsGiven}
 use Rattle.records.proofs.Fields.{IsBytes, bind_ok, ok_is, Takes, Takes-then, bytes_take, byte_takes, byte_again, number_takes, number_again, bytes_again, then_again, map_again, Again, Past, IsRule, wide16, wide32, wide64, any_rule, within_rule, nonzero_rule}
 
 chosen : {A : Type 0} (b : Bool) (x y z : A) → cond b x y ≡ z → ((b ≡ true) × (x ≡ z)) ⊎ ((b ≡ false) × (y ≡ z))
@@ -274,3 +277,46 @@ record_again x body signature =
     then_again body_at (λ b r. signature_at r >>= λ s. Ok (record { body = b; signature = s.0 }, s.1)) x.body x (body_bytes x.body) (to_be_bytes w16 (length x.signature) ++ x.signature)
     (body_again x.body body)
     (map_again signature_at (λ s. record { body = x.body; signature = s }) x.signature _ (signature_again x.signature signature))
+
+-- ---- what calls give
+
+given : (read : Result (Record × Reading) ℕ) (y : Record × ℕ) → GivesRecord read (Ok y) → (x : Record × Reading) × (read ≡ Ok x) × (y ≡ (x.0, x.1.place))
+given (Ok x) y h = (x, refl, h)
+given (Err p) y h = absurd cc
+
+found_at : (bytes : List ℕ) (y : Record × ℕ) → IsBytes bytes → GivesRecord (record_at (reading_of bytes)) (Ok y) → IsRecord (take y.1 bytes) y.0
+found_at bytes y fits h =
+    let x = given (record_at (reading_of bytes)) y h in
+    let t = record_takes (reading_of bytes) x.0.0 x.0.1 fits x.1 in
+    let taken : x.0.1.place ≡ length (record_bytes x.0.0) = omega (arith, t.0.place) in
+    let front : take x.0.1.place bytes ≡ record_bytes x.0.0 = ap (take x.0.1.place) t.0.parts ∙ take_at (record_bytes x.0.0) x.0.1.left x.0.1.place (sym taken) in
+    subst (λ (z : Record × ℕ). IsRecord (take z.1 bytes) z.0) (sym x.2) (record { body = t.1; signature = t.2; spelled = front })
+
+pub is_found : (bytes : List ℕ) (answer : Result (Record × ℕ) FormFault) → IsBytes bytes → GivesRecord (record_at (reading_of bytes)) answer → IfOk answer (λ x. IsRecord (take x.1 bytes) x.0)
+is_found bytes (Ok y) fits h = found_at bytes y fits h
+is_found bytes (Err e) fits h = tt
+
+given_again : (x : Record) (n : ℕ) (s : Reading) (answer : Result (Record × ℕ) FormFault) → s.place ≡ n → GivesRecord (Ok (x, s)) answer → IsGiven x n answer
+given_again x n s (Ok y) same h = h ∙ ap (λ (k : ℕ). (x, k)) same
+given_again x n s (Err e) same h = h
+
+pub is_given : (bytes : List ℕ) (answer : Result (Record × ℕ) FormFault) → GivesRecord (record_at (reading_of bytes)) answer
+    → (r : Record) (spelled rest : List ℕ) → IsRecord spelled r → bytes ≡ spelled ++ rest → IsGiven r (length spelled) answer
+is_given bytes answer h r spelled rest is front =
+    let a = record_again r is.body is.signature (reading_of bytes) rest (front ∙ ap (λ (t : List ℕ). t ++ rest) is.spelled) in
+    let long : length spelled ≡ length (record_bytes r) = ap length is.spelled in
+    given_again r (length spelled) a.0 answer (omega (arith, a.2.place, long)) (subst (λ (v : Result (Record × Reading) ℕ). GivesRecord v answer) a.1 h)
+
+-- ---- one spelling
+
+pub one_reading : {A : Type 0} (step : Reading → Result (A × Reading) ℕ) (a b x y : List ℕ) (r s : A) → Again step r a → Again step s b → a ++ x ≡ b ++ y → r ≡ s
+one_reading step a b x y r s first second same =
+    let one = first (reading_of (a ++ x)) x refl in
+    let other = second (reading_of (a ++ x)) y same in
+    ap (λ p. p.0) (ok_is (r, one.0) (s, other.0) (sym one.1 ∙ other.1))
+
+pub records_one : (a b x y : List ℕ) (r s : Record) → IsRecord a r → IsRecord b s → a ++ x ≡ b ++ y → (a ≡ b) × (r ≡ s)
+records_one a b x y r s is_r is_s same =
+    let again : (t : List ℕ) (q : Record) → IsRecord t q → Again record_at q t = λ t q is. subst (Again record_at q) (sym is.spelled) (record_again q is.body is.signature) in
+    let one = one_reading record_at a b x y r s (again a r is_r) (again b s is_s) same in
+    (is_r.spelled ∙ ap record_bytes one ∙ sym is_s.spelled, one)

@@ -126,3 +126,8 @@ abbrev pub GivesRecord : Result (Record × Reading) ℕ → Result (Record × �
 GivesRecord (Ok x) (Ok y) = y ≡ (x.0, x.1.place)
 GivesRecord (Ok x) (Err e) = e ≡ faults.OutOfMemory
 GivesRecord (Err place) answer = answer ≡ Err (faults.BadForm place)
+
+-- The answer is the record and that it takes so many bytes, unless memory was wanted.
+abbrev pub IsGiven : Record → ℕ → Result (Record × ℕ) FormFault → Type 0
+IsGiven r taken (Ok y) = y ≡ (r, taken)
+IsGiven r taken (Err e) = e ≡ faults.OutOfMemory

@@ -12,6 +12,7 @@ pub use writing::write_record;
 
 mod checked;
 mod fault;
+pub mod laws;
 mod reading;
 mod signing;
 mod writing;

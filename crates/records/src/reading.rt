@@ -1,11 +1,12 @@
 //! Reading records, field by field.
 
-ghost use Rattle.std.specs.Prelude.{◌≡◌, ◌≤◌, ◌++◌, List, take, length, IfOk};
+ghost use Rattle.std.specs.Prelude.{◌≡◌, ℕ, ◌++◌, List, take, length, IfOk};
 ghost use Rattle.std.specs.Int.{w16, w32, w64};
 ghost use Rattle.fields.specs.Reading.{reading_of};
+ghost use Rattle.records.specs.declared.Record.{Record as Signed};
 ghost use Rattle.lms_tree.specs.Lms.{tree_of, ots_of};
 ghost use Rattle.records.specs.Spelling.{IsRecord};
-ghost use Rattle.records.specs.Grammar.{Reads, GivesRecord, number_at, byte_at, bytes_at, any_number, member_number, nonzero, signature_length as length_rule, key_at, certificate_at, note_at, accusation_at, body_at, signature_at, record_at};
+ghost use Rattle.records.specs.Grammar.{Reads, GivesRecord, IsGiven, number_at, byte_at, bytes_at, any_number, member_number, nonzero, signature_length as length_rule, key_at, certificate_at, note_at, accusation_at, body_at, signature_at, record_at};
 
 use crate::fault::FormFault;
 use crate::{Body, CertBody, Record};
@@ -192,10 +193,9 @@ fn signature<'a>(reader: &mut Reader<'a>) -> Result<&'a [u8], Misread>
     }
 }
 
-/// The record at the front of the bytes, and how many bytes it takes. Bytes behind it are not read. It is
-/// refused at the first byte of the first field that is cut short or breaks its rule.
+/// The record at the front of the bytes and how many it takes, or why there is none.
 #[tactic(auto, unfolding(crate::specs::Grammar::record_at))]
-pub fn read_record(alloc: Global, bytes: &[u8]) -> Result<(Record, usize), FormFault>
+fn front_record(alloc: Global, bytes: &[u8]) -> Result<(Record, usize), FormFault>
     ensures { GivesRecord (record_at (reading_of bytes.now)) result }
 {
     let mut reader = Reader::new(bytes);
@@ -203,4 +203,17 @@ pub fn read_record(alloc: Global, bytes: &[u8]) -> Result<(Record, usize), FormF
     let signature = signature(&mut reader)?;
     let signature = Bytes::from_vec(Vec::from_slice(alloc, signature)?);
     Ok((Record { body, signature }, reader.place()))
+}
+
+/// The record at the front of the bytes, and how many of them it takes. Bytes behind it are not read. The
+/// fault is at the first byte of the first field that is cut short or breaks its rule.
+pub fn read_record(alloc: Global, bytes: &[u8]) -> Result<(Record, usize), FormFault>
+    // What is read is spelled so.
+    ensures found { IfOk result (λ x. IsRecord (take x.1 bytes.now) x.0) }
+    // What is spelled so is read, whatever follows it.
+    ensures only { (r : Signed) (spelled rest : List ℕ) → IsRecord spelled r → bytes.now ≡ spelled ++ rest → IsGiven r (length spelled) result }
+    // Which fault it is.
+    ensures exact { GivesRecord (record_at (reading_of bytes.now)) result }
+{
+    front_record(alloc, bytes)
 }
