@@ -7,7 +7,10 @@ ghost use Rattle.ff_ids.specs.Views.{key_at};
 ghost use Rattle.ring_order.specs.Rows.{place_of_number};
 ghost use Rattle.ring_order.specs.Nearest.{keys_of, nearer, nearest, nearest_so_far, IsNumberBefore, IsNumberAfter};
 
+mod hashed;
 pub mod laws;
+
+pub use hashed::hash_places;
 
 use ff_ids::{MemberId, RingNo};
 use std::marker::Model;
