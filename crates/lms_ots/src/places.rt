@@ -1,7 +1,7 @@
 //! Parts of byte strings.
 
 ghost use Rattle.std.specs.Prelude.{◌≡◌, ◌+◌, ◌≤◌, ◌++◌, length, take};
-ghost use Rattle.lms_tree.specs.Lms.{number_at};
+ghost use Rattle.lms_ots.specs.Ots.{number_at};
 
 /// Writes `value` into `out` at `place`.
 pub fn put(out: &mut [u8], place: usize, value: &[u8])
@@ -11,7 +11,7 @@ pub fn put(out: &mut [u8], place: usize, value: &[u8])
     out[place..place + value.len()].copy_from_slice(value);
 }
 
-/// The number in the four bytes at `place`.
+/// The big-endian number in the four bytes at `place`.
 pub fn number_at(bytes: &[u8], place: usize) -> u32
     requires { place + 4 ≤ length bytes.now }
     ensures { result ≡ number_at place bytes.now }
