@@ -1,3 +1,3 @@
 pub mod Numbers
+pub mod Causes
 pub mod Ends
-pub mod Commands

@@ -1,6 +1,6 @@
 //! The bad words: why a line is refused.
 
-ghost use Rattle.std.specs.Prelude.{◌≡◌, Some};
+ghost use Rattle.std.specs.Prelude.{◌≡◌, ◌≤◌, Some, length};
 ghost use Rattle.line_text.specs.declared.bad_word.LineFault.TheVariants.{Bad, OutOfMemory};
 ghost use Rattle.line_text.specs.Texts.{bad_word_text};
 
@@ -46,29 +46,39 @@ pub enum BadWord {
     End,
 }
 
+impl BadWord {
+    /// The word as it is written, of at most nine characters.
+    pub fn text(self) -> &'static str
+        ensures text { result.now ≡ bad_word_text self }
+        ensures short { length result.now ≤ 9 }
+    {
+        match self {
+            BadWord::AfterEnd => "after-end",
+            BadWord::Long => "long",
+            BadWord::LineFeed => "line-feed",
+            BadWord::Lines => "lines",
+            BadWord::Spaces => "spaces",
+            BadWord::Header => "header",
+            BadWord::Word => "word",
+            BadWord::NotBuilt => "not-built",
+            BadWord::Order => "order",
+            BadWord::Count => "count",
+            BadWord::Number => "number",
+            BadWord::Hex => "hex",
+            BadWord::Name => "name",
+            BadWord::Limit => "limit",
+            BadWord::Cert => "cert",
+            BadWord::OwnKey => "self",
+            BadWord::End => "end",
+        }
+    }
+}
+
 impl fmt::Display for BadWord {
     ghost output = { λ w. Some (bad_word_text w) };
 
     fn fmt<W: fmt::Write>(&self, f: &mut fmt::Formatter<W>) -> fmt::Result {
-        match self {
-            BadWord::AfterEnd => write!(f, "after-end"),
-            BadWord::Long => write!(f, "long"),
-            BadWord::LineFeed => write!(f, "line-feed"),
-            BadWord::Lines => write!(f, "lines"),
-            BadWord::Spaces => write!(f, "spaces"),
-            BadWord::Header => write!(f, "header"),
-            BadWord::Word => write!(f, "word"),
-            BadWord::NotBuilt => write!(f, "not-built"),
-            BadWord::Order => write!(f, "order"),
-            BadWord::Count => write!(f, "count"),
-            BadWord::Number => write!(f, "number"),
-            BadWord::Hex => write!(f, "hex"),
-            BadWord::Name => write!(f, "name"),
-            BadWord::Limit => write!(f, "limit"),
-            BadWord::Cert => write!(f, "cert"),
-            BadWord::OwnKey => write!(f, "self"),
-            BadWord::End => write!(f, "end"),
-        }
+        f.write_str(self.text())
     }
 }
 
