@@ -3,6 +3,7 @@
 
 mod ending;
 mod status;
+mod words;
 
 pub use status::Status;
 

@@ -1,0 +1,31 @@
+// The words of the command line.
+
+ghost use Rattle.std.specs.Prelude.{◌≡◌, drop, MatchResult};
+ghost use Rattle.std.specs.Vec.Iter.{into_iter_items};
+ghost use Rattle.std.specs.IoError.{error_kind};
+ghost use Rattle.fireflies.specs.Words.{refused_words};
+
+use crate::status::Status;
+use std::alloc::Global;
+use std::env::Args;
+use std::io;
+use std::io::ErrorKind;
+
+/// The words behind the program's name, all of them. Words that can't be read are no command, and where memory was
+/// refused in reading them, that is the answer.
+pub(crate) fn words_of(alloc: Global, arguments: io::Result<Args>) -> Result<Vec<String>, Status>
+    ensures { MatchResult arguments
+        (λ all. MatchResult result (λ words. words.items ≡ drop 1 (into_iter_items all)) (λ status. status ≡ Status.OutOfMemory))
+        (λ fault. result ≡ Err (refused_words (error_kind fault))) }
+{
+    match arguments {
+        Ok(all) => match all.skip(1).collect(alloc) {
+            Ok(words) => Ok(words),
+            Err(_) => Err(Status::OutOfMemory),
+        },
+        Err(fault) => match fault.kind() {
+            ErrorKind::OutOfMemory => Err(Status::OutOfMemory),
+            _ => Err(Status::Usage),
+        },
+    }
+}
