@@ -12,14 +12,14 @@ use Rattle.text_trace.proofs.WholeLemmas.{whole-none, whole-one, feed_apart}
 use Rattle.play.specs.declared.reader.Ending.{Ending}
 use Rattle.play.specs.declared.reader.Ending.TheVariants as ending
 use Rattle.play.specs.Reading.{EndsBy, IsRest, Reads, ReadsPart}
-use Rattle.play.specs.Plays.{Standing, Unfailed, Lines, Went, Ended, Refused, Unread, Unwritten, Starved, IsLast, IsUpToLine, Follows}
+use Rattle.play.specs.Plays.{Standing, Unfailed, Lines, Went, Finished, Refused, Unread, Unwritten, Starved, IsLast, IsUpToLine, Follows}
 
 no-bytes : (line : List ℕ) → length line ≡ 0 → line ≡ []
 no-bytes [] e = refl
 no-bytes (b ∷ line) e = absurd (omega arith)
 
-no_lines : (was : Standing) → Lines was [] []
-no_lines was = record { whole = whole-none; few = omega arith }
+no_lines : (room : ℕ) → Lines room [] []
+no_lines room = record { whole = whole-none; few = omega arith }
 
 nothing-read : (before after : Option (List ℕ)) (line : List ℕ) → Consumes before after line → length line ≡ 0 → Consumes before after []
 nothing-read before after line front none = subst (Consumes before after) (no-bytes line none) front
@@ -50,8 +50,8 @@ is-fed ending.Limit line left e fed = absurd (feed_apart line e.clear fed)
 is-fed ending.Input line left e fed = absurd (feed_apart line e.clear fed)
 
 -- a line was taken, and its trace was written
-pub went-one : (C : Type 0) (A B : Owed C → Type 0) (first : ℕ) (was now : Standing) (line text : List ℕ) (by : Ending) → Reads was.left now.left line by → has_line_feed line ≡ true → Steps C A B (line ∷ []) text → Appends was.taken now.taken text → now.room < was.room → Unfailed was now → Went C A B first (first + 1) was now
-went-one C A B first was now line text by read fed steps wrote less unfailed = record {
+pub went-one : (C : Type 0) (A B : Owed C → Type 0) (first room later : ℕ) (was now : Standing) (line text : List ℕ) (by : Ending) → Reads was.left now.left line by → has_line_feed line ≡ true → Steps C A B (line ∷ []) text → Appends was.taken now.taken text → later < room → Unfailed was now → Went C A B first (first + 1) room later was now
+went-one C A B first room later was now line text by read fed steps wrote less unfailed = record {
   lines = line ∷ [];
   bytes = line;
   text = text;
@@ -65,29 +65,27 @@ went-one C A B first was now line text by read fed steps wrote less unfailed = r
 }
 
 -- no line was left, and what comes at the end was written
-pub ended-here : (C : Type 0) (A : Owed C → Type 0) (was now : Standing) (line text : List ℕ) (by : Ending) → Reads was.left now.left line by → length line ≡ 0 → Ends C A [] text → Appends was.taken now.taken text → Unfailed was now → Ended C A A was now
-ended-here C A was now line text by read none ends wrote unfailed = record {
+pub finished-here : (C : Type 0) (A : Owed C → Type 0) (room : ℕ) (was now : Standing) (line text : List ℕ) (by : Ending) → Reads was.left now.left line by → length line ≡ 0 → Ends C A [] text → Appends was.taken now.taken text → Unfailed was now → Finished C A room was now
+finished-here C A room was now line text by read none ends wrote unfailed = record {
   lines = [];
   bytes = [];
-  text = [];
-  more = text;
-  taken = no_lines was;
+  text = text;
+  taken = no_lines room;
   read = nothing-read was.left now.left line read.front none;
   used_up = is-end by line now.left read.ends none;
   wrote = wrote;
-  steps = steps-none C A;
   ends = ends;
   unfailed = unfailed;
 }
 
 -- the line was refused, before anything was written
-pub refused-line : (C : Type 0) (A : Owed C → Type 0) (first : ℕ) (cause : C) (was now : Standing) (line : List ℕ) (by : Ending) → Reads was.left now.left line by → Refuses C A [] (Some line) [] cause → Appends was.taken now.taken [] → Unfailed was now → Refused C A first first cause was now
-refused-line C A first cause was now line by read refuses same unfailed = record {
+pub refused-line : (C : Type 0) (A : Owed C → Type 0) (room first : ℕ) (cause : C) (was now : Standing) (line : List ℕ) (by : Ending) → Reads was.left now.left line by → Refuses C A [] (Some line) [] cause → Appends was.taken now.taken [] → Unfailed was now → Refused C A room first first cause was now
+refused-line C A room first cause was now line by read refuses same unfailed = record {
   lines = [];
   bytes = [];
   last = Some line;
   text = [];
-  taken = no_lines was;
+  taken = no_lines room;
   counted = omega arith;
   read = read.front;
   stands = is-last by line now.left read.ends;
@@ -97,13 +95,13 @@ refused-line C A first cause was now line by read refuses same unfailed = record
 }
 
 -- the end was refused, before anything was written
-pub refused-end : (C : Type 0) (A : Owed C → Type 0) (first : ℕ) (cause : C) (was now : Standing) (line : List ℕ) (by : Ending) → Reads was.left now.left line by → length line ≡ 0 → Refuses C A [] None [] cause → Appends was.taken now.taken [] → Unfailed was now → Refused C A first first cause was now
-refused-end C A first cause was now line by read none refuses same unfailed = record {
+pub refused-end : (C : Type 0) (A : Owed C → Type 0) (room first : ℕ) (cause : C) (was now : Standing) (line : List ℕ) (by : Ending) → Reads was.left now.left line by → length line ≡ 0 → Refuses C A [] None [] cause → Appends was.taken now.taken [] → Unfailed was now → Refused C A room first first cause was now
+refused-end C A room first cause was now line by read none refuses same unfailed = record {
   lines = [];
   bytes = [];
   last = None;
   text = [];
-  taken = no_lines was;
+  taken = no_lines room;
   counted = omega arith;
   read = nothing-read was.left now.left line read.front none;
   stands = is-end by line now.left read.ends none;
@@ -113,13 +111,13 @@ refused-end C A first cause was now line by read none refuses same unfailed = re
 }
 
 -- the read failed, before anything was written
-pub unread-here : (C : Type 0) (A : Owed C → Type 0) (was now : Standing) (part : List ℕ) → ReadsPart was.left now.left part → ((f : Owed C) → A f → Waits C f) → Appends was.taken now.taken [] → now.read_faults ≡ next_count was.read_faults → now.write_faults ≡ was.write_faults → Unread C A was now
-unread-here C A was now part read waits same failed kept = record {
+pub unread-here : (C : Type 0) (A : Owed C → Type 0) (room : ℕ) (was now : Standing) (part : List ℕ) → ReadsPart was.left now.left part → ((f : Owed C) → A f → Waits C f) → Appends was.taken now.taken [] → now.read_faults ≡ next_count was.read_faults → now.write_faults ≡ was.write_faults → Unread C A room was now
+unread-here C A room was now part read waits same failed kept = record {
   lines = [];
   bytes = [];
   part = part;
   text = [];
-  taken = no_lines was;
+  taken = no_lines room;
   read = read.front;
   clear = read.clear;
   short = read.short;
@@ -130,15 +128,15 @@ unread-here C A was now part read waits same failed kept = record {
 }
 
 -- a write of what the line brings failed
-pub unwritten-line : (C : Type 0) (A B : Owed C → Type 0) (was now : Standing) (line text : List ℕ) (by : Ending) → Reads was.left now.left line by → has_line_feed line ≡ true → Steps C A B (line ∷ []) text → ((f : Owed C) → A f → Waits C f) → ((f : Owed C) → B f → Waits C f) → TookFront was.taken now.taken text → now.write_faults ≡ next_count was.write_faults → now.read_faults ≡ was.read_faults → Unwritten C A was now
-unwritten-line C A B was now line text by read fed steps waits waits_later front failed kept = record {
+pub unwritten-line : (C : Type 0) (A B : Owed C → Type 0) (room : ℕ) (was now : Standing) (line text : List ℕ) (by : Ending) → Reads was.left now.left line by → has_line_feed line ≡ true → Steps C A B (line ∷ []) text → ((f : Owed C) → A f → Waits C f) → ((f : Owed C) → B f → Waits C f) → TookFront was.taken now.taken text → now.write_faults ≡ next_count was.write_faults → now.read_faults ≡ was.read_faults → Unwritten C A room was now
+unwritten-line C A B room was now line text by read fed steps waits waits_later front failed kept = record {
   lines = [];
   bytes = [];
   last = Some line;
   text = [];
   more = text;
   count = front.count;
-  taken = no_lines was;
+  taken = no_lines room;
   read = read.front;
   stands = is-last by line now.left read.ends;
   writes = writes-none C A waits;
@@ -150,15 +148,15 @@ unwritten-line C A B was now line text by read fed steps waits waits_later front
 }
 
 -- a write of what the end brings failed
-pub unwritten-end : (C : Type 0) (A : Owed C → Type 0) (was now : Standing) (line text : List ℕ) (by : Ending) → Reads was.left now.left line by → length line ≡ 0 → Ends C A [] text → ((f : Owed C) → A f → Waits C f) → TookFront was.taken now.taken text → now.write_faults ≡ next_count was.write_faults → now.read_faults ≡ was.read_faults → Unwritten C A was now
-unwritten-end C A was now line text by read none ends waits front failed kept = record {
+pub unwritten-end : (C : Type 0) (A : Owed C → Type 0) (room : ℕ) (was now : Standing) (line text : List ℕ) (by : Ending) → Reads was.left now.left line by → length line ≡ 0 → Ends C A [] text → ((f : Owed C) → A f → Waits C f) → TookFront was.taken now.taken text → now.write_faults ≡ next_count was.write_faults → now.read_faults ≡ was.read_faults → Unwritten C A room was now
+unwritten-end C A room was now line text by read none ends waits front failed kept = record {
   lines = [];
   bytes = [];
   last = None;
   text = [];
   more = text;
   count = front.count;
-  taken = no_lines was;
+  taken = no_lines room;
   read = nothing-read was.left now.left line read.front none;
   stands = is-end by line now.left read.ends none;
   writes = writes-none C A waits;
@@ -170,13 +168,13 @@ unwritten-end C A was now line text by read none ends waits front failed kept = 
 }
 
 -- memory was refused, before anything was written
-pub starved-here : (C : Type 0) (A : Owed C → Type 0) (was now : Standing) (line : List ℕ) (by : Ending) → Reads was.left now.left line by → ((f : Owed C) → A f → Waits C f) → Appends was.taken now.taken [] → Unfailed was now → Starved C A was now
-starved-here C A was now line by read waits same unfailed = record {
+pub starved-here : (C : Type 0) (A : Owed C → Type 0) (room : ℕ) (was now : Standing) (line : List ℕ) (by : Ending) → Reads was.left now.left line by → ((f : Owed C) → A f → Waits C f) → Appends was.taken now.taken [] → Unfailed was now → Starved C A room was now
+starved-here C A room was now line by read waits same unfailed = record {
   lines = [];
   bytes = [];
   part = line;
   text = [];
-  taken = no_lines was;
+  taken = no_lines room;
   read = read.front;
   one = is-up_to_line by line now.left read.ends;
   wrote = same;
@@ -185,13 +183,13 @@ starved-here C A was now line by read waits same unfailed = record {
 }
 
 -- memory was refused before anything was taken
-pub starved-first : (C : Type 0) (A : Owed C → Type 0) (was : Standing) → ((f : Owed C) → A f → Waits C f) → Starved C A was was
-starved-first C A was waits = record {
+pub starved-first : (C : Type 0) (A : Owed C → Type 0) (room : ℕ) (was : Standing) → ((f : Owed C) → A f → Waits C f) → Starved C A room was was
+starved-first C A room was waits = record {
   lines = [];
   bytes = [];
   part = [];
   text = [];
-  taken = no_lines was;
+  taken = no_lines room;
   read = Consumes-nil was.left;
   one = inl (refl, omega arith);
   wrote = Appends-nil was.taken;

@@ -2,7 +2,7 @@
 
 ghost use Rattle.std.specs.Prelude.{◌≡◌, ◌≤◌, ◌+◌, [], true, vec_capacity};
 ghost use Rattle.text_trace.specs.Trace.{Owing};
-ghost use Rattle.play.specs.Plays.{Plays, Turns, standing};
+ghost use Rattle.play.specs.Plays.{Runs, Turns, has_written, standing};
 
 use crate::reader::{LONGEST, read_line};
 use crate::script::{Refusal, Script};
@@ -27,10 +27,10 @@ fn turn<P: Script, S: Source, O: Sink>(
     requires room { 65601 ≤ vec_capacity line.old }
     ensures room { 65601 ≤ vec_capacity line.new }
     ensures source { result ≡ Ok true → S.is_open input.new ≡ true }
-    ensures sink { result ≡ Ok true → O.is_open out.new ≡ true }
-    ensures turns { Turns P.Cause (P.owes script.old) (P.owes script.new) number
-        (standing (P.room script.old) (S.left input.old) (O.taken out.old) (S.faults input.old) (O.faults out.old))
-        (standing (P.room script.new) (S.left input.new) (O.taken out.new) (S.faults input.new) (O.faults out.new)) result }
+    ensures sink { O.is_open out.new ≡ has_written result }
+    ensures turns { Turns P.Cause (P.owes script.old) (P.owes script.new) number (P.room script.old) (P.room script.new)
+        (standing (S.left input.old) (O.taken out.old) (S.faults input.old) (O.faults out.old))
+        (standing (S.left input.new) (O.taken out.new) (S.faults input.new) (O.faults out.new)) result }
 {
     text.clear();
     match read_line(input, line) {
@@ -76,9 +76,10 @@ pub fn play<P: Script, S: Source, O: Sink>(
     requires sink { O.is_open out.old ≡ true }
     requires owing { Owing P.Cause (P.owes script.old) }
     requires few { P.room script.old ≤ 100000 }
-    ensures { Plays P.Cause (P.owes script.old) (P.owes script.new) 1
-        (standing (P.room script.old) (S.left input.old) (O.taken out.old) (S.faults input.old) (O.faults out.old))
-        (standing (P.room script.new) (S.left input.new) (O.taken out.new) (S.faults input.new) (O.faults out.new)) result }
+    ensures sink { O.is_open out.new ≡ has_written result }
+    ensures runs { Runs P.Cause (P.owes script.old) (P.room script.old)
+        (standing (S.left input.old) (O.taken out.old) (S.faults input.old) (O.faults out.old))
+        (standing (S.left input.new) (O.taken out.new) (S.faults input.new) (O.faults out.new)) result }
 {
     let Ok(mut line) = Vec::with_capacity(alloc, LONGEST + 1) else {
         return Err(Stop::OutOfMemory);

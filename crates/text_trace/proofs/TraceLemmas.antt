@@ -1,5 +1,5 @@
 -- How parts of a trace join.
-use Rattle.std.proofs.Common.{◌≡◌, true, ℕ, List, [], ◌∷◌, ◌++◌, Option, Some, None, refl, ap, sym, ◌∙◌, append_assoc}
+use Rattle.std.proofs.Common.{◌≡◌, true, ℕ, List, [], ◌∷◌, ◌++◌, Option, Some, None, refl, ap, sym, ◌∙◌, subst, append_assoc}
 use Rattle.text_trace.specs.Lines.{has_no_feed}
 use Rattle.text_trace.specs.Trace.{Trace, before, Owed, GoesOn, Steps, Waits, Writes, Ends, Refuses}
 
@@ -42,3 +42,7 @@ refuses-join C A B lines others (Some line) text more c first last = λ f owes r
 refuses-join C A B lines others None text more c first last = λ f owes.
     let one = first f owes in
     one.same others ∙ ap (before text) (last one.later one.owes)
+
+-- a function that is this one waits as this one does
+pub waits-same : (C : Type 0) (f g : Owed C) → f ≡ g → Waits C g → Waits C f
+waits-same C f g same waits = subst (Waits C) (sym same) waits

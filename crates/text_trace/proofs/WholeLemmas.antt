@@ -56,6 +56,10 @@ rest-next (b ∷ front) clear some short = record {
 pub fed-next : (line rest : List ℕ) → IsFed line → IsNext line (seen (line ++ rest))
 fed-next line rest f = record { others = seen rest; same = (whole-one line f).first rest }
 
+not-both : (b : Bool) → (b ≡ true → ⊥) → b ≡ false
+not-both true h = absurd (h refl)
+not-both false h = refl
+
 -- bytes without a line feed don't end with one
 pub feed_apart : (line : List ℕ) → has_no_feed line ≡ true → has_line_feed line ≡ true → ⊥
 feed_apart line clear fed =
@@ -65,3 +69,6 @@ feed_apart line clear fed =
     let other : not (eqb (get_or line (length line - 1) 0) 10) ≡ true = AllPass-from_list_all (λ b. not (eqb b 10)) line clear (length line - 1) 0 last in
     let same : not (eqb (get_or line (length line - 1) 0) 10) ≡ false = ap not parts.1 in
     false≢true (sym same ∙ other)
+
+pub unfed : (line : List ℕ) → has_no_feed line ≡ true → has_line_feed line ≡ false
+unfed line clear = not-both (has_line_feed line) (feed_apart line clear)

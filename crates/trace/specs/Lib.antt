@@ -1,4 +1,3 @@
-pub mod Lines
 pub mod Answers
-pub mod Played
-pub mod LivesIn
+pub mod Walk
+pub mod Lives

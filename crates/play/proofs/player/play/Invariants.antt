@@ -11,9 +11,9 @@ invariant-lines g l = record {
   owing : Owing g.row.P-Cause.Denot (g.P.Script.owes l.script);
   room : 65601 ≤ vec_capacity l.line;
   number : l.number + g.P.Script.room l.script ≤ 100001;
-  went : Went g.row.P-Cause.Denot (g.P.Script.owes l.fn.script) (g.P.Script.owes l.script) 1 l.number
-      (standing (g.P.Script.room l.fn.script) (g.S.Source.left l.fn.input) (g.O.Sink.taken l.fn.out) (g.S.Source.faults l.fn.input) (g.O.Sink.faults l.fn.out))
-      (standing (g.P.Script.room l.script) (g.S.Source.left l.input) (g.O.Sink.taken l.out) (g.S.Source.faults l.input) (g.O.Sink.faults l.out));
+  went : Went g.row.P-Cause.Denot (g.P.Script.owes l.fn.script) (g.P.Script.owes l.script) 1 l.number (g.P.Script.room l.fn.script) (g.P.Script.room l.script)
+      (standing (g.S.Source.left l.fn.input) (g.O.Sink.taken l.fn.out) (g.S.Source.faults l.fn.input) (g.O.Sink.faults l.fn.out))
+      (standing (g.S.Source.left l.input) (g.O.Sink.taken l.out) (g.S.Source.faults l.input) (g.O.Sink.faults l.out));
 }
 
 abbrev pub decreases-lines : goal.decreases-lines
