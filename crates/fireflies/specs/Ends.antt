@@ -1,12 +1,11 @@
 -- How a run over a text ends: what it took and wrote of it, and the line of the first cause that stopped it.
 use Rattle.std.specs.Prelude.{◌≡◌, ℕ, ◌⊎◌, List, Option}
-use Rattle.std.specs.Io.KnownBytes.{Appends, Consumes}
+use Rattle.std.specs.Io.KnownBytes.{Appends}
 use Rattle.line_text.specs.declared.bad_word.BadWord.{BadWord}
-use Rattle.ports.specs.Contents.{IsUsedUp, TookFront}
+use Rattle.ports.specs.Contents.{TookFront}
 use Rattle.ports.specs.Count.{next_count}
-use Rattle.play.specs.Plays.{Standing, Lines, Unfailed, Refused, Unread, Unwritten, Starved}
+use Rattle.play.specs.Plays.{Standing, Unfailed, Finished, Refused, Unread, Unwritten, Starved}
 use Rattle.text_trace.specs.Trace.{Owed}
-use Rattle.text_trace.specs.Trace as trace
 use Rattle.fireflies.specs.Causes.{cause_line}
 use Rattle.fireflies.specs.declared.status.Status.{Status}
 use Rattle.fireflies.specs.declared.status.Status.TheVariants as status
@@ -15,26 +14,18 @@ use Rattle.fireflies.specs.declared.status.Status.TheVariants as status
 abbrev pub Is : Owed BadWord → Owed BadWord → Type 0
 Is owed f = f ≡ owed
 
--- The whole text was taken, and its whole trace was written.
-pub record Finished (C : Type 0) (A : Owed C → Type 0) (was now : Standing) : Type 0 where
-  pub lines : List (List ℕ)
-  pub bytes : List ℕ
-  pub text : List ℕ
-  pub taken : Lines was lines bytes
-  pub read : Consumes was.left now.left bytes
-  pub used_up : IsUsedUp now.left
-  pub wrote : Appends was.taken now.taken text
-  pub ends : trace.Ends C A lines text
-  pub unfailed : Unfailed was now
+-- So many lines may come, and one behind them, which is refused.
+abbrev pub room : ℕ
+room = 100000
 
 -- How a run stands that owes this, before the line of the cause for which it stopped.
 abbrev pub Stands : Owed BadWord → Standing → Standing → Status → Type 0
-Stands owed was now status.Ok = Finished BadWord (Is owed) was now
+Stands owed was now status.Ok = Finished BadWord (Is owed) room was now
 Stands owed was now status.Usage = ⊥
-Stands owed was now (status.BadInput line word) = Refused BadWord (Is owed) 1 line word was now
-Stands owed was now status.ReadFault = Unread BadWord (Is owed) was now
-Stands owed was now status.WriteFault = Unwritten BadWord (Is owed) was now
-Stands owed was now status.OutOfMemory = Starved BadWord (Is owed) was now
+Stands owed was now (status.BadInput line word) = Refused BadWord (Is owed) room 1 line word was now
+Stands owed was now status.ReadFault = Unread BadWord (Is owed) room was now
+Stands owed was now status.WriteFault = Unwritten BadWord (Is owed) room was now
+Stands owed was now status.OutOfMemory = Starved BadWord (Is owed) room was now
 
 -- The line of the cause was written, and nothing else came about.
 pub record Told (first : Status) (was now : Standing) : Type 0 where

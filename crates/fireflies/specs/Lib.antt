@@ -1,4 +1,5 @@
 pub mod Numbers
 pub mod Words
+pub mod Commands
 pub mod Causes
 pub mod Ends

@@ -10,9 +10,9 @@ use ports::{Sink, write_all};
 /// Writes the line that gives the first cause of a stop, if it has one, and answers how the run ended.
 pub(crate) fn conclude<O: Sink>(out: &mut O, first: Status) -> Status
     requires open { first ≢ Status.WriteFault → O.is_open out.old ≡ true }
-    ensures { (room after : ℕ) (left : Option (List ℕ)) (faults : ℕ) → Tells first
-        (standing room left (O.taken out.old) faults (O.faults out.old))
-        (standing after left (O.taken out.new) faults (O.faults out.new)) result }
+    ensures { (left : Option (List ℕ)) (faults : ℕ) → Tells first
+        (standing left (O.taken out.old) faults (O.faults out.old))
+        (standing left (O.taken out.new) faults (O.faults out.new)) result }
 {
     if first == Status::WriteFault {
         return first;

@@ -1,15 +1,26 @@
 // The words of the command line.
 
-ghost use Rattle.std.specs.Prelude.{◌≡◌, drop, MatchResult};
+ghost use Rattle.std.specs.Prelude.{◌≡◌, drop, IfOk, MatchResult};
 ghost use Rattle.std.specs.Vec.Iter.{into_iter_items};
 ghost use Rattle.std.specs.IoError.{error_kind};
 ghost use Rattle.fireflies.specs.Words.{refused_words};
 
 use crate::status::Status;
-use std::alloc::Global;
+use std::alloc::{AllocError, Global};
 use std::env::Args;
 use std::io;
 use std::io::ErrorKind;
+
+fn all_but_first(alloc: Global, mut all: Args) -> Result<Vec<String>, AllocError>
+    ensures { IfOk result (λ words. words.items ≡ drop 1 (into_iter_items all)) }
+{
+    let _name = all.next();
+    let mut words = Vec::new(alloc);
+    while let Some(word) = all.next() {
+        words.push(word)?;
+    }
+    Ok(words)
+}
 
 /// The words behind the program's name, all of them. Words that can't be read are no command, and where memory was
 /// refused in reading them, that is the answer.
@@ -19,7 +30,7 @@ pub(crate) fn words_of(alloc: Global, arguments: io::Result<Args>) -> Result<Vec
         (λ fault. result ≡ Err (refused_words (error_kind fault))) }
 {
     match arguments {
-        Ok(all) => match all.skip(1).collect(alloc) {
+        Ok(all) => match all_but_first(alloc, all) {
             Ok(words) => Ok(words),
             Err(_) => Err(Status::OutOfMemory),
         },

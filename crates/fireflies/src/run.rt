@@ -1,0 +1,93 @@
+// The top call.
+
+ghost use Rattle.std.specs.Prelude.{◌≡◌, ◌≢◌, ◌↔◌, ℕ, List, Option, true, map, IfSome, string_bytes};
+ghost use Rattle.play.specs.Plays.{Runs, standing, has_written};
+ghost use Rattle.line_text.specs.declared.bad_word.BadWord.{BadWord};
+ghost use Rattle.fireflies.specs.Commands.{command_of, owed_by};
+ghost use Rattle.fireflies.specs.Ends.{Counts, Ends, Is, room};
+
+use crate::command::Command;
+use crate::ending::conclude;
+use crate::status::Status;
+use line_text::BadWord;
+use play::Stop;
+use ports::{Clock, Disk, Link, Sink, Source};
+use std::alloc::Global;
+
+/// Plays the text of the command, from the source to the sink.
+fn play_text<S: Source, O: Sink>(
+    alloc: Global,
+    command: Command,
+    input: &mut S,
+    out: &mut O,
+) -> Result<(), Stop<BadWord>>
+    requires source { S.is_open input.old ≡ true }
+    requires sink { O.is_open out.old ≡ true }
+    requires stub { ⊥ }
+    ensures sink { O.is_open out.new ≡ has_written result }
+    ensures runs { Runs BadWord (Is (owed_by command)) room
+        (standing (S.left input.old) (O.taken out.old) (S.faults input.old) (O.faults out.old))
+        (standing (S.left input.new) (O.taken out.new) (S.faults input.new) (O.faults out.new)) result }
+{
+    Ok(())
+}
+
+/// Does what the command says, and answers how the run ended.
+fn run_command<S: Source, O: Sink>(
+    alloc: Global,
+    command: Command,
+    input: &mut S,
+    out: &mut O,
+) -> Status
+    requires source { S.is_open input.old ≡ true }
+    requires sink { O.is_open out.old ≡ true }
+    ensures command { result ≢ Status.Usage }
+    ensures ends { Ends (owed_by command)
+        (standing (S.left input.old) (O.taken out.old) (S.faults input.old) (O.faults out.old))
+        (standing (S.left input.new) (O.taken out.new) (S.faults input.new) (O.faults out.new)) result }
+    ensures counts { Counts
+        (standing (S.left input.old) (O.taken out.old) (S.faults input.old) (O.faults out.old))
+        (standing (S.left input.new) (O.taken out.new) (S.faults input.new) (O.faults out.new)) result }
+{
+    let ended = play_text(alloc, command, input, out);
+    conclude(out, Status::from(ended))
+}
+
+/// Runs the command that the words name, from the source to the sink. The first cause that comes in the run
+/// ends it, and its line is the last that is written.
+pub fn run<S: Source, O: Sink, D: Disk, L: Link, C: Clock>(
+    alloc: Global,
+    words: &[String],
+    input: &mut S,
+    out: &mut O,
+    disk: &mut D,
+    link: &mut L,
+    clock: &mut C,
+) -> Status
+    requires source { S.is_open input.old ≡ true }
+    requires sink { O.is_open out.old ≡ true }
+
+    // The words alone decide whether there is a command; without one nothing is touched.
+    ensures usage { (result ≡ Status.Usage) ↔ (command_of (map string_bytes words.now) ≡ None) }
+    ensures untouched { result ≡ Status.Usage → (input.new ≡ input.old) × (out.new ≡ out.old) }
+
+    // What is taken and written, by how the run ended.
+    ensures ends { IfSome (command_of (map string_bytes words.now)) (λ command. Ends (owed_by command)
+        (standing (S.left input.old) (O.taken out.old) (S.faults input.old) (O.faults out.old))
+        (standing (S.left input.new) (O.taken out.new) (S.faults input.new) (O.faults out.new)) result) }
+
+    // A cause that is no fault leaves both counts as they were; a fault raises its own by one.
+    ensures counts { Counts
+        (standing (S.left input.old) (O.taken out.old) (S.faults input.old) (O.faults out.old))
+        (standing (S.left input.new) (O.taken out.new) (S.faults input.new) (O.faults out.new)) result }
+
+    // No command uses a disk, a link or a clock yet.
+    ensures disk { disk.new ≡ disk.old }
+    ensures link { link.new ≡ link.old }
+    ensures clock { clock.new ≡ clock.old }
+{
+    let Some(command) = Command::of(words) else {
+        return Status::Usage;
+    };
+    run_command(alloc, command, input, out)
+}
