@@ -1,3 +1,5 @@
 pub mod Answers
 pub mod Walk
 pub mod Lives
+pub mod Written
+pub mod Replies
