@@ -3,3 +3,5 @@ pub mod Words
 pub mod Commands
 pub mod Causes
 pub mod Ends
+pub mod Traced
+pub mod Starts

@@ -1,15 +1,26 @@
-//! The program: it makes the objects of the outside, calls `run`, and exits with the number of its answer.
+//! The program: it makes the objects of the outside, runs the command of its words, and exits with the number of the
+//! status.
 #![tactic(auto)]
 
 mod command;
 mod ending;
 mod run;
+mod start;
 mod status;
 mod words;
 
 pub use command::Command;
+use edges::{StdSink, StdSource};
 pub use run::run;
+use start::start;
 pub use status::Status;
+use std::io;
+use std::process::ExitCode;
+use words::words_of;
 
-fn main(rt: HostRuntime) {
+fn main(rt: HostRuntime) -> ExitCode {
+    let words = words_of(rt.alloc(), std::env::args(&rt));
+    let input = StdSource::new(rt.alloc(), rt.reader());
+    let mut out = StdSink::new(io::writer(&rt));
+    ExitCode::from(start(rt.alloc(), words, input, &mut out).number())
 }

@@ -5,6 +5,7 @@ ghost use Rattle.play.specs.Plays.{Runs, standing, has_written};
 ghost use Rattle.line_text.specs.declared.bad_word.BadWord.{BadWord};
 ghost use Rattle.fireflies.specs.Commands.{command_of, owed_by};
 ghost use Rattle.fireflies.specs.Ends.{Counts, Ends, Is, room};
+ghost use Rattle.fireflies.specs.Traced.{Traced};
 
 use crate::command::Command;
 use crate::ending::conclude;
@@ -45,6 +46,9 @@ fn run_command<S: Source, O: Sink>(
     ensures ends { Ends (owed_by command)
         (standing (S.left input.old) (O.taken out.old) (S.faults input.old) (O.faults out.old))
         (standing (S.left input.new) (O.taken out.new) (S.faults input.new) (O.faults out.new)) result }
+    ensures traced { Traced (owed_by command)
+        (standing (S.left input.old) (O.taken out.old) (S.faults input.old) (O.faults out.old))
+        (standing (S.left input.new) (O.taken out.new) (S.faults input.new) (O.faults out.new)) result }
     ensures counts { Counts
         (standing (S.left input.old) (O.taken out.old) (S.faults input.old) (O.faults out.old))
         (standing (S.left input.new) (O.taken out.new) (S.faults input.new) (O.faults out.new)) result }
@@ -73,6 +77,11 @@ pub fn run<S: Source, O: Sink, D: Disk, L: Link, C: Clock>(
 
     // What is taken and written, by how the run ended.
     ensures ends { IfSome (command_of (map string_bytes words.now)) (λ command. Ends (owed_by command)
+        (standing (S.left input.old) (O.taken out.old) (S.faults input.old) (O.faults out.old))
+        (standing (S.left input.new) (O.taken out.new) (S.faults input.new) (O.faults out.new)) result) }
+
+    // What is written is a front of the trace of what was taken, and behind it the line of the cause.
+    ensures traced { IfSome (command_of (map string_bytes words.now)) (λ command. Traced (owed_by command)
         (standing (S.left input.old) (O.taken out.old) (S.faults input.old) (O.faults out.old))
         (standing (S.left input.new) (O.taken out.new) (S.faults input.new) (O.faults out.new)) result) }
 
