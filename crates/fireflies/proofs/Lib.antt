@@ -1,2 +1,2 @@
-pub mod CauseLemmas
-pub mod UprightLemmas
+pub mod EndLemmas
+pub mod TraceLemmas

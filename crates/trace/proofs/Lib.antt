@@ -1,3 +1,3 @@
-pub mod LineLemmas
 pub mod LifeLemmas
+pub mod WalkLemmas
 pub mod UprightLemmas

@@ -52,10 +52,10 @@ first_life group = record { group = group; life = 1; members = []; events = [] }
 -- What a step reports, in order: expired accusations, removed members, entered ones, fallen accusations.
 abbrev pub events_of : Stepped → List reported.Event
 events_of r =
-    map (λ a. record { moment = r.state.moment; what = what.Expired a }) r.expired
-    ++ map (λ m. record { moment = r.state.moment; what = what.Removed m }) r.removed
-    ++ map (λ m. record { moment = r.state.moment; what = what.Entered m }) r.entered
-    ++ map (λ a. record { moment = r.state.moment; what = what.Fell a }) r.fell
+    map (λ a. record { moment = r.state.moment; what = what.Expired a }) r.report.expired
+    ++ map (λ m. record { moment = r.state.moment; what = what.Removed m }) r.report.removed
+    ++ map (λ m. record { moment = r.state.moment; what = what.Entered m }) r.report.entered
+    ++ map (λ a. record { moment = r.state.moment; what = what.Fell a }) r.report.fell
 
 abbrev pub quiet : Option Recorded → Answer
 quiet recorded = record { recorded = recorded; verdict = None; events = [] }

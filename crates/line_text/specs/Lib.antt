@@ -1,0 +1,6 @@
+pub mod Texts
+pub mod Words
+pub mod Numbers
+pub mod Fields
+pub mod Frame
+pub mod Answers
