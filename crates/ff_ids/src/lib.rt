@@ -20,19 +20,20 @@ pub struct MemberId {
 
 impl Model for MemberId {
     ghost use Rattle.std.specs.Prelude.{ℕ, ◌<◌};
+    ghost use Rattle.ff_ids.specs.declared.TheConstants.{MEMBERS};
 
     ghost Value = { ℕ };
 
     ghost view = { λ m. m.number };
 
-    ghost invariant = { λ m. m.number < 1024 };
+    ghost invariant = { λ m. m.number < MEMBERS };
 
     ghost inverse = { λ n. record { number = n } };
 }
 
 impl MemberId {
     pub fn new(number: u16) -> MemberId
-        requires { number < 1024 }
+        requires { number < MEMBERS }
         ensures { result ≡ number }
     {
         MemberId { number }
@@ -40,7 +41,7 @@ impl MemberId {
 
     pub fn get(self) -> u16
         ensures value { result ≡ self }
-        ensures range { result < 1024 }
+        ensures range { result < MEMBERS }
     {
         self.number
     }

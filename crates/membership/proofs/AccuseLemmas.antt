@@ -1,10 +1,9 @@
 -- Why an accusation is refused, and what an accepted one changes.
-use Rattle.std.proofs.Common.{◌≡◌, ◌≢◌, ℕ, ◌<◌, Bool, true, false, cond, not, ◌&&◌, ◌||◌, eqb, leb, List, [], ◌∷◌, Option, Some, None, refl, ap, sym, ◌∙◌, subst, arith, is_some}
+use Rattle.std.proofs.Common.{◌≡◌, ℕ, ◌<◌, Bool, true, false, cond, not, ◌&&◌, ◌||◌, eqb, List, [], ◌∷◌, Option, Some, None, refl, ap, sym, ◌∙◌, subst, is_some}
 use Rattle.std.specs.Prelude.{nat_le}
-use Rattle.std.specs.List.{list_any, find, AllByRecursion, All}
+use Rattle.std.specs.List.{list_any, find, AllByRecursion}
 use Rattle.std.specs.Option.{option_map_or}
 use Rattle.std.proofs.lemmas.Bool.{eqb-true, eq-eqb, false≢true, and_parts, and_from}
-use Rattle.std.proofs.lemmas.Bool.Decides.{nat_tests}
 use Rattle.std.proofs.lemmas.List.Elements.{recursion_from_All, All-from_recursion}
 use Rattle.ff_ids.specs.declared.AccBody.{AccBody}
 use Rattle.ff_ids.specs.declared.NoteBody.{NoteBody}
@@ -13,15 +12,15 @@ use Rattle.ff_ids.specs.declared.Fault.TheVariants as faults
 use Rattle.ff_ids.specs.Masks.{ring_count, enables}
 use Rattle.ff_ids.specs.Notes.{newest}
 use Rattle.ff_ids.specs.Views.{State, in_view, is_member, monitor, stands, is_number, is_unanswered_by}
-use Rattle.ff_ids.specs.Faults.{accusation_fault, fault_under, same_accusation, is_kept}
+use Rattle.ff_ids.specs.Faults.{accusation_fault, facts_of, fault_under, same_accusation, is_kept}
 use Rattle.ff_ids.specs.Steps.{after_accusation, with_kept}
-use Rattle.removal_timer.specs.Kept.{is_at, entry_at, IsInOrder}
+use Rattle.removal_timer.specs.Kept.{is_at, entry_at}
 use Rattle.removal_timer.proofs.KeptLemmas.{All-with_kept}
 use Rattle.membership.specs.Kept.{is_live_at, note_at}
 use Rattle.membership.specs.Life.{Life, has_joined, live_monitor, kept_fault_under, kept_accusation_fault}
 use Rattle.membership.specs.Holds.{Holds}
 use Rattle.membership.proofs.HoldLemmas.{each_held, in_view-at, live_monitor-each, has_joined-held}
-use Rattle.membership.proofs.StandLemmas.{IsStanding, IsStanding-from}
+use Rattle.membership.proofs.StandLemmas.{IsStanding-from}
 use Rattle.membership.proofs.MonitorLemmas.{is_number-some, is_number-is}
 
 abbrev Entry : Type 0
@@ -93,7 +92,7 @@ chosen_same true true false monitored kept kept' n monitor h = refl
 chosen_same true true true false kept kept' n monitor h = refl
 chosen_same true true true true kept kept' n monitor h = rw (h refl refl) refl
 
-under_some : (l : Life) (s : State) (a : AccBody) (n : NoteBody) → Holds l s → a.accused < 1024 → newest s.notes a.accused ≡ Some n → fault_under s a (Some n) ≡ kept_fault_under l a (Some n)
+under_some : (l : Life) (s : State) (a : AccBody) (n : NoteBody) → Holds l s → a.accused < 1024 → newest s.notes a.accused ≡ Some n → fault_under (facts_of s a) a (Some n) ≡ kept_fault_under l a (Some n)
 under_some l s a n h below note =
     let live = in_view-at l s a.accused h below in
     let by : live_monitor l a.ring.0 a.accused ≡ monitor s a.ring.0 a.accused = live_monitor-each l s a.ring.0 a.accused (each_held l s h) below in
@@ -101,7 +100,7 @@ under_some l s a n h below note =
     kept ∙ ap (λ b. chosen (eqb n.epoch a.epoch) b (enables n.mask.0 a.ring.0) (is_number (monitor s a.ring.0 a.accused) a.accuser) (is_some (entry_at a.accused a.ring.0 l.kept)) n (monitor s a.ring.0 a.accused)) live
     ∙ ap (λ o. chosen (eqb n.epoch a.epoch) (is_live_at l.notes l.expired a.accused) (enables n.mask.0 a.ring.0) (is_number o a.accuser) (is_some (entry_at a.accused a.ring.0 l.kept)) n o) (sym by)
 
-under_same : (l : Life) (s : State) (a : AccBody) (o : Option NoteBody) → Holds l s → a.accused < 1024 → newest s.notes a.accused ≡ o → fault_under s a o ≡ kept_fault_under l a o
+under_same : (l : Life) (s : State) (a : AccBody) (o : Option NoteBody) → Holds l s → a.accused < 1024 → newest s.notes a.accused ≡ o → fault_under (facts_of s a) a o ≡ kept_fault_under l a o
 under_same l s a None h below note = refl
 under_same l s a (Some n) h below note = under_some l s a n h below note
 
@@ -109,9 +108,9 @@ under_same l s a (Some n) h below note = under_some l s a n h below note
 pub accusation_fault-held : (l : Life) (s : State) (a : AccBody) → Holds l s → a.accuser < 1024 → a.accused < 1024 → accusation_fault l.group.t s a ≡ kept_accusation_fault l a
 accusation_fault-held l s a h accuser accused =
     let note = (h.at_number a.accused accused).newest_note in
-    let under : fault_under s a (newest s.notes a.accused) ≡ kept_fault_under l a (note_at l.notes a.accused) = ap (fault_under s a) note ∙ under_same l s a (note_at l.notes a.accused) h accused note in
-    ap (λ b. cond (not (b && is_member s a.accused)) (Some faults.UnknownMember) (cond (eqb a.accuser a.accused) (Some faults.SelfAccusation) (cond (nat_le (ring_count l.group.t) a.ring.0) (Some faults.BadRing) (fault_under s a (newest s.notes a.accused))))) (sym (has_joined-held l s a.accuser h accuser))
-    ∙ ap (λ b. cond (not (has_joined l a.accuser && b)) (Some faults.UnknownMember) (cond (eqb a.accuser a.accused) (Some faults.SelfAccusation) (cond (nat_le (ring_count l.group.t) a.ring.0) (Some faults.BadRing) (fault_under s a (newest s.notes a.accused))))) (sym (has_joined-held l s a.accused h accused))
+    let under : fault_under (facts_of s a) a (newest s.notes a.accused) ≡ kept_fault_under l a (note_at l.notes a.accused) = ap (fault_under (facts_of s a) a) note ∙ under_same l s a (note_at l.notes a.accused) h accused note in
+    ap (λ b. cond (not (b && is_member s a.accused)) (Some faults.UnknownMember) (cond (eqb a.accuser a.accused) (Some faults.SelfAccusation) (cond (nat_le (ring_count l.group.t) a.ring.0) (Some faults.BadRing) (fault_under (facts_of s a) a (newest s.notes a.accused))))) (sym (has_joined-held l s a.accuser h accuser))
+    ∙ ap (λ b. cond (not (has_joined l a.accuser && b)) (Some faults.UnknownMember) (cond (eqb a.accuser a.accused) (Some faults.SelfAccusation) (cond (nat_le (ring_count l.group.t) a.ring.0) (Some faults.BadRing) (fault_under (facts_of s a) a (newest s.notes a.accused))))) (sym (has_joined-held l s a.accused h accused))
     ∙ ap (λ f. cond (not (has_joined l a.accuser && has_joined l a.accused)) (Some faults.UnknownMember) (cond (eqb a.accuser a.accused) (Some faults.SelfAccusation) (cond (nat_le (ring_count l.group.t) a.ring.0) (Some faults.BadRing) f))) under
 
 passed : (b : Bool) (f : Fault) (rest : Option Fault) → cond b (Some f) rest ≡ None → (b ≡ false) × (rest ≡ None)

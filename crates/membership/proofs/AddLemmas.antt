@@ -13,11 +13,11 @@ use Rattle.membership.proofs.SoundLemmas.{live_members-same}
 use Rattle.std.proofs.lemmas.List.Elements.{All-weaker}
 use Rattle.ff_ids.specs.declared.AccBody.{AccBody}
 use Rattle.ff_ids.specs.Rings.{nearest_before}
-use Rattle.ff_ids.specs.Views.{State, in_view, is_member, places_of, view, monitor, key_of, key_at, stands, all_numbers}
+use Rattle.ff_ids.specs.Views.{State, in_view, is_member, places_of, view, monitor, key_of, key_at, stands}
 use Rattle.ff_ids.specs.Steps.{joined}
 use Rattle.membership.specs.Holds.{Holds, HoldsAt}
 use Rattle.membership.proofs.HoldLemmas.{in_view-at}
-use Rattle.membership.proofs.StandLemmas.{IsStanding-from, IsStanding}
+use Rattle.membership.proofs.StandLemmas.{IsStanding-from}
 use Rattle.membership.proofs.MonitorLemmas.{is_number-is}
 
 places_at-set : (places : PlacesList) (m : ℕ) (p : List (List ℕ)) → m < length places → places_at (slice_set places m (Some p)) m ≡ Some p

@@ -1,19 +1,17 @@
 -- What accusations that expire change.
-use Rattle.std.proofs.Common.{◌≡◌, ◌≢◌, ℕ, zero, suc, ◌+◌, ◌<◌, ◌≤◌, max, Bool, true, false, cond, not, ◌&&◌, ◌||◌, eqb, leb, ltb, List, [], ◌∷◌, ◌++◌, map, set, get_or, length, ⊎_elim, Option, Some, None, refl, ap, sym, ◌∙◌, subst, arith, get_or-set_same, get_or-set_other, length-set}
-use Rattle.std.specs.Prelude.{nat_lt, nat_le, slice_set, IfSome}
-use Rattle.std.specs.List.{filter, range_with_len}
-use Rattle.std.specs.Option.{option_map_or}
-use Rattle.std.proofs.lemmas.Bool.{eqb-true, eqb-false, eq-eqb, ne_eqb, false≢true, and_parts}
+use Rattle.std.proofs.Common.{◌≡◌, ◌≢◌, ℕ, ◌<◌, max, Bool, true, false, cond, not, ◌&&◌, eqb, List, map, length, ⊎_elim, Option, Some, None, refl, ap, sym, ◌∙◌, subst, arith, get_or-set_same, get_or-set_other, length-set}
+use Rattle.std.specs.Prelude.{nat_lt, nat_le}
+use Rattle.std.specs.List.{filter}
+use Rattle.std.proofs.lemmas.Bool.{eqb-true, eqb-false, false≢true}
 use Rattle.std.proofs.lemmas.Bool.Decides.{nat_tests}
 use Rattle.ff_ids.specs.declared.Group.{Group}
 use Rattle.ff_ids.specs.declared.AccBody.{AccBody}
 use Rattle.ff_ids.specs.declared.NoteBody.{NoteBody}
-use Rattle.ff_ids.specs.Views.{Member, all_numbers}
+use Rattle.ff_ids.specs.Views.{Member}
 use Rattle.monitor_rule.specs.Joined.{Joined, without_member, is_joined}
-use Rattle.membership.specs.Kept.{PlacesList, NoteList, note_at, expired_at, is_live, is_live_at, member_at, live_members, takes_out, raise, raised, leavers}
+use Rattle.membership.specs.Kept.{PlacesList, NoteList, note_at, expired_at, is_live, is_live_at, member_at, live_members, takes_out, raise}
 use Rattle.membership.specs.Life.{IsSound}
-use Rattle.membership.specs.Holds.{greatest_epoch}
-use Rattle.membership.proofs.NumberLemmas.{either_bool, AreAll, all_length, AtEach, AtEach-all, Numbered, without_member-range, filter-range_agree, filter-range_none}
+use Rattle.membership.proofs.NumberLemmas.{either_bool, all_length, AtEach, AtEach-all, Numbered, without_member-range}
 use Rattle.membership.proofs.SoundLemmas.{is_joined-live, live_members-same}
 
 -- ---- one accusation

@@ -1,6 +1,6 @@
 -- The monitors and successors of a view, by which numbers are in it.
-use Rattle.std.proofs.Common.{◌≡◌, ◌≢◌, ℕ, zero, suc, ◌+◌, ◌<◌, ◌≤◌, Bool, true, false, cond, not, ◌&&◌, ◌||◌, eqb, List, [], ◌∷◌, map, length, ⊎_elim, ◌⊎◌, inl, inr, Option, Some, None, refl, ap, sym, ◌∙◌, subst, arith}
-use Rattle.std.specs.List.{All, Contains, filter, range_with_len}
+use Rattle.std.proofs.Common.{◌≡◌, ◌≢◌, ℕ, zero, suc, ◌+◌, ◌<◌, ◌≤◌, Bool, true, false, cond, not, ◌&&◌, ◌||◌, eqb, List, [], ◌∷◌, map, ⊎_elim, ◌⊎◌, inl, inr, Option, Some, None, refl, ap, sym, ◌∙◌, subst, arith}
+use Rattle.std.specs.List.{Contains, filter, range_with_len}
 use Rattle.std.specs.Cmp.{IsStrictWeakOrder}
 use Rattle.std.specs.Ordering.{is_lt, ordering_reverse}
 use Rattle.std.specs.declared.cmp.Ordering.{Ordering}
@@ -11,9 +11,9 @@ use Rattle.std.proofs.lemmas.List.MinMax.{ranks_by}
 use Rattle.std.proofs.lemmas.List.Elements.{All-contains, All-weaker, All-contains_itself, Contains-append_right, Contains-append_cases}
 use Rattle.ff_ids.specs.Rings.{Key, cyc, is_below, nearest_before, nearest_after, IsNearestBefore, IsNearestAfter}
 use Rattle.ff_ids.specs.Views.{all_numbers, is_number}
-use Rattle.ring_order.proofs.KeyOrder.{IsRanked, before_ranked, key_cmp_total}
+use Rattle.ring_order.proofs.KeyOrder.{before_ranked, key_cmp_total}
 use Rattle.ring_order.proofs.NearestLaws.{nearest_before-some, nearest_after-some, nearest_before-is, nearest_after-is}
-use Rattle.membership.proofs.NumberLemmas.{either_bool, AreAll, all_length}
+use Rattle.membership.proofs.NumberLemmas.{either_bool, all_length}
 
 -- ---- how near keys are to a member
 

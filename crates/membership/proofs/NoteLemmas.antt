@@ -9,11 +9,10 @@ use Rattle.ff_ids.specs.declared.NoteBody.{NoteBody}
 use Rattle.ff_ids.specs.Notes.{newest, greater_note, note_cmp}
 use Rattle.ff_ids.specs.Faults.{fault_after, fault_beside}
 use Rattle.ff_ids.specs.Views.{State, in_view, all_numbers}
-use Rattle.ff_ids.specs.Steps.{only_before, after_note}
+use Rattle.ff_ids.specs.Steps.{only_before}
 use Rattle.membership.specs.Kept.{places_at, note_at, expired_at, is_live, is_live_at, comes_in}
 use Rattle.membership.specs.Life.{Life}
 use Rattle.membership.specs.Holds.{Holds, HoldsAt}
-use Rattle.membership.specs.Reports.{Reports, nothing}
 use Rattle.membership.proofs.NumberLemmas.{either_bool, all_length, AtEach, AtEach-all, filter-filter, filter-range_none, filter-range_one}
 use Rattle.membership.proofs.HoldLemmas.{in_view-held, in_view-at}
 use Rattle.membership.proofs.SoundLemmas.{beside, note_at-set, note_at-other, stays_live, others_live}

@@ -1,22 +1,21 @@
 -- What an accepted note makes of what is kept, and what it reports.
-use Rattle.std.proofs.Common.{◌≡◌, ◌≢◌, ℕ, ◌<◌, Bool, true, false, cond, not, ◌&&◌, eqb, List, [], ◌∷◌, map, ⊎_elim, Option, Some, None, refl, ap, sym, ◌∙◌, subst}
+use Rattle.std.proofs.Common.{◌≡◌, ℕ, Bool, true, false, cond, not, ◌&&◌, eqb, List, [], ◌∷◌, map, ⊎_elim, Option, Some, None, refl, ap, sym, ◌∙◌, subst}
 use Rattle.std.specs.List.{filter}
 use Rattle.std.specs.Option.{option_map_or, option_to_list}
 use Rattle.std.proofs.lemmas.Bool.{eqb-true, eqb-false, false≢true}
 use Rattle.ff_ids.specs.declared.AccBody.{AccBody}
 use Rattle.ff_ids.specs.declared.NoteBody.{NoteBody}
 use Rattle.ff_ids.specs.Views.{State, in_view, has_expired}
-use Rattle.ff_ids.specs.Steps.{after_note, only_before}
+use Rattle.ff_ids.specs.Steps.{after_note}
 use Rattle.removal_timer.specs.Kept.{IsInOrder}
 use Rattle.membership.specs.Kept.{note_at, expired_at, is_live, is_live_at, comes_in}
 use Rattle.membership.specs.Life.{Life, falls_in}
 use Rattle.membership.specs.Holds.{Holds}
-use Rattle.membership.specs.Reports.{Report, Reports}
+use Rattle.ff_ids.specs.Steps.{Report}
 use Rattle.membership.proofs.NumberLemmas.{either_bool}
-use Rattle.membership.proofs.HoldLemmas.{HoldsEach, in_view-at}
+use Rattle.membership.proofs.HoldLemmas.{in_view-at}
 use Rattle.membership.proofs.SoundLemmas.{comes_in_parts}
 use Rattle.membership.proofs.NoteLemmas.{Accepts, noted, with_accepted, HoldsAt-noted, in_view-noted, live_here, newest_other, entry, no_entry, removed-noted, entered-noted}
-use Rattle.membership.proofs.MonitorLemmas.{ComesIn}
 use Rattle.membership.proofs.StandLemmas.{Views}
 use Rattle.membership.proofs.SettleLemmas.{IsUnsettled, AllBy-held, Holds-settled, fell-settled, settled_life}
 
@@ -68,6 +67,6 @@ entry_report removed entered fell = record { expired = []; removed = removed; en
 entry_same : (removed removed' entered entered' : List ℕ) (fell fell' : List AccBody) → removed ≡ removed' → entered ≡ entered' → fell ≡ fell' → entry_report removed entered fell ≡ entry_report removed' entered' fell'
 entry_same removed removed' entered entered' fell fell' a b c = rw (a, b, c) refl
 
-pub Reports-noted : (rings : ℕ) (l : Life) (s : State) (n : NoteBody) → Holds l s → Accepts l n → IsInOrder rings l.kept → (enters : Bool) → enters ≡ comes_in (expired_at l.expired n.member) (note_at l.notes n.member) n → Reports (entry_report [] (option_to_list (entered_by enters n.member)) (map (λ p. p.0) (filter (falls_in (noted l n) (entered_by enters n.member)) l.kept))) (after_note s n)
+pub Reports-noted : (rings : ℕ) (l : Life) (s : State) (n : NoteBody) → Holds l s → Accepts l n → IsInOrder rings l.kept → (enters : Bool) → enters ≡ comes_in (expired_at l.expired n.member) (note_at l.notes n.member) n → (entry_report [] (option_to_list (entered_by enters n.member)) (map (λ p. p.0) (filter (falls_in (noted l n) (entered_by enters n.member)) l.kept))) ≡ (after_note s n).report
 Reports-noted rings l s n h a ordered enters e =
     entry_same _ _ _ _ _ _ (sym (removed-noted l s n h a)) (sym (entered-noted l s n h a enters e ∙ list_entered enters n.member)) (sym (fell-settled rings (noted l n) s (with_accepted s n) (entered_by enters n.member) (IsUnsettled-noted rings l s n h a ordered enters e)))

@@ -1,7 +1,7 @@
 -- What stands once the kept accusations that fell are dropped.
-use Rattle.std.proofs.Common.{◌≡◌, ℕ, ◌<◌, Bool, true, false, not, List, map, Option, refl, ap, sym, ◌∙◌, subst}
+use Rattle.std.proofs.Common.{◌≡◌, ℕ, true, not, List, map, Option, ap, ◌∙◌, subst}
 use Rattle.std.specs.List.{filter, AllByRecursion, All}
-use Rattle.std.proofs.lemmas.List.Elements.{filter_passes, recursion_from_All, All-weaker}
+use Rattle.std.proofs.lemmas.List.Elements.{filter_passes, recursion_from_All}
 use Rattle.ff_ids.specs.declared.AccBody.{AccBody}
 use Rattle.ff_ids.specs.Views.{State, in_view, stands}
 use Rattle.ff_ids.specs.Steps.{settled}

@@ -18,7 +18,7 @@ use Rattle.ff_ids.specs.Views.{Member}
 use Rattle.monitor_rule.specs.Joined.{Joined, with_member, is_joined}
 use Rattle.membership.specs.Kept.{places_at, note_at, expired_at, is_live, is_live_at, member_at, live_members, kept_fault, comes_in, PlacesList, NoteList}
 use Rattle.membership.specs.Life.{IsSound}
-use Rattle.membership.proofs.NumberLemmas.{either_bool, all_length, AtEach, AtEach-all, Numbered, with_member-range, is_joined-range, map-filter_range_agree, filter-range_none, AreAll}
+use Rattle.membership.proofs.NumberLemmas.{either_bool, all_length, AtEach, AtEach-all, Numbered, with_member-range, is_joined-range, map-filter_range_agree, filter-range_none}
 
 member_at-numbered : (places : PlacesList) → Numbered (member_at places)
 member_at-numbered places = record { number = λ m. refl }

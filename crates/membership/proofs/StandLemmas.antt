@@ -1,17 +1,16 @@
 -- Which kept accusations still stand after a step.
-use Rattle.std.proofs.Common.{◌≡◌, ◌≢◌, ℕ, ◌<◌, Bool, true, false, cond, not, ◌&&◌, ◌||◌, List, [], ◌∷◌, map, Option, Some, None, refl, ap, sym, ◌∙◌, subst, arith}
-use Rattle.std.specs.List.{filter, AllByRecursion, All}
+use Rattle.std.proofs.Common.{◌≡◌, ◌≢◌, ℕ, ◌<◌, Bool, true, false, not, ◌&&◌, ◌||◌, List, [], ◌∷◌, Option, Some, None, refl, ap, sym, ◌∙◌, subst}
+use Rattle.std.specs.List.{filter, AllByRecursion}
 use Rattle.std.specs.Option.{option_map_or}
-use Rattle.std.proofs.lemmas.Bool.{eqb-true, false≢true, and_parts}
+use Rattle.std.proofs.lemmas.Bool.{false≢true, and_parts}
 use Rattle.ff_ids.specs.declared.AccBody.{AccBody}
 use Rattle.ff_ids.specs.Notes.{newest}
-use Rattle.ff_ids.specs.Rings.{Key}
 use Rattle.ff_ids.specs.Views.{State, in_view, monitor, successor, key_of, stands, is_unanswered_by, is_number}
 use Rattle.membership.specs.Kept.{is_unanswered}
 use Rattle.membership.specs.Life.{Life, next_of, falls_in}
-use Rattle.membership.proofs.MonitorLemmas.{Keyed, IsMonitor, IsMonitor-some, ComesIn, monitor-leaving, monitor-entering, is_number-some}
+use Rattle.membership.proofs.MonitorLemmas.{Keyed, IsMonitor-some, ComesIn, monitor-leaving, monitor-entering, is_number-some}
 use Rattle.membership.proofs.HoldLemmas.{HoldsEach, in_view-each, live_successor-each}
-use Rattle.membership.proofs.DropLemmas.{IsPlaced, AllBy-placed, filter_agree_on}
+use Rattle.membership.proofs.DropLemmas.{IsPlaced, filter_agree_on}
 
 -- an accusation that stands, part by part
 pub record IsStanding (s : State) (a : AccBody) : Type 0 where

@@ -1,22 +1,21 @@
 -- What a tick changes.
-use Rattle.std.proofs.Common.{◌≡◌, ◌≢◌, ℕ, zero, suc, ◌+◌, ◌<◌, ◌≤◌, max, Bool, true, false, cond, not, ◌&&◌, ◌||◌, eqb, List, [], ◌∷◌, ◌++◌, map, length, ⊎_elim, Option, Some, None, refl, ap, sym, ◌∙◌, subst, arith}
-use Rattle.std.specs.List.{filter, range_with_len, AllByRecursion, All}
-use Rattle.std.proofs.lemmas.Bool.{eqb-true, eqb-false, eq-eqb, ne_eqb, false≢true}
+use Rattle.std.proofs.Common.{◌≡◌, ◌≢◌, ℕ, zero, suc, ◌+◌, ◌<◌, ◌≤◌, max, Bool, true, false, cond, not, ◌&&◌, eqb, List, [], ◌∷◌, ◌++◌, map, length, ⊎_elim, None, refl, ap, sym, ◌∙◌, subst, arith}
+use Rattle.std.specs.List.{filter, range_with_len, AllByRecursion}
+use Rattle.std.proofs.lemmas.Bool.{eqb-true, eqb-false, false≢true}
 use Rattle.std.proofs.lemmas.Bool.Decides.{nat_tests}
 use Rattle.ff_ids.specs.declared.AccBody.{AccBody}
-use Rattle.ff_ids.specs.declared.NoteBody.{NoteBody}
-use Rattle.ff_ids.specs.Views.{State, in_view, view, all_numbers}
+use Rattle.ff_ids.specs.Views.{State, in_view, all_numbers}
 use Rattle.ff_ids.specs.Steps.{comes_first, is_due, only_before, after_tick}
 use Rattle.removal_timer.specs.Kept.{IsInOrder}
 use Rattle.removal_timer.proofs.KeptLemmas.{IsInOrder-filter, All-filter}
 use Rattle.membership.specs.Kept.{NoteList, note_at, expired_at, is_live, is_live_at, takes_out, raise, raised, leavers}
 use Rattle.membership.specs.Life.{Life, falls_in}
-use Rattle.membership.specs.Holds.{Holds, HoldsAt, greatest_epoch}
-use Rattle.membership.specs.Reports.{Report, Reports}
-use Rattle.membership.proofs.NumberLemmas.{either_bool, AreAll, all_length, AtEach, AtEach-all, AtEach-here, AtEach-next, filter-filter, filter-range_agree, filter-range_none}
+use Rattle.membership.specs.Holds.{Holds, greatest_epoch}
+use Rattle.ff_ids.specs.Steps.{Report}
+use Rattle.membership.proofs.NumberLemmas.{either_bool, all_length, AtEach, AtEach-all, AtEach-here, AtEach-next, filter-filter, filter-range_agree, filter-range_none}
 use Rattle.membership.proofs.HoldLemmas.{HoldsEach, each_held, in_view-each}
 use Rattle.membership.proofs.ExpireLemmas.{takes_out-is, live_fewer, live_same, live_raised, out_parts, stays_same, expired_at-raise, expired_at-other, length-raise}
-use Rattle.membership.proofs.StandLemmas.{Views, KeptAt}
+use Rattle.membership.proofs.StandLemmas.{KeptAt}
 use Rattle.membership.proofs.SettleLemmas.{IsUnsettled, AllBy-held, Holds-settled, fell-settled, settled_life}
 
 -- ---- the order of what is due
@@ -247,6 +246,6 @@ report_same : (expired expired' fell fell' : List AccBody) (removed removed' ent
 report_same expired expired' fell fell' removed removed' entered entered' a b c d = rw (a, b, c, d) refl
 
 -- and what is reported is the report
-pub Reports-ticked : (rings : ℕ) (l : Life) (s : State) → Holds l s → IsInOrder rings l.kept → length l.expired ≡ 1024 → Reports (record { expired = due_of l; removed = leavers l.notes l.expired (due_of l); entered = []; fell = map (λ p. p.0) (filter (falls_in (ticked l) None) (ticked l).kept) }) (after_tick l.group.timeout s)
+pub Reports-ticked : (rings : ℕ) (l : Life) (s : State) → Holds l s → IsInOrder rings l.kept → length l.expired ≡ 1024 → record { expired = due_of l; removed = leavers l.notes l.expired (due_of l); entered = []; fell = map (λ p. p.0) (filter (falls_in (ticked l) None) (ticked l).kept) } ≡ (after_tick l.group.timeout s).report
 Reports-ticked rings l s h ordered long =
     report_same _ _ _ _ _ _ _ _ (sym (due_same l s h)) (sym (removed_is rings l s h ordered long)) (sym (entered_none rings l s h ordered long)) (sym (fell-settled rings (ticked l) s (ticked_state l.group.timeout s) None (IsUnsettled-ticked rings l s h ordered long)))

@@ -7,14 +7,14 @@ ghost use Rattle.std.specs.Prelude.{◌≡◌, ℕ, ◌<◌, ◌≤◌, ◌+◌,
 ghost use Rattle.ff_ids.specs.Masks.{ring_count};
 ghost use Rattle.ff_ids.specs.Notes.{newest};
 ghost use Rattle.ff_ids.specs.Views.{State, is_member as member_of_state, in_view as in_view_of, monitor as monitor_of, successor as successor_of};
-ghost use Rattle.ff_ids.specs.Faults.{note_fault, accusation_fault};
-ghost use Rattle.ff_ids.specs.Steps.{after_note, after_accusation, after_tick, joined, is_due};
+ghost use Rattle.ff_ids.specs.Faults.{note_fault, accusation_fault, join_fault};
+ghost use Rattle.ff_ids.specs.Steps.{after_note, after_accusation, after_tick, joined, is_due, nothing};
 ghost use Rattle.ff_ids.specs.Lives.{opening};
 ghost use Rattle.monitor_rule.specs.Joined.{Joined, with_member, is_joined};
 ghost use Rattle.membership.specs.Kept.{places_at, note_at, expired_at, is_live_at, comes_in, kept_fault, takes_out as acc_takes_out, raise as raise_by, raised, leavers};
 ghost use Rattle.membership.specs.Life.{has_joined, live_monitor, next_of, falls_in, kept_fault_under, kept_accusation_fault};
 ghost use Rattle.membership.specs.Holds.{Holds};
-ghost use Rattle.membership.specs.Reports.{nothing, Reports, Answers, join_fault, kept_against};
+ghost use Rattle.membership.specs.Reports.{Answers, kept_against};
 ghost use Rattle.removal_timer.specs.Kept.{IsInOrder, is_at};
 ghost use Rattle.std.specs.List.{list_any};
 
@@ -154,7 +154,7 @@ impl Membership {
     pub fn put_note(&mut self, note: NoteBody, out: &mut Changes) -> Result<(), Fault>
         ensures fault { (s : State) → Holds self.old s → Answers (note_fault self.old.group.t s note) result }
         ensures step { (s : State) → Holds self.old s → OnOk result (Holds self.new (after_note s note).state) }
-        ensures changes { (s : State) → Holds self.old s → OnOk result (Reports out.new (after_note s note)) }
+        ensures changes { (s : State) → Holds self.old s → OnOk result (out.new ≡ (after_note s note).report) }
         ensures same { OnErr result (self.new ≡ self.old) }
         ensures emptied { OnErr result (out.new ≡ nothing) }
         ensures group { self.new.group ≡ self.old.group }
@@ -188,7 +188,7 @@ impl Membership {
     pub fn tick(&mut self, out: &mut Changes)
         requires { self.old.moment < 2 ^ 64 - 1 }
         ensures step { (s : State) → Holds self.old s → Holds self.new (after_tick self.old.group.timeout s).state }
-        ensures changes { (s : State) → Holds self.old s → Reports out.new (after_tick self.old.group.timeout s) }
+        ensures changes { (s : State) → Holds self.old s → out.new ≡ (after_tick self.old.group.timeout s).report }
         ensures moment { self.new.moment ≡ self.old.moment + 1 }
         ensures group { self.new.group ≡ self.old.group }
     {

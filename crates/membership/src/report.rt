@@ -2,10 +2,9 @@
 
 ghost use Rattle.std.specs.Prelude.{◌≡◌, [], ◌∷◌, ◌++◌, List, ℕ, length, ◌≤◌, ◌<◌, not, map, filter, All, vec_capacity, IfOk};
 ghost use Rattle.std.specs.Option.{option_to_list};
-ghost use Rattle.ff_ids.specs.Steps.{is_due};
+ghost use Rattle.ff_ids.specs.Steps.{is_due, nothing};
 ghost use Rattle.removal_timer.specs.Kept.{IsInOrder};
 ghost use Rattle.membership.specs.Kept.{falls_at};
-ghost use Rattle.membership.specs.Reports.{nothing};
 
 use crate::kept::falls;
 use ff_ids::{AccBody, MemberId, NoteBody};
@@ -31,7 +30,8 @@ pub struct Changes {
 
 impl Model for Changes {
     ghost use Rattle.std.specs.Prelude.{◌≤◌, vec_capacity};
-    ghost use Rattle.membership.specs.Reports.{Report, HasRoom};
+    ghost use Rattle.ff_ids.specs.Steps.{Report};
+    ghost use Rattle.membership.specs.Reports.{HasRoom};
 
     ghost Value = { Report };
 

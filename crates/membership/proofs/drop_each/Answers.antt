@@ -1,4 +1,4 @@
-use Rattle.std.proofs.Common.{◌≡◌, ◌∙◌, ◌<◌, length, arith}
+use Rattle.std.proofs.Common.{◌∙◌, arith}
 use Rattle.membership.proofs.DropLemmas.{drop_none, drop_more}
 use Rattle.membership.proofs.drop_each.Goals as goal
 

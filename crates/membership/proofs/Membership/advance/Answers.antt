@@ -1,6 +1,6 @@
-use Rattle.std.proofs.Common.{◌≡◌, ◌≤◌, ◌+◌, ap, length, arith}
+use Rattle.std.proofs.Common.{◌+◌, ap, length, arith}
 use Rattle.ff_ids.specs.Steps.{is_due}
-use Rattle.membership.specs.Reports.{Report}
+use Rattle.ff_ids.specs.Steps.{Report}
 use Rattle.membership.proofs.DropLemmas.{length-picked}
 use Rattle.membership.proofs.Membership.advance.Goals as goal
 

@@ -1,5 +1,5 @@
-use Rattle.std.proofs.Common.{◌≡◌, ◌∙◌, ap, sym, refl, true, cond}
-use Rattle.monitor_rule.specs.Joined.{Joined, without_member}
+use Rattle.std.proofs.Common.{◌≡◌, refl, cond}
+use Rattle.monitor_rule.specs.Joined.{without_member}
 use Rattle.membership.proofs.ExpireLemmas.{IsSound-expired, joined_before}
 use Rattle.membership.proofs.Membership.expire.Goals as goal
 

@@ -1,4 +1,4 @@
-use Rattle.std.proofs.Common.{◌≡◌, ◌∙◌}
+use Rattle.std.proofs.Common.{◌∙◌}
 use Rattle.membership.proofs.HoldLemmas.{each_held, live_monitor-each}
 use Rattle.membership.proofs.Membership.monitor.Goals as goal
 

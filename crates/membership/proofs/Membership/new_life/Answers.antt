@@ -1,4 +1,4 @@
-use Rattle.std.proofs.Common.{◌≡◌, ◌∙◌, ap}
+use Rattle.std.proofs.Common.{◌∙◌, ap}
 use Rattle.removal_timer.specs.Kept.{Kept as Timed}
 use Rattle.membership.proofs.SoundLemmas.{IsSound-cleared}
 use Rattle.membership.proofs.Membership.new_life.Goals as goal

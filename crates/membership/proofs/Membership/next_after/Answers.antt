@@ -1,4 +1,4 @@
-use Rattle.std.proofs.Common.{◌≡◌, ◌∙◌, ap, sym, ℕ, Option}
+use Rattle.std.proofs.Common.{◌∙◌, ap, sym, ℕ, Option}
 use Rattle.membership.specs.Life.{next_of}
 use Rattle.membership.proofs.SoundLemmas.{none_at}
 use Rattle.membership.proofs.Membership.next_after.Goals as goal

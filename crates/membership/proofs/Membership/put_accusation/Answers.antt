@@ -1,4 +1,4 @@
-use Rattle.std.proofs.Common.{◌≡◌, ◌∙◌, ap, sym, subst, List, ℕ, Option, Ok, Err}
+use Rattle.std.proofs.Common.{◌∙◌, ap, sym, subst, List, ℕ, Ok, Err}
 use Rattle.ff_ids.specs.declared.AccBody.{AccBody}
 use Rattle.ff_ids.specs.Steps.{after_accusation, with_kept}
 use Rattle.removal_timer.specs.Kept.{Kept as Timed}

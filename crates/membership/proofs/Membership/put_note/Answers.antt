@@ -1,18 +1,17 @@
-use Rattle.std.proofs.Common.{◌≡◌, ◌∙◌, ap, sym, subst, refl, None, Some, cond, [], ◌<◌, length, List, ℕ, Option, map, filter}
+use Rattle.std.proofs.Common.{◌∙◌, ap, sym, subst, refl, ℕ, Option, map, filter}
 use Rattle.std.specs.Option.{option_to_list}
-use Rattle.ff_ids.specs.declared.AccBody.{AccBody}
 use Rattle.ff_ids.specs.Masks.{ring_count}
 use Rattle.ff_ids.specs.Steps.{after_note}
 use Rattle.removal_timer.specs.Kept.{IsInOrder}
 use Rattle.membership.specs.Life.{Life, falls_in}
 use Rattle.membership.specs.Holds.{Holds}
 use Rattle.membership.specs.Kept.{expired_at, note_at, comes_in}
-use Rattle.membership.specs.Reports.{Report, Reports, nothing}
+use Rattle.ff_ids.specs.Steps.{Report}
 use Rattle.membership.proofs.HoldLemmas.{none_from_answers}
 use Rattle.membership.proofs.SoundLemmas.{no_fault}
 use Rattle.membership.proofs.NoteLemmas.{Accepts, noted}
 use Rattle.membership.proofs.SettleLemmas.{settled_life}
-use Rattle.membership.proofs.NoteStepLemmas.{Holds-noted, Reports-noted, entered_by, entry_report}
+use Rattle.membership.proofs.NoteStepLemmas.{Holds-noted, Reports-noted, entered_by}
 use Rattle.membership.proofs.Membership.put_note.Goals as goal
 
 accepts : (c : goal.After-settle) → Accepts c.args.self.now c.args.note

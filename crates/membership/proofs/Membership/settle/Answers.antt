@@ -1,11 +1,11 @@
-use Rattle.std.proofs.Common.{◌≡◌, ◌≤◌, ◌<◌, ◌∙◌, ap, sym, subst, arith, List, ℕ, map, filter, not}
+use Rattle.std.proofs.Common.{◌≡◌, ◌<◌, ◌∙◌, ap, sym, subst, arith, List, ℕ, map, filter, not}
 use Rattle.std.specs.List.{All}
 use Rattle.ff_ids.specs.declared.AccBody.{AccBody}
 use Rattle.ff_ids.specs.Masks.{ring_count}
 use Rattle.removal_timer.specs.Kept.{Kept as Timed, IsInOrder}
 use Rattle.membership.specs.Kept.{falls_at}
 use Rattle.membership.specs.Life.{Life, falls_in}
-use Rattle.membership.specs.Reports.{Report}
+use Rattle.ff_ids.specs.Steps.{Report}
 use Rattle.membership.proofs.DropLemmas.{All-rings, fell_is, kept_is}
 use Rattle.membership.proofs.Membership.settle.Goals as goal
 

@@ -1,12 +1,11 @@
-use Rattle.std.proofs.Common.{◌≡◌, ◌∙◌, ap, sym, subst, refl, None, [], List, ℕ, map, filter, length, ◌+◌}
+use Rattle.std.proofs.Common.{◌≡◌, ◌∙◌, ap, sym, subst, None, List, map, filter}
 use Rattle.ff_ids.specs.declared.AccBody.{AccBody}
 use Rattle.ff_ids.specs.Masks.{ring_count}
 use Rattle.ff_ids.specs.Steps.{after_tick}
-use Rattle.removal_timer.specs.Kept.{IsInOrder}
 use Rattle.membership.specs.Life.{Life, falls_in}
 use Rattle.membership.specs.Kept.{raised, leavers}
 use Rattle.membership.specs.Holds.{Holds}
-use Rattle.membership.specs.Reports.{Report, Reports}
+use Rattle.ff_ids.specs.Steps.{Report}
 use Rattle.membership.proofs.SettleLemmas.{settled_life}
 use Rattle.membership.proofs.TickLemmas.{ticked, due_of, Holds-ticked, Reports-ticked}
 use Rattle.membership.proofs.Membership.tick.Goals as goal

@@ -1,4 +1,4 @@
-use Rattle.std.proofs.Common.{◌≡◌, ◌≤◌, take, filter, map, vec_capacity, vec_len, length}
+use Rattle.std.proofs.Common.{◌≡◌, ◌≤◌, take, filter, map, vec_capacity, vec_len}
 use Rattle.membership.specs.Kept.{falls_at}
 use Rattle.membership.proofs.report.push_fallen.Given as goal
 

@@ -1,8 +1,8 @@
-use Rattle.std.proofs.Common.{◌≡◌, ◌+◌, ◌≤◌, ◌∙◌, ap, refl, length, arith, List, not, filter}
+use Rattle.std.proofs.Common.{◌∙◌, ap, refl, length, arith, List, not}
 use Rattle.std.proofs.lemmas.List.Filters.{length-filter_both}
 use Rattle.ff_ids.specs.declared.AccBody.{AccBody}
 use Rattle.ff_ids.specs.Steps.{is_due}
-use Rattle.membership.specs.Reports.{Report}
+use Rattle.ff_ids.specs.Steps.{Report}
 use Rattle.membership.proofs.report.Changes.take_due.Goals as goal
 
 pub due-requires : goal.due-requires
