@@ -18,6 +18,7 @@ ghost use Rattle.membership.specs.Reports.{Answers, kept_against};
 ghost use Rattle.removal_timer.specs.Kept.{IsInOrder, is_at};
 ghost use Rattle.std.specs.List.{list_any};
 
+mod faults;
 mod kept;
 mod report;
 

@@ -1,6 +1,6 @@
 -- Reading a record from left to right. A step gives a value and what is left after it, or the place of the fault:
 -- the first byte of the first field that is cut short or breaks its rule.
-use Rattle.std.specs.Prelude.{◌≡◌, ℕ, Bool, ◌&&◌, ◌==◌, nat_lt, nat_le, if◌then◌else◌, List, length, take, slice_index, Option, Some, None, Result, Ok, Err}
+use Rattle.std.specs.Prelude.{◌≡◌, ℕ, Bool, ◌&&◌, ◌==◌, nat_lt, nat_le, if◌then◌else◌, List, length, take, slice_index, Option, Some, None, Result, Ok, Err, IsOk}
 use Rattle.std.specs.Int.{Width, w16, w32, w64, byte_len, from_be_bytes}
 use Rattle.fields.specs.Reading.{Reading, reading_of, advanced}
 use Rattle.ff_ids.specs.declared.NoteBody.{NoteBody}
@@ -15,7 +15,7 @@ use Rattle.records.specs.declared.Body.TheVariants.{Certificate, Note, Accusatio
 use Rattle.records.specs.declared.Record.{Record}
 use Rattle.records.specs.declared.fault.FormFault.{FormFault}
 use Rattle.records.specs.declared.fault.FormFault.TheVariants as faults
-use Rattle.records.specs.declared.reading.Misread.{Misread}
+use Rattle.records.specs.declared.steps.Misread.{Misread}
 
 infixl 10 ◌>>=◌
 abbrev pub ◌>>=◌ : {A B : Type 0} → Result A ℕ → (A → Result B ℕ) → Result B ℕ
@@ -120,6 +120,12 @@ record_at r = do
 abbrev pub Reads : {X A : Type 0} → (X → A) → Result X Misread → Reading → Result (A × Reading) ℕ → Type 0
 Reads view (Ok x) later read = read ≡ Ok (view x, later)
 Reads view (Err e) later read = read ≡ Err e.place
+
+-- The answer is the record that is read next, or the place of the fault. Memory may be wanted for a record alone.
+abbrev pub ReadsRecord : Result Record FormFault → Reading → Result (Record × Reading) ℕ → Type 0
+ReadsRecord (Ok x) later read = read ≡ Ok (x, later)
+ReadsRecord (Err (faults.BadForm place)) later read = read ≡ Err place
+ReadsRecord (Err faults.OutOfMemory) later read = IsOk read
 
 -- The answer is the record that is read and how many bytes it takes, or the place of the fault. Memory may be wanted for a record alone.
 abbrev pub GivesRecord : Result (Record × Reading) ℕ → Result (Record × ℕ) FormFault → Type 0

@@ -3,7 +3,7 @@
 ghost use Rattle.std.specs.Prelude.{◌≡◌};
 ghost use Rattle.records.specs.declared.fault.FormFault.TheVariants.{BadForm, OutOfMemory};
 
-use crate::reading::Misread;
+use crate::steps::Misread;
 use fields::NoMemory;
 use std::alloc::{AllocError, AllocFailed};
 

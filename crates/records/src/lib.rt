@@ -6,7 +6,7 @@ ghost use Rattle.std.specs.Prelude.{◌≡◌};
 
 pub use checked::Checked;
 pub use fault::FormFault;
-pub use reading::read_record;
+pub use reading::{next_record, read_record};
 pub use signing::{Signed, signed_bytes};
 pub use writing::write_record;
 
@@ -15,6 +15,7 @@ mod fault;
 pub mod laws;
 mod reading;
 mod signing;
+pub mod steps;
 mod writing;
 
 use ff_ids::{AccBody, MemberId, NoteBody};
