@@ -5,3 +5,4 @@ pub mod Writing
 pub mod Device
 pub mod Memory
 pub mod Disk
+pub mod MemoryDisk

@@ -16,6 +16,7 @@ ghost use Rattle.ports.specs.Device.{OnOpenFailed, open_failed, receive_failed, 
 
 mod disk;
 mod memory;
+mod memory_disk;
 
 pub use disk::Disk;
 pub use memory::{MemorySink, MemorySource};

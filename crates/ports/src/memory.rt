@@ -13,14 +13,14 @@ use std::marker::Model;
 /// Which calls are to fail, how many came, and how many failed. The counts stand still at the end of
 /// their type.
 #[derive(Drop)]
-struct Calls {
+pub(crate) struct Calls {
     fail: Vec<u64>,
     made: u64,
     failed: u64,
 }
 
 impl Calls {
-    fn new(fail: Vec<u64>) -> Calls
+    pub(crate) fn new(fail: Vec<u64>) -> Calls
         ensures { result ≡ record {
           fail = fail;
           made = 0;
@@ -35,14 +35,14 @@ impl Calls {
     }
 
     /// Counts a failure.
-    fn count_failure(&mut self)
+    pub(crate) fn count_failure(&mut self)
         ensures { self.new ≡ record self.old { failed = next_count self.old.failed } }
     {
         self.failed = self.failed.saturating_add(1);
     }
 
     /// Counts a call, and its failure if it is one of those that are to fail.
-    fn next_fails(&mut self) -> bool
+    pub(crate) fn next_fails(&mut self) -> bool
         ensures answer { result ≡ is_failing self.old.fail.items self.old.made }
         ensures after { self.new ≡ record self.old {
           made = next_count self.old.made;

@@ -1,0 +1,161 @@
+-- A disk in memory: what came about since it last came up, what an outcome picks at a crash, and the exact
+-- answer of each call.
+use Rattle.std.specs.Prelude.{◌≡◌, ℕ, ◌+◌, ◌-◌, ◌%◌, ◌≤◌, ◌==◌, ◌&&◌, ◌||◌, nat_le, nat_lt, Bool, true, false, not, if◌then◌else◌, Option, None, Some, List, [], ◌∷◌, length, Result}
+
+use Rattle.ports.specs.declared.memory_disk.Change.{Change}
+use Rattle.ports.specs.declared.memory_disk.Change.TheVariants.{Wrote, Synced, Stopped}
+use Rattle.ports.specs.declared.memory_disk.Arm.{Arm}
+use Rattle.ports.specs.declared.memory_disk.Turn.{Turn}
+use Rattle.ports.specs.declared.memory_disk.Turn.TheVariants.{Passes, Fails, Stops}
+use Rattle.ports.specs.Count.{next_count}
+use Rattle.ports.specs.Memory.{is_failing}
+use Rattle.ports.specs.Disk.{Moment, is_torn, end_of, settled, wrote}
+
+-- a write since the last sync touched the byte at this place, or it lies past the length at that sync
+abbrev pub is_unstable : List (ℕ × ℕ) → ℕ → ℕ → Bool
+is_unstable torn kept place = is_torn torn place || nat_le kept place
+
+-- what becomes of the byte at this place
+abbrev pub garbled_byte : ℕ → List (ℕ × ℕ) → ℕ → ℕ → ℕ → ℕ
+garbled_byte outcome torn kept place b = if is_unstable torn kept place then (outcome + place) % 256 else b
+
+-- the bytes from this place on, each unstable one made from the outcome and its place
+abbrev pub garbled : ℕ → List (ℕ × ℕ) → ℕ → ℕ → List ℕ → List ℕ
+garbled outcome torn kept place [] = []
+garbled outcome torn kept place (b ∷ bytes) =
+    garbled_byte outcome torn kept place b ∷ garbled outcome torn kept (place + 1) bytes
+
+-- what an outcome picks: 0 the file of the last sync, 1 that with all writes since, any other the latter with
+-- its unstable bytes garbled
+abbrev pub picked : ℕ → Moment → List ℕ
+picked outcome moment =
+    if outcome == 0 then moment.stable
+    else (if outcome == 1 then moment.image
+    else garbled outcome moment.torn (length moment.stable) 0 moment.image)
+
+-- the moment after a change
+abbrev pub changed : Change → Moment → Moment
+changed (Wrote place bytes) moment = wrote place bytes.items moment
+changed Synced moment = settled moment.image
+changed (Stopped outcome) moment = settled (picked outcome moment)
+
+-- the moment after these changes, the last one first, to a file that came up so
+abbrev pub now_of : List ℕ → List Change → Moment
+now_of start [] = settled start
+now_of start (change ∷ log) = changed change (now_of start log)
+
+-- the moments before it
+abbrev pub past_of : List ℕ → List Change → List Moment
+past_of start [] = []
+past_of start (change ∷ log) = now_of start log ∷ past_of start log
+
+abbrev pub moments_of : List ℕ → List Change → List Moment
+moments_of start log = now_of start log ∷ past_of start log
+
+-- the file of a disk in memory at one moment, how many bytes it has room for, and how many writes
+pub record FileState : Type 0 where
+  pub moment : Moment
+  pub room : ℕ
+  pub writes : ℕ
+
+-- what a disk in memory holds: the file as it last came up, what came about since (the last change first),
+-- how many bytes and how many changes it has room for, the numbers of the calls that fail, how many calls
+-- came and how many failed, the stop that is armed, and whether the disk has stopped
+pub record DiskState : Type 0 where
+  pub start : List ℕ
+  pub log : List Change
+  pub room : ℕ
+  pub changes : ℕ
+  pub failing : List ℕ
+  pub calls : ℕ
+  pub failures : ℕ
+  pub armed : Option Arm
+  pub stopped : Bool
+
+-- the moment that it is at
+abbrev pub moment_of : DiskState → Moment
+moment_of disk = now_of disk.start disk.log
+
+-- a call fails where it is one of those that are to fail
+abbrev pub numbered_turn : Bool → Turn
+numbered_turn failing = if failing then Fails else Passes
+
+-- a stop comes in the first call that it does not let pass
+abbrev pub armed_turn : Option Arm → Bool → Turn
+armed_turn None failing = numbered_turn failing
+armed_turn (Some arm) failing = if arm.calls == 0 then Stops arm.outcome else numbered_turn failing
+
+-- what becomes of the next call: after a stop each fails
+abbrev pub turn_of : DiskState → Turn
+turn_of disk = if disk.stopped then Fails else armed_turn disk.armed (is_failing disk.failing disk.calls)
+
+-- the stop that is still armed after one more call
+abbrev pub armed_after : Option Arm → Option Arm
+armed_after None = None
+armed_after (Some arm) = if arm.calls == 0 then None else Some (record arm { calls = arm.calls - 1 })
+
+-- one more call
+abbrev pub called : DiskState → DiskState
+called disk = record disk {
+  calls = next_count disk.calls;
+  armed = if disk.stopped then disk.armed else armed_after disk.armed;
+}
+
+-- one more failure
+abbrev pub failed : DiskState → DiskState
+failed disk = record disk { failures = next_count disk.failures }
+
+-- the disk stops: the file is what the outcome picks
+abbrev pub stopped_by : ℕ → DiskState → DiskState
+stopped_by outcome disk = record (failed disk) { log = Stopped outcome ∷ disk.log; stopped = true }
+
+-- a call that changes nothing of the file, by its turn
+abbrev pub after_turn : Turn → DiskState → DiskState
+after_turn Passes disk = disk
+after_turn Fails disk = failed disk
+after_turn (Stops outcome) disk = stopped_by outcome disk
+
+abbrev pub passes : Turn → Bool
+passes Passes = true
+passes Fails = false
+passes (Stops outcome) = false
+
+-- the write is short enough, and there is room for its bytes and for the change
+abbrev pub fits : DiskState → ℕ → ℕ → Bool
+fits disk place count =
+    nat_le count 64 && nat_le (end_of place count) disk.room && nat_lt (length disk.log) disk.changes
+
+-- the write comes about
+abbrev pub with_write : ℕ → List ℕ → DiskState → DiskState
+with_write place bytes disk = record disk { log = Wrote place (record { items = bytes }) ∷ disk.log }
+
+-- a write, by its turn and by whether it fits: a stop within it counts the whole of it, if it fits
+abbrev pub written_by : Turn → Bool → ℕ → List ℕ → DiskState → DiskState
+written_by Passes fitting place bytes disk = if fitting then with_write place bytes disk else failed disk
+written_by Fails fitting place bytes disk = failed disk
+written_by (Stops outcome) fitting place bytes disk =
+    stopped_by outcome (if fitting then with_write place bytes disk else disk)
+
+abbrev pub after_write : ℕ → List ℕ → DiskState → DiskState
+after_write place bytes disk =
+    written_by (turn_of disk) (fits disk place (length bytes)) place bytes (called disk)
+
+-- no write has come about since the last sync
+abbrev pub is_settled : Moment → Bool
+is_settled moment = length moment.torn == 0
+
+-- a sync comes about: it is a change where a write has come about since the last one
+abbrev pub with_sync : DiskState → DiskState
+with_sync disk =
+    if is_settled (moment_of disk) then disk
+    else (if nat_lt (length disk.log) disk.changes then record disk { log = Synced ∷ disk.log } else failed disk)
+
+-- a sync, by its turn: a stop within it leaves it undone
+abbrev pub synced_by : Turn → DiskState → DiskState
+synced_by Passes disk = with_sync disk
+synced_by Fails disk = failed disk
+synced_by (Stops outcome) disk = stopped_by outcome disk
+
+-- there is room for a sync
+abbrev pub can_sync : DiskState → Bool
+can_sync disk = is_settled (moment_of disk) || nat_lt (length disk.log) disk.changes
