@@ -1,13 +1,15 @@
 -- A disk in memory: what came about since it last came up, what an outcome picks at a crash, and the exact
 -- answer of each call.
-use Rattle.std.specs.Prelude.{◌≡◌, ℕ, ◌+◌, ◌-◌, ◌%◌, ◌≤◌, ◌==◌, ◌&&◌, ◌||◌, nat_le, nat_lt, Bool, true, false, not, if◌then◌else◌, Option, None, Some, List, [], ◌∷◌, length, Result}
+use Rattle.std.specs.Prelude.{◌≡◌, ℕ, ◌+◌, ◌-◌, ◌%◌, ◌≤◌, ◌==◌, ◌&&◌, ◌||◌, nat_le, nat_lt, Bool, true, false, not, if◌then◌else◌, Option, None, Some, List, [], ◌∷◌, length, reverse, Vec}
+use Rattle.std.specs.Vec.{vec_capacity}
+use Rattle.std.specs.declared.alloc.Global.{Global}
 
 use Rattle.ports.specs.declared.memory_disk.Change.{Change}
 use Rattle.ports.specs.declared.memory_disk.Change.TheVariants.{Wrote, Synced, Stopped}
 use Rattle.ports.specs.declared.memory_disk.Arm.{Arm}
 use Rattle.ports.specs.declared.memory_disk.Turn.{Turn}
 use Rattle.ports.specs.declared.memory_disk.Turn.TheVariants.{Passes, Fails, Stops}
-use Rattle.ports.specs.Count.{next_count}
+use Rattle.ports.specs.Count.{next_count, counted}
 use Rattle.ports.specs.Memory.{is_failing}
 use Rattle.ports.specs.Disk.{Moment, is_torn, end_of, settled, wrote}
 
@@ -94,10 +96,22 @@ abbrev pub armed_after : Option Arm → Option Arm
 armed_after None = None
 armed_after (Some arm) = if arm.calls == 0 then None else Some (record arm { calls = arm.calls - 1 })
 
--- one more call
-abbrev pub called : DiskState → DiskState
-called disk = record disk {
+abbrev pub passes : Turn → Bool
+passes Passes = true
+passes Fails = false
+passes (Stops outcome) = false
+
+-- the disk has not stopped, but where the call fails
+abbrev pub Runs : Turn → Bool → Type 0
+Runs Passes stopped = stopped ≡ false
+Runs Fails stopped = Unit {0}
+Runs (Stops outcome) stopped = stopped ≡ false
+
+-- one more call of this turn
+abbrev pub called : Turn → DiskState → DiskState
+called turn disk = record disk {
   calls = next_count disk.calls;
+  failures = counted (not (passes turn)) disk.failures;
   armed = if disk.stopped then disk.armed else armed_after disk.armed;
 }
 
@@ -107,18 +121,16 @@ failed disk = record disk { failures = next_count disk.failures }
 
 -- the disk stops: the file is what the outcome picks
 abbrev pub stopped_by : ℕ → DiskState → DiskState
-stopped_by outcome disk = record (failed disk) { log = Stopped outcome ∷ disk.log; stopped = true }
+stopped_by outcome disk = record disk { log = Stopped outcome ∷ disk.log; stopped = true }
 
--- a call that changes nothing of the file, by its turn
+-- what a call leaves that changes nothing of the file, by its turn
+abbrev pub stopped_or_not : Turn → DiskState → DiskState
+stopped_or_not Passes disk = disk
+stopped_or_not Fails disk = disk
+stopped_or_not (Stops outcome) disk = stopped_by outcome disk
+
 abbrev pub after_turn : Turn → DiskState → DiskState
-after_turn Passes disk = disk
-after_turn Fails disk = failed disk
-after_turn (Stops outcome) disk = stopped_by outcome disk
-
-abbrev pub passes : Turn → Bool
-passes Passes = true
-passes Fails = false
-passes (Stops outcome) = false
+after_turn turn disk = stopped_or_not turn (called turn disk)
 
 -- the write is short enough, and there is room for its bytes and for the change
 abbrev pub fits : DiskState → ℕ → ℕ → Bool
@@ -132,13 +144,13 @@ with_write place bytes disk = record disk { log = Wrote place (record { items = 
 -- a write, by its turn and by whether it fits: a stop within it counts the whole of it, if it fits
 abbrev pub written_by : Turn → Bool → ℕ → List ℕ → DiskState → DiskState
 written_by Passes fitting place bytes disk = if fitting then with_write place bytes disk else failed disk
-written_by Fails fitting place bytes disk = failed disk
+written_by Fails fitting place bytes disk = disk
 written_by (Stops outcome) fitting place bytes disk =
     stopped_by outcome (if fitting then with_write place bytes disk else disk)
 
-abbrev pub after_write : ℕ → List ℕ → DiskState → DiskState
-after_write place bytes disk =
-    written_by (turn_of disk) (fits disk place (length bytes)) place bytes (called disk)
+abbrev pub after_write : Turn → ℕ → List ℕ → DiskState → DiskState
+after_write turn place bytes disk =
+    written_by turn (fits disk place (length bytes)) place bytes (called turn disk)
 
 -- no write has come about since the last sync
 abbrev pub is_settled : Moment → Bool
@@ -153,9 +165,21 @@ with_sync disk =
 -- a sync, by its turn: a stop within it leaves it undone
 abbrev pub synced_by : Turn → DiskState → DiskState
 synced_by Passes disk = with_sync disk
-synced_by Fails disk = failed disk
+synced_by Fails disk = disk
 synced_by (Stops outcome) disk = stopped_by outcome disk
+
+abbrev pub after_sync : Turn → DiskState → DiskState
+after_sync turn disk = synced_by turn (called turn disk)
 
 -- there is room for a sync
 abbrev pub can_sync : DiskState → Bool
 can_sync disk = is_settled (moment_of disk) || nat_lt (length disk.log) disk.changes
+
+-- what the parts of a disk in memory have to do with one another: the file is the moment after the changes,
+-- and there is room for it to come up again, for one more change while the disk runs, and for its ranges
+pub record IsCurrent (start : Vec ℕ Global) (file : FileState) (log : Vec Change Global) (stopped : Bool) : Type 0 where
+  pub moment : now_of start.items (reverse log.items) ≡ file.moment
+  pub start_room : file.room ≤ vec_capacity start
+  pub log_room : file.writes + 1 ≤ vec_capacity log
+  pub within : stopped ≡ false → length log.items ≤ file.writes
+  pub ranges : length file.moment.torn ≤ length log.items

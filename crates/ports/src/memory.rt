@@ -34,28 +34,43 @@ impl Calls {
         }
     }
 
+    /// Counts a call, and says whether it is one of those that are to fail.
+    pub(crate) fn next(&mut self) -> bool
+        ensures answer { result ≡ is_failing self.old.fail.items self.old.made }
+        ensures after { self.new ≡ record self.old { made = next_count self.old.made } }
+    {
+        let number = self.made;
+        self.made = number.saturating_add(1);
+        self.fail.as_slice().contains(&number)
+    }
+
+    /// Counts a failure, where there is one.
+    pub(crate) fn count(&mut self, failed: bool)
+        ensures { self.new ≡ record self.old { failed = counted failed self.old.failed } }
+    {
+        if failed {
+            self.failed = self.failed.saturating_add(1);
+        }
+    }
+
     /// Counts a failure.
-    pub(crate) fn count_failure(&mut self)
+    fn count_failure(&mut self)
         ensures { self.new ≡ record self.old { failed = next_count self.old.failed } }
     {
-        self.failed = self.failed.saturating_add(1);
+        self.count(true);
     }
 
     /// Counts a call, and its failure if it is one of those that are to fail.
-    pub(crate) fn next_fails(&mut self) -> bool
+    fn next_fails(&mut self) -> bool
         ensures answer { result ≡ is_failing self.old.fail.items self.old.made }
         ensures after { self.new ≡ record self.old {
           made = next_count self.old.made;
           failed = counted result self.old.failed;
         } }
     {
-        let number = self.made;
-        self.made = number.saturating_add(1);
-        if self.fail.as_slice().contains(&number) {
-            self.count_failure();
-            return true;
-        }
-        false
+        let fails = self.next();
+        self.count(fails);
+        fails
     }
 }
 
