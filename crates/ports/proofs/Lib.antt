@@ -2,3 +2,4 @@ pub mod Contents
 pub mod Counts
 pub mod MomentLemmas
 pub mod ByteLemmas
+pub mod TurnLemmas

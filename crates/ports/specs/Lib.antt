@@ -6,3 +6,4 @@ pub mod Device
 pub mod Memory
 pub mod Disk
 pub mod MemoryDisk
+pub mod DiskLaws

@@ -3,12 +3,13 @@
 use Rattle.std.specs.Prelude.{◌≡◌, ℕ, ◌+◌, ◌-◌, ◌%◌, ◌≤◌, ◌==◌, ◌&&◌, ◌||◌, nat_le, nat_lt, Bool, true, false, not, if◌then◌else◌, Option, None, Some, List, [], ◌∷◌, length, reverse, Vec}
 use Rattle.std.specs.Vec.{vec_capacity}
 use Rattle.std.specs.declared.alloc.Global.{Global}
-
 use Rattle.ports.specs.declared.memory_disk.Change.{Change}
 use Rattle.ports.specs.declared.memory_disk.Change.TheVariants.{Wrote, Synced, Stopped}
 use Rattle.ports.specs.declared.memory_disk.Arm.{Arm}
 use Rattle.ports.specs.declared.memory_disk.Turn.{Turn}
 use Rattle.ports.specs.declared.memory_disk.Turn.TheVariants.{Passes, Fails, Stops}
+use Rattle.ports.specs.declared.Opened as opened
+use Rattle.ports.specs.declared.Opened.{Opened}
 use Rattle.ports.specs.Count.{next_count, counted}
 use Rattle.ports.specs.Memory.{is_failing}
 use Rattle.ports.specs.Disk.{Moment, is_torn, end_of, settled, wrote}
@@ -100,6 +101,12 @@ abbrev pub passes : Turn → Bool
 passes Passes = true
 passes Fails = false
 passes (Stops outcome) = false
+
+-- to open a file is done, unless the call fails
+abbrev pub open_answer : Turn → Opened
+open_answer Passes = opened.TheVariants.Done
+open_answer Fails = opened.TheVariants.Failed
+open_answer (Stops outcome) = opened.TheVariants.Failed
 
 -- the disk has not stopped, but where the call fails
 abbrev pub Runs : Turn → Bool → Type 0

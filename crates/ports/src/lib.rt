@@ -20,6 +20,7 @@ mod memory_disk;
 
 pub use disk::Disk;
 pub use memory::{MemorySink, MemorySource};
+pub use memory_disk::MemoryDisk;
 
 /// The answer of a read.
 #[derive(Clone, Copy, Debug, PartialEq, Eq)]

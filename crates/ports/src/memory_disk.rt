@@ -6,9 +6,9 @@ ghost use Rattle.std.specs.Vec.{vec_capacity};
 ghost use Rattle.ports.specs.Count.{counted};
 ghost use Rattle.ports.specs.Device.{open_failed};
 ghost use Rattle.ports.specs.Disk.{Moment, Leaves, LeavesImage, Fails, Opens, Measures, ReadsPart, Settles, next, settled, written, wrote, end_of, torn_at, stays, is_torn as is_torn_at};
+ghost use Rattle.ports.specs.DiskLaws.{moments_leave};
 ghost use Rattle.ports.specs.declared.memory_disk.Turn.TheVariants.{Stops};
-ghost use Rattle.ports.specs.MemoryDisk.{DiskState, FileState, picked, moments_of, moment_of, turn_of, armed_turn as armed_turn_of, armed_after as armed_after_of, called, passes, Runs, stopped_by, fits, with_write, written_by, with_sync, after_sync, can_sync, is_settled, garbled, garbled_byte as garbled_at, after_turn, after_write, synced_by};
-
+ghost use Rattle.ports.specs.MemoryDisk.{DiskState, FileState, picked, moments_of, moment_of, turn_of, armed_turn as armed_turn_of, armed_after as armed_after_of, called, after_turn, open_answer, passes, Runs, stopped_by, fits, with_write, written_by, with_sync, after_sync, can_sync, is_settled, garbled, garbled_byte as garbled_at, after_write, synced_by};
 
 use crate::memory::Calls;
 use crate::{Disk, Failed, Opened};
@@ -452,7 +452,13 @@ impl MemoryDisk {
         self.stop(outcome);
     }
 
-    fn write_in_turn(&mut self, turn: Turn, fitting: bool, place: u64, bytes: &[u8]) -> Result<(), Failed>
+    fn write_in_turn(
+        &mut self,
+        turn: Turn,
+        fitting: bool,
+        place: u64,
+        bytes: &[u8],
+    ) -> Result<(), Failed>
         requires fits { fitting ≡ true → fits self.old place (length bytes.now) ≡ true }
         requires runs { Runs turn self.old.stopped }
         ensures answer { is_err result ≡ not (passes turn && fitting) }
@@ -527,4 +533,72 @@ fn copy_part(image: &[u8], place: u64, buf: &mut [u8]) -> usize
     let count = rest.len().min(buf.len());
     buf[..count].copy_from_slice(&rest[..count]);
     count
+}
+
+impl Disk for MemoryDisk {
+    ghost faults = { λ disk. disk.failures };
+
+    ghost moments = { λ disk. moments_of disk.start disk.log };
+
+    ghost image_left = { λ disk. moments_leave disk.start disk.log };
+
+    fn open(&mut self, _name: &str) -> Opened
+        ensures faults { self.new.failures ≡ counted (open_failed result) self.old.failures }
+        ensures opens { Opens (moments_of self.old.start self.old.log) (moments_of self.new.start self.new.log) result }
+        ensures answer { result ≡ open_answer (turn_of self.old) }
+        ensures after { self.new ≡ after_turn (turn_of self.old) self.old }
+    {
+        match self.idle_call() {
+            Ok(()) => Opened::Done,
+            Err(Failed) => Opened::Failed,
+        }
+    }
+
+    fn len(&mut self) -> Result<u64, Failed>
+        ensures faults { self.new.failures ≡ counted (is_err result) self.old.failures }
+        ensures value { IfOk result (λ n. Measures (moments_of self.old.start self.old.log) n) }
+        ensures same { OnOk result (moments_of self.new.start self.new.log ≡ moments_of self.old.start self.old.log) }
+        ensures stays { OnErr result (Fails stays (moments_of self.old.start self.old.log) (moments_of self.new.start self.new.log)) }
+        ensures answer { is_err result ≡ not (passes (turn_of self.old)) }
+        ensures after { self.new ≡ after_turn (turn_of self.old) self.old }
+    {
+        self.idle_call()?;
+        Ok(self.file.image().len() as u64)
+    }
+
+    fn read_at(&mut self, place: u64, buf: &mut [u8]) -> Result<usize, Failed>
+        ensures faults { self.new.failures ≡ counted (is_err result) self.old.failures }
+        ensures fits { IfOk result (λ n. n ≤ length buf.old) }
+        ensures value { IfOk result (λ n. ReadsPart (moments_of self.old.start self.old.log) place buf.new n) }
+        ensures same { OnOk result (moments_of self.new.start self.new.log ≡ moments_of self.old.start self.old.log) }
+        ensures stays { OnErr result (Fails stays (moments_of self.old.start self.old.log) (moments_of self.new.start self.new.log)) }
+        ensures answer { is_err result ≡ not (passes (turn_of self.old)) }
+        ensures after { self.new ≡ after_turn (turn_of self.old) self.old }
+    {
+        self.idle_call()?;
+        Ok(copy_part(self.file.image(), place, buf))
+    }
+
+    fn write_at(&mut self, place: u64, bytes: &[u8]) -> Result<(), Failed>
+        ensures faults { self.new.failures ≡ counted (is_err result) self.old.failures }
+        ensures writes { OnOk result (moments_of self.new.start self.new.log ≡ next (wrote place bytes.now) (moments_of self.old.start self.old.log)) }
+        ensures tears { OnErr result (Fails (torn_at place (length bytes.now)) (moments_of self.old.start self.old.log) (moments_of self.new.start self.new.log)) }
+        ensures answer { is_err result ≡ not (passes (turn_of self.old) && fits self.old place (length bytes.now)) }
+        ensures after { self.new ≡ after_write (turn_of self.old) place bytes.now self.old }
+    {
+        let fitting = self.has_room(place, bytes);
+        let turn = self.next_turn();
+        self.write_in_turn(turn, fitting, place, bytes)
+    }
+
+    fn sync(&mut self) -> Result<(), Failed>
+        ensures faults { self.new.failures ≡ counted (is_err result) self.old.failures }
+        ensures settles { OnOk result (Settles (moments_of self.old.start self.old.log) (moments_of self.new.start self.new.log)) }
+        ensures stays { OnErr result (Fails stays (moments_of self.old.start self.old.log) (moments_of self.new.start self.new.log)) }
+        ensures answer { is_err result ≡ not (passes (turn_of self.old) && can_sync self.old) }
+        ensures after { self.new ≡ after_sync (turn_of self.old) self.old }
+    {
+        let turn = self.next_turn();
+        self.sync_in_turn(turn)
+    }
 }

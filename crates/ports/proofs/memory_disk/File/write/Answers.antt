@@ -1,5 +1,5 @@
 use Rattle.std.proofs.Common.{refl}
-use Rattle.ports.proofs.MomentLemmas.{length-written}
+use Rattle.ports.specs.DiskLaws.{length-written}
 use Rattle.ports.proofs.memory_disk.File.write.Goals as goal
 
 pub returns : goal.returns

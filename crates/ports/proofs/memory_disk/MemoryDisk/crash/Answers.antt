@@ -1,6 +1,7 @@
 use Rattle.std.proofs.Common.{◌≡◌, rules}
 use Rattle.ports.specs.MemoryDisk.{moment_of, picked}
-use Rattle.ports.proofs.MomentLemmas.{now_leaves, picked_leaves}
+use Rattle.ports.specs.DiskLaws.{now_leaves}
+use Rattle.ports.proofs.MomentLemmas.{picked_leaves}
 use Rattle.ports.proofs.memory_disk.MemoryDisk.crash.Goals as goal
 
 pub returns-clause-leaves : goal.returns-clause-leaves
