@@ -3,3 +3,4 @@ pub mod Counts
 pub mod MomentLemmas
 pub mod ByteLemmas
 pub mod TurnLemmas
+pub mod SinceLemmas
