@@ -1,31 +1,33 @@
 -- What is taken as a line is one by the grammar, and what is one is taken; a line is refused by the first bad word.
-use Rattle.std.proofs.Common.{◌≡◌, ℕ, suc, ◌+◌, ◌-◌, ◌<◌, ◌≤◌, Bool, true, false, ◌&&◌, not, cond, nat_le, ltb, leb, eqb, List, [], ◌∷◌, ◌++◌, length, take, drop, get_or, Option, Some, None, Result, Ok, Err, IsTrue, refl, sym, ap, subst, ◌∙◌, arith, rules, lt-ltb, le-ltb, ltb-true, eq-eqb, drop-cons}
+use Rattle.std.proofs.Common.{◌≡◌, ℕ, suc, ◌+◌, ◌-◌, ◌<◌, ◌≤◌, Bool, true, false, ◌&&◌, not, cond, nat_le, ltb, leb, eqb, List, [], ◌∷◌, ◌++◌, length, take, drop, get_or, Option, Some, None, Result, Ok, Err, ◌⊎◌, inl, inr, IsTrue, refl, sym, ap, subst, ◌∙◌, arith, rules, lt-ltb, le-ltb, ltb-true, eq-eqb, drop-cons}
 use Rattle.std.specs.Prelude.{IsOkAnd}
+use Rattle.std.specs.Str.{bytes_eq}
 use Rattle.std.specs.List.{join_with_byte, list_all, All, AllByRecursion}
 use Rattle.std.proofs.lemmas.Bool.{leb-true, ne_eqb, eqb-true, and_parts, ltb-false, not-false}
 use Rattle.std.proofs.lemmas.List.{length-append, get_or_at, take_at, take-append-drop, drop_all}
 use Rattle.std.proofs.lemmas.List.Elements.{All-from_recursion}
 use Rattle.std.proofs.lemmas.List.Splits.{slice_split_none, slice_split_at, length-slice_split, join_with_byte-slice_split}
+use Rattle.std.proofs.lemmas.Slice.Eq.{bytes_eq-Decides}
 use Rattle.line_text.specs.declared.bad_word.BadWord.{BadWord}
 use Rattle.line_text.specs.declared.bad_word.BadWord.TheVariants as bad
 use Rattle.line_text.specs.declared.bad_word.LineFault.{LineFault}
 use Rattle.line_text.specs.declared.bad_word.LineFault.TheVariants as faults
 use Rattle.line_text.specs.Answers.{AnswersBy, AnswersThat, Refuses}
 use Rattle.line_text.specs.Fields.{Field, bad_where}
-use Rattle.line_text.specs.Frame.{IsLine, Next, Row, before_line_feed, behind, field_tests, fields_line, first_bad, first_of, frame_tests, has_line_feed, judge, or_else, row_line, row_tests, unless_bad, words_in}
+use Rattle.line_text.specs.Frame.{IsLine, Next, Row, before_line_feed, behind, field_tests, fields_line, first_bad, first_of, frame_tests, has_line_feed, header_row, is_header, judge, or_else, row_line, row_tests, unless_bad, word_among, words_in}
 use Rattle.line_text.specs.Words.{is_space, is_printable, is_word, is_spaced, parts}
 
 -- ## Tests that did not hold
 
-or_none : (a b : Option BadWord) → or_else a b ≡ None → (a ≡ None) × (b ≡ None)
+pub or_none : (a b : Option BadWord) → or_else a b ≡ None → (a ≡ None) × (b ≡ None)
 or_none None b e = (refl, e)
 or_none (Some bad_word) b e = cc
 
-passed : (word : BadWord) (b : Bool) → bad_where word b ≡ None → b ≡ false
+pub passed : (word : BadWord) (b : Bool) → bad_where word b ≡ None → b ≡ false
 passed w true e = cc
 passed w false e = refl
 
-unless_ok : {L : Type 0} (o : Option BadWord) (r : Result L BadWord) (l : L) → unless_bad o r ≡ Ok l → (o ≡ None) × (r ≡ Ok l)
+pub unless_ok : {L : Type 0} (o : Option BadWord) (r : Result L BadWord) (l : L) → unless_bad o r ≡ Ok l → (o ≡ None) × (r ≡ Ok l)
 unless_ok None r l e = (refl, e)
 unless_ok (Some bad_word) r l e = cc
 
@@ -101,11 +103,12 @@ judge-spelled {L} next Spells spelled bytes l e =
     let w = worded (parts text) (omega (arith, length-slice_split is_space text)) in
     let joined : join_with_byte 32 (w.first ∷ w.others) ≡ text = ap (join_with_byte 32) (sym w.same) ∙ join_with_byte-slice_split 32 text in
     let P : List (List ℕ) → Type 0 = λ ws. row_line (next.row ws) (behind ws) ≡ Ok l in
+    let Q : List (List ℕ) → Type 0 = λ ws. list_all is_word ws ≡ true in
     record {
       first = w.first;
       others = w.others;
       spells = spelled w.first w.others l (subst P w.same u.1);
-      words = let Q : List (List ℕ) → Type 0 = λ ws. list_all is_word ws ≡ true in subst Q w.same spaced;
+      words = subst Q w.same spaced;
       spaced = fed bytes feed ∙ ap (λ (t : List ℕ). t ++ 10 ∷ []) (sym joined);
       short = subst (λ (t : List ℕ). length t ≤ 65600) (sym joined) short;
       few = ltb-false 100000 next.number (passed _ _ d.0);
@@ -204,3 +207,33 @@ frame-good Takes next ended number bytes words answer e n good in_line h =
     let same : frame_tests ended number bytes ≡ frame_tests next.ended next.number bytes = ap (λ (b : Bool). frame_tests b number bytes) e ∙ ap (λ (k : ℕ). frame_tests next.ended k bytes) n in
     rw (sym (ap first_of same) ∙ good)
     (subst (λ (ws : List (List ℕ)). AnswersBy Takes (row_line (next.row ws) (behind ws)) answer) in_line h)
+
+-- ## Line words
+
+chosen : {A : Type 0} (b : Bool) (x y z : A) → cond b x y ≡ z → ((b ≡ true) × (x ≡ z)) ⊎ ((b ≡ false) × (y ≡ z))
+chosen true x y z e = inl (refl, e)
+chosen false x y z e = inr (refl, e)
+
+abbrev there : {A : Type 0} → A → Option A
+there x = Some x
+
+some_is : {A : Type 0} (x y : A) → there x ≡ there y → x ≡ y
+some_is x y e = cc
+
+-- A word that is a line word is its text.
+pub word_among-text : {W : Type 0} (text : W → List ℕ) (ks : List W) (word : List ℕ) (k : W) → word_among text ks word ≡ Some k → word ≡ text k
+word_among-text text [] word k e = cc
+word_among-text text (x ∷ ks) word k e =
+    elim (chosen (bytes_eq word (text x)) (there x) (word_among text ks word) (Some k) e) [
+      | inl h ↦ ((bytes_eq-Decides word (text x)).0 h.0 ∙ ap text (some_is x k h.1))
+      | inr h ↦ word_among-text text ks word k h.1
+    ]
+
+-- ## Headers
+
+-- a header is a line by its row
+pub header-line : {L : Type 0} (form : List ℕ) (words : List (List ℕ)) (line : L) → is_header form words ≡ true → row_line (Ok (header_row line)) (behind words) ≡ Ok line
+header-line form words line h =
+    let p = and_parts _ _ h in
+    let many : eqb (length (behind words)) 2 ≡ true = (and_parts _ _ p.1).0 in
+    rw many refl

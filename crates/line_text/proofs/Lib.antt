@@ -2,3 +2,5 @@ pub mod NumberLemmas
 pub mod WordLemmas
 pub mod HexWords
 pub mod FrameLemmas
+pub mod FieldLemmas
+pub mod DigitLemmas

@@ -1,8 +1,8 @@
 -- The parts of a text between its spaces, part by part.
-use Rattle.std.proofs.Common.{◌≡◌, ℕ, ◌+◌, Bool, true, false, cond, List, [], ◌∷◌, take, drop, Some, None, refl, arith, position}
-use Rattle.std.proofs.lemmas.List.Splits.{slice_split_none, slice_split_first}
+use Rattle.std.proofs.Common.{◌≡◌, ℕ, ◌+◌, Bool, true, false, cond, List, [], ◌∷◌, take, drop, Some, None, refl, sym, arith, position, eqb, length}
+use Rattle.std.proofs.lemmas.List.Splits.{length-slice_split, slice_split_none, slice_split_first}
 use Rattle.std.proofs.lemmas.List.Sums.{fails_before_first}
-use Rattle.std.proofs.lemmas.Bool.{ltb-true, ltb-false}
+use Rattle.std.proofs.lemmas.Bool.{ne_eqb, ltb-true, ltb-false}
 use Rattle.line_text.specs.Words.{is_space, parts}
 
 found : (b : Bool) (n at : ℕ) → cond b (Some n) None ≡ Some at → (b ≡ true) × (n ≡ at)
@@ -25,3 +25,7 @@ parts_at text at e =
     let f = found _ _ at e in
     let lt = ltb-true _ _ f.0 in
     rw (← f.1) (slice_split_first is_space text 0 lt)
+
+-- a text has a part
+pub some_parts : (text : List ℕ) → false ≡ eqb (length (parts text)) 0
+some_parts text = sym (ne_eqb (length (parts text)) 0 (λ e. omega (arith, e, length-slice_split is_space text)))

@@ -1,7 +1,8 @@
 -- What the lines of all forms share: the table of bad words, of which the first that holds refuses a line; what
 -- a line is, as a function of its bytes; and what it is, as the grammar says.
-use Rattle.std.specs.Prelude.{◌≡◌, ℕ, ◌+◌, ◌-◌, ◌≤◌, Bool, false, IsTrue, ◌&&◌, not, nat_lt, ◌==◌, if◌then◌else◌, List, [], ◌∷◌, ◌++◌, length, take, slice_index, Option, Some, None, Result, Ok, Err}
+use Rattle.std.specs.Prelude.{◌≡◌, ℕ, ◌+◌, ◌-◌, ◌≤◌, Bool, true, false, IsTrue, ◌&&◌, not, nat_lt, ◌==◌, if◌then◌else◌, List, [], ◌∷◌, ◌++◌, length, take, slice_index, Option, Some, None, Result, Ok, Err, codes}
 use Rattle.std.specs.List.{join_with_byte, list_all}
+use Rattle.std.specs.Str.{bytes_eq}
 use Rattle.line_text.specs.declared.bad_word.BadWord.{BadWord}
 use Rattle.line_text.specs.declared.bad_word.BadWord.TheVariants as bad
 use Rattle.line_text.specs.Fields.{Field, bad_where}
@@ -36,6 +37,26 @@ first_word (word ∷ words) = word
 abbrev pub behind : List (List ℕ) → List (List ℕ)
 behind [] = []
 behind (word ∷ words) = words
+
+abbrev pub second_word : List (List ℕ) → List ℕ
+second_word words = first_word (behind words)
+
+abbrev pub third_word : List (List ℕ) → List ℕ
+third_word words = first_word (behind (behind words))
+
+abbrev pub fourth_word : List (List ℕ) → List ℕ
+fourth_word words = first_word (behind (behind (behind words)))
+
+-- the words `fireflies 1 FORM`, which head a text of this form
+abbrev pub is_header : List ℕ → List (List ℕ) → Bool
+is_header form words =
+    bytes_eq (first_word words) (codes "fireflies") && (length (behind words) == 2
+    && (bytes_eq (second_word words) (codes "1") && bytes_eq (third_word words) form))
+
+-- the one of these line words that a word is, where each has its text
+abbrev pub word_among : {W : Type 0} → (W → List ℕ) → List W → List ℕ → Option W
+word_among text [] word = None
+word_among text (k ∷ ks) word = if bytes_eq word (text k) then Some k else word_among text ks word
 
 -- ## Tables of tests
 
@@ -94,6 +115,14 @@ frame_tests ended number bytes =
 -- the words of a line
 abbrev pub words_in : List ℕ → List (List ℕ)
 words_in bytes = parts (before_line_feed bytes)
+
+-- a word of a header, which is known already
+abbrev pub any_word : Field
+any_word word = None
+
+-- the row of the header
+abbrev pub header_row : {L : Type 0} → L → Row L
+header_row line = record { stands = true; fields = any_word ∷ any_word ∷ []; line = λ words. line }
 
 -- The first bad word of the next line, in the order of the table: after-end, long, line-feed, lines, spaces;
 -- header, word or not-built; order; count; and each word's own from the left.

@@ -47,7 +47,7 @@ pub enum BadWord {
 }
 
 impl BadWord {
-    /// The word as it is written, of at most nine characters.
+    /// The word, in no more than 9 bytes.
     pub fn text(self) -> &'static str
         ensures text { result.now ≡ bad_word_text self }
         ensures short { length result.now ≤ 9 }

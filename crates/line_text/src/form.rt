@@ -52,5 +52,6 @@ pub trait Form {
     ghost spelled: { (s : Self) (first : List ℕ) (others : List (List ℕ)) (l : Self.Line) → row_line (row_for s (first ∷ others)) others ≡ Result.Ok l → spells s (first ∷ others) l };
 
     /// What is a line by the grammar is taken, as that line.
-    ghost taken: { (s : Self) (first : List ℕ) (others : List (List ℕ)) (l : Self.Line) → is_sound s → spells s (first ∷ others) l → row_line (row_for s (first ∷ others)) others ≡ Result.Ok l };
+    ghost taken: { (s : Self) (first : List ℕ) (others : List (List ℕ)) (l : Self.Line) → is_sound s → spells s (first ∷ others) l
+        → row_line (row_for s (first ∷ others)) others ≡ Result.Ok l };
 }

@@ -4,7 +4,7 @@ ghost use Rattle.std.specs.Prelude.{◌≡◌, ◌≤◌, ◌==◌, [], ◌∷�
 ghost use Rattle.std.specs.List.{list_all};
 ghost use Rattle.line_text.specs.Answers.{AnswersBy, read_bytes, read_name, refusal};
 ghost use Rattle.line_text.specs.Fields.{bad_where, hex, hex_of, number, number_32, number_in};
-ghost use Rattle.line_text.specs.Frame.{behind, first_word};
+ghost use Rattle.line_text.specs.Frame.{behind, first_word, is_header};
 ghost use Rattle.line_text.specs.Words.{is_space, is_printable, is_word, is_spaced, parts, parts_left, words_of};
 
 use crate::bad_word::{BadWord, LineFault};
@@ -75,6 +75,28 @@ impl<'a> Words<'a> {
         } else {
             None
         }
+    }
+
+    /// Whether no word is left.
+    #[tactic(auto, using(crate::proofs::WordLemmas::some_parts))]
+    pub fn is_empty(&self) -> bool
+        ensures { result ≡ (length self.now == 0) }
+    {
+        match self.left {
+            None => true,
+            Some(_) => false,
+        }
+    }
+
+    /// Whether the words are `fireflies 1 FORM`, which head a text of this form.
+    pub fn is_header(self, form: &[u8]) -> bool
+        ensures { result ≡ is_header form.now self.entry }
+    {
+        let (first, mut args) = self.split();
+        first == b"fireflies".as_slice()
+            && args.count() == 2
+            && args.take() == b"1".as_slice()
+            && args.take() == form
     }
 
     /// The same words.

@@ -8,12 +8,12 @@ use Rattle.ff_ids.specs.Lives.{after, opening}
 use Rattle.ff_ids.specs.Steps.{Accuses, Event, Joins, Notes, Ticks, step}
 use Rattle.ff_ids.specs.Views.{State}
 use Rattle.journal.specs.declared.event.Event as reported
-use Rattle.schedule.specs.declared.bad_word.BadWord.{BadWord}
-use Rattle.schedule.specs.declared.line.Line.{Line}
-use Rattle.schedule.specs.declared.line.Line.TheVariants as lines
-use Rattle.schedule.specs.declared.line.Command.TheVariants.{Replay}
-use Rattle.schedule.specs.declared.line.Progress.{Progress}
-use Rattle.schedule.specs.Grammar as grammar
+use Rattle.line_text.specs.declared.bad_word.BadWord.{BadWord}
+use Rattle.schedule_direct.specs.declared.line.DirectLine.{DirectLine}
+use Rattle.schedule_direct.specs.declared.line.DirectLine.TheVariants as lines
+use Rattle.line_text.specs.Answers.{Progress}
+use Rattle.schedule_direct.specs.declared.direct.Direct.{Direct}
+use Rattle.schedule_direct.specs.Grammar as grammar
 use Rattle.trace.specs.Answers.{Answer, Recorded, answer, answer_in, events_of, places_at, state_of, stepped, tick_events, with_event, with_ticks}
 use Rattle.trace.specs.Lives.{AreOfLives, reported_from, reported_in}
 use Rattle.trace.specs.Walk.{Taken, Walk, events_in, from_line, left_behind, lives_in, onto, walk, walk_over}
@@ -47,7 +47,7 @@ one-event : (r : Recorded) (e : Event) → so_far (Some r) ++ events_of (stepped
 one-event r e = more-reported r (with_event r e) (events_of (stepped r e)) (reported-with_event r e)
 
 -- what a line brings is reported by the life that it leaves behind, or by the one that is recorded after it
-answered : (recorded : Option Recorded) (line : Line) → so_far recorded ++ (answer recorded line).events ≡ flat_map reported_in (left_behind recorded line) ++ so_far (answer recorded line).recorded
+answered : (recorded : Option Recorded) (line : DirectLine) → so_far recorded ++ (answer recorded line).events ≡ flat_map reported_in (left_behind recorded line) ++ so_far (answer recorded line).recorded
 answered None lines.Header = refl
 answered None (lines.Group t timeout) = refl
 answered None (lines.Member m places) = refl
@@ -69,7 +69,7 @@ answered (Some r) (lines.Monitor ring m) = append-nil (so_far (Some r))
 answered (Some r) lines.Life = refl
 answered (Some r) lines.End = append-nil (so_far (Some r))
 
-of-onto : (recorded : Option Recorded) (bytes : List ℕ) (line : Line) (w : Walk)
+of-onto : (recorded : Option Recorded) (bytes : List ℕ) (line : DirectLine) (w : Walk)
     → so_far (answer recorded line).recorded ++ events_in w ≡ flat_map reported_in (lives_in w)
     → so_far recorded ++ events_in (from_line recorded bytes (Ok line) (λ l. w)) ≡ flat_map reported_in (lives_in (from_line recorded bytes (Ok line) (λ l. w)))
 of-onto recorded bytes line w rest =
@@ -83,18 +83,18 @@ of-onto recorded bytes line w rest =
     ∙ sym (flat_map-append reported_in left (lives_in w))
     ∙ ap (λ (x : List Recorded). flat_map reported_in x) (sym (append_assoc left ended (option_to_list w.recorded)))
 
-of-judged : (recorded : Option Recorded) (bytes : List ℕ) (judged : Result Line BadWord) (rest : Line → Walk)
-    → ((l : Line) → so_far (answer recorded l).recorded ++ events_in (rest l) ≡ flat_map reported_in (lives_in (rest l)))
+of-judged : (recorded : Option Recorded) (bytes : List ℕ) (judged : Result DirectLine BadWord) (rest : DirectLine → Walk)
+    → ((l : DirectLine) → so_far (answer recorded l).recorded ++ events_in (rest l) ≡ flat_map reported_in (lives_in (rest l)))
     → so_far recorded ++ events_in (from_line recorded bytes judged rest) ≡ flat_map reported_in (lives_in (from_line recorded bytes judged rest))
 of-judged recorded bytes (Ok line) rest h = of-onto recorded bytes line (rest line) (h line)
-of-judged recorded bytes (Err word) rest h = append-nil (so_far recorded)
+of-judged recorded bytes (Err w) rest h = append-nil (so_far recorded)
 
-of-lives : (lines : List (List ℕ)) (p : Progress) (recorded : Option Recorded) → so_far recorded ++ events_in (walk lines p recorded) ≡ flat_map reported_in (lives_in (walk lines p recorded))
+of-lives : (lines : List (List ℕ)) (p : Progress Direct) (recorded : Option Recorded) → so_far recorded ++ events_in (walk lines p recorded) ≡ flat_map reported_in (lives_in (walk lines p recorded))
 of-lives [] p recorded = append-nil (so_far recorded)
 of-lives (bytes ∷ lines) p recorded =
-    of-judged recorded bytes (grammar.judge p bytes) (λ l. walk lines (grammar.after p l) (answer recorded l).recorded)
-    (λ l. of-lives lines (grammar.after p l) (answer recorded l).recorded)
+    of-judged recorded bytes (grammar.judge p bytes) (λ l. walk lines (grammar.behind p l) (answer recorded l).recorded)
+    (λ l. of-lives lines (grammar.behind p l) (answer recorded l).recorded)
 
 -- the events of a walk are those of its lives
 pub are-of-lives : (lines : List (List ℕ)) → AreOfLives (walk_over lines)
-are-of-lives lines = of-lives lines (grammar.opening Replay) None
+are-of-lives lines = of-lives lines grammar.opening None
