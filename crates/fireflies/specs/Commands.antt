@@ -2,6 +2,7 @@
 use Rattle.std.specs.Prelude.{ℕ, List, [], ◌∷◌, Option, Some, None, codes, if◌then◌else◌}
 use Rattle.std.specs.Str.{bytes_eq}
 use Rattle.text_trace.specs.Trace.{Owed}
+use Rattle.trace.specs.Walk.{replayed}
 use Rattle.line_text.specs.declared.bad_word.BadWord.{BadWord}
 use Rattle.fireflies.specs.declared.command.Command.{Command}
 use Rattle.fireflies.specs.declared.command.Command.TheVariants.{Replay, Verify}
@@ -19,5 +20,5 @@ command_of (word ∷ other ∷ words) = None
 
 -- What a run of the command owes for the lines of its text.
 abbrev pub owed_by : Command → Owed BadWord
-owed_by Replay = λ lines. record { output = []; cause = None }
-owed_by Verify = λ lines. record { output = []; cause = None }
+owed_by Replay = replayed
+owed_by Verify = replayed

@@ -4,4 +4,5 @@ pub mod Commands
 pub mod Causes
 pub mod Ends
 pub mod Traced
+pub mod Headline
 pub mod Starts

@@ -5,6 +5,7 @@ ghost use Rattle.play.specs.Plays.{Runs, standing, has_written};
 ghost use Rattle.line_text.specs.declared.bad_word.BadWord.{BadWord};
 ghost use Rattle.fireflies.specs.Commands.{command_of, owed_by};
 ghost use Rattle.fireflies.specs.Ends.{Counts, Ends, Is, room};
+ghost use Rattle.fireflies.specs.Headline.{Headline};
 ghost use Rattle.fireflies.specs.Traced.{Traced};
 
 use crate::command::Command;
@@ -55,6 +56,17 @@ fn run_command<S: Source, O: Sink>(
 {
     let ended = play_text(alloc, command, input, out);
     conclude(out, Status::from(ended))
+}
+
+/// Replays a recorded schedule.
+fn run_replay<S: Source, O: Sink>(alloc: Global, input: &mut S, out: &mut O) -> Status
+    requires source { S.is_open input.old ≡ true }
+    requires sink { O.is_open out.old ≡ true }
+    ensures { Headline
+        (standing (S.left input.old) (O.taken out.old) (S.faults input.old) (O.faults out.old))
+        (standing (S.left input.new) (O.taken out.new) (S.faults input.new) (O.faults out.new)) result }
+{
+    run_command(alloc, Command::Replay, input, out)
 }
 
 /// Runs the command that the words name, from the source to the sink. The first cause that comes in the run
