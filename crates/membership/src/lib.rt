@@ -5,7 +5,7 @@
 
 ghost use Rattle.std.specs.Prelude.{◌≡◌, ℕ, ◌<◌, ◌≤◌, ◌+◌, ◌-◌, ◌^◌, true, not, [], Option, None, Some, length, if◌then◌else◌, map, filter, slice_index_or, IfOk, OnOk, OnErr};
 ghost use Rattle.std.specs.Ordering.{nat_cmp};
-ghost use Rattle.std.specs.FinMap.{get, insert};
+ghost use Rattle.std.specs.FinMap.{get, insert, empty};
 ghost use Rattle.ff_ids.specs.Masks.{ring_count};
 ghost use Rattle.ff_ids.specs.Notes.{newest};
 ghost use Rattle.ff_ids.specs.Views.{State, is_member as member_of_state, in_view as in_view_of, monitor as monitor_of, successor as successor_of};
@@ -69,6 +69,8 @@ impl Membership {
         requires { group.t ≤ 15 }
         ensures group { IfOk result (λ m. m.group ≡ group) }
         ensures holds { IfOk result (λ m. Holds m (opening [])) }
+        ensures moment { IfOk result (λ m. m.moment ≡ 0) }
+        ensures members { IfOk result (λ m. m.places ≡ empty) }
     {
         let rings = Rings::open(alloc, &group)?;
         let timers = Timers::open(alloc, &group)?;
