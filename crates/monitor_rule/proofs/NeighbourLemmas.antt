@@ -8,7 +8,7 @@ use Rattle.std.proofs.lemmas.List.{get_or_default}
 use Rattle.ff_ids.specs.Rings.{Key, is_below, cyc, nearest_before, nearest_after}
 use Rattle.ff_ids.specs.Views.{key_at}
 use Rattle.ring_order.proofs.KeyOrder.{IsRanked, before_ranked, after_ranked}
-use Rattle.ring_order.proofs.Top.{find_top, IsTop, find_top-is, find_top-nobody}
+use Rattle.ring_order.proofs.Top.{find_top, find_top-is, find_top-nobody}
 use Rattle.monitor_rule.specs.Joined.{keys_on}
 use Rattle.monitor_rule.specs.Sorted.{RingOrder, places_at, members_from, key_in, key_of_index, IsRow, IsBetween}
 use Rattle.monitor_rule.proofs.OrderLemmas.{is_below-itself, is_below-one_way, not_true, key_here}

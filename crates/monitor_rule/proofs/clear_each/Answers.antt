@@ -1,6 +1,6 @@
-use Rattle.std.proofs.Common.{◌≡◌, ◌<◌, length, set, ap, ◌∙◌, sym, arith}
+use Rattle.std.proofs.Common.{set, ap, ◌∙◌, sym}
 use Rattle.std.proofs.lemmas.List.Edits.{map_over_more}
-use Rattle.monitor_rule.specs.Sorted.{RingOrder, emptied}
+use Rattle.monitor_rule.specs.Sorted.{emptied}
 use Rattle.monitor_rule.proofs.clear_each.Goals as goal
 
 pub loop-row-preserved : goal.loop-row-preserved

@@ -1,4 +1,4 @@
-use Rattle.std.proofs.Common.{◌<◌, Some, None, length, set, arith}
+use Rattle.std.proofs.Common.{◌<◌, Some, length, set, arith}
 use Rattle.std.proofs.lemmas.List.Elements.{AllWithin-more_set, All-set}
 use Rattle.monitor_rule.specs.Sorted.{RingOrder, IsRow}
 use Rattle.monitor_rule.proofs.KeptLemmas.{left_more, rings_more}

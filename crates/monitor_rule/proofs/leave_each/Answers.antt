@@ -1,6 +1,6 @@
-use Rattle.std.proofs.Common.{◌<◌, Some, None, length, set, arith}
-use Rattle.std.proofs.lemmas.List.Elements.{AllWithin-more_set, All-set}
-use Rattle.monitor_rule.specs.Sorted.{RingOrder, IsRow}
+use Rattle.std.proofs.Common.{◌<◌, None, length, set, arith}
+use Rattle.std.proofs.lemmas.List.Elements.{AllWithin-more_set}
+use Rattle.monitor_rule.specs.Sorted.{IsRow}
 use Rattle.monitor_rule.proofs.KeptLemmas.{left_more, rings_more}
 use Rattle.monitor_rule.proofs.leave_each.Goals as goal
 

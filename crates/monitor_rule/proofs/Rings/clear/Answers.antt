@@ -1,7 +1,5 @@
-use Rattle.std.proofs.Common.{◌≡◌, [], ◌++◌, ◌<◌, Some, None, List, length, map, take, drop, set, ap, ◌∙◌, sym, subst, arith}
-use Rattle.std.specs.List.{All}
-use Rattle.monitor_rule.specs.Sorted.{RingOrder, emptied, IsRow}
-use Rattle.monitor_rule.proofs.SlotLemmas.{Slots}
+use Rattle.std.proofs.Common.{◌≡◌, [], ◌++◌, length, map, take, drop, ap, ◌∙◌}
+use Rattle.monitor_rule.specs.Sorted.{emptied}
 use Rattle.monitor_rule.proofs.KeptLemmas.{Rekept, Rekept-cleared, written}
 use Rattle.monitor_rule.proofs.Rings.clear.Goals as goal
 

@@ -1,8 +1,7 @@
-use Rattle.std.proofs.Common.{◌≡◌, ◌++◌, ◌<◌, Some, None, List, length, map, take, drop, set, ap, ◌∙◌, sym, subst, arith}
+use Rattle.std.proofs.Common.{◌≡◌, ◌++◌, ◌<◌, Some, List, length, map, take, drop, set, ap, ◌∙◌, sym, subst, arith}
 use Rattle.std.specs.List.{All}
-use Rattle.monitor_rule.specs.Sorted.{RingOrder, emptied, IsRow}
+use Rattle.monitor_rule.specs.Sorted.{RingOrder, IsRow}
 use Rattle.monitor_rule.proofs.SlotLemmas.{Slots}
-use Rattle.std.specs.Prelude.{is_some}
 use Rattle.monitor_rule.specs.Joined.{Joined, with_member}
 use Rattle.monitor_rule.specs.Sorted.{places_at}
 use Rattle.monitor_rule.proofs.KeptLemmas.{Rekept, written, free_slot, All-rings_below, Rekept-joined}

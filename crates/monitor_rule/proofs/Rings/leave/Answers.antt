@@ -1,6 +1,6 @@
-use Rattle.std.proofs.Common.{◌≡◌, ◌++◌, ◌<◌, Some, None, List, length, map, take, drop, set, ap, ◌∙◌, sym, subst, arith}
+use Rattle.std.proofs.Common.{◌≡◌, ◌++◌, None, length, map, take, drop, set, ap, ◌∙◌, subst, arith}
 use Rattle.std.specs.List.{All}
-use Rattle.monitor_rule.specs.Sorted.{RingOrder, emptied, IsRow}
+use Rattle.monitor_rule.specs.Sorted.{RingOrder, IsRow}
 use Rattle.monitor_rule.proofs.SlotLemmas.{Slots}
 use Rattle.std.specs.Prelude.{is_some}
 use Rattle.monitor_rule.specs.Joined.{without_member}

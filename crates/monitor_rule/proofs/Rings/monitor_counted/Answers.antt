@@ -1,10 +1,9 @@
-use Rattle.std.proofs.Common.{◌≡◌, ◌<◌, ℕ, List, length, ap, ◌∙◌, sym, arith}
+use Rattle.std.proofs.Common.{◌≡◌, ℕ, List, length, ap, ◌∙◌, arith}
 use Rattle.ff_ids.specs.Rings.{nearest_before}
 use Rattle.ff_ids.specs.Views.{Member, key_at}
 use Rattle.monitor_rule.specs.Joined.{Joined, keys_on}
 use Rattle.monitor_rule.specs.Sorted.{members_from}
 use Rattle.monitor_rule.proofs.KeptLemmas.{ring_at}
-use Rattle.monitor_rule.proofs.SlotLemmas.{Slots}
 use Rattle.monitor_rule.proofs.Rings.monitor_counted.Goals as goal
 
 pub before-requires-clause-placed : goal.before-requires-clause-placed

@@ -1,9 +1,7 @@
-use Rattle.std.proofs.Common.{◌≡◌, ℕ, ◌+◌, ◌*◌, ◌≤◌, length, ap, ◌∙◌, sym, arith}
+use Rattle.std.proofs.Common.{◌≡◌, ℕ, length, ap, ◌∙◌, sym, arith}
 use Rattle.std.specs.List.{range_with_len}
 use Rattle.ff_ids.specs.Masks.{ring_count}
-use Rattle.ff_ids.specs.Views.{Member}
-use Rattle.monitor_rule.specs.Joined.{Joined}
-use Rattle.monitor_rule.specs.Sorted.{RingOrder, members_from}
+use Rattle.monitor_rule.specs.Sorted.{members_from}
 use Rattle.monitor_rule.proofs.KeptLemmas.{IsKept-nobody, rings_pushed, empty_pushed}
 use Rattle.monitor_rule.proofs.SlotLemmas.{members_from-none}
 use Rattle.monitor_rule.proofs.Rings.open.Goals as goal

@@ -1,4 +1,4 @@
-use Rattle.std.proofs.Common.{◌≡◌, ◌*◌, ◌+◌, ◌≤◌, [], length, map}
+use Rattle.std.proofs.Common.{◌≡◌, [], length, map}
 use Rattle.std.specs.List.{All, range_with_len}
 use Rattle.monitor_rule.proofs.Rings.open.Given as goal
 

@@ -1,8 +1,7 @@
-use Rattle.std.proofs.Common.{◌≡◌, ℕ, ◌+◌, ◌≤◌, Bool, true, false, cond, eqb, ◌||◌, List, [], ◌∷◌, length, map, refl, sym, ap, ◌∙◌, arith}
+use Rattle.std.proofs.Common.{◌≡◌, ℕ, ◌+◌, Bool, true, false, cond, eqb, List, [], ◌∷◌, length, refl, ap, ◌∙◌, arith}
 use Rattle.std.specs.Prelude.{nat_le}
 use Rattle.std.proofs.lemmas.Bool.{ne_eqb, or_from, or_parts}
 use Rattle.ff_ids.specs.Views.{Member}
-use Rattle.ring_order.specs.Rows.{place_of_number}
 use Rattle.monitor_rule.specs.Joined.{Joined, is_joined, with_member}
 use Rattle.monitor_rule.proofs.SlotLemmas.{length-with_member}
 use Rattle.monitor_rule.proofs.tests.join_511.Goals as goal

@@ -1,7 +1,5 @@
-use Rattle.std.proofs.Common.{◌≡◌, ◌+◌, ◌-◌, ◌/◌, ◌<◌, ◌≤◌, true, false, length, arith}
-use Rattle.ff_ids.specs.Rings.{is_below}
+use Rattle.std.proofs.Common.{◌+◌, ◌-◌, ◌/◌, ◌<◌, ◌≤◌, true, false, length, arith}
 use Rattle.ff_ids.specs.Views.{key_at}
-use Rattle.monitor_rule.specs.Sorted.{key_of_index}
 use Rattle.monitor_rule.proofs.OrderLemmas.{IsBetween-above, IsBetween-below, narrowed_key}
 use Rattle.monitor_rule.proofs.row.Row.narrow.Goals as goal
 
