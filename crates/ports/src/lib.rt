@@ -6,19 +6,21 @@
 //! behind a fault; a disk and a link go on after a failure.
 #![tactic(auto)]
 
-ghost use Rattle.std.specs.Prelude.{◌≡◌, ℕ, ◌≤◌, Bool, true, Option, List, length, IfOk, OnErr};
+ghost use Rattle.std.specs.Prelude.{◌≡◌, ℕ, ◌≤◌, Bool, true, Option, List, length};
 ghost use Rattle.std.specs.Result.{is_err, is_ok};
-ghost use Rattle.ports.specs.Count.{Rose, counted};
+ghost use Rattle.ports.specs.Count.{counted};
 ghost use Rattle.ports.specs.Contents.{Wrote};
 ghost use Rattle.ports.specs.Reading.{has_got, read_failed, GotAtMost, GotSome, Reads, EndsUsedUp};
 ghost use Rattle.ports.specs.Writing.{has_taken, write_failed, TookAtMost, TookSome, Gives};
-ghost use Rattle.ports.specs.Device.{OnOpenFailed, open_failed, receive_failed, ReceivedAtMost, send_failed};
+ghost use Rattle.ports.specs.Device.{open_failed, receive_failed, ReceivedAtMost, send_failed};
 
 mod disk;
 mod memory;
+mod memory_disk;
 
 pub use disk::Disk;
 pub use memory::{MemorySink, MemorySource};
+pub use memory_disk::MemoryDisk;
 
 /// The answer of a read.
 #[derive(Clone, Copy, Debug, PartialEq, Eq)]
