@@ -12,7 +12,7 @@ use Rattle.text_trace.specs.Trace.{Owed, Trace, Writes, Refuses, before}
 use Rattle.text_trace.proofs.WholeLemmas.{whole-one, whole-join, rest-next, cut-next, fed-next}
 use Rattle.fireflies.specs.Causes.{cause_line}
 use Rattle.fireflies.specs.Ends.{Cut, Ends, Is, Stands, Tells, Told, room}
-use Rattle.fireflies.specs.Traced.{EndsSilently, IsOwed, Traced}
+use Rattle.fireflies.specs.Traced.{EndsSilently, IsCause, IsEarly, IsOwed, SpeaksAtEnd, Traced}
 use Rattle.fireflies.specs.declared.status.Status.{Status}
 use Rattle.fireflies.specs.declared.status.Status.TheVariants as status
 
@@ -25,6 +25,8 @@ record Fronted (owed : Owed BadWord) (was now : Standing) (first : Status) : Typ
   wrote : Appends was.taken now.taken text
   front : (owed (seen bytes)).output ≡ text ++ rest
   whole : IsOwed owed rest first
+  cause : IsCause (owed (seen bytes)).cause first
+  early : IsEarly owed text first
 
 -- whole lines, as they are seen
 seen-whole : (lines : List (List ℕ)) (bytes : List ℕ) → AreWhole lines bytes → seen bytes ≡ lines
@@ -40,14 +42,14 @@ last-next line left is =
           | inr rest ↦ rest-next line rest.clear ? rest.short ] ]
 
 refused : (owed : Owed BadWord) (lines : List (List ℕ)) (bytes text : List ℕ) (refusal : BadWord) (last : Option (List ℕ)) (left : Option (List ℕ))
-    → AreWhole lines bytes → IsLast last left → Refuses BadWord (Is owed) lines last text refusal → (owed (seen (bytes ++ bytes_of last))).output ≡ text ++ []
+    → AreWhole lines bytes → IsLast last left → Refuses BadWord (Is owed) lines last text refusal → owed (seen (bytes ++ bytes_of last)) ≡ record { output = text; cause = Some refusal }
 refused owed lines bytes text refusal None left whole is refuses =
     let same : seen (bytes ++ []) ≡ lines = whole.first [] ∙ append-nil lines in
-    rw same (ap (λ (t : Trace BadWord). t.output) (refuses owed refl) ∙ sym (append-nil text))
+    rw same (refuses owed refl)
 refused owed lines bytes text refusal (Some line) left whole is refuses =
     let next = last-next line left is in
     let same : seen (bytes ++ line) ≡ lines ++ line ∷ next.others = whole.first line ∙ ap (λ (others : List (List ℕ)). lines ++ others) next.same in
-    rw same (ap (λ (t : Trace BadWord). t.output) (refuses owed refl next.others) ∙ sym (append-nil text))
+    rw same (refuses owed refl next.others)
 
 -- a front of what is owed, of which more is owed
 record OwedBehind (owed : Owed BadWord) (bytes text : List ℕ) : Type 0 where
@@ -96,6 +98,18 @@ silent owed lines (b ∷ part) text writes clear short quiet =
     let next = rest-next (b ∷ part) clear (omega arith) short in
     ap (λ (l : List (List ℕ)). (goes.later l).output) next.same ∙ goes.owes (b ∷ part) next.others clear
 
+no-front : (front rest : List ℕ) → front ++ rest ≡ [] → front ≡ []
+no-front [] rest none = refl
+no-front (b ∷ front) rest none = cc
+
+-- where nothing is written before the end of a text, no whole lines have a trace
+nothing-early : (owed : Owed BadWord) (lines : List (List ℕ)) (text : List ℕ) → Writes BadWord (Is owed) lines text → SpeaksAtEnd owed → text ≡ []
+nothing-early owed lines text writes late =
+    let goes = writes owed refl in
+    let one : List (List ℕ) = (97 ∷ []) ∷ [] in
+    let long : (owed (lines ++ one)).output ≡ text ++ (goes.later one).output = ap (λ (t : Trace BadWord). t.output) (goes.same one) in
+    no-front text (goes.later one).output (sym long ∙ late lines (97 ∷ []) refl)
+
 fronted : (owed : Owed BadWord) (was now : Standing) (first : Status) → Stands owed was now first → Fronted owed was now first
 fronted owed was now status.Ok stood = record {
   bytes = stood.bytes;
@@ -105,17 +119,23 @@ fronted owed was now status.Ok stood = record {
   wrote = stood.wrote;
   front = rw (seen-whole stood.lines stood.bytes stood.taken.whole) (ap (λ (t : Trace BadWord). t.output) (stood.ends owed refl) ∙ sym (append-nil stood.text));
   whole = refl;
+  cause = rw (seen-whole stood.lines stood.bytes stood.taken.whole) (ap (λ (t : Trace BadWord). t.cause) (stood.ends owed refl));
+  early = tt;
 }
 fronted owed was now status.Usage stood = absurd stood
-fronted owed was now (status.BadInput line refusal) stood = record {
-  bytes = stood.bytes ++ bytes_of stood.last;
-  text = stood.text;
-  rest = [];
-  read = stood.read;
-  wrote = stood.wrote;
-  front = refused owed stood.lines stood.bytes stood.text refusal stood.last now.left stood.taken.whole stood.stands stood.refuses;
-  whole = refl;
-}
+fronted owed was now (status.BadInput line refusal) stood =
+    let trace = refused owed stood.lines stood.bytes stood.text refusal stood.last now.left stood.taken.whole stood.stands stood.refuses in
+    record {
+      bytes = stood.bytes ++ bytes_of stood.last;
+      text = stood.text;
+      rest = [];
+      read = stood.read;
+      wrote = stood.wrote;
+      front = ap (λ (t : Trace BadWord). t.output) trace ∙ sym (append-nil stood.text);
+      whole = refl;
+      cause = ap (λ (t : Trace BadWord). t.cause) trace;
+      early = tt;
+    }
 fronted owed was now status.ReadFault stood =
     let more = behind owed stood.lines stood.bytes stood.part stood.text stood.taken.whole stood.writes in
     record {
@@ -126,17 +146,45 @@ fronted owed was now status.ReadFault stood =
       wrote = stood.wrote;
       front = more.same;
       whole = λ quiet. silent owed stood.lines stood.part stood.text stood.writes stood.clear stood.short quiet;
+      cause = tt;
+      early = λ late. nothing-early owed stood.lines stood.text stood.writes late;
     }
 fronted owed was now status.WriteFault stood =
     let more = shorter owed _ stood.text stood.more stood.count (follows owed stood.lines stood.bytes (stood.text ++ stood.more) stood.last stood.taken.whole stood.follows) in
-    record { bytes = stood.bytes ++ bytes_of stood.last; text = stood.text ++ take stood.count stood.more; rest = more.rest; read = stood.read; wrote = stood.wrote; front = more.same; whole = tt }
+    record {
+      bytes = stood.bytes ++ bytes_of stood.last;
+      text = stood.text ++ take stood.count stood.more;
+      rest = more.rest;
+      read = stood.read;
+      wrote = stood.wrote;
+      front = more.same;
+      whole = tt;
+      cause = tt;
+      early = tt;
+    }
 fronted owed was now status.OutOfMemory stood =
     let more = behind owed stood.lines stood.bytes stood.part stood.text stood.taken.whole stood.writes in
-    record { bytes = stood.bytes ++ stood.part; text = stood.text; rest = more.rest; read = stood.read; wrote = stood.wrote; front = more.same; whole = tt }
+    record {
+      bytes = stood.bytes ++ stood.part;
+      text = stood.text;
+      rest = more.rest;
+      read = stood.read;
+      wrote = stood.wrote;
+      front = more.same;
+      whole = tt;
+      cause = tt;
+      early = λ late. nothing-early owed stood.lines stood.text stood.writes late;
+    }
+
+-- What is known of the trace at the first cause is known at the answer.
+record Kept (owed : Owed BadWord) (rest text : List ℕ) (refusal : Option BadWord) (s : Status) : Type 0 where
+  whole : IsOwed owed rest s
+  cause : IsCause refusal s
+  early : IsEarly owed text s
 
 -- what stands behind the line of the cause
-ended : (owed : Owed BadWord) (was between now : Standing) (first s : Status) (line : List ℕ) → now.left ≡ between.left → Appends between.taken now.taken line → ((rest : List ℕ) → IsOwed owed rest first → IsOwed owed rest s) → Fronted owed was between first → Traced owed was now s
-ended owed was between now first s line left wrote kept f = record {
+ended : (owed : Owed BadWord) (was between now : Standing) (first s : Status) (line : List ℕ) → now.left ≡ between.left → Appends between.taken now.taken line → (f : Fronted owed was between first) → Kept owed f.rest f.text (owed (seen f.bytes)).cause s → Traced owed was now s
+ended owed was between now first s line left wrote f kept = record {
   bytes = f.bytes;
   text = f.text;
   rest = f.rest;
@@ -144,12 +192,17 @@ ended owed was between now first s line left wrote kept f = record {
   read = subst (λ (o : Option (List ℕ)). Consumes was.left o f.bytes) (sym left) f.read;
   wrote = Appends-trans was.taken between.taken now.taken f.text line f.wrote wrote;
   front = f.front;
-  whole = kept f.rest f.whole;
+  whole = kept.whole;
+  cause = kept.cause;
+  early = kept.early;
 }
 
 pub traced : (owed : Owed BadWord) (was now : Standing) (s : Status) → Ends owed was now s → Traced owed was now s
 traced owed was now s ends =
     let f = fronted owed was ends.between ends.first ends.stands in
+    let known : Kept owed f.rest f.text (owed (seen f.bytes)).cause ends.first = record { whole = f.whole; cause = f.cause; early = f.early } in
+    let none : Kept owed f.rest f.text (owed (seen f.bytes)).cause status.WriteFault = record { whole = tt; cause = tt; early = tt } in
+    let P : Status → Type 0 = Kept owed f.rest f.text (owed (seen f.bytes)).cause in
     elim ends.tells [
-        inl t ↦ ended owed was ends.between now ends.first s (cause_line ends.first) t.1.left t.1.line (λ rest h. subst (IsOwed owed rest) (sym t.0) h) f
-      | inr t ↦ ended owed was ends.between now ends.first s (take t.1.front.count (cause_line ends.first)) t.1.left t.1.front.gained (λ rest h. subst (IsOwed owed rest) (sym t.0) tt) f ]
+        inl t ↦ ended owed was ends.between now ends.first s (cause_line ends.first) t.1.left t.1.line f (subst P (sym t.0) known)
+      | inr t ↦ ended owed was ends.between now ends.first s (take t.1.front.count (cause_line ends.first)) t.1.left t.1.front.gained f (subst P (sym t.0) none) ]
