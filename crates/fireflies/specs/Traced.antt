@@ -1,11 +1,12 @@
 -- What was written, beside the trace of what was taken.
-use Rattle.std.specs.Prelude.{◌≡◌, ◌<◌, ℕ, true, List, [], ◌∷◌, ◌++◌, length, Option, Some, None}
+use Rattle.std.specs.Prelude.{◌≡◌, ◌<◌, ◌≤◌, ◌+◌, ◌⊎◌, ℕ, true, List, [], ◌∷◌, ◌++◌, length, Option, Some, None}
 use Rattle.std.specs.Io.KnownBytes.{Appends, Consumes}
 use Rattle.line_text.specs.declared.bad_word.BadWord.{BadWord}
 use Rattle.play.specs.Plays.{Standing}
 use Rattle.text_trace.specs.Lines.{has_no_feed, seen}
 use Rattle.text_trace.specs.Trace.{Owed}
-use Rattle.fireflies.specs.Causes.{cause_line}
+use Rattle.ports.specs.Contents.{IsUsedUp}
+use Rattle.fireflies.specs.Ends.{room}
 use Rattle.fireflies.specs.declared.status.Status.{Status}
 use Rattle.fireflies.specs.declared.status.Status.TheVariants as status
 
@@ -37,6 +38,12 @@ IsEarly owed text status.ReadFault = SpeaksAtEnd owed → text ≡ []
 IsEarly owed text status.OutOfMemory = SpeaksAtEnd owed → text ≡ []
 IsEarly owed text _ = Unit {0}
 
+-- The number of the line that is refused: that of the last line that was taken; or one more, at the end of the text.
+abbrev pub IsNumber : List ℕ → Option (List ℕ) → Status → Type 0
+IsNumber bytes left (status.BadInput line refused) = (line ≡ length (seen bytes)) ⊎ ((line ≡ length (seen bytes) + 1) × IsUsedUp left)
+IsNumber bytes left status.Ok = IsUsedUp left
+IsNumber bytes left _ = Unit {0}
+
 -- These bytes were taken from the source. Written was a front of their trace, and behind it the line of the cause, or a
 -- front of it where a write failed.
 pub record Traced (owed : Owed BadWord) (was now : Standing) (s : Status) : Type 0 where
@@ -45,6 +52,8 @@ pub record Traced (owed : Owed BadWord) (was now : Standing) (s : Status) : Type
   pub rest : List ℕ
   pub line : List ℕ
   pub read : Consumes was.left now.left bytes
+  pub few : length (seen bytes) ≤ room + 1
+  pub number : IsNumber bytes now.left s
   pub wrote : Appends was.taken now.taken (text ++ line)
   pub front : (owed (seen bytes)).output ≡ text ++ rest
   pub whole : IsOwed owed rest s
