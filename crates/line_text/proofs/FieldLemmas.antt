@@ -1,5 +1,5 @@
 -- Fields: what passes a test is spelled in one way and in range, and what is spelled so passes.
-use Rattle.std.proofs.Common.{◌≡◌, ℕ, zero, suc, ◌+◌, ◌-◌, ◌*◌, ◌^◌, ◌<◌, ◌≤◌, Bool, true, false, not, cond, ltb, leb, eqb, List, [], ◌∷◌, length, get_or, map, replicate, Option, Some, None, Result, Ok, Err, ◌⊎◌, inl, inr, refl, sym, ap, subst, ◌∙◌, arith, rules, lt-ltb, eq-eqb, ltb-true}
+use Rattle.std.proofs.Common.{◌≡◌, ℕ, zero, suc, ◌-◌, ◌^◌, ◌<◌, ◌≤◌, Bool, true, false, cond, ltb, leb, eqb, List, [], ◌∷◌, length, get_or, map, replicate, Option, Some, None, Result, Ok, inl, inr, refl, sym, ap, subst, ◌∙◌, arith, rules, lt-ltb, eq-eqb, ltb-true}
 use Rattle.std.specs.Char.{is_ascii_digit}
 use Rattle.std.specs.Fmt.{decimal}
 use Rattle.std.specs.List.{list_all, AllByRecursion}
@@ -8,8 +8,8 @@ use Rattle.std.proofs.lemmas.Fmt.{decimal-digits_value, digits_decimal, digits_v
 use Rattle.std.proofs.lemmas.Str.Parse.{IsNumeralModel, numerals_by_fold}
 use Rattle.line_text.specs.declared.bad_word.BadWord.{BadWord}
 use Rattle.line_text.specs.declared.bad_word.BadWord.TheVariants as bad
-use Rattle.line_text.specs.Fields.{Field, bad_number, bad_where, is_within, number, number_32, number_in, or_zero}
-use Rattle.line_text.specs.Frame.{behind, field_tests, fields_line, first_of, first_word, second_word, third_word, fourth_word, unless_bad, word_tests}
+use Rattle.line_text.specs.Fields.{Field, bad_number, is_within, number, number_32, number_in, or_zero}
+use Rattle.line_text.specs.Frame.{field_tests, fields_line, first_of, first_word, second_word, third_word, fourth_word, word_tests}
 use Rattle.line_text.specs.Numbers.{read_digits, has_leading_zero, is_numeral, fits_64, number_of}
 use Rattle.line_text.proofs.FrameLemmas.{or_none, passed, unless_ok}
 

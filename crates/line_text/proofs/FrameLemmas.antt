@@ -1,5 +1,5 @@
 -- What is taken as a line is one by the grammar, and what is one is taken; a line is refused by the first bad word.
-use Rattle.std.proofs.Common.{◌≡◌, ℕ, suc, ◌+◌, ◌-◌, ◌<◌, ◌≤◌, Bool, true, false, ◌&&◌, not, cond, nat_le, ltb, leb, eqb, List, [], ◌∷◌, ◌++◌, length, take, drop, get_or, Option, Some, None, Result, Ok, Err, ◌⊎◌, inl, inr, IsTrue, refl, sym, ap, subst, ◌∙◌, arith, rules, lt-ltb, le-ltb, ltb-true, eq-eqb, drop-cons}
+use Rattle.std.proofs.Common.{◌≡◌, ℕ, suc, ◌-◌, ◌<◌, ◌≤◌, Bool, true, false, not, cond, eqb, List, [], ◌∷◌, ◌++◌, length, take, drop, Option, Some, None, Result, Ok, Err, ◌⊎◌, inl, inr, refl, sym, ap, subst, ◌∙◌, arith, lt-ltb, le-ltb, ltb-true, drop-cons}
 use Rattle.std.specs.Prelude.{IsOkAnd}
 use Rattle.std.specs.Str.{bytes_eq}
 use Rattle.std.specs.List.{join_with_byte, list_all, All, AllByRecursion}
@@ -13,8 +13,8 @@ use Rattle.line_text.specs.declared.bad_word.BadWord.TheVariants as bad
 use Rattle.line_text.specs.declared.bad_word.LineFault.{LineFault}
 use Rattle.line_text.specs.declared.bad_word.LineFault.TheVariants as faults
 use Rattle.line_text.specs.Answers.{AnswersBy, AnswersThat, Refuses}
-use Rattle.line_text.specs.Fields.{Field, bad_where}
-use Rattle.line_text.specs.Frame.{IsLine, Next, Row, before_line_feed, behind, field_tests, fields_line, first_bad, first_of, frame_tests, has_line_feed, header_row, is_header, judge, or_else, row_line, row_tests, unless_bad, word_among, words_in}
+use Rattle.line_text.specs.Fields.{bad_where}
+use Rattle.line_text.specs.Frame.{IsLine, Next, Row, before_line_feed, behind, field_tests, first_bad, first_of, frame_tests, has_line_feed, header_row, is_header, judge, or_else, row_line, row_tests, unless_bad, word_among, words_in}
 use Rattle.line_text.specs.Words.{is_space, is_printable, is_word, is_spaced, parts}
 
 -- ## Tests that did not hold
@@ -85,6 +85,9 @@ worded : (ws : List (List ℕ)) → 0 < length ws → Worded ws
 worded [] full = absurd (omega arith)
 worded (w ∷ ws) full = record { first = w; others = ws; same = refl }
 
+has_parts : (text : List ℕ) → 0 < length (parts text)
+has_parts text = omega (arith, length-slice_split is_space text)
+
 -- What is judged to be a line is one by the grammar, where a form's rows spell its lines.
 pub judge-spelled : {L : Type 0} (next : Next L) (Spells : List (List ℕ) → L → Type 0) → ((first : List ℕ) (others : List (List ℕ)) (l : L) → row_line (next.row (first ∷ others)) others ≡ Ok l → Spells (first ∷ others) l)
     → (bytes : List ℕ) (l : L) → judge next bytes ≡ Ok l → IsLine next.ended next.number Spells bytes l
@@ -100,7 +103,7 @@ judge-spelled {L} next Spells spelled bytes l e =
     let spaced : is_spaced text ≡ true = not-false _ (passed _ _ f.0) in
     let short : length text ≤ 65600 = ltb-false 65600 (length text) (passed _ _ b.0) in
     let feed : has_line_feed bytes ≡ true = not-false _ (passed _ _ c.0) in
-    let w = worded (parts text) (omega (arith, length-slice_split is_space text)) in
+    let w = worded (parts text) (has_parts text) in
     let joined : join_with_byte 32 (w.first ∷ w.others) ≡ text = ap (join_with_byte 32) (sym w.same) ∙ join_with_byte-slice_split 32 text in
     let P : List (List ℕ) → Type 0 = λ ws. row_line (next.row ws) (behind ws) ≡ Ok l in
     let Q : List (List ℕ) → Type 0 = λ ws. list_all is_word ws ≡ true in

@@ -1,3 +1,4 @@
+mod Rows
 pub mod NumberLemmas
 pub mod WordLemmas
 pub mod HexWords

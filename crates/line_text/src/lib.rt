@@ -16,3 +16,6 @@ pub use bad_word::{BadWord, LineFault};
 pub use form::Form;
 pub use reader::Reader;
 pub use words::Words;
+
+#[cfg(test)]
+mod tests;

@@ -5,7 +5,7 @@ use Rattle.ports.specs.declared.Opened.{Opened}
 use Rattle.ports.specs.declared.Opened.TheVariants.{Done, Failed, OutOfMemory}
 
 -- one moment: the bytes that a read gives, those that it gave at the last sync, the ranges written since
--- then (each a place and a count, the last one first), and the greatest length that those writes gave
+-- then (each a place and a count), and the greatest length that those writes gave
 pub record Moment : Type 0 where
   pub image : List ℕ
   pub stable : List ℕ
@@ -14,7 +14,7 @@ pub record Moment : Type 0 where
 
 -- the byte at this place lies in one of the ranges
 abbrev pub is_torn : List (ℕ × ℕ) → ℕ → Bool
-is_torn ranges i = list_any (λ range. nat_le range.0 i && nat_lt i (range.0 + range.1)) ranges
+is_torn ranges i = list_any (λ range. nat_le range.0 i && nat_lt (i - range.0) range.1) ranges
 
 -- what a crash at this moment may leave: a length between that at the last sync and the greatest since,
 -- any bytes in the ranges and past the old end, and elsewhere the old ones
@@ -41,7 +41,7 @@ settled bytes = record { image = bytes; stable = bytes; torn = []; most = length
 -- a write of so many bytes at a place that may or may not have come about
 abbrev pub torn_at : ℕ → ℕ → Moment → Moment
 torn_at place count moment = record moment {
-  torn = (place, count) ∷ moment.torn;
+  torn = moment.torn ++ (place, count) ∷ [];
   most = max moment.most (end_of place count);
 }
 
@@ -49,7 +49,7 @@ torn_at place count moment = record moment {
 abbrev pub wrote : ℕ → List ℕ → Moment → Moment
 wrote place bytes moment = record moment {
   image = written place bytes moment.image;
-  torn = (place, length bytes) ∷ moment.torn;
+  torn = moment.torn ++ (place, length bytes) ∷ [];
   most = max moment.most (end_of place (length bytes));
 }
 

@@ -5,3 +5,5 @@ pub mod Writing
 pub mod Device
 pub mod Memory
 pub mod Disk
+pub mod MemoryDisk
+pub mod DiskLaws

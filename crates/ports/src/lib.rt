@@ -16,9 +16,11 @@ ghost use Rattle.ports.specs.Device.{open_failed, receive_failed, ReceivedAtMost
 
 mod disk;
 mod memory;
+mod memory_disk;
 
 pub use disk::Disk;
 pub use memory::{MemorySink, MemorySource};
+pub use memory_disk::MemoryDisk;
 
 /// The answer of a read.
 #[derive(Clone, Copy, Debug, PartialEq, Eq)]

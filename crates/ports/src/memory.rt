@@ -13,14 +13,14 @@ use std::marker::Model;
 /// Which calls are to fail, how many came, and how many failed. The counts stand still at the end of
 /// their type.
 #[derive(Drop)]
-struct Calls {
+pub(crate) struct Calls {
     fail: Vec<u64>,
     made: u64,
     failed: u64,
 }
 
 impl Calls {
-    fn new(fail: Vec<u64>) -> Calls
+    pub(crate) fn new(fail: Vec<u64>) -> Calls
         ensures { result ≡ record {
           fail = fail;
           made = 0;
@@ -34,11 +34,30 @@ impl Calls {
         }
     }
 
+    /// Counts a call, and says whether it is one of those that are to fail.
+    pub(crate) fn next(&mut self) -> bool
+        ensures answer { result ≡ is_failing self.old.fail.items self.old.made }
+        ensures after { self.new ≡ record self.old { made = next_count self.old.made } }
+    {
+        let number = self.made;
+        self.made = number.saturating_add(1);
+        self.fail.as_slice().contains(&number)
+    }
+
+    /// Counts a failure, where there is one.
+    pub(crate) fn count(&mut self, failed: bool)
+        ensures { self.new ≡ record self.old { failed = counted failed self.old.failed } }
+    {
+        if failed {
+            self.failed = self.failed.saturating_add(1);
+        }
+    }
+
     /// Counts a failure.
     fn count_failure(&mut self)
         ensures { self.new ≡ record self.old { failed = next_count self.old.failed } }
     {
-        self.failed = self.failed.saturating_add(1);
+        self.count(true);
     }
 
     /// Counts a call, and its failure if it is one of those that are to fail.
@@ -49,13 +68,9 @@ impl Calls {
           failed = counted result self.old.failed;
         } }
     {
-        let number = self.made;
-        self.made = number.saturating_add(1);
-        if self.fail.as_slice().contains(&number) {
-            self.count_failure();
-            return true;
-        }
-        false
+        let fails = self.next();
+        self.count(fails);
+        fails
     }
 }
 

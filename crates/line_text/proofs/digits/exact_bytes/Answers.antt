@@ -1,5 +1,4 @@
-use Rattle.std.proofs.Common.{◌≡◌, Err, sym}
-use Rattle.hex.specs.Hex.{decode_sized}
+use Rattle.std.proofs.Common.{sym}
 use Rattle.line_text.proofs.HexWords.{other-many}
 use Rattle.line_text.proofs.digits.exact_bytes.Goals as goal
 

@@ -1,4 +1,4 @@
-use Rattle.std.proofs.Common.{◌≡◌, rules, subst, sym, ap, ◌∙◌}
+use Rattle.std.proofs.Common.{rules, subst, ap, ◌∙◌}
 use Rattle.line_text.specs.Answers.{AnswersBy, next_line, Progress}
 use Rattle.line_text.specs.Frame.{behind, row_line}
 use Rattle.line_text.proofs.FrameLemmas.{frame-bad, frame-good}

@@ -1,6 +1,6 @@
-use Rattle.std.proofs.Common.{◌≡◌, ◌∷◌, ℕ, List, Some, None, Ok, Err, refl, sym, ap, subst, ◌∙◌, rules}
-use Rattle.line_text.specs.Answers.{next_line, AnswersThat, Progress}
-use Rattle.line_text.specs.Frame.{IsLine, judge}
+use Rattle.std.proofs.Common.{◌∷◌, Ok, sym, subst, rules}
+use Rattle.line_text.specs.Answers.{next_line, Progress}
+use Rattle.line_text.specs.Frame.{judge}
 use Rattle.line_text.proofs.FrameLemmas.{answer-refuses, answer-that, judge-spelled, judge-taken}
 use Rattle.line_text.proofs.reader.Reader.line.Goals as goal
 
