@@ -134,7 +134,7 @@ silent owed lines [] text writes clear short quiet =
     let waits : (goes.later one).output ≡ [] = goes.owes (97 ∷ []) [] refl in
     let short : (owed lines).output ≡ text ++ (goes.later []).output = ap (λ (l : List (List ℕ)). out (owed l)) (sym (append-nil lines)) ∙ ap out (goes.same []) in
     let long : (owed (lines ++ one)).output ≡ text ++ (goes.later one).output = ap out (goes.same one) in
-    append_cancel_left text _ _ (sym short ∙ sym (quiet lines (97 ∷ []) refl (lit< tt)) ∙ long) ∙ waits
+    append_cancel_left text _ _ (sym short ∙ sym (quiet lines (97 ∷ []) refl) ∙ long) ∙ waits
 silent owed lines (b ∷ part) text writes clear short quiet =
     let goes = writes owed refl in
     let next = rest-next (b ∷ part) clear (omega arith) short in

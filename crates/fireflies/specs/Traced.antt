@@ -1,5 +1,5 @@
 -- What was written, beside the trace of what was taken.
-use Rattle.std.specs.Prelude.{◌≡◌, ◌<◌, ◌≤◌, ◌+◌, ◌⊎◌, ℕ, true, List, [], ◌∷◌, ◌++◌, length, Option, Some, None}
+use Rattle.std.specs.Prelude.{◌≡◌, ◌≤◌, ◌+◌, ◌⊎◌, ℕ, true, List, [], ◌∷◌, ◌++◌, length, Option, Some, None}
 use Rattle.std.specs.Io.KnownBytes.{Appends, Consumes}
 use Rattle.line_text.specs.declared.bad_word.BadWord.{BadWord}
 use Rattle.play.specs.Plays.{Standing}
@@ -12,7 +12,7 @@ use Rattle.fireflies.specs.declared.status.Status.TheVariants as status
 
 -- A last line without its line feed adds nothing to the trace; so nothing is written at the end of a text alone.
 abbrev pub EndsSilently : Owed BadWord → Type 0
-EndsSilently owed = (lines : List (List ℕ)) (line : List ℕ) → has_no_feed line ≡ true → 0 < length line → (owed (lines ++ line ∷ [])).output ≡ (owed lines).output
+EndsSilently owed = (lines : List (List ℕ)) (line : List ℕ) → has_no_feed line ≡ true → (owed (lines ++ line ∷ [])).output ≡ (owed lines).output
 
 -- A text whose last line has no line feed has an empty trace; so nothing is written before the end of a text.
 abbrev pub SpeaksAtEnd : Owed BadWord → Type 0
