@@ -124,6 +124,11 @@ any_word word = None
 abbrev pub header_row : {L : Type 0} → L → Row L
 header_row line = record { stands = true; fields = any_word ∷ any_word ∷ []; line = λ words. line }
 
+-- the same row, whose line stands among those of several forms
+abbrev pub row_of_line : {L M : Type 0} → (L → M) → Result (Row L) BadWord → Result (Row M) BadWord
+row_of_line of (Err word) = Err word
+row_of_line of (Ok row) = Ok (record { stands = row.stands; fields = row.fields; line = λ words. of (row.line words) })
+
 -- The first bad word of the next line, in the order of the table: after-end, long, line-feed, lines, spaces;
 -- header, word or not-built; order; count; and each word's own from the left.
 unfoldable pub first_bad : {L : Type 0} → Next L → List ℕ → Option BadWord
