@@ -1,26 +1,19 @@
 -- What the lines of all forms share: the table of bad words, of which the first that holds refuses a line; what
 -- a line is, as a function of its bytes; and what it is, as the grammar says.
-use Rattle.std.specs.Prelude.{◌≡◌, ℕ, ◌-◌, ◌≤◌, Bool, true, false, IsTrue, ◌&&◌, not, nat_lt, ◌==◌, if◌then◌else◌, List, [], ◌∷◌, ◌++◌, length, take, slice_index, Option, Some, None, Result, Ok, Err, codes}
+use Rattle.std.specs.Prelude.{◌≡◌, ℕ, ◌-◌, ◌≤◌, Bool, true, false, IsTrue, ◌&&◌, not, nat_lt, ◌==◌, if◌then◌else◌, List, [], ◌∷◌, ◌++◌, length, take, Option, Some, None, Result, Ok, Err, codes}
 use Rattle.std.specs.List.{join_with_byte, list_all}
 use Rattle.std.specs.Str.{bytes_eq}
 use Rattle.line_text.specs.declared.bad_word.BadWord.{BadWord}
 use Rattle.line_text.specs.declared.bad_word.BadWord.TheVariants as bad
 use Rattle.line_text.specs.Fields.{Field, bad_where}
 use Rattle.line_text.specs.Words.{is_word, is_spaced, parts}
-
--- how many bytes a line may have before its line feed
-abbrev pub line_bytes : ℕ
-line_bytes = 65600
+pub use Rattle.text_trace.specs.Lines.{has_line_feed, line_bytes}
 
 -- how many lines a text may have
 abbrev pub text_lines : ℕ
 text_lines = 100000
 
 -- ## The bytes of a line
-
--- whether a line feed ends them
-abbrev pub has_line_feed : List ℕ → Bool
-has_line_feed bytes = nat_lt 0 (length bytes) && (slice_index bytes (length bytes - 1) == 10)
 
 -- what stands before the line feed that ends them, or all of them
 abbrev pub before_line_feed : List ℕ → List ℕ
