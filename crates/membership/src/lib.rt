@@ -23,12 +23,14 @@ mod ends;
 mod expiry;
 mod faults;
 mod kept;
+mod laws;
 mod report;
 
 use by_member::ByMember;
 use ff_ids::{AccBody, Epoch, Fault, Group, MemberId, NoteBody, RingNo};
 use fields::NoMemory;
 use kept::{brings_in, is_live};
+pub use laws::only_the_touched_end;
 use monitor_rule::Rings;
 use removal_timer::Timers;
 pub use report::Changes;
