@@ -5,9 +5,11 @@
 ghost use Rattle.std.specs.Prelude.{◌≡◌, ◌<◌, ◌≤◌, length};
 ghost use Rattle.ff_ids.specs.Masks.{enables, enabled, good_mask as is_good};
 
+mod summary;
 mod text;
 
 use std::marker::Model;
+pub use summary::{EntryList, RecordKey, Summary, SummaryEntry};
 
 /// How many member numbers there are: they are 0 to 1,023.
 pub const MEMBERS: u16 = 1024;
@@ -130,8 +132,10 @@ pub enum Fault {
     UnknownMember,
     /// The mask enables a ring at or above 2t+1, or fewer than t+1 rings.
     BadMask,
-    /// The note is the newest of its member.
+    /// This certificate is kept, or this note is the newest of its member.
     Known,
+    /// Another certificate is kept for the number, and these are its port and its key's 56 bytes.
+    OtherCertificate { port: u16, key: [u8; 56] },
     /// The newest note of the member, whose epoch and mask these are, is greater.
     Older { epoch: Epoch, mask: Mask },
     /// The accuser is the accused.
@@ -150,6 +154,10 @@ pub enum Fault {
     NotMonitor { monitor: Option<MemberId> },
     /// The same accusation is kept.
     Standing,
+    /// The signature doesn't verify under the key of the record's author.
+    BadSignature,
+    /// A note of the observer itself that is greater than its newest. Both are given.
+    OwnAhead { stored: NoteBody, seen: NoteBody },
 }
 
 impl Mask {
