@@ -8,8 +8,11 @@ ghost use Rattle.ff_ids.specs.Views.{key_at};
 ghost use Rattle.ring_order.specs.Rows.{place_of_number};
 ghost use Rattle.ring_order.specs.Nearest.{key_of_pair, keys_of, nearer, nearest, nearest_so_far, comparisons_of_next, comparisons_of_all, IsNumberBefore, IsNumberAfter};
 
+mod hashed;
 pub mod laws;
 pub mod steps;
+
+pub use hashed::hash_places;
 
 use ff_ids::{MemberId, RingNo};
 use std::marker::Model;
