@@ -1,7 +1,7 @@
 -- The two laws of the grammar: what is read is spelled so, and what is spelled so is read.
-use Rattle.std.proofs.Common.{◌≡◌, ℕ, zero, suc, ◌+◌, ◌^◌, ◌<◌, ◌≤◌, ◌⊎◌, Bool, true, false, cond, eqb, List, [], ◌∷◌, ◌++◌, length, take, drop, Option, Some, None, Result, Ok, Err, refl, sym, ap, subst, ◌∙◌, append_assoc, arith, inl, inr, lit<}
+use Rattle.std.proofs.Common.{◌≡◌, ℕ, ◌^◌, ◌<◌, ◌≤◌, ◌⊎◌, Bool, true, false, cond, eqb, List, [], ◌∷◌, ◌++◌, length, take, Option, Some, Result, Ok, Err, refl, sym, ap, subst, ◌∙◌, arith, inl, inr, lit<}
 use Rattle.std.specs.Int.{w16, w32, w64, to_be_bytes}
-use Rattle.std.proofs.lemmas.Bool.{eqb-true, false≢true}
+use Rattle.std.proofs.lemmas.Bool.{eqb-true}
 use Rattle.std.proofs.lemmas.Bool.Decides.{nat_tests}
 use Rattle.std.proofs.lemmas.List.{take_at}
 use Rattle.std.specs.Prelude.{IfOk}
@@ -22,8 +22,8 @@ use Rattle.records.specs.declared.Body.TheVariants.{Certificate, Note, Accusatio
 use Rattle.records.specs.declared.Record.{Record}
 use Rattle.records.specs.declared.fault.FormFault.{FormFault}
 use Rattle.records.specs.Spelling.{certificate_bytes, note_bytes, accusation_bytes, body_bytes, record_bytes, IsCertificate, IsNote, IsAccusation, IsBody, HasLength, IsRecord}
-use Rattle.records.specs.Grammar.{◌>>=◌, number_at, byte_at, bytes_at, any_number, number_within, member_number, nonzero, signature_length, kind_number, key_at, certificate_at, note_at, accusation_at, body_of_kind, body_at, signature_at, record_at, GivesRecord, IsGiven}
-use Rattle.records.proofs.Fields.{IsBytes, bind_ok, ok_is, Takes, Takes-then, bytes_take, byte_takes, byte_again, number_takes, number_again, bytes_again, then_again, map_again, Again, Past, IsRule, wide16, wide32, wide64, any_rule, within_rule, nonzero_rule}
+use Rattle.records.specs.Grammar.{◌>>=◌, number_at, byte_at, bytes_at, any_number, member_number, nonzero, signature_length, kind_number, key_at, certificate_at, note_at, accusation_at, body_of_kind, body_at, signature_at, record_at, GivesRecord, IsGiven}
+use Rattle.records.proofs.Fields.{IsBytes, bind_ok, ok_is, Takes, Takes-then, bytes_take, byte_takes, byte_again, number_takes, number_again, bytes_again, then_again, map_again, Again, IsRule, wide16, wide32, wide64, any_rule, within_rule, nonzero_rule}
 
 chosen : {A : Type 0} (b : Bool) (x y z : A) → cond b x y ≡ z → ((b ≡ true) × (x ≡ z)) ⊎ ((b ≡ false) × (y ≡ z))
 chosen true x y z e = inl (refl, e)
@@ -156,13 +156,13 @@ key_again : (k : PublicKey) → IsKey k → Again key_at k (key_bytes k)
 unfolding key_at key_bytes
 key_again k good =
     let whole : Again key_at k (to_be_bytes w32 (type_number k.tree) ++ (to_be_bytes w32 (ots.type_number k.ots) ++ (k.id ++ k.root))) =
-      then_again (number_at w32 tree_of) (λ t r. number_at w32 ots_of r >>= λ o. bytes_at 16 o.1 >>= λ i. bytes_at 32 i.1 >>= λ b. Ok (record { tree = t; ots = o.0; id = i.0; root = b.0 }, b.1)) k.tree k (to_be_bytes w32 (type_number k.tree)) (to_be_bytes w32 (ots.type_number k.ots) ++ (k.id ++ k.root))
-      (number_again w32 (2 ^ 32) tree_of type_number _ k.tree wide32 tree_rule tt)
-      (then_again (number_at w32 ots_of) (λ o r. bytes_at 16 r >>= λ i. bytes_at 32 i.1 >>= λ b. Ok (record { tree = k.tree; ots = o; id = i.0; root = b.0 }, b.1)) k.ots k (to_be_bytes w32 (ots.type_number k.ots)) (k.id ++ k.root)
-      (number_again w32 (2 ^ 32) ots_of ots.type_number _ k.ots wide32 ots_rule tt)
-      (then_again (bytes_at 16) (λ i r. bytes_at 32 r >>= λ b. Ok (record { tree = k.tree; ots = k.ots; id = i; root = b.0 }, b.1)) k.id k k.id k.root
-      (bytes_again k.id 16 good.id_long)
-      (map_again (bytes_at 32) (λ b. record { tree = k.tree; ots = k.ots; id = k.id; root = b }) k.root k.root (bytes_again k.root 32 good.root_long)))) in
+    then_again (number_at w32 tree_of) (λ t r. number_at w32 ots_of r >>= λ o. bytes_at 16 o.1 >>= λ i. bytes_at 32 i.1 >>= λ b. Ok (record { tree = t; ots = o.0; id = i.0; root = b.0 }, b.1)) k.tree k (to_be_bytes w32 (type_number k.tree)) (to_be_bytes w32 (ots.type_number k.ots) ++ (k.id ++ k.root))
+    (number_again w32 (2 ^ 32) tree_of type_number _ k.tree wide32 tree_rule tt)
+    (then_again (number_at w32 ots_of) (λ o r. bytes_at 16 r >>= λ i. bytes_at 32 i.1 >>= λ b. Ok (record { tree = k.tree; ots = o; id = i.0; root = b.0 }, b.1)) k.ots k (to_be_bytes w32 (ots.type_number k.ots)) (k.id ++ k.root)
+    (number_again w32 (2 ^ 32) ots_of ots.type_number _ k.ots wide32 ots_rule tt)
+    (then_again (bytes_at 16) (λ i r. bytes_at 32 r >>= λ b. Ok (record { tree = k.tree; ots = k.ots; id = i; root = b.0 }, b.1)) k.id k k.id k.root
+    (bytes_again k.id 16 good.id_long)
+    (map_again (bytes_at 32) (λ b. record { tree = k.tree; ots = k.ots; id = k.id; root = b }) k.root k.root (bytes_again k.root 32 good.root_long)))) in
     whole
 
 certificate_fields : CertBody → List ℕ

@@ -1,12 +1,10 @@
 -- Reading a record from left to right. A step gives a value and what is left after it, or the place of the fault:
 -- the first byte of the first field that is cut short or breaks its rule.
-use Rattle.std.specs.Prelude.{◌≡◌, ℕ, Bool, ◌&&◌, ◌==◌, nat_lt, nat_le, if◌then◌else◌, List, length, take, slice_index, Option, Some, None, Result, Ok, Err, IsOk}
+use Rattle.std.specs.Prelude.{◌≡◌, ℕ, ◌&&◌, ◌==◌, nat_lt, nat_le, if◌then◌else◌, List, length, take, slice_index, Option, Some, None, Result, Ok, Err, IsOk}
 use Rattle.std.specs.Int.{Width, w16, w32, w64, byte_len, from_be_bytes}
-use Rattle.fields.specs.Reading.{Reading, reading_of, advanced}
+use Rattle.fields.specs.Reading.{Reading, advanced}
 use Rattle.ff_ids.specs.declared.NoteBody.{NoteBody}
 use Rattle.ff_ids.specs.declared.AccBody.{AccBody}
-use Rattle.lms_ots.specs.declared.kind.OtsKind.{OtsKind}
-use Rattle.lms_tree.specs.declared.kind.TreeKind.{TreeKind}
 use Rattle.lms_tree.specs.declared.key.PublicKey.{PublicKey}
 use Rattle.lms_tree.specs.Lms.{tree_of, ots_of}
 use Rattle.records.specs.declared.CertBody.{CertBody}
