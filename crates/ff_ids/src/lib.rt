@@ -5,9 +5,11 @@
 ghost use Rattle.std.specs.Prelude.{◌≡◌, ◌<◌, ◌≤◌, length};
 ghost use Rattle.ff_ids.specs.Masks.{enables, enabled, good_mask as is_good};
 
+mod summary;
 mod text;
 
 use std::marker::Model;
+pub use summary::{EntryList, RecordKey, Summary, SummaryEntry};
 
 /// How many member numbers there are: they are 0 to 1,023.
 pub const MEMBERS: u16 = 1024;

@@ -282,3 +282,24 @@ monitor-entering f keyed p q x v m h enters x_below x_is =
     absurd (false≢true (sym (after.nearest v h.below v_passes v_apart) ∙ closer))) in
     is_number-is _ v (IsMonitor-is f keyed q x v stays) ∙ ap not (sym other))
     (either_bool (cyc (f v) (f m) (f x)))
+
+-- who monitors has as its successor the one that it monitors, and nobody else has that successor
+pub successor-of_monitor : (f : ℕ → Key) → Keyed f → (p : ℕ → Bool) (x v : ℕ) → IsMonitor f p x v → x < 1024 → p x ≡ true → (m : ℕ) → m < 1024 → p m ≡ true → is_number (nearest_after (keys_where f p) (f m)) x ≡ eqb m v
+successor-of_monitor f keyed p x v h x_below x_is m m_below m_is =
+    ⊎_elim (λ t.
+    let at : m ≡ v = eqb-true m v t in
+    let after : IsSuccessor f p v x = record {
+      below = x_below;
+      passes = x_is;
+      other = λ e. h.other (sym e);
+      nearest = λ w below is apart. ⊎_elim (λ u. subst (λ k. cyc (f v) (f k) (f x) ≡ false) (sym (eqb-true w x u)) (near_end (f v) (f x))) (λ u. h.nearest w below is (eqb-false w x u)) (either_bool (eqb w x));
+    } in
+    is_number-is _ x (subst (λ k. nearest_after (keys_where f p) (f k) ≡ Some x) (sym at) (IsSuccessor-is f keyed p v x after)) ∙ sym t)
+    (λ t.
+    let apart : m ≢ v = eqb-false m v t in
+    not_number _ x (λ e.
+    let after = IsSuccessor-some f keyed p m x e in
+    let m_other : m ≢ x = λ k. after.other (sym k) in
+    let tied = near_tied (f x) (f v) (f m) (keyed_apart f keyed v x h.other) (keyed_apart f keyed m x m_other) (h.nearest m m_below m_is m_other) (after.nearest v h.below h.passes (λ k. apart (sym k))) in
+    apart (sym (sym (keyed.number v) ∙ tied ∙ keyed.number m))) ∙ sym t)
+    (either_bool (eqb m v))

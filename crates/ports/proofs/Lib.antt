@@ -1,2 +1,6 @@
 pub mod Contents
 pub mod Counts
+pub mod MomentLemmas
+pub mod ByteLemmas
+pub mod TurnLemmas
+pub mod SinceLemmas

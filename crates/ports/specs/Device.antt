@@ -1,20 +1,20 @@
 -- What the answers of a disk and a link say, whatever their contents are.
-use Rattle.std.specs.Prelude.{ℕ, ◌≤◌}
+use Rattle.std.specs.Prelude.{ℕ, ◌≤◌, Bool, true, false}
 use Rattle.ports.specs.declared.Opened as opened
 use Rattle.ports.specs.declared.Received as received
 use Rattle.ports.specs.declared.Sent as sent
 
--- what holds where the file or the port was not opened
-abbrev pub OnOpenFailed : opened.Opened → Type 0 → Type 0
-OnOpenFailed opened.TheVariants.Done P = Unit {0}
-OnOpenFailed opened.TheVariants.Failed P = P
-OnOpenFailed opened.TheVariants.OutOfMemory P = Unit {0}
+-- the file or the port was not opened, by a fault
+abbrev pub open_failed : opened.Opened → Bool
+open_failed opened.TheVariants.Done = false
+open_failed opened.TheVariants.Failed = true
+open_failed opened.TheVariants.OutOfMemory = false
 
--- what holds where the receive failed
-abbrev pub OnReceiveFailed : received.Received → Type 0 → Type 0
-OnReceiveFailed (received.TheVariants.Got n) P = Unit {0}
-OnReceiveFailed received.TheVariants.Nothing P = Unit {0}
-OnReceiveFailed received.TheVariants.Failed P = P
+-- the receive failed
+abbrev pub receive_failed : received.Received → Bool
+receive_failed (received.TheVariants.Got n) = false
+receive_failed received.TheVariants.Nothing = false
+receive_failed received.TheVariants.Failed = true
 
 -- no more bytes than the buffer holds
 abbrev pub ReceivedAtMost : received.Received → ℕ → Type 0
@@ -22,8 +22,8 @@ ReceivedAtMost (received.TheVariants.Got n) room = n ≤ room
 ReceivedAtMost received.TheVariants.Nothing room = Unit {0}
 ReceivedAtMost received.TheVariants.Failed room = Unit {0}
 
--- what holds where the send failed
-abbrev pub OnSendFailed : sent.Sent → Type 0 → Type 0
-OnSendFailed sent.TheVariants.Done P = Unit {0}
-OnSendFailed sent.TheVariants.Failed P = P
-OnSendFailed sent.TheVariants.OutOfMemory P = Unit {0}
+-- the send failed
+abbrev pub send_failed : sent.Sent → Bool
+send_failed sent.TheVariants.Done = false
+send_failed sent.TheVariants.Failed = true
+send_failed sent.TheVariants.OutOfMemory = false

@@ -4,3 +4,6 @@ pub mod Reading
 pub mod Writing
 pub mod Device
 pub mod Memory
+pub mod Disk
+pub mod MemoryDisk
+pub mod DiskLaws

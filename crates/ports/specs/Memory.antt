@@ -1,5 +1,5 @@
 -- A source and a sink in memory: the exact answer of each call, and what stands after it.
-use Rattle.std.specs.Prelude.{ℕ, ◌-◌, ◌==◌, min, Bool, List, ◌++◌, length, take, drop, if◌then◌else◌}
+use Rattle.std.specs.Prelude.{ℕ, ◌-◌, ◌==◌, min, Bool, false, List, ◌++◌, length, take, drop, if◌then◌else◌}
 use Rattle.std.specs.List.{list_any}
 use Rattle.ports.specs.declared.Taken.{Taken}
 use Rattle.ports.specs.declared.Taken.TheVariants.{Got, End, Failed}
@@ -10,9 +10,10 @@ use Rattle.ports.specs.Count.{next_count}
 abbrev pub is_failing : List ℕ → ℕ → Bool
 is_failing failing call = list_any (λ number. number == call) failing
 
--- what a source in memory holds: the bytes left, the most that a call moves, the numbers of the calls
--- that fail, how many calls came, and how many failed
+-- what a source in memory holds: whether it may be read, the bytes left, the most that a call moves, the
+-- numbers of the calls that fail, how many calls came, and how many failed
 pub record SourceState : Type 0 where
+  pub is_open : Bool
   pub unread : List ℕ
   pub step : ℕ
   pub failing : List ℕ
@@ -31,9 +32,9 @@ read_answer source size =
 abbrev pub after_read : SourceState → Taken → SourceState
 after_read source (Got n) =
     record source { unread = drop n source.unread; calls = next_count source.calls }
-after_read source End = record source { calls = next_count source.calls }
+after_read source End = record source { is_open = false; calls = next_count source.calls }
 after_read source Failed =
-    record source { calls = next_count source.calls; failures = next_count source.failures }
+    record source { is_open = false; calls = next_count source.calls; failures = next_count source.failures }
 
 -- the buffer after that answer
 abbrev pub filled : SourceState → List ℕ → Taken → List ℕ
@@ -41,9 +42,10 @@ filled source buffer (Got n) = take n source.unread ++ drop n buffer
 filled source buffer End = buffer
 filled source buffer Failed = buffer
 
--- what a sink in memory holds: the bytes taken, how many it has room for, the most that a call moves,
--- the numbers of the calls that fail, how many calls came, and how many failed
+-- what a sink in memory holds: whether it may be written to, the bytes taken, how many it has room for,
+-- the most that a call moves, the numbers of the calls that fail, how many calls came, and how many failed
 pub record SinkState : Type 0 where
+  pub is_open : Bool
   pub written : List ℕ
   pub room : ℕ
   pub step : ℕ
@@ -69,4 +71,4 @@ abbrev pub after_write : SinkState → List ℕ → given.Given → SinkState
 after_write sink piece (given.TheVariants.Took n) =
     record sink { written = sink.written ++ take n piece; calls = next_count sink.calls }
 after_write sink piece given.TheVariants.Failed =
-    record sink { calls = next_count sink.calls; failures = next_count sink.failures }
+    record sink { is_open = false; calls = next_count sink.calls; failures = next_count sink.failures }

@@ -1,19 +1,26 @@
 //! The outside as traits: where bytes come from and go to, a disk, a link and a clock.
 //!
-//! Each but the clock has a count of faults that contracts see. It never falls, and a call answers
-//! `Failed` only where it rose in that call. Objects may tell their contents; those in memory do.
+//! Each but the clock has a count of faults that contracts see: a call that answers `Failed` raises it
+//! by one, or finds it at the end of its type, and any other answer leaves it. Objects may tell their
+//! contents; those in memory do. Nothing is called on a source behind its end or a fault, nor on a sink
+//! behind a fault; a disk and a link go on after a failure.
 #![tactic(auto)]
 
-ghost use Rattle.std.specs.Prelude.{ℕ, ◌≤◌, Option, List, length, IfOk, OnErr};
-ghost use Rattle.ports.specs.Count.{Rose};
+ghost use Rattle.std.specs.Prelude.{◌≡◌, ℕ, ◌≤◌, Bool, true, Option, List, length};
+ghost use Rattle.std.specs.Result.{is_err, is_ok};
+ghost use Rattle.ports.specs.Count.{counted};
 ghost use Rattle.ports.specs.Contents.{Wrote};
-ghost use Rattle.ports.specs.Reading.{OnReadFailed, GotAtMost, GotSome, Reads, EndsUsedUp};
-ghost use Rattle.ports.specs.Writing.{OnWriteFailed, TookAtMost, TookSome, Gives};
-ghost use Rattle.ports.specs.Device.{OnOpenFailed, OnReceiveFailed, ReceivedAtMost, OnSendFailed};
+ghost use Rattle.ports.specs.Reading.{has_got, read_failed, GotAtMost, GotSome, Reads, EndsUsedUp};
+ghost use Rattle.ports.specs.Writing.{has_taken, write_failed, TookAtMost, TookSome, Gives};
+ghost use Rattle.ports.specs.Device.{open_failed, receive_failed, ReceivedAtMost, send_failed};
 
+mod disk;
 mod memory;
+mod memory_disk;
 
+pub use disk::Disk;
 pub use memory::{MemorySink, MemorySource};
+pub use memory_disk::MemoryDisk;
 
 /// The answer of a read.
 #[derive(Clone, Copy, Debug, PartialEq, Eq)]
@@ -80,14 +87,18 @@ pub trait Source {
     /// The bytes left, where they are told.
     ghost left: { Self → Option (List ℕ) };
 
+    /// No read came to the end or failed, so that it may be read.
+    ghost is_open: { Self → Bool };
+
     /// Takes bytes that are left into the front of the buffer.
     fn read(&mut self, buf: &mut [u8]) -> Taken
-        ensures kept { faults self.old ≤ faults self.new }
-        ensures failed { OnReadFailed result (Rose (faults self.old) (faults self.new)) }
+        requires open { is_open self.old ≡ true }
+        ensures going { is_open self.new ≡ has_got result }
+        ensures faults { faults self.new ≡ counted (read_failed result) (faults self.old) }
         ensures fits { GotAtMost result (length buf.old) }
         ensures some { GotSome result (length buf.old) }
         ensures reads { Reads (left self.old) (left self.new) buf.new result }
-        ensures end { EndsUsedUp (left self.old) result };
+        ensures end { EndsUsedUp (left self.new) result };
 }
 
 /// Where bytes go to.
@@ -98,46 +109,17 @@ pub trait Sink {
     /// The bytes taken, where they are told.
     ghost taken: { Self → Option (List ℕ) };
 
+    /// No write failed, so that it may be written to.
+    ghost is_open: { Self → Bool };
+
     /// Takes bytes from the front of the piece. Taking none of a piece that has some is a fault.
     fn write(&mut self, bytes: &[u8]) -> Given
-        ensures kept { faults self.old ≤ faults self.new }
-        ensures failed { OnWriteFailed result (Rose (faults self.old) (faults self.new)) }
+        requires open { is_open self.old ≡ true }
+        ensures going { is_open self.new ≡ has_taken result }
+        ensures faults { faults self.new ≡ counted (write_failed result) (faults self.old) }
         ensures fits { TookAtMost result (length bytes.now) }
         ensures some { TookSome result (length bytes.now) }
         ensures gives { Gives (taken self.old) (taken self.new) bytes.now result };
-}
-
-/// Files, one of which is open at a time.
-pub trait Disk {
-    /// How often a call failed.
-    ghost faults: { Self → ℕ };
-
-    /// Opens the file of that name, an empty one if there is none.
-    fn open(&mut self, name: &str) -> Opened
-        ensures kept { faults self.old ≤ faults self.new }
-        ensures failed { OnOpenFailed result (Rose (faults self.old) (faults self.new)) };
-
-    /// The file's length in bytes.
-    fn len(&mut self) -> Result<u64, Failed>
-        ensures kept { faults self.old ≤ faults self.new }
-        ensures failed { OnErr result (Rose (faults self.old) (faults self.new)) };
-
-    /// Reads from a place into the front of the buffer, up to its end or the file's, and gives the
-    /// number of bytes.
-    fn read_at(&mut self, place: u64, buf: &mut [u8]) -> Result<usize, Failed>
-        ensures kept { faults self.old ≤ faults self.new }
-        ensures failed { OnErr result (Rose (faults self.old) (faults self.new)) }
-        ensures fits { IfOk result (λ n. n ≤ length buf.old) };
-
-    /// Writes the bytes at a place.
-    fn write_at(&mut self, place: u64, bytes: &[u8]) -> Result<(), Failed>
-        ensures kept { faults self.old ≤ faults self.new }
-        ensures failed { OnErr result (Rose (faults self.old) (faults self.new)) };
-
-    /// After it, a crash leaves what was written.
-    fn sync(&mut self) -> Result<(), Failed>
-        ensures kept { faults self.old ≤ faults self.new }
-        ensures failed { OnErr result (Rose (faults self.old) (faults self.new)) };
 }
 
 /// Datagrams between ports of this machine.
@@ -147,32 +129,35 @@ pub trait Link {
 
     /// Makes this port the one to receive at.
     fn bind(&mut self, port: u16) -> Opened
-        ensures kept { faults self.old ≤ faults self.new }
-        ensures failed { OnOpenFailed result (Rose (faults self.old) (faults self.new)) };
+        ensures faults { faults self.new ≡ counted (open_failed result) (faults self.old) };
 
     /// Takes the next datagram into the front of the buffer, cut to its length.
     fn receive(&mut self, buf: &mut [u8]) -> Received
-        ensures kept { faults self.old ≤ faults self.new }
-        ensures failed { OnReceiveFailed result (Rose (faults self.old) (faults self.new)) }
+        ensures faults { faults self.new ≡ counted (receive_failed result) (faults self.old) }
         ensures fits { ReceivedAtMost result (length buf.old) };
 
     /// Sends a datagram to a port.
     fn send(&mut self, port: u16, bytes: &[u8]) -> Sent
-        ensures kept { faults self.old ≤ faults self.new }
-        ensures failed { OnSendFailed result (Rose (faults self.old) (faults self.new)) };
+        ensures faults { faults self.new ≡ counted (send_failed result) (faults self.old) };
 }
 
 /// A clock.
 pub trait Clock {
+    /// The last reading, or a number that no reading is below.
+    ghost reading: { Self → ℕ };
+
     /// Milliseconds from some fixed moment, never falling.
-    fn now(&mut self) -> u64;
+    fn now(&mut self) -> u64
+        ensures kept { reading self.new ≡ result }
+        ensures rising { reading self.old ≤ result };
 }
 
 /// Writes the whole slice. Where the sink tells the bytes taken, they gained the slice; after
-/// `Failed`, a front of it that is not the whole.
+/// `Failed`, a front of it that is not the whole. A failed write is not tried again.
 pub fn write_all<O: Sink>(out: &mut O, bytes: &[u8]) -> Result<(), Failed>
-    ensures kept { O.faults out.old ≤ O.faults out.new }
-    ensures failed { OnErr result (Rose (O.faults out.old) (O.faults out.new)) }
+    requires open { O.is_open out.old ≡ true }
+    ensures going { O.is_open out.new ≡ is_ok result }
+    ensures faults { O.faults out.new ≡ counted (is_err result) (O.faults out.old) }
     ensures wrote { Wrote (O.taken out.old) (O.taken out.new) bytes.now result }
 {
     let mut written = 0;

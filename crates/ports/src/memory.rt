@@ -1,8 +1,8 @@
 //! A source and a sink in memory, which tell their contents and fail where they are told to.
-ghost use Rattle.std.specs.Prelude.{◌≡◌, ◌≤◌, if◌then◌else◌, List, [], length, Some, None, IfOk, OnErr};
-ghost use Rattle.ports.specs.Count.{Rose, next_count};
-ghost use Rattle.ports.specs.Reading.{OnReadFailed, GotAtMost, GotSome, Reads, EndsUsedUp};
-ghost use Rattle.ports.specs.Writing.{OnWriteFailed, TookAtMost, TookSome, Gives};
+ghost use Rattle.std.specs.Prelude.{◌≡◌, ◌≤◌, true, List, [], length, Some, None, IfOk};
+ghost use Rattle.ports.specs.Count.{counted, next_count};
+ghost use Rattle.ports.specs.Reading.{has_got, read_failed, GotAtMost, GotSome, Reads, EndsUsedUp};
+ghost use Rattle.ports.specs.Writing.{has_taken, write_failed, TookAtMost, TookSome, Gives};
 ghost use Rattle.ports.specs.Memory.{is_failing, SourceState, read_answer, after_read, filled, SinkState, write_answer, after_write};
 
 use crate::{Given, Sink, Source, Taken};
@@ -13,14 +13,14 @@ use std::marker::Model;
 /// Which calls are to fail, how many came, and how many failed. The counts stand still at the end of
 /// their type.
 #[derive(Drop)]
-struct Calls {
+pub(crate) struct Calls {
     fail: Vec<u64>,
     made: u64,
     failed: u64,
 }
 
 impl Calls {
-    fn new(fail: Vec<u64>) -> Calls
+    pub(crate) fn new(fail: Vec<u64>) -> Calls
         ensures { result ≡ record {
           fail = fail;
           made = 0;
@@ -34,11 +34,30 @@ impl Calls {
         }
     }
 
+    /// Counts a call, and says whether it is one of those that are to fail.
+    pub(crate) fn next(&mut self) -> bool
+        ensures answer { result ≡ is_failing self.old.fail.items self.old.made }
+        ensures after { self.new ≡ record self.old { made = next_count self.old.made } }
+    {
+        let number = self.made;
+        self.made = number.saturating_add(1);
+        self.fail.as_slice().contains(&number)
+    }
+
+    /// Counts a failure, where there is one.
+    pub(crate) fn count(&mut self, failed: bool)
+        ensures { self.new ≡ record self.old { failed = counted failed self.old.failed } }
+    {
+        if failed {
+            self.failed = self.failed.saturating_add(1);
+        }
+    }
+
     /// Counts a failure.
     fn count_failure(&mut self)
         ensures { self.new ≡ record self.old { failed = next_count self.old.failed } }
     {
-        self.failed = self.failed.saturating_add(1);
+        self.count(true);
     }
 
     /// Counts a call, and its failure if it is one of those that are to fail.
@@ -46,23 +65,20 @@ impl Calls {
         ensures answer { result ≡ is_failing self.old.fail.items self.old.made }
         ensures after { self.new ≡ record self.old {
           made = next_count self.old.made;
-          failed = if result then next_count self.old.failed else self.old.failed;
+          failed = counted result self.old.failed;
         } }
     {
-        let number = self.made;
-        self.made = number.saturating_add(1);
-        if self.fail.as_slice().contains(&number) {
-            self.count_failure();
-            return true;
-        }
-        false
+        let fails = self.next();
+        self.count(fails);
+        fails
     }
 }
 
-/// A source in memory. Contracts see the bytes left, the step, the numbers of the failing calls, and
+/// A source in memory. Contracts see whether it may be read, the bytes left, the step, the numbers of the failing calls, and
 /// how many calls came and failed.
 #[derive(Drop)]
 pub struct MemorySource {
+    is_open: bool,
     bytes: Vec<u8>,
     place: usize,
     step: usize,
@@ -76,6 +92,7 @@ impl Model for MemorySource {
     ghost Value = { SourceState };
 
     ghost view = { λ s. record {
+      is_open = s.is_open;
       unread = drop s.place s.bytes.items;
       step = s.step;
       failing = s.calls.fail.items;
@@ -92,6 +109,7 @@ impl MemorySource {
     pub fn new(bytes: Vec<u8>, step: usize, fail: Vec<u64>) -> MemorySource
         requires { 1 ≤ step }
         ensures { result ≡ record {
+          is_open = true;
           unread = bytes.items;
           step = step;
           failing = fail.items;
@@ -100,6 +118,7 @@ impl MemorySource {
         } }
     {
         MemorySource {
+            is_open: true,
             bytes,
             place: 0,
             step,
@@ -113,23 +132,28 @@ impl Source for MemorySource {
 
     ghost left = { λ s. Some s.unread };
 
+    ghost is_open = { λ s. s.is_open };
+
     /// Failures come before the end. A read into an empty buffer is `Got(0)` while bytes are left.
     fn read(&mut self, buf: &mut [u8]) -> Taken
-        ensures kept { self.old.failures ≤ self.new.failures }
-        ensures failed { OnReadFailed result (Rose self.old.failures self.new.failures) }
+        requires open { self.old.is_open ≡ true }
+        ensures going { self.new.is_open ≡ has_got result }
+        ensures faults { self.new.failures ≡ counted (read_failed result) self.old.failures }
         ensures fits { GotAtMost result (length buf.old) }
         ensures some { GotSome result (length buf.old) }
         ensures reads { Reads (Some self.old.unread) (Some self.new.unread) buf.new result }
-        ensures end { EndsUsedUp (Some self.old.unread) result }
+        ensures end { EndsUsedUp (Some self.new.unread) result }
         ensures answer { result ≡ read_answer self.old (length buf.old) }
         ensures after { self.new ≡ after_read self.old result }
         ensures filled { buf.new ≡ filled self.old buf.old result }
     {
         if self.calls.next_fails() {
+            self.is_open = false;
             return Taken::Failed;
         }
         let left = self.bytes.len() - self.place;
         if left == 0 {
+            self.is_open = false;
             return Taken::End;
         }
         let count = self.step.min(buf.len().min(left));
@@ -143,6 +167,7 @@ impl Source for MemorySource {
 /// step, the numbers of the failing calls, and how many calls came and failed.
 #[derive(Drop)]
 pub struct MemorySink {
+    is_open: bool,
     bytes: Vec<u8>,
     room: usize,
     step: usize,
@@ -156,6 +181,7 @@ impl Model for MemorySink {
     ghost Value = { SinkState };
 
     ghost view = { λ s. record {
+      is_open = s.is_open;
       written = s.bytes.items;
       room = s.room;
       step = s.step;
@@ -178,6 +204,7 @@ impl MemorySink {
     ) -> Result<MemorySink, NoMemory>
         requires { 1 ≤ step }
         ensures { IfOk result (λ sink. sink ≡ record {
+          is_open = true;
           written = [];
           room = room;
           step = step;
@@ -188,6 +215,7 @@ impl MemorySink {
     {
         let bytes = Vec::with_capacity(alloc, room)?;
         Ok(MemorySink {
+            is_open: true,
             bytes,
             room,
             step,
@@ -208,11 +236,14 @@ impl Sink for MemorySink {
 
     ghost taken = { λ s. Some s.written };
 
+    ghost is_open = { λ s. s.is_open };
+
     /// Takes what fits. With no room left, a piece that has bytes is a fault; an empty piece is
     /// `Took(0)`.
     fn write(&mut self, bytes: &[u8]) -> Given
-        ensures kept { self.old.failures ≤ self.new.failures }
-        ensures failed { OnWriteFailed result (Rose self.old.failures self.new.failures) }
+        requires open { self.old.is_open ≡ true }
+        ensures going { self.new.is_open ≡ has_taken result }
+        ensures faults { self.new.failures ≡ counted (write_failed result) self.old.failures }
         ensures fits { TookAtMost result (length bytes.now) }
         ensures some { TookSome result (length bytes.now) }
         ensures gives { Gives (Some self.old.written) (Some self.new.written) bytes.now result }
@@ -220,6 +251,7 @@ impl Sink for MemorySink {
         ensures after { self.new ≡ after_write self.old bytes.now result }
     {
         if self.calls.next_fails() {
+            self.is_open = false;
             return Given::Failed;
         }
         if bytes.is_empty() {
@@ -228,6 +260,7 @@ impl Sink for MemorySink {
         let room = self.room - self.bytes.len();
         let count = self.step.min(bytes.len().min(room));
         if count == 0 || self.bytes.extend_from_slice(&bytes[..count]).is_err() {
+            self.is_open = false;
             self.calls.count_failure();
             return Given::Failed;
         }

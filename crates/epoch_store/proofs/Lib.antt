@@ -1,0 +1,3 @@
+pub mod FileLemmas
+pub mod PutLemmas
+pub mod WriteLemmas

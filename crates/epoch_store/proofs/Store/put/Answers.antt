@@ -1,0 +1,46 @@
+use Rattle.std.proofs.Common.{◌≡◌, ap}
+use Rattle.epoch_store.specs.Calls.{StoreState}
+use Rattle.epoch_store.proofs.PutLemmas.{while_entry, while_gate, after_gate, settled_leaves_state}
+use Rattle.ports.proofs.SinceLemmas.{Since-trans}
+use Rattle.epoch_store.proofs.Store.put.Goals as goal
+
+pub returns-in_err-write_synced-clause-any_moment : goal.returns-in_err-write_synced-clause-any_moment
+returns-in_err-write_synced-clause-any_moment g c = λ tag at.
+    let gate : c.self.inside.gate ≡ c.args.self.now.gate = ap (λ (s : StoreState). s.gate) c.self.view_is in
+    while_entry tag c.args.self.now.state c.args.next c.args.self.now.gate _ (g.D.Disk.moments c.args.disk.now) (g.D.Disk.moments c.write_synced.new.disk) at (rw gate at c.write_synced.ensures.tears)
+
+pub returns-in_err-write_synced-2-clause-any_moment : goal.returns-in_err-write_synced-2-clause-any_moment
+returns-in_err-write_synced-2-clause-any_moment g c = λ tag at.
+    let gate : c.self.inside.gate ≡ c.args.self.now.gate = ap (λ (s : StoreState). s.gate) c.self.view_is in
+    let state = c.args.self.now.state in
+    let place = c.args.self.now.gate in
+    let first = g.D.Disk.moments c.args.disk.now in
+    let middle = g.D.Disk.moments c.write_synced.new.disk in
+    let last = g.D.Disk.moments c.write_synced-2.new.disk in
+    Since-trans _ first middle last
+        (while_entry tag state c.args.next place _ first middle at (rw gate at c.write_synced.ensures.tears))
+        (while_gate tag c.entry_bytes.result state c.args.next place first middle last c.requires.entry c.requires.follows c.entry_bytes.ensures at (rw gate at c.in_ok-write_synced.ensures.stores) (rw gate at c.write_synced-2.ensures.tears))
+
+pub returns-clause-any_moment : goal.returns-clause-any_moment
+returns-clause-any_moment g c = λ tag at.
+    let gate : c.self.inside.gate ≡ c.args.self.now.gate = ap (λ (s : StoreState). s.gate) c.self.view_is in
+    let state = c.args.self.now.state in
+    let place = c.args.self.now.gate in
+    let first = g.D.Disk.moments c.args.disk.now in
+    let middle = g.D.Disk.moments c.write_synced.new.disk in
+    let last = g.D.Disk.moments c.write_synced-2.new.disk in
+    Since-trans _ first middle last
+        (while_entry tag state c.args.next place _ first middle at (rw gate at c.write_synced.ensures.tears))
+        (while_gate tag c.entry_bytes.result state c.args.next place first middle last c.requires.entry c.requires.follows c.entry_bytes.ensures at (rw gate at c.in_ok-write_synced.ensures.stores) (rw gate at c.write_synced-2.ensures.tears))
+
+pub returns-clause-settled : goal.returns-clause-settled
+returns-clause-settled g c = λ tag at.
+    let gate : c.self.inside.gate ≡ c.args.self.now.gate = ap (λ (s : StoreState). s.gate) c.self.view_is in
+    let first = g.D.Disk.moments c.args.disk.now in
+    let middle = g.D.Disk.moments c.write_synced.new.disk in
+    let last = g.D.Disk.moments c.write_synced-2.new.disk in
+    after_gate tag c.entry_bytes.result c.args.self.now.state c.args.next c.args.self.now.gate first middle last c.requires.entry c.requires.follows c.entry_bytes.ensures at (rw gate at c.in_ok-write_synced.ensures.stores) (rw gate at c.in_ok-write_synced-2.ensures.stores)
+
+pub returns-clause-leaves : goal.returns-clause-leaves
+returns-clause-leaves g c = λ tag at.
+    settled_leaves_state tag c.args.next _ (g.D.Disk.moments c.write_synced-2.new.disk) (returns-clause-settled g c tag at)

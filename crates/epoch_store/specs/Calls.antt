@@ -1,0 +1,91 @@
+-- What the calls of a store answer, and what they do to its file.
+use Rattle.std.specs.Prelude.{◌≡◌, ℕ, Bool, true, false, ◌⊎◌, Option, List, [], ◌∷◌, length, slice_index, Result, Ok, Err}
+use Rattle.std.specs.List.{slice_get}
+use Rattle.epoch_store.specs.declared.Stored.{Stored}
+use Rattle.epoch_store.specs.declared.StoreError.{StoreError}
+use Rattle.epoch_store.specs.declared.StoreError.TheVariants.{Fault, Taken, Broken, OtherKey, OutOfMemory}
+use Rattle.ports.specs.Disk.{Moment, settled}
+use Rattle.epoch_store.specs.Reading.{Reading, Finds, Breaks, Differs, Reads}
+
+-- what a store keeps in memory: the state, the place of the closed gate, and whether a put has failed
+pub record StoreState : Type 0 where
+  pub state : Stored
+  pub gate : ℕ
+  pub failed : Bool
+
+-- the call answered a fault of the disk
+abbrev pub is_fault : {T : Type 0} → Result T StoreError → Bool
+is_fault (Ok value) = false
+is_fault (Err Fault) = true
+is_fault (Err (Taken len)) = false
+is_fault (Err (Broken place byte)) = false
+is_fault (Err (OtherKey place byte)) = false
+is_fault (Err OutOfMemory) = false
+
+-- afterwards the file is settled, and it is what the change makes of the file before
+abbrev pub SettlesAs : (List ℕ → List ℕ) → List Moment → List Moment → Type 0
+SettlesAs change [] newer = newer ≡ []
+SettlesAs change (was ∷ older) [] = ⊥
+SettlesAs change (was ∷ older) (now ∷ past) = now ≡ settled (change was.image)
+
+abbrev pub same : List ℕ → List ℕ
+same image = image
+
+-- what holds of an answer that came of the file itself: not of a fault, nor of want of memory
+abbrev pub OnRead : {T : Type 0} → Result T StoreError → Type 0 → Type 0
+OnRead (Ok value) P = P
+OnRead (Err Fault) P = Unit {0}
+OnRead (Err (Taken len)) P = P
+OnRead (Err (Broken place byte)) P = P
+OnRead (Err (OtherKey place byte)) P = P
+OnRead (Err OutOfMemory) P = Unit {0}
+
+-- what is answered where the reading of the file comes to this
+abbrev pub answer_of : List ℕ → Reading → Result StoreState StoreError
+answer_of image (Finds state gate) = Ok (record { state = state; gate = gate; failed = false })
+answer_of image (Breaks place) = Err (Broken place (slice_get image place))
+answer_of image (Differs place) = Err (OtherKey place (slice_index image place))
+
+-- the answer is the one of the file: some reading of it comes to it, and there is no other reading
+pub record AnswersAs (tag image : List ℕ) (result : Result StoreState StoreError) : Type 0 where
+  pub reading : Reading
+  pub reads : Reads tag image reading
+  pub only : (other : Reading) → Reads tag image other → other ≡ reading
+  pub answer : result ≡ answer_of image reading
+
+-- the answer of opening, where the file is told
+abbrev pub OpensAs : List ℕ → List Moment → Result StoreState StoreError → Type 0
+OpensAs tag [] result = Unit {0}
+OpensAs tag (now ∷ past) result = OnRead result (AnswersAs tag now.image result)
+
+-- a store is opened or refused by what is in the file, and never for its length alone
+abbrev pub IsNotTaken : {T : Type 0} → Result T StoreError → Type 0
+IsNotTaken (Ok value) = Unit {0}
+IsNotTaken (Err Fault) = Unit {0}
+IsNotTaken (Err (Taken len)) = ⊥
+IsNotTaken (Err (Broken place byte)) = Unit {0}
+IsNotTaken (Err (OtherKey place byte)) = Unit {0}
+IsNotTaken (Err OutOfMemory) = Unit {0}
+
+-- a length of the file, where it is told
+abbrev pub HasLength : List Moment → ℕ → Type 0
+HasLength [] n = Unit {0}
+HasLength (now ∷ past) n = length now.image ≡ n
+
+-- a store is made where the file is empty, and else its length is answered
+abbrev pub MakesWhereEmpty : List Moment → Result Unit StoreError → Type 0
+MakesWhereEmpty moments (Ok value) = HasLength moments 0
+MakesWhereEmpty moments (Err Fault) = Unit {0}
+MakesWhereEmpty moments (Err (Taken len)) = HasLength moments len × (len ≡ 0 → ⊥)
+MakesWhereEmpty moments (Err (Broken place byte)) = ⊥
+MakesWhereEmpty moments (Err (OtherKey place byte)) = ⊥
+MakesWhereEmpty moments (Err OutOfMemory) = Unit {0}
+
+-- what holds where a store was not made for the file's length or for want of memory
+abbrev pub OnRefusal : {T : Type 0} → Result T StoreError → Type 0 → Type 0
+OnRefusal (Ok value) P = Unit {0}
+OnRefusal (Err Fault) P = Unit {0}
+OnRefusal (Err (Taken len)) P = P
+OnRefusal (Err (Broken place byte)) P = P
+OnRefusal (Err (OtherKey place byte)) P = P
+OnRefusal (Err OutOfMemory) P = P

@@ -1,0 +1,85 @@
+-- Reading the file of a store from its front on: the state that it stands for, or the place where it is not
+-- a store of this tag.
+use Rattle.std.specs.Prelude.{◌≡◌, ◌≢◌, ℕ, ◌+◌, ◌^◌, ◌<◌, ◌⊎◌, ◌&&◌, nat_eq, nat_lt, nat_le, not, Bool, true, false, if◌then◌else◌, Option, None, Some, MatchOption, List, [], ◌∷◌, ◌++◌, length, take, drop, codes, slice_index, Result, Ok, Err}
+use Rattle.std.specs.List.{common_prefix_len, slice_get}
+use Rattle.epoch_store.specs.declared.Stored.{Stored}
+use Rattle.epoch_store.specs.declared.entry.AtGate.{AtGate}
+use Rattle.epoch_store.specs.declared.entry.AtGate.TheVariants.{Shut, Entry, Broken}
+use Rattle.epoch_store.specs.Store.{spelled}
+
+-- what a reading comes to: the state and the place of the closed gate; the place where the file breaks; or the
+-- place where its tag is another
+pub data Reading : Type 0 where
+  Finds : Stored → ℕ → Reading
+  Breaks : ℕ → Reading
+  Differs : ℕ → Reading
+
+-- what is wrong with the first 40 bytes, if anything is: the header's first byte that differs or is missing,
+-- then a file that ends before the tag does, then the tag's first byte that differs
+abbrev pub head_fault : List ℕ → List ℕ → Option Reading
+head_fault tag head =
+    let good = common_prefix_len nat_eq (codes "FFSTORE1") head in
+    let same = common_prefix_len nat_eq tag (drop 8 head) in
+    if nat_lt good 8 then Some (Breaks good)
+    else (if nat_lt (length head) 40 then Some (Breaks (length head))
+    else (if nat_lt same 32 then Some (Differs (8 + same)) else None))
+
+-- the first rule of a list that is broken, by the place of its field
+abbrev pub first_broken : List (ℕ × Bool) → Option ℕ
+first_broken [] = None
+first_broken (rule ∷ rules) = if rule.1 then first_broken rules else Some rule.0
+
+abbrev pub is_above : Option Stored → ℕ → Bool
+is_above None next = true
+is_above (Some before) next = nat_lt before.next next
+
+abbrev pub is_at_least : Option Stored → ℕ → Bool
+is_at_least None epoch = true
+is_at_least (Some before) epoch = nat_le before.epoch epoch
+
+-- the field of an entry that is wrong after the entry before, as the number of bytes from the gate to it
+abbrev pub wrong_field : Option Stored → Stored → Option ℕ
+wrong_field before e = first_broken (
+    (1, nat_le e.next 32768 && is_above before e.next) ∷
+    (5, nat_le e.epoch e.next && is_at_least before e.epoch) ∷
+    (13, nat_lt e.mask.0 (2 ^ 31)) ∷ [])
+
+-- the bytes from a gate on begin with an open gate and this entry
+pub record IsOpenEntry (bytes : List ℕ) (e : Stored) : Type 0 where
+  pub begins : bytes ≡ 1 ∷ spelled e
+  pub next_fits : e.next < 2 ^ 32
+  pub epoch_fits : e.epoch < 2 ^ 64
+  pub mask_fits : e.mask.0 < 2 ^ 32
+
+-- the bytes from a gate on begin with a closed gate
+pub record IsClosed (bytes : List ℕ) : Type 0 where
+  pub gate : ℕ
+  pub rest : List ℕ
+  pub begins : bytes ≡ gate ∷ rest
+  pub closed : gate ≢ 1
+
+-- the bytes end before the gate and its entry do
+pub record IsCut (bytes : List ℕ) : Type 0 where
+  pub short : length bytes < 17
+  pub gate_open : (bytes ≡ []) ⊎ ((rest : List ℕ) × (bytes ≡ 1 ∷ rest))
+
+-- what stands at a gate, the 17 bytes from there on being these, as far as the file has them, and this being
+-- the entry before: the first gate must be open
+abbrev pub Stands : Option Stored → List ℕ → AtGate → Type 0
+Stands before bytes Shut = IsClosed bytes × (before ≢ None)
+Stands before bytes (Entry e) = IsOpenEntry bytes e × (wrong_field before e ≡ None)
+Stands before bytes (Broken at) =
+    (IsClosed bytes × (before ≡ None) × (at ≡ 0))
+    ⊎ ((IsCut bytes × (at ≡ length bytes))
+    ⊎ ((e : Stored) × IsOpenEntry bytes e × (wrong_field before e ≡ Some at)))
+
+-- reading from a gate on, behind this entry
+pub data ReadsFrom (image : List ℕ) : Option Stored → ℕ → Reading → Type 0 where
+  ends : (state : Stored) (gate : ℕ) → Stands (Some state) (take 17 (drop gate image)) Shut → ReadsFrom image (Some state) gate (Finds state gate)
+  breaks : (before : Option Stored) (gate at : ℕ) → Stands before (take 17 (drop gate image)) (Broken at) → ReadsFrom image before gate (Breaks (gate + at))
+  goes : (before : Option Stored) (gate : ℕ) (e : Stored) (reading : Reading) → Stands before (take 17 (drop gate image)) (Entry e) → ReadsFrom image (Some e) (gate + 17) reading → ReadsFrom image before gate reading
+
+-- reading a file
+abbrev pub Reads : List ℕ → List ℕ → Reading → Type 0
+Reads tag image reading =
+    MatchOption (head_fault tag (take 40 image)) (ReadsFrom image None 40 reading) (λ fault. reading ≡ fault)
