@@ -34,7 +34,7 @@ pub joins_certified : (l later : Life) (certificates : Certificates) (m : ℕ) (
     → later.places ≡ insert l.places m places → AreCertified later certificates
 joins_certified l later certificates m places certified here grown k joined =
     let now : is_some (cond (eq_by_cmp nat_cmp k m) (Some places) (get l.places k)) ≡ true =
-      sym (ap (λ (o : Option (List (List ℕ))). is_some o) (ap (λ (p : FinMap nat_cmp (List (List ℕ))). get p k) grown ∙ get-insert nat_cmp_total l.places m places k)) ∙ joined in
+    sym (ap (λ (o : Option (List (List ℕ))). is_some o) (ap (λ (p : FinMap nat_cmp (List (List ℕ))). get p k) grown ∙ get-insert nat_cmp_total l.places m places k)) ∙ joined in
     joins_at (eq_by_cmp nat_cmp k m) k m places (get l.places k) certificates (same_number k m) here (certified k) now
 
 pub stays_certified : (l later : Life) (certificates : Certificates) → AreCertified l certificates → later.places ≡ l.places → AreCertified later certificates

@@ -3,6 +3,9 @@
 mod author;
 mod observer;
 
+ghost use Rattle.std.specs.Prelude.{◌≡◌, ◌≤◌, IfOk};
+ghost use Rattle.records.specs.Spelling.{HasPort};
+
 use author::Author;
 use ff_ids::{AccBody, Epoch, Fault, Group, Mask, MemberId, NoteBody, RingNo};
 use fields::Bytes;
@@ -12,9 +15,6 @@ use records::{Body, CertBody, Record};
 use std::alloc::Global;
 use std::process::Abort;
 use std::test::Fail;
-
-ghost use Rattle.std.specs.Prelude.{◌≡◌, ◌≤◌, IfOk};
-ghost use Rattle.records.specs.Spelling.{HasPort};
 
 /// The number that stands for the authority.
 const AUTHORITY: u16 = 65535;
@@ -139,12 +139,20 @@ fn notes_certificates_and_accusations_before_an_observer(rt: HostRuntime) -> Res
     expect(&rt, &seen.observer, rec, Some(Fault::BadMask));
     let rec = unsigned(alloc, Body::Note(note_of(two, first, 3)))?;
     let mask = Mask(7);
-    expect(&rt, &seen.observer, rec, Some(Fault::Older { epoch: first, mask }));
+    expect(
+        &rt,
+        &seen.observer,
+        rec,
+        Some(Fault::Older { epoch: first, mask }),
+    );
 
     let ahead = note_of(three, ninth, 7);
     let rec = seen.three.sign(alloc, &group, Body::Note(ahead))?;
     let stored = note_of(three, first, 7);
-    let seen_ahead = Some(Fault::OwnAhead { stored, seen: ahead });
+    let seen_ahead = Some(Fault::OwnAhead {
+        stored,
+        seen: ahead,
+    });
     expect(&rt, &seen.observer, rec, seen_ahead);
     let rec = seen.two.sign(alloc, &group, Body::Note(ahead))?;
     expect(&rt, &seen.observer, rec, Some(Fault::BadSignature));
@@ -152,15 +160,32 @@ fn notes_certificates_and_accusations_before_an_observer(rt: HostRuntime) -> Res
     let kept = certificate_of(two, 20002, &seen.two);
     let rec = unsigned(alloc, Body::Certificate(kept))?;
     expect(&rt, &seen.observer, rec, Some(Fault::Known));
-    let rec = unsigned(alloc, Body::Certificate(certificate_of(two, 20009, &seen.two)))?;
+    let rec = unsigned(
+        alloc,
+        Body::Certificate(certificate_of(two, 20009, &seen.two)),
+    )?;
     let (port, key) = (20002, kept.key.write());
-    expect(&rt, &seen.observer, rec, Some(Fault::OtherCertificate { port, key }));
+    expect(
+        &rt,
+        &seen.observer,
+        rec,
+        Some(Fault::OtherCertificate { port, key }),
+    );
 
     // The hashes put the three in this order on ring 0, so that 2 has the monitor 1.
     let rec = unsigned(alloc, Body::Accusation(accusation_of(three, two, first, 0)))?;
     let monitor = Some(one);
-    expect(&rt, &seen.observer, rec, Some(Fault::NotMonitor { monitor }));
-    let rec = seen.one.sign(alloc, &group, Body::Accusation(accusation_of(one, two, first, 0)))?;
+    expect(
+        &rt,
+        &seen.observer,
+        rec,
+        Some(Fault::NotMonitor { monitor }),
+    );
+    let rec = seen.one.sign(
+        alloc,
+        &group,
+        Body::Accusation(accusation_of(one, two, first, 0)),
+    )?;
     expect(&rt, &seen.observer, rec, None);
     Ok(())
 }
@@ -179,9 +204,11 @@ fn each_fault_comes_before_the_later_ones(rt: HostRuntime) -> Result<(), Fail> {
     seen.observer.put_note(note_of(two, first, 6), &mut out)?;
     seen.observer.put_note(note_of(three, first, 6), &mut out)?;
     // On ring 1 the order is 2, 1, 3: 3 accuses 2, which goes.
-    seen.observer.put_accusation(accusation_of(three, two, first, 1))?;
+    seen.observer
+        .put_accusation(accusation_of(three, two, first, 1))?;
     seen.observer.tick(&mut out);
-    seen.observer.put_accusation(accusation_of(one, three, first, 1))?;
+    seen.observer
+        .put_accusation(accusation_of(one, three, first, 1))?;
 
     let monitor = Some(one);
     let kept = Mask(6);
@@ -189,7 +216,13 @@ fn each_fault_comes_before_the_later_ones(rt: HostRuntime) -> Result<(), Fail> {
         (note_of(four, first, 8), Fault::UnknownMember),
         (note_of(three, first, 1), Fault::BadMask),
         (note_of(three, first, 6), Fault::Known),
-        (note_of(three, first, 5), Fault::Older { epoch: first, mask: kept }),
+        (
+            note_of(three, first, 5),
+            Fault::Older {
+                epoch: first,
+                mask: kept,
+            },
+        ),
     ];
     for (note, fault) in &notes {
         let rec = unsigned(alloc, Body::Note(*note))?;
@@ -201,10 +234,16 @@ fn each_fault_comes_before_the_later_ones(rt: HostRuntime) -> Result<(), Fail> {
         (accusation_of(five, five, first, 3), Fault::SelfAccusation),
         (accusation_of(one, five, first, 3), Fault::BadRing),
         (accusation_of(one, five, first, 0), Fault::NoNote),
-        (accusation_of(one, two, Epoch::new(9), 0), Fault::OtherEpoch { kept: first }),
+        (
+            accusation_of(one, two, Epoch::new(9), 0),
+            Fault::OtherEpoch { kept: first },
+        ),
         (accusation_of(five, two, first, 0), Fault::NotInView),
         (accusation_of(five, three, first, 0), Fault::RingDisabled),
-        (accusation_of(five, three, first, 1), Fault::NotMonitor { monitor }),
+        (
+            accusation_of(five, three, first, 1),
+            Fault::NotMonitor { monitor },
+        ),
         (accusation_of(one, three, first, 1), Fault::Standing),
     ];
     for (acc, fault) in &accusations {

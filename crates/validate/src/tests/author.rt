@@ -38,8 +38,7 @@ impl Author {
         let mut id = [0; 16];
         id.copy_from_slice(&derived(b"FFLMSI", &secret)[..16]);
         let seed = derived(b"FFSEED", &secret);
-        let (tree, leaves) =
-            SecretKey::make(alloc, TreeKind::H5, OtsKind::W8, id, seed)?.split();
+        let (tree, leaves) = SecretKey::make(alloc, TreeKind::H5, OtsKind::W8, id, seed)?.split();
         Ok(Author { tree, leaves })
     }
 
@@ -56,7 +55,8 @@ impl Author {
         let mut signature = vec![in alloc; 0u8; length]?;
         let leaf = self.leaves.take().ok_or("no leaf is left")?;
         let signed = signed_bytes(group, &body);
-        self.tree.sign(leaf, signed.as_slice(), signature.as_mut_slice());
+        self.tree
+            .sign(leaf, signed.as_slice(), signature.as_mut_slice());
         Ok(Record {
             body,
             signature: Bytes::from_vec(signature),

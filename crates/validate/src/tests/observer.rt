@@ -27,7 +27,12 @@ pub struct Observer {
 
 impl Observer {
     #[tactic(auto, using(crate::proofs::CertifiedLemmas::nobody))]
-    pub fn open(alloc: Global, group: Group, authority: PublicKey, own: MemberId) -> Result<Observer, NoMemory>
+    pub fn open(
+        alloc: Global,
+        group: Group,
+        authority: PublicKey,
+        own: MemberId,
+    ) -> Result<Observer, NoMemory>
         requires { group.t ≤ 15 }
     {
         let roster = Roster::open(alloc)?;
@@ -79,6 +84,13 @@ impl Observer {
     pub fn check(&self, rec: Record) -> Result<Checked, Fault>
         requires { HasPort rec.body }
     {
-        check(&self.group, &self.authority, &self.roster, &self.life, self.own, rec)
+        check(
+            &self.group,
+            &self.authority,
+            &self.roster,
+            &self.life,
+            self.own,
+            rec,
+        )
     }
 }
