@@ -53,7 +53,7 @@ last-only line left is =
         inl fed ↦ fed-only line fed
       | inr other ↦ elim other [
             inl cut ↦ unfed-only line cut.clear (omega (arith, cut.long)) (omega (arith, cut.long))
-          | inr rest ↦ unfed-only line rest.clear rest.some (omega (arith, rest.short)) ] ]
+          | inr rest ↦ unfed-only line rest.rest.clear rest.some (omega (arith, rest.rest.short)) ] ]
 
 -- how many lines are seen of no more than a line
 upto-one : (part : List ℕ) → IsUpToLine part → length (seen part) ≤ 1
@@ -68,7 +68,7 @@ upto-last None left is = inl (refl, lit≤ tt)
 upto-last (Some line) left is =
     elim is [
         inl fed ↦ inr fed
-      | inr other ↦ elim other [ inl cut ↦ inl (cut.clear, omega (arith, cut.long)) | inr rest ↦ inl (rest.clear, omega (arith, rest.short)) ] ]
+      | inr other ↦ elim other [ inl cut ↦ inl (cut.clear, omega (arith, cut.long)) | inr rest ↦ inl (rest.rest.clear, omega (arith, rest.rest.short)) ] ]
 
 few-lines : (lines : List (List ℕ)) (bytes part : List ℕ) → Lines room lines bytes → IsUpToLine part → length (seen (bytes ++ part)) ≤ room + 1
 few-lines lines bytes part taken is =
@@ -140,7 +140,7 @@ silent owed lines (b ∷ part) text writes clear short quiet =
     let next = rest-next (b ∷ part) clear (omega arith) short in
     ap (λ (l : List (List ℕ)). (goes.later l).output) next.same ∙ goes.owes (b ∷ part) next.others clear
 
-no-front : (front rest : List ℕ) → front ++ rest ≡ [] → front ≡ []
+pub no-front : (front rest : List ℕ) → front ++ rest ≡ [] → front ≡ []
 no-front [] rest none = refl
 no-front (b ∷ front) rest none = cc
 
