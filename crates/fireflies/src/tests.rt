@@ -13,10 +13,13 @@ use std::test::Fail;
 
 /// Three members with their notes, and what is written for them.
 const BASE: &str =
-    "fireflies 1 direct\ngroup 1 3\nmember 1 10 10 10\nmember 2 20 20 20\nmember 3 30 30 30\nnote 1 1 7\nnote 2 1 7\nnote 3 1 7\n";
+    "fireflies 1 direct\ngroup 1 3\nmember 1 10 10 10\nmember 2 20 20 20\nmember 3 30 30 30\n\
+        note 1 1 7\nnote 2 1 7\nnote 3 1 7\n";
 
 const BASE_TRACE: &str =
-    "fireflies 1 direct\ngroup 1 3\nmember 1 10 10 10 : joined\nmember 2 20 20 20 : joined\nmember 3 30 30 30 : joined\nnote 1 1 7 : accepted\nat 0 entered 1\nnote 2 1 7 : accepted\nat 0 entered 2\nnote 3 1 7 : accepted\nat 0 entered 3\n";
+    "fireflies 1 direct\ngroup 1 3\nmember 1 10 10 10 : joined\nmember 2 20 20 20 : joined\n\
+        member 3 30 30 30 : joined\nnote 1 1 7 : accepted\nat 0 entered 1\nnote 2 1 7 : accepted\n\
+        at 0 entered 2\nnote 3 1 7 : accepted\nat 0 entered 3\n";
 
 /// The shortest text, which is its own trace.
 const SHORT: &str = "fireflies 1 direct\ngroup 1 3\nend\n";
@@ -191,13 +194,16 @@ const TEXTS: [Row; 36] = [
     (
         Front::Head,
         "monitor 0 1\nmember 1 10 10 10\nnote 1 1 7\nmonitor 0 1\nend\n",
-        "monitor 0 1 : refused unknown-member\nmember 1 10 10 10 : joined\nnote 1 1 7 : accepted\nat 0 entered 1\nmonitor 0 1 : none\nend\n",
+        "monitor 0 1 : refused unknown-member\nmember 1 10 10 10 : joined\nnote 1 1 7 : accepted\n\
+            at 0 entered 1\nmonitor 0 1 : none\nend\n",
         0,
     ),
     (
         Front::Base,
         "note 1 1 7\nmember 1 9 9 9\nnote 9 1 7\nnote 2 2 1\nnote 2 3 15\nend\n",
-        "note 1 1 7 : refused known\nmember 1 9 9 9 : refused already-member\nnote 9 1 7 : refused unknown-member\nnote 2 2 1 : refused bad-mask\nnote 2 3 15 : refused bad-mask\nend\n",
+        "note 1 1 7 : refused known\nmember 1 9 9 9 : refused already-member\n\
+            note 9 1 7 : refused unknown-member\nnote 2 2 1 : refused bad-mask\n\
+            note 2 3 15 : refused bad-mask\nend\n",
         0,
     ),
 ];
@@ -210,20 +216,31 @@ fn the_newest_note_and_ties(rt: HostRuntime) -> Result<(), Fail> {
 const NEWEST: [Row; 3] = [
     (
         Front::Head,
-        "member 1 10 10 10\nmember 2 20 20 20\nmember 3 30 30 30\nnote 1 1 7\nnote 3 1 7\nnote 2 1 5\nnote 2 1 6\nview\nend\n",
-        "member 1 10 10 10 : joined\nmember 2 20 20 20 : joined\nmember 3 30 30 30 : joined\nnote 1 1 7 : accepted\nat 0 entered 1\nnote 3 1 7 : accepted\nat 0 entered 3\nnote 2 1 5 : accepted\nat 0 entered 2\nnote 2 1 6 : accepted\nview : 1 2 3\nend\n",
+        "member 1 10 10 10\nmember 2 20 20 20\nmember 3 30 30 30\nnote 1 1 7\nnote 3 1 7\n\
+            note 2 1 5\nnote 2 1 6\nview\nend\n",
+        "member 1 10 10 10 : joined\nmember 2 20 20 20 : joined\nmember 3 30 30 30 : joined\n\
+            note 1 1 7 : accepted\nat 0 entered 1\nnote 3 1 7 : accepted\nat 0 entered 3\n\
+            note 2 1 5 : accepted\nat 0 entered 2\nnote 2 1 6 : accepted\nview : 1 2 3\nend\n",
         0,
     ),
     (
         Front::Head,
         "member 2 20 20 20\nnote 2 1 6\nnote 2 1 5\nview\nend\n",
-        "member 2 20 20 20 : joined\nnote 2 1 6 : accepted\nat 0 entered 2\nnote 2 1 5 : refused older 1 6\nview : 2\nend\n",
+        "member 2 20 20 20 : joined\nnote 2 1 6 : accepted\nat 0 entered 2\n\
+            note 2 1 5 : refused older 1 6\nview : 2\nend\n",
         0,
     ),
     (
         Front::Head,
-        "member 5 50 50 50\nmember 6 50 50 50\nmember 7 60 60 60\nnote 5 1 7\nnote 6 1 7\nnote 7 1 7\nmonitor 0 6\nmonitor 0 5\nmonitor 0 7\nnote 5 18446744073709551615 7\nnote 5 18446744073709551615 7\nnote 5 1 7\nend\n",
-        "member 5 50 50 50 : joined\nmember 6 50 50 50 : joined\nmember 7 60 60 60 : joined\nnote 5 1 7 : accepted\nat 0 entered 5\nnote 6 1 7 : accepted\nat 0 entered 6\nnote 7 1 7 : accepted\nat 0 entered 7\nmonitor 0 6 : 5\nmonitor 0 5 : 7\nmonitor 0 7 : 6\nnote 5 18446744073709551615 7 : accepted\nnote 5 18446744073709551615 7 : refused known\nnote 5 1 7 : refused older 18446744073709551615 7\nend\n",
+        "member 5 50 50 50\nmember 6 50 50 50\nmember 7 60 60 60\nnote 5 1 7\nnote 6 1 7\n\
+            note 7 1 7\nmonitor 0 6\nmonitor 0 5\nmonitor 0 7\nnote 5 18446744073709551615 7\n\
+            note 5 18446744073709551615 7\nnote 5 1 7\nend\n",
+        "member 5 50 50 50 : joined\nmember 6 50 50 50 : joined\nmember 7 60 60 60 : joined\n\
+            note 5 1 7 : accepted\nat 0 entered 5\nnote 6 1 7 : accepted\nat 0 entered 6\n\
+            note 7 1 7 : accepted\nat 0 entered 7\nmonitor 0 6 : 5\nmonitor 0 5 : 7\n\
+            monitor 0 7 : 6\nnote 5 18446744073709551615 7 : accepted\n\
+            note 5 18446744073709551615 7 : refused known\n\
+            note 5 1 7 : refused older 18446744073709551615 7\nend\n",
         0,
     ),
 ];
@@ -238,70 +255,94 @@ const ACCUSED: [Row; 10] = [
     (
         Front::Base,
         "accuse 1 2 1 0\ntick 2\nview\ntick 1\nview\naccuse 1 2 1 0\nend\n",
-        "accuse 1 2 1 0 : accepted\ntick 2\nview : 1 2 3\ntick 1\nat 3 expired 1 2 1 0\nat 3 removed 2\nview : 1 3\naccuse 1 2 1 0 : refused not-in-view\nend\n",
+        "accuse 1 2 1 0 : accepted\ntick 2\nview : 1 2 3\ntick 1\nat 3 expired 1 2 1 0\n\
+            at 3 removed 2\nview : 1 3\naccuse 1 2 1 0 : refused not-in-view\nend\n",
         0,
     ),
     // a newer note rebuts it
     (
         Front::Base,
         "accuse 1 2 1 0\ntick 2\nnote 2 2 7\ntick 5\naccuse 1 2 1 0\nview\nend\n",
-        "accuse 1 2 1 0 : accepted\ntick 2\nnote 2 2 7 : accepted\nat 2 fell 1 2 1 0\ntick 5\naccuse 1 2 1 0 : refused other-epoch 2\nview : 1 2 3\nend\n",
+        "accuse 1 2 1 0 : accepted\ntick 2\nnote 2 2 7 : accepted\nat 2 fell 1 2 1 0\ntick 5\n\
+            accuse 1 2 1 0 : refused other-epoch 2\nview : 1 2 3\nend\n",
         0,
     ),
     // a newcomer takes the place of the monitor
     (
         Front::Base,
-        "accuse 1 2 1 0\ntick 1\nmember 4 15 15 15\nnote 4 1 7\naccuse 1 4 1 0\ntick 3\naccuse 1 2 1 0\ntick 2\nview\ntick 1\nend\n",
-        "accuse 1 2 1 0 : accepted\ntick 1\nmember 4 15 15 15 : joined\nnote 4 1 7 : accepted\nat 1 entered 4\nat 1 fell 1 2 1 0\naccuse 1 4 1 0 : accepted\ntick 3\nat 4 expired 1 4 1 0\nat 4 removed 4\naccuse 1 2 1 0 : accepted\ntick 2\nview : 1 2 3\ntick 1\nat 7 expired 1 2 1 0\nat 7 removed 2\nend\n",
+        "accuse 1 2 1 0\ntick 1\nmember 4 15 15 15\nnote 4 1 7\naccuse 1 4 1 0\ntick 3\n\
+            accuse 1 2 1 0\ntick 2\nview\ntick 1\nend\n",
+        "accuse 1 2 1 0 : accepted\ntick 1\nmember 4 15 15 15 : joined\nnote 4 1 7 : accepted\n\
+            at 1 entered 4\nat 1 fell 1 2 1 0\naccuse 1 4 1 0 : accepted\ntick 3\n\
+            at 4 expired 1 4 1 0\nat 4 removed 4\naccuse 1 2 1 0 : accepted\ntick 2\n\
+            view : 1 2 3\ntick 1\nat 7 expired 1 2 1 0\nat 7 removed 2\nend\n",
         0,
     ),
     // each fault before all that come after it
     (
         Front::Base,
-        "note 2 2 6\naccuse 1 2 2 0\nnote 2 2 1\nnote 2 3 15\naccuse 3 2 2 1\naccuse 2 2 2 1\naccuse 1 2 2 3\naccuse 9 9 9 255\nend\n",
-        "note 2 2 6 : accepted\naccuse 1 2 2 0 : refused ring-disabled\nnote 2 2 1 : refused bad-mask\nnote 2 3 15 : refused bad-mask\naccuse 3 2 2 1 : refused not-monitor 1\naccuse 2 2 2 1 : refused self-accusation\naccuse 1 2 2 3 : refused bad-ring\naccuse 9 9 9 255 : refused unknown-member\nend\n",
+        "note 2 2 6\naccuse 1 2 2 0\nnote 2 2 1\nnote 2 3 15\naccuse 3 2 2 1\naccuse 2 2 2 1\n\
+            accuse 1 2 2 3\naccuse 9 9 9 255\nend\n",
+        "note 2 2 6 : accepted\naccuse 1 2 2 0 : refused ring-disabled\n\
+            note 2 2 1 : refused bad-mask\nnote 2 3 15 : refused bad-mask\n\
+            accuse 3 2 2 1 : refused not-monitor 1\naccuse 2 2 2 1 : refused self-accusation\n\
+            accuse 1 2 2 3 : refused bad-ring\naccuse 9 9 9 255 : refused unknown-member\nend\n",
         0,
     ),
     // two that are due expire together
     (
         Front::Base,
         "accuse 1 2 1 0\naccuse 3 1 1 0\ntick 3\nview\nend\n",
-        "accuse 1 2 1 0 : accepted\naccuse 3 1 1 0 : accepted\ntick 3\nat 3 expired 3 1 1 0\nat 3 expired 1 2 1 0\nat 3 removed 1\nat 3 removed 2\nview : 3\nend\n",
+        "accuse 1 2 1 0 : accepted\naccuse 3 1 1 0 : accepted\ntick 3\nat 3 expired 3 1 1 0\n\
+            at 3 expired 1 2 1 0\nat 3 removed 1\nat 3 removed 2\nview : 3\nend\n",
         0,
     ),
     // a removed accuser accuses nobody
     (
         Front::Base,
         "accuse 3 1 1 0\ntick 1\naccuse 1 2 1 0\ntick 2\nmonitor 0 2\nend\n",
-        "accuse 3 1 1 0 : accepted\ntick 1\naccuse 1 2 1 0 : accepted\ntick 2\nat 3 expired 3 1 1 0\nat 3 removed 1\nat 3 fell 1 2 1 0\nmonitor 0 2 : 3\nend\n",
+        "accuse 3 1 1 0 : accepted\ntick 1\naccuse 1 2 1 0 : accepted\ntick 2\n\
+            at 3 expired 3 1 1 0\nat 3 removed 1\nat 3 fell 1 2 1 0\nmonitor 0 2 : 3\nend\n",
         0,
     ),
     // the greater mask of one epoch disables the ring
     (
         Front::Head,
-        "member 1 10 10 10\nmember 2 20 20 20\nmember 3 30 30 30\nnote 1 1 7\nnote 3 1 7\nnote 2 1 5\nnote 2 1 6\naccuse 1 2 1 0\nview\nend\n",
-        "member 1 10 10 10 : joined\nmember 2 20 20 20 : joined\nmember 3 30 30 30 : joined\nnote 1 1 7 : accepted\nat 0 entered 1\nnote 3 1 7 : accepted\nat 0 entered 3\nnote 2 1 5 : accepted\nat 0 entered 2\nnote 2 1 6 : accepted\naccuse 1 2 1 0 : refused ring-disabled\nview : 1 2 3\nend\n",
+        "member 1 10 10 10\nmember 2 20 20 20\nmember 3 30 30 30\nnote 1 1 7\nnote 3 1 7\n\
+            note 2 1 5\nnote 2 1 6\naccuse 1 2 1 0\nview\nend\n",
+        "member 1 10 10 10 : joined\nmember 2 20 20 20 : joined\nmember 3 30 30 30 : joined\n\
+            note 1 1 7 : accepted\nat 0 entered 1\nnote 3 1 7 : accepted\nat 0 entered 3\n\
+            note 2 1 5 : accepted\nat 0 entered 2\nnote 2 1 6 : accepted\n\
+            accuse 1 2 1 0 : refused ring-disabled\nview : 1 2 3\nend\n",
         0,
     ),
     // what comes again is refused
     (
         Front::Base,
-        "note 1 1 7\nnote 1 1 7\naccuse 1 2 1 0\naccuse 1 2 1 0\naccuse 9 2 1 0\nmember 4 40 40 40\naccuse 3 4 1 0\nend\n",
-        "note 1 1 7 : refused known\nnote 1 1 7 : refused known\naccuse 1 2 1 0 : accepted\naccuse 1 2 1 0 : refused standing\naccuse 9 2 1 0 : refused unknown-member\nmember 4 40 40 40 : joined\naccuse 3 4 1 0 : refused no-note\nend\n",
+        "note 1 1 7\nnote 1 1 7\naccuse 1 2 1 0\naccuse 1 2 1 0\naccuse 9 2 1 0\n\
+            member 4 40 40 40\naccuse 3 4 1 0\nend\n",
+        "note 1 1 7 : refused known\nnote 1 1 7 : refused known\naccuse 1 2 1 0 : accepted\n\
+            accuse 1 2 1 0 : refused standing\naccuse 9 2 1 0 : refused unknown-member\n\
+            member 4 40 40 40 : joined\naccuse 3 4 1 0 : refused no-note\nend\n",
         0,
     ),
     // a new life keeps the members alone
     (
         Front::Base,
-        "accuse 1 2 1 0\ntick 1\nnote 2 2 7\nlife\nnote 1 1 7\nnote 2 1 7\nnote 3 1 7\naccuse 1 2 1 0\ntick 3\nend\n",
-        "accuse 1 2 1 0 : accepted\ntick 1\nnote 2 2 7 : accepted\nat 1 fell 1 2 1 0\nlife : 2\nnote 1 1 7 : accepted\nat 0 entered 1\nnote 2 1 7 : accepted\nat 0 entered 2\nnote 3 1 7 : accepted\nat 0 entered 3\naccuse 1 2 1 0 : accepted\ntick 3\nat 3 expired 1 2 1 0\nat 3 removed 2\nend\n",
+        "accuse 1 2 1 0\ntick 1\nnote 2 2 7\nlife\nnote 1 1 7\nnote 2 1 7\nnote 3 1 7\n\
+            accuse 1 2 1 0\ntick 3\nend\n",
+        "accuse 1 2 1 0 : accepted\ntick 1\nnote 2 2 7 : accepted\nat 1 fell 1 2 1 0\nlife : 2\n\
+            note 1 1 7 : accepted\nat 0 entered 1\nnote 2 1 7 : accepted\nat 0 entered 2\n\
+            note 3 1 7 : accepted\nat 0 entered 3\naccuse 1 2 1 0 : accepted\ntick 3\n\
+            at 3 expired 1 2 1 0\nat 3 removed 2\nend\n",
         0,
     ),
     // nobody monitors one who is alone
     (
         Front::Head,
         "member 1 10 10 10\nmember 2 20 20 20\nnote 1 1 7\naccuse 2 1 1 0\nend\n",
-        "member 1 10 10 10 : joined\nmember 2 20 20 20 : joined\nnote 1 1 7 : accepted\nat 0 entered 1\naccuse 2 1 1 0 : refused not-monitor none\nend\n",
+        "member 1 10 10 10 : joined\nmember 2 20 20 20 : joined\nnote 1 1 7 : accepted\n\
+            at 0 entered 1\naccuse 2 1 1 0 : refused not-monitor none\nend\n",
         0,
     ),
 ];
