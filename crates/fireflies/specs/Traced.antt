@@ -1,5 +1,5 @@
 -- What was written, beside the trace of what was taken.
-use Rattle.std.specs.Prelude.{◌≡◌, ◌≤◌, ◌+◌, ◌⊎◌, ℕ, true, List, [], ◌∷◌, ◌++◌, length, Option, Some, None}
+use Rattle.std.specs.Prelude.{◌≡◌, ◌≤◌, ◌+◌, ◌⊎◌, ℕ, true, List, [], ◌∷◌, ◌++◌, length, Option, Some, None, IfSome}
 use Rattle.std.specs.Io.KnownBytes.{Appends, Consumes}
 use Rattle.line_text.specs.declared.bad_word.BadWord.{BadWord}
 use Rattle.play.specs.Plays.{Standing}
@@ -32,6 +32,13 @@ IsCause cause status.Ok = cause ≡ None
 IsCause cause (status.BadInput line refused) = cause ≡ Some refused
 IsCause cause _ = Unit {0}
 
+-- The trace of the whole text, where the bytes left at first are told: where the run came to its end or to a line that
+-- is refused, what was written is all of it, whatever stands behind the line.
+abbrev pub IsTrace : Owed BadWord → Option (List ℕ) → List ℕ → Status → Type 0
+IsTrace owed left text status.Ok = IfSome left (λ all. owed (seen all) ≡ record { output = text; cause = None })
+IsTrace owed left text (status.BadInput line refused) = IfSome left (λ all. owed (seen all) ≡ record { output = text; cause = Some refused })
+IsTrace owed left text _ = Unit {0}
+
 -- What was written early: nothing, where nothing is written before the end of a text.
 abbrev pub IsEarly : Owed BadWord → List ℕ → Status → Type 0
 IsEarly owed text status.ReadFault = SpeaksAtEnd owed → text ≡ []
@@ -58,4 +65,5 @@ pub record Traced (owed : Owed BadWord) (was now : Standing) (s : Status) : Type
   pub front : (owed (seen bytes)).output ≡ text ++ rest
   pub whole : IsOwed owed rest s
   pub cause : IsCause (owed (seen bytes)).cause s
+  pub exact : IsTrace owed was.left text s
   pub early : IsEarly owed text s
