@@ -1,11 +1,11 @@
 // What no command uses yet: each call fails, and the clock stands still.
 
-ghost use Rattle.std.specs.Prelude.{◌≡◌, ◌≤◌};
+ghost use Rattle.std.specs.Prelude.{◌≡◌, true, [], is_err};
 ghost use Rattle.ports.specs.Count.{next_count};
 
 use ports::{Clock, Disk, Failed, Link, Opened, Received, Sent};
 
-/// A disk, or a link, whose every call fails.
+/// A disk, or a link, whose every call fails. It tells no file.
 #[derive(Drop)]
 pub struct Absent {
     faults: u64,
@@ -19,8 +19,7 @@ impl Absent {
     }
 
     fn fail(&mut self)
-        ensures kept { self.old.faults ≤ self.new.faults }
-        ensures counted { self.new.faults ≡ next_count self.old.faults }
+        ensures { self.new.faults ≡ next_count self.old.faults }
     {
         self.faults = self.faults.saturating_add(1);
     }
@@ -29,46 +28,78 @@ impl Absent {
 impl Disk for Absent {
     ghost faults = { λ d. d.faults };
 
-    fn open(&mut self, _name: &str) -> Opened {
+    ghost moments = { λ _. [] };
+
+    fn open(&mut self, _name: &str) -> Opened
+        ensures answer { result ≡ Opened.Failed }
+        ensures counted { self.new.faults ≡ next_count self.old.faults }
+    {
         self.fail();
         Opened::Failed
     }
 
-    fn len(&mut self) -> Result<u64, Failed> {
+    fn len(&mut self) -> Result<u64, Failed>
+        ensures answer { is_err result ≡ true }
+        ensures counted { self.new.faults ≡ next_count self.old.faults }
+    {
         self.fail();
         Err(Failed)
     }
 
-    fn read_at(&mut self, _place: u64, _buf: &mut [u8]) -> Result<usize, Failed> {
+    fn read_at(&mut self, _place: u64, buf: &mut [u8]) -> Result<usize, Failed>
+        ensures answer { is_err result ≡ true }
+        ensures counted { self.new.faults ≡ next_count self.old.faults }
+        ensures kept { buf.new ≡ buf.old }
+    {
+        let _ = buf;
         self.fail();
         Err(Failed)
     }
 
-    fn write_at(&mut self, _place: u64, _bytes: &[u8]) -> Result<(), Failed> {
+    fn write_at(&mut self, _place: u64, _bytes: &[u8]) -> Result<(), Failed>
+        ensures answer { is_err result ≡ true }
+        ensures counted { self.new.faults ≡ next_count self.old.faults }
+    {
         self.fail();
         Err(Failed)
     }
 
-    fn sync(&mut self) -> Result<(), Failed> {
+    fn sync(&mut self) -> Result<(), Failed>
+        ensures answer { is_err result ≡ true }
+        ensures counted { self.new.faults ≡ next_count self.old.faults }
+    {
         self.fail();
         Err(Failed)
     }
+
+    ghost image_left = { λ _. tt };
 }
 
 impl Link for Absent {
     ghost faults = { λ d. d.faults };
 
-    fn bind(&mut self, _port: u16) -> Opened {
+    fn bind(&mut self, _port: u16) -> Opened
+        ensures answer { result ≡ Opened.Failed }
+        ensures counted { self.new.faults ≡ next_count self.old.faults }
+    {
         self.fail();
         Opened::Failed
     }
 
-    fn receive(&mut self, _buf: &mut [u8]) -> Received {
+    fn receive(&mut self, buf: &mut [u8]) -> Received
+        ensures answer { result ≡ Received.Failed }
+        ensures counted { self.new.faults ≡ next_count self.old.faults }
+        ensures kept { buf.new ≡ buf.old }
+    {
+        let _ = buf;
         self.fail();
         Received::Failed
     }
 
-    fn send(&mut self, _port: u16, _bytes: &[u8]) -> Sent {
+    fn send(&mut self, _port: u16, _bytes: &[u8]) -> Sent
+        ensures answer { result ≡ Sent.Failed }
+        ensures counted { self.new.faults ≡ next_count self.old.faults }
+    {
         self.fail();
         Sent::Failed
     }
@@ -79,7 +110,11 @@ impl Link for Absent {
 pub struct NoClock;
 
 impl Clock for NoClock {
-    fn now(&mut self) -> u64 {
+    ghost reading = { λ _. 0 };
+
+    fn now(&mut self) -> u64
+        ensures { result ≡ 0 }
+    {
         0
     }
 }

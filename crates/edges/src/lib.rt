@@ -1,8 +1,11 @@
 //! The outside of the program: standard input as a source, standard output as a sink, and what stands in for
-//! a disk, a link and a clock while no command uses one. They tell no content, so what they move is trusted.
+//! a disk, a link and a clock while no command uses one. They tell what their reader and writer tell: over the
+//! toolchain's own standard input and output that is nothing.
 #![tactic(auto)]
 
-ghost use Rattle.std.specs.Prelude.{◌≡◌, None, IfOk};
+ghost use Rattle.std.specs.Prelude.{◌≡◌, true, false, IfOk};
+ghost use Rattle.std.specs.Io.Buffered.{reader_remaining};
+ghost use Rattle.ports.specs.Count.{next_count};
 
 mod absent;
 
@@ -19,37 +22,63 @@ const BUFFER: usize = 65_536;
 #[derive(Drop)]
 pub struct StdSource<R: Read + Drop> {
     reader: BufReader<R>,
+    is_open: bool,
     faults: u64,
 }
 
 impl<R: Read + Drop> StdSource<R> {
-    /// The source of a reader that has had no fault.
+    /// The source of a reader that has had no fault and gave no end.
     pub fn new(alloc: Global, reader: R) -> Result<StdSource<R>, NoMemory>
-        ensures { IfOk result (λ s. s.faults ≡ 0) }
+        ensures open { IfOk result (λ s. s.is_open ≡ true) }
+        ensures faults { IfOk result (λ s. s.faults ≡ 0) }
+        ensures left { IfOk result (λ s. reader_remaining R.remaining s.reader ≡ R.remaining reader) }
     {
         match BufReader::with_capacity(alloc, BUFFER, reader) {
-            Ok(reader) => Ok(StdSource { reader, faults: 0 }),
+            Ok(reader) => Ok(StdSource {
+                reader,
+                is_open: true,
+                faults: 0,
+            }),
             Err(_) => Err(NoMemory),
         }
+    }
+
+    fn end(&mut self) -> Taken
+        ensures answer { result ≡ Taken.End }
+        ensures shut { self.new ≡ record self.old { is_open = false } }
+    {
+        self.is_open = false;
+        Taken::End
+    }
+
+    fn fail(&mut self) -> Taken
+        ensures answer { result ≡ Taken.Failed }
+        ensures shut { self.new ≡ record self.old {
+          is_open = false;
+          faults = next_count self.old.faults;
+        } }
+    {
+        self.is_open = false;
+        self.faults = self.faults.saturating_add(1);
+        Taken::Failed
     }
 }
 
 impl<R: Read + Drop> Source for StdSource<R> {
     ghost faults = { λ s. s.faults };
 
-    ghost left = { λ _. None };
+    ghost left = { λ s. reader_remaining R.remaining s.reader };
+
+    ghost is_open = { λ s. s.is_open };
 
     fn read(&mut self, buf: &mut [u8]) -> Taken {
         if buf.is_empty() {
             return Taken::Got(0);
         }
         match self.reader.read(buf) {
-            Ok(0) => Taken::End,
+            Ok(0) => self.end(),
             Ok(count) => Taken::Got(count),
-            Err(_) => {
-                self.faults = self.faults.saturating_add(1);
-                Taken::Failed
-            }
+            Err(_) => self.fail(),
         }
     }
 }
@@ -58,22 +87,45 @@ impl<R: Read + Drop> Source for StdSource<R> {
 #[derive(Drop)]
 pub struct StdSink<W: Write + Drop> {
     writer: W,
+    is_open: bool,
     faults: u64,
 }
 
 impl<W: Write + Drop> StdSink<W> {
     /// The sink of a writer that has had no fault.
     pub fn new(writer: W) -> StdSink<W>
-        ensures { result.faults ≡ 0 }
+        ensures { result ≡ record {
+          writer = writer;
+          is_open = true;
+          faults = 0;
+        } }
     {
-        StdSink { writer, faults: 0 }
+        StdSink {
+            writer,
+            is_open: true,
+            faults: 0,
+        }
+    }
+
+    fn fail(&mut self) -> Given
+        ensures answer { result ≡ Given.Failed }
+        ensures shut { self.new ≡ record self.old {
+          is_open = false;
+          faults = next_count self.old.faults;
+        } }
+    {
+        self.is_open = false;
+        self.faults = self.faults.saturating_add(1);
+        Given::Failed
     }
 }
 
 impl<W: Write + Drop> Sink for StdSink<W> {
     ghost faults = { λ s. s.faults };
 
-    ghost taken = { λ _. None };
+    ghost taken = { λ s. W.contents s.writer };
+
+    ghost is_open = { λ s. s.is_open };
 
     fn write(&mut self, bytes: &[u8]) -> Given {
         if bytes.is_empty() {
@@ -81,10 +133,10 @@ impl<W: Write + Drop> Sink for StdSink<W> {
         }
         match self.writer.write(bytes) {
             Ok(count) if count > 0 => Given::Took(count),
-            _ => {
-                self.faults = self.faults.saturating_add(1);
-                Given::Failed
-            }
+            _ => self.fail(),
         }
     }
 }
+
+#[cfg(test)]
+mod tests;

@@ -1,2 +1,4 @@
+pub mod FaultLemmas
+pub mod HexLemmas
 pub mod MaskLemmas
 pub mod Rows

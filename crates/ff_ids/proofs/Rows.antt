@@ -29,7 +29,7 @@ state_of events = after group (opening []) events
 
 -- What the event reports after the others: expired, removed, entered, fell.
 abbrev told : List Event → Event → List AccBody × List ℕ × List ℕ × List AccBody
-told events e = let r = step group (state_of events) e in (r.expired, r.removed, r.entered, r.fell)
+told events e = let r = (step group (state_of events) e).report in (r.expired, r.removed, r.entered, r.fell)
 
 abbrev nothing : List AccBody × List ℕ × List ℕ × List AccBody
 nothing = ([], [], [], [])

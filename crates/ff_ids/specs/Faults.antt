@@ -21,12 +21,42 @@ abbrev pub fault_after : Option NoteBody → NoteBody → Option Fault
 fault_after None n = None
 fault_after (Some kept) n = fault_beside kept (note_cmp n kept)
 
--- Why a note is refused, in a group of tolerance t.
-abbrev pub note_fault : ℕ → State → NoteBody → Option Fault
-note_fault t s n =
-    if not (is_member s n.member) then Some faults.UnknownMember
+-- Why a note is refused, in a group of tolerance t, given whether its member has joined and the newest note of it.
+abbrev pub note_fault_by : ℕ → Bool → Option NoteBody → NoteBody → Option Fault
+note_fault_by t has_joined kept n =
+    if not has_joined then Some faults.UnknownMember
     else (if not (good_mask t n.mask.0) then Some faults.BadMask
-    else fault_after (newest s.notes n.member) n)
+    else fault_after kept n)
+
+abbrev pub note_fault : ℕ → State → NoteBody → Option Fault
+note_fault t s n = note_fault_by t (is_member s n.member) (newest s.notes n.member) n
+
+-- What is asked about an accusation: whether accuser and accused have joined, the newest note of the accused,
+-- whether the accused is in the view, its monitor on the ring, and whether the same accusation is kept.
+pub record Facts : Type 0 where
+  pub both_joined : Bool
+  pub newest_note : Option NoteBody
+  pub viewed : Bool
+  pub ring_monitor : Option ℕ
+  pub is_standing : Bool
+
+-- Why an accusation is refused whose numbers are in order, given the newest note of the accused.
+abbrev pub fault_under : Facts → AccBody → Option NoteBody → Option Fault
+fault_under f a None = Some faults.NoNote
+fault_under f a (Some n) =
+    if not (n.epoch == a.epoch) then Some (faults.OtherEpoch n.epoch)
+    else (if not f.viewed then Some faults.NotInView
+    else (if not (enables n.mask.0 a.ring.0) then Some faults.RingDisabled
+    else (if not (is_number f.ring_monitor a.accuser) then Some (faults.NotMonitor f.ring_monitor)
+    else (if f.is_standing then Some faults.Standing else None))))
+
+-- Why an accusation is refused, in a group of tolerance t, given the facts.
+abbrev pub accusation_fault_by : ℕ → Facts → AccBody → Option Fault
+accusation_fault_by t f a =
+    if not f.both_joined then Some faults.UnknownMember
+    else (if a.accuser == a.accused then Some faults.SelfAccusation
+    else (if nat_le (ring_count t) a.ring.0 then Some faults.BadRing
+    else fault_under f a f.newest_note))
 
 abbrev pub same_accusation : AccBody → AccBody → Bool
 same_accusation a b = (a.accuser == b.accuser) && (a.accused == b.accused) && (a.epoch == b.epoch) && (a.ring.0 == b.ring.0)
@@ -35,20 +65,19 @@ same_accusation a b = (a.accuser == b.accuser) && (a.accused == b.accused) && (a
 abbrev pub is_kept : State → AccBody → Bool
 is_kept s a = list_any (λ p. same_accusation p.0 a) s.kept
 
--- Why an accusation is refused whose numbers are in order, given the newest note of the accused.
-abbrev pub fault_under : State → AccBody → Option NoteBody → Option Fault
-fault_under s a None = Some faults.NoNote
-fault_under s a (Some n) =
-    if not (n.epoch == a.epoch) then Some (faults.OtherEpoch n.epoch)
-    else (if not (in_view s a.accused) then Some faults.NotInView
-    else (if not (enables n.mask.0 a.ring.0) then Some faults.RingDisabled
-    else (if not (is_number (monitor s a.ring.0 a.accused) a.accuser) then Some (faults.NotMonitor (monitor s a.ring.0 a.accused))
-    else (if is_kept s a then Some faults.Standing else None))))
+abbrev pub facts_of : State → AccBody → Facts
+facts_of s a =
+    record {
+      both_joined = is_member s a.accuser && is_member s a.accused;
+      newest_note = newest s.notes a.accused;
+      viewed = in_view s a.accused;
+      ring_monitor = monitor s a.ring.0 a.accused;
+      is_standing = is_kept s a;
+    }
 
--- Why an accusation is refused, in a group of tolerance t.
 abbrev pub accusation_fault : ℕ → State → AccBody → Option Fault
-accusation_fault t s a =
-    if not (is_member s a.accuser && is_member s a.accused) then Some faults.UnknownMember
-    else (if a.accuser == a.accused then Some faults.SelfAccusation
-    else (if nat_le (ring_count t) a.ring.0 then Some faults.BadRing
-    else fault_under s a (newest s.notes a.accused)))
+accusation_fault t s a = accusation_fault_by t (facts_of s a) a
+
+-- Why a number is not added.
+abbrev pub join_fault : State → ℕ → Option Fault
+join_fault s m = if is_member s m then Some faults.AlreadyMember else None

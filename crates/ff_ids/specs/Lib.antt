@@ -6,3 +6,4 @@ pub mod Faults
 pub mod Steps
 pub mod Lives
 pub mod Texts
+pub mod Summaries

@@ -4,7 +4,7 @@ use Rattle.ff_ids.specs.declared.AccBody.{AccBody}
 use Rattle.ff_ids.specs.declared.Group.{Group}
 use Rattle.ff_ids.specs.Views.{State, Member, in_view, stands}
 use Rattle.ff_ids.specs.Faults.{accusation_fault}
-use Rattle.ff_ids.specs.Steps.{Event, Accuses, Ticks, Stepped, step}
+use Rattle.ff_ids.specs.Steps.{Event, Accuses, Ticks, Report, step}
 
 -- A life opens at moment 0 with those who have joined, and nothing else.
 abbrev pub opening : List Member → State
@@ -16,9 +16,9 @@ after g s [] = s
 after g s (e ∷ events) = after g (step g s e).state events
 
 -- What each event reports.
-abbrev pub reports : Group → State → List Event → List Stepped
+abbrev pub reports : Group → State → List Event → List Report
 reports g s [] = []
-reports g s (e ∷ events) = step g s e ∷ reports g (step g s e).state events
+reports g s (e ∷ events) = (step g s e).report ∷ reports g (step g s e).state events
 
 -- The state before the event at place j.
 abbrev pub state_at : Group → State → List Event → ℕ → State

@@ -14,17 +14,24 @@ pub data Event : Type 0 where
   Accuses : (accusation : AccBody) → Event
   Ticks : Event
 
--- A step leaves a state, and reports the accusations that expired, the members that left the view and those
--- that entered it, and the kept accusations that fell.
-pub record Stepped : Type 0 where
-  pub state : State
+-- What a step reports: the accusations that expired, the members that left the view and those that entered it,
+-- and the kept accusations that fell.
+pub record Report : Type 0 where
   pub expired : List AccBody
   pub removed : List ℕ
   pub entered : List ℕ
   pub fell : List AccBody
 
+abbrev pub nothing : Report
+nothing = record { expired = []; removed = []; entered = []; fell = [] }
+
+-- A step leaves a state, and reports.
+pub record Stepped : Type 0 where
+  pub state : State
+  pub report : Report
+
 abbrev pub unchanged : State → Stepped
-unchanged s = record { state = s; expired = []; removed = []; entered = []; fell = [] }
+unchanged s = record { state = s; report = nothing }
 
 -- The members of the first state's view that aren't in the second's.
 abbrev pub only_before : State → State → List ℕ
@@ -35,10 +42,12 @@ abbrev pub settled : State → State → List AccBody → Stepped
 settled old new expired =
     record {
       state = record new { kept = filter (λ p. stands new p.0) new.kept };
-      expired = expired;
-      removed = only_before old new;
-      entered = only_before new old;
-      fell = map (λ p. p.0) (filter (λ p. not (stands new p.0)) new.kept);
+      report = record {
+        expired = expired;
+        removed = only_before old new;
+        entered = only_before new old;
+        fell = map (λ p. p.0) (filter (λ p. not (stands new p.0)) new.kept);
+      };
     }
 
 abbrev pub joined : State → ℕ → List (List ℕ) → State

@@ -1,6 +1,7 @@
 -- Texts: how monitors, accusations and faults are written. A number is its decimal digits.
 use Rattle.std.specs.Prelude.{ℕ, List, ◌++◌, Option, Some, None, codes}
 use Rattle.std.specs.Fmt.{decimal}
+use Rattle.hex.specs.Hex.{encode_lower}
 use Rattle.ff_ids.specs.declared.AccBody.{AccBody}
 use Rattle.ff_ids.specs.declared.Fault.{Fault}
 use Rattle.ff_ids.specs.declared.Fault.TheVariants as faults
@@ -28,3 +29,7 @@ fault_text faults.NotInView = codes "not-in-view"
 fault_text faults.RingDisabled = codes "ring-disabled"
 fault_text (faults.NotMonitor monitor) = codes "not-monitor " ++ monitor_text monitor
 fault_text faults.Standing = codes "standing"
+fault_text faults.BadSignature = codes "bad-signature"
+fault_text (faults.OtherCertificate port key) = codes "other-certificate " ++ decimal port ++ codes " " ++ encode_lower key
+fault_text (faults.OwnAhead stored seen) =
+    codes "own-ahead " ++ decimal stored.epoch ++ codes " " ++ decimal stored.mask.0 ++ codes " " ++ decimal seen.epoch ++ codes " " ++ decimal seen.mask.0

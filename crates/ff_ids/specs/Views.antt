@@ -2,6 +2,7 @@
 use Rattle.std.specs.Prelude.{ℕ, Bool, false, ◌&&◌, not, ◌==◌, nat_le, if◌then◌else◌, List, [], ◌∷◌, Option, Some, None, map, filter}
 use Rattle.std.specs.List.{list_any, range_with_len, slice_index_or}
 use Rattle.std.specs.Option.{option_map_or}
+use Rattle.ff_ids.specs.declared.TheConstants.{MEMBERS}
 use Rattle.ff_ids.specs.declared.NoteBody.{NoteBody}
 use Rattle.ff_ids.specs.declared.AccBody.{AccBody}
 use Rattle.ff_ids.specs.Masks.{enables}
@@ -40,7 +41,7 @@ in_view s m = option_map_or (λ n. not (has_expired s.expired n)) (newest s.note
 
 -- Every member number, in order.
 unfoldable pub all_numbers : List ℕ
-all_numbers = range_with_len 0 1024
+all_numbers = range_with_len 0 MEMBERS
 
 -- The members of the view, in order of number.
 abbrev pub view : State → List ℕ

@@ -5,9 +5,11 @@
 ghost use Rattle.std.specs.Prelude.{◌≡◌, ◌<◌, ◌≤◌, length};
 ghost use Rattle.ff_ids.specs.Masks.{enables, enabled, good_mask as is_good};
 
+mod summary;
 mod text;
 
 use std::marker::Model;
+pub use summary::{EntryList, RecordKey, Summary, SummaryEntry};
 
 /// How many member numbers there are: they are 0 to 1,023.
 pub const MEMBERS: u16 = 1024;
@@ -20,19 +22,20 @@ pub struct MemberId {
 
 impl Model for MemberId {
     ghost use Rattle.std.specs.Prelude.{ℕ, ◌<◌};
+    ghost use Rattle.ff_ids.specs.declared.TheConstants.{MEMBERS};
 
     ghost Value = { ℕ };
 
     ghost view = { λ m. m.number };
 
-    ghost invariant = { λ m. m.number < 1024 };
+    ghost invariant = { λ m. m.number < MEMBERS };
 
     ghost inverse = { λ n. record { number = n } };
 }
 
 impl MemberId {
     pub fn new(number: u16) -> MemberId
-        requires { number < 1024 }
+        requires { number < MEMBERS }
         ensures { result ≡ number }
     {
         MemberId { number }
@@ -40,7 +43,7 @@ impl MemberId {
 
     pub fn get(self) -> u16
         ensures value { result ≡ self }
-        ensures range { result < 1024 }
+        ensures range { result < MEMBERS }
     {
         self.number
     }
@@ -129,8 +132,10 @@ pub enum Fault {
     UnknownMember,
     /// The mask enables a ring at or above 2t+1, or fewer than t+1 rings.
     BadMask,
-    /// The note is the newest of its member.
+    /// This certificate is kept, or this note is the newest of its member.
     Known,
+    /// Another certificate is kept for the number, and these are its port and its key's 56 bytes.
+    OtherCertificate { port: u16, key: [u8; 56] },
     /// The newest note of the member, whose epoch and mask these are, is greater.
     Older { epoch: Epoch, mask: Mask },
     /// The accuser is the accused.
@@ -149,6 +154,10 @@ pub enum Fault {
     NotMonitor { monitor: Option<MemberId> },
     /// The same accusation is kept.
     Standing,
+    /// The signature doesn't verify under the key of the record's author.
+    BadSignature,
+    /// A note of the observer itself that is greater than its newest. Both are given.
+    OwnAhead { stored: NoteBody, seen: NoteBody },
 }
 
 impl Mask {

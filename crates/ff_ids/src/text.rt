@@ -1,7 +1,9 @@
 // How members, epochs, rings, masks, accusations and faults are written.
 
-ghost use Rattle.std.specs.Prelude.{Some};
+ghost use Rattle.std.specs.Prelude.{◌≡◌, ◌<◌, [], ◌∷◌, Some, slice_index};
+ghost use Rattle.std.specs.Char.{encode_utf8};
 ghost use Rattle.std.specs.Fmt.{decimal};
+ghost use Rattle.hex.specs.Hex.{encode_lower, lower_digits};
 ghost use Rattle.ff_ids.specs.Texts.{accusation_text, fault_text};
 
 use crate::{AccBody, Epoch, Fault, Mask, MemberId, RingNo};
@@ -54,6 +56,31 @@ impl fmt::Display for AccBody {
     }
 }
 
+/// The 56 bytes of a key in hexadecimal, two lower case digits each.
+#[derive(Drop)]
+struct KeyDigits([u8; 56]);
+
+/// The digit of this value.
+fn digit(value: u8) -> char
+    requires { value < 16 }
+    ensures { encode_utf8 result ≡ slice_index lower_digits value ∷ [] }
+{
+    let digits = b"0123456789abcdef";
+    char::from(digits[value as usize])
+}
+
+impl fmt::Display for KeyDigits {
+    ghost output = { λ key. Some (encode_lower key.0) };
+
+    fn fmt<W: fmt::Write>(&self, f: &mut fmt::Formatter<W>) -> fmt::Result {
+        for byte in &self.0 {
+            f.write_char(digit(*byte / 16))?;
+            f.write_char(digit(*byte % 16))?;
+        }
+        Ok(())
+    }
+}
+
 impl fmt::Display for Fault {
     ghost output = { λ fault. Some (fault_text fault) };
 
@@ -75,6 +102,16 @@ impl fmt::Display for Fault {
             } => write!(f, "not-monitor {monitor}"),
             Fault::NotMonitor { monitor: None } => f.write_str("not-monitor none"),
             Fault::Standing => f.write_str("standing"),
+            Fault::BadSignature => f.write_str("bad-signature"),
+            Fault::OtherCertificate { port, key } => {
+                let key = KeyDigits(key);
+                write!(f, "other-certificate {port} {key}")
+            }
+            Fault::OwnAhead { stored, seen } => {
+                let (old_epoch, old_mask) = (stored.epoch, stored.mask);
+                let (epoch, mask) = (seen.epoch, seen.mask);
+                write!(f, "own-ahead {old_epoch} {old_mask} {epoch} {mask}")
+            }
         }
     }
 }

@@ -1,2 +1,3 @@
-pub mod CauseLemmas
-pub mod UprightLemmas
+pub mod EndLemmas
+pub mod TraceLemmas
+pub mod HeadlineLemmas

@@ -1,9 +1,9 @@
--- The commands: which words name them, and what a run of one is to write.
+-- The commands: which words name them.
 use Rattle.std.specs.Prelude.{ℕ, List, [], ◌∷◌, Option, Some, None, codes, if◌then◌else◌}
 use Rattle.std.specs.Str.{bytes_eq}
-use Rattle.trace.specs.Played.{Trace}
-use Rattle.replay.specs.Stops as replayed
-use Rattle.verifier.specs.Asking as asking
+use Rattle.text_trace.specs.Trace.{Owed}
+use Rattle.trace.specs.Walk.{replayed}
+use Rattle.line_text.specs.declared.bad_word.BadWord.{BadWord}
 use Rattle.fireflies.specs.declared.command.Command.{Command}
 use Rattle.fireflies.specs.declared.command.Command.TheVariants.{Replay, Verify}
 
@@ -18,7 +18,7 @@ command_of [] = None
 command_of (word ∷ []) = command_named word
 command_of (word ∷ other ∷ words) = None
 
--- The whole of what a run of the command is to write, that has written so much before it begins and has this to read.
-abbrev pub owed_by : Command → Option (List ℕ) → Option (List ℕ) → Option Trace
-owed_by Replay taken left = replayed.owed_at_first taken left
-owed_by Verify taken left = asking.owed_at_first taken left
+-- What a run of the command owes for the lines of its text.
+abbrev pub owed_by : Command → Owed BadWord
+owed_by Replay = replayed
+owed_by Verify = replayed

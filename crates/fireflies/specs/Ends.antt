@@ -1,70 +1,61 @@
--- How a run ends: what it has written of its trace, and for which cause it stopped.
-use Rattle.std.specs.Prelude.{◌≡◌, ℕ, ◌⊎◌, List, [], ◌∷◌, ◌++◌, Option, Some, None, codes}
-use Rattle.ports.specs.Contents.{IsUsedUp}
-use Rattle.ports.specs.Count.{Rose}
-use Rattle.schedule.specs.declared.bad_word.BadWord.{BadWord}
-use Rattle.trace.specs.Played.{Trace, refusal}
-use Rattle.replay.specs.Stops.{IsFront}
+-- How a run over a text ends: what it took and wrote of it, and the line of the first cause that stopped it.
+use Rattle.std.specs.Prelude.{◌≡◌, ℕ, ◌⊎◌, List, Option}
+use Rattle.std.specs.Io.KnownBytes.{Appends}
+use Rattle.line_text.specs.declared.bad_word.BadWord.{BadWord}
+use Rattle.ports.specs.Contents.{TookFront}
+use Rattle.ports.specs.Count.{next_count}
+use Rattle.play.specs.Plays.{Standing, Unfailed, Finished, Refused, Unread, Unwritten, Starved}
+use Rattle.text_trace.specs.Trace.{Owed}
+use Rattle.fireflies.specs.Causes.{cause_line}
 use Rattle.fireflies.specs.declared.status.Status.{Status}
 use Rattle.fireflies.specs.declared.status.Status.TheVariants as status
 
-abbrev pub read_fault_line : List ℕ
-read_fault_line = codes "read fault" ++ 10 ∷ []
+-- Just this is owed.
+abbrev pub Is : Owed BadWord → Owed BadWord → Type 0
+Is owed f = f ≡ owed
 
--- All of the trace before the refused line, and then the line that says so.
-pub record IsRefused (t : Trace) (taken : List ℕ) (line : ℕ) (word : BadWord) : Type 0 where
-  pub refused : t.refused ≡ Some (line, word)
-  pub written : taken ≡ t.output ++ refusal (line, word)
+-- So many lines may come, and one behind them, which is refused.
+abbrev pub room : ℕ
+room = 100000
 
--- A front of the trace, and then the line that says that a read failed.
-pub record IsCutOff (t : Trace) (taken : List ℕ) : Type 0 where
-  pub front : List ℕ
-  pub begun : IsFront front t.output
-  pub written : taken ≡ front ++ read_fault_line
+-- How a run stands that owes this, before the line of the cause for which it stopped.
+abbrev pub Stands : Owed BadWord → Standing → Standing → Status → Type 0
+Stands owed was now status.Ok = Finished BadWord (Is owed) room was now
+Stands owed was now status.Usage = ⊥
+Stands owed was now (status.BadInput line word) = Refused BadWord (Is owed) room 1 line word was now
+Stands owed was now status.ReadFault = Unread BadWord (Is owed) room was now
+Stands owed was now status.WriteFault = Unwritten BadWord (Is owed) room was now
+Stands owed was now status.OutOfMemory = Starved BadWord (Is owed) room was now
 
--- All of the trace before the refused line, and a front of the line that says so.
-pub record IsHalfRefused (t : Trace) (taken : List ℕ) : Type 0 where
-  pub cause : ℕ × BadWord
-  pub refused : t.refused ≡ Some cause
-  pub half : List ℕ
-  pub begun : IsFront half (refusal cause)
-  pub written : taken ≡ t.output ++ half
+-- The line of the cause was written, and nothing else came about.
+pub record Told (first : Status) (was now : Standing) : Type 0 where
+  pub line : Appends was.taken now.taken (cause_line first)
+  pub left : now.left ≡ was.left
+  pub unfailed : Unfailed was now
 
--- A front of the trace, and a front of the line that says that a read failed, which it did.
-pub record IsHalfCutOff (t : Trace) (taken : List ℕ) (before later : ℕ) : Type 0 where
-  pub failed : Rose before later
-  pub front : List ℕ
-  pub begun : IsFront front t.output
-  pub half : List ℕ
-  pub half_begun : IsFront half read_fault_line
-  pub written : taken ≡ front ++ half
+-- A front of the line of the cause was written, and then a write failed.
+pub record Cut (first : Status) (was now : Standing) : Type 0 where
+  pub front : TookFront was.taken now.taken (cause_line first)
+  pub left : now.left ≡ was.left
+  pub failed : now.write_faults ≡ next_count was.write_faults
+  pub kept : now.read_faults ≡ was.read_faults
 
--- What the sink took where a write failed: a front of the trace; or what was written before the line that
--- gives an earlier cause, and a front of that line.
-abbrev pub IsBroken : Trace → List ℕ → ℕ → ℕ → Type 0
-IsBroken t taken before later = IsFront taken t.output ⊎ (IsHalfRefused t taken ⊎ IsHalfCutOff t taken before later)
+-- A run that stopped for the first status answers this: the same where its line is written, and else that a write
+-- failed.
+abbrev pub Tells : Status → Standing → Standing → Status → Type 0
+Tells first was now s = ((s ≡ first) × Told first was now) ⊎ ((s ≡ status.WriteFault) × Cut first was now)
 
--- A run that owes the trace ends so, where the sink has taken this, the source has this left, and
--- its count of faults went from the one number to the other.
-abbrev pub EndsOf : Trace → List ℕ → Option (List ℕ) → ℕ → ℕ → Status → Type 0
-EndsOf t taken left before later status.Ok = (t ≡ record { output = taken; refused = None }) × IsUsedUp left
-EndsOf t taken left before later status.Usage = ⊥
-EndsOf t taken left before later (status.BadInput line word) = IsRefused t taken line word
-EndsOf t taken left before later status.ReadFault = IsCutOff t taken
-EndsOf t taken left before later status.WriteFault = IsBroken t taken before later
-EndsOf t taken left before later status.OutOfMemory = IsFront taken t.output
+-- A run that owes this ends so: it stopped for a first cause, and the line of that cause is the last that is written.
+pub record Ends (owed : Owed BadWord) (was now : Standing) (s : Status) : Type 0 where
+  pub first : Status
+  pub between : Standing
+  pub stands : Stands owed was between first
+  pub tells : Tells first between now s
 
--- The same where the sink tells what it took and the source what is left; else nothing is said.
-abbrev pub Ends : Option Trace → Option (List ℕ) → Option (List ℕ) → ℕ → ℕ → Status → Type 0
-Ends None taken left before later s = Unit {0}
-Ends (Some t) None left before later s = Unit {0}
-Ends (Some t) (Some taken) left before later s = EndsOf t taken left before later s
-
--- The text of the trace is taken to its end.
-abbrev pub IsTaken : Option Trace → Type 0
-IsTaken None = ⊥
-IsTaken (Some t) = t.refused ≡ None
-
--- The run came to the end of the text, or was refused memory.
-abbrev pub IsComplete : Status → Type 0
-IsComplete s = (s ≡ status.Ok) ⊎ (s ≡ status.OutOfMemory)
+-- The counts of faults after a run: a cause that is no fault leaves both, a fault raises its own by one. Where the line
+-- of a read fault can't be written, both rise.
+abbrev pub Counts : Standing → Standing → Status → Type 0
+Counts was now status.ReadFault = (now.read_faults ≡ next_count was.read_faults) × (now.write_faults ≡ was.write_faults)
+Counts was now status.WriteFault =
+    ((now.read_faults ≡ was.read_faults) ⊎ (now.read_faults ≡ next_count was.read_faults)) × (now.write_faults ≡ next_count was.write_faults)
+Counts was now _ = Unfailed was now

@@ -1,3 +1,8 @@
 pub mod Numbers
-pub mod Ends
+pub mod Words
 pub mod Commands
+pub mod Causes
+pub mod Ends
+pub mod Traced
+pub mod Headline
+pub mod Starts

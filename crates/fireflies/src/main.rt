@@ -1,42 +1,26 @@
-//! The program: it makes the objects of the outside, calls `run`, and exits with the number of its answer.
+//! The program: it makes the objects of the outside, runs the command of its words, and exits with the number of the
+//! status.
 #![tactic(auto)]
 
 mod command;
+mod ending;
 mod run;
+mod start;
 mod status;
-#[cfg(test)]
-mod tests;
+mod words;
 
 pub use command::Command;
-use edges::{Absent, NoClock, StdSink, StdSource};
+use edges::{StdSink, StdSource};
 pub use run::run;
+use start::start;
 pub use status::Status;
 use std::io;
 use std::process::ExitCode;
+use words::words_of;
 
 fn main(rt: HostRuntime) -> ExitCode {
-    let mut words = Vec::new(rt.alloc());
-    let Ok(arguments) = std::env::args(&rt) else {
-        return ExitCode::from(Status::Usage.number());
-    };
-    for word in arguments.skip(1) {
-        if words.push(word).is_err() {
-            return ExitCode::from(Status::OutOfMemory.number());
-        }
-    }
-    let Ok(mut input) = StdSource::new(rt.alloc(), rt.reader()) else {
-        return ExitCode::from(Status::OutOfMemory.number());
-    };
+    let words = words_of(rt.alloc(), std::env::args(&rt));
+    let input = StdSource::new(rt.alloc(), rt.reader());
     let mut out = StdSink::new(io::writer(&rt));
-    let (mut disk, mut link, mut clock) = (Absent::new(), Absent::new(), NoClock);
-    let status = run(
-        rt.alloc(),
-        &words,
-        &mut input,
-        &mut out,
-        &mut disk,
-        &mut link,
-        &mut clock,
-    );
-    ExitCode::from(status.number())
+    ExitCode::from(start(rt.alloc(), words, input, &mut out).number())
 }

@@ -1,9 +1,15 @@
 // How a run may end.
 
-ghost use Rattle.std.specs.Prelude.{◌≡◌};
+ghost use Rattle.std.specs.Prelude.{◌≡◌, ◌++◌, ◌∷◌, [], codes};
+ghost use Rattle.std.specs.Fmt.{decimal};
+ghost use Rattle.line_text.specs.Texts.{bad_word_text};
+ghost use Rattle.fireflies.specs.Causes.{cause_line, status_of};
 ghost use Rattle.fireflies.specs.Numbers.{status_number};
 
-use schedule::BadWord;
+use arrayvec::ArrayString;
+use itoa::Buffer;
+use line_text::BadWord;
+use play::Stop;
 
 /// How a run ended, and the number with which the program then exits. The first cause that comes in the run
 /// ends it.
@@ -35,6 +41,49 @@ impl Status {
             Status::ReadFault => 5,
             Status::WriteFault => 6,
             Status::OutOfMemory => 11,
+        }
+    }
+
+    /// The line that gives the cause, with its line feed; nothing where there is none. It takes no memory.
+    pub fn line(self) -> ArrayString<32>
+        ensures { result.bytes ≡ cause_line self }
+    {
+        match self {
+            Status::BadInput { line, word } => refusal_line(line, word),
+            Status::ReadFault => {
+                let mut text = ArrayString::new();
+                text.push_str("read fault\n");
+                text
+            }
+            _ => ArrayString::new(),
+        }
+    }
+}
+
+/// The line that says which line is refused, and for which word.
+fn refusal_line(line: u32, word: BadWord) -> ArrayString<32>
+    ensures { result.bytes ≡ codes "bad " ++ decimal line ++ 32 ∷ [] ++ bad_word_text word ++ 10 ∷ [] }
+{
+    let mut digits = Buffer::new();
+    let mut text = ArrayString::new();
+    text.push_str("bad ");
+    text.push_str(digits.format(line));
+    text.push_str(" ");
+    text.push_str(word.text());
+    text.push_str("\n");
+    text
+}
+
+impl From<Result<(), Stop<BadWord>>> for Status {
+    ghost from_gives = { λ ended status. status ≡ status_of ended };
+
+    fn from(ended: Result<(), Stop<BadWord>>) -> Status {
+        match ended {
+            Ok(()) => Status::Ok,
+            Err(Stop::Refused { line, cause }) => Status::BadInput { line, word: cause },
+            Err(Stop::ReadFault) => Status::ReadFault,
+            Err(Stop::WriteFault) => Status::WriteFault,
+            Err(Stop::OutOfMemory) => Status::OutOfMemory,
         }
     }
 }

@@ -1,5 +1,5 @@
 use super::*;
-use ff_ids::{AccBody, Epoch, Mask, RingNo};
+use ff_ids::{AccBody, Epoch, Mask, NoteBody, RingNo};
 use std::test::Fail;
 
 fn at(moment: u64, what: What) -> Event {
@@ -12,6 +12,14 @@ fn accusation() -> AccBody {
         accused: MemberId::new(1023),
         epoch: Epoch::new(u64::MAX),
         ring: RingNo(4),
+    }
+}
+
+fn note(epoch: Epoch, mask: u32) -> NoteBody {
+    NoteBody {
+        member: MemberId::new(2),
+        epoch,
+        mask: Mask(mask),
     }
 }
 
@@ -59,6 +67,15 @@ fn writes_each_fault(rt: HostRuntime) -> Result<(), Fail> {
         Fault::NotMonitor { monitor },
         Fault::NotMonitor { monitor: None },
         Fault::Standing,
+        Fault::BadSignature,
+        Fault::OwnAhead {
+            stored: note(epoch, 7),
+            seen: note(Epoch::new(9), 3),
+        },
+        Fault::OtherCertificate {
+            port: 20002,
+            key: *b"\x00\x00\x00\x05\x00\x00\x00\x04identifier of 16root of thirty-two bytes, or 32\xff",
+        },
     ];
     let mut out = Vec::new(rt.alloc());
     for fault in &faults {
@@ -67,7 +84,9 @@ fn writes_each_fault(rt: HostRuntime) -> Result<(), Fail> {
     }
     let texts =
         "already-member,unknown-member,bad-mask,known,older 5 31,self-accusation,bad-ring,no-note,\
-other-epoch 5,not-in-view,ring-disabled,not-monitor 20,not-monitor none,standing,";
+other-epoch 5,not-in-view,ring-disabled,not-monitor 20,not-monitor none,standing,bad-signature,\
+own-ahead 5 7 9 3,other-certificate 20002 0000000500000004\
+6964656e746966696572206f66203136726f6f74206f66207468697274792d74776f2062797465732c206f72203332ff,";
     assert_eq!(rt; out.as_slice(), texts.as_bytes());
     Ok(())
 }

@@ -150,7 +150,7 @@ none_accepted g s events i j n a low at older accepted =
     absurd (omega (arith, older.older, p.reached, same))
 
 -- only a tick reports that accusations expired, of those that were kept
-expired-kept : (g : Group) (s : State) (e : Event) (a : AccBody) → In (step g s e).expired a → (q : AccBody × ℕ) × (In s.kept q × (q.0 ≡ a))
+expired-kept : (g : Group) (s : State) (e : Event) (a : AccBody) → In (step g s e).report.expired a → (q : AccBody × ℕ) × (In s.kept q × (q.0 ≡ a))
 expired-kept g s (Joins number places) a =
     elim (cases_Bool (is_member s number)) [
       | inl old ↦ rw old (λ i. absurd i)
@@ -159,13 +159,13 @@ expired-kept g s (Joins number places) a =
 expired-kept g s (Notes n) a =
     by_fault (note_fault g.t s n)
   where
-    by_fault : (f : Option Fault) → In (unless_fault f s (after_note s n)).expired a → (q : AccBody × ℕ) × (In s.kept q × (q.0 ≡ a))
+    by_fault : (f : Option Fault) → In (unless_fault f s (after_note s n)).report.expired a → (q : AccBody × ℕ) × (In s.kept q × (q.0 ≡ a))
     by_fault None i = absurd i
     by_fault (Some f) i = absurd i
 expired-kept g s (Accuses b) a =
     by_fault (accusation_fault g.t s b)
   where
-    by_fault : (f : Option Fault) → In (unless_fault f s (unchanged (after_accusation s b))).expired a → (q : AccBody × ℕ) × (In s.kept q × (q.0 ≡ a))
+    by_fault : (f : Option Fault) → In (unless_fault f s (unchanged (after_accusation s b))).report.expired a → (q : AccBody × ℕ) × (In s.kept q × (q.0 ≡ a))
     by_fault None i = absurd i
     by_fault (Some f) i = absurd i
 expired-kept g s Ticks a = λ i.

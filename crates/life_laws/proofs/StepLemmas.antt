@@ -9,7 +9,7 @@ use Rattle.ff_ids.specs.declared.Fault.{Fault}
 use Rattle.ff_ids.specs.Masks.{ring_count, enables}
 use Rattle.ff_ids.specs.Notes.{newest}
 use Rattle.ff_ids.specs.Views.{State, is_member, has_expired, in_view, monitor, is_number, stands}
-use Rattle.ff_ids.specs.Faults.{note_fault, accusation_fault, fault_under}
+use Rattle.ff_ids.specs.Faults.{note_fault, accusation_fault, facts_of, fault_under}
 use Rattle.ff_ids.specs.Steps.{Event, Joins, Notes, Accuses, Ticks, joined, with_kept, comes_first, is_due, after_note, after_accusation, after_tick, unless_fault, unchanged, step}
 use Rattle.life_laws.proofs.Lists.{In, In-from_filter, In-from_map, In-append_cases, some_passes, any_from_In}
 use Rattle.life_laws.proofs.ViewLemmas.{IsViewed-from, in_view-noted, AllJoined, stands-joined, stands-from}
@@ -21,7 +21,7 @@ none-parts true x o e = cc
 none-parts false x o e = (refl, e)
 
 -- what an accusation without a fault has
-standing_under : (s : State) (a : AccBody) (o : Option NoteBody) → newest s.notes a.accused ≡ o → fault_under s a o ≡ None → stands s a ≡ true
+standing_under : (s : State) (a : AccBody) (o : Option NoteBody) → newest s.notes a.accused ≡ o → fault_under (facts_of s a) a o ≡ None → stands s a ≡ true
 standing_under s a None e h = cc
 standing_under s a (Some n) e h =
     let epoch = none-parts (not (eqb n.epoch a.epoch)) _ _ h in

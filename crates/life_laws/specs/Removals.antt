@@ -5,7 +5,7 @@ use Rattle.ff_ids.specs.declared.AccBody.{AccBody}
 use Rattle.ff_ids.specs.declared.Group.{Group}
 use Rattle.ff_ids.specs.Views.{Member, State, is_unanswered_by}
 use Rattle.ff_ids.specs.Faults.{note_fault}
-use Rattle.ff_ids.specs.Steps.{Event, Notes, Stepped, after_note}
+use Rattle.ff_ids.specs.Steps.{Event, Notes, Report, after_note}
 use Rattle.ff_ids.specs.Lives.{opening, reports, state_at, IsAcceptedAt, IsJustified}
 
 -- In every life each removal rests on an accusation.
@@ -19,7 +19,7 @@ pub record IsNoteAcceptedAt (g : Group) (s : State) (events : List Event) (i : �
 
 -- The event at place j reports that the accusation expired.
 pub record ExpiresAt (g : Group) (s : State) (events : List Event) (j : ℕ) (a : AccBody) : Type 0 where
-  pub report : Stepped
+  pub report : Report
   pub reported : slice_get (reports g s events) j ≡ Some report
   pub expired : Contains report.expired a
 

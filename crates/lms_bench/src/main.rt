@@ -1,19 +1,23 @@
 //! Times keys, signatures and verifications beside as many plain calls of SHA-256 as they have compressions.
-//! With the word `run` it prints a line for each; else it does nothing.
+//! With the word `run` it prints a line for each; else it says so, and exits with 2.
 #![tactic(auto)]
 
 mod compressions;
+#[cfg(test)]
+mod tests;
 mod work;
 
 use lms_ots::OtsKind;
 use lms_tree::TreeKind;
 use std::io;
+use std::process::ExitCode;
 use work::{Work, measure};
 
-fn main(rt: HostRuntime) -> io::Result<()> {
+fn main(rt: HostRuntime) -> io::Result<ExitCode> {
     let mut words = std::env::args(&rt)?.skip(1);
     if !words.next().is_some_and(|word| word.as_str() == "run") {
-        return Ok(());
+        println!(rt; "the word `run` times keys, signatures and verifications")?;
+        return Ok(ExitCode::from(2));
     }
     for (name, tree, ots) in [
         ("W4 H10", TreeKind::H10, OtsKind::W4),
@@ -33,5 +37,5 @@ fn main(rt: HostRuntime) -> io::Result<()> {
             )?;
         }
     }
-    Ok(())
+    Ok(ExitCode::from(0))
 }

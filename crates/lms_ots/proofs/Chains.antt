@@ -65,33 +65,31 @@ length-public_value kind id q seed = length-sha256 _
 pub take_whole : (xs : List ℕ) (n : ℕ) → length xs ≡ n → take n xs ≡ xs
 take_whole xs n long = ap (λ k. take k xs) (sym long) ∙ take-length xs
 
--- each value has 32 bytes
-pub record Even (values : ℕ → List ℕ) : Type 0 where
-  pub each : (i : ℕ) → length (values i) ≡ 32
-
-pub length-joined : (values : ℕ → List ℕ) (n : ℕ) → Even values → length (joined values n) ≡ 32 * n
+pub length-joined : (values : ℕ → List ℕ) (n : ℕ) → ((i : ℕ) → i < n → length (values i) ≡ 32)
+    → length (joined values n) ≡ 32 * n
 unfolding joined
 length-joined values zero even = refl
 length-joined values (suc n) even =
-    omega (arith, length-append (joined values n) (values n), length-joined values n even, even.each n)
+    omega (arith, length-append (joined values n) (values n), length-joined values n (λ i lt. even i (omega arith)), even n (omega arith))
 
 -- value i of those that are joined
-pub joined-at : (values : ℕ → List ℕ) (n i : ℕ) → Even values → i < n
+pub joined-at : (values : ℕ → List ℕ) (n i : ℕ) → ((k : ℕ) → k < n → length (values k) ≡ 32) → i < n
     → take 32 (drop (32 * i) (joined values n)) ≡ values i
 unfolding joined
 joined-at values zero i even below = absurd (omega arith)
 joined-at values (suc n) i even below =
+    let before : (k : ℕ) → k < n → length (values k) ≡ 32 = λ k lt. even k (omega arith) in
+    let long = length-joined values n before in
     elim (cases_lt i n) [
       | inl lt ↦
-          let long = length-joined values n even in
           let inside : 32 * i ≤ length (joined values n) = omega arith in
           let room : 32 ≤ length (drop (32 * i) (joined values n)) = omega (arith, length-drop (32 * i) (joined values n)) in
           rw (drop-append-le (32 * i) (joined values n) (values n) inside)
-          (take-append-le 32 (drop (32 * i) (joined values n)) (values n) room ∙ joined-at values n i even lt)
+          (take-append-le 32 (drop (32 * i) (joined values n)) (values n) room ∙ joined-at values n i before lt)
       | inr ge ↦
           let same : i ≡ n = omega arith in
-          let place : length (joined values n) ≡ 32 * i = omega (arith, length-joined values n even) in
-          rw (drop_at (joined values n) (values n) (32 * i) place, same) (take_whole (values n) 32 (even.each n))
+          let place : length (joined values n) ≡ 32 * i = omega arith in
+          rw (drop_at (joined values n) (values n) (32 * i) place, same) (take_whole (values n) 32 (even n (omega arith)))
     ]
 
 -- the joined values follow from the single ones
@@ -144,12 +142,12 @@ unfolding signature_value digit
 signature_value-laid_out kind id q seed hash digits i laid =
     ap (λ d. chain (hash_prefix id q i) 0 (coef d i (width kind)) (secret id q seed i)) laid
 
-pub candidate_end-laid_out : (kind : OtsKind) (id : List ℕ) (q : ℕ) (hash digits signature value : List ℕ) (i : ℕ)
-    → digits ≡ with_checksum kind hash → value ≡ value_in signature i
+pub candidate_end-laid_out : (kind : OtsKind) (id : List ℕ) (q : ℕ) (hash digits value : List ℕ) (y : ℕ → List ℕ) (i : ℕ)
+    → digits ≡ with_checksum kind hash → value ≡ y i
     → chain (hash_prefix id q i) (coef digits i (width kind)) (greatest_digit kind - coef digits i (width kind)) value
-    ≡ candidate_end kind id q hash signature i
+    ≡ candidate_end kind id q hash y i
 unfolding candidate_end digit
-candidate_end-laid_out kind id q hash digits signature value i laid same = rw (laid, same) refl
+candidate_end-laid_out kind id q hash digits value y i laid same = rw (laid, same) refl
 
 pub value_in-range : (signature : List ℕ) (i at : ℕ) → at ≡ 36 + 32 * i
     → take (at + 32 - at) (drop at signature) ≡ value_in signature i

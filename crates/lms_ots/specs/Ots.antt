@@ -1,7 +1,7 @@
 -- LM-OTS one-time signatures (RFC 8554, section 4) over SHA-256 with n = 32, as functions on lists
 -- of bytes. Section numbers are the RFC's. I is the tree's identifier of 16 bytes, q the leaf's
 -- number, SEED the secret of 32 bytes, C the randomizer of 32 bytes.
-use Rattle.std.specs.Prelude.{◌≡◌, ℕ, zero, suc, ◌+◌, ◌-◌, ◌*◌, ◌/◌, ◌%◌, ◌^◌, ◌==◌, if◌then◌else◌, List, [], ◌∷◌, ◌++◌, length, take, bit_and, slice_index, slice_range, Result, Ok, Err}
+use Rattle.std.specs.Prelude.{◌≡◌, ℕ, zero, suc, ◌+◌, ◌-◌, ◌*◌, ◌/◌, ◌%◌, ◌^◌, ◌==◌, if◌then◌else◌, List, [], ◌∷◌, ◌++◌, length, bit_and, slice_index, slice_range, Result, Ok, Err, Option, Some, None}
 use Rattle.std.specs.Int.{w16, w32, to_be_bytes, from_be_bytes}
 use Rattle.sha2.specs.Sha256.{sha256}
 use Rattle.lms_ots.specs.declared.kind.OtsKind.{OtsKind}
@@ -49,6 +49,16 @@ signature_length W8 = 1124
 -- 2^w - 1: the greatest digit, and the steps of a whole chain
 abbrev pub greatest_digit : OtsKind → ℕ
 greatest_digit kind = 2 ^ width kind - 1
+
+-- the kind of this number
+abbrev pub kind_of : ℕ → Option OtsKind
+kind_of number =
+    if number == 1 then Some W1 else (if number == 2 then Some W2
+    else (if number == 3 then Some W4 else (if number == 4 then Some W8 else None)))
+
+-- the number in the four bytes at a place
+abbrev pub number_at : ℕ → List ℕ → ℕ
+number_at place bytes = from_be_bytes w32 (slice_range bytes place (place + 4))
 
 -- ---- digits (3.1.3, 4.4, 4.5)
 
@@ -144,7 +154,7 @@ signature_of kind id q seed c message =
 
 -- the type, C and y[i] in the bytes of a signature
 unfoldable pub type_in : List ℕ → ℕ
-type_in signature = from_be_bytes w32 (take 4 signature)
+type_in signature = number_at 0 signature
 
 unfoldable pub randomizer_in : List ℕ → List ℕ
 randomizer_in signature = slice_range signature 4 36
@@ -153,16 +163,19 @@ unfoldable pub value_in : List ℕ → ℕ → List ℕ
 value_in signature i = slice_range signature (36 + 32 * i) (68 + 32 * i)
 
 -- z[i]: y[i] after the steps of its chain that are left
-unfoldable pub candidate_end : OtsKind → List ℕ → ℕ → List ℕ → List ℕ → ℕ → List ℕ
-candidate_end kind id q hash signature i =
-    chain (hash_prefix id q i) (digit kind hash i) (greatest_digit kind - digit kind hash i)
-    (value_in signature i)
+unfoldable pub candidate_end : OtsKind → List ℕ → ℕ → List ℕ → (ℕ → List ℕ) → ℕ → List ℕ
+candidate_end kind id q hash y i =
+    chain (hash_prefix id q i) (digit kind hash i) (greatest_digit kind - digit kind hash i) (y i)
+
+-- Kc of a message, from C and y[i]
+unfoldable pub candidate_from : OtsKind → List ℕ → ℕ → List ℕ → List ℕ → (ℕ → List ℕ) → List ℕ
+candidate_from kind id q message c y =
+    ends_hash kind id q (candidate_end kind id q (message_hash id q c message) y)
 
 -- Kc of a signature that has the kind's length and type
 unfoldable pub candidate_value : OtsKind → List ℕ → ℕ → List ℕ → List ℕ → List ℕ
 candidate_value kind id q message signature =
-    ends_hash kind id q
-    (candidate_end kind id q (message_hash id q (randomizer_in signature) message) signature)
+    candidate_from kind id q message (randomizer_in signature) (value_in signature)
 
 -- Kc, or why the bytes are no signature of the kind
 unfoldable pub candidate_of : OtsKind → List ℕ → ℕ → List ℕ → List ℕ → Result (List ℕ) OtsFault

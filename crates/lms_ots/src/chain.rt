@@ -1,17 +1,10 @@
 //! Hash chains, each in a buffer of its own that keeps what all its steps begin with.
 
-ghost use Rattle.std.specs.Prelude.{◌≡◌, ◌+◌, ◌-◌, ◌≤◌, ◌++◌, length, take};
+ghost use Rattle.std.specs.Prelude.{◌≡◌, ◌-◌, ◌≤◌, take};
 ghost use Rattle.lms_ots.specs.Ots.{chain, hash_prefix, chain_step};
 
+use crate::places::put;
 use sha2::{Digest, Sha256};
-
-/// Writes `value` into `out` at the place `at`.
-pub fn put(out: &mut [u8], at: usize, value: &[u8])
-    requires { at + length value.now ≤ length out.old }
-    ensures { take (at + length value.now) out.new ≡ take at out.old ++ value.now }
-{
-    out[at..at + value.len()].copy_from_slice(value);
-}
 
 /// The bytes that each step of one chain hashes: I, q and i in the first 22, then j and the value.
 #[derive(Drop)]

@@ -3,8 +3,8 @@
 ghost use Rattle.std.specs.Prelude.{◌≡◌, ◌*◌, ◌<◌, ◌≤◌, length};
 ghost use Rattle.lms_ots.specs.Ots.{checksum, coef, greatest_digit, width, with_checksum};
 
-use crate::chain::put;
 use crate::kind::OtsKind;
+use crate::places::put;
 
 /// Digit `index` of the bytes, the high bits of each byte first.
 pub fn digit(kind: OtsKind, bytes: &[u8], index: usize) -> u8

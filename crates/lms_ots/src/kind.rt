@@ -1,7 +1,7 @@
 //! The kinds of one-time signatures, and why bytes are not a signature of a kind.
 
-ghost use Rattle.std.specs.Prelude.{◌≡◌, ◌≤◌, ◌↔◌, IsSome, IfSome};
-ghost use Rattle.lms_ots.specs.Ots.{type_number, width, chain_count, checksum_shift, greatest_digit, signature_length};
+ghost use Rattle.std.specs.Prelude.{◌≡◌, IfSome};
+ghost use Rattle.lms_ots.specs.Ots.{kind_of, type_number, width, chain_count, checksum_shift, greatest_digit, signature_length};
 
 /// A parameter set of LM-OTS with SHA-256 and n = 32 (RFC 8554, section 4.1). The digit in the name
 /// is the width w, the bits of a digit of the message's hash.
@@ -29,7 +29,7 @@ pub enum OtsFault {
 impl OtsKind {
     /// The kind with this type number, if there is one.
     pub fn from_type(number: u32) -> Option<OtsKind>
-        ensures known { IsSome result ↔ ((1 ≤ number) × (number ≤ 4)) }
+        ensures value { result ≡ kind_of number }
         ensures same { IfSome result (λ kind. type_number kind ≡ number) }
     {
         match number {

@@ -5,14 +5,16 @@ ghost use Rattle.std.specs.Prelude.{IsOk, ◌≡◌, ◌≢◌, ◌-◌, ◌<◌
 ghost use Rattle.sha2.specs.Hashers.{Holds256};
 ghost use Rattle.lms_ots.specs.Ots.{type_number, chain_count, signature_length, coef, greatest_digit, width, chain, hash_prefix, secret, public_end, public_value, message_hash, signature_of, type_in, candidate_value, candidate_of, SignaturesOpen};
 
-use chain::{Chain, put};
+use chain::Chain;
 use digits::{digit, with_checksum};
 pub use kind::{OtsFault, OtsKind};
+use places::{number_at, put};
 use sha2::{Digest, Sha256};
 
 mod chain;
 mod digits;
 mod kind;
+pub mod places;
 #[cfg(test)]
 mod tests;
 
@@ -59,7 +61,7 @@ pub fn sign_into(
 
 /// The public hash to which a signature of `message` opens (RFC 8554, section 4.6): the signature is
 /// good under the key whose public hash this is.
-#[tactic(auto, unfolding(crate::specs::Ots::candidate_of))]
+#[tactic(auto, unfolding(crate::specs::Ots::candidate_of, crate::specs::Ots::type_in))]
 pub fn candidate(
     kind: OtsKind,
     id: &[u8; 16],
@@ -81,7 +83,7 @@ pub fn candidate(
             found: signature.len(),
         });
     }
-    let found = type_in(signature);
+    let found = number_at(signature, 0);
     if found != kind.type_number() {
         return Err(OtsFault::WrongType { found });
     }
@@ -163,17 +165,6 @@ fn candidate_end(
     start.copy_from_slice(value);
     let first = digit(kind, digits, usize::from(index));
     Chain::new(id, q, index).walk(first, kind.greatest_digit(), start)
-}
-
-// The type's number at the start of a signature.
-#[tactic(auto, unfolding(crate::specs::Ots::type_in))]
-fn type_in(signature: &[u8]) -> u32
-    requires { 4 ≤ length signature.now }
-    ensures { result ≡ type_in signature.now }
-{
-    let mut number = [0; 4];
-    number.copy_from_slice(&signature[..4]);
-    u32::from_be_bytes(number)
 }
 
 // The public hash to which a signature of the kind's length and type opens.

@@ -1,7 +1,5 @@
 -- The kinds that numbers stand for.
-use Rattle.std.proofs.Common.{◌≡◌, ℕ, ◌≤◌, ◌<◌, ◌↔◌, List, ◌++◌, length, take, get_or, Option, Some, None, IsSome, IfSome, refl, subst, ap, ◌∙◌, lit≤, lit<, arith, ◌^◌, drop, Ok, Err, eq-eqb, length-append, if◌then◌else◌}
-use Rattle.std.proofs.lemmas.Bool.{false≢true}
-use Rattle.std.proofs.lemmas.Bool.Decides.{nat_tests}
+use Rattle.std.proofs.Common.{◌≡◌, ℕ, ◌<◌, List, ◌++◌, length, take, get_or, Some, refl, ap, ◌∙◌, lit≤, lit<, arith, ◌^◌, drop, Ok, Err, eq-eqb, length-append, if◌then◌else◌}
 use Rattle.std.specs.Prelude.{slice_range}
 use Rattle.std.specs.Int.{w32, to_be_bytes}
 use Rattle.std.proofs.lemmas.List.{take_at, drop_at, take_all}
@@ -14,23 +12,12 @@ use Rattle.lms_tree.specs.declared.kind.TreeKind.TheVariants.{H5, H10, H15}
 use Rattle.lms_tree.specs.declared.kind.KeyFault.TheVariants as key_fault
 use Rattle.lms_tree.specs.declared.key.PublicKey.{PublicKey}
 use Rattle.lms_tree.specs.Kinds.{type_number}
-use Rattle.lms_tree.specs.Lms.{ots_of, tree_of, number_at, key_bytes, key_in, key_with}
+use Rattle.lms_tree.specs.Lms.{tree_of, key_bytes, key_in, key_with}
 use Rattle.lms_tree.proofs.Parts.{four_parts, number-spelled}
-
-ots_of-none : (n : ℕ) → ((1 ≤ n) × (n ≤ 4) → ⊥) → None ≡ ots_of n
-ots_of-none n out = grind (arith, nat_tests)
-
--- what `OtsKind::from_type` says is the kind of the number
-pub ots_of_from : (r : Option OtsKind) (n : ℕ) → (IsSome r ↔ ((1 ≤ n) × (n ≤ 4))) → IfSome r (λ kind. ots.type_number kind ≡ n) → r ≡ ots_of n
-ots_of_from None n known same = ots_of-none n (λ within. absurd (false≢true (known.1 within)))
-ots_of_from (Some W1) n known same = subst (λ (m : ℕ). Some W1 ≡ ots_of m) same refl
-ots_of_from (Some W2) n known same = subst (λ (m : ℕ). Some W2 ≡ ots_of m) same refl
-ots_of_from (Some W4) n known same = subst (λ (m : ℕ). Some W4 ≡ ots_of m) same refl
-ots_of_from (Some W8) n known same = subst (λ (m : ℕ). Some W8 ≡ ots_of m) same refl
 
 -- 56 bytes spell the key that is read from them
 pub key-spelled : (s : List ℕ) → length s ≡ 56 → ((k : ℕ) → get_or s k 0 < 256)
-    → (tree : TreeKind) → type_number tree ≡ number_at 0 s → (kind : OtsKind) → ots.type_number kind ≡ number_at 4 s
+    → (tree : TreeKind) → type_number tree ≡ ots.number_at 0 s → (kind : OtsKind) → ots.type_number kind ≡ ots.number_at 4 s
     → s ≡ key_bytes (record { tree = tree; ots = kind; id = slice_range s 8 24; root = slice_range s 24 56 })
 unfolding key_bytes
 key-spelled s long below tree typed kind signed =
@@ -43,7 +30,7 @@ tree-read H5 = refl
 tree-read H10 = refl
 tree-read H15 = refl
 
-ots-read : (kind : OtsKind) → ots_of (ots.type_number kind) ≡ Some kind
+ots-read : (kind : OtsKind) → ots.kind_of (ots.type_number kind) ≡ Some kind
 ots-read W1 = refl
 ots-read W2 = refl
 ots-read W4 = refl
@@ -66,14 +53,14 @@ unfolding key_in key_bytes
 key_in-key_bytes key id_long root_long =
     let bytes = to_be_bytes w32 (type_number key.tree) ++ to_be_bytes w32 (ots.type_number key.ots) ++ key.id ++ key.root in
     let long : length bytes ≡ 56 = omega (arith, length-append key.id key.root) in
-    let first : number_at 0 bytes ≡ type_number key.tree = from_be_bytes-to_be_bytes_4 (type_number key.tree) (tree-number key.tree) in
-    let second : number_at 4 bytes ≡ ots.type_number key.ots = from_be_bytes-to_be_bytes_4 (ots.type_number key.ots) (ots-number key.ots) in
+    let first : ots.number_at 0 bytes ≡ type_number key.tree = from_be_bytes-to_be_bytes_4 (type_number key.tree) (tree-number key.tree) in
+    let second : ots.number_at 4 bytes ≡ ots.type_number key.ots = from_be_bytes-to_be_bytes_4 (ots.type_number key.ots) (ots-number key.ots) in
     let id : slice_range bytes 8 24 ≡ key.id = take_at key.id key.root 16 id_long in
     let behind : drop 16 (key.id ++ key.root) ≡ key.root = drop_at key.id key.root 16 id_long in
     let root : slice_range bytes 24 56 ≡ key.root = ap (take 32) behind ∙ take_all 32 key.root (omega arith) in
-    let tree : tree_of (number_at 0 bytes) ≡ Some key.tree = ap tree_of first ∙ tree-read key.tree in
-    let kind : ots_of (number_at 4 bytes) ≡ Some key.ots = ap ots_of second ∙ ots-read key.ots in
-    ap (λ b. if b then key_with bytes (tree_of (number_at 0 bytes)) (ots_of (number_at 4 bytes)) else Err (key_fault.Length (length bytes))) (eq-eqb (length bytes) 56 long)
-    ∙ ap (λ t. key_with bytes t (ots_of (number_at 4 bytes))) tree ∙ ap (key_with bytes (Some key.tree)) kind
+    let tree : tree_of (ots.number_at 0 bytes) ≡ Some key.tree = ap tree_of first ∙ tree-read key.tree in
+    let kind : ots.kind_of (ots.number_at 4 bytes) ≡ Some key.ots = ap ots.kind_of second ∙ ots-read key.ots in
+    ap (λ b. if b then key_with bytes (tree_of (ots.number_at 0 bytes)) (ots.kind_of (ots.number_at 4 bytes)) else Err (key_fault.Length (length bytes))) (eq-eqb (length bytes) 56 long)
+    ∙ ap (λ t. key_with bytes t (ots.kind_of (ots.number_at 4 bytes))) tree ∙ ap (key_with bytes (Some key.tree)) kind
     ∙ ap (λ i. Ok (record { tree = key.tree; ots = key.ots; id = i; root = slice_range bytes 24 56 })) id
     ∙ ap (λ r. Ok (record { tree = key.tree; ots = key.ots; id = key.id; root = r })) root

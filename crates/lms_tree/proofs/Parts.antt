@@ -1,9 +1,9 @@
 -- Parts of lists that lie one behind another.
-use Rattle.std.proofs.Common.{◌≡◌, ℕ, zero, suc, ◌+◌, ◌-◌, ◌*◌, ◌<◌, ◌≤◌, List, ◌++◌, length, take, drop, get_or, refl, sym, ◌∙◌, ap, inl, inr, arith, length-append, length-take, length-drop, append_assoc, lit<}
+use Rattle.std.proofs.Common.{◌≡◌, ℕ, zero, suc, ◌+◌, ◌-◌, ◌*◌, ◌<◌, ◌≤◌, List, ◌++◌, length, take, drop, get_or, refl, sym, ◌∙◌, ap, inl, inr, arith, length-take, length-drop, append_assoc, lit<}
 use Rattle.std.specs.Prelude.{slice_range}
 use Rattle.std.specs.Int.{w32, to_be_bytes, from_be_bytes}
 use Rattle.std.proofs.lemmas.Bool.{cases_lt}
-use Rattle.std.proofs.lemmas.List.{take_at, drop_at, take_all, take-take, drop-take, take-append-le, drop-append-le, take-append-drop, append-nil, get_or-take, get_or-drop, get_or_past}
+use Rattle.std.proofs.lemmas.List.{take_at, drop_at, take_all, take-take, drop-take, take-append-drop, append-nil, get_or-take, get_or-drop, get_or_past}
 use Rattle.std.proofs.lemmas.Nat.{be_bytes_4}
 use Rattle.lms_ots.specs.Ots as ots
 
@@ -59,34 +59,6 @@ number-spelled s i below within =
     be_bytes_4 (slice_range s i (i + 4)) _ long (part-below s i (i + 4) below) refl
 
 -- ---- hashes in a row
-
-pub length-joined_below : (values : ℕ → List ℕ) (n : ℕ) → ((i : ℕ) → i < n → length (values i) ≡ 32)
-    → length (ots.joined values n) ≡ 32 * n
-unfolding ots.joined
-length-joined_below values zero even = refl
-length-joined_below values (suc n) even =
-    omega (arith, length-append (ots.joined values n) (values n), length-joined_below values n (λ i lt. even i (omega arith)), even n (omega arith))
-
--- hash i of those that are joined
-pub joined_at : (values : ℕ → List ℕ) (n i : ℕ) → ((k : ℕ) → k < n → length (values k) ≡ 32) → i < n
-    → take 32 (drop (32 * i) (ots.joined values n)) ≡ values i
-unfolding ots.joined
-joined_at values zero i even below = absurd (omega arith)
-joined_at values (suc n) i even below =
-    let before : (k : ℕ) → k < n → length (values k) ≡ 32 = λ k lt. even k (omega arith) in
-    let long = length-joined_below values n before in
-    elim (cases_lt i n) [
-      | inl lt ↦
-          let inside : 32 * i ≤ length (ots.joined values n) = omega arith in
-          let room : 32 ≤ length (drop (32 * i) (ots.joined values n)) = omega (arith, length-drop (32 * i) (ots.joined values n)) in
-          rw (drop-append-le (32 * i) (ots.joined values n) (values n) inside)
-          (take-append-le 32 (drop (32 * i) (ots.joined values n)) (values n) room ∙ joined_at values n i before lt)
-      | inr ge ↦
-          let same : i ≡ n = omega arith in
-          let place : length (ots.joined values n) ≡ 32 * i = omega arith in
-          let all : length (values n) ≤ 32 = omega (arith, even n (omega arith)) in
-          rw (drop_at (ots.joined values n) (values n) (32 * i) place, same) (take_all 32 (values n) all)
-    ]
 
 -- the hashes that lie in a row from a place on
 pub joined-row : (s : List ℕ) (at n : ℕ)

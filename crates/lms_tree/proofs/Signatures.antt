@@ -7,8 +7,7 @@ use borrow.Rule.Slice.PartMut.{put_mid}
 use Rattle.sha2.proofs.Facts256.{length-sha256}
 use Rattle.lms_ots.specs.declared.kind.OtsKind.{OtsKind}
 use Rattle.lms_ots.specs.Ots as ots
-use Rattle.lms_ots.proofs.Chains.{length-chain, length-secret}
-use Rattle.lms_ots.proofs.Opening.{length-signature_of, type_in-signature_of, candidate_of-ok, signatures_open}
+use Rattle.lms_ots.proofs.Opening.{candidate_from-signature_value, length-signature_of, length-signature_value}
 use Rattle.lms_tree.specs.declared.secret.Secret.{Secret}
 use Rattle.lms_tree.specs.Kinds.{type_number, height, leaf_count, signature_length}
 use Rattle.lms_tree.specs.Lms.{Verifies, ots_bytes, path_of, public_of, randomizer, root_from, signature_bytes, signature_of}
@@ -50,25 +49,11 @@ signature-written secret q message c b1 b3 b4 part number kind long is_long is_c
     ∙ ap (λ t. to_be_bytes w32 q ++ t ++ kind ++ tail) one_time
     ∙ ap (λ t. to_be_bytes w32 q ++ ots.signature_of secret.ots secret.id q secret.seed (randomizer secret q message) message ++ t ++ tail) is_kind
 
--- the one-time key to which a one-time signature opens
-opened : (kind : OtsKind) (id : List ℕ) (q : ℕ) (seed c message : List ℕ) → length c ≡ 32
-    → ots.candidate_value kind id q message (ots.signature_of kind id q seed c message) ≡ ots.public_value kind id q seed
-opened kind id q seed c message long =
-    let signature = ots.signature_of kind id q seed c message in
-    let is_value = candidate_of-ok kind id q message signature (length-signature_of kind id q seed c message long) (type_in-signature_of kind id q seed c message long) in
-    let opens = signatures_open kind id q seed c message long in
-    cc (is_value, opens)
-
 spelled_by_parts : (kind : OtsKind) (id : List ℕ) (q : ℕ) (seed c message : List ℕ)
     → ots.signature_of kind id q seed c message
     ≡ ots_bytes kind c (ots.signature_value kind id q seed (ots.message_hash id q c message))
 unfolding ots.signature_of ots_bytes
 spelled_by_parts kind id q seed c message = refl
-
-length-signature_value : (kind : OtsKind) (id : List ℕ) (q : ℕ) (seed hash : List ℕ) (i : ℕ)
-    → length (ots.signature_value kind id q seed hash i) ≡ 32
-unfolding ots.signature_value
-length-signature_value kind id q seed hash i = length-chain _ _ _ _ (length-secret id q seed i)
 
 -- every signature verifies under the public half of its key
 pub signature-verifies : (secret : Secret) (q : ℕ) (message : List ℕ) → q < leaf_count secret.tree
@@ -89,7 +74,6 @@ signature-verifies secret q message within =
       y_are_hashes = λ i below. length-signature_value secret.ots secret.id q secret.seed hash i;
       path_is_hashes = λ i below. length-node secret _;
       spelled = ap (λ o. signature_bytes secret.tree q o (path_of secret q)) parts;
-      opens = ap (λ o. root_from secret.tree secret.id q (ots.candidate_value secret.ots secret.id q message o) (path_of secret q)) (sym parts)
-          ∙ ap (λ k. root_from secret.tree secret.id q k (path_of secret q)) (opened secret.ots secret.id q secret.seed c message (length-randomizer secret q message))
+      opens = ap (λ k. root_from secret.tree secret.id q k (path_of secret q)) (candidate_from-signature_value secret.ots secret.id q secret.seed c message)
           ∙ path-opens secret q within;
     }

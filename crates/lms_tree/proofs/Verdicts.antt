@@ -1,22 +1,20 @@
 -- What the relation `Verifies` says of the parts of a signature, and when it holds.
-use Rattle.std.proofs.Common.{◌≡◌, ℕ, zero, suc, ◌+◌, ◌-◌, ◌*◌, ◌/◌, ◌<◌, ◌≤◌, ◌^◌, List, ◌++◌, length, take, drop, get_or, refl, sym, ◌∙◌, ap, arith, lit<, lit≤, length-append, append_assoc, Bool, true, false, Result, Ok, Err}
-use Rattle.std.specs.Prelude.{slice_range, is_ok, if◌then◌else◌}
-use Rattle.std.proofs.lemmas.Bool.{false≢true, eq-eqb, eqb-true, lt-ltb, ltb-true}
-use Rattle.std.proofs.lemmas.Slice.Eq.{bytes_eq-Decides}
+use Rattle.std.proofs.Common.{◌≡◌, ℕ, zero, suc, ◌+◌, ◌-◌, ◌*◌, ◌/◌, ◌<◌, ◌≤◌, ◌^◌, List, ◌++◌, length, take, drop, get_or, refl, sym, ◌∙◌, ap, arith, lit<, lit≤, length-append, append_assoc}
+use Rattle.std.specs.Prelude.{slice_range}
 use Rattle.std.specs.Int.{w32, to_be_bytes, from_be_bytes}
 use Rattle.std.proofs.lemmas.List.{take_at, drop_at, take-take, drop-drop, append_cancel_left}
 use Rattle.std.proofs.lemmas.Nat.{from_be_bytes-to_be_bytes_4}
 use Rattle.lms_ots.specs.declared.kind.OtsKind.{OtsKind}
 use Rattle.lms_ots.specs.declared.kind.OtsKind.TheVariants.{W1, W2, W4, W8}
 use Rattle.lms_ots.specs.Ots as ots
-use Rattle.lms_ots.proofs.Chains.{signature_length-is}
+use Rattle.lms_ots.proofs.Chains.{joined-at, length-joined, signature_length-is}
+use Rattle.lms_ots.proofs.Opening.{candidate_value-laid_out}
 use Rattle.lms_tree.specs.declared.kind.TreeKind.{TreeKind}
 use Rattle.lms_tree.specs.declared.kind.TreeKind.TheVariants.{H5, H10, H15}
-use Rattle.lms_tree.specs.declared.kind.SigFault.{SigFault}
 use Rattle.lms_tree.specs.declared.key.PublicKey.{PublicKey}
 use Rattle.lms_tree.specs.Kinds.{type_number, height, leaf_count, signature_length}
-use Rattle.lms_tree.specs.Lms.{Verifies, AreHashes, climb, index_in, number_at, one_time_in, ots_bytes, parent, root_from, root_in, sibling_in, signature_bytes, tree_type_in, verdict_of}
-use Rattle.lms_tree.proofs.Parts.{three_parts, four_parts, front_more, joined-row, joined_at, length-joined_below, length-slice_range, middle, number-spelled}
+use Rattle.lms_tree.specs.Lms.{Verifies, AreHashes, climb, index_in, one_time_in, ots_bytes, parent, root_from, root_in, sibling_in, signature_bytes, tree_type_in}
+use Rattle.lms_tree.proofs.Parts.{three_parts, four_parts, front_more, joined-row, length-slice_range, middle, number-spelled}
 use Rattle.lms_tree.proofs.Roots.{one_time-long}
 
 -- ---- numbers that fit
@@ -73,7 +71,7 @@ unfolding ots_bytes
 length-ots_bytes kind c y c_long y_long =
     let t = to_be_bytes w32 (ots.type_number kind) in
     let head : length t ≡ 4 = refl in
-    omega (arith, head, c_long, length-append t c, length-append (t ++ c) (ots.joined y (ots.chain_count kind)), length-joined_below y (ots.chain_count kind) y_long, signature_length-is kind)
+    omega (arith, head, c_long, length-append t c, length-append (t ++ c) (ots.joined y (ots.chain_count kind)), length-joined y (ots.chain_count kind) y_long, signature_length-is kind)
 
 -- ---- what verifies has these parts
 
@@ -91,7 +89,7 @@ verifies-laid key message signature good = record {
 pub verifies-length : (key : PublicKey) (message signature : List ℕ) → Verifies key message signature
     → length signature ≡ signature_length key.tree key.ots
 verifies-length key message signature good =
-    omega (arith, length-laid _ _ _ _ _ _ (verifies-laid key message signature good), length-joined_below good.path (height key.tree) good.path_is_hashes)
+    omega (arith, length-laid _ _ _ _ _ _ (verifies-laid key message signature good), length-joined good.path (height key.tree) good.path_is_hashes)
 
 pub verifies-tree_type : (key : PublicKey) (message signature : List ℕ) → Verifies key message signature
     → tree_type_in key.ots signature ≡ type_number key.tree
@@ -100,7 +98,7 @@ verifies-tree_type key message signature good =
     ∙ from_be_bytes-to_be_bytes_4 (type_number key.tree) (type_number-small key.tree)
 
 pub verifies-ots_type : (key : PublicKey) (message signature : List ℕ) → Verifies key message signature
-    → number_at 4 signature ≡ ots.type_number key.ots
+    → ots.number_at 4 signature ≡ ots.type_number key.ots
 unfolding ots_bytes
 verifies-ots_type key message signature good =
     let n = ots.signature_length key.ots in
@@ -130,7 +128,7 @@ verifies-sibling key message signature good i below =
     ap (λ k. take k (drop (8 + n + 32 * i) signature)) size
     ∙ ap (take 32) (sym (drop-drop (32 * i) (8 + n) signature)
     ∙ ap (drop (32 * i)) (path-laid _ _ _ _ _ _ (verifies-laid key message signature good)))
-    ∙ joined_at good.path (height key.tree) i good.path_is_hashes below
+    ∙ joined-at good.path (height key.tree) i good.path_is_hashes below
 
 climb-ext : (id : List ℕ) (these those : ℕ → List ℕ) (n : ℕ) (value : List ℕ) (k : ℕ)
     → ((i : ℕ) → i < k → these i ≡ those i) → climb id these n value k ≡ climb id those n value k
@@ -145,6 +143,12 @@ pub root_from-ext : (tree : TreeKind) (id : List ℕ) (q : ℕ) (k : List ℕ) (
 unfolding root_from
 root_from-ext tree id q k these those same = climb-ext id these those (leaf_count tree + q) _ (height tree) same
 
+candidate-laid : (kind : OtsKind) (id : List ℕ) (q : ℕ) (message c : List ℕ) (y : ℕ → List ℕ) → length c ≡ 32
+    → AreHashes (ots.chain_count kind) y
+    → ots.candidate_value kind id q message (ots_bytes kind c y) ≡ ots.candidate_from kind id q message c y
+unfolding ots_bytes
+candidate-laid kind id q message c y c_long y_long = candidate_value-laid_out kind id q message c y c_long y_long
+
 pub verifies-root : (key : PublicKey) (message signature : List ℕ) → Verifies key message signature
     → root_in key message signature ≡ key.root
 unfolding root_in
@@ -152,6 +156,7 @@ verifies-root key message signature good =
     let one_time : one_time_in key.ots signature ≡ ots_bytes key.ots good.c good.y = one_time-laid _ _ _ _ _ _ (verifies-laid key message signature good) in
     ap (λ n. root_from key.tree key.id n (ots.candidate_value key.ots key.id n message (one_time_in key.ots signature)) (sibling_in key.ots signature)) (verifies-index key message signature good)
     ∙ ap (λ o. root_from key.tree key.id good.q (ots.candidate_value key.ots key.id good.q message o) (sibling_in key.ots signature)) one_time
+    ∙ ap (λ k. root_from key.tree key.id good.q k (sibling_in key.ots signature)) (candidate-laid key.ots key.id good.q message good.c good.y good.c_is_hash good.y_are_hashes)
     ∙ root_from-ext key.tree key.id good.q _ _ _ (verifies-sibling key message signature good)
     ∙ good.opens
 
@@ -178,7 +183,7 @@ pub record HasParts (key : PublicKey) (message signature : List ℕ) : Type 0 wh
   pub below : (k : ℕ) → get_or signature k 0 < 256
   pub long : length signature ≡ signature_length key.tree key.ots
   pub tree_type : tree_type_in key.ots signature ≡ type_number key.tree
-  pub ots_type : number_at 4 signature ≡ ots.type_number key.ots
+  pub ots_type : ots.number_at 4 signature ≡ ots.type_number key.ots
   pub has_leaf : index_in signature < leaf_count key.tree
   pub opens : root_in key message signature ≡ key.root
 
@@ -245,62 +250,8 @@ parts-verify key message signature has =
       path_is_hashes = row-hashes signature (8 + n) (height key.tree) (omega (arith, has.long));
       spelled = four_parts signature _ _ _ _ 4 (4 + n) (4 + n + 4) (signature_length key.tree key.ots) (omega arith) (omega arith)
           (omega arith) has.long q spelled t (path-spelled key signature);
-      opens = ap (λ o. root_from key.tree key.id (index_in signature) (ots.candidate_value key.ots key.id (index_in signature) message o) (sibling_in key.ots signature)) spelled
+      opens = ap (λ k. root_from key.tree key.id (index_in signature) k (sibling_in key.ots signature))
+          (sym (candidate-laid key.ots key.id (index_in signature) message _ _ (c-long key message signature has) (y-long key message signature has))
+          ∙ ap (ots.candidate_value key.ots key.id (index_in signature) message) spelled)
           ∙ has.opens;
     }
-
--- ---- the verdict as a test
-
-record AllTrue (a b c d e : Bool) : Type 0 where
-  first : a ≡ true
-  second : b ≡ true
-  third : c ≡ true
-  fourth : d ≡ true
-  fifth : e ≡ true
-
-abbrev judged : (a b c d e : Bool) (A B C D E : SigFault) → Result (Unit {0}) SigFault
-judged a b c d e A B C D E =
-    if a then (if b then (if c then (if d then (if e then Ok tt else Err E) else Err D) else Err C) else Err B) else Err A
-
-ladder : (a b c d e : Bool) (A B C D E : SigFault)
-    → is_ok (judged a b c d e A B C D E) ≡ true
-    → AllTrue a b c d e
-ladder true true true true true A B C D E ok = record { first = refl; second = refl; third = refl; fourth = refl; fifth = refl }
-ladder true true true true false A B C D E ok = absurd (false≢true ok)
-ladder true true true false e A B C D E ok = absurd (false≢true ok)
-ladder true true false d e A B C D E ok = absurd (false≢true ok)
-ladder true false c d e A B C D E ok = absurd (false≢true ok)
-ladder false b c d e A B C D E ok = absurd (false≢true ok)
-
--- bytes that the verdict calls good verify
-pub verdict-verifies : (key : PublicKey) (message signature : List ℕ) → ((k : ℕ) → get_or signature k 0 < 256)
-    → is_ok (verdict_of key message signature) ≡ true → Verifies key message signature
-unfolding verdict_of
-verdict-verifies key message signature below ok =
-    let all = ladder _ _ _ _ _ _ _ _ _ _ ok in
-    parts-verify key message signature (record {
-      below = below;
-      long = eqb-true _ _ all.first;
-      tree_type = eqb-true _ _ all.second;
-      ots_type = eqb-true _ _ all.third;
-      has_leaf = ltb-true _ _ all.fourth;
-      opens = (bytes_eq-Decides _ _).0 all.fifth;
-    })
-
-climbed : (a b c d e : Bool) (A B C D E : SigFault) → AllTrue a b c d e
-    → judged a b c d e A B C D E ≡ Ok tt
-climbed a b c d e A B C D E all = rw (all.first, all.second, all.third, all.fourth, all.fifth) refl
-
--- what verifies the verdict calls good
-pub verifies-verdict : (key : PublicKey) (message signature : List ℕ) → Verifies key message signature
-    → verdict_of key message signature ≡ Ok tt
-unfolding verdict_of
-verifies-verdict key message signature good =
-    climbed _ _ _ _ _ _ _ _ _ _
-    (record {
-      first = eq-eqb _ _ (verifies-length key message signature good);
-      second = eq-eqb _ _ (verifies-tree_type key message signature good);
-      third = eq-eqb _ _ (verifies-ots_type key message signature good);
-      fourth = lt-ltb _ _ (verifies-has_leaf key message signature good);
-      fifth = (bytes_eq-Decides _ _).1 (verifies-root key message signature good);
-    })

@@ -2,10 +2,9 @@
 -- Section numbers are the RFC's. I is the tree's identifier of 16 bytes, q a leaf's number, r a
 -- node's number: the root is node 1, and below node r are the nodes 2r and 2r + 1.
 use Rattle.std.specs.Prelude.{◌≡◌, ℕ, zero, suc, ◌+◌, ◌-◌, ◌*◌, ◌/◌, ◌%◌, ◌^◌, ◌==◌, ◌<◌, nat_lt, nat_le, if◌then◌else◌, List, ◌++◌, length, slice_range, bytes_eq, codes, Result, Ok, Err, Option, Some, None}
-use Rattle.std.specs.Int.{w16, w32, to_be_bytes, from_be_bytes}
+use Rattle.std.specs.Int.{w16, w32, to_be_bytes}
 use Rattle.sha2.specs.Sha256.{sha256}
 use Rattle.lms_ots.specs.declared.kind.OtsKind.{OtsKind}
-use Rattle.lms_ots.specs.declared.kind.OtsKind.TheVariants.{W1, W2, W4, W8}
 use Rattle.lms_ots.specs.Ots as ots
 use Rattle.lms_tree.specs.declared.kind.TreeKind.{TreeKind}
 use Rattle.lms_tree.specs.declared.kind.TreeKind.TheVariants.{H5, H10, H15}
@@ -19,14 +18,22 @@ use Rattle.lms_tree.specs.Kinds.{type_number, height, leaf_count, signature_leng
 
 -- ---- nodes (5.3)
 
+-- D_LEAF, before the one-time key of a leaf
+abbrev pub d_leaf : ℕ
+d_leaf = 0x8282
+
+-- D_INTR, before the two nodes below an inner one
+abbrev pub d_intr : ℕ
+d_intr = 0x8383
+
 -- a leaf: H(I || u32str(r) || u16str(D_LEAF) || K)
 unfoldable pub leaf_hash : List ℕ → ℕ → List ℕ → List ℕ
-leaf_hash id r k = sha256 (id ++ to_be_bytes w32 r ++ to_be_bytes w16 0x8282 ++ k)
+leaf_hash id r k = sha256 (id ++ to_be_bytes w32 r ++ to_be_bytes w16 d_leaf ++ k)
 
 -- an inner node: H(I || u32str(r) || u16str(D_INTR) || left || right)
 unfoldable pub inner_hash : List ℕ → ℕ → List ℕ → List ℕ → List ℕ
 inner_hash id r left right =
-    sha256 (id ++ to_be_bytes w32 r ++ to_be_bytes w16 0x8383 ++ left ++ right)
+    sha256 (id ++ to_be_bytes w32 r ++ to_be_bytes w16 d_intr ++ left ++ right)
 
 -- the leaf at node r, whose one-time key is that of leaf r - 2^h
 unfoldable pub leaf : Secret → ℕ → List ℕ
@@ -55,31 +62,22 @@ unfoldable pub key_bytes : PublicKey → List ℕ
 key_bytes key =
     to_be_bytes w32 (type_number key.tree) ++ to_be_bytes w32 (ots.type_number key.ots) ++ key.id ++ key.root
 
--- the number in the four bytes at a place
-abbrev pub number_at : ℕ → List ℕ → ℕ
-number_at place bytes = from_be_bytes w32 (slice_range bytes place (place + 4))
-
--- the kinds of these numbers
+-- the kind of this number
 abbrev pub tree_of : ℕ → Option TreeKind
 tree_of number =
     if number == 5 then Some H5 else (if number == 6 then Some H10 else (if number == 7 then Some H15 else None))
 
-abbrev pub ots_of : ℕ → Option OtsKind
-ots_of number =
-    if number == 1 then Some W1 else (if number == 2 then Some W2
-    else (if number == 3 then Some W4 else (if number == 4 then Some W8 else None)))
-
 -- the key in 56 bytes
 abbrev pub key_with : List ℕ → Option TreeKind → Option OtsKind → Result PublicKey KeyFault
-key_with bytes None _ = Err (key_fault.TreeType (number_at 0 bytes))
-key_with bytes (Some tree) None = Err (key_fault.OtsType (number_at 4 bytes))
+key_with bytes None _ = Err (key_fault.TreeType (ots.number_at 0 bytes))
+key_with bytes (Some tree) None = Err (key_fault.OtsType (ots.number_at 4 bytes))
 key_with bytes (Some tree) (Some kind) =
     Ok (record { tree = tree; ots = kind; id = slice_range bytes 8 24; root = slice_range bytes 24 56 })
 
 -- the key in these bytes, or why they are none
 unfoldable pub key_in : List ℕ → Result PublicKey KeyFault
 key_in bytes =
-    if length bytes == 56 then key_with bytes (tree_of (number_at 0 bytes)) (ots_of (number_at 4 bytes))
+    if length bytes == 56 then key_with bytes (tree_of (ots.number_at 0 bytes)) (ots.kind_of (ots.number_at 4 bytes))
     else Err (key_fault.Length (length bytes))
 
 -- ---- the root from a signature (5.4.2, algorithm 6a)
@@ -126,18 +124,18 @@ pub record Verifies (key : PublicKey) (message signature : List ℕ) : Type 0 wh
   pub y_are_hashes : AreHashes (ots.chain_count key.ots) y
   pub path_is_hashes : AreHashes (height key.tree) path
   pub spelled : signature ≡ signature_bytes key.tree q (ots_bytes key.ots c y) path
-  pub opens : root_from key.tree key.id q (ots.candidate_value key.ots key.id q message (ots_bytes key.ots c y)) path ≡ key.root
+  pub opens : root_from key.tree key.id q (ots.candidate_from key.ots key.id q message c y) path ≡ key.root
 
 -- ---- verifying: the parts of a signature that has the length of the key's kinds
 
 abbrev pub index_in : List ℕ → ℕ
-index_in signature = number_at 0 signature
+index_in signature = ots.number_at 0 signature
 
 abbrev pub one_time_in : OtsKind → List ℕ → List ℕ
 one_time_in kind signature = slice_range signature 4 (4 + ots.signature_length kind)
 
 abbrev pub tree_type_in : OtsKind → List ℕ → ℕ
-tree_type_in kind signature = number_at (4 + ots.signature_length kind) signature
+tree_type_in kind signature = ots.number_at (4 + ots.signature_length kind) signature
 
 abbrev pub sibling_in : OtsKind → List ℕ → ℕ → List ℕ
 sibling_in kind signature i =
@@ -155,12 +153,12 @@ unfoldable pub verdict_of : PublicKey → List ℕ → List ℕ → Result (Unit
 verdict_of key message signature =
     if length signature == signature_length key.tree key.ots then
     (if tree_type_in key.ots signature == type_number key.tree then
-    (if number_at 4 signature == ots.type_number key.ots then
+    (if ots.number_at 4 signature == ots.type_number key.ots then
     (if nat_lt (index_in signature) (leaf_count key.tree) then
     (if bytes_eq (root_in key message signature) key.root then Ok tt
     else Err sig_fault.Root)
     else Err (sig_fault.Index (index_in signature)))
-    else Err (sig_fault.OtsType (number_at 4 signature)))
+    else Err (sig_fault.OtsType (ots.number_at 4 signature)))
     else Err (sig_fault.TreeType (tree_type_in key.ots signature)))
     else Err (sig_fault.Length (length signature))
 

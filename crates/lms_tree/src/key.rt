@@ -5,8 +5,8 @@ ghost use Rattle.lms_tree.specs.Kinds.{signature_length};
 ghost use Rattle.lms_tree.specs.Lms.{key_bytes, key_in};
 
 use crate::kind::{KeyFault, TreeKind};
-use crate::places::{number_at, put};
 use lms_ots::OtsKind;
+use lms_ots::places::{number_at, put};
 
 /// The public half of a key (RFC 8554, section 5.3).
 #[derive(Debug, Clone, Copy, PartialEq, Eq)]
@@ -21,7 +21,7 @@ pub struct PublicKey {
 
 impl PublicKey {
     /// The key in 56 bytes.
-    #[tactic(auto, using(crate::proofs::Keys::ots_of_from), unfolding(crate::specs::Lms::key_in))]
+    #[tactic(auto, unfolding(crate::specs::Lms::key_in))]
     pub fn read(bytes: &[u8]) -> Result<PublicKey, KeyFault>
         ensures value { result ≡ key_in bytes.now }
         ensures spelled { IfOk result (λ key. bytes.now ≡ key_bytes key) }

@@ -1,5 +1,6 @@
 //! LMS signatures of RFC 8554 (section 5) over SHA-256 with m = 32: Merkle trees of one-time keys.
-//! A leaf signs at most once, since it is a value that can be neither copied nor let go.
+//! A leaf of a made key signs at most once, since it is a value that can be neither copied nor let go. Who makes the key
+//! again, as after a restart, must skip past what was spent.
 #![tactic(auto)]
 
 pub use key::PublicKey;
@@ -12,7 +13,6 @@ mod hashes;
 mod key;
 mod kind;
 mod nodes;
-mod places;
 mod secret;
 mod signing;
 mod spending;

@@ -10,10 +10,10 @@ use crate::hashes::randomizer;
 use crate::key::PublicKey;
 use crate::kind::TreeKind;
 use crate::nodes::nodes_of;
-use crate::places::put;
 use crate::secret::Secret;
 use crate::spending::{Leaf, Leaves};
 use fields::NoMemory;
+use lms_ots::places::put;
 use lms_ots::{OtsKind, sign_into};
 use std::alloc::Global;
 use std::marker::Model;
@@ -22,19 +22,23 @@ use std::marker::Model;
 #[derive(Drop)]
 pub struct SecretKey {
     tree: Tree,
+    leaves: Leaves,
 }
 
 impl Model for SecretKey {
+    ghost use Rattle.std.specs.Prelude.{◌≡◌};
     ghost use Rattle.lms_tree.specs.declared.secret.Secret.{Secret};
 
     ghost Value = { Secret };
 
     ghost view = { λ k. k.tree };
+
+    ghost invariant = { λ k. k.leaves ≡ record { key = k.tree; next = 0 } };
 }
 
 impl SecretKey {
-    /// The key of these kinds that the identifier and the seed determine. No two keys may have one seed
-    /// and one identifier.
+    /// The key of these kinds that the identifier and the seed determine. Who makes a key again must skip past each
+    /// leaf that was spent before it signs, and no other key may have its seed and identifier.
     pub fn make(
         alloc: Global,
         tree: TreeKind,
@@ -53,6 +57,7 @@ impl SecretKey {
         let nodes = nodes_of(alloc, &secret)?;
         Ok(SecretKey {
             tree: Tree { secret, nodes },
+            leaves: Leaves::all(secret),
         })
     }
 
@@ -68,8 +73,7 @@ impl SecretKey {
         ensures tree { result.0 ≡ self }
         ensures leaves { result.1 ≡ record { key = self; next = 0 } }
     {
-        let SecretKey { tree } = self;
-        let leaves = Leaves::all(tree.secret);
+        let SecretKey { tree, leaves } = self;
         (tree, leaves)
     }
 }

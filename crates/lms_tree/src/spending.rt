@@ -5,6 +5,7 @@ ghost use Rattle.lms_tree.specs.Kinds.{leaf_count};
 
 use crate::secret::Secret;
 use std::marker::Model;
+use std::sync::ledger::Blank;
 
 /// The leaves of a key that were not handed out, in order. Where a number was skipped or handed out, it
 /// does not come again.
@@ -12,6 +13,8 @@ use std::marker::Model;
 pub struct Leaves {
     secret: Secret,
     next: u32,
+    // Takes no bytes. Its type has no copy, so that no derive gives the leaves one.
+    unique: Blank,
 }
 
 impl Model for Leaves {
@@ -31,7 +34,11 @@ impl Leaves {
     pub(crate) fn all(secret: Secret) -> Leaves
         ensures { result ≡ record { key = secret; next = 0 } }
     {
-        Leaves { secret, next: 0 }
+        Leaves {
+            secret,
+            next: 0,
+            unique: Blank::new(1),
+        }
     }
 
     /// The number of the next leaf, or the number of all leaves where none is left.
@@ -66,6 +73,7 @@ impl Leaves {
         Some(Leaf {
             secret: self.secret,
             index,
+            unique: Blank::new(1),
         })
     }
 }
@@ -75,6 +83,8 @@ impl Leaves {
 pub struct Leaf {
     secret: Secret,
     index: u32,
+    // As in the leaves.
+    unique: Blank,
 }
 
 impl Model for Leaf {
@@ -103,6 +113,7 @@ impl Leaf {
         let Leaf {
             secret: _,
             index: _,
+            unique: _,
         } = self;
     }
 
@@ -111,7 +122,11 @@ impl Leaf {
         ensures value { result ≡ self.index }
         ensures bound { result < leaf_count self.key.tree }
     {
-        let Leaf { secret: _, index } = self;
+        let Leaf {
+            secret: _,
+            index,
+            unique: _,
+        } = self;
         index
     }
 }

@@ -1,9 +1,16 @@
-//! The LMS signatures of RFC 8554's test cases, and a small key that signs.
+//! The LMS signatures of RFC 8554's test cases, and keys of each kind that sign.
 
+mod signed;
 mod vectors;
 
-use crate::{PublicKey, SecretKey, SigFault, TreeKind, verify};
+ghost use Rattle.std.specs.Prelude.{◌≡◌, length};
+ghost use Rattle.lms_tree.specs.Kinds.{signature_length};
+
+use crate::{Leaves, PublicKey, SecretKey, SigFault, Tree, TreeKind, verify};
 use lms_ots::OtsKind;
+use sha2::{Digest, Sha256};
+use signed::Case;
+use std::alloc::Global;
 use std::process::Abort;
 use std::test::Fail;
 
@@ -71,4 +78,41 @@ fn makes_a_key_of_rfc8554_and_signs_with_its_last_leaf(rt: HostRuntime) -> Resul
             panic!(rt; "no leaf is left");
         }
     }
+}
+
+// Signs with the next leaf.
+fn sign_next(rt: &impl Abort, tree: &Tree, leaves: &mut Leaves, message: &[u8], out: &mut [u8])
+    requires key { leaves.old.key ≡ tree.now }
+    requires long { length out.old ≡ signature_length tree.now.tree tree.now.ots }
+{
+    match leaves.take() {
+        Some(leaf) => tree.sign(leaf, message, out),
+        None => panic!(rt; "a leaf is left"),
+    }
+}
+
+// The key and the signature are those that another implementation made.
+#[tactic(auto, unfolding(crate::specs::Lms::public_of))]
+fn compare_signed(rt: &impl Abort, alloc: Global, case: &Case) -> Result<(), Fail> {
+    let key = SecretKey::make(alloc, case.tree, case.ots, case.id, case.seed)?;
+    let public = key.public();
+    assert_eq!(rt; public.write().as_slice(), case.public);
+
+    let mut signature = vec![in alloc; 0u8; public.signature_length()]?;
+    let (tree, mut leaves) = key.split();
+    assert!(rt; case.q <= case.tree.leaf_count());
+    leaves.skip_to(case.q);
+    sign_next(rt, &tree, &mut leaves, case.message, &mut signature);
+    assert_eq!(rt; Sha256::digest(&signature), case.digest);
+    assert_eq!(rt; verify(&public, case.message, &signature), Ok(()));
+    Ok(())
+}
+
+#[test]
+fn signs_as_another_implementation_does(rt: HostRuntime) -> Result<(), Fail> {
+    compare_signed(&rt, rt.alloc(), &signed::FIRST_LEAF_W4)?;
+    compare_signed(&rt, rt.alloc(), &signed::LAST_LEAF_W8)?;
+    compare_signed(&rt, rt.alloc(), &signed::HEIGHT_10)?;
+    compare_signed(&rt, rt.alloc(), &signed::NARROW_W1)?;
+    compare_signed(&rt, rt.alloc(), &signed::NARROW_W2)
 }

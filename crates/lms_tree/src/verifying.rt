@@ -3,12 +3,12 @@
 ghost use Rattle.std.specs.Prelude.{◌≡◌, ◌<◌, ◌↔◌, IsOk, length};
 ghost use Rattle.lms_ots.specs.Ots as ots;
 ghost use Rattle.lms_tree.specs.Kinds.{leaf_count, signature_length};
-ghost use Rattle.lms_tree.specs.Lms.{Verifies, parent, root_in, verdict_of, index_in, number_at};
+ghost use Rattle.lms_tree.specs.Lms.{Verifies, parent, root_in, verdict_of, index_in};
 
 use crate::hashes::{inner_hash, leaf_hash};
 use crate::key::PublicKey;
 use crate::kind::SigFault;
-use crate::places::number_at;
+use lms_ots::places::number_at;
 use lms_ots::{OtsKind, candidate};
 
 /// Whether `signature` is a signature of `message` under `key` (RFC 8554, section 5.4.2).
@@ -44,7 +44,7 @@ pub fn verify(key: &PublicKey, message: &[u8], signature: &[u8]) -> Result<(), S
 #[tactic(auto, unfolding(crate::specs::Lms::root_in, crate::specs::Lms::root_from))]
 fn root_of(key: &PublicKey, message: &[u8], signature: &[u8]) -> [u8; 32]
     requires long { length signature.now ≡ signature_length key.now.tree key.now.ots }
-    requires kind { number_at 4 signature.now ≡ ots.type_number key.now.ots }
+    requires kind { ots.number_at 4 signature.now ≡ ots.type_number key.now.ots }
     requires leaf { index_in signature.now < leaf_count key.now.tree }
     ensures { result ≡ root_in key.now message.now signature.now }
 {

@@ -1,73 +1,56 @@
 -- What a new member changes, and what stands at the opening.
-use Rattle.std.proofs.Common.{◌≡◌, ◌≢◌, ℕ, ◌<◌, ◌≤◌, true, false, eqb, List, [], length, ⊎_elim, Option, Some, None, refl, ap, sym, ◌∙◌, subst, arith, is_some, get_or-set_same, get_or-set_other, length-set, cond, ◌||◌, unwrap_or, map}
-use Rattle.std.specs.Prelude.{IfSome, slice_set, map, filter}
-use Rattle.std.proofs.lemmas.Bool.{eqb-true, eqb-false, false≢true, eq-eqb, ne_eqb, and_from}
+use Rattle.std.proofs.Common.{◌≡◌, ◌≢◌, ℕ, ◌<◌, ◌≤◌, true, false, eqb, List, [], Option, Some, None, refl, ap, sym, ◌∙◌, subst, is_some, cond, ◌||◌, unwrap_or, map, filter}
+use Rattle.std.specs.Prelude.{IfSome}
+use Rattle.std.specs.FinMap.{get, insert, empty}
+use Rattle.std.proofs.lemmas.Bool.{false≢true, eq-eqb, ne_eqb, and_from}
+use Rattle.std.proofs.lemmas.List.Elements.{All-weaker, All-nil}
 use Rattle.ff_ids.specs.declared.Group.{Group}
 use Rattle.ff_ids.specs.declared.NoteBody.{NoteBody}
-use Rattle.ff_ids.specs.Masks.{ring_count}
-use Rattle.monitor_rule.specs.Joined.{Joined}
-use Rattle.membership.specs.Kept.{places_at, note_at, expired_at, is_live, is_live_at, member_at, PlacesList, NoteList}
-use Rattle.membership.specs.Life.{IsSound, Life}
-use Rattle.membership.proofs.NumberLemmas.{either_bool, all_length, AtEach, AtEach-all, filter-range_none, map-filter_range_agree}
-use Rattle.membership.proofs.SoundLemmas.{live_members-same}
-use Rattle.std.proofs.lemmas.List.Elements.{All-weaker}
 use Rattle.ff_ids.specs.declared.AccBody.{AccBody}
+use Rattle.ff_ids.specs.Masks.{ring_count}
 use Rattle.ff_ids.specs.Rings.{nearest_before}
-use Rattle.ff_ids.specs.Views.{State, in_view, is_member, places_of, view, monitor, key_of, key_at, stands, all_numbers}
+use Rattle.ff_ids.specs.Views.{State, in_view, is_member, places_of, view, monitor, key_of, key_at, stands}
 use Rattle.ff_ids.specs.Steps.{joined}
+use Rattle.ff_ids.specs.Lives.{opening}
+use Rattle.monitor_rule.specs.Joined.{Joined}
+use Rattle.membership.specs.Kept.{ByNumber, places_at, expired_at, is_live, is_live_at}
+use Rattle.membership.specs.Life.{IsSound, IsPlaced, Life, has_joined}
 use Rattle.membership.specs.Holds.{Holds, HoldsAt}
+use Rattle.membership.proofs.NumberLemmas.{all_length, AtEach, AtEach-all, map-filter_range_agree}
+use Rattle.membership.proofs.SoundLemmas.{by_number, get_here, get_other, get_none, live_members-same, live_members-none}
 use Rattle.membership.proofs.HoldLemmas.{in_view-at}
-use Rattle.membership.proofs.StandLemmas.{IsStanding-from, IsStanding}
+use Rattle.membership.proofs.TouchLemmas.{IsStanding-from}
 use Rattle.membership.proofs.MonitorLemmas.{is_number-is}
-
-places_at-set : (places : PlacesList) (m : ℕ) (p : List (List ℕ)) → m < length places → places_at (slice_set places m (Some p)) m ≡ Some p
-places_at-set places m p below = rw get_or-set_same refl
-
-places_at-other : (places : PlacesList) (m k : ℕ) (p : List (List ℕ)) → k ≢ m → places_at (slice_set places m (Some p)) k ≡ places_at places k
-places_at-other places m k p apart = rw get_or-set_other refl
 
 none_is : {X : Type 0} (o : Option X) → is_some o ≡ false → o ≡ None
 none_is None e = refl
 none_is (Some x) e = absurd (false≢true (sym e))
 
 -- a member without a note is not live
-dead : (expired : ℕ) (o : Option NoteBody) → o ≡ None → is_live expired o ≡ true → ⊥
-dead expired o e live = false≢true (ap (is_live expired) (sym e) ∙ live)
+dead : (expired : ℕ) (o : Option NoteBody) → o ≡ None → is_live expired o ≡ false
+dead expired o e = ap (is_live expired) e
 
 -- a new member keeps everything sound
-pub IsSound-added : (group : Group) (places : PlacesList) (notes : NoteList) (expired : List ℕ) (view : Joined) (m : ℕ) (p : List (List ℕ)) → IsSound group places notes expired view → m < 1024 → is_some (places_at places m) ≡ false → length p ≡ ring_count group.t → IsSound group (slice_set places m (Some p)) notes expired view
-IsSound-added group places notes expired view m p sound below absent long =
-    let inside : m < length places = omega (arith, sound.all_places) in
-    let none : places_at places m ≡ None = none_is (places_at places m) absent in
+pub IsSound-added : (group : Group) (places : ByNumber (List (List ℕ))) (notes : ByNumber NoteBody) (expired : ByNumber ℕ) (view : Joined) (m : ℕ) (p : List (List ℕ)) → IsSound group places notes expired view → IsPlaced (ring_count group.t) m p → is_some (get places m) ≡ false → IsSound group (insert places m p) notes expired view
+IsSound-added group places notes expired view m p sound placed absent =
+    let unnoted = sound.noted m (none_is (get places m) absent) in
     record {
       tolerance = sound.tolerance;
-      all_places = rw length-set sound.all_places;
-      all_notes = sound.all_notes;
-      all_expired = sound.all_expired;
-      placed = λ k. ⊎_elim (λ t. subst (λ q. IfSome (places_at (slice_set places m (Some p)) q) (λ ps. length ps ≡ ring_count group.t)) (sym (eqb-true k m t)) (subst (λ o. IfSome o (λ ps. length ps ≡ ring_count group.t)) (sym (places_at-set places m p inside)) long))
-          (λ t. subst (λ o. IfSome o (λ ps. length ps ≡ ring_count group.t)) (sym (places_at-other places m k p (eqb-false k m t))) (sound.placed k))
-          (either_bool (eqb k m));
-      noted = λ k gone. ⊎_elim (λ t. ap (note_at notes) (eqb-true k m t) ∙ sound.noted m none)
-          (λ t. sound.noted k (sym (places_at-other places m k p (eqb-false k m t)) ∙ gone))
-          (either_bool (eqb k m));
+      placed = by_number (λ k. IfSome (get (insert places m p) k) (IsPlaced (ring_count group.t) k)) m (subst (λ o. IfSome o (IsPlaced (ring_count group.t) m)) (sym (get_here places m p)) placed) (λ k apart. subst (λ o. IfSome o (IsPlaced (ring_count group.t) k)) (sym (get_other places m k p apart)) (sound.placed k));
+      noted = by_number (λ k. get (insert places m p) k ≡ None → get notes k ≡ None) m (λ _. unnoted) (λ k apart gone. sound.noted k (sym (get_other places m k p apart) ∙ gone));
       rings = sound.rings;
-      viewed = sound.viewed ∙ sym (live_members-same places (slice_set places m (Some p)) notes notes expired expired (λ k. refl) (λ k live. ⊎_elim (λ t. absurd (dead (expired_at expired k) (note_at notes k) (ap (note_at notes) (eqb-true k m t) ∙ sound.noted m none) live)) (λ t. places_at-other places m k p (eqb-false k m t)) (either_bool (eqb k m))));
+      viewed = sound.viewed ∙ sym (live_members-same places (insert places m p) notes notes expired expired (λ k. refl) (by_number (λ k. is_live_at notes expired k ≡ true → places_at (insert places m p) k ≡ places_at places k) m (λ live. absurd (false≢true (sym (dead (expired_at expired m) (get notes m) unnoted) ∙ live))) (λ k apart _. ap (λ o. unwrap_or o []) (get_other places m k p apart))));
     }
 
 -- nothing is kept yet
-pub IsSound-opening : (group : Group) (places : PlacesList) (notes : NoteList) (expired : List ℕ) (view : Joined) → group.t ≤ 15 → length places ≡ 1024 → length notes ≡ 1024 → length expired ≡ 1024 → ((m : ℕ) → places_at places m ≡ None) → ((m : ℕ) → note_at notes m ≡ None) → view ≡ record { rings = ring_count group.t; members = [] } → IsSound group places notes expired view
-IsSound-opening group places notes expired view few all_places all_notes all_expired nobody nothing e =
-    let all = all_length in
-    let none : AtEach 0 all.0 (λ k. is_live_at notes expired k ≡ false) = AtEach-all all.0 _ all.1.long (λ k below. ap (is_live (expired_at expired k)) (nothing k)) in
+pub IsSound-opening : (group : Group) (view : Joined) → group.t ≤ 15 → view ≡ record { rings = ring_count group.t; members = [] } → IsSound group empty empty empty view
+IsSound-opening group view few e =
     record {
       tolerance = few;
-      all_places = all_places;
-      all_notes = all_notes;
-      all_expired = all_expired;
-      placed = λ m. subst (λ o. IfSome o (λ ps. length ps ≡ ring_count group.t)) (sym (nobody m)) tt;
-      noted = λ m _. nothing m;
+      placed = λ m. subst (λ o. IfSome o (IsPlaced (ring_count group.t) m)) (sym (get_none m)) tt;
+      noted = λ m _. get_none m;
       rings = ap (λ (j : Joined). j.rings) e;
-      viewed = ap (λ (j : Joined). j.members) e ∙ sym (subst (λ xs. map (member_at places) (filter (is_live_at notes expired) xs) ≡ []) (sym all.1.are) (ap (map (member_at places)) (filter-range_none _ 0 all.0 none)));
+      viewed = ap (λ (j : Joined). j.members) e ∙ sym (live_members-none empty empty);
     }
 
 -- ---- the state with one more member
@@ -95,28 +78,60 @@ stands_joined s m p a absent standing =
     let monitored = is_number-is _ a.accuser (monitor_joined s m a.ring.0 a.accused p absent apart ∙ parts.monitored) in
     and_from _ _ (and_from _ _ parts.viewed parts.unanswered) monitored
 
-pub Holds-added : (l : Life) (s : State) (m : ℕ) (p : List (List ℕ)) → Holds l s → length l.places ≡ 1024 → ((k : ℕ) → places_at l.places k ≡ None → note_at l.notes k ≡ None) → m < 1024 → is_some (places_at l.places m) ≡ false → Holds (record l { places = slice_set l.places m (Some p) }) (joined s m p)
-Holds-added l s m p h long noted below absent =
-    let none = noted m (none_is (places_at l.places m) absent) in
-    let out : in_view s m ≡ false = in_view-at l s m h below ∙ ap (is_live (expired_at l.expired m)) none in
-    let inside : m < length l.places = omega (arith, long) in
+-- what is kept with it stands for the state with it
+pub Holds-added : (l : Life) (s : State) (m : ℕ) (p : List (List ℕ)) → Holds l s → ((k : ℕ) → get l.places k ≡ None → get l.notes k ≡ None) → has_joined l m ≡ false → Holds (record l { places = insert l.places m p }) (joined s m p)
+Holds-added l s m p h noted absent =
+    let out : in_view s m ≡ false = in_view-at l s m h ∙ dead (expired_at l.expired m) (get l.notes m) (noted m (none_is (get l.places m) absent)) in
     record {
       moment_same = h.moment_same;
       kept_same = h.kept_same;
-      at_number = λ k k_below. ⊎_elim (λ t. subst (λ q. HoldsAt (joined s m p) q (places_at (slice_set l.places m (Some p)) q) (note_at l.notes q) (expired_at l.expired q)) (sym (eqb-true k m t)) (record {
-        member = (joined_here s m p).0 ∙ ap is_some (sym (places_at-set l.places m p inside));
-        places = (joined_here s m p).1 ∙ ap (λ (o : Option (List (List ℕ))). unwrap_or o []) (sym (places_at-set l.places m p inside));
-        newest_note = (h.at_number m below).newest_note;
-        greatest = (h.at_number m below).greatest;
-        positive = (h.at_number m below).positive;
-      }))
-          (λ t. let apart = eqb-false k m t in record {
-            member = (joined_other s m k p apart).0 ∙ (h.at_number k k_below).member ∙ ap is_some (sym (places_at-other l.places m k p apart));
-            places = (joined_other s m k p apart).1 ∙ (h.at_number k k_below).places ∙ ap (λ (o : Option (List (List ℕ))). unwrap_or o []) (sym (places_at-other l.places m k p apart));
-            newest_note = (h.at_number k k_below).newest_note;
-            greatest = (h.at_number k k_below).greatest;
-            positive = (h.at_number k k_below).positive;
+      at_number = by_number (λ k. HoldsAt (joined s m p) k (get (insert l.places m p) k) (get l.notes k) (expired_at l.expired k)) m
+          (let at = h.at_number m in record {
+            member = (joined_here s m p).0 ∙ ap is_some (sym (get_here l.places m p));
+            places = (joined_here s m p).1 ∙ ap (λ (o : Option (List (List ℕ))). unwrap_or o []) (sym (get_here l.places m p));
+            newest_note = at.newest_note;
+            greatest = at.greatest;
+            positive = at.positive;
           })
-          (either_bool (eqb k m));
+          (λ k apart. let at = h.at_number k in record {
+            member = (joined_other s m k p apart).0 ∙ at.member ∙ ap is_some (sym (get_other l.places m k p apart));
+            places = (joined_other s m k p apart).1 ∙ at.places ∙ ap (λ (o : Option (List (List ℕ))). unwrap_or o []) (sym (get_other l.places m k p apart));
+            newest_note = at.newest_note;
+            greatest = at.greatest;
+            positive = at.positive;
+          });
       standing = All-weaker (λ q. stands s q.0 ≡ true) (λ q. stands (joined s m p) q.0 ≡ true) (λ q k. stands_joined s m p q.0 out k) s.kept h.standing;
+    }
+
+-- ---- the opening
+
+-- nothing is kept of any number but who has joined
+pub Holds-opening : (l : Life) (s : State) → Holds l s → Holds (record { group = l.group; moment = 0; places = l.places; notes = empty; expired = empty; kept = [] }) (opening s.members)
+Holds-opening l s h =
+    record {
+      moment_same = refl;
+      kept_same = refl;
+      at_number = λ m. record {
+        member = (h.at_number m).member;
+        places = (h.at_number m).places;
+        newest_note = sym (get_none m);
+        greatest = sym (ap (λ o. unwrap_or o 0) (get_none m));
+        positive = subst (λ o. IfSome o (λ n. 0 < n.epoch)) (sym (get_none m)) tt;
+      };
+      standing = All-nil (λ p. stands (opening s.members) p.0 ≡ true);
+    }
+
+pub Holds-nothing : (group : Group) → Holds (record { group = group; moment = 0; places = empty; notes = empty; expired = empty; kept = [] }) (opening [])
+Holds-nothing group =
+    record {
+      moment_same = refl;
+      kept_same = refl;
+      at_number = λ m. record {
+        member = sym (ap is_some (get_none m));
+        places = sym (ap (λ o. unwrap_or o []) (get_none m));
+        newest_note = sym (get_none m);
+        greatest = sym (ap (λ o. unwrap_or o 0) (get_none m));
+        positive = subst (λ o. IfSome o (λ n. 0 < n.epoch)) (sym (get_none m)) tt;
+      };
+      standing = All-nil (λ p. stands (opening []) p.0 ≡ true);
     }

@@ -1,31 +1,27 @@
 -- What accusations that expire change.
-use Rattle.std.proofs.Common.{◌≡◌, ◌≢◌, ℕ, zero, suc, ◌+◌, ◌<◌, ◌≤◌, max, Bool, true, false, cond, not, ◌&&◌, ◌||◌, eqb, leb, ltb, List, [], ◌∷◌, ◌++◌, map, set, get_or, length, ⊎_elim, Option, Some, None, refl, ap, sym, ◌∙◌, subst, arith, get_or-set_same, get_or-set_other, length-set}
-use Rattle.std.specs.Prelude.{nat_lt, nat_le, slice_set, IfSome}
-use Rattle.std.specs.List.{filter, range_with_len}
-use Rattle.std.specs.Option.{option_map_or}
-use Rattle.std.proofs.lemmas.Bool.{eqb-true, eqb-false, eq-eqb, ne_eqb, false≢true, and_parts}
+use Rattle.std.proofs.Common.{◌≡◌, ◌≢◌, ℕ, ◌<◌, max, Bool, true, false, cond, not, ◌&&◌, List, map, Option, Some, None, refl, ap, sym, ◌∙◌, subst, arith, is_some, unwrap_or}
+use Rattle.std.specs.Prelude.{nat_lt, nat_le}
+use Rattle.std.specs.List.{filter}
+use Rattle.std.specs.FinMap.{get}
+use Rattle.std.proofs.lemmas.Bool.{false≢true}
 use Rattle.std.proofs.lemmas.Bool.Decides.{nat_tests}
 use Rattle.ff_ids.specs.declared.Group.{Group}
 use Rattle.ff_ids.specs.declared.AccBody.{AccBody}
 use Rattle.ff_ids.specs.declared.NoteBody.{NoteBody}
-use Rattle.ff_ids.specs.Views.{Member, all_numbers}
+use Rattle.ff_ids.specs.Masks.{ring_count}
 use Rattle.monitor_rule.specs.Joined.{Joined, without_member, is_joined}
-use Rattle.membership.specs.Kept.{PlacesList, NoteList, note_at, expired_at, is_live, is_live_at, member_at, live_members, takes_out, raise, raised, leavers}
+use Rattle.membership.specs.Kept.{ByNumber, expired_at, is_live, is_live_at, member_at, live_members, takes_out, raise}
 use Rattle.membership.specs.Life.{IsSound}
-use Rattle.membership.specs.Holds.{greatest_epoch}
-use Rattle.membership.proofs.NumberLemmas.{either_bool, AreAll, all_length, AtEach, AtEach-all, Numbered, without_member-range, filter-range_agree, filter-range_none}
-use Rattle.membership.proofs.SoundLemmas.{is_joined-live, live_members-same}
+use Rattle.membership.proofs.NumberLemmas.{all_length, AtEach, AtEach-all, Numbered, without_member-range}
+use Rattle.membership.proofs.SoundLemmas.{get_here, get_other, by_number, number_below, is_joined-live, live_members-same, same_rings, same_members}
 
 -- ---- one accusation
 
-pub expired_at-raise : (expired : List ℕ) (a : AccBody) → a.accused < length expired → expired_at (raise expired a) a.accused ≡ max (expired_at expired a.accused) a.epoch
-expired_at-raise expired a below = rw get_or-set_same refl
+pub expired_at-raise : (expired : ByNumber ℕ) (a : AccBody) → expired_at (raise expired a) a.accused ≡ max (expired_at expired a.accused) a.epoch
+expired_at-raise expired a = ap (λ o. unwrap_or o 0) (get_here expired a.accused (max (expired_at expired a.accused) a.epoch))
 
-pub expired_at-other : (expired : List ℕ) (a : AccBody) (k : ℕ) → k ≢ a.accused → expired_at (raise expired a) k ≡ expired_at expired k
-expired_at-other expired a k apart = rw get_or-set_other refl
-
-pub length-raise : (expired : List ℕ) (a : AccBody) → length (raise expired a) ≡ length expired
-length-raise expired a = rw length-set refl
+pub expired_at-other : (expired : ByNumber ℕ) (a : AccBody) (k : ℕ) → k ≢ a.accused → expired_at (raise expired a) k ≡ expired_at expired k
+expired_at-other expired a k apart = ap (λ o. unwrap_or o 0) (get_other expired a.accused k (max (expired_at expired a.accused) a.epoch) apart)
 
 out_is : (e n k : ℕ) → (nat_lt e n && nat_le n k) ≡ (nat_lt e n && not (nat_lt (max e k) n))
 out_is e n k = grind (arith, nat_tests)
@@ -43,11 +39,11 @@ pub live_fewer : (e k : ℕ) (kept : Option NoteBody) → is_live (max e k) kept
 live_fewer e k None h = h
 live_fewer e k (Some n) h = fewer_is e n.epoch k h
 
-pub live_same : (notes : NoteList) (expired : List ℕ) (a : AccBody) (k : ℕ) → k ≢ a.accused → is_live_at notes (raise expired a) k ≡ is_live_at notes expired k
-live_same notes expired a k apart = ap (λ e. is_live e (note_at notes k)) (expired_at-other expired a k apart)
+pub live_same : (notes : ByNumber NoteBody) (expired : ByNumber ℕ) (a : AccBody) (k : ℕ) → k ≢ a.accused → is_live_at notes (raise expired a) k ≡ is_live_at notes expired k
+live_same notes expired a k apart = ap (λ e. is_live e (get notes k)) (expired_at-other expired a k apart)
 
-pub live_raised : (notes : NoteList) (expired : List ℕ) (a : AccBody) → a.accused < length expired → is_live_at notes (raise expired a) a.accused ≡ is_live (max (expired_at expired a.accused) a.epoch) (note_at notes a.accused)
-live_raised notes expired a below = ap (λ e. is_live e (note_at notes a.accused)) (expired_at-raise expired a below)
+pub live_raised : (notes : ByNumber NoteBody) (expired : ByNumber ℕ) (a : AccBody) → is_live_at notes (raise expired a) a.accused ≡ is_live (max (expired_at expired a.accused) a.epoch) (get notes a.accused)
+live_raised notes expired a = ap (λ e. is_live e (get notes a.accused)) (expired_at-raise expired a)
 
 pub out_parts : (was is : Bool) → (was && not is) ≡ true → (was ≡ true) × (is ≡ false)
 out_parts true true h = absurd (false≢true h)
@@ -61,7 +57,7 @@ stays_same false true h e = sym (h refl)
 stays_same false false h e = refl
 
 -- the live members, where one is taken out
-live_members-leaves : (places : PlacesList) (notes : NoteList) (expired expired' : List ℕ) (m : ℕ) → m < 1024 → is_live_at notes expired m ≡ true → is_live_at notes expired' m ≡ false → ((k : ℕ) → k ≢ m → is_live_at notes expired' k ≡ is_live_at notes expired k) → live_members places notes expired' ≡ without_member m (live_members places notes expired)
+live_members-leaves : (places : ByNumber (List (List ℕ))) (notes : ByNumber NoteBody) (expired expired' : ByNumber ℕ) (m : ℕ) → m < 1024 → is_live_at notes expired m ≡ true → is_live_at notes expired' m ≡ false → ((k : ℕ) → k ≢ m → is_live_at notes expired' k ≡ is_live_at notes expired k) → live_members places notes expired' ≡ without_member m (live_members places notes expired)
 live_members-leaves places notes expired expired' m below before after others =
     let all = all_length in
     let numbered : Numbered (member_at places) = record { number = λ m. refl } in
@@ -69,39 +65,38 @@ live_members-leaves places notes expired expired' m below before after others =
     let counted = without_member-range (member_at places) numbered (is_live_at notes expired) (is_live_at notes expired') m 0 all.0 (omega arith) (omega (arith, all.1.long)) before after agree in
     sym (subst (λ xs. without_member m (map (member_at places) (filter (is_live_at notes expired) xs)) ≡ map (member_at places) (filter (is_live_at notes expired') xs)) (sym all.1.are) counted)
 
-live_members-expired : (places : PlacesList) (notes : NoteList) (expired : List ℕ) (a : AccBody) → length expired ≡ 1024 → a.accused < 1024 → (leaves : Bool) → leaves ≡ takes_out (expired_at expired a.accused) (note_at notes a.accused) a → live_members places notes (raise expired a) ≡ cond leaves (without_member a.accused (live_members places notes expired)) (live_members places notes expired)
-live_members-expired places notes expired a long below true e =
-    let parts = out_parts _ _ (sym (e ∙ takes_out-is (expired_at expired a.accused) (note_at notes a.accused) a)) in
-    live_members-leaves places notes expired (raise expired a) a.accused below parts.0 (live_raised notes expired a (omega (arith, long)) ∙ parts.1) (live_same notes expired a)
-live_members-expired places notes expired a long below false e =
-    let same = stays_same (is_live_at notes expired a.accused) (is_live (max (expired_at expired a.accused) a.epoch) (note_at notes a.accused)) (live_fewer (expired_at expired a.accused) a.epoch (note_at notes a.accused)) (sym (e ∙ takes_out-is (expired_at expired a.accused) (note_at notes a.accused) a)) in
-    live_members-same places places notes notes expired (raise expired a)
-    (λ k. ⊎_elim (λ t. subst (λ m. is_live_at notes (raise expired a) m ≡ is_live_at notes expired m) (sym (eqb-true k a.accused t)) (live_raised notes expired a (omega (arith, long)) ∙ same)) (λ t. live_same notes expired a k (eqb-false k a.accused t)) (either_bool (eqb k a.accused)))
-    (λ k _. refl)
+-- who is not live can't be taken out
+pub same_live : (notes : ByNumber NoteBody) (expired : ByNumber ℕ) (a : AccBody) → takes_out (expired_at expired a.accused) (get notes a.accused) a ≡ false → (k : ℕ) → is_live_at notes (raise expired a) k ≡ is_live_at notes expired k
+same_live notes expired a e =
+    by_number (λ k. is_live_at notes (raise expired a) k ≡ is_live_at notes expired k) a.accused (live_raised notes expired a ∙ stays_same (is_live_at notes expired a.accused) (is_live (max (expired_at expired a.accused) a.epoch) (get notes a.accused)) (live_fewer (expired_at expired a.accused) a.epoch (get notes a.accused)) (sym (takes_out-is (expired_at expired a.accused) (get notes a.accused) a) ∙ e)) (live_same notes expired a)
 
-same_rings : (b : Bool) (view : Joined) (ms : List Member) (k : ℕ) → view.rings ≡ k → (cond b (record view { members = ms }) view).rings ≡ k
-same_rings true view ms k e = e
-same_rings false view ms k e = e
+-- who is taken out was live, so it is a member
+taken_below : (group : Group) (places : ByNumber (List (List ℕ))) (notes : ByNumber NoteBody) (expired : ByNumber ℕ) (view : Joined) (m : ℕ) → IsSound group places notes expired view → is_live_at notes expired m ≡ true → m < 1024
+taken_below group places notes expired view m sound live = by_places (get places m) refl
+  where
+    by_places : (o : Option (List (List ℕ))) → get places m ≡ o → m < 1024
+    by_places None e = absurd (false≢true (sym (ap (is_live (expired_at expired m)) (sound.noted m e)) ∙ live))
+    by_places (Some x) e = number_below (ring_count group.t) m (get places m) (sound.placed m) (ap is_some e)
 
-same_members : (b : Bool) (view : Joined) (ms : List Member) → (cond b (record view { members = ms }) view).members ≡ cond b ms view.members
-same_members true view ms = refl
-same_members false view ms = refl
+live_members-expired : (group : Group) (places : ByNumber (List (List ℕ))) (notes : ByNumber NoteBody) (expired : ByNumber ℕ) (view : Joined) (a : AccBody) → IsSound group places notes expired view → (leaves : Bool) → leaves ≡ takes_out (expired_at expired a.accused) (get notes a.accused) a → live_members places notes (raise expired a) ≡ cond leaves (without_member a.accused (live_members places notes expired)) (live_members places notes expired)
+live_members-expired group places notes expired view a sound true e =
+    let parts = out_parts _ _ (sym (e ∙ takes_out-is (expired_at expired a.accused) (get notes a.accused) a)) in
+    live_members-leaves places notes expired (raise expired a) a.accused (taken_below group places notes expired view a.accused sound parts.0) parts.0 (live_raised notes expired a ∙ parts.1) (live_same notes expired a)
+live_members-expired group places notes expired view a sound false e =
+    live_members-same places places notes notes expired (raise expired a) (same_live notes expired a (sym e)) (λ k _. refl)
 
-pub IsSound-expired : (group : Group) (places : PlacesList) (notes : NoteList) (expired : List ℕ) (view view' : Joined) (a : AccBody) (leaves : Bool) → IsSound group places notes expired view → a.accused < 1024 → leaves ≡ takes_out (expired_at expired a.accused) (note_at notes a.accused) a → view' ≡ cond leaves (record view { members = without_member a.accused view.members }) view → IsSound group places notes (raise expired a) view'
-IsSound-expired group places notes expired view view' a leaves sound below e at =
-    let live = live_members-expired places notes expired a sound.all_expired below leaves e in
+pub IsSound-expired : (group : Group) (places : ByNumber (List (List ℕ))) (notes : ByNumber NoteBody) (expired : ByNumber ℕ) (view view' : Joined) (a : AccBody) (leaves : Bool) → IsSound group places notes expired view → leaves ≡ takes_out (expired_at expired a.accused) (get notes a.accused) a → view' ≡ cond leaves (record view { members = without_member a.accused view.members }) view → IsSound group places notes (raise expired a) view'
+IsSound-expired group places notes expired view view' a leaves sound e at =
+    let live = live_members-expired group places notes expired view a sound leaves e in
     record {
       tolerance = sound.tolerance;
-      all_places = sound.all_places;
-      all_notes = sound.all_notes;
-      all_expired = length-raise expired a ∙ sound.all_expired;
       placed = sound.placed;
       noted = sound.noted;
       rings = rw at (same_rings leaves view (without_member a.accused view.members) _ sound.rings);
       viewed = rw at (same_members leaves view (without_member a.accused view.members) ∙ ap (λ ms. cond leaves (without_member a.accused ms) ms) sound.viewed ∙ sym live);
     }
 
-pub joined_before : (group : Group) (places : PlacesList) (notes : NoteList) (expired : List ℕ) (view : Joined) (a : AccBody) (leaves : Bool) → IsSound group places notes expired view → a.accused < 1024 → leaves ≡ takes_out (expired_at expired a.accused) (note_at notes a.accused) a → leaves ≡ true → is_joined view.members a.accused ≡ true
-joined_before group places notes expired view a leaves sound below e is =
-    let parts = out_parts _ _ (sym (takes_out-is (expired_at expired a.accused) (note_at notes a.accused) a) ∙ sym e ∙ is) in
-    ap (λ ms. is_joined ms a.accused) sound.viewed ∙ is_joined-live places notes expired a.accused below ∙ parts.0
+pub joined_before : (group : Group) (places : ByNumber (List (List ℕ))) (notes : ByNumber NoteBody) (expired : ByNumber ℕ) (view : Joined) (a : AccBody) → IsSound group places notes expired view → takes_out (expired_at expired a.accused) (get notes a.accused) a ≡ true → is_joined view.members a.accused ≡ true
+joined_before group places notes expired view a sound e =
+    let parts = out_parts _ _ (sym (takes_out-is (expired_at expired a.accused) (get notes a.accused) a) ∙ e) in
+    ap (λ ms. is_joined ms a.accused) sound.viewed ∙ is_joined-live places notes expired a.accused (taken_below group places notes expired view a.accused sound parts.0) ∙ parts.0

@@ -1,22 +1,28 @@
 -- What is kept, and the states that it stands for.
-use Rattle.std.proofs.Common.{◌≡◌, ℕ, ◌<◌, max, Bool, true, false, cond, not, ◌&&◌, ◌||◌, eqb, leb, List, [], ◌∷◌, map, Option, Some, None, Ok, refl, ap, sym, ◌∙◌, subst, arith, unwrap_or}
+use Rattle.std.proofs.Common.{◌≡◌, ℕ, ◌<◌, max, Bool, true, false, cond, not, ◌&&◌, ◌||◌, eqb, leb, List, [], ◌∷◌, map, Option, Some, None, Ok, Err, refl, ap, sym, ◌∙◌, subst, arith, unwrap_or}
 use Rattle.std.specs.Prelude.{nat_le, nat_lt, IfSome}
 use Rattle.std.specs.List.{filter}
+use Rattle.std.specs.FinMap.{get}
 use Rattle.std.proofs.lemmas.Bool.{eqb-true, lt-leb}
 use Rattle.std.proofs.lemmas.Bool.Decides.{nat_tests}
+use Rattle.std.proofs.lemmas.List.Elements.{filter_agree}
 use Rattle.ff_ids.specs.declared.NoteBody.{NoteBody}
 use Rattle.ff_ids.specs.declared.AccBody.{AccBody}
 use Rattle.ff_ids.specs.declared.Fault.{Fault}
 use Rattle.ff_ids.specs.Notes.{newest, greater_note}
 use Rattle.ff_ids.specs.Rings.{Key, nearest_before, nearest_after}
 use Rattle.ff_ids.specs.Views.{State, Member, has_expired, in_view, is_member, all_numbers, view, key_at, key_of, monitor, successor}
-use Rattle.ff_ids.specs.Faults.{note_fault}
+use Rattle.ff_ids.specs.Faults.{note_fault, note_fault_by}
 use Rattle.monitor_rule.specs.Joined.{keys_on}
-use Rattle.membership.specs.Kept.{places_at, note_at, expired_at, is_live, is_live_at, member_at, live_members, kept_fault}
-use Rattle.membership.specs.Life.{Life, has_joined, live_monitor, live_successor, own_key}
+use Rattle.membership.specs.Kept.{expired_at, is_live, is_live_at, member_at, live_members}
+use Rattle.membership.specs.Life.{Life, has_joined, live_monitor, live_successor, live_keys, own_key, note_fault_in}
 use Rattle.membership.specs.Holds.{Holds, HoldsAt, greatest_epoch}
 use Rattle.membership.specs.Reports.{Answers}
-use Rattle.membership.proofs.NumberLemmas.{all_length, AtEach, AtEach-all, map-filter_range_agree}
+
+-- two functions that agree map alike
+pub map_agree : {X Y : Type 0} (f g : X → Y) → ((x : X) → f x ≡ g x) → (xs : List X) → map f xs ≡ map g xs
+map_agree f g same [] = refl
+map_agree f g same (x ∷ xs) = ap (λ y. y ∷ map f xs) (same x) ∙ ap (λ ys. g x ∷ ys) (map_agree f g same xs)
 
 leb-max : (k x y : ℕ) → leb k (max x y) ≡ (leb k x || leb k y)
 leb-max k x y = grind (arith, nat_tests)
@@ -71,55 +77,61 @@ in_view-held s m places note epoch h =
 
 -- what is kept of each number is as the state says
 pub record HoldsEach (l : Life) (s : State) : Type 0 where
-  pub at_number : (m : ℕ) → m < 1024 → HoldsAt s m (places_at l.places m) (note_at l.notes m) (expired_at l.expired m)
+  pub at_number : (m : ℕ) → HoldsAt s m (get l.places m) (get l.notes m) (expired_at l.expired m)
 
 pub each_held : (l : Life) (s : State) → Holds l s → HoldsEach l s
 each_held l s h = record { at_number = h.at_number }
 
-pub in_view-each : (l : Life) (s : State) (m : ℕ) → HoldsEach l s → m < 1024 → in_view s m ≡ is_live_at l.notes l.expired m
-in_view-each l s m h below = in_view-held s m _ _ _ (h.at_number m below)
+pub in_view-each : (l : Life) (s : State) (m : ℕ) → HoldsEach l s → in_view s m ≡ is_live_at l.notes l.expired m
+in_view-each l s m h = in_view-held s m _ _ _ (h.at_number m)
 
-pub in_view-at : (l : Life) (s : State) (m : ℕ) → Holds l s → m < 1024 → in_view s m ≡ is_live_at l.notes l.expired m
-in_view-at l s m h below = in_view-each l s m (each_held l s h) below
-
--- the faults of a note, by what is kept
-pub note_fault-held : (t : ℕ) (s : State) (n : NoteBody) (places : Option (List (List ℕ))) (note : Option NoteBody) (epoch : ℕ) → HoldsAt s n.member places note epoch → note_fault t s n ≡ kept_fault t places note n
-note_fault-held t s n None newest_note epoch h = rw h.member refl
-note_fault-held t s n (Some places) newest_note epoch h = rw (h.member, h.newest_note) refl
+pub in_view-at : (l : Life) (s : State) (m : ℕ) → Holds l s → in_view s m ≡ is_live_at l.notes l.expired m
+in_view-at l s m h = in_view-each l s m (each_held l s h)
 
 keys_on-map : (f : ℕ → Member) (ring : ℕ) (xs : List ℕ) → keys_on ring (map f xs) ≡ map (λ m. key_at ring (f m).places (f m).number) xs
 keys_on-map f ring [] = refl
 keys_on-map f ring (x ∷ xs) = ap (λ (ks : List Key). key_at ring (f x).places (f x).number ∷ ks) (keys_on-map f ring xs)
 
+own_key-each : (l : Life) (s : State) (ring m : ℕ) → HoldsEach l s → own_key l ring m ≡ key_of s ring m
+own_key-each l s ring m h = ap (λ p. key_at ring p m) (sym (h.at_number m).places)
+
 -- the keys of the view are those of the live members
 pub keys_on-each : (l : Life) (s : State) (ring : ℕ) → HoldsEach l s → keys_on ring (live_members l.places l.notes l.expired) ≡ map (key_of s ring) (view s)
 keys_on-each l s ring h =
-    let all = all_length in
-    let same : AtEach 0 all.0 (λ m. is_live_at l.notes l.expired m ≡ in_view s m) = AtEach-all all.0 _ all.1.long (λ m below. sym (in_view-each l s m h below)) in
-    let keys : AtEach 0 all.0 (λ m. is_live_at l.notes l.expired m ≡ true → key_at ring (unwrap_or (places_at l.places m) []) m ≡ key_of s ring m) = AtEach-all all.0 _ all.1.long (λ m below live. ap (λ places. key_at ring places m) (sym (h.at_number m below).places)) in
-    let counted = map-filter_range_agree (λ m. key_at ring (unwrap_or (places_at l.places m) []) m) (key_of s ring) (is_live_at l.notes l.expired) (in_view s) 0 all.0 same keys in
-    keys_on-map (member_at l.places) ring (filter (is_live_at l.notes l.expired) all_numbers) ∙ subst (λ xs. map (λ m. key_at ring (unwrap_or (places_at l.places m) []) m) (filter (is_live_at l.notes l.expired) xs) ≡ map (key_of s ring) (filter (in_view s) xs)) (sym all.1.are) counted
-
-pub keys_on-live : (l : Life) (s : State) (ring : ℕ) → Holds l s → keys_on ring (live_members l.places l.notes l.expired) ≡ map (key_of s ring) (view s)
-keys_on-live l s ring h = keys_on-each l s ring (each_held l s h)
-
-own_key-each : (l : Life) (s : State) (ring m : ℕ) → HoldsEach l s → m < 1024 → own_key l ring m ≡ key_of s ring m
-own_key-each l s ring m h below = ap (λ p. key_at ring p m) (sym (h.at_number m below).places)
+    keys_on-map (member_at l.places) ring (filter (is_live_at l.notes l.expired) all_numbers)
+    ∙ ap (map (λ m. own_key l ring m)) (filter_agree (is_live_at l.notes l.expired) (in_view s) (λ m. sym (in_view-each l s m h)) all_numbers)
+    ∙ map_agree (own_key l ring) (key_of s ring) (λ m. own_key-each l s ring m h) (view s)
 
 -- so are monitors and successors
-pub live_monitor-each : (l : Life) (s : State) (ring m : ℕ) → HoldsEach l s → m < 1024 → live_monitor l ring m ≡ monitor s ring m
-live_monitor-each l s ring m h below =
-    ap (λ keys. nearest_before keys (own_key l ring m)) (keys_on-each l s ring h) ∙ ap (nearest_before _) (own_key-each l s ring m h below)
+pub live_monitor-each : (l : Life) (s : State) (ring m : ℕ) → HoldsEach l s → live_monitor l ring m ≡ monitor s ring m
+live_monitor-each l s ring m h =
+    ap (λ keys. nearest_before keys (own_key l ring m)) (keys_on-each l s ring h) ∙ ap (nearest_before _) (own_key-each l s ring m h)
 
-pub live_successor-each : (l : Life) (s : State) (ring m : ℕ) → HoldsEach l s → m < 1024 → live_successor l ring m ≡ successor s ring m
-live_successor-each l s ring m h below =
-    ap (λ keys. nearest_after keys (own_key l ring m)) (keys_on-each l s ring h) ∙ ap (nearest_after _) (own_key-each l s ring m h below)
+pub live_successor-each : (l : Life) (s : State) (ring m : ℕ) → HoldsEach l s → live_successor l ring m ≡ successor s ring m
+live_successor-each l s ring m h =
+    ap (λ keys. nearest_after keys (own_key l ring m)) (keys_on-each l s ring h) ∙ ap (nearest_after _) (own_key-each l s ring m h)
 
--- an answer of Ok means no fault
-pub none_from_answers : (f : Option Fault) (u : Unit {0}) → Answers f (Ok u) → f ≡ None
-none_from_answers None u h = refl
-none_from_answers (Some fault) u h = cc
+-- as the rings answer
+pub monitor-held : (l : Life) (s : State) (ring m : ℕ) (members : List Member) (p : List (List ℕ)) → HoldsEach l s → members ≡ live_members l.places l.notes l.expired → get l.places m ≡ Some p → nearest_before (keys_on ring members) (key_at ring p m) ≡ monitor s ring m
+monitor-held l s ring m members p h viewed placed =
+    ap (λ ms. nearest_before (keys_on ring ms) (key_at ring p m)) viewed ∙ ap (λ (o : Option (List (List ℕ))). nearest_before (live_keys l ring) (key_at ring (unwrap_or o []) m)) (sym placed) ∙ live_monitor-each l s ring m h
 
--- who has joined, by what is kept
-pub has_joined-held : (l : Life) (s : State) (m : ℕ) → Holds l s → m < 1024 → has_joined l m ≡ is_member s m
-has_joined-held l s m h below = sym (h.at_number m below).member
+pub successor-held : (l : Life) (s : State) (ring m : ℕ) (members : List Member) (p : List (List ℕ)) → HoldsEach l s → members ≡ live_members l.places l.notes l.expired → get l.places m ≡ Some p → nearest_after (keys_on ring members) (key_at ring p m) ≡ successor s ring m
+successor-held l s ring m members p h viewed placed =
+    ap (λ ms. nearest_after (keys_on ring ms) (key_at ring p m)) viewed ∙ ap (λ (o : Option (List (List ℕ))). nearest_after (live_keys l ring) (key_at ring (unwrap_or o []) m)) (sym placed) ∙ live_successor-each l s ring m h
+
+pub has_joined-each : (l : Life) (s : State) (m : ℕ) → HoldsEach l s → has_joined l m ≡ is_member s m
+has_joined-each l s m h = sym (h.at_number m).member
+
+-- the faults of a note, by what is kept
+pub note_fault-held : (l : Life) (s : State) (n : NoteBody) → Holds l s → note_fault_in l n ≡ note_fault l.group.t s n
+note_fault-held l s n h =
+    let at = h.at_number n.member in
+    ap (λ b. note_fault_by l.group.t b (get l.notes n.member) n) (sym at.member) ∙ ap (λ o. note_fault_by l.group.t (is_member s n.member) o n) (sym at.newest_note)
+
+-- the answer to a fault, or to none
+pub answers-fault : (f g : Option Fault) (fault : Fault) → f ≡ g → f ≡ Some fault → Answers g (Err fault)
+answers-fault f g fault e h = subst (λ o. Answers o (Err fault)) (sym h ∙ e) refl
+
+pub answers-none : (f g : Option Fault) → f ≡ g → f ≡ None → Answers g (Ok tt)
+answers-none f g e h = subst (λ o. Answers o (Ok tt)) (sym h ∙ e) refl

@@ -1,13 +1,11 @@
 pub mod NumberLemmas
 pub mod HoldLemmas
 pub mod SoundLemmas
-pub mod NoteLemmas
-pub mod AddLemmas
 pub mod MonitorLemmas
-pub mod DropLemmas
-pub mod StandLemmas
+pub mod TouchLemmas
+pub mod AddLemmas
+pub mod EndLemmas
+pub mod NoteLemmas
 pub mod ExpireLemmas
-pub mod SettleLemmas
 pub mod TickLemmas
 pub mod AccuseLemmas
-pub mod NoteStepLemmas

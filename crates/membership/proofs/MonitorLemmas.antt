@@ -1,6 +1,6 @@
 -- The monitors and successors of a view, by which numbers are in it.
-use Rattle.std.proofs.Common.{◌≡◌, ◌≢◌, ℕ, zero, suc, ◌+◌, ◌<◌, ◌≤◌, Bool, true, false, cond, not, ◌&&◌, ◌||◌, eqb, List, [], ◌∷◌, map, length, ⊎_elim, ◌⊎◌, inl, inr, Option, Some, None, refl, ap, sym, ◌∙◌, subst, arith}
-use Rattle.std.specs.List.{All, Contains, filter, range_with_len}
+use Rattle.std.proofs.Common.{◌≡◌, ◌≢◌, ℕ, zero, suc, ◌+◌, ◌<◌, ◌≤◌, Bool, true, false, cond, not, ◌&&◌, ◌||◌, eqb, List, [], ◌∷◌, map, ⊎_elim, ◌⊎◌, inl, inr, Option, Some, None, refl, ap, sym, ◌∙◌, subst, arith}
+use Rattle.std.specs.List.{Contains, filter, range_with_len}
 use Rattle.std.specs.Cmp.{IsStrictWeakOrder}
 use Rattle.std.specs.Ordering.{is_lt, ordering_reverse}
 use Rattle.std.specs.declared.cmp.Ordering.{Ordering}
@@ -11,9 +11,9 @@ use Rattle.std.proofs.lemmas.List.MinMax.{ranks_by}
 use Rattle.std.proofs.lemmas.List.Elements.{All-contains, All-weaker, All-contains_itself, Contains-append_right, Contains-append_cases}
 use Rattle.ff_ids.specs.Rings.{Key, cyc, is_below, nearest_before, nearest_after, IsNearestBefore, IsNearestAfter}
 use Rattle.ff_ids.specs.Views.{all_numbers, is_number}
-use Rattle.ring_order.proofs.KeyOrder.{IsRanked, before_ranked, key_cmp_total}
+use Rattle.ring_order.proofs.KeyOrder.{before_ranked, key_cmp_total}
 use Rattle.ring_order.proofs.NearestLaws.{nearest_before-some, nearest_after-some, nearest_before-is, nearest_after-is}
-use Rattle.membership.proofs.NumberLemmas.{either_bool, AreAll, all_length}
+use Rattle.membership.proofs.NumberLemmas.{either_bool, all_length}
 
 -- ---- how near keys are to a member
 
@@ -282,3 +282,24 @@ monitor-entering f keyed p q x v m h enters x_below x_is =
     absurd (false≢true (sym (after.nearest v h.below v_passes v_apart) ∙ closer))) in
     is_number-is _ v (IsMonitor-is f keyed q x v stays) ∙ ap not (sym other))
     (either_bool (cyc (f v) (f m) (f x)))
+
+-- who monitors has as its successor the one that it monitors, and nobody else has that successor
+pub successor-of_monitor : (f : ℕ → Key) → Keyed f → (p : ℕ → Bool) (x v : ℕ) → IsMonitor f p x v → x < 1024 → p x ≡ true → (m : ℕ) → m < 1024 → p m ≡ true → is_number (nearest_after (keys_where f p) (f m)) x ≡ eqb m v
+successor-of_monitor f keyed p x v h x_below x_is m m_below m_is =
+    ⊎_elim (λ t.
+    let at : m ≡ v = eqb-true m v t in
+    let after : IsSuccessor f p v x = record {
+      below = x_below;
+      passes = x_is;
+      other = λ e. h.other (sym e);
+      nearest = λ w below is apart. ⊎_elim (λ u. subst (λ k. cyc (f v) (f k) (f x) ≡ false) (sym (eqb-true w x u)) (near_end (f v) (f x))) (λ u. h.nearest w below is (eqb-false w x u)) (either_bool (eqb w x));
+    } in
+    is_number-is _ x (subst (λ k. nearest_after (keys_where f p) (f k) ≡ Some x) (sym at) (IsSuccessor-is f keyed p v x after)) ∙ sym t)
+    (λ t.
+    let apart : m ≢ v = eqb-false m v t in
+    not_number _ x (λ e.
+    let after = IsSuccessor-some f keyed p m x e in
+    let m_other : m ≢ x = λ k. after.other (sym k) in
+    let tied = near_tied (f x) (f v) (f m) (keyed_apart f keyed v x h.other) (keyed_apart f keyed m x m_other) (h.nearest m m_below m_is m_other) (after.nearest v h.below h.passes (λ k. apart (sym k))) in
+    apart (sym (sym (keyed.number v) ∙ tied ∙ keyed.number m))) ∙ sym t)
+    (either_bool (eqb m v))

@@ -1,23 +1,27 @@
 -- What a tick changes.
-use Rattle.std.proofs.Common.{◌≡◌, ◌≢◌, ℕ, zero, suc, ◌+◌, ◌<◌, ◌≤◌, max, Bool, true, false, cond, not, ◌&&◌, ◌||◌, eqb, List, [], ◌∷◌, ◌++◌, map, length, ⊎_elim, Option, Some, None, refl, ap, sym, ◌∙◌, subst, arith}
-use Rattle.std.specs.List.{filter, range_with_len, AllByRecursion, All}
-use Rattle.std.proofs.lemmas.Bool.{eqb-true, eqb-false, eq-eqb, ne_eqb, false≢true}
+use Rattle.std.proofs.Common.{◌≡◌, ◌≢◌, ℕ, zero, suc, ◌+◌, ◌<◌, ◌≤◌, max, Bool, true, false, cond, not, ◌&&◌, eqb, List, [], ◌∷◌, ◌++◌, map, length, ⊎_elim, None, refl, ap, sym, ◌∙◌, subst, arith}
+use Rattle.std.specs.List.{filter, range_with_len, AllByRecursion}
+use Rattle.std.specs.FinMap.{get}
+use Rattle.std.proofs.lemmas.Bool.{eqb-true, eqb-false, false≢true}
 use Rattle.std.proofs.lemmas.Bool.Decides.{nat_tests}
+use Rattle.std.proofs.lemmas.List.Elements.{filter_agree, filter_passes}
 use Rattle.ff_ids.specs.declared.AccBody.{AccBody}
 use Rattle.ff_ids.specs.declared.NoteBody.{NoteBody}
-use Rattle.ff_ids.specs.Views.{State, in_view, view, all_numbers}
-use Rattle.ff_ids.specs.Steps.{comes_first, is_due, only_before, after_tick}
+use Rattle.ff_ids.specs.Masks.{ring_count}
+use Rattle.ff_ids.specs.Views.{State, in_view, all_numbers, stands}
+use Rattle.ff_ids.specs.Steps.{Report, comes_first, is_due, only_before, after_tick}
 use Rattle.removal_timer.specs.Kept.{IsInOrder}
 use Rattle.removal_timer.proofs.KeptLemmas.{IsInOrder-filter, All-filter}
-use Rattle.membership.specs.Kept.{NoteList, note_at, expired_at, is_live, is_live_at, takes_out, raise, raised, leavers}
-use Rattle.membership.specs.Life.{Life, falls_in}
-use Rattle.membership.specs.Holds.{Holds, HoldsAt, greatest_epoch}
-use Rattle.membership.specs.Reports.{Report, Reports}
-use Rattle.membership.proofs.NumberLemmas.{either_bool, AreAll, all_length, AtEach, AtEach-all, AtEach-here, AtEach-next, filter-filter, filter-range_agree, filter-range_none}
+use Rattle.membership.specs.Kept.{ByNumber, expired_at, is_live, is_live_at, takes_out, raise, raised, leavers}
+use Rattle.membership.specs.Life.{Life}
+use Rattle.membership.specs.Ends.{Entry, is_of_any}
+use Rattle.membership.specs.Holds.{Holds, greatest_epoch}
+use Rattle.membership.proofs.NumberLemmas.{either_bool, all_length, AtEach, AtEach-here, AtEach-next, filter-filter, filter-range_agree, filter-range_none}
 use Rattle.membership.proofs.HoldLemmas.{HoldsEach, each_held, in_view-each}
-use Rattle.membership.proofs.ExpireLemmas.{takes_out-is, live_fewer, live_same, live_raised, out_parts, stays_same, expired_at-raise, expired_at-other, length-raise}
-use Rattle.membership.proofs.StandLemmas.{Views, KeptAt}
-use Rattle.membership.proofs.SettleLemmas.{IsUnsettled, AllBy-held, Holds-settled, fell-settled, settled_life}
+use Rattle.membership.proofs.ExpireLemmas.{takes_out-is, live_fewer, live_same, live_raised, out_parts, same_live, expired_at-raise, expired_at-other}
+use Rattle.membership.proofs.TouchLemmas.{IsUpheld, with_expired, fewer-expired, stands-of_any}
+use Rattle.membership.proofs.NoteLemmas.{AllBy-upheld, Decides, only_before-none, stands-left, stands-fell}
+use Rattle.membership.proofs.EndLemmas.{AllBy-then, Ended}
 
 -- ---- the order of what is due
 
@@ -45,25 +49,21 @@ Ascends-due rings f es h = Ascends-ordered rings 0 (filter f es) (IsInOrder-filt
 
 -- ---- the epochs
 
-raised_below : (expired : List ℕ) (due : List AccBody) (low k : ℕ) → Ascends low due → k < low → expired_at (raised expired due) k ≡ expired_at expired k
+raised_below : (expired : ByNumber ℕ) (due : List AccBody) (low k : ℕ) → Ascends low due → k < low → expired_at (raised expired due) k ≡ expired_at expired k
 raised_below expired [] low k h lt = refl
 raised_below expired (a ∷ due) low k h lt =
     raised_below (raise expired a) due a.accused k h.2 (omega (arith, h.0)) ∙ expired_at-other expired a k (λ e. absurd (omega (arith, h.0)))
 
-pub length-raised : (expired : List ℕ) (due : List AccBody) → length (raised expired due) ≡ length expired
-length-raised expired [] = refl
-length-raised expired (a ∷ due) = length-raised (raise expired a) due ∙ length-raise expired a
-
-fewer_once : (notes : NoteList) (expired : List ℕ) (a : AccBody) (k : ℕ) → a.accused < length expired → is_live_at notes (raise expired a) k ≡ true → is_live_at notes expired k ≡ true
-fewer_once notes expired a k below live =
-    ⊎_elim (λ t. subst (λ m. is_live_at notes expired m ≡ true) (sym (eqb-true k a.accused t)) (live_fewer (expired_at expired a.accused) a.epoch (note_at notes a.accused) (sym (live_raised notes expired a below) ∙ subst (λ m. is_live_at notes (raise expired a) m ≡ true) (eqb-true k a.accused t) live)))
+fewer_once : (notes : ByNumber NoteBody) (expired : ByNumber ℕ) (a : AccBody) (k : ℕ) → is_live_at notes (raise expired a) k ≡ true → is_live_at notes expired k ≡ true
+fewer_once notes expired a k live =
+    ⊎_elim (λ t. subst (λ m. is_live_at notes expired m ≡ true) (sym (eqb-true k a.accused t)) (live_fewer (expired_at expired a.accused) a.epoch (get notes a.accused) (sym (live_raised notes expired a) ∙ subst (λ m. is_live_at notes (raise expired a) m ≡ true) (eqb-true k a.accused t) live)))
     (λ t. sym (live_same notes expired a k (eqb-false k a.accused t)) ∙ live)
     (either_bool (eqb k a.accused))
 
-pub fewer_live : (notes : NoteList) (expired : List ℕ) (due : List AccBody) (low k : ℕ) → length expired ≡ 1024 → Ascends low due → is_live_at notes (raised expired due) k ≡ true → is_live_at notes expired k ≡ true
-fewer_live notes expired [] low k long h live = live
-fewer_live notes expired (a ∷ due) low k long h live =
-    fewer_once notes expired a k (omega (arith, h.1, long)) (fewer_live notes (raise expired a) due a.accused k (length-raise expired a ∙ long) h.2 live)
+pub fewer_live : (notes : ByNumber NoteBody) (expired : ByNumber ℕ) (due : List AccBody) (low k : ℕ) → Ascends low due → is_live_at notes (raised expired due) k ≡ true → is_live_at notes expired k ≡ true
+fewer_live notes expired [] low k h live = live
+fewer_live notes expired (a ∷ due) low k h live =
+    fewer_once notes expired a k (fewer_live notes (raise expired a) due a.accused k h.2 live)
 
 -- ---- who leaves
 
@@ -84,45 +84,43 @@ filter_first p q m a (suc n) low high was is others before =
     (either_bool (eqb a m))
 
 -- live under the first epochs, and not under the second
-abbrev pub gone : NoteList → List ℕ → List ℕ → ℕ → Bool
+abbrev pub gone : ByNumber NoteBody → ByNumber ℕ → ByNumber ℕ → ℕ → Bool
 gone notes expired later k = is_live_at notes expired k && not (is_live_at notes later k)
 
 and_not : (b : Bool) → (b && not b) ≡ false
 and_not true = refl
 and_not false = refl
 
-leavers_more : (notes : NoteList) (expired : List ℕ) (a : AccBody) (due : List AccBody) (n : ℕ) → n ≡ 1024 → length expired ≡ 1024 → a.accused < 1024 → Ascends a.accused due → (out : Bool) → out ≡ takes_out (expired_at expired a.accused) (note_at notes a.accused) a → cond out (a.accused ∷ filter (gone notes (raise expired a) (raised (raise expired a) due)) (range_with_len 0 n)) (filter (gone notes (raise expired a) (raised (raise expired a) due)) (range_with_len 0 n)) ≡ filter (gone notes expired (raised (raise expired a) due)) (range_with_len 0 n)
-leavers_more notes expired a due n size long below ascends true e =
+leavers_more : (notes : ByNumber NoteBody) (expired : ByNumber ℕ) (a : AccBody) (due : List AccBody) (n : ℕ) → n ≡ 1024 → a.accused < 1024 → Ascends a.accused due → (out : Bool) → out ≡ takes_out (expired_at expired a.accused) (get notes a.accused) a → cond out (a.accused ∷ filter (gone notes (raise expired a) (raised (raise expired a) due)) (range_with_len 0 n)) (filter (gone notes (raise expired a) (raised (raise expired a) due)) (range_with_len 0 n)) ≡ filter (gone notes expired (raised (raise expired a) due)) (range_with_len 0 n)
+leavers_more notes expired a due n size below ascends true e =
     let later = raised (raise expired a) due in
-    let parts = out_parts _ _ (sym (e ∙ takes_out-is (expired_at expired a.accused) (note_at notes a.accused) a)) in
-    let dead : is_live_at notes (raise expired a) a.accused ≡ false = live_raised notes expired a (omega (arith, long)) ∙ parts.1 in
-    let dead_later : is_live_at notes later a.accused ≡ false = ⊎_elim (λ t. absurd (false≢true (sym dead ∙ fewer_live notes (raise expired a) due a.accused a.accused (length-raise expired a ∙ long) ascends t))) (λ t. t) (either_bool (is_live_at notes later a.accused)) in
+    let parts = out_parts _ _ (sym (e ∙ takes_out-is (expired_at expired a.accused) (get notes a.accused) a)) in
+    let dead : is_live_at notes (raise expired a) a.accused ≡ false = live_raised notes expired a ∙ parts.1 in
+    let dead_later : is_live_at notes later a.accused ≡ false = ⊎_elim (λ t. absurd (false≢true (sym dead ∙ fewer_live notes (raise expired a) due a.accused a.accused ascends t))) (λ t. t) (either_bool (is_live_at notes later a.accused)) in
     let was : gone notes (raise expired a) later a.accused ≡ false = ap (λ b. b && not (is_live_at notes later a.accused)) dead in
     let is : gone notes expired later a.accused ≡ true = ap (λ b. b && not (is_live_at notes later a.accused)) parts.0 ∙ ap not dead_later in
     sym (filter_first (gone notes (raise expired a) later) (gone notes expired later) a.accused 0 n (omega arith) (omega arith) was is
     (record { each = λ k _ _ apart. ap (λ b. b && not (is_live_at notes later k)) (sym (live_same notes expired a k apart)) })
-    (record { each = λ k _ _ lt. ap (λ b. is_live_at notes (raise expired a) k && not (is_live b (note_at notes k))) (raised_below (raise expired a) due a.accused k ascends lt) ∙ and_not (is_live_at notes (raise expired a) k) }))
-leavers_more notes expired a due n size long below ascends false e =
+    (record { each = λ k _ _ lt. ap (λ b. is_live_at notes (raise expired a) k && not (is_live b (get notes k))) (raised_below (raise expired a) due a.accused k ascends lt) ∙ and_not (is_live_at notes (raise expired a) k) }))
+leavers_more notes expired a due n size below ascends false e =
     let later = raised (raise expired a) due in
-    let same = stays_same (is_live_at notes expired a.accused) (is_live (max (expired_at expired a.accused) a.epoch) (note_at notes a.accused)) (live_fewer (expired_at expired a.accused) a.epoch (note_at notes a.accused)) (sym (e ∙ takes_out-is (expired_at expired a.accused) (note_at notes a.accused) a)) in
-    let here : is_live_at notes (raise expired a) a.accused ≡ is_live_at notes expired a.accused = live_raised notes expired a (omega (arith, long)) ∙ same in
-    filter-range_agree (gone notes (raise expired a) later) (gone notes expired later) 0 n (record { each = λ k _ _. ap (λ b. b && not (is_live_at notes later k)) (⊎_elim (λ t. subst (λ m. is_live_at notes (raise expired a) m ≡ is_live_at notes expired m) (sym (eqb-true k a.accused t)) here) (λ t. live_same notes expired a k (eqb-false k a.accused t)) (either_bool (eqb k a.accused))) })
+    filter-range_agree (gone notes (raise expired a) later) (gone notes expired later) 0 n (record { each = λ k _ _. ap (λ b. b && not (is_live_at notes later k)) (same_live notes expired a (sym e) k) })
 
-leavers_range : (notes : NoteList) (expired : List ℕ) (due : List AccBody) (low n : ℕ) → n ≡ 1024 → length expired ≡ 1024 → Ascends low due → leavers notes expired due ≡ filter (gone notes expired (raised expired due)) (range_with_len 0 n)
-leavers_range notes expired [] low n size long h = sym (filter-range_none (gone notes expired expired) 0 n (record { each = λ k _ _. and_not (is_live_at notes expired k) }))
-leavers_range notes expired (a ∷ due) low n size long h =
-    let rest = leavers_range notes (raise expired a) due a.accused n size (length-raise expired a ∙ long) h.2 in
-    ap (λ xs. cond (takes_out (expired_at expired a.accused) (note_at notes a.accused) a) (a.accused ∷ xs) xs) rest ∙ leavers_more notes expired a due n size long h.1 h.2 _ refl
+leavers_range : (notes : ByNumber NoteBody) (expired : ByNumber ℕ) (due : List AccBody) (low n : ℕ) → n ≡ 1024 → Ascends low due → leavers notes expired due ≡ filter (gone notes expired (raised expired due)) (range_with_len 0 n)
+leavers_range notes expired [] low n size h = sym (filter-range_none (gone notes expired expired) 0 n (record { each = λ k _ _. and_not (is_live_at notes expired k) }))
+leavers_range notes expired (a ∷ due) low n size h =
+    let rest = leavers_range notes (raise expired a) due a.accused n size h.2 in
+    ap (λ xs. cond (takes_out (expired_at expired a.accused) (get notes a.accused) a) (a.accused ∷ xs) xs) rest ∙ leavers_more notes expired a due n size h.1 h.2 _ refl
 
 -- the members taken out are those that were live and no longer are
-pub leavers-is : (notes : NoteList) (expired : List ℕ) (due : List AccBody) → length expired ≡ 1024 → Ascends 0 due → leavers notes expired due ≡ filter (gone notes expired (raised expired due)) all_numbers
-leavers-is notes expired due long h =
+pub leavers-is : (notes : ByNumber NoteBody) (expired : ByNumber ℕ) (due : List AccBody) → Ascends 0 due → leavers notes expired due ≡ filter (gone notes expired (raised expired due)) all_numbers
+leavers-is notes expired due h =
     let all = all_length in
-    subst (λ xs. leavers notes expired due ≡ filter (gone notes expired (raised expired due)) xs) (sym all.1.are) (leavers_range notes expired due 0 all.0 all.1.long long h)
+    subst (λ xs. leavers notes expired due ≡ filter (gone notes expired (raised expired due)) xs) (sym all.1.are) (leavers_range notes expired due 0 all.0 all.1.long h)
 
-pub length-leavers : (notes : NoteList) (expired : List ℕ) (due : List AccBody) → length (leavers notes expired due) ≤ length due
+pub length-leavers : (notes : ByNumber NoteBody) (expired : ByNumber ℕ) (due : List AccBody) → length (leavers notes expired due) ≤ length due
 length-leavers notes expired [] = omega arith
-length-leavers notes expired (a ∷ due) = either_length (takes_out (expired_at expired a.accused) (note_at notes a.accused) a) a.accused (leavers notes (raise expired a) due) due (length-leavers notes (raise expired a) due)
+length-leavers notes expired (a ∷ due) = either_length (takes_out (expired_at expired a.accused) (get notes a.accused) a) a.accused (leavers notes (raise expired a) due) due (length-leavers notes (raise expired a) due)
   where
     either_length : (b : Bool) (m : ℕ) (ms : List ℕ) (due : List AccBody) → length ms ≤ length due → length (cond b (m ∷ ms) ms) ≤ suc (length due)
     either_length true m ms due h = omega arith
@@ -141,11 +139,11 @@ greatest_swap [] expired a m = refl
 greatest_swap (b ∷ due) expired a m =
     ap (λ g. cond (eqb b.accused m) (max b.epoch g) g) (greatest_swap due expired a m) ∙ swap_either (eqb b.accused m) (eqb a.accused m) b.epoch a.epoch (greatest_epoch (due ++ expired) m)
 
-greatest_once : (expired : List AccBody) (epochs : List ℕ) (a : AccBody) (m : ℕ) → a.accused < length epochs → greatest_epoch expired m ≡ expired_at epochs m → greatest_epoch (a ∷ expired) m ≡ expired_at (raise epochs a) m
-greatest_once expired epochs a m below e =
+greatest_once : (expired : List AccBody) (epochs : ByNumber ℕ) (a : AccBody) (m : ℕ) → greatest_epoch expired m ≡ expired_at epochs m → greatest_epoch (a ∷ expired) m ≡ expired_at (raise epochs a) m
+greatest_once expired epochs a m e =
     ⊎_elim (λ t.
     let at : a.accused ≡ m = eqb-true a.accused m t in
-    let now : expired_at (raise epochs a) m ≡ max (expired_at epochs m) a.epoch = subst (λ k. expired_at (raise epochs a) k ≡ max (expired_at epochs k) a.epoch) at (expired_at-raise epochs a below) in
+    let now : expired_at (raise epochs a) m ≡ max (expired_at epochs m) a.epoch = subst (λ k. expired_at (raise epochs a) k ≡ max (expired_at epochs k) a.epoch) at (expired_at-raise epochs a) in
     ap (λ b. cond b (max a.epoch (greatest_epoch expired m)) (greatest_epoch expired m)) t ∙ ap (max a.epoch) e ∙ max_comm a.epoch (expired_at epochs m) ∙ sym now)
     (λ t. ap (λ b. cond b (max a.epoch (greatest_epoch expired m)) (greatest_epoch expired m)) t ∙ e ∙ sym (expired_at-other epochs a m (λ k. eqb-false a.accused m t (sym k))))
     (either_bool (eqb a.accused m))
@@ -153,10 +151,10 @@ greatest_once expired epochs a m below e =
     max_comm : (x y : ℕ) → max x y ≡ max y x
     max_comm x y = omega arith
 
-pub greatest-raised : (due expired : List AccBody) (epochs : List ℕ) (low : ℕ) → length epochs ≡ 1024 → Ascends low due → ((m : ℕ) → m < 1024 → greatest_epoch expired m ≡ expired_at epochs m) → (m : ℕ) → m < 1024 → greatest_epoch (due ++ expired) m ≡ expired_at (raised epochs due) m
-greatest-raised [] expired epochs low long h same m below = same m below
-greatest-raised (a ∷ due) expired epochs low long h same m below =
-    sym (greatest_swap due expired a m) ∙ greatest-raised due (a ∷ expired) (raise epochs a) a.accused (length-raise epochs a ∙ long) h.2 (λ k k_below. greatest_once expired epochs a k (omega (arith, h.1, long)) (same k k_below)) m below
+pub greatest-raised : (due expired : List AccBody) (epochs : ByNumber ℕ) → ((m : ℕ) → greatest_epoch expired m ≡ expired_at epochs m) → (m : ℕ) → greatest_epoch (due ++ expired) m ≡ expired_at (raised epochs due) m
+greatest-raised [] expired epochs same m = same m
+greatest-raised (a ∷ due) expired epochs same m =
+    sym (greatest_swap due expired a m) ∙ greatest-raised due (a ∷ expired) (raise epochs a) (λ k. greatest_once expired epochs a k (same k)) m
 
 -- ---- the tick
 
@@ -189,64 +187,50 @@ kept_still : (l : Life) (s : State) → Holds l s → filter (λ p. not (is_due 
 kept_still l s h =
     ap (λ now. filter (λ p. not (is_due l.group.timeout (now + 1) p)) s.kept) h.moment_same ∙ ap (filter (λ p. not (is_due l.group.timeout (l.moment + 1) p))) h.kept_same
 
-each_ticked : (rings : ℕ) (l : Life) (s : State) → Holds l s → IsInOrder rings l.kept → length l.expired ≡ 1024 → HoldsEach (ticked l) (ticked_state l.group.timeout s)
-each_ticked rings l s h ordered long =
+each_ticked : (l : Life) (s : State) → Holds l s → HoldsEach (ticked l) (ticked_state l.group.timeout s)
+each_ticked l s h =
     record {
-      at_number = λ m below. record {
-        member = (h.at_number m below).member;
-        places = (h.at_number m below).places;
-        newest_note = (h.at_number m below).newest_note;
-        greatest = ap (λ due. greatest_epoch (due ++ s.expired) m) (due_same l s h) ∙ greatest-raised (due_of l) s.expired l.expired 0 long (Ascends-due rings (is_due l.group.timeout (l.moment + 1)) l.kept ordered) (λ k k_below. (h.at_number k k_below).greatest) m below;
-        positive = (h.at_number m below).positive;
+      at_number = λ m. let at = h.at_number m in record {
+        member = at.member;
+        places = at.places;
+        newest_note = at.newest_note;
+        greatest = ap (λ due. greatest_epoch (due ++ s.expired) m) (due_same l s h) ∙ greatest-raised (due_of l) s.expired l.expired (λ k. (h.at_number k).greatest) m;
+        positive = at.positive;
       };
     }
 
-pub IsUnsettled-ticked : (rings : ℕ) (l : Life) (s : State) → Holds l s → IsInOrder rings l.kept → length l.expired ≡ 1024 → IsUnsettled rings (ticked l) s (ticked_state l.group.timeout s) None
-IsUnsettled-ticked rings l s h ordered long =
-    let each = each_ticked rings l s h ordered long in
-    record {
-      members = refl;
-      each = each;
-      views = λ w below is. in_view-each l s w (each_held l s h) below ∙ fewer_live l.notes l.expired (due_of l) 0 w long (Ascends-due rings (is_due l.group.timeout (l.moment + 1)) l.kept ordered) (sym (in_view-each (ticked l) _ w each below) ∙ is);
-      moment_same = ap (λ now. now + 1) h.moment_same;
-      kept_same = kept_still l s h;
-      kept_at = All-filter (KeptAt rings s) (λ p. not (is_due l.group.timeout (l.moment + 1) p)) l.kept (AllBy-held rings l s h ordered);
-    }
-
-removed_is : (rings : ℕ) (l : Life) (s : State) → Holds l s → IsInOrder rings l.kept → length l.expired ≡ 1024 → only_before s (ticked_state l.group.timeout s) ≡ leavers l.notes l.expired (due_of l)
-removed_is rings l s h ordered long =
-    let all = all_length in
-    let each = each_ticked rings l s h ordered long in
+removed_is : (rings : ℕ) (l : Life) (s : State) → Holds l s → IsInOrder rings l.kept → only_before s (ticked_state l.group.timeout s) ≡ leavers l.notes l.expired (due_of l)
+removed_is rings l s h ordered =
     let mid = ticked_state l.group.timeout s in
-    let same : AtEach 0 all.0 (λ k. (in_view s k && not (in_view mid k)) ≡ gone l.notes l.expired (raised l.expired (due_of l)) k) = AtEach-all all.0 _ all.1.long (λ k below. ap (λ b. b && not (in_view mid k)) (in_view-each l s k (each_held l s h) below) ∙ ap (λ b. is_live_at l.notes l.expired k && not b) (in_view-each (ticked l) mid k each below)) in
     filter-filter (λ k. not (in_view mid k)) (in_view s) all_numbers
-    ∙ subst (λ xs. filter (λ k. in_view s k && not (in_view mid k)) xs ≡ filter (gone l.notes l.expired (raised l.expired (due_of l))) xs) (sym all.1.are) (filter-range_agree _ _ 0 all.0 same)
-    ∙ sym (leavers-is l.notes l.expired (due_of l) long (Ascends-due rings (is_due l.group.timeout (l.moment + 1)) l.kept ordered))
+    ∙ filter_agree (λ k. in_view s k && not (in_view mid k)) (gone l.notes l.expired (raised l.expired (due_of l))) (λ k. ap (λ b. b && not (in_view mid k)) (in_view-each l s k (each_held l s h)) ∙ ap (λ b. is_live_at l.notes l.expired k && not b) (in_view-each (ticked l) mid k (each_ticked l s h))) all_numbers
+    ∙ sym (leavers-is l.notes l.expired (due_of l) (Ascends-due rings (is_due l.group.timeout (l.moment + 1)) l.kept ordered))
 
-none_new : (was is : Bool) → (is ≡ true → was ≡ true) → (is && not was) ≡ false
-none_new was true stays = ap not (stays refl)
-none_new was false stays = refl
+decides-ticked : (l : Life) (s : State) → Holds l s → ((k : ℕ) → get l.places k ≡ None → get l.notes k ≡ None) → IsInOrder (ring_count l.group.t) l.kept → Decides (ticked_state l.group.timeout s) (is_of_any l (due_of l)) (ticked l).kept
+decides-ticked l s h noted ordered =
+    let upheld = AllBy-upheld (ring_count l.group.t) l s h ordered in
+    let due = All-filter (IsUpheld s) (is_due l.group.timeout (l.moment + 1)) l.kept upheld in
+    subst (λ ds. AllByRecursion (λ p. stands (with_expired s ds) p.0 ≡ not (is_of_any l (due_of l) p)) (ticked l).kept) (sym (due_same l s h)) (AllBy-then (IsUpheld s) (λ p. stands (with_expired s (due_of l)) p.0 ≡ not (is_of_any l (due_of l) p)) (λ p u. stands-of_any l s p (filter (is_due l.group.timeout (l.moment + 1)) l.kept) (each_held l s h) noted u due) (ticked l).kept (All-filter (IsUpheld s) (λ p. not (is_due l.group.timeout (l.moment + 1) p)) l.kept upheld))
 
-entered_none : (rings : ℕ) (l : Life) (s : State) → Holds l s → IsInOrder rings l.kept → length l.expired ≡ 1024 → only_before (ticked_state l.group.timeout s) s ≡ []
-entered_none rings l s h ordered long =
-    let all = all_length in
-    let unsettled = IsUnsettled-ticked rings l s h ordered long in
+same_report : (expired expired' fell fell' : List AccBody) (removed removed' entered entered' : List ℕ) → expired ≡ expired' → removed ≡ removed' → entered ≡ entered' → fell ≡ fell' → ◌≡◌ {A = Report} (record { expired = expired; removed = removed; entered = entered; fell = fell }) (record { expired = expired'; removed = removed'; entered = entered'; fell = fell' })
+same_report expired expired' fell fell' removed removed' entered entered' a b c d = rw (a, b, c, d) refl
+
+-- the life after the tick, and its report
+pub record Ticked (l : Life) (s : State) (kept : List Entry) (fell : List AccBody) : Type 0 where
+  pub holds : Holds (record (ticked l) { kept = kept }) (after_tick l.group.timeout s).state
+  pub report : record { expired = due_of l; removed = leavers l.notes l.expired (due_of l); entered = []; fell = fell } ≡ (after_tick l.group.timeout s).report
+
+pub Ticked-by : (l : Life) (s : State) (kept : List Entry) (fell : List AccBody) → Holds l s → ((k : ℕ) → get l.places k ≡ None → get l.notes k ≡ None) → IsInOrder (ring_count l.group.t) l.kept → Ended (is_of_any l (due_of l)) (ticked l).kept kept fell → Ticked l s kept fell
+Ticked-by l s kept fell h noted ordered ended =
     let mid = ticked_state l.group.timeout s in
-    let none : AtEach 0 all.0 (λ k. (in_view mid k && not (in_view s k)) ≡ false) = AtEach-all all.0 _ all.1.long (λ k below. none_new (in_view s k) (in_view mid k) (unsettled.views k below)) in
-    filter-filter (λ k. not (in_view s k)) (in_view mid) all_numbers ∙ subst (λ xs. filter (λ k. in_view mid k && not (in_view s k)) xs ≡ []) (sym all.1.are) (filter-range_none _ 0 all.0 none)
-
--- what is kept after the tick stands for the state after it
-pub Holds-ticked : (rings : ℕ) (l : Life) (s : State) → Holds l s → IsInOrder rings l.kept → length l.expired ≡ 1024 → Holds (settled_life (ticked l) None) (after_tick l.group.timeout s).state
-Holds-ticked rings l s h ordered long =
-    Holds-settled rings (ticked l) s (ticked_state l.group.timeout s) s None (due_of l) (IsUnsettled-ticked rings l s h ordered long)
-
-abbrev report : List AccBody → List ℕ → List ℕ → List AccBody → Report
-report expired removed entered fell = record { expired = expired; removed = removed; entered = entered; fell = fell }
-
-report_same : (expired expired' fell fell' : List AccBody) (removed removed' entered entered' : List ℕ) → expired ≡ expired' → removed ≡ removed' → entered ≡ entered' → fell ≡ fell' → report expired removed entered fell ≡ report expired' removed' entered' fell'
-report_same expired expired' fell fell' removed removed' entered entered' a b c d = rw (a, b, c, d) refl
-
--- and what is reported is the report
-pub Reports-ticked : (rings : ℕ) (l : Life) (s : State) → Holds l s → IsInOrder rings l.kept → length l.expired ≡ 1024 → Reports (record { expired = due_of l; removed = leavers l.notes l.expired (due_of l); entered = []; fell = map (λ p. p.0) (filter (falls_in (ticked l) None) (ticked l).kept) }) (after_tick l.group.timeout s)
-Reports-ticked rings l s h ordered long =
-    report_same _ _ _ _ _ _ _ _ (sym (due_same l s h)) (sym (removed_is rings l s h ordered long)) (sym (entered_none rings l s h ordered long)) (sym (fell-settled rings (ticked l) s (ticked_state l.group.timeout s) None (IsUnsettled-ticked rings l s h ordered long)))
+    let decides = decides-ticked l s h noted ordered in
+    let held = each_ticked l s h in
+    record {
+      holds = record {
+        moment_same = ap (λ now. now + 1) h.moment_same;
+        kept_same = ap (filter (λ p. stands mid p.0)) (kept_still l s h) ∙ stands-left mid (is_of_any l (due_of l)) (ticked l).kept kept fell decides ended;
+        at_number = λ m. let at = held.at_number m in record { member = at.member; places = at.places; newest_note = at.newest_note; greatest = at.greatest; positive = at.positive };
+        standing = filter_passes (λ p. stands mid p.0) mid.kept;
+      };
+      report = same_report _ _ _ _ _ _ _ _ (sym (due_same l s h)) (sym (removed_is (ring_count l.group.t) l s h ordered)) (sym (only_before-none mid s (λ k is. fewer-expired s (map (λ p. p.0) (filter (is_due l.group.timeout (s.moment + 1)) s.kept)) k is))) (sym (ap (λ ks. map (λ p. p.0) (filter (λ p. not (stands mid p.0)) ks)) (kept_still l s h) ∙ stands-fell mid (is_of_any l (due_of l)) (ticked l).kept kept fell decides ended));
+    }

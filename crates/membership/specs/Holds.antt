@@ -1,10 +1,11 @@
 -- Which states a kept life stands for.
 use Rattle.std.specs.Prelude.{◌≡◌, ℕ, ◌<◌, true, ◌==◌, max, if◌then◌else◌, List, [], ◌∷◌, Option, is_some, IfSome, unwrap_or, All}
+use Rattle.std.specs.FinMap.{get}
 use Rattle.ff_ids.specs.declared.AccBody.{AccBody}
 use Rattle.ff_ids.specs.declared.NoteBody.{NoteBody}
 use Rattle.ff_ids.specs.Notes.{newest}
 use Rattle.ff_ids.specs.Views.{State, is_member, places_of, stands}
-use Rattle.membership.specs.Kept.{places_at, note_at, expired_at}
+use Rattle.membership.specs.Kept.{expired_at}
 use Rattle.membership.specs.Life.{Life}
 
 -- The greatest epoch of an accusation in the list against the member, 0 where there is none.
@@ -25,5 +26,5 @@ pub record HoldsAt (s : State) (m : ℕ) (kept_places : Option (List (List ℕ))
 pub record Holds (l : Life) (s : State) : Type 0 where
   pub moment_same : s.moment ≡ l.moment
   pub kept_same : s.kept ≡ l.kept
-  pub at_number : (m : ℕ) → m < 1024 → HoldsAt s m (places_at l.places m) (note_at l.notes m) (expired_at l.expired m)
+  pub at_number : (m : ℕ) → HoldsAt s m (get l.places m) (get l.notes m) (expired_at l.expired m)
   pub standing : All (λ p. stands s p.0 ≡ true) s.kept

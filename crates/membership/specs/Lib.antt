@@ -1,4 +1,5 @@
 pub mod Kept
 pub mod Life
 pub mod Holds
+pub mod Ends
 pub mod Reports

@@ -3,30 +3,32 @@
 //! of which far less is kept. After opening no call takes memory.
 #![tactic(auto)]
 
-ghost use Rattle.std.specs.Prelude.{◌≡◌, ℕ, ◌<◌, ◌≤◌, ◌+◌, ◌-◌, ◌^◌, true, not, [], Option, None, Some, length, slice_set, slice_index_or, if◌then◌else◌, map, filter, IfOk, IfSome, OnOk, OnErr};
+ghost use Rattle.std.specs.Prelude.{◌≡◌, ℕ, ◌<◌, ◌≤◌, ◌+◌, ◌-◌, ◌^◌, true, not, [], Option, None, Some, length, if◌then◌else◌, map, filter, slice_index_or, IfOk, OnOk, OnErr};
+ghost use Rattle.std.specs.Ordering.{nat_cmp};
+ghost use Rattle.std.specs.FinMap.{get, insert, empty};
 ghost use Rattle.ff_ids.specs.Masks.{ring_count};
 ghost use Rattle.ff_ids.specs.Notes.{newest};
 ghost use Rattle.ff_ids.specs.Views.{State, is_member as member_of_state, in_view as in_view_of, monitor as monitor_of, successor as successor_of};
-ghost use Rattle.ff_ids.specs.Faults.{note_fault, accusation_fault};
-ghost use Rattle.ff_ids.specs.Steps.{after_note, after_accusation, after_tick, joined, is_due};
+ghost use Rattle.ff_ids.specs.Faults.{note_fault as note_fault_of, accusation_fault as accusation_fault_of, join_fault};
+ghost use Rattle.ff_ids.specs.Steps.{after_note, after_accusation, after_tick, joined, is_due, nothing};
 ghost use Rattle.ff_ids.specs.Lives.{opening};
-ghost use Rattle.monitor_rule.specs.Joined.{Joined, with_member, is_joined};
-ghost use Rattle.membership.specs.Kept.{places_at, note_at, expired_at, is_live_at, comes_in, kept_fault, takes_out as acc_takes_out, raise as raise_by, raised, leavers};
-ghost use Rattle.membership.specs.Life.{has_joined, live_monitor, next_of, falls_in, kept_fault_under, kept_accusation_fault};
+ghost use Rattle.membership.specs.Kept.{expired_at, is_live_at, takes_out as acc_takes_out, raise as raise_by, raised, leavers};
+ghost use Rattle.membership.specs.Life.{has_joined, live_monitor, note_fault_in, is_newcomer, with_note};
+ghost use Rattle.membership.specs.Ends.{Ends, next_of, answered_on, is_named, is_of, is_of_any, with_fallen};
 ghost use Rattle.membership.specs.Holds.{Holds};
-ghost use Rattle.membership.specs.Reports.{nothing, Reports, Answers, join_fault, kept_against};
-ghost use Rattle.removal_timer.specs.Kept.{IsInOrder, is_at};
-ghost use Rattle.std.specs.List.{list_any};
+ghost use Rattle.membership.specs.Reports.{Answers, kept_against};
+ghost use Rattle.removal_timer.specs.Kept.{IsInOrder};
 
+mod ends;
+mod expiry;
+mod faults;
 mod kept;
 mod report;
 
-use ff_ids::{AccBody, Fault, Group, MemberId, NoteBody, RingNo};
+use by_member::ByMember;
+use ff_ids::{AccBody, Epoch, Fault, Group, MemberId, NoteBody, RingNo};
 use fields::NoMemory;
-use kept::{
-    brings_in, check_note, forget_epochs, forget_notes, has_places, is_live, none_yet, note_in,
-    places_of, raise, set_note, successors, takes_out, zeros,
-};
+use kept::{brings_in, is_live};
 use monitor_rule::Rings;
 use removal_timer::Timers;
 pub use report::Changes;
@@ -40,21 +42,25 @@ use std::marker::Model;
 pub struct Membership {
     group: Group,
     moment: u64,
-    places: Vec<Option<Places>>,
-    notes: Vec<Option<NoteBody>>,
-    expired: Vec<u64>,
+    places: ByMember<Places>,
+    notes: ByMember<NoteBody>,
+    expired: ByMember<Epoch>,
     rings: Rings,
     timers: Timers,
 }
 
 impl Model for Membership {
+    ghost use Rattle.std.specs.Coded.{codes};
+    ghost use Rattle.std.specs.FinMap.{code};
     ghost use Rattle.membership.specs.Life.{Life, IsConsistent};
 
     ghost Value = { Life };
 
-    ghost view = { λ m. record { group = m.group; moment = m.moment; places = m.places.items; notes = m.notes.items; expired = m.expired.items; kept = m.timers.entries } };
+    ghost coded = { Prim.hlevel (codes, code) };
 
-    ghost invariant = { λ m. IsConsistent m.group m.places.items m.notes.items m.expired.items m.rings m.timers };
+    ghost view = { λ m. record { group = m.group; moment = m.moment; places = m.places; notes = m.notes; expired = m.expired; kept = m.timers.entries } };
+
+    ghost invariant = { λ m. IsConsistent m.group m.places m.notes m.expired m.rings m.timers };
 }
 
 impl Membership {
@@ -63,15 +69,17 @@ impl Membership {
         requires { group.t ≤ 15 }
         ensures group { IfOk result (λ m. m.group ≡ group) }
         ensures holds { IfOk result (λ m. Holds m (opening [])) }
+        ensures moment { IfOk result (λ m. m.moment ≡ 0) }
+        ensures members { IfOk result (λ m. m.places ≡ empty) }
     {
         let rings = Rings::open(alloc, &group)?;
         let timers = Timers::open(alloc, &group)?;
         Ok(Membership {
             group,
             moment: 0,
-            places: none_yet(alloc)?,
-            notes: none_yet(alloc)?,
-            expired: zeros(alloc)?,
+            places: ByMember::new(alloc)?,
+            notes: ByMember::new(alloc)?,
+            expired: ByMember::new(alloc)?,
             rings,
             timers,
         })
@@ -97,7 +105,7 @@ impl Membership {
         ensures value { (s : State) → Holds self.now s → result ≡ member_of_state s member }
         ensures joined { result ≡ has_joined self.now member }
     {
-        has_places(&self.places, member)
+        self.places.contains(member)
     }
 
     /// Whether the member is in the view.
@@ -109,18 +117,20 @@ impl Membership {
 
     /// The newest note of the member.
     pub fn note_of(&self, member: MemberId) -> Option<NoteBody>
-        ensures { (s : State) → Holds self.now s → result ≡ newest s.notes member }
+        ensures value { (s : State) → Holds self.now s → result ≡ newest s.notes member }
+        ensures kept { result ≡ get self.now.notes member }
     {
-        note_in(&self.notes, member)
+        self.notes.get(member).copied()
     }
 
     /// The member of the view that monitors this one on the ring, or none where nobody else is in the view.
     pub fn monitor(&self, ring: RingNo, member: MemberId) -> Option<MemberId>
         requires ring { ring.0 < ring_count self.now.group.t }
         requires member { has_joined self.now member ≡ true }
-        ensures { (s : State) → Holds self.now s → result ≡ monitor_of s ring.0 member }
+        ensures value { (s : State) → Holds self.now s → result ≡ monitor_of s ring.0 member }
+        ensures kept { result ≡ live_monitor self.now ring.0 member }
     {
-        self.monitor_in_view(ring, member)
+        self.rings.monitor(ring, member, self.places_of(member))
     }
 
     /// The member of the view that this one monitors on the ring, or none where nobody else is in the view.
@@ -129,8 +139,7 @@ impl Membership {
         requires member { has_joined self.now member ≡ true }
         ensures { (s : State) → Holds self.now s → result ≡ successor_of s ring.0 member }
     {
-        let places = places_of(&self.places, member);
-        self.rings.successor(ring, member, places)
+        self.rings.successor(ring, member, self.places_of(member))
     }
 
     /// Adds a member with its places. A number that has joined is refused as `AlreadyMember`.
@@ -140,61 +149,70 @@ impl Membership {
         ensures step { (s : State) → Holds self.old s → OnOk result (Holds self.new (joined s member places)) }
         ensures same { OnErr result (self.new ≡ self.old) }
         ensures group { self.new.group ≡ self.old.group }
+        ensures moment { self.new.moment ≡ self.old.moment }
+        ensures members { OnOk result (self.new.places ≡ insert self.old.places member places) }
     {
-        if has_places(&self.places, member) {
+        if self.is_member(member) {
             return Err(Fault::AlreadyMember);
         }
-        self.places[member.get() as usize] = Some(places);
+        self.places.set(member, places);
         Ok(())
     }
 
     /// Takes a note of a member: the first fault of a note that holds is the answer. Where there is none the note
     /// is accepted, and `out` reports the step; else nothing changes, and `out` is empty.
     pub fn put_note(&mut self, note: NoteBody, out: &mut Changes) -> Result<(), Fault>
-        ensures fault { (s : State) → Holds self.old s → Answers (note_fault self.old.group.t s note) result }
+        ensures fault { (s : State) → Holds self.old s → Answers (note_fault_of self.old.group.t s note) result }
         ensures step { (s : State) → Holds self.old s → OnOk result (Holds self.new (after_note s note).state) }
-        ensures changes { (s : State) → Holds self.old s → OnOk result (Reports out.new (after_note s note)) }
+        ensures changes { (s : State) → Holds self.old s → OnOk result (out.new ≡ (after_note s note).report) }
         ensures same { OnErr result (self.new ≡ self.old) }
         ensures emptied { OnErr result (out.new ≡ nothing) }
         ensures group { self.new.group ≡ self.old.group }
+        ensures moment { self.new.moment ≡ self.old.moment }
+        ensures members { self.new.places ≡ self.old.places }
     {
         out.clear();
-        check_note(self.group.t, &self.places, &self.notes, &note)?;
-        let entered = self.accept(&note);
-        out.report_entered(&entered);
-        self.settle(entered, out);
+        if let Some(fault) = self.fault_of_note(&note) {
+            return Err(fault);
+        }
+        let enters = self.accept(&note);
+        out.report_entered(enters, note.member);
+        let ended = self.ended_by(&note, enters);
+        self.end_named(&ended, out);
         Ok(())
     }
 
     /// Takes an accusation: the first fault of an accusation that holds is the answer, and where there is none it
     /// is kept from now on.
     pub fn put_accusation(&mut self, acc: AccBody) -> Result<(), Fault>
-        ensures fault { (s : State) → Holds self.old s → Answers (accusation_fault self.old.group.t s acc) result }
+        ensures fault { (s : State) → Holds self.old s → Answers (accusation_fault_of self.old.group.t s acc) result }
         ensures step { (s : State) → Holds self.old s → OnOk result (Holds self.new (after_accusation s acc)) }
         ensures same { OnErr result (self.new ≡ self.old) }
         ensures group { self.new.group ≡ self.old.group }
+        ensures moment { self.new.moment ≡ self.old.moment }
+        ensures members { self.new.places ≡ self.old.places }
     {
-        match self.check_accusation(&acc) {
-            Ok(()) => {
-                self.timers.set(acc, self.moment);
-                Ok(())
-            }
-            Err(fault) => Err(fault),
+        if let Some(fault) = self.fault_of_accusation(&acc) {
+            return Err(fault);
         }
+        self.timers.set(acc, self.moment);
+        Ok(())
     }
 
     /// One tick: what was kept for the timeout expires, and `out` reports the step.
     pub fn tick(&mut self, out: &mut Changes)
         requires { self.old.moment < 2 ^ 64 - 1 }
         ensures step { (s : State) → Holds self.old s → Holds self.new (after_tick self.old.group.timeout s).state }
-        ensures changes { (s : State) → Holds self.old s → Reports out.new (after_tick self.old.group.timeout s) }
+        ensures changes { (s : State) → Holds self.old s → out.new
+            ≡ (after_tick self.old.group.timeout s).report }
         ensures moment { self.new.moment ≡ self.old.moment + 1 }
         ensures group { self.new.group ≡ self.old.group }
+        ensures members { self.new.places ≡ self.old.places }
     {
         out.clear();
         self.advance(out);
+        self.end_of_expired(out);
         self.expire_all(out);
-        self.settle(None, out);
     }
 
     /// The accusation kept against the member on the ring.
@@ -208,181 +226,44 @@ impl Membership {
     pub fn new_life(&mut self)
         ensures holds { (s : State) → Holds self.old s → Holds self.new (opening s.members) }
         ensures group { self.new.group ≡ self.old.group }
+        ensures moment { self.new.moment ≡ 0 }
+        ensures members { self.new.places ≡ self.old.places }
     {
         self.moment = 0;
-        forget_notes(&mut self.notes);
-        forget_epochs(&mut self.expired);
+        self.notes.clear();
+        self.expired.clear();
         self.rings.clear();
         self.timers.clear_all();
     }
 
-    fn monitor_in_view(&self, ring: RingNo, member: MemberId) -> Option<MemberId>
-        requires ring { ring.0 < ring_count self.now.group.t }
-        requires member { has_joined self.now member ≡ true }
-        ensures value { result ≡ live_monitor self.now ring.0 member }
-        ensures range { member < 1024 }
+    fn places_of(&self, member: MemberId) -> &Places
+        requires { has_joined self.now member ≡ true }
+        ensures value { get self.now.places member ≡ Some result.now }
+        ensures placed { length result.now ≡ ring_count self.now.group.t }
+        ensures rings { self.now.group.t ≤ 15 }
     {
-        let places = places_of(&self.places, member);
-        self.rings.monitor(ring, member, places)
+        self.places.get(member).unwrap()
     }
 
-    fn check_accusation(&self, acc: &AccBody) -> Result<(), Fault>
-        ensures fault { Answers (kept_accusation_fault self.now acc.now) result }
-        ensures range { (acc.now.accuser < 1024) × (acc.now.accused < 1024) }
-    {
-        let accuser_joined = has_places(&self.places, acc.accuser);
-        if !(has_places(&self.places, acc.accused) && accuser_joined) {
-            return Err(Fault::UnknownMember);
-        }
-        if acc.accuser == acc.accused {
-            return Err(Fault::SelfAccusation);
-        }
-        if acc.ring.0 > 2 * self.group.t {
-            return Err(Fault::BadRing);
-        }
-        match note_in(&self.notes, acc.accused) {
-            Some(note) => self.check_under(&note, acc),
-            None => Err(Fault::NoNote),
-        }
-    }
-
-    /// The first fault of an accusation whose numbers are in order, under the newest note of the accused.
-    fn check_under(&self, note: &NoteBody, acc: &AccBody) -> Result<(), Fault>
-        requires ring { acc.now.ring.0 < ring_count self.now.group.t }
-        requires joined { has_joined self.now acc.now.accused ≡ true }
-        ensures { Answers (kept_fault_under self.now acc.now (Some note.now)) result }
-    {
-        if note.epoch != acc.epoch {
-            return Err(Fault::OtherEpoch { kept: note.epoch });
-        }
-        if !is_live(&self.notes, &self.expired, acc.accused) {
-            return Err(Fault::NotInView);
-        }
-        if !note.mask.enables(acc.ring) {
-            return Err(Fault::RingDisabled);
-        }
-        let monitor = self.monitor_in_view(acc.ring, acc.accused);
-        if monitor != Some(acc.accuser) {
-            return Err(Fault::NotMonitor { monitor });
-        }
-        if self.timers.standing(acc.accused, acc.ring).is_some() {
-            return Err(Fault::Standing);
-        }
-        Ok(())
-    }
-
-    /// Makes a note without a fault the newest of its member, and gives the member where that brings it into the
-    /// view.
-    fn accept(&mut self, note: &NoteBody) -> Option<MemberId>
-        requires { kept_fault self.old.group.t (places_at self.old.places note.now.member) (note_at self.old.notes note.now.member) note.now
-            ≡ None }
-        ensures value { result
-            ≡ (if comes_in (expired_at self.old.expired note.now.member) (note_at self.old.notes note.now.member) note.now then Some note.now.member else None) }
-        ensures kept { self.new
-            ≡ record self.old { notes = slice_set self.old.notes note.now.member (Some note.now) } }
-        ensures joined { has_joined self.new note.now.member ≡ true }
-        ensures range { note.now.member < 1024 }
+    /// Makes a note without a fault the newest of its member. The answer is whether that brings the member into
+    /// the view.
+    fn accept(&mut self, note: &NoteBody) -> bool
+        requires { note_fault_in self.old note.now ≡ None }
+        ensures value { result ≡ is_newcomer self.old note.now }
+        ensures kept { self.new ≡ with_note self.old note.now }
         ensures positive { 0 < note.now.epoch }
+        ensures range { note.now.member < 1024 }
+        ensures in_order { IsInOrder (ring_count self.old.group.t) self.old.kept }
+        ensures few { ring_count self.old.group.t ≤ 31 }
     {
         let enters = brings_in(&self.notes, &self.expired, note);
-        set_note(&mut self.notes, note);
+        let _epoch = note.epoch.get();
+        self.notes.set(note.member, *note);
         if enters {
-            let places = places_of(&self.places, note.member);
+            let places = self.places.get(note.member).unwrap();
             self.rings.join(note.member, places);
-            Some(note.member)
-        } else {
-            None
         }
-    }
-
-    /// Raises the clock, and reports what is due then as expired.
-    fn advance(&mut self, out: &mut Changes)
-        requires below { self.old.moment < 2 ^ 64 - 1 }
-        requires empty { out.old.expired ≡ [] }
-        ensures kept { self.new
-            ≡ record self.old { moment = self.old.moment + 1; kept = filter (λ p. not (is_due self.old.group.timeout (self.old.moment + 1) p)) self.old.kept } }
-        ensures expired { out.new
-            ≡ record out.old { expired = map (λ p. p.0) (filter (is_due self.old.group.timeout (self.old.moment + 1)) self.old.kept) } }
-        ensures ordered { IsInOrder (ring_count self.old.group.t) self.old.kept }
-        ensures few { length out.new.expired ≤ 31744 }
-        ensures long { length self.old.expired ≡ 1024 }
-    {
-        self.moment += 1;
-        out.take_due(&mut self.timers, self.moment);
-    }
-
-    /// Counts the reported accusations as expired, and reports the members that they take out of the view.
-    fn expire_all(&mut self, out: &mut Changes)
-        requires empty { out.old.removed ≡ [] }
-        requires few { length out.old.expired ≤ 31744 }
-        ensures kept { self.new ≡ record self.old { expired = raised self.old.expired out.old.expired } }
-        ensures removed { out.new
-            ≡ record out.old { removed = leavers self.old.notes self.old.expired out.old.expired } }
-    {
-        for index in 0..out.expired().len() {
-            let acc = out.expired()[index];
-            if self.expire(&acc) {
-                out.report_removal(acc.accused);
-            }
-        }
-    }
-
-    /// Counts the accusation as expired, and the answer is whether that takes its member out of the view.
-    fn expire(&mut self, acc: &AccBody) -> bool
-        ensures value { result
-            ≡ acc_takes_out (expired_at self.old.expired acc.now.accused) (note_at self.old.notes acc.now.accused) acc.now }
-        ensures kept { self.new ≡ record self.old { expired = raise_by self.old.expired acc.now } }
-        ensures range { acc.now.accused < 1024 }
-    {
-        let leaves = takes_out(&self.notes, &self.expired, acc);
-        raise(&mut self.expired, acc);
-        if leaves {
-            self.rings.leave(acc.accused);
-        }
-        leaves
-    }
-
-    /// Drops the kept accusations that no longer stand, after a step in which this member came in, or nobody, and
-    /// reports them.
-    fn settle(&mut self, entered: Option<MemberId>, out: &mut Changes)
-        requires empty { out.old.fell ≡ [] }
-        requires joined { IfSome entered (λ m. has_joined self.old m ≡ true) }
-        ensures kept { self.new
-            ≡ record self.old { kept = filter (λ p. not (falls_in self.old entered p)) self.old.kept } }
-        ensures fell { out.new
-            ≡ record out.old { fell = map (λ p. p.0) (filter (falls_in self.old entered) self.old.kept) } }
-        ensures ordered { IsInOrder (ring_count self.old.group.t) self.old.kept }
-    {
-        let next = self.next_after(entered);
-        let entries = self.timers.entries();
-        out.report_fallen(entries, &self.notes, &self.expired, &next);
-        drop_each(&mut self.timers, out.fell());
-    }
-
-    /// The successor on each ring of the member that came in, if one did.
-    fn next_after(&self, entered: Option<MemberId>) -> [Option<MemberId>; 31]
-        requires { IfSome entered (λ m. has_joined self.now m ≡ true) }
-        ensures long { length result ≡ 31 }
-        ensures each { (ring : ℕ) → ring < ring_count self.now.group.t → slice_index_or result ring None
-            ≡ next_of self.now entered ring }
-    {
-        match entered {
-            Some(member) => {
-                let places = places_of(&self.places, member);
-                successors(&self.rings, 2 * self.group.t + 1, member, places)
-            }
-            None => [None; 31],
-        }
-    }
-}
-
-/// Drops each of the accusations.
-fn drop_each(timers: &mut Timers, fallen: &[AccBody])
-    ensures { timers.new
-        ≡ record timers.old { entries = filter (λ p. not (list_any (λ a. is_at a.accused a.ring.0 p) fallen.now)) timers.old.entries } }
-{
-    for acc in fallen {
-        timers.clear(acc.accused, acc.ring);
+        enters
     }
 }
 

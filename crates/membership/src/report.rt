@@ -1,24 +1,18 @@
 //! What one step reports.
 
-ghost use Rattle.std.specs.Prelude.{◌≡◌, [], ◌∷◌, ◌++◌, List, ℕ, length, ◌≤◌, ◌<◌, not, map, filter, All, vec_capacity, IfOk};
-ghost use Rattle.std.specs.Option.{option_to_list};
-ghost use Rattle.ff_ids.specs.Steps.{is_due};
-ghost use Rattle.removal_timer.specs.Kept.{IsInOrder};
-ghost use Rattle.membership.specs.Kept.{falls_at};
-ghost use Rattle.membership.specs.Reports.{nothing};
+ghost use Rattle.std.specs.Prelude.{◌≡◌, [], ◌∷◌, ◌++◌, length, ◌≤◌, ◌<◌, not, map, filter, if◌then◌else◌, IfOk};
+ghost use Rattle.std.specs.List.{prefix_len};
+ghost use Rattle.ff_ids.specs.Steps.{comes_first as acc_comes_first, is_due, nothing};
+ghost use Rattle.membership.specs.Ends.{with_fallen};
 
-use crate::kept::falls;
-use ff_ids::{AccBody, MemberId, NoteBody};
+use ff_ids::{AccBody, MEMBERS, MemberId};
 use fields::NoMemory;
 use removal_timer::Timers;
 use std::alloc::Global;
 use std::marker::Model;
 
-/// How many member numbers there are.
-const NUMBERS: usize = 1024;
-
 /// How many accusations can be kept: one for each member and ring.
-const ACCUSATIONS: usize = 31 * NUMBERS;
+const ACCUSATIONS: usize = 31 * MEMBERS as usize;
 
 /// What one step reports. Contracts see the four lists.
 #[derive(Drop)]
@@ -31,7 +25,8 @@ pub struct Changes {
 
 impl Model for Changes {
     ghost use Rattle.std.specs.Prelude.{◌≤◌, vec_capacity};
-    ghost use Rattle.membership.specs.Reports.{Report, HasRoom};
+    ghost use Rattle.ff_ids.specs.Steps.{Report};
+    ghost use Rattle.membership.specs.Reports.{HasRoom};
 
     ghost Value = { Report };
 
@@ -48,7 +43,7 @@ impl Changes {
         Ok(Changes {
             expired: Vec::with_capacity(alloc, ACCUSATIONS)?,
             removed: Vec::with_capacity(alloc, ACCUSATIONS)?,
-            entered: Vec::with_capacity(alloc, NUMBERS)?,
+            entered: Vec::with_capacity(alloc, MEMBERS as usize)?,
             fell: Vec::with_capacity(alloc, ACCUSATIONS)?,
         })
     }
@@ -82,7 +77,7 @@ impl Changes {
     }
 
     /// Empties the four lists.
-    pub fn clear(&mut self)
+    pub(crate) fn clear(&mut self)
         ensures { self.new ≡ nothing }
     {
         self.expired.clear();
@@ -91,79 +86,57 @@ impl Changes {
         self.fell.clear();
     }
 
-    /// Reports the member that entered, if one did.
-    pub fn report_entered(&mut self, entered: &Option<MemberId>)
+    /// Reports that the member entered, if it did.
+    pub(crate) fn report_entered(&mut self, enters: bool, member: MemberId)
         requires { self.old.entered ≡ [] }
-        ensures { self.new ≡ record self.old { entered = option_to_list entered.now } }
+        ensures { self.new
+            ≡ record self.old { entered = (if enters then member ∷ [] else []) } }
     {
-        if let Some(member) = entered {
-            let _ = self.entered.push(*member);
+        if enters {
+            self.entered.push_reserved(member);
         }
     }
 
     /// Reports one more member that left.
-    pub fn report_removal(&mut self, member: MemberId)
+    pub(crate) fn report_removal(&mut self, member: MemberId)
         requires { length self.old.removed < 31744 }
         ensures { self.new ≡ record self.old { removed = self.old.removed ++ member ∷ [] } }
     {
-        let _ = self.removed.push(member);
+        self.removed.push_reserved(member);
     }
 
     /// Takes out of the timers what is due at the moment, and reports it as expired.
-    pub fn take_due(&mut self, timers: &mut Timers, moment: u64)
-        requires { self.old.expired ≡ [] }
+    pub(crate) fn take_due(&mut self, timers: &mut Timers, moment: u64)
+        requires empty { self.old.expired ≡ [] }
+        requires few { length timers.old.entries ≤ 31744 }
         ensures expired { self.new
             ≡ record self.old { expired = map (λ p. p.0) (filter (is_due timers.old.timeout moment) timers.old.entries) } }
         ensures left { timers.new
             ≡ record timers.old { entries = filter (λ p. not (is_due timers.old.timeout moment p)) timers.old.entries } }
-        ensures ordered { IsInOrder timers.old.rings timers.old.entries }
-        ensures few { length timers.old.entries ≤ 31744 }
     {
-        let _entries = timers.entries();
         timers.due(moment, &mut self.expired);
     }
 
-    /// Reports the kept accusations that fall, given the successor on each ring of a member that came in.
-    pub fn report_fallen(
-        &mut self,
-        entries: &[(AccBody, u64)],
-        notes: &[Option<NoteBody>],
-        expired: &[u64],
-        next: &[Option<MemberId>],
-    )
-        requires empty { self.old.fell ≡ [] }
-        requires few { length entries.now ≤ 31744 }
-        requires rings { All (λ p. p.0.ring.0 < 31) entries.now }
-        requires notes { length notes.now ≡ 1024 }
-        requires expired { length expired.now ≡ 1024 }
-        requires next { length next.now ≡ 31 }
-        ensures { self.new
-            ≡ record self.old { fell = map (λ p. p.0) (filter (falls_at notes.now expired.now next.now) entries.now) } }
+    /// Reports one more kept accusation that fell, at its place in the order.
+    pub(crate) fn report_fallen(&mut self, acc: &AccBody)
+        requires { length self.old.fell < 31744 }
+        ensures { self.new ≡ record self.old { fell = with_fallen acc.now self.old.fell } }
     {
-        push_fallen(&mut self.fell, entries, notes, expired, next);
+        let place = place_of(&self.fell, acc);
+        let _ = self.fell.insert(place, *acc);
     }
 }
 
-/// Appends the kept accusations that fall.
-fn push_fallen(
-    fell: &mut Vec<AccBody>,
-    entries: &[(AccBody, u64)],
-    notes: &[Option<NoteBody>],
-    expired: &[u64],
-    next: &[Option<MemberId>],
-)
-    requires empty { fell.old.items ≡ [] }
-    requires room { length entries.now ≤ vec_capacity fell.old }
-    requires rings { All (λ p. p.0.ring.0 < 31) entries.now }
-    requires notes { length notes.now ≡ 1024 }
-    requires expired { length expired.now ≡ 1024 }
-    requires next { length next.now ≡ 31 }
-    ensures items { fell.new.items ≡ map (λ p. p.0) (filter (falls_at notes.now expired.now next.now) entries.now) }
-    ensures capacity { vec_capacity fell.old ≤ vec_capacity fell.new }
+/// How many of the first accusations come before this one, in order of the accused, then of the ring.
+fn place_of(fell: &[AccBody], acc: &AccBody) -> usize
+    ensures value { result ≡ prefix_len (λ a. acc_comes_first a acc.now) fell.now }
+    ensures range { result ≤ length fell.now }
 {
-    for entry in entries {
-        if falls(notes, expired, next, &entry.0) {
-            let _ = fell.push(entry.0);
-        }
-    }
+    fell.iter().take_while(|a| comes_first(a, acc)).count()
+}
+
+fn comes_first(a: &AccBody, b: &AccBody) -> bool
+    ensures { result ≡ acc_comes_first a.now b.now }
+{
+    a.accused < b.accused || (a.accused == b.accused && a.ring < b.ring)
 }

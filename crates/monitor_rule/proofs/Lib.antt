@@ -1,2 +1,6 @@
-pub mod JoinLemmas
-pub mod KeyLemmas
+pub mod OrderLemmas
+pub mod StepLemmas
+pub mod SlotLemmas
+pub mod NeighbourLemmas
+pub mod RowLemmas
+pub mod KeptLemmas

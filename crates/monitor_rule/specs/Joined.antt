@@ -1,5 +1,5 @@
 -- The members that have joined the rings, in order of number.
-use Rattle.std.specs.Prelude.{◌≡◌, ℕ, ◌+◌, ◌<◌, ◌≤◌, Bool, ◌==◌, nat_le, if◌then◌else◌, List, [], ◌∷◌, length, map}
+use Rattle.std.specs.Prelude.{ℕ, Bool, ◌==◌, nat_le, if◌then◌else◌, List, [], ◌∷◌, map}
 use Rattle.std.specs.List.{list_any}
 use Rattle.ff_ids.specs.Rings.{Key}
 use Rattle.ff_ids.specs.Views.{Member, key_at}
@@ -25,18 +25,3 @@ without_member m (x ∷ members) = if x.number == m then members else x ∷ with
 -- The keys of the members on the ring.
 abbrev pub keys_on : ℕ → List Member → List Key
 keys_on ring members = map (λ x. key_at ring x.places x.number) members
-
--- The numbers rise from the bound on and are below 1,024, and each member has a place on each ring.
-abbrev pub IsInOrder : ℕ → ℕ → List Member → Type 0
-IsInOrder rings low [] = Unit {0}
-IsInOrder rings low (x ∷ members) = (low ≤ x.number) × (x.number < 1024) × (length x.places ≡ rings) × IsInOrder rings (x.number + 1) members
-
--- What is kept as a list of pairs.
-abbrev pub members_of : List (List (List ℕ) × ℕ) → List Member
-members_of pairs = map (λ p. record { number = p.1; places = p.0 }) pairs
-
--- There is room for every member, and those that have joined are in order.
-pub record IsKept (rings capacity : ℕ) (members : List Member) : Type 0 where
-  pub few : rings ≤ 31
-  pub room : 1024 ≤ capacity
-  pub in_order : IsInOrder rings 0 members

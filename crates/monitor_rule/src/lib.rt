@@ -1,54 +1,45 @@
-//! Who monitors whom among the members that have joined the rings. After opening no call takes memory.
+//! Who monitors whom among the members that have joined the rings. Each ring is kept in order, and a
+//! question is answered by halving. After opening no call takes memory.
 #![tactic(auto)]
 
-ghost use Rattle.std.specs.Prelude.{◌≡◌, ℕ, ◌<◌, ◌≤◌, true, false, List, [], length, map, insert, remove, nat_le, IfOk, vec_len, vec_capacity, if◌then◌else◌};
-ghost use Rattle.std.specs.List.{position_or_len};
+ghost use Rattle.std.specs.Prelude.{◌≡◌, ℕ, ◌+◌, ◌-◌, ◌*◌, ◌^◌, ◌<◌, ◌≤◌, true, false, None, Some, List, [], length, map, All, is_some, slice_set, IfOk};
 ghost use Rattle.ff_ids.specs.Masks.{ring_count};
 ghost use Rattle.ff_ids.specs.Rings.{nearest_before as number_before, nearest_after as number_after};
 ghost use Rattle.ff_ids.specs.Views.{key_at};
-ghost use Rattle.monitor_rule.specs.Joined.{with_member, without_member, is_joined, keys_on, members_of};
+ghost use Rattle.monitor_rule.specs.Joined.{with_member, without_member, is_joined, keys_on};
+ghost use Rattle.monitor_rule.specs.Sorted.{places_at, emptied, IsRow};
 
+pub mod by_number;
+mod row;
+
+use by_number::{forget_all, none_yet};
 use ff_ids::{Group, MemberId, RingNo};
 use fields::NoMemory;
-use ring_order::{Places, nearest_after, nearest_before};
+use ring_order::Places;
+use ring_order::steps::Steps;
+use row::Row;
 use std::alloc::Global;
-use std::marker::Model;
-
-/// How many members there is room for.
-const ROOM: usize = 1024;
+use std::marker::{Brand, Model};
+use std::sync::ledger::{Blank, Ledger};
 
 /// The members that have joined the rings of a group. Contracts see how many rings there are, and the
 /// members with their places, in order of number.
 #[derive(Drop)]
 pub struct Rings {
-    rings: u8,
-    joined: Vec<(Places, MemberId)>,
+    slots: Vec<Option<Places>>,
+    rows: Vec<Row>,
 }
 
 impl Model for Rings {
-    ghost use Rattle.std.specs.Prelude.{vec_capacity};
-    ghost use Rattle.monitor_rule.specs.Joined.{Joined, IsKept, members_of};
+    ghost use Rattle.std.specs.Prelude.{length};
+    ghost use Rattle.monitor_rule.specs.Joined.{Joined};
+    ghost use Rattle.monitor_rule.specs.Sorted.{members_from, IsKept};
 
     ghost Value = { Joined };
 
-    ghost view = { λ r. record { rings = r.rings; members = members_of r.joined.items } };
+    ghost view = { λ r. record { rings = length r.rows.items; members = members_from 0 r.slots.items } };
 
-    ghost invariant = { λ r. IsKept r.rings (vec_capacity r.joined) (members_of r.joined.items) };
-}
-
-/// How many of the first members have a number below this one.
-fn place_among(joined: &[(Places, MemberId)], member: MemberId) -> usize
-    ensures value { result ≡ position_or_len (λ p. nat_le member p.1) joined.now }
-    ensures range { result ≤ length joined.now }
-    ensures numbered { member < 1024 }
-{
-    let number = member.get();
-    for (index, pair) in joined.iter().enumerate() {
-        if number <= pair.1.get() {
-            return index;
-        }
-    }
-    joined.len()
+    ghost invariant = { λ r. IsKept r.slots.items r.rows.items };
 }
 
 impl Rings {
@@ -57,9 +48,14 @@ impl Rings {
         requires { group.now.t ≤ 15 }
         ensures { IfOk result (λ r. r ≡ record { rings = ring_count group.now.t; members = [] }) }
     {
+        let rings = 2 * group.t + 1;
+        let mut rows = Vec::with_capacity(alloc, rings as usize)?;
+        for ring in 0..rings {
+            rows.push(Row::open(alloc, RingNo(ring))?)?;
+        }
         Ok(Rings {
-            rings: 2 * group.t + 1,
-            joined: Vec::with_capacity(alloc, ROOM)?,
+            slots: none_yet(alloc)?,
+            rows,
         })
     }
 
@@ -70,8 +66,9 @@ impl Rings {
         ensures { self.new
             ≡ record self.old { members = with_member (record { number = member; places = places.now }) self.old.members } }
     {
-        let index = place_among(&self.joined, member);
-        let _ = self.joined.insert(index, (*places, member));
+        let index = member.get() as usize;
+        join_each(&mut self.rows, &self.slots, member, places);
+        self.slots[index] = Some(*places);
     }
 
     /// Takes the member off the rings.
@@ -80,15 +77,17 @@ impl Rings {
         ensures { self.new
             ≡ record self.old { members = without_member member self.old.members } }
     {
-        let index = place_among(&self.joined, member);
-        let _ = self.joined.remove(index);
+        let index = member.get() as usize;
+        leave_each(&mut self.rows, &self.slots, member);
+        self.slots[index] = None;
     }
 
     /// Takes all members off the rings.
     pub fn clear(&mut self)
         ensures { self.new ≡ record self.old { members = [] } }
     {
-        self.joined.clear();
+        clear_each(&mut self.rows);
+        forget_all(&mut self.slots);
     }
 
     /// The nearest joined member before this one on the ring, or none where no other has joined. The member
@@ -99,7 +98,7 @@ impl Rings {
         ensures { result
             ≡ number_before (keys_on ring.0 self.now.members) (key_at ring.0 places.now member) }
     {
-        nearest_before(ring, places, member, &self.joined)
+        self.monitor_in::<Brand>(Blank::new(1), ring, member, places)
     }
 
     /// The nearest joined member after this one on the ring, or none where no other has joined. The member
@@ -110,7 +109,120 @@ impl Rings {
         ensures { result
             ≡ number_after (keys_on ring.0 self.now.members) (key_at ring.0 places.now member) }
     {
-        nearest_after(ring, places, member, &self.joined)
+        self.successor_in::<Brand>(Blank::new(1), ring, member, places)
+    }
+
+    /// As `monitor`. Among n joined members d steps are counted, with `2^d <= 2n + 1` and `n + 2 <= 2 * 2^d`.
+    pub fn monitor_counted<L: Ledger>(
+        &self,
+        ring: RingNo,
+        member: MemberId,
+        places: &Places,
+        steps: &mut Steps<L>,
+    ) -> Option<MemberId>
+        requires ring { ring.0 < self.now.rings }
+        requires placed { length places.now ≡ self.now.rings }
+        ensures value { result
+            ≡ number_before (keys_on ring.0 self.now.members) (key_at ring.0 places.now member) }
+        ensures counted { steps.old ≤ steps.new }
+        ensures most { 2 ^ (steps.new - steps.old) ≤ 2 * length self.now.members + 1 }
+        ensures least { length self.now.members + 2 ≤ 2 * 2 ^ (steps.new - steps.old) }
+    {
+        self.rows[ring.0 as usize].before(&self.slots, member, places, steps)
+    }
+
+    /// As `successor`. Among n joined members d steps are counted, with `2^d <= 2n + 1` and `n + 2 <= 2 * 2^d`.
+    pub fn successor_counted<L: Ledger>(
+        &self,
+        ring: RingNo,
+        member: MemberId,
+        places: &Places,
+        steps: &mut Steps<L>,
+    ) -> Option<MemberId>
+        requires ring { ring.0 < self.now.rings }
+        requires placed { length places.now ≡ self.now.rings }
+        ensures value { result
+            ≡ number_after (keys_on ring.0 self.now.members) (key_at ring.0 places.now member) }
+        ensures counted { steps.old ≤ steps.new }
+        ensures most { 2 ^ (steps.new - steps.old) ≤ 2 * length self.now.members + 1 }
+        ensures least { length self.now.members + 2 ≤ 2 * 2 ^ (steps.new - steps.old) }
+    {
+        self.rows[ring.0 as usize].after(&self.slots, member, places, steps)
+    }
+
+    /// The monitor, counted in a ledger of its own.
+    fn monitor_in<L: Ledger>(
+        &self,
+        blank: Blank,
+        ring: RingNo,
+        member: MemberId,
+        places: &Places,
+    ) -> Option<MemberId>
+        requires name { blank.name ≡ L.name }
+        requires parts { blank.parts ≡ L.parts }
+        requires some { 0 < blank.parts }
+        requires ring { ring.0 < self.now.rings }
+        requires placed { length places.now ≡ self.now.rings }
+        ensures { result
+            ≡ number_before (keys_on ring.0 self.now.members) (key_at ring.0 places.now member) }
+    {
+        self.monitor_counted(ring, member, places, &mut Steps::<L>::open(blank))
+    }
+
+    /// The successor, counted in a ledger of its own.
+    fn successor_in<L: Ledger>(
+        &self,
+        blank: Blank,
+        ring: RingNo,
+        member: MemberId,
+        places: &Places,
+    ) -> Option<MemberId>
+        requires name { blank.name ≡ L.name }
+        requires parts { blank.parts ≡ L.parts }
+        requires some { 0 < blank.parts }
+        requires ring { ring.0 < self.now.rings }
+        requires placed { length places.now ≡ self.now.rings }
+        ensures { result
+            ≡ number_after (keys_on ring.0 self.now.members) (key_at ring.0 places.now member) }
+    {
+        self.successor_counted(ring, member, places, &mut Steps::<L>::open(blank))
+    }
+}
+
+/// Puts the member on each ring. The slots are those before it joins.
+fn join_each(rows: &mut [Row], slots: &[Option<Places>], member: MemberId, places: &Places)
+    requires in_order { All (IsRow slots.now) rows.old }
+    requires long { length slots.now ≡ 1024 }
+    requires number { member < 1024 }
+    requires free { places_at slots.now member ≡ None }
+    requires placed { All (λ r. r.ring < length places.now) rows.old }
+    ensures in_order { All (IsRow (slice_set slots.now member (Some places.now))) rows.new }
+    ensures rings { map (λ r. r.ring) rows.new ≡ map (λ r. r.ring) rows.old }
+{
+    for row in rows.iter_mut() {
+        row.join(slots, member, places);
+    }
+}
+
+/// Takes the member off each ring. The slots are those before it leaves.
+fn leave_each(rows: &mut [Row], slots: &[Option<Places>], member: MemberId)
+    requires in_order { All (IsRow slots.now) rows.old }
+    requires long { length slots.now ≡ 1024 }
+    requires filled { is_some (places_at slots.now member) ≡ true }
+    ensures in_order { All (IsRow (slice_set slots.now member None)) rows.new }
+    ensures rings { map (λ r. r.ring) rows.new ≡ map (λ r. r.ring) rows.old }
+{
+    for row in rows.iter_mut() {
+        row.leave(slots, member);
+    }
+}
+
+/// Takes everybody off each ring.
+fn clear_each(rows: &mut [Row])
+    ensures { rows.new ≡ map emptied rows.old }
+{
+    for row in rows.iter_mut() {
+        row.clear();
     }
 }
 
@@ -120,16 +232,17 @@ mod tests {
     use ring_order::number_places;
     use std::test::Fail;
 
+    const GROUP: Group = Group {
+        tag: [7; 16],
+        t: 1,
+        timeout: 3,
+        period: 1,
+        misses: 1,
+    };
+
     #[test]
     fn neighbours_of_the_joined(rt: HostRuntime) -> Result<(), Fail> {
-        let group = Group {
-            tag: [7; 16],
-            t: 1,
-            timeout: 3,
-            period: 1,
-            misses: 1,
-        };
-        let mut rings = Rings::open(rt.alloc(), &group).ok().ok_or("no memory")?;
+        let mut rings = Rings::open(rt.alloc(), &GROUP)?;
         rings.join(MemberId::new(7), &number_places(&[30, 2, 5]));
         let own = number_places(&[20, 9, 5]);
         let ring = RingNo(0);
@@ -140,6 +253,60 @@ mod tests {
         assert_eq!(rt; rings.successor(ring, MemberId::new(7), &own), None);
         rings.leave(MemberId::new(7));
         assert_eq!(rt; rings.monitor(ring, MemberId::new(3), &own), None);
+        Ok(())
+    }
+
+    /// Joins members 0 to 510 at the even places.
+    fn join_511(rings: &mut Rings)
+        requires { rings.old ≡ record { rings = 3; members = [] } }
+        ensures rings { rings.new.rings ≡ 3 }
+        ensures many { length rings.new.members ≡ 511 }
+    {
+        for number in 0..511u16 {
+            let place = 2 * u32::from(number) + 2;
+            rings.join(MemberId::new(number), &number_places(&[place; 3]));
+        }
+    }
+
+    /// One question among 511 members.
+    fn ask<L: Ledger>(
+        rings: &Rings,
+        member: MemberId,
+        place: u32,
+        steps: &mut Steps<L>,
+    ) -> Option<MemberId>
+        requires rings { rings.now.rings ≡ 3 }
+        requires many { length rings.now.members ≡ 511 }
+        ensures { steps.new ≡ steps.old + 9 }
+    {
+        rings.monitor_counted(RingNo(0), member, &number_places(&[place; 3]), steps)
+    }
+
+    /// Whether the monitors of members 511 to 1,022, which are at the odd places, are as they must be.
+    fn ask_512<L: Ledger>(rings: &Rings, blank: Blank) -> bool
+        requires name { blank.name ≡ L.name }
+        requires parts { blank.parts ≡ L.parts }
+        requires some { 0 < blank.parts }
+        requires rings { rings.now.rings ≡ 3 }
+        requires many { length rings.now.members ≡ 511 }
+    {
+        let mut steps = Steps::<L>::open(blank);
+        for number in 511..1023u16 {
+            let place = 2 * u32::from(number - 511) + 1;
+            let monitor = ask(rings, MemberId::new(number), place, &mut steps);
+            let wanted = if number == 511 { 510 } else { number - 512 };
+            if monitor.map(|m| m.get()) != Some(wanted) {
+                return false;
+            }
+        }
+        true
+    }
+
+    #[test]
+    fn questions_of_nine_steps(rt: HostRuntime) -> Result<(), Fail> {
+        let mut rings = Rings::open(rt.alloc(), &GROUP)?;
+        join_511(&mut rings);
+        assert!(rt; ask_512::<Brand>(&rings, Blank::new(1)));
         Ok(())
     }
 }

@@ -4,12 +4,6 @@ use Rattle.ports.specs.declared.Opened as opened
 use Rattle.ports.specs.declared.Received as received
 use Rattle.ports.specs.declared.Sent as sent
 
--- what holds where the file or the port was not opened
-abbrev pub OnOpenFailed : opened.Opened → Type 0 → Type 0
-OnOpenFailed opened.TheVariants.Done P = Unit {0}
-OnOpenFailed opened.TheVariants.Failed P = P
-OnOpenFailed opened.TheVariants.OutOfMemory P = Unit {0}
-
 -- the file or the port was not opened, by a fault
 abbrev pub open_failed : opened.Opened → Bool
 open_failed opened.TheVariants.Done = false

@@ -1,8 +1,9 @@
 -- What a read did, by its answer.
-use Rattle.std.specs.Prelude.{◌≡◌, ℕ, ◌<◌, ◌≤◌, Bool, true, false, Option, List, take}
+use Rattle.std.specs.Prelude.{ℕ, ◌<◌, ◌≤◌, Bool, true, false, Option, List, take}
 use Rattle.ports.specs.declared.Taken.{Taken}
 use Rattle.ports.specs.declared.Taken.TheVariants.{Got, End, Failed}
-use Rattle.ports.specs.Contents.{with_front, IsUsedUp}
+use Rattle.std.specs.Io.KnownBytes.{Consumes, Keeps}
+use Rattle.ports.specs.Contents.{IsUsedUp}
 
 -- the read got bytes, so that the source may be read again
 abbrev pub has_got : Taken → Bool
@@ -30,12 +31,12 @@ GotSome Failed room = Unit {0}
 
 -- the bytes left before and after the read that filled the buffer
 abbrev pub Reads : Option (List ℕ) → Option (List ℕ) → List ℕ → Taken → Type 0
-Reads before after filled (Got n) = before ≡ with_front (take n filled) after
-Reads before after filled End = after ≡ before
-Reads before after filled Failed = after ≡ before
+Reads before after filled (Got n) = Consumes before after (take n filled)
+Reads before after filled End = Keeps before after
+Reads before after filled Failed = Keeps before after
 
 -- the end comes only where no byte is left
 abbrev pub EndsUsedUp : Option (List ℕ) → Taken → Type 0
-EndsUsedUp before (Got n) = Unit {0}
-EndsUsedUp before End = IsUsedUp before
-EndsUsedUp before Failed = Unit {0}
+EndsUsedUp after (Got n) = Unit {0}
+EndsUsedUp after End = IsUsedUp after
+EndsUsedUp after Failed = Unit {0}

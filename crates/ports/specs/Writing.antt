@@ -1,8 +1,8 @@
 -- What a write did, by its answer.
-use Rattle.std.specs.Prelude.{◌≡◌, ℕ, ◌<◌, ◌≤◌, Bool, true, false, Option, List, take}
+use Rattle.std.specs.Prelude.{ℕ, ◌<◌, ◌≤◌, Bool, true, false, Option, List, take}
 use Rattle.ports.specs.declared.Given.{Given}
 use Rattle.ports.specs.declared.Given.TheVariants.{Took, Failed}
-use Rattle.ports.specs.Contents.{with_back}
+use Rattle.std.specs.Io.KnownBytes.{Appends, Keeps}
 
 -- the write took bytes, so that the sink may be written to again
 abbrev pub has_taken : Given → Bool
@@ -26,5 +26,5 @@ TookSome Failed size = Unit {0}
 
 -- the bytes taken before and after the write of the piece
 abbrev pub Gives : Option (List ℕ) → Option (List ℕ) → List ℕ → Given → Type 0
-Gives before after piece (Took n) = after ≡ with_back before (take n piece)
-Gives before after piece Failed = after ≡ before
+Gives before after piece (Took n) = Appends before after (take n piece)
+Gives before after piece Failed = Keeps before after

@@ -6,13 +6,13 @@
 //! behind a fault; a disk and a link go on after a failure.
 #![tactic(auto)]
 
-ghost use Rattle.std.specs.Prelude.{◌≡◌, ℕ, ◌≤◌, Bool, true, Option, List, length, IfOk, OnErr};
+ghost use Rattle.std.specs.Prelude.{◌≡◌, ℕ, ◌≤◌, Bool, true, Option, List, length};
 ghost use Rattle.std.specs.Result.{is_err, is_ok};
-ghost use Rattle.ports.specs.Count.{Rose, counted};
+ghost use Rattle.ports.specs.Count.{counted};
 ghost use Rattle.ports.specs.Contents.{Wrote};
 ghost use Rattle.ports.specs.Reading.{has_got, read_failed, GotAtMost, GotSome, Reads, EndsUsedUp};
 ghost use Rattle.ports.specs.Writing.{has_taken, write_failed, TookAtMost, TookSome, Gives};
-ghost use Rattle.ports.specs.Device.{OnOpenFailed, open_failed, receive_failed, ReceivedAtMost, send_failed};
+ghost use Rattle.ports.specs.Device.{open_failed, receive_failed, ReceivedAtMost, send_failed};
 
 mod disk;
 mod memory;
@@ -98,7 +98,7 @@ pub trait Source {
         ensures fits { GotAtMost result (length buf.old) }
         ensures some { GotSome result (length buf.old) }
         ensures reads { Reads (left self.old) (left self.new) buf.new result }
-        ensures end { EndsUsedUp (left self.old) result };
+        ensures end { EndsUsedUp (left self.new) result };
 }
 
 /// Where bytes go to.

@@ -142,7 +142,7 @@ impl Source for MemorySource {
         ensures fits { GotAtMost result (length buf.old) }
         ensures some { GotSome result (length buf.old) }
         ensures reads { Reads (Some self.old.unread) (Some self.new.unread) buf.new result }
-        ensures end { EndsUsedUp (Some self.old.unread) result }
+        ensures end { EndsUsedUp (Some self.new.unread) result }
         ensures answer { result ≡ read_answer self.old (length buf.old) }
         ensures after { self.new ≡ after_read self.old result }
         ensures filled { buf.new ≡ filled self.old buf.old result }

@@ -1,35 +1,60 @@
 //! The objects in memory at work.
+
+ghost use Rattle.std.specs.Prelude.{◌≡◌, true};
+
 use super::*;
 use std::test::Fail;
 
-fn read_from<S: Source>(source: &mut S, buf: &mut [u8]) -> Taken {
-    source.read(buf)
+/// Two reads of up to eight bytes, the second only where the first got some.
+fn read_twice<S: Source>(source: &mut S, buf: &mut [u8]) -> (Taken, Option<Taken>)
+    requires { S.is_open source.old ≡ true }
+{
+    let first = source.read(buf);
+    if let Taken::Got(_) = first {
+        return (first, Some(source.read(buf)));
+    }
+    (first, None)
 }
 
 #[test]
-fn source_gives_steps_fails_and_ends(rt: HostRuntime) -> Result<(), Fail> {
-    let bytes = b"abcde".to_vec(rt.alloc())?;
-    let fail = [1u64].to_vec(rt.alloc())?;
-    let mut source = MemorySource::new(bytes, 3, fail);
+fn source_gives_steps_and_ends(rt: HostRuntime) -> Result<(), Fail> {
+    let mut source = MemorySource::new(b"abcde".to_vec(rt.alloc())?, 3, Vec::new(rt.alloc()));
     let mut buf = [b'-'; 8];
-    assert_eq!(rt; read_from(&mut source, &mut buf), Taken::Got(3));
+    let Taken::Got(3) = source.read(&mut buf) else {
+        return Err("no first step".into());
+    };
     assert_eq!(rt; buf, *b"abc-----");
-    assert_eq!(rt; source.read(&mut buf), Taken::Failed);
-    assert_eq!(rt; source.read(&mut buf[6..]), Taken::Got(2));
+    assert_eq!(rt;
+        read_twice(&mut source, &mut buf[6..]),
+        (Taken::Got(2), Some(Taken::End))
+    );
     assert_eq!(rt; buf, *b"abc---de");
-    assert_eq!(rt; read_from(&mut source, &mut buf), Taken::End);
     Ok(())
 }
 
 #[test]
-fn sink_takes_steps_fails_and_fills(rt: HostRuntime) -> Result<(), Fail> {
+fn source_fails_at_its_number(rt: HostRuntime) -> Result<(), Fail> {
     let fail = [1u64].to_vec(rt.alloc())?;
-    let mut sink = MemorySink::new(rt.alloc(), 5, 3, fail).or(Err("no memory"))?;
-    assert_eq!(rt; sink.write(b"abcd"), Given::Took(3));
-    assert_eq!(rt; sink.write(b"d"), Given::Failed);
-    assert_eq!(rt; sink.write(b"def"), Given::Took(2));
-    assert_eq!(rt; sink.write(b"f"), Given::Failed);
-    assert_eq!(rt; sink.write(b""), Given::Took(0));
+    let mut source = MemorySource::new(b"abcde".to_vec(rt.alloc())?, 3, fail);
+    let mut buf = [b'-'; 8];
+    assert_eq!(rt;
+        read_twice(&mut source, &mut buf),
+        (Taken::Got(3), Some(Taken::Failed))
+    );
+    assert_eq!(rt; buf, *b"abc-----");
+    Ok(())
+}
+
+#[test]
+fn sink_takes_steps_and_fills(rt: HostRuntime) -> Result<(), Fail> {
+    let mut sink = MemorySink::new(rt.alloc(), 5, 3, Vec::new(rt.alloc())).or(Err("no memory"))?;
+    let Given::Took(3) = sink.write(b"abcd") else {
+        return Err("no first step".into());
+    };
+    let Given::Took(0) = sink.write(b"") else {
+        return Err("an empty piece refused".into());
+    };
+    assert_eq!(rt; write_all(&mut sink, b"def"), Err(Failed));
     assert_eq!(rt; sink.bytes(), b"abcde".as_slice());
     Ok(())
 }
@@ -38,8 +63,9 @@ fn sink_takes_steps_fails_and_fills(rt: HostRuntime) -> Result<(), Fail> {
 fn write_all_goes_on_until_a_fault(rt: HostRuntime) -> Result<(), Fail> {
     let fail = [4u64].to_vec(rt.alloc())?;
     let mut sink = MemorySink::new(rt.alloc(), 100, 2, fail).or(Err("no memory"))?;
-    assert_eq!(rt; write_all(&mut sink, b"abcde"), Ok(()));
-    assert_eq!(rt; write_all(&mut sink, b""), Ok(()));
+    let Ok(()) = write_all(&mut sink, b"abcde") else {
+        return Err("not written".into());
+    };
     assert_eq!(rt; write_all(&mut sink, b"fghij"), Err(Failed));
     assert_eq!(rt; sink.bytes(), b"abcdefg".as_slice());
     Ok(())

@@ -1,4 +1,5 @@
 pub mod RowLemmas
 pub mod KeyOrder
 pub mod Top
+pub mod CountLemmas
 pub mod NearestLaws

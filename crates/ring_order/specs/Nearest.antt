@@ -1,13 +1,17 @@
 -- The keys of listed members on a ring, and the nearest of them to a member on either side.
-use Rattle.std.specs.Prelude.{◌≡◌, ℕ, Bool, ◌==◌, if◌then◌else◌, List, Option, Some, None, map}
-use Rattle.ff_ids.specs.Rings.{Key, cyc, nearest_before, nearest_after, IsNearestBefore, IsNearestAfter}
+use Rattle.std.specs.Prelude.{◌≡◌, ℕ, ◌*◌, ◌-◌, Bool, ◌==◌, if◌then◌else◌, List, Option, Some, None, map, length}
+use Rattle.ff_ids.specs.Rings.{Key, cyc, others, nearest_before, nearest_after, IsNearestBefore, IsNearestAfter}
 use Rattle.ff_ids.specs.Views.{key_at}
 use Rattle.ring_order.specs.declared.Side.{Side}
 use Rattle.ring_order.specs.declared.Side.TheVariants.{Before, After}
 
+-- The key on the ring of a member given with its places.
+abbrev pub key_of_pair : ℕ → List (List ℕ) × ℕ → Key
+key_of_pair ring p = key_at ring p.0 p.1
+
 -- The keys on the ring of members given with their places.
 abbrev pub keys_of : ℕ → List (List (List ℕ) × ℕ) → List Key
-keys_of ring live = map (λ p. key_at ring p.0 p.1) live
+keys_of ring live = map (key_of_pair ring) live
 
 -- The number is that of the nearest of the keys before m.
 abbrev pub IsNumberBefore : List Key → Key → ℕ → Type 0
@@ -34,3 +38,12 @@ nearest_with near (Some v) w = if near v w then Some w else Some v
 -- The member itself is no neighbour of its own.
 abbrev pub nearest_so_far : (Key → Key → Bool) → ℕ → Option Key → Key → Option Key
 nearest_so_far near m best w = if w.number == m then best else nearest_with near best w
+
+-- How many comparisons a pass makes at one more key: none at the member's own and at the first, then three.
+abbrev pub comparisons_of_next : ℕ → Option Key → Key → ℕ
+comparisons_of_next m None w = 0
+comparisons_of_next m (Some v) w = if w.number == m then 0 else 3
+
+-- How many comparisons a pass over the keys makes.
+abbrev pub comparisons_of_all : ℕ → List Key → ℕ
+comparisons_of_all m keys = 3 * (length (others m keys) - 1)

@@ -1,16 +1,22 @@
-//! The places of members on the rings, and who is nearest to whom. No call takes memory.
+//! The places of members on the rings, the order of members there, and who is nearest to whom. No call
+//! takes memory.
 #![tactic(auto)]
 
-ghost use Rattle.std.specs.Prelude.{◌≡◌, ◌<◌, ◌≤◌, [], ◌∷◌, ◌++◌, ◌↔◌, length, map, All, IsNone, IfSome};
-ghost use Rattle.ff_ids.specs.Rings.{is_below, cyc, nearest_before as number_before, nearest_after as number_after};
+ghost use Rattle.std.specs.Prelude.{◌≡◌, ◌<◌, ◌≤◌, ◌+◌, ◌*◌, ◌-◌, [], ◌∷◌, ◌++◌, ◌↔◌, length, map, All, IsNone, IfSome, option_map};
+ghost use Rattle.ff_ids.specs.Rings.{is_below, cyc, others, nearest_before as number_before, nearest_after as number_after};
 ghost use Rattle.ff_ids.specs.Views.{key_at};
 ghost use Rattle.ring_order.specs.Rows.{place_of_number};
-ghost use Rattle.ring_order.specs.Nearest.{keys_of, nearer, nearest, nearest_so_far, IsNumberBefore, IsNumberAfter};
+ghost use Rattle.ring_order.specs.Nearest.{key_of_pair, keys_of, nearer, nearest, nearest_so_far, comparisons_of_next, comparisons_of_all, IsNumberBefore, IsNumberAfter};
 
+mod hashed;
 pub mod laws;
+pub mod steps;
 
 use ff_ids::{MemberId, RingNo};
+pub use hashed::hash_places;
 use std::marker::Model;
+use std::sync::ledger::Ledger;
+use steps::Steps;
 
 /// The places of one member, one of 32 bytes on each ring, at most 31. Contracts see the list of them.
 #[derive(Clone, Copy, Debug, PartialEq, Eq)]
@@ -125,13 +131,37 @@ impl Spot {
     }
 }
 
-/// Whether the second comes strictly between the first and the third, going round the ring.
-fn comes_between(first: &Spot, second: &Spot, third: &Spot) -> bool
-    ensures { result ≡ cyc first.now second.now third.now }
+/// Whether `a` comes before `b` on the ring: by their places, and by their numbers where places tie.
+pub fn key_order(
+    ring: RingNo,
+    a_places: &Places,
+    a: MemberId,
+    b_places: &Places,
+    b: MemberId,
+) -> bool
+    requires a_placed { ring.0 < length a_places.now }
+    requires b_placed { ring.0 < length b_places.now }
+    ensures { result ≡ is_below (key_at ring.0 a_places.now a) (key_at ring.0 b_places.now b) }
 {
-    first.is_below(second) && second.is_below(third)
-        || second.is_below(third) && third.is_below(first)
-        || third.is_below(first) && first.is_below(second)
+    a_places.spot(ring, a).is_below(&b_places.spot(ring, b))
+}
+
+/// Whether `a` comes before `b` on the ring, as `key_order`. It counts one step.
+pub fn key_before<L: Ledger>(
+    ring: RingNo,
+    a_places: &Places,
+    a: MemberId,
+    b_places: &Places,
+    b: MemberId,
+    steps: &mut Steps<L>,
+) -> bool
+    requires a_placed { ring.0 < length a_places.now }
+    requires b_placed { ring.0 < length b_places.now }
+    ensures value { result ≡ is_below (key_at ring.0 a_places.now a) (key_at ring.0 b_places.now b) }
+    ensures step { steps.new ≡ steps.old + 1 }
+{
+    steps.add_one();
+    key_order(ring, a_places, a, b_places, b)
 }
 
 /// On which side of a member to look.
@@ -142,95 +172,148 @@ enum Side {
 }
 
 impl Side {
-    /// Whether the candidate is nearer to the member than the best so far.
-    fn is_nearer(self, member: &Spot, best: &Spot, candidate: &Spot) -> bool
-        ensures { result ≡ nearer self member.now best.now candidate.now }
+    /// Whether the candidate is nearer to the member than the best so far. Three steps.
+    fn is_nearer<L: Ledger>(
+        self,
+        ring: RingNo,
+        member: &(Places, MemberId),
+        best: &(Places, MemberId),
+        candidate: &(Places, MemberId),
+        steps: &mut Steps<L>,
+    ) -> bool
+        requires own { ring.0 < length member.now.0 }
+        requires best { ring.0 < length best.now.0 }
+        requires candidate { ring.0 < length candidate.now.0 }
+        ensures value { result
+            ≡ nearer self (key_of_pair ring.0 member.now) (key_of_pair ring.0 best.now) (key_of_pair ring.0 candidate.now) }
+        ensures steps { steps.new ≡ steps.old + 3 }
     {
         match self {
-            Side::Before => comes_between(best, candidate, member),
-            Side::After => comes_between(member, candidate, best),
+            Side::Before => comes_between(ring, best, candidate, member, steps),
+            Side::After => comes_between(ring, member, candidate, best, steps),
         }
     }
 
     /// The best of those so far and the candidate, where it isn't the member itself.
-    fn best_with(self, member: &Spot, best: Option<Spot>, candidate: Spot) -> Option<Spot>
-        ensures { result ≡ nearest_so_far (nearer self member.now) member.now.number best candidate }
+    fn best_with<L: Ledger>(
+        self,
+        ring: RingNo,
+        member: &(Places, MemberId),
+        best: Option<(Places, MemberId)>,
+        candidate: &(Places, MemberId),
+        steps: &mut Steps<L>,
+    ) -> Option<(Places, MemberId)>
+        requires own { ring.0 < length member.now.0 }
+        requires best { IfSome best (λ p. ring.0 < length p.0) }
+        requires candidate { ring.0 < length candidate.now.0 }
+        ensures value { option_map (key_of_pair ring.0) result
+            ≡ nearest_so_far (nearer self (key_of_pair ring.0 member.now)) member.now.1 (option_map (key_of_pair ring.0) best) (key_of_pair ring.0 candidate.now) }
+        ensures placed { IfSome result (λ p. ring.0 < length p.0) }
+        ensures steps { steps.new
+            ≡ steps.old + comparisons_of_next member.now.1 (option_map (key_of_pair ring.0) best) (key_of_pair ring.0 candidate.now) }
     {
-        if candidate.number == member.number {
+        if candidate.1 == member.1 {
             return best;
         }
         match best {
-            Some(spot) => {
-                if self.is_nearer(member, &spot, &candidate) {
-                    Some(candidate)
+            Some(pair) => {
+                if self.is_nearer(ring, member, &pair, candidate, steps) {
+                    Some(*candidate)
                 } else {
-                    Some(spot)
+                    Some(pair)
                 }
             }
-            None => Some(candidate),
+            None => Some(*candidate),
         }
     }
 
     /// The nearest to the member on this side, among those listed other than it.
-    fn nearest(
+    fn nearest<L: Ledger>(
         self,
         ring: RingNo,
-        places: &Places,
-        member: MemberId,
+        member: &(Places, MemberId),
         live: &[(Places, MemberId)],
+        steps: &mut Steps<L>,
     ) -> Option<MemberId>
-        requires own { ring.0 < length places.now }
+        requires own { ring.0 < length member.now.0 }
         requires each { All (λ p. ring.0 < length p.0) live.now }
-        ensures { result ≡ nearest self (keys_of ring.0 live.now) (key_at ring.0 places.now member) }
+        ensures value { result ≡ nearest self (keys_of ring.0 live.now) (key_of_pair ring.0 member.now) }
+        ensures steps { steps.new ≡ steps.old + comparisons_of_all member.now.1 (keys_of ring.0 live.now) }
     {
-        let own = places.spot(ring, member);
         let mut best = None;
-        for (listed, number) in live {
-            best = self.best_with(&own, best, listed.spot(ring, *number));
+        for listed in live {
+            best = self.best_with(ring, member, best, listed, steps);
         }
-        best.map(|spot| spot.number)
+        best.map(|pair| pair.1)
     }
+}
+
+/// Whether the second comes strictly between the first and the third, going round the ring. Three steps.
+fn comes_between<L: Ledger>(
+    ring: RingNo,
+    first: &(Places, MemberId),
+    second: &(Places, MemberId),
+    third: &(Places, MemberId),
+    steps: &mut Steps<L>,
+) -> bool
+    requires first { ring.0 < length first.now.0 }
+    requires second { ring.0 < length second.now.0 }
+    requires third { ring.0 < length third.now.0 }
+    ensures value { result
+        ≡ cyc (key_of_pair ring.0 first.now) (key_of_pair ring.0 second.now) (key_of_pair ring.0 third.now) }
+    ensures steps { steps.new ≡ steps.old + 3 }
+{
+    let up = key_before(ring, &first.0, first.1, &second.0, second.1, steps);
+    let on = key_before(ring, &second.0, second.1, &third.0, third.1, steps);
+    let round = key_before(ring, &third.0, third.1, &first.0, first.1, steps);
+    up && on || on && round || round && up
 }
 
 /// The member's monitor on the ring: of those listed other than it, the one with nobody else between it
 /// and the member, going round. Members that tie are in order of number. The member itself need not be
-/// listed.
-pub fn nearest_before(
+/// listed. Three steps for each listed member other than it, but for the first.
+pub fn nearest_before<L: Ledger>(
     ring: RingNo,
     places: &Places,
     member: MemberId,
     live: &[(Places, MemberId)],
+    steps: &mut Steps<L>,
 ) -> Option<MemberId>
     requires own { ring.0 < length places.now }
     requires each { All (λ p. ring.0 < length p.0) live.now }
     ensures exact { result ≡ number_before (keys_of ring.0 live.now) (key_at ring.0 places.now member) }
     ensures none { IsNone result ↔ All (λ p. p.1 ≡ member) live.now }
     ensures nearest { IfSome result (IsNumberBefore (keys_of ring.0 live.now) (key_at ring.0 places.now member)) }
+    ensures steps { steps.new ≡ steps.old + 3 * (length (others member (keys_of ring.0 live.now)) - 1) }
 {
-    Side::Before.nearest(ring, places, member, live)
+    Side::Before.nearest(ring, &(*places, member), live, steps)
 }
 
 /// The member's successor on the ring: of those listed other than it, the one with nobody else between the
 /// member and it, going round. Members that tie are in order of number. The member itself need not be
-/// listed.
-pub fn nearest_after(
+/// listed. Three steps for each listed member other than it, but for the first.
+pub fn nearest_after<L: Ledger>(
     ring: RingNo,
     places: &Places,
     member: MemberId,
     live: &[(Places, MemberId)],
+    steps: &mut Steps<L>,
 ) -> Option<MemberId>
     requires own { ring.0 < length places.now }
     requires each { All (λ p. ring.0 < length p.0) live.now }
     ensures exact { result ≡ number_after (keys_of ring.0 live.now) (key_at ring.0 places.now member) }
     ensures none { IsNone result ↔ All (λ p. p.1 ≡ member) live.now }
     ensures nearest { IfSome result (IsNumberAfter (keys_of ring.0 live.now) (key_at ring.0 places.now member)) }
+    ensures steps { steps.new ≡ steps.old + 3 * (length (others member (keys_of ring.0 live.now)) - 1) }
 {
-    Side::After.nearest(ring, places, member, live)
+    Side::After.nearest(ring, &(*places, member), live, steps)
 }
 
 #[cfg(test)]
 mod tests {
     use super::*;
+    use std::marker::Brand;
+    use std::sync::ledger::Blank;
 
     /// Members 5, 6 and 7: on the first ring 5 and 6 tie and 7 follows, on the second 7 comes first and 5 last.
     fn listed() -> [(Places, MemberId); 3]
@@ -243,23 +326,47 @@ mod tests {
         ]
     }
 
+    /// The neighbours of the member on both sides.
+    fn neighbours(
+        ring: RingNo,
+        places: &Places,
+        member: MemberId,
+        live: &[(Places, MemberId)],
+    ) -> (Option<MemberId>, Option<MemberId>)
+        requires own { ring.0 < length places.now }
+        requires each { All (λ p. ring.0 < length p.0) live.now }
+    {
+        neighbours_in::<Brand>(Blank::new(1), ring, places, member, live)
+    }
+
+    /// The neighbours of the member on both sides, counted in a ledger of their own.
+    fn neighbours_in<L: Ledger>(
+        blank: Blank,
+        ring: RingNo,
+        places: &Places,
+        member: MemberId,
+        live: &[(Places, MemberId)],
+    ) -> (Option<MemberId>, Option<MemberId>)
+        requires name { blank.name ≡ L.name }
+        requires parts { blank.parts ≡ L.parts }
+        requires some { 0 < blank.parts }
+        requires own { ring.0 < length places.now }
+        requires each { All (λ p. ring.0 < length p.0) live.now }
+    {
+        let mut steps = Steps::<L>::open(blank);
+        (
+            nearest_before(ring, places, member, live, &mut steps),
+            nearest_after(ring, places, member, live, &mut steps),
+        )
+    }
+
     #[test]
     fn nobody_else_is_listed(rt: HostRuntime) {
         let places = number_places(&[50, 30]);
+        let member = MemberId::new(5);
         assert_eq!(rt; places.rings(), 2);
-        assert_eq!(rt;
-            nearest_before(RingNo(1), &places, MemberId::new(5), &[]),
-            None
-        );
-        assert_eq!(rt;
-            nearest_after(
-                RingNo(1),
-                &places,
-                MemberId::new(5),
-                &[(places, MemberId::new(5))]
-            ),
-            None
-        );
+        let alone = neighbours(RingNo(1), &places, member, &[(places, member)]);
+        assert_eq!(rt; alone, (None, None));
     }
 
     #[test]
@@ -268,8 +375,7 @@ mod tests {
         for ring in 0..2u8 {
             for (places, member) in &live {
                 let ring = RingNo(ring);
-                let before = nearest_before(ring, places, *member, &live);
-                let after = nearest_after(ring, places, *member, &live);
+                let (before, after) = neighbours(ring, places, *member, &live);
                 let wanted = match (ring.0, member.get()) {
                     (0, 5) => (7, 6),
                     (0, 6) => (5, 7),

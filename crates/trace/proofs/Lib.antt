@@ -1,3 +1,6 @@
-pub mod LineLemmas
 pub mod LifeLemmas
+pub mod WalkLemmas
 pub mod UprightLemmas
+pub mod ReplyLemmas
+pub mod AnswerLemmas
+pub mod SinceLemmas

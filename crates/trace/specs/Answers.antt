@@ -13,8 +13,8 @@ use Rattle.ring_order.specs.Rows.{place_of_number}
 use Rattle.journal.specs.declared.event.Event as reported
 use Rattle.journal.specs.declared.event.What.TheVariants as what
 use Rattle.journal.specs.Events.{event_text, members_text}
-use Rattle.schedule.specs.declared.line.Line.{Line}
-use Rattle.schedule.specs.declared.line.Line.TheVariants as lines
+use Rattle.schedule_direct.specs.declared.line.DirectLine.{DirectLine}
+use Rattle.schedule_direct.specs.declared.line.DirectLine.TheVariants as lines
 
 -- A life that is being recorded: its group, its number from 1 on, who had joined as it opened, and its events so
 -- far, in the order in which they came.
@@ -52,10 +52,10 @@ first_life group = record { group = group; life = 1; members = []; events = [] }
 -- What a step reports, in order: expired accusations, removed members, entered ones, fallen accusations.
 abbrev pub events_of : Stepped → List reported.Event
 events_of r =
-    map (λ a. record { moment = r.state.moment; what = what.Expired a }) r.expired
-    ++ map (λ m. record { moment = r.state.moment; what = what.Removed m }) r.removed
-    ++ map (λ m. record { moment = r.state.moment; what = what.Entered m }) r.entered
-    ++ map (λ a. record { moment = r.state.moment; what = what.Fell a }) r.fell
+    map (λ a. record { moment = r.state.moment; what = what.Expired a }) r.report.expired
+    ++ map (λ m. record { moment = r.state.moment; what = what.Removed m }) r.report.removed
+    ++ map (λ m. record { moment = r.state.moment; what = what.Entered m }) r.report.entered
+    ++ map (λ a. record { moment = r.state.moment; what = what.Fell a }) r.report.fell
 
 abbrev pub quiet : Option Recorded → Answer
 quiet recorded = record { recorded = recorded; verdict = None; events = [] }
@@ -102,7 +102,7 @@ abbrev pub places_at : List ℕ → List (List ℕ)
 places_at numbers = map place_of_number numbers
 
 -- What a line brings to the life that is being recorded.
-abbrev pub answer_in : Recorded → Line → Answer
+abbrev pub answer_in : Recorded → DirectLine → Answer
 answer_in r lines.Header = quiet (Some r)
 answer_in r (lines.Group t timeout) = quiet (Some r)
 answer_in r (lines.Member member places) = taken r (Joins member (places_at places)) (verdict_on_joining (is_member (state_of r) member))
@@ -115,7 +115,7 @@ answer_in r lines.Life = record { recorded = Some (next_life r); verdict = Some 
 answer_in r lines.End = quiet (Some r)
 
 -- What a line brings: the line of the group begins the first life.
-abbrev pub answer : Option Recorded → Line → Answer
+abbrev pub answer : Option Recorded → DirectLine → Answer
 answer (Some r) line = answer_in r line
 answer None (lines.Group t timeout) = quiet (Some (first_life (plain_group t timeout)))
 answer None _ = quiet None

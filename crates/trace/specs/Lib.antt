@@ -1,4 +1,5 @@
-pub mod Lines
 pub mod Answers
-pub mod Played
-pub mod LivesIn
+pub mod Walk
+pub mod Lives
+pub mod Written
+pub mod Replies

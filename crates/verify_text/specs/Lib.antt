@@ -1,2 +1,5 @@
+pub mod Rows
 pub mod Grammar
+pub mod Asking
 pub mod Answering
+pub mod Laws

@@ -1,17 +1,12 @@
-//! The text that asks whether a signature is good under a public key: its lines, each read in one pass or
-//! refused with the first word of the table of bad words that holds, and the line that answers it. `specs/`
-//! has the grammar and the answer.
+//! The text that asks whether a signature is good under a public key: its lines, the question that they ask, and
+//! the line that answers it. Only a message and a signature take memory.
 #![tactic(auto)]
 
-mod digits;
-mod form;
 mod line;
-mod lines;
 mod question;
+mod read;
+mod verify;
 
-pub use line::{Question, VerifyLine, VerifyPlace, VerifyProgress};
-pub use lines::VerifyLines;
-pub use question::answer_line;
-
-#[cfg(test)]
-mod tests;
+pub use line::VerifyLine;
+pub use question::{Asked, Question, answer_line};
+pub use verify::Verify;

@@ -1,5 +1,5 @@
 use Rattle.std.proofs.Common.{arith, ◌∙◌}
-use Rattle.ports.proofs.Contents.{with_back-rest}
+use Rattle.ports.proofs.Contents.{Appends-rest}
 use Rattle.ports.proofs.write_all.Goals as goal
 
 pub loop-written-preserved : goal.loop-written-preserved
@@ -7,5 +7,5 @@ loop-written-preserved g c = record {
   within = omega (arith, c.in-Took.ensures.fits);
   open_ = c.in-Took.ensures.going;
   quiet = c.in-Took.ensures.faults ∙ c.loop-written.invariant.quiet;
-  gained = with_back-rest _ _ _ c.args.bytes.now _ _ c.loop-written.invariant.gained c.in-Took.ensures.gives;
+  gained = Appends-rest _ _ _ c.args.bytes.now _ _ c.loop-written.invariant.gained c.in-Took.ensures.gives;
 }

@@ -1,5 +1,5 @@
 use Rattle.std.proofs.Common.{length, ◌-◌, ◌≤◌, ◌≡◌, take, true}
-use Rattle.ports.specs.Contents.{with_back}
+use Rattle.std.specs.Io.KnownBytes.{Appends}
 use Rattle.ports.proofs.write_all.Given as goal
 
 abbrev pub invariant-loop-written : goal.invariant-loop-written
@@ -7,7 +7,7 @@ invariant-loop-written g l = record {
   within : l.written ≤ length l.bytes;
   open_ : g.O.Sink.is_open l.out ≡ true;
   quiet : g.O.Sink.faults l.out ≡ g.O.Sink.faults l.initial.out;
-  gained : g.O.Sink.taken l.out ≡ with_back (g.O.Sink.taken l.initial.out) (take l.written l.bytes);
+  gained : Appends (g.O.Sink.taken l.initial.out) (g.O.Sink.taken l.out) (take l.written l.bytes);
 }
 
 abbrev pub decreases-loop-written : goal.decreases-loop-written

@@ -4,7 +4,7 @@ use Rattle.ring_order.proofs.NearestLaws.{number_before-none, number_before-some
 use Rattle.ring_order.proofs.nearest_before.Goals as goal
 
 pub returns-clause-none : goal.returns-clause-none
-returns-clause-none c = number_before-none c.args.ring.0 c.args.live.now (key_at c.args.ring.0 c.args.places.now c.args.member) c.nearest.result c.nearest.ensures
+returns-clause-none g c = number_before-none c.args.ring.0 c.args.live.now (key_at c.args.ring.0 c.args.places.now c.args.member) c.nearest.result c.nearest.ensures.value
 
 pub returns-clause-nearest : goal.returns-clause-nearest
-returns-clause-nearest c = number_before-some (keys_of c.args.ring.0 c.args.live.now) (key_at c.args.ring.0 c.args.places.now c.args.member) c.nearest.result c.nearest.ensures
+returns-clause-nearest g c = number_before-some (keys_of c.args.ring.0 c.args.live.now) (key_at c.args.ring.0 c.args.places.now c.args.member) c.nearest.result c.nearest.ensures.value

@@ -1,21 +1,18 @@
-use Rattle.std.proofs.Common.{◌≡◌, ◌∙◌, ap, sym, refl, true, cond}
-use Rattle.monitor_rule.specs.Joined.{Joined, without_member}
+use Rattle.std.proofs.Common.{◌≡◌, ◌∙◌, sym, refl, cond}
+use Rattle.monitor_rule.specs.Joined.{without_member}
 use Rattle.membership.proofs.ExpireLemmas.{IsSound-expired, joined_before}
 use Rattle.membership.proofs.Membership.expire.Goals as goal
 
 pub leave-requires : goal.leave-requires
 leave-requires c =
-    let e = rw (c.deref.ensures.value, c.deref-2.ensures.value) at c.takes_out-leaves.ensures.value in
-    joined_before _ _ _ _ _ c.args.acc.now c.takes_out-leaves.result c.self.invariant.sound c.takes_out-leaves.ensures.range e c.if-leaves.true
+    joined_before _ _ _ _ _ c.args.acc.now c.self.invariant.sound (sym c.takes_out-leaves.ensures ∙ c.if-leaves.true)
 
 pub invariant_of-self : goal.invariant_of-self
 invariant_of-self c =
-    let e = rw (c.deref.ensures.value, c.deref-2.ensures.value) at c.takes_out-leaves.ensures.value in
     let view : c.leave.new.self ≡ cond c.takes_out-leaves.result (record c.self.inside.rings { members = without_member c.args.acc.now.accused c.self.inside.rings.members }) c.self.inside.rings = rw c.if-leaves.true c.leave.ensures in
-    record { sound = rw c.raise.ensures (IsSound-expired _ _ _ _ _ _ c.args.acc.now c.takes_out-leaves.result c.self.invariant.sound c.takes_out-leaves.ensures.range e view); timed = c.self.invariant.timed }
+    record { sound = rw c.raise.ensures (IsSound-expired _ _ _ _ _ _ c.args.acc.now c.takes_out-leaves.result c.self.invariant.sound c.takes_out-leaves.ensures view); timed = c.self.invariant.timed }
 
 pub invariant_of-self-else-leaves : goal.invariant_of-self-else-leaves
 invariant_of-self-else-leaves c =
-    let e = rw (c.deref.ensures.value, c.deref-2.ensures.value) at c.takes_out-leaves.ensures.value in
     let view : c.self.inside.rings ≡ cond c.takes_out-leaves.result (record c.self.inside.rings { members = without_member c.args.acc.now.accused c.self.inside.rings.members }) c.self.inside.rings = rw c.if-leaves.false refl in
-    record { sound = rw c.raise.ensures (IsSound-expired _ _ _ _ _ _ c.args.acc.now c.takes_out-leaves.result c.self.invariant.sound c.takes_out-leaves.ensures.range e view); timed = c.self.invariant.timed }
+    record { sound = rw c.raise.ensures (IsSound-expired _ _ _ _ _ _ c.args.acc.now c.takes_out-leaves.result c.self.invariant.sound c.takes_out-leaves.ensures view); timed = c.self.invariant.timed }

@@ -1,7 +1,13 @@
-use Rattle.std.proofs.Common.{◌≡◌, ◌∙◌}
-use Rattle.membership.proofs.HoldLemmas.{each_held, live_monitor-each}
+use Rattle.std.proofs.Common.{◌∙◌, ap, sym, subst}
+use Rattle.std.specs.FinMap.{get}
+use Rattle.membership.specs.Life.{Life}
+use Rattle.membership.specs.Holds.{Holds}
+use Rattle.membership.specs.contracts.Membership.{the_view}
+use Rattle.membership.proofs.HoldLemmas.{each_held, monitor-held}
 use Rattle.membership.proofs.Membership.monitor.Goals as goal
 
-pub returns : goal.returns
-returns c = λ s h.
-    c.monitor_in_view.ensures.value ∙ live_monitor-each c.args.self.now s c.args.ring.0 c.args.member (each_held c.args.self.now s h) c.monitor_in_view.ensures.range
+pub returns-clause-value : goal.returns-clause-value
+returns-clause-value c = λ s h.
+    let held = subst (λ (l : Life). Holds l s) (sym c.self.view_is) h in
+    let placed = ap (λ (l : Life). get l.places c.args.member) c.self.view_is ∙ c.places_of.ensures.value in
+    c.monitor.ensures ∙ monitor-held (the_view c.self.inside) s c.args.ring.0 c.args.member c.self.inside.rings.members c.places_of.result.now (each_held _ s held) c.self.invariant.sound.viewed placed

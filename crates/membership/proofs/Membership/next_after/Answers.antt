@@ -1,8 +1,10 @@
-use Rattle.std.proofs.Common.{◌≡◌, ◌∙◌, ap, sym, ℕ, Option}
-use Rattle.membership.specs.Life.{next_of}
-use Rattle.membership.proofs.SoundLemmas.{none_at}
+use Rattle.std.proofs.Common.{◌∙◌, ap, sym, ℕ, None, cond, is_some}
+use Rattle.std.specs.Option.{option_copied}
+use Rattle.membership.specs.Life.{Life, has_joined, live_successor}
+use Rattle.membership.proofs.EndLemmas.{none_at}
 use Rattle.membership.proofs.Membership.next_after.Goals as goal
 
 pub returns-in-None-clause-each : goal.returns-in-None-clause-each
 returns-in-None-clause-each c = λ ring below.
-    none_at {X = ℕ} 31 ring ∙ sym (ap (λ (o : Option ℕ). next_of c.args.self.now o ring) c.in-None.is)
+    let gone = sym (ap (λ (l : Life). has_joined l c.args.member) c.self.view_is) ∙ ap is_some (sym c.get.ensures ∙ ap option_copied c.in-None.is) in
+    none_at {X = ℕ} 31 ring ∙ sym (ap (λ b. cond b (live_successor c.args.self.now ring c.args.member) None) gone)

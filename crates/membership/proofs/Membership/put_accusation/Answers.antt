@@ -1,26 +1,38 @@
-use Rattle.std.proofs.Common.{◌≡◌, ◌∙◌, ap, sym, subst, List, ℕ, Option, Ok, Err}
-use Rattle.ff_ids.specs.declared.AccBody.{AccBody}
+use Rattle.std.proofs.Common.{◌≡◌, ◌∙◌, ap, sym, subst, None}
 use Rattle.ff_ids.specs.Steps.{after_accusation, with_kept}
 use Rattle.removal_timer.specs.Kept.{Kept as Timed}
-use Rattle.membership.specs.Life.{Life}
+use Rattle.membership.specs.Life.{Life, accusation_fault_in}
 use Rattle.membership.specs.Holds.{Holds}
-use Rattle.membership.specs.Reports.{Answers}
-use Rattle.membership.proofs.HoldLemmas.{none_from_answers}
-use Rattle.membership.proofs.AccuseLemmas.{accusation_fault-held, no_accusation_fault, Holds-accused}
+use Rattle.membership.specs.contracts.Membership.{the_view}
+use Rattle.membership.proofs.HoldLemmas.{answers-fault, answers-none}
+use Rattle.membership.proofs.AccuseLemmas.{accusation_fault-held, IsInOrder-accused, Holds-accused}
 use Rattle.membership.proofs.Membership.put_accusation.Goals as goal
 
-pub returns-in-Ok-clause-fault : goal.returns-in-Ok-clause-fault
-returns-in-Ok-clause-fault c = λ s h.
-    subst (λ f. Answers f (Ok tt)) (sym (accusation_fault-held c.args.self.now s c.args.acc h c.in-Ok.ensures.range.0 c.in-Ok.ensures.range.1)) c.in-Ok.ensures.fault
+pub returns-in-Some-clause-fault : goal.returns-in-Some-clause-fault
+returns-in-Some-clause-fault c = λ s h.
+    answers-fault _ _ c.in-Some.fault (accusation_fault-held c.args.self.now s c.args.acc h) (sym c.fault_of_accusation.ensures ∙ c.in-Some.is)
 
-pub returns-in-Ok-clause-step : goal.returns-in-Ok-clause-step
-returns-in-Ok-clause-step c = λ s h.
-    let fine = no_accusation_fault c.args.self.now c.args.acc (none_from_answers _ c.in-Ok.field-0 c.in-Ok.ensures.fault) in
-    let after = Holds-accused c.args.self.now s c.args.acc h c.in-Ok.ensures.range.1 fine in
-    let inside = c.self.inside in
-    let life = ap (λ (l : Life). record l { kept = with_kept (c.args.acc, l.moment) l.kept }) (sym c.self.view_is) ∙ ap (λ (kept : List (AccBody × ℕ)). record { group = inside.group; moment = inside.moment; places = inside.places.items; notes = inside.notes.items; expired = inside.expired.items; kept = kept }) (sym (ap (λ (t : Timed). t.entries) c.set.ensures)) in
-    subst (λ (l : Life). Holds l (after_accusation s c.args.acc)) life after
+no_fault : (c : goal.After-set) → accusation_fault_in c.args.self.now c.args.acc ≡ None
+no_fault c = sym c.fault_of_accusation.ensures ∙ c.in_default.is
 
-pub returns-in-Err-clause-fault : goal.returns-in-Err-clause-fault
-returns-in-Err-clause-fault c = λ s h.
-    subst (λ f. Answers f (Err c.in-Err.fault)) (sym (accusation_fault-held c.args.self.now s c.args.acc h c.in-Err.ensures.range.0 c.in-Err.ensures.range.1)) c.in-Err.ensures.fault
+pub invariant_of-self : goal.invariant_of-self
+invariant_of-self c =
+    let timed = c.self.invariant.timed in
+    let fine = ap (λ (l : Life). accusation_fault_in l c.args.acc) c.self.view_is ∙ no_fault c in
+    record {
+      sound = c.self.invariant.sound;
+      timed = record {
+        rings_same = ap (λ (t : Timed). t.rings) c.set.ensures ∙ timed.rings_same;
+        timeout_same = ap (λ (t : Timed). t.timeout) c.set.ensures ∙ timed.timeout_same;
+        in_order = rw c.set.ensures (IsInOrder-accused (the_view c.self.inside) c.self.inside.rings c.args.acc c.self.invariant.sound timed.in_order fine);
+      };
+    }
+
+pub returns-clause-fault : goal.returns-clause-fault
+returns-clause-fault c = λ s h.
+    answers-none _ _ (accusation_fault-held c.args.self.now s c.args.acc h) (no_fault c)
+
+pub returns-clause-step : goal.returns-clause-step
+returns-clause-step c = λ s h.
+    let after = Holds-accused c.args.self.now s c.args.acc h (no_fault c) in
+    rw c.set.ensures (subst (λ (l : Life). Holds (record l { kept = with_kept (c.args.acc, l.moment) l.kept }) (after_accusation s c.args.acc)) (sym c.self.view_is) after)

@@ -1,51 +1,62 @@
-use Rattle.std.proofs.Common.{◌≡◌, ◌∙◌, ap, sym, subst, refl, None, Some, cond, [], ◌<◌, length, List, ℕ, Option, map, filter}
-use Rattle.std.specs.Option.{option_to_list}
-use Rattle.ff_ids.specs.declared.AccBody.{AccBody}
+use Rattle.std.proofs.Common.{◌≡◌, ◌∙◌, ◌<◌, ap, sym, subst, length, arith, None, ℕ, List, [], cond, ◌∷◌, slice_index_or}
 use Rattle.ff_ids.specs.Masks.{ring_count}
-use Rattle.ff_ids.specs.Steps.{after_note}
-use Rattle.removal_timer.specs.Kept.{IsInOrder}
-use Rattle.membership.specs.Life.{Life, falls_in}
+use Rattle.ff_ids.specs.Steps.{Report, after_note}
+use Rattle.removal_timer.proofs.KeptLemmas.{length-in_order}
+use Rattle.membership.specs.Life.{Life}
+use Rattle.membership.specs.Ends.{Entry, Ends, is_named}
 use Rattle.membership.specs.Holds.{Holds}
-use Rattle.membership.specs.Kept.{expired_at, note_at, comes_in}
-use Rattle.membership.specs.Reports.{Report, Reports, nothing}
-use Rattle.membership.proofs.HoldLemmas.{none_from_answers}
+use Rattle.membership.proofs.HoldLemmas.{note_fault-held, answers-fault, answers-none}
 use Rattle.membership.proofs.SoundLemmas.{no_fault}
-use Rattle.membership.proofs.NoteLemmas.{Accepts, noted}
-use Rattle.membership.proofs.SettleLemmas.{settled_life}
-use Rattle.membership.proofs.NoteStepLemmas.{Holds-noted, Reports-noted, entered_by, entry_report}
+use Rattle.membership.proofs.NoteLemmas.{Accepts, Noted, Noted-by, named_on}
+use Rattle.membership.proofs.EndLemmas.{Ended, Ended-from}
 use Rattle.membership.proofs.Membership.put_note.Goals as goal
 
-accepts : (c : goal.After-settle) → Accepts c.args.self.now c.args.note
-accepts c =
-    let answers = rw (c.deref.ensures.value, c.deref-2.ensures.value) at c.in_ok-check_note.ensures.value in
-    let fine = no_fault c.self.inside.group.t _ _ c.args.note (none_from_answers _ c.in_ok-check_note.field-0 answers) in
-    let inside : Accepts (record { group = c.self.inside.group; moment = c.self.inside.moment; places = c.self.inside.places.items; notes = c.self.inside.notes.items; expired = c.self.inside.expired.items; kept = c.self.inside.timers.entries }) c.args.note = record { long = c.self.invariant.sound.all_notes; below = c.accept-entered.ensures.range; positive = c.accept-entered.ensures.positive; newer = fine.newer } in
-    subst (λ (l : Life). Accepts l c.args.note) c.self.view_is inside
+pub returns-in-Some-clause-fault : goal.returns-in-Some-clause-fault
+returns-in-Some-clause-fault c = λ s h.
+    answers-fault _ _ c.in-Some.fault (note_fault-held c.args.self.now s c.args.note h) (sym c.fault_of_note.ensures ∙ c.in-Some.is)
 
-ordered : (c : goal.After-settle) → IsInOrder (ring_count c.args.self.now.group.t) c.args.self.now.kept
-ordered c = subst (λ (l : Life). IsInOrder (ring_count l.group.t) l.kept) c.accept-entered.ensures.kept c.settle.ensures.ordered
+pub end_named-requires : goal.end_named-requires
+end_named-requires c =
+    let l = c.args.self.now in
+    let all = length-in_order (ring_count l.group.t) l.kept c.accept-enters.ensures.few c.accept-enters.ensures.in_order in
+    let kept = ap (λ (k : Life). length k.kept) c.accept-enters.ensures.kept in
+    let told = ap (λ (r : Report). length r.fell) c.report_entered.ensures ∙ ap (λ (r : Report). length r.fell) c.clear.ensures in
+    omega (arith, all, kept, told)
+
+pub returns-clause-fault : goal.returns-clause-fault
+returns-clause-fault c = λ s h.
+    answers-none _ _ (note_fault-held c.args.self.now s c.args.note h) (sym c.fault_of_note.ensures ∙ c.in_default.is)
+
+ended : (c : goal.After-end_named) → Ended (is_named c.ended_by-ended.result) c.args.self.now.kept c.end_named.new.self.kept c.end_named.new.out.fell
+ended c =
+    let l = c.args.self.now in
+    let rings = ring_count l.group.t in
+    let same = ap (λ (k : Life). ring_count k.group.t) c.accept-enters.ensures.kept in
+    let kept = ap (λ (k : Life). k.kept) c.accept-enters.ensures.kept in
+    let empty = ap (λ (r : Report). r.fell) c.report_entered.ensures ∙ ap (λ (r : Report). r.fell) c.clear.ensures in
+    let ends = subst (λ r. Ends r (is_named c.ended_by-ended.result) c.accept-enters.new.self.kept c.report_entered.new.self.fell c.end_named.new.self.kept c.end_named.new.out.fell) same c.end_named.ensures.ends in
+    let start = subst (λ (es : List Entry). Ends rings (is_named c.ended_by-ended.result) es c.report_entered.new.self.fell c.end_named.new.self.kept c.end_named.new.out.fell) kept ends in
+    Ended-from rings (is_named c.ended_by-ended.result) l.kept c.end_named.new.self.kept c.report_entered.new.self.fell c.end_named.new.out.fell c.accept-enters.ensures.in_order empty start
+
+noted : (c : goal.After-end_named) (s : _) → Holds c.args.self.now s → Noted c.args.self.now s c.args.note c.accept-enters.result c.end_named.new.self.kept c.end_named.new.out.fell
+noted c s h =
+    let l = c.args.self.now in
+    let n = c.args.note in
+    let fine = no_fault l n (sym c.fault_of_note.ensures ∙ c.in_default.is) in
+    let a : Accepts l n = record { below = c.accept-enters.ensures.range; positive = c.accept-enters.ensures.positive; newer = fine.newer } in
+    let each = subst (λ (k : Life). (ring : ℕ) → ring < ring_count k.group.t → slice_index_or c.ended_by-ended.result ring None ≡ named_on c.accept-enters.result k n ring) c.accept-enters.ensures.kept c.ended_by-ended.ensures in
+    Noted-by l s n c.ended_by-ended.result c.accept-enters.result c.end_named.new.self.kept c.end_named.new.out.fell h a fine.joined c.accept-enters.ensures.in_order c.accept-enters.ensures.value each (ended c)
 
 pub returns-clause-step : goal.returns-clause-step
 returns-clause-step c = λ s h.
-    let l = c.args.self.now in
-    let n = c.args.note in
-    let enters = comes_in (expired_at l.expired n.member) (note_at l.notes n.member) n in
-    let held = Holds-noted (ring_count l.group.t) l s n h (accepts c) (ordered c) enters refl in
-    let is = c.settle.ensures.kept ∙ ap (λ (k : Life). settled_life k c.accept-entered.result) c.accept-entered.ensures.kept ∙ ap (λ (o : Option ℕ). settled_life (noted l n) o) c.accept-entered.ensures.value in
-    subst (λ (k : Life). Holds k (after_note s n).state) (sym is) held
+    let life = c.end_named.ensures.rest ∙ ap (λ (l : Life). record l { kept = c.end_named.new.self.kept }) c.accept-enters.ensures.kept in
+    subst (λ (l : Life). Holds l (after_note s c.args.note).state) (sym life) (noted c s h).holds
 
 pub returns-clause-changes : goal.returns-clause-changes
 returns-clause-changes c = λ s h.
-    let l = c.args.self.now in
-    let n = c.args.note in
-    let enters = comes_in (expired_at l.expired n.member) (note_at l.notes n.member) n in
-    let entered = entered_by enters n.member in
-    let fell = map (λ p. p.0) (filter (falls_in (noted l n) entered) l.kept) in
-    let reports = Reports-noted (ring_count l.group.t) l s n h (accepts c) (ordered c) enters refl in
-    c.settle.ensures.fell
-    ∙ ap (λ (k : Life). record c.report_entered.new.self { fell = map (λ p. p.0) (filter (falls_in k c.accept-entered.result) k.kept) }) c.accept-entered.ensures.kept
-    ∙ ap (λ (o : Option ℕ). record c.report_entered.new.self { fell = map (λ p. p.0) (filter (falls_in (noted l n) o) l.kept) }) c.accept-entered.ensures.value
+    let fell = c.end_named.new.out.fell in
+    let enters = c.accept-enters.result in
+    c.end_named.ensures.report
     ∙ ap (λ (r : Report). record r { fell = fell }) c.report_entered.ensures
-    ∙ ap (λ (o : Option ℕ). record c.clear.new.self { entered = option_to_list o; fell = fell }) c.accept-entered.ensures.value
-    ∙ ap (λ (r : Report). record r { entered = option_to_list entered; fell = fell }) c.clear.ensures
-    ∙ reports
+    ∙ ap (λ (r : Report). record r { entered = cond enters (c.args.note.member ∷ []) []; fell = fell }) c.clear.ensures
+    ∙ (noted c s h).report

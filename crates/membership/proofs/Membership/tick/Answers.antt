@@ -1,39 +1,64 @@
-use Rattle.std.proofs.Common.{◌≡◌, ◌∙◌, ap, sym, subst, refl, None, [], List, ℕ, map, filter, length, ◌+◌}
+use Rattle.std.proofs.Common.{◌≡◌, ◌∙◌, ◌+◌, ap, refl, sym, subst, List, map, filter, not}
 use Rattle.ff_ids.specs.declared.AccBody.{AccBody}
 use Rattle.ff_ids.specs.Masks.{ring_count}
-use Rattle.ff_ids.specs.Steps.{after_tick}
+use Rattle.ff_ids.specs.Views.{State}
+use Rattle.ff_ids.specs.Steps.{Report, after_tick, is_due}
 use Rattle.removal_timer.specs.Kept.{IsInOrder}
-use Rattle.membership.specs.Life.{Life, falls_in}
+use Rattle.removal_timer.proofs.KeptLemmas.{IsInOrder-filter}
 use Rattle.membership.specs.Kept.{raised, leavers}
+use Rattle.membership.specs.Life.{Life}
+use Rattle.membership.specs.Ends.{Entry, is_of_any}
 use Rattle.membership.specs.Holds.{Holds}
-use Rattle.membership.specs.Reports.{Report, Reports}
-use Rattle.membership.proofs.SettleLemmas.{settled_life}
-use Rattle.membership.proofs.TickLemmas.{ticked, due_of, Holds-ticked, Reports-ticked}
+use Rattle.membership.proofs.TickLemmas.{ticked, due_of, Ticked, Ticked-by}
 use Rattle.membership.proofs.Membership.tick.Goals as goal
 
--- the life once all that is due has expired
-ticked_is : (c : goal.After-settle) → c.expire_all.new.self ≡ ticked c.args.self.now
-ticked_is c =
+pub end_of_expired-requires-clause-in_order : goal.end_of_expired-requires-clause-in_order
+end_of_expired-requires-clause-in_order c =
     let l = c.args.self.now in
-    let due = ap (λ (r : Report). r.expired) c.advance.ensures.expired in
-    c.expire_all.ensures.kept
-    ∙ ap (λ (xs : List AccBody). record c.advance.new.self { expired = raised c.advance.new.self.expired xs }) due
-    ∙ ap (λ (k : Life). record k { expired = raised k.expired (due_of l) }) c.advance.ensures.kept
+    subst (λ (k : Life). IsInOrder (ring_count k.group.t) k.kept) (sym c.advance.ensures.kept) (IsInOrder-filter (ring_count l.group.t) (λ p. not (is_due l.group.timeout (l.moment + 1) p)) l.kept c.advance.ensures.in_order)
+
+-- what is left, and what fell
+abbrev left : Life → List Entry
+left l = filter (λ p. not (is_of_any l (due_of l) p)) (ticked l).kept
+
+abbrev fallen : Life → List AccBody
+fallen l = map (λ p. p.0) (filter (is_of_any l (due_of l)) (ticked l).kept)
+
+by_tick : (l : Life) (s : State) (c : goal.After-expire_all) → l ≡ c.args.self.now → Holds c.args.self.now s → Ticked c.args.self.now s (left c.args.self.now) (fallen c.args.self.now)
+by_tick l s c e h = Ticked-by c.args.self.now s (left c.args.self.now) (fallen c.args.self.now) h c.advance.ensures.noted c.advance.ensures.in_order (record { left = refl; told = refl })
+
+due : (c : goal.After-expire_all) → c.advance.new.out.expired ≡ due_of c.args.self.now
+due c = ap (λ (r : Report). r.expired) c.advance.ensures.expired
+
+told : (c : goal.After-expire_all) → c.end_of_expired.new.out.expired ≡ due_of c.args.self.now
+told c = ap (λ (r : Report). r.expired) c.end_of_expired.ensures.fell ∙ due c
+
+-- the life once what ends has ended
+life : (c : goal.After-expire_all) → c.end_of_expired.new.self ≡ record c.args.self.now { moment = c.args.self.now.moment + 1; kept = left c.args.self.now }
+life c =
+    let l = c.args.self.now in
+    c.end_of_expired.ensures.kept
+    ∙ ap (λ (k : Life). record k { kept = filter (λ p. not (is_of_any k c.advance.new.out.expired p)) k.kept }) c.advance.ensures.kept
+    ∙ ap (λ (xs : List AccBody). record l { moment = l.moment + 1; kept = filter (λ p. not (is_of_any l xs p)) (ticked l).kept }) (due c)
 
 pub returns-clause-step : goal.returns-clause-step
 returns-clause-step c = λ s h.
-    let held = Holds-ticked (ring_count c.args.self.now.group.t) c.args.self.now s h c.advance.ensures.ordered c.advance.ensures.long in
-    subst (λ (l : Life). Holds l (after_tick c.args.self.now.group.timeout s).state) (sym (c.settle.ensures.kept ∙ ap (λ (l : Life). settled_life l None) (ticked_is c))) held
+    let l = c.args.self.now in
+    let whole = c.expire_all.ensures.kept
+    ∙ ap (λ (xs : List AccBody). record c.end_of_expired.new.self { expired = raised c.end_of_expired.new.self.expired xs }) (told c)
+    ∙ ap (λ (k : Life). record k { expired = raised k.expired (due_of l) }) (life c) in
+    subst (λ (k : Life). Holds k (after_tick l.group.timeout s).state) (sym whole) (by_tick l s c refl h).holds
 
 pub returns-clause-changes : goal.returns-clause-changes
 returns-clause-changes c = λ s h.
-    let reports = Reports-ticked (ring_count c.args.self.now.group.t) c.args.self.now s h c.advance.ensures.ordered c.advance.ensures.long in
     let l = c.args.self.now in
-    let fell = map (λ p. p.0) (filter (falls_in (ticked l) None) (ticked l).kept) in
-    c.settle.ensures.fell
-    ∙ ap (λ (k : Life). record c.expire_all.new.out { fell = map (λ p. p.0) (filter (falls_in k None) k.kept) }) (ticked_is c)
-    ∙ ap (λ (r : Report). record r { fell = fell }) c.expire_all.ensures.removed
-    ∙ ap (λ (k : Life). record c.advance.new.out { removed = leavers k.notes k.expired c.advance.new.out.expired; fell = fell }) c.advance.ensures.kept
-    ∙ ap (λ (r : Report). record r { removed = leavers l.notes l.expired r.expired; fell = fell }) c.advance.ensures.expired
-    ∙ ap (λ (r : Report). record r { expired = due_of l; removed = leavers l.notes l.expired (due_of l); fell = fell }) c.clear.ensures
-    ∙ reports
+    let gone = leavers l.notes l.expired (due_of l) in
+    c.expire_all.ensures.removed
+    ∙ ap (λ (k : Life). record c.end_of_expired.new.out { removed = leavers k.notes k.expired c.end_of_expired.new.out.expired }) (life c)
+    ∙ ap (λ (xs : List AccBody). record c.end_of_expired.new.out { removed = leavers l.notes l.expired xs }) (told c)
+    ∙ ap (λ (r : Report). record r { removed = gone }) c.end_of_expired.ensures.fell
+    ∙ ap (λ (k : Life). record c.advance.new.out { removed = gone; fell = map (λ p. p.0) (filter (is_of_any k c.advance.new.out.expired) k.kept) }) c.advance.ensures.kept
+    ∙ ap (λ (xs : List AccBody). record c.advance.new.out { removed = gone; fell = map (λ p. p.0) (filter (is_of_any l xs) (ticked l).kept) }) (due c)
+    ∙ ap (λ (r : Report). record r { removed = gone; fell = fallen l }) c.advance.ensures.expired
+    ∙ ap (λ (r : Report). record r { expired = due_of l; removed = gone; fell = fallen l }) c.clear.ensures
+    ∙ (by_tick l s c refl h).report

@@ -1,19 +1,34 @@
-use Rattle.std.proofs.Common.{List, ℕ, length, arith, is_ok, vec_capacity, ap, sym, ◌∙◌}
-use Rattle.monitor_rule.specs.Joined.{Joined, is_joined, with_member}
-use Rattle.monitor_rule.proofs.JoinLemmas.{place, JoinedAfter, JoinedAfter-insert}
+use Rattle.std.proofs.Common.{◌≡◌, ◌++◌, ◌<◌, Some, List, length, map, take, drop, set, ap, ◌∙◌, sym, subst, arith}
+use Rattle.std.specs.List.{All}
+use Rattle.monitor_rule.specs.Sorted.{RingOrder, IsRow}
+use Rattle.monitor_rule.proofs.SlotLemmas.{Slots}
+use Rattle.monitor_rule.specs.Joined.{Joined, with_member}
+use Rattle.monitor_rule.specs.Sorted.{places_at}
+use Rattle.monitor_rule.proofs.KeptLemmas.{Rekept, written, free_slot, All-rings_below, Rekept-joined}
 use Rattle.monitor_rule.proofs.Rings.join.Goals as goal
 
-joined : (c : goal.After-insert) → JoinedAfter c.self.inside.rings (vec_capacity c.insert.new.self) (c.args.places.now, c.args.member) c.self.inside.joined.items c.insert.new.self.items
-joined c =
-    let absent = ap (λ (j : Joined). is_joined j.members c.args.member) c.self.view_is ∙ c.requires.absent in
-    let placed = c.requires.placed ∙ sym (ap (λ (j : Joined). j.rings) c.self.view_is) in
-    let at = c.place_among-index.ensures.value ∙ ap (λ (pairs : List (List (List ℕ) × ℕ)). place c.args.member pairs) c.deref.ensures.value in
-    let same = ap (λ (pairs : List (List (List ℕ) × ℕ)). length pairs) c.deref.ensures.value in
-    JoinedAfter-insert c.self.inside.rings (vec_capacity c.self.inside.joined) (vec_capacity c.insert.new.self) c.place_among-index.result (c.args.places.now, c.args.member) c.self.inside.joined.items c.insert.new.self.items (is_ok c.insert.result) c.self.invariant absent c.place_among-index.ensures.numbered placed at c.insert.ensures.capacity (λ h. c.insert.ensures.succeeds (omega (arith, same, c.deref.ensures.len))) c.insert.ensures.items
+pub join_each-requires-clause-free : goal.join_each-requires-clause-free
+join_each-requires-clause-free c =
+    ap (λ (slots : Slots). places_at slots c.args.member) c.deref.ensures.value ∙ free_slot c.self.inside.slots.items (length c.self.inside.rows.items) c.args.member c.args.self.now c.self.view_is c.requires.absent
+
+pub join_each-requires-clause-placed : goal.join_each-requires-clause-placed
+join_each-requires-clause-placed c =
+    let P : List RingOrder → Type 0 = λ rows. All (λ r. r.ring < length c.args.places.now) rows in
+    subst P (sym c.deref_mut.ensures.value) (All-rings_below c.self.inside.rows.items (length c.args.places.now) c.self.invariant.numbered (ap (λ (j : Joined). j.rings) c.self.view_is ∙ sym c.requires.placed))
+
+abbrev after : goal.After-self-2-1 → Type 0
+after c =
+    Rekept (set c.self.inside.slots.items c.get-index.result (Some c.args.places.now)) (take c.self.inside.rows.len (c.join_each.new.rows ++ drop (length c.join_each.new.rows) c.self.inside.rows.items)) (record c.args.self.now { members = with_member (record { number = c.args.member; places = c.args.places.now }) c.args.self.now.members })
+
+is_after : (c : goal.After-self-2-1) → after c
+is_after c =
+    let rings : map (λ (r : RingOrder). r.ring) c.join_each.new.rows ≡ map (λ (r : RingOrder). r.ring) c.self.inside.rows.items = c.join_each.ensures.rings ∙ ap (map (λ (r : RingOrder). r.ring)) c.deref_mut.ensures.value in
+    let in_order : All (IsRow (set c.self.inside.slots.items c.args.member (Some c.args.places.now))) c.join_each.new.rows = subst (λ (slots : Slots). All (IsRow (set slots c.args.member (Some c.args.places.now))) c.join_each.new.rows) c.deref.ensures.value c.join_each.ensures.in_order in
+    let put_rows = written c.self.inside.rows.len c.self.inside.rows.items c.join_each.new.rows (c.join_each.auto.rows ∙ ap length c.deref_mut.ensures.value) c.self.inside.rows.ok.0 in
+    rw (c.get-index.ensures.value, put_rows) (Rekept-joined c.self.inside.slots.items c.self.inside.rows.items c.join_each.new.rows c.args.self.now c.args.member c.args.places.now (record { kept = c.self.invariant; view = c.self.view_is }) c.requires.absent (omega (arith, c.get-index.ensures.range, c.get-index.ensures.value)) c.requires.placed in_order rings)
 
 pub invariant_of-self : goal.invariant_of-self
-invariant_of-self c = (joined c).kept
+invariant_of-self c = (is_after c).kept
 
 pub returns : goal.returns
-returns c =
-    ap (λ members. record { rings = c.self.inside.rings; members = members }) (joined c).members ∙ ap (λ (j : Joined). record j { members = with_member (record { number = c.args.member; places = c.args.places.now }) j.members }) c.self.view_is
+returns c = (is_after c).view

@@ -1,30 +1,30 @@
-use Rattle.std.proofs.Common.{List, ℕ, length, arith, ap, ◌∙◌}
-use Rattle.monitor_rule.specs.Joined.{Joined, is_joined, without_member, members_of}
-use Rattle.monitor_rule.proofs.JoinLemmas.{place, LeftAfter, LeftAfter-remove}
+use Rattle.std.proofs.Common.{◌≡◌, ◌++◌, None, length, map, take, drop, set, ap, ◌∙◌, subst, arith}
+use Rattle.std.specs.List.{All}
+use Rattle.monitor_rule.specs.Sorted.{RingOrder, IsRow}
+use Rattle.monitor_rule.proofs.SlotLemmas.{Slots}
+use Rattle.std.specs.Prelude.{is_some}
+use Rattle.monitor_rule.specs.Joined.{without_member}
+use Rattle.monitor_rule.specs.Sorted.{places_at}
+use Rattle.monitor_rule.proofs.KeptLemmas.{Rekept, written, filled_slot, Rekept-left}
 use Rattle.monitor_rule.proofs.Rings.leave.Goals as goal
 
-pub remove-requires : goal.remove-requires
-remove-requires c =
-    let present = ap (λ (j : Joined). is_joined j.members c.args.member) c.self.view_is ∙ c.requires in
-    let at = c.place_among-index.ensures.value ∙ ap (λ (pairs : List (List (List ℕ) × ℕ)). place c.args.member pairs) c.deref.ensures.value in
-    let same = ap (λ (pairs : List (List (List ℕ) × ℕ)). length pairs) c.deref.ensures.value in
-    let left : LeftAfter c.self.inside.rings c.args.member c.place_among-index.result c.self.inside.joined.items = LeftAfter-remove _ _ _ _ c.self.invariant.in_order present at in
-    omega (arith, left.within, same, c.deref.ensures.len)
+pub leave_each-requires-clause-filled : goal.leave_each-requires-clause-filled
+leave_each-requires-clause-filled c =
+    ap (λ (slots : Slots). is_some (places_at slots c.args.member)) c.deref.ensures.value ∙ filled_slot c.self.inside.slots.items (length c.self.inside.rows.items) c.args.member c.args.self.now c.self.view_is c.requires
 
-left : (c : goal.After-remove) → LeftAfter c.self.inside.rings c.args.member c.place_among-index.result c.self.inside.joined.items
-left c =
-    let present = ap (λ (j : Joined). is_joined j.members c.args.member) c.self.view_is ∙ c.requires in
-    let at = c.place_among-index.ensures.value ∙ ap (λ (pairs : List (List (List ℕ) × ℕ)). place c.args.member pairs) c.deref.ensures.value in
-    LeftAfter-remove _ _ _ _ c.self.invariant.in_order present at
+abbrev after : goal.After-self-2-1 → Type 0
+after c =
+    Rekept (set c.self.inside.slots.items c.get-index.result None) (take c.self.inside.rows.len (c.leave_each.new.rows ++ drop (length c.leave_each.new.rows) c.self.inside.rows.items)) (record c.args.self.now { members = without_member c.args.member c.args.self.now.members })
+
+is_after : (c : goal.After-self-2-1) → after c
+is_after c =
+    let rings : map (λ (r : RingOrder). r.ring) c.leave_each.new.rows ≡ map (λ (r : RingOrder). r.ring) c.self.inside.rows.items = c.leave_each.ensures.rings ∙ ap (map (λ (r : RingOrder). r.ring)) c.deref_mut.ensures.value in
+    let in_order : All (IsRow (set c.self.inside.slots.items c.args.member None)) c.leave_each.new.rows = subst (λ (slots : Slots). All (IsRow (set slots c.args.member None)) c.leave_each.new.rows) c.deref.ensures.value c.leave_each.ensures.in_order in
+    let put_rows = written c.self.inside.rows.len c.self.inside.rows.items c.leave_each.new.rows (c.leave_each.auto.rows ∙ ap length c.deref_mut.ensures.value) c.self.inside.rows.ok.0 in
+    rw (c.get-index.ensures.value, put_rows) (Rekept-left c.self.inside.slots.items c.self.inside.rows.items c.leave_each.new.rows c.args.self.now c.args.member (record { kept = c.self.invariant; view = c.self.view_is }) c.requires (omega (arith, c.get-index.ensures.range, c.get-index.ensures.value)) in_order rings)
 
 pub invariant_of-self : goal.invariant_of-self
-invariant_of-self c =
-    record {
-      few = c.self.invariant.few;
-      room = omega (arith, c.self.invariant.room, c.remove.ensures.capacity);
-      in_order = rw c.remove.ensures.items (left c).in_order;
-    }
+invariant_of-self c = (is_after c).kept
 
 pub returns : goal.returns
-returns c =
-    ap (λ (pairs : List (List (List ℕ) × ℕ)). record { rings = c.self.inside.rings; members = members_of pairs }) c.remove.ensures.items ∙ ap (λ members. record { rings = c.self.inside.rings; members = members }) (left c).members ∙ ap (λ (j : Joined). record j { members = without_member c.args.member j.members }) c.self.view_is
+returns c = (is_after c).view

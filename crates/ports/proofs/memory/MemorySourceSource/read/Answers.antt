@@ -1,4 +1,4 @@
-use Rattle.std.proofs.Common.{◌≡◌, ℕ, ◌≤◌, List, length, Some, ◌+◌, ◌-◌, ◌++◌, take, drop, ap, sym, refl, ◌∙◌, arith, length-drop, length-take}
+use Rattle.std.proofs.Common.{◌≡◌, ℕ, ◌≤◌, List, length, ◌+◌, ◌-◌, ◌++◌, take, drop, ap, sym, refl, ◌∙◌, arith, length-drop, length-take}
 use Rattle.std.proofs.lemmas.List.{take_at, take-append-drop, drop-drop}
 use Rattle.ports.specs.Memory.{SourceState}
 use Rattle.ports.proofs.memory.MemorySourceSource.read.Goals as goal
@@ -17,4 +17,4 @@ pub returns-clause-reads : goal.returns-clause-reads
 returns-clause-reads c =
     let left = ap (λ (source : SourceState). source.unread) c.self.view_is in
     let all = moved c.self.inside.bytes.items _ _ _ _ c.min-count.result (omega arith) c.deref.ensures.value c.copy_from_slice.ensures.after in
-    ap Some (sym left ∙ all)
+    sym left ∙ all

@@ -1,0 +1,24 @@
+-- How a run may stop, and the line that says so.
+use Rattle.std.specs.Prelude.{ℕ, List, [], ◌∷◌, ◌++◌, codes, Result, Ok, Err}
+use Rattle.std.specs.Fmt.{decimal}
+use Rattle.line_text.specs.Texts.{bad_word_text}
+use Rattle.line_text.specs.declared.bad_word.BadWord.{BadWord}
+use Rattle.play.specs.declared.stop.Stop.{Stop}
+use Rattle.play.specs.declared.stop.Stop.TheVariants as stop
+use Rattle.fireflies.specs.declared.status.Status.{Status}
+use Rattle.fireflies.specs.declared.status.Status.TheVariants as status
+
+-- The line that gives the cause, behind what was written till then. Where a write failed or memory was refused, there
+-- is none.
+abbrev pub cause_line : Status → List ℕ
+cause_line (status.BadInput line word) = codes "bad " ++ decimal line ++ 32 ∷ [] ++ bad_word_text word ++ 10 ∷ []
+cause_line status.ReadFault = codes "read fault" ++ 10 ∷ []
+cause_line _ = []
+
+-- The status of a run over a text that ended so.
+abbrev pub status_of : Result (Unit {0}) (Stop BadWord) → Status
+status_of (Ok _) = status.Ok
+status_of (Err (stop.Refused line word)) = status.BadInput line word
+status_of (Err stop.ReadFault) = status.ReadFault
+status_of (Err stop.WriteFault) = status.WriteFault
+status_of (Err stop.OutOfMemory) = status.OutOfMemory

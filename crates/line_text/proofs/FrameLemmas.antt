@@ -1,0 +1,242 @@
+-- What is taken as a line is one by the grammar, and what is one is taken; a line is refused by the first bad word.
+use Rattle.std.proofs.Common.{◌≡◌, ℕ, suc, ◌-◌, ◌<◌, ◌≤◌, Bool, true, false, not, cond, eqb, List, [], ◌∷◌, ◌++◌, length, take, drop, Option, Some, None, Result, Ok, Err, ◌⊎◌, inl, inr, refl, sym, ap, subst, ◌∙◌, arith, lt-ltb, le-ltb, ltb-true, drop-cons}
+use Rattle.std.specs.Prelude.{IsOkAnd}
+use Rattle.std.specs.Str.{bytes_eq}
+use Rattle.std.specs.List.{join_with_byte, list_all, All, AllByRecursion}
+use Rattle.std.proofs.lemmas.Bool.{leb-true, ne_eqb, eqb-true, and_parts, ltb-false, not-false}
+use Rattle.std.proofs.lemmas.List.{length-append, get_or_at, take_at, take-append-drop, drop_all}
+use Rattle.std.proofs.lemmas.List.Elements.{All-from_recursion}
+use Rattle.std.proofs.lemmas.List.Splits.{slice_split_none, slice_split_at, length-slice_split, join_with_byte-slice_split}
+use Rattle.std.proofs.lemmas.Slice.Eq.{bytes_eq-Decides}
+use Rattle.line_text.specs.declared.bad_word.BadWord.{BadWord}
+use Rattle.line_text.specs.declared.bad_word.BadWord.TheVariants as bad
+use Rattle.line_text.specs.declared.bad_word.LineFault.{LineFault}
+use Rattle.line_text.specs.declared.bad_word.LineFault.TheVariants as faults
+use Rattle.line_text.specs.Answers.{AnswersBy, AnswersThat, Refuses}
+use Rattle.line_text.specs.Fields.{bad_where}
+use Rattle.line_text.specs.Frame.{IsLine, Next, Row, before_line_feed, behind, field_tests, first_bad, first_of, frame_tests, has_line_feed, header_row, is_header, judge, or_else, row_line, row_tests, unless_bad, word_among, words_in}
+use Rattle.line_text.specs.Words.{is_space, is_printable, is_word, is_spaced, parts}
+
+-- ## Tests that did not hold
+
+pub or_none : (a b : Option BadWord) → or_else a b ≡ None → (a ≡ None) × (b ≡ None)
+or_none None b e = (refl, e)
+or_none (Some bad_word) b e = cc
+
+pub passed : (word : BadWord) (b : Bool) → bad_where word b ≡ None → b ≡ false
+passed w true e = cc
+passed w false e = refl
+
+pub unless_ok : {L : Type 0} (o : Option BadWord) (r : Result L BadWord) (l : L) → unless_bad o r ≡ Ok l → (o ≡ None) × (r ≡ Ok l)
+unless_ok None r l e = (refl, e)
+unless_ok (Some bad_word) r l e = cc
+
+-- ## The words of a text
+
+no_space : (w : List ℕ) → list_all is_printable w ≡ true → AllByRecursion (λ x. is_space x ≡ false) w
+no_space [] h = tt
+no_space (x ∷ w) h =
+    let p = and_parts _ _ h in
+    let r = and_parts _ _ p.0 in
+    let low = leb-true 33 x r.0 in
+    (ne_eqb x 32 (λ e. absurd (omega (arith, e))), no_space w p.1)
+
+printable : (w : List ℕ) → is_word w ≡ true → All (λ x. is_space x ≡ false) w
+printable w h = All-from_recursion (λ x. is_space x ≡ false) w (no_space w (and_parts _ _ h).1)
+
+pub parts-joined : (w : List ℕ) (ws : List (List ℕ)) → list_all is_word (w ∷ ws) ≡ true → parts (join_with_byte 32 (w ∷ ws)) ≡ w ∷ ws
+parts-joined w [] h = slice_split_none is_space w (printable w (and_parts _ _ h).0)
+parts-joined w (v ∷ vs) h =
+    let p = and_parts _ _ h in
+    slice_split_at is_space w 32 (join_with_byte 32 (v ∷ vs)) (printable w p.0) refl ∙ ap (λ (rest : List (List ℕ)). w ∷ rest) (parts-joined v vs p.1)
+
+-- ## The line feed
+
+fed : (bytes : List ℕ) → has_line_feed bytes ≡ true → bytes ≡ before_line_feed bytes ++ 10 ∷ []
+fed bytes h =
+    let b = and_parts _ _ h in
+    let full = ltb-true 0 (length bytes) b.0 in
+    let last = length bytes - 1 in
+    let whole : suc last ≡ length bytes = omega arith in
+    let here : last < length bytes = omega arith in
+    let end : drop last bytes ≡ 10 ∷ [] = rw (drop-cons bytes last 0 here) (rw (eqb-true _ _ b.1, drop_all (suc last) bytes (omega arith)) refl) in
+    rw h (sym (take-append-drop last bytes) ∙ ap (λ (rest : List ℕ). take last bytes ++ rest) end)
+
+fed_again : (text : List ℕ) → has_line_feed (text ++ 10 ∷ []) ≡ true
+fed_again text =
+    let many = length-append text (10 ∷ []) in
+    let last = get_or_at text 10 [] 0 (length (text ++ 10 ∷ []) - 1) (omega (arith, many)) in
+    rw (lt-ltb 0 (length (text ++ 10 ∷ [])) (omega (arith, many)), last) refl
+
+unfed_again : (text : List ℕ) → before_line_feed (text ++ 10 ∷ []) ≡ text
+unfed_again text =
+    let many = length-append text (10 ∷ []) in
+    rw (fed_again text) (take_at text (10 ∷ []) (length (text ++ 10 ∷ []) - 1) (omega (arith, many)))
+
+-- ## A line
+
+-- the words of a text, of which there is a first one
+record Worded (ws : List (List ℕ)) : Type 0 where
+  first : List ℕ
+  others : List (List ℕ)
+  same : ws ≡ first ∷ others
+
+worded : (ws : List (List ℕ)) → 0 < length ws → Worded ws
+worded [] full = absurd (omega arith)
+worded (w ∷ ws) full = record { first = w; others = ws; same = refl }
+
+has_parts : (text : List ℕ) → 0 < length (parts text)
+has_parts text = omega (arith, length-slice_split is_space text)
+
+-- What is judged to be a line is one by the grammar, where a form's rows spell its lines.
+pub judge-spelled : {L : Type 0} (next : Next L) (Spells : List (List ℕ) → L → Type 0) → ((first : List ℕ) (others : List (List ℕ)) (l : L) → row_line (next.row (first ∷ others)) others ≡ Ok l → Spells (first ∷ others) l)
+    → (bytes : List ℕ) (l : L) → judge next bytes ≡ Ok l → IsLine next.ended next.number Spells bytes l
+unfolding judge
+judge-spelled {L} next Spells spelled bytes l e =
+    let text = before_line_feed bytes in
+    let u = unless_ok (first_of (frame_tests next.ended next.number bytes)) (row_line (next.row (words_in bytes)) (behind (words_in bytes))) l e in
+    let a = or_none _ _ u.0 in
+    let b = or_none _ _ a.1 in
+    let c = or_none _ _ b.1 in
+    let d = or_none _ _ c.1 in
+    let f = or_none _ _ d.1 in
+    let spaced : is_spaced text ≡ true = not-false _ (passed _ _ f.0) in
+    let short : length text ≤ 65600 = ltb-false 65600 (length text) (passed _ _ b.0) in
+    let feed : has_line_feed bytes ≡ true = not-false _ (passed _ _ c.0) in
+    let w = worded (parts text) (has_parts text) in
+    let joined : join_with_byte 32 (w.first ∷ w.others) ≡ text = ap (join_with_byte 32) (sym w.same) ∙ join_with_byte-slice_split 32 text in
+    let P : List (List ℕ) → Type 0 = λ ws. row_line (next.row ws) (behind ws) ≡ Ok l in
+    let Q : List (List ℕ) → Type 0 = λ ws. list_all is_word ws ≡ true in
+    record {
+      first = w.first;
+      others = w.others;
+      spells = spelled w.first w.others l (subst P w.same u.1);
+      words = subst Q w.same spaced;
+      spaced = fed bytes feed ∙ ap (λ (t : List ℕ). t ++ 10 ∷ []) (sym joined);
+      short = subst (λ (t : List ℕ). length t ≤ 65600) (sym joined) short;
+      few = ltb-false 100000 next.number (passed _ _ d.0);
+      going = passed _ _ a.0;
+    }
+
+-- What is a line by the grammar is judged to be that line, where a form's rows take what is spelled.
+pub judge-taken : {L : Type 0} (next : Next L) (Spells : List (List ℕ) → L → Type 0) → ((first : List ℕ) (others : List (List ℕ)) (l : L) → Spells (first ∷ others) l → row_line (next.row (first ∷ others)) others ≡ Ok l)
+    → (bytes : List ℕ) (l : L) → IsLine next.ended next.number Spells bytes l → judge next bytes ≡ Ok l
+unfolding judge
+judge-taken next Spells taken bytes l h =
+    let text = join_with_byte 32 (h.first ∷ h.others) in
+    let cut = parts-joined h.first h.others h.words in
+    let row = taken h.first h.others l h.spells in
+    rw h.spaced
+    (rw (unfed_again text, fed_again text, h.going, le-ltb 65600 (length text) h.short, le-ltb 100000 next.number h.few)
+    (rw cut (rw h.words row)))
+
+-- ## The first bad word
+
+first_of-append : (a b : List (Option BadWord)) → first_of (a ++ b) ≡ or_else (first_of a) (first_of b)
+first_of-append [] b = refl
+first_of-append (None ∷ a) b = first_of-append a b
+first_of-append (Some w ∷ a) b = refl
+
+-- What is judged, beside the first bad word of its tests.
+abbrev Tests : {L : Type 0} → Option BadWord → Result L BadWord → Type 0
+Tests word (Ok l) = word ≡ None
+Tests word (Err w) = word ≡ Some w
+
+tests_unless : {L : Type 0} (a b : Option BadWord) (r : Result L BadWord) → Tests b r → Tests (or_else a b) (unless_bad a r)
+tests_unless None b r h = h
+tests_unless (Some w) b r h = refl
+
+tests_stand : {L : Type 0} (stands : Bool) (b : Option BadWord) (r : Result L BadWord) → Tests b r → Tests (or_else (bad_where bad.Order (not stands)) b) (cond stands r (Err bad.Order))
+tests_stand true b r h = h
+tests_stand false b r h = refl
+
+or_nothing : (a : Option BadWord) → a ≡ or_else a None
+or_nothing None = refl
+or_nothing (Some w) = refl
+
+row_tested : {L : Type 0} (row : Result (Row L) BadWord) (words : List (List ℕ)) → Tests (first_of (row_tests row words)) (row_line row words)
+row_tested (Err w) words = refl
+row_tested {L} (Ok row) words =
+    let b = first_of (field_tests row.fields words) in
+    let good : Result L BadWord = Ok (row.line words) in
+    let tested : Tests b (unless_bad b good) = subst (λ (w : Option BadWord). Tests w (unless_bad b good)) (sym (or_nothing b)) (tests_unless b None good refl) in
+    tests_stand row.stands b (unless_bad b good) tested
+
+-- A line is refused by its first bad word, and taken where it has none.
+pub judge-first_bad : {L : Type 0} (next : Next L) (bytes : List ℕ) → Tests (first_bad next bytes) (judge next bytes)
+unfolding judge first_bad
+judge-first_bad {L} next bytes =
+    let a = frame_tests next.ended next.number bytes in
+    let row = next.row (words_in bytes) in
+    let words = behind (words_in bytes) in
+    let r : Result L BadWord = row_line row words in
+    subst (λ (w : Option BadWord). Tests w (unless_bad (first_of a) r)) (sym (first_of-append a (row_tests row words)))
+    (tests_unless (first_of a) (first_of (row_tests row words)) r (row_tested row words))
+
+-- ## Answers
+
+ok_same : {L : Type 0} (x y : L) (r : Result L BadWord) → r ≡ Ok y → r ≡ Ok x → x ≡ y
+ok_same x y r e f = cc
+
+judged_ok : {L : Type 0} (Takes : L → Type 0) (r : Result L BadWord) (w : Option BadWord) → IsOkAnd r Takes → Tests w r → w ≡ None
+judged_ok Takes (Ok l) w h t = t
+judged_ok Takes (Err b) w h t = absurd h
+
+answer_refuses : {L : Type 0} (Takes : L → Type 0) (judged : Result L BadWord) (word : Option BadWord) (answer : Result L LineFault) → Tests word judged → AnswersBy Takes judged answer → Refuses word answer
+answer_refuses {L} Takes judged word (Ok l) t h = subst (λ (r : Result L BadWord). Tests word r) h t
+answer_refuses {L} Takes judged word (Err (faults.Bad w)) t h = subst (λ (r : Result L BadWord). Tests word r) h t
+answer_refuses Takes judged word (Err faults.OutOfMemory) t h = judged_ok Takes judged word h t
+
+pub answer-refuses : {L : Type 0} (Takes : L → Type 0) (next : Next L) (bytes : List ℕ) (answer : Result L LineFault) → AnswersBy Takes (judge next bytes) answer → Refuses (first_bad next bytes) answer
+answer-refuses Takes next bytes answer h = answer_refuses Takes (judge next bytes) (first_bad next bytes) answer (judge-first_bad next bytes) h
+
+pub answer-that : {L : Type 0} (Takes : L → Type 0) (judged : Result L BadWord) (l : L) (answer : Result L LineFault) → judged ≡ Ok l → AnswersBy Takes judged answer → AnswersThat Takes l answer
+answer-that Takes judged l (Ok x) e h = ok_same x l judged e h
+answer-that Takes judged l (Err (faults.Bad w)) e h = cc
+answer-that {L} Takes judged l (Err faults.OutOfMemory) e h = subst (λ (r : Result L BadWord). IsOkAnd r Takes) e h
+
+-- What the frame finds is the judgement.
+pub frame-bad : {L : Type 0} (next : Next L) (ended : Bool) (number : ℕ) (bytes : List ℕ) (w : BadWord) → ended ≡ next.ended → number ≡ next.number → first_of (frame_tests ended number bytes) ≡ Some w → judge next bytes ≡ Err w
+unfolding judge
+frame-bad next ended number bytes w e n bad =
+    let same : frame_tests ended number bytes ≡ frame_tests next.ended next.number bytes = ap (λ (b : Bool). frame_tests b number bytes) e ∙ ap (λ (k : ℕ). frame_tests next.ended k bytes) n in
+    rw (sym (ap first_of same) ∙ bad) refl
+
+-- Where the frame finds nothing, what the form finds is the judgement.
+pub frame-good : {L : Type 0} (Takes : L → Type 0) (next : Next L) (ended : Bool) (number : ℕ) (bytes : List ℕ) (words : List (List ℕ)) (answer : Result L LineFault) → ended ≡ next.ended → number ≡ next.number → first_of (frame_tests ended number bytes) ≡ None
+    → words ≡ words_in bytes → AnswersBy Takes (row_line (next.row words) (behind words)) answer → AnswersBy Takes (judge next bytes) answer
+unfolding judge
+frame-good Takes next ended number bytes words answer e n good in_line h =
+    let same : frame_tests ended number bytes ≡ frame_tests next.ended next.number bytes = ap (λ (b : Bool). frame_tests b number bytes) e ∙ ap (λ (k : ℕ). frame_tests next.ended k bytes) n in
+    rw (sym (ap first_of same) ∙ good)
+    (subst (λ (ws : List (List ℕ)). AnswersBy Takes (row_line (next.row ws) (behind ws)) answer) in_line h)
+
+-- ## Line words
+
+chosen : {A : Type 0} (b : Bool) (x y z : A) → cond b x y ≡ z → ((b ≡ true) × (x ≡ z)) ⊎ ((b ≡ false) × (y ≡ z))
+chosen true x y z e = inl (refl, e)
+chosen false x y z e = inr (refl, e)
+
+abbrev there : {A : Type 0} → A → Option A
+there x = Some x
+
+some_is : {A : Type 0} (x y : A) → there x ≡ there y → x ≡ y
+some_is x y e = cc
+
+-- A word that is a line word is its text.
+pub word_among-text : {W : Type 0} (text : W → List ℕ) (ks : List W) (word : List ℕ) (k : W) → word_among text ks word ≡ Some k → word ≡ text k
+word_among-text text [] word k e = cc
+word_among-text text (x ∷ ks) word k e =
+    elim (chosen (bytes_eq word (text x)) (there x) (word_among text ks word) (Some k) e) [
+      | inl h ↦ ((bytes_eq-Decides word (text x)).0 h.0 ∙ ap text (some_is x k h.1))
+      | inr h ↦ word_among-text text ks word k h.1
+    ]
+
+-- ## Headers
+
+-- a header is a line by its row
+pub header-line : {L : Type 0} (form : List ℕ) (words : List (List ℕ)) (line : L) → is_header form words ≡ true → row_line (Ok (header_row line)) (behind words) ≡ Ok line
+header-line form words line h =
+    let p = and_parts _ _ h in
+    let many : eqb (length (behind words)) 2 ≡ true = (and_parts _ _ p.1).0 in
+    rw many refl

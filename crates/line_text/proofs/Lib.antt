@@ -1,0 +1,7 @@
+mod Rows
+pub mod NumberLemmas
+pub mod WordLemmas
+pub mod HexWords
+pub mod FrameLemmas
+pub mod FieldLemmas
+pub mod DigitLemmas

@@ -1,0 +1,204 @@
+//! The words of a line.
+
+ghost use Rattle.std.specs.Prelude.{◌≡◌, ◌≤◌, ◌==◌, [], ◌∷◌, length, not, position, ⊤, MatchOption, IfNone, IfOk};
+ghost use Rattle.std.specs.List.{list_all};
+ghost use Rattle.line_text.specs.Answers.{AnswersBy, read_bytes, read_name, refusal};
+ghost use Rattle.line_text.specs.Fields.{bad_where, hex, hex_of, number, number_32, number_in};
+ghost use Rattle.line_text.specs.Frame.{behind, first_word, is_header};
+ghost use Rattle.line_text.specs.Words.{is_space, is_printable, is_word, is_spaced, parts, parts_left, words_of};
+
+use crate::bad_word::{BadWord, LineFault};
+use crate::digits::{bytes_up_to, exact_bytes};
+use crate::names::name_of;
+use crate::numbers::number_within;
+use fields::{Bytes, Name};
+use std::alloc::Global;
+use std::marker::Model;
+
+fn is_printable(bytes: &[u8]) -> bool
+    ensures { result ≡ list_all is_printable bytes.now }
+{
+    bytes.iter().all(|byte| 33 <= *byte && *byte <= 126)
+}
+
+fn is_word(bytes: &[u8]) -> bool
+    ensures { result ≡ is_word bytes.now }
+{
+    !bytes.is_empty() && is_printable(bytes)
+}
+
+fn is_spaced(text: &[u8]) -> bool
+    ensures { result ≡ is_spaced text.now }
+{
+    text.split(|byte| *byte == b' ').all(|part| is_word(part))
+}
+
+fn first_space(text: &[u8]) -> Option<usize>
+    ensures { result ≡ position is_space text.now }
+{
+    text.iter().position(|byte| *byte == b' ')
+}
+
+/// The part before the first space, and what stands behind that space.
+#[tactic(auto, using(crate::proofs::WordLemmas::parts_alone, crate::proofs::WordLemmas::parts_at))]
+fn first_part(text: &[u8]) -> (&[u8], Option<&[u8]>)
+    ensures { parts text.now ≡ result.0.now ∷ parts_left result.1 }
+{
+    match first_space(text) {
+        None => (text, None),
+        Some(at) => (&text[..at], Some(&text[at + 1..])),
+    }
+}
+
+/// The words of a line that are still to be read. Contracts see the list of them.
+#[derive(Drop)]
+pub struct Words<'a> {
+    left: Option<&'a [u8]>,
+}
+
+impl<'a> Model for Words<'a> {
+    ghost use Rattle.std.specs.Prelude.{ℕ, List};
+    ghost use Rattle.line_text.specs.Words.{parts_left};
+
+    ghost Value = { List (List ℕ) };
+
+    ghost view = { λ w. parts_left w.left };
+}
+
+impl<'a> Words<'a> {
+    /// The words of the text, if it is words with one space between two and none elsewhere.
+    pub fn of(text: &'a [u8]) -> Option<Words<'a>>
+        ensures { result ≡ words_of text.now }
+    {
+        if is_spaced(text) {
+            Some(Words { left: Some(text) })
+        } else {
+            None
+        }
+    }
+
+    /// Whether no word is left.
+    #[tactic(auto, using(crate::proofs::WordLemmas::some_parts))]
+    pub fn is_empty(&self) -> bool
+        ensures { result ≡ (length self.now == 0) }
+    {
+        match self.left {
+            None => true,
+            Some(_) => false,
+        }
+    }
+
+    /// Whether the words are `fireflies 1 FORM`, which head a text of this form.
+    pub fn is_header(self, form: &[u8]) -> bool
+        ensures { result ≡ is_header form.now self.entry }
+    {
+        let (first, mut args) = self.split();
+        first == b"fireflies".as_slice()
+            && args.count() == 2
+            && args.take() == b"1".as_slice()
+            && args.take() == form
+    }
+
+    /// The same words.
+    pub fn again(&self) -> Words<'a>
+        ensures { result ≡ self.now }
+    {
+        Words { left: self.left }
+    }
+
+    /// How many words are left.
+    pub fn count(&self) -> usize
+        ensures { result ≡ length self.now }
+    {
+        match self.left {
+            None => 0,
+            Some(text) => text.iter().filter(|byte| **byte == b' ').count() + 1,
+        }
+    }
+
+    /// Takes the next word.
+    pub fn next(&mut self) -> Option<&'a [u8]>
+        ensures word { MatchOption result (self.old ≡ []) (λ w. self.old ≡ w.now ∷ self.new) }
+        ensures end { IfNone result (self.new ≡ []) }
+    {
+        let (word, left) = first_part(self.left?);
+        self.left = left;
+        Some(word)
+    }
+
+    /// The first word, and the words behind it. A line has a first word.
+    pub fn split(mut self) -> (&'a [u8], Words<'a>)
+        ensures first { result.0.now ≡ first_word self.entry }
+        ensures behind { result.1 ≡ behind self.entry }
+    {
+        let first = self.take();
+        (first, self)
+    }
+
+    /// The same words, if they are so many.
+    pub fn exactly(self, many: usize) -> Result<Words<'a>, BadWord>
+        ensures refused { bad_where BadWord.Count (not (length self.entry == many)) ≡ refusal result }
+        ensures same { IfOk result (λ words. words ≡ self.entry) }
+    {
+        if self.count() == many {
+            Ok(self)
+        } else {
+            Err(BadWord::Count)
+        }
+    }
+
+    /// Takes a number that the next word spells, from `low` to `high`.
+    pub fn number(&mut self, low: u64, high: u64) -> Result<u64, BadWord>
+        ensures refused { number low high (first_word self.old) ≡ refusal result }
+        ensures value { IfOk result (λ n. n ≡ number_in (first_word self.old)) }
+        ensures low { IfOk result (λ n. low ≤ n) }
+        ensures high { IfOk result (λ n. n ≤ high) }
+        ensures moved { self.new ≡ behind self.old }
+    {
+        number_within(self.take(), low, high)
+    }
+
+    /// Takes a number that 32 bits hold.
+    pub fn number_32(&mut self) -> Result<u32, BadWord>
+        ensures refused { number_32 (first_word self.old) ≡ refusal result }
+        ensures value { IfOk result (λ n. n ≡ number_in (first_word self.old)) }
+        ensures moved { self.new ≡ behind self.old }
+    {
+        let number = self.number(0, u64::from(u32::MAX))?;
+        Ok(number as u32)
+    }
+
+    /// Takes exactly `N` bytes that the next word spells in hexadecimal digits, of either case.
+    pub fn bytes<const N: usize>(&mut self) -> Result<[u8; N], BadWord>
+        ensures refused { hex N (first_word self.old) ≡ refusal result }
+        ensures value { IfOk result (λ bytes. hex_of (first_word self.old) ≡ Some bytes) }
+        ensures moved { self.new ≡ behind self.old }
+    {
+        exact_bytes(self.take())
+    }
+
+    /// Takes the bytes that the next word spells in hexadecimal digits, of either case, or `-` for none: no more
+    /// than `most`. The word is judged before memory is asked for.
+    pub fn bytes_up_to(&mut self, alloc: Global, most: usize) -> Result<Bytes, LineFault>
+        ensures answer { AnswersBy (λ _. ⊤) (read_bytes most (first_word self.old)) result }
+        ensures moved { self.new ≡ behind self.old }
+    {
+        bytes_up_to(alloc, most, self.take())
+    }
+
+    /// Takes the name that the next word is. The word is judged before memory is asked for.
+    pub fn name(&mut self, alloc: Global) -> Result<Name, LineFault>
+        ensures answer { AnswersBy (λ _. ⊤) (read_name (first_word self.old)) result }
+        ensures moved { self.new ≡ behind self.old }
+    {
+        name_of(alloc, self.take())
+    }
+
+    // The next word; an empty one, which is no number, no bytes and no name, where none is left.
+    fn take(&mut self) -> &'a [u8]
+        ensures word { result.now ≡ first_word self.old }
+        ensures moved { self.new ≡ behind self.old }
+    {
+        self.next().unwrap_or(b"")
+    }
+}

@@ -1,0 +1,14 @@
+use Rattle.std.proofs.Common.{◌≡◌, ◌≤◌, ◌+◌, length}
+use Rattle.ff_ids.specs.Masks.{ring_count}
+use Rattle.membership.specs.Ends.{Ends}
+use Rattle.membership.proofs.EndLemmas.{is_named_below}
+use Rattle.membership.proofs.Membership.end_named.Given as goal
+
+abbrev pub invariant-loop-ring : goal.invariant-loop-ring
+invariant-loop-ring l =
+    record {
+      ends : Ends (ring_count l.initial.self.group.t) (is_named_below l.ring l.named) l.initial.self.kept l.initial.out.fell l.self.kept l.out.fell;
+      life : l.self ≡ record l.initial.self { kept = l.self.kept };
+      report : l.out ≡ record l.initial.out { fell = l.out.fell };
+      room : length l.out.fell + length l.self.kept ≤ 31744;
+    }

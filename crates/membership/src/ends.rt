@@ -1,0 +1,140 @@
+//! Which kept accusations a step ends: only those that it touches are looked at.
+
+ghost use Rattle.std.specs.Prelude.{◌≡◌, ℕ, ◌<◌, ◌≤◌, ◌+◌, ◌||◌, true, not, [], List, None, Some, length, if◌then◌else◌, map, filter, slice_index_or};
+ghost use Rattle.std.specs.Option.{option_map_or};
+ghost use Rattle.ff_ids.specs.Masks.{ring_count};
+ghost use Rattle.ff_ids.specs.Views.{is_unanswered_by as note_leaves};
+ghost use Rattle.membership.specs.Ends.{Entry, Ends, HasEnded, next_of, answered_on, is_on, is_named, is_of, is_of_any, with_fallen};
+ghost use Rattle.removal_timer.specs.Kept.{is_at, entry_at, IsInOrder};
+
+use crate::Membership;
+use crate::kept::successors;
+use crate::report::Changes;
+use ff_ids::{AccBody, MemberId, NoteBody, RingNo};
+
+impl Membership {
+    /// For each ring the member, if there is one, against which a kept accusation ends after this note was
+    /// accepted: the successor of a member that entered, else the member itself where the note answers.
+    pub(crate) fn ended_by(&self, note: &NoteBody, enters: bool) -> [Option<MemberId>; 31]
+        ensures { (ring : ℕ) → ring < ring_count self.now.group.t → slice_index_or result ring None
+            ≡ (if enters then next_of self.now note.now.member ring else answered_on self.now note.now ring) }
+    {
+        if enters {
+            self.next_after(note.member)
+        } else {
+            self.answered_by(note)
+        }
+    }
+
+    /// The successor on each ring of a member that has joined.
+    fn next_after(&self, member: MemberId) -> [Option<MemberId>; 31]
+        ensures each { (ring : ℕ) → ring < ring_count self.now.group.t → slice_index_or result ring None
+            ≡ next_of self.now member ring }
+        ensures count { ring_count self.now.group.t ≤ 31 }
+    {
+        match self.places.get(member) {
+            Some(places) => successors(&self.rings, 2 * self.group.t + 1, member, places),
+            None => [None; 31],
+        }
+    }
+
+    /// For each ring the note's member where the note answers what is kept against it there.
+    fn answered_by(&self, note: &NoteBody) -> [Option<MemberId>; 31]
+        ensures { (ring : ℕ) → ring < ring_count self.now.group.t → slice_index_or result ring None
+            ≡ answered_on self.now note.now ring }
+    {
+        let mut named = [None; 31];
+        for ring in 0..2 * self.group.t + 1 {
+            named[ring as usize] = self.answered_at(note, RingNo(ring));
+        }
+        named
+    }
+
+    fn answered_at(&self, note: &NoteBody, ring: RingNo) -> Option<MemberId>
+        requires { ring.0 < ring_count self.now.group.t }
+        ensures { result ≡ answered_on self.now note.now ring.0 }
+    {
+        match self.timers.standing(note.member, ring) {
+            Some((acc, _since)) if !leaves_unanswered(note, &acc) => Some(note.member),
+            _ => None,
+        }
+    }
+
+    /// Ends what is kept against the member on the ring.
+    fn end_at(&mut self, accused: MemberId, ring: RingNo, out: &mut Changes)
+        requires { length out.old.fell + length self.old.kept ≤ 31744 }
+        ensures kept { self.new
+            ≡ record self.old { kept = filter (λ p. not (is_at accused ring.0 p)) self.old.kept } }
+        ensures fell { out.new
+            ≡ record out.old { fell = option_map_or (λ p. with_fallen p.0 out.old.fell) (entry_at accused ring.0 self.old.kept) out.old.fell } }
+        ensures room { length out.new.fell + length self.new.kept ≤ 31744 }
+    {
+        if let Some((acc, _since)) = self.timers.standing(accused, ring) {
+            self.timers.clear(accused, ring);
+            out.report_fallen(&acc);
+        }
+    }
+
+    /// Ends what is kept on the ring against the member, if there is one.
+    fn end_on(&mut self, accused: Option<MemberId>, ring: RingNo, out: &mut Changes)
+        requires { length out.old.fell + length self.old.kept ≤ 31744 }
+        ensures ends { Ends (ring_count self.old.group.t) (is_on accused ring.0) self.old.kept out.old.fell self.new.kept out.new.fell }
+        ensures rest { self.new ≡ record self.old { kept = self.new.kept } }
+        ensures report { out.new ≡ record out.old { fell = out.new.fell } }
+        ensures room { length out.new.fell + length self.new.kept ≤ 31744 }
+    {
+        if let Some(member) = accused {
+            self.end_at(member, ring, out);
+        }
+    }
+
+    /// Ends what is kept on each ring against the member that is named for it.
+    pub(crate) fn end_named(&mut self, named: &[Option<MemberId>; 31], out: &mut Changes)
+        requires { length out.old.fell + length self.old.kept ≤ 31744 }
+        ensures ends { Ends (ring_count self.old.group.t) (is_named named.now) self.old.kept out.old.fell self.new.kept out.new.fell }
+        ensures rest { self.new ≡ record self.old { kept = self.new.kept } }
+        ensures report { out.new ≡ record out.old { fell = out.new.fell } }
+        ensures room { length out.new.fell + length self.new.kept ≤ 31744 }
+    {
+        for ring in 0..2 * self.group.t + 1 {
+            self.end_on(named[ring as usize], RingNo(ring), out);
+        }
+    }
+
+    /// Ends what is kept against the member, and against its successors.
+    fn end_of(&mut self, member: MemberId, out: &mut Changes)
+        requires { length out.old.fell + length self.old.kept ≤ 31744 }
+        ensures ends { Ends (ring_count self.old.group.t) (is_of self.old member) self.old.kept out.old.fell self.new.kept out.new.fell }
+        ensures rest { self.new ≡ record self.old { kept = self.new.kept } }
+        ensures report { out.new ≡ record out.old { fell = out.new.fell } }
+        ensures room { length out.new.fell + length self.new.kept ≤ 31744 }
+    {
+        let next = self.next_after(member);
+        self.end_named(&[Some(member); 31], out);
+        self.end_named(&next, out);
+    }
+
+    /// Ends what is kept against the members that the expired accusations take out, and against their successors.
+    pub(crate) fn end_of_expired(&mut self, out: &mut Changes)
+        requires room { length self.old.kept ≤ 31744 }
+        requires empty { out.old.fell ≡ [] }
+        requires in_order { IsInOrder (ring_count self.old.group.t) self.old.kept }
+        ensures kept { self.new
+            ≡ record self.old { kept = filter (λ p. not (is_of_any self.old out.old.expired p)) self.old.kept } }
+        ensures fell { out.new
+            ≡ record out.old { fell = map (λ p. p.0) (filter (is_of_any self.old out.old.expired) self.old.kept) } }
+    {
+        for index in 0..out.expired().len() {
+            let accused = out.expired()[index].accused;
+            self.end_of(accused, out);
+        }
+    }
+}
+
+/// Whether the note has the epoch of the accusation and enables its ring.
+fn leaves_unanswered(note: &NoteBody, acc: &AccBody) -> bool
+    requires { acc.now.ring.0 < 31 }
+    ensures { result ≡ note_leaves acc.now note.now }
+{
+    note.epoch == acc.epoch && note.mask.enables(acc.ring)
+}

@@ -1,0 +1,210 @@
+-- What is kept of the joined members once one joins or leaves, or all leave.
+use Rattle.std.proofs.Common.{◌≡◌, ◌≢◌, ℕ, suc, ◌+◌, ◌<◌, ◌≤◌, Bool, true, false, cond, inl, inr, List, [], ◌∷◌, ◌++◌, Option, Some, None, length, map, take, drop, get_or, set, refl, sym, ap, ◌∙◌, subst, arith, length-set, get_or-set_other, get_or-set_same}
+use Rattle.std.specs.Prelude.{is_some}
+use Rattle.std.specs.List.{All, AllWithin, insert, remove, range_with_len}
+use Rattle.std.specs.Option.{IfSome}
+use Rattle.std.proofs.Math.Seq.{take-append_seam, map-set_same}
+use Rattle.std.proofs.lemmas.Bool.{cases_eq}
+use Rattle.std.proofs.lemmas.List.{length-map, get_or-map, map-append}
+use Rattle.std.proofs.lemmas.List.Elements.{All-map, All-push, All-same}
+use Rattle.std.proofs.lemmas.List.FromFn.{get_or-range_with_len}
+use Rattle.ff_ids.specs.Views.{key_at}
+use Rattle.ff_ids.proofs.MaskLemmas.{range_with_len-push}
+use Rattle.monitor_rule.specs.Joined.{Joined, is_joined, with_member, without_member}
+use Rattle.monitor_rule.specs.Sorted.{RingOrder, places_at, members_from, emptied, IsRow, IsBetween, IsKept}
+use Rattle.monitor_rule.proofs.SlotLemmas.{Slots, length-members_below, members_from-none, members_from-filled, members_from-emptied, is_joined-slot}
+use Rattle.monitor_rule.proofs.RowLemmas.{IsRow-joined, IsRow-left, IsRow-empty}
+
+-- what is written over all of a list
+pub written : {X : Type 0} (n : ℕ) (xs ys : List X) → length ys ≡ length xs → n ≡ length xs → take n (ys ++ drop (length ys) xs) ≡ ys
+written n xs ys same long =
+    let e : n ≡ length ys = omega arith in
+    ap (λ k. take k (ys ++ drop (length ys) xs)) e ∙ take-append_seam ys (drop (length ys) xs)
+
+-- ---- one row
+
+pub joined_row : (slots : Slots) (ring : ℕ) (order after : List ℕ) (row : RingOrder) (places : List (List ℕ)) (place m capacity : ℕ) (done : Bool) → record { ring = ring; order = order } ≡ row → IsRow slots row → IsBetween slots row (key_at row.ring places m) place place → places_at slots m ≡ None → m < 1024 → length slots ≡ 1024 → row.ring < length places → after ≡ cond done (insert order place m) order → 1024 ≤ capacity → (length order < capacity → done ≡ true) → IsRow (set slots m (Some places)) (record { ring = ring; order = after })
+joined_row slots ring order after row places place m capacity done view h between free number long placed is room succeeds =
+    let same : length order ≡ length row.order = ap (λ (r : RingOrder). length r.order) view in
+    let in' : m < length slots = omega arith in
+    let below = length-members_below 0 slots m free in' in
+    let yes : done ≡ true = succeeds (omega (arith, h.count, below)) in
+    let put : after ≡ insert order place m = is ∙ ap (λ b. cond b (insert order place m) order) yes in
+    let joined = IsRow-joined slots row places place m h between free in' placed in
+    let P : RingOrder → Type 0 = λ r. IsRow (set slots m (Some places)) r in
+    subst P (ap (λ (r : RingOrder). record r { order = insert r.order place m }) (sym view) ∙ ap (λ (o : List ℕ). record { ring = ring; order = o }) (sym put)) joined
+
+pub left_row : (slots : Slots) (ring : ℕ) (order after : List ℕ) (row : RingOrder) (places : List (List ℕ)) (place m : ℕ) → record { ring = ring; order = order } ≡ row → IsRow slots row → IsBetween slots row (key_at row.ring places m) place place → places_at slots m ≡ Some places → m < 1024 → length slots ≡ 1024 → after ≡ remove order place → IsRow (set slots m None) (record { ring = ring; order = after })
+left_row slots ring order after row places place m view h between there number long is =
+    let in' : m < length slots = omega arith in
+    let left = (IsRow-left slots row places place m h between there in').1 in
+    let P : RingOrder → Type 0 = λ r. IsRow (set slots m None) r in
+    subst P (ap (λ (r : RingOrder). record r { order = remove r.order place }) (sym view) ∙ ap (λ (o : List ℕ). record { ring = ring; order = o }) (sym is)) left
+
+pub left_within : (slots : Slots) (ring : ℕ) (order : List ℕ) (row : RingOrder) (places : List (List ℕ)) (place m : ℕ) → record { ring = ring; order = order } ≡ row → IsRow slots row → IsBetween slots row (key_at row.ring places m) place place → places_at slots m ≡ Some places → m < 1024 → length slots ≡ 1024 → place < length order
+left_within slots ring order row places place m view h between there number long =
+    let within = (IsRow-left slots row places place m h between there (omega arith)).0 in
+    let same : length order ≡ length row.order = ap (λ (r : RingOrder). length r.order) view in
+    omega arith
+
+-- ---- a loop over the rows
+
+pub left_more : (P : RingOrder → Type 0) (rows : List RingOrder) (i : ℕ) (after : RingOrder) → AllWithin P rows i (length rows) → AllWithin P (set rows i after) (i + 1) (length (set rows i after))
+left_more P rows i after h = λ k d from lt.
+    let apart : k ≢ i = λ e. absurd (omega arith) in
+    let within : k < length rows = omega (arith, length-set rows i after) in
+    subst P (sym (get_or-set_other rows i k after d apart)) (h k d (omega arith) within)
+
+pub rings_more : (rows initial : List RingOrder) (i : ℕ) (after d : RingOrder) → after.ring ≡ (get_or rows i d).ring → map (λ r. r.ring) rows ≡ map (λ r. r.ring) initial → map (λ r. r.ring) (set rows i after) ≡ map (λ r. r.ring) initial
+rings_more rows initial i after d same h = map-set_same (λ (r : RingOrder). r.ring) rows i after d same ∙ h
+
+-- ---- all of them
+
+pub length-same_rings : (rows after : List RingOrder) → map (λ r. r.ring) after ≡ map (λ r. r.ring) rows → length after ≡ length rows
+length-same_rings rows after same = sym (length-map after (λ (r : RingOrder). r.ring)) ∙ ap length same ∙ length-map rows (λ (r : RingOrder). r.ring)
+
+-- the row at an index is that of the ring
+pub ring_at : (rows : List RingOrder) (k : ℕ) (row : RingOrder) → map (λ r. r.ring) rows ≡ range_with_len 0 (length rows) → k < length rows → row ≡ get_or rows k row → row.ring ≡ k
+ring_at rows k row numbered lt is =
+    ap (λ (r : RingOrder). r.ring) is ∙ sym (get_or-map (λ (r : RingOrder). r.ring) rows k row 0 lt) ∙ ap (λ (ns : List ℕ). get_or ns k 0) numbered ∙ get_or-range_with_len 0 (length rows) k 0 lt ∙ omega arith
+
+pub All-rings_below : (rows : List RingOrder) (n : ℕ) → map (λ r. r.ring) rows ≡ range_with_len 0 (length rows) → length rows ≡ n → All (λ r. r.ring < n) rows
+All-rings_below rows n numbered long = λ k d lt.
+    let at = sym (get_or-map (λ (r : RingOrder). r.ring) rows k d 0 lt) ∙ ap (λ (ns : List ℕ). get_or ns k 0) numbered ∙ get_or-range_with_len 0 (length rows) k 0 lt in
+    omega (arith, at)
+
+numbered_on : (rows after : List RingOrder) → map (λ r. r.ring) after ≡ map (λ r. r.ring) rows → map (λ r. r.ring) rows ≡ range_with_len 0 (length rows) → map (λ r. r.ring) after ≡ range_with_len 0 (length after)
+numbered_on rows after same numbered = same ∙ numbered ∙ ap (range_with_len 0) (sym (length-same_rings rows after same))
+
+pub IsKept-joined : (slots : Slots) (rows after : List RingOrder) (m : ℕ) (places : List (List ℕ)) → IsKept slots rows → m < 1024 → length places ≡ length rows → All (IsRow (set slots m (Some places))) after → map (λ r. r.ring) after ≡ map (λ r. r.ring) rows → IsKept (set slots m (Some places)) after
+IsKept-joined slots rows after m places h number placed in_order same =
+    let long = length-same_rings rows after same in
+    let P : Option (List (List ℕ)) → Type 0 = λ o. IfSome o (λ p. length p ≡ length after) in
+    record {
+      few = omega (arith, long, h.few);
+      long = length-set slots m (Some places) ∙ h.long;
+      placed = λ n. elim (cases_eq n m) [
+        | inl own ↦
+            let at : places_at (set slots m (Some places)) n ≡ Some places = ap (λ k. get_or (set slots m (Some places)) k None) own ∙ get_or-set_same slots m (Some places) None (omega (arith, h.long)) in
+            subst P (sym at) (placed ∙ sym long)
+        | inr apart ↦
+            let at = get_or-set_other slots m n (Some places) None apart in
+            subst P (sym at) (subst (λ (k : ℕ). IfSome (places_at slots n) (λ p. length p ≡ k)) (sym long) (h.placed n))
+      ];
+      numbered = numbered_on rows after same h.numbered;
+      in_order = in_order;
+    }
+
+pub IsKept-left : (slots : Slots) (rows after : List RingOrder) (m : ℕ) → IsKept slots rows → m < 1024 → All (IsRow (set slots m None)) after → map (λ r. r.ring) after ≡ map (λ r. r.ring) rows → IsKept (set slots m None) after
+IsKept-left slots rows after m h number in_order same =
+    let long = length-same_rings rows after same in
+    let P : Option (List (List ℕ)) → Type 0 = λ o. IfSome o (λ p. length p ≡ length after) in
+    record {
+      few = omega (arith, long, h.few);
+      long = length-set slots m None ∙ h.long;
+      placed = λ n. elim (cases_eq n m) [
+        | inl own ↦
+            let at : places_at (set slots m None) n ≡ None = ap (λ k. get_or (set slots m None) k None) own ∙ get_or-set_same slots m None None (omega (arith, h.long)) in
+            subst P (sym at) tt
+        | inr apart ↦
+            let at = get_or-set_other slots m n None None apart in
+            subst P (sym at) (subst (λ (k : ℕ). IfSome (places_at slots n) (λ p. length p ≡ k)) (sym long) (h.placed n))
+      ];
+      numbered = numbered_on rows after same h.numbered;
+      in_order = in_order;
+    }
+
+-- rows with nobody on them, and no slot filled
+pub IsKept-nobody : (slots : Slots) (rows : List RingOrder) → length rows ≤ 31 → length slots ≡ 1024 → ((n : ℕ) → places_at slots n ≡ None) → map (λ r. r.ring) rows ≡ range_with_len 0 (length rows) → All (λ r. r.order ≡ []) rows → IsKept slots rows
+IsKept-nobody slots rows few long none numbered nobody =
+    let P : Option (List (List ℕ)) → Type 0 = λ o. IfSome o (λ p. length p ≡ length rows) in
+    record {
+      few = few;
+      long = long;
+      placed = λ n. subst P (sym (none n)) tt;
+      numbered = numbered;
+      in_order = λ k d lt.
+          let row = get_or rows k d in
+          subst (IsRow slots) (ap (λ (o : List ℕ). record { ring = row.ring; order = o }) (sym (nobody k d lt))) (IsRow-empty slots row.ring none (members_from-none 0 slots none));
+    }
+
+rings-emptied : (rows : List RingOrder) → map (λ r. r.ring) (map emptied rows) ≡ map (λ r. r.ring) rows
+rings-emptied [] = refl
+rings-emptied (row ∷ rows) = ap (λ ns. row.ring ∷ ns) (rings-emptied rows)
+
+pub IsKept-cleared : (slots after : Slots) (rows : List RingOrder) → IsKept slots rows → length after ≡ length slots → ((n : ℕ) → places_at after n ≡ None) → IsKept after (map emptied rows)
+IsKept-cleared slots after rows h same none =
+    let long : length (map emptied rows) ≡ length rows = length-map rows emptied in
+    IsKept-nobody after (map emptied rows) (omega (arith, long, h.few)) (same ∙ h.long) none (numbered_on rows (map emptied rows) (rings-emptied rows) h.numbered)
+    (All-map (λ (r : RingOrder). r.order ≡ []) emptied rows (λ k d lt. refl))
+
+-- a row more, with nobody on it
+pub rings_pushed : (rows after : List RingOrder) (n : ℕ) (row : RingOrder) → after ≡ rows ++ row ∷ [] → row ≡ record { ring = n; order = [] } → map (λ r. r.ring) rows ≡ range_with_len 0 n → map (λ r. r.ring) after ≡ range_with_len 0 (n + 1)
+rings_pushed rows after n row is opened numbered =
+    let e : n + 1 ≡ suc n = omega arith in
+    let zero_more : n ≡ 0 + n = omega arith in
+    ap (map (λ (r : RingOrder). r.ring)) is ∙ map-append (λ (r : RingOrder). r.ring) rows (row ∷ []) ∙ ap (λ ns. ns ++ row.ring ∷ []) numbered
+    ∙ ap (λ x. range_with_len 0 n ++ x ∷ []) (ap (λ (r : RingOrder). r.ring) opened ∙ zero_more) ∙ sym (ap (range_with_len 0) e ∙ range_with_len-push 0 n)
+
+pub empty_pushed : (rows after : List RingOrder) (n : ℕ) (row : RingOrder) → after ≡ rows ++ row ∷ [] → row ≡ record { ring = n; order = [] } → All (λ r. r.order ≡ []) rows → All (λ r. r.order ≡ []) after
+empty_pushed rows after n row is opened h =
+    All-same (λ (r : RingOrder). r.order ≡ []) after (rows ++ row ∷ []) is (All-push (λ (r : RingOrder). r.order ≡ []) rows row h (ap (λ (r : RingOrder). r.order) opened))
+
+-- ---- by who has joined
+
+none_from : (o : Option (List (List ℕ))) → is_some o ≡ false → o ≡ None
+none_from None h = refl
+none_from (Some places) h = cc
+
+slot_of : (slots : Slots) (rings m : ℕ) (joined : Joined) → record { rings = rings; members = members_from 0 slots } ≡ joined → is_some (places_at slots m) ≡ is_joined joined.members m
+slot_of slots rings m joined view =
+    let zero_more : 0 + m ≡ m = omega arith in
+    sym (sym (ap (is_joined (members_from 0 slots)) zero_more) ∙ is_joined-slot 0 slots m) ∙ ap (λ (j : Joined). is_joined j.members m) view
+
+pub free_slot : (slots : Slots) (rings m : ℕ) (joined : Joined) → record { rings = rings; members = members_from 0 slots } ≡ joined → is_joined joined.members m ≡ false → places_at slots m ≡ None
+free_slot slots rings m joined view absent = none_from (places_at slots m) (slot_of slots rings m joined view ∙ absent)
+
+pub filled_slot : (slots : Slots) (rings m : ℕ) (joined : Joined) → record { rings = rings; members = members_from 0 slots } ≡ joined → is_joined joined.members m ≡ true → is_some (places_at slots m) ≡ true
+filled_slot slots rings m joined view present = slot_of slots rings m joined view ∙ present
+
+pub record Rekept (slots : Slots) (rows : List RingOrder) (joined : Joined) : Type 0 where
+  pub kept : IsKept slots rows
+  pub view : record { rings = length rows; members = members_from 0 slots } ≡ joined
+
+pub Rekept-joined : (slots : Slots) (rows after : List RingOrder) (joined : Joined) (m : ℕ) (places : List (List ℕ)) → Rekept slots rows joined → is_joined joined.members m ≡ false → m < 1024 → length places ≡ joined.rings → All (IsRow (set slots m (Some places))) after → map (λ r. r.ring) after ≡ map (λ r. r.ring) rows → Rekept (set slots m (Some places)) after (record joined { members = with_member (record { number = m; places = places }) joined.members })
+Rekept-joined slots rows after joined m places h absent number placed in_order same =
+    let free = free_slot slots (length rows) m joined h.view absent in
+    let zero_more : 0 + m ≡ m = omega arith in
+    record {
+      kept = IsKept-joined slots rows after m places h.kept number (placed ∙ sym (ap (λ (j : Joined). j.rings) h.view)) in_order same;
+      view =
+          ap (λ n. record { rings = n; members = members_from 0 (set slots m (Some places)) }) (length-same_rings rows after same)
+          ∙ ap (λ ms. record { rings = length rows; members = ms }) (members_from-filled 0 slots m places free (omega (arith, h.kept.long)) ∙ ap (λ n. with_member (record { number = n; places = places }) (members_from 0 slots)) zero_more)
+          ∙ ap (λ (j : Joined). record j { members = with_member (record { number = m; places = places }) j.members }) h.view;
+    }
+
+some_slot : (o : Option (List (List ℕ))) → is_some o ≡ true → (places : List (List ℕ)) × (o ≡ Some places)
+some_slot None h = cc
+some_slot (Some places) h = (places, refl)
+
+pub Rekept-left : (slots : Slots) (rows after : List RingOrder) (joined : Joined) (m : ℕ) → Rekept slots rows joined → is_joined joined.members m ≡ true → m < 1024 → All (IsRow (set slots m None)) after → map (λ r. r.ring) after ≡ map (λ r. r.ring) rows → Rekept (set slots m None) after (record joined { members = without_member m joined.members })
+Rekept-left slots rows after joined m h present number in_order same =
+    let there = some_slot (places_at slots m) (filled_slot slots (length rows) m joined h.view present) in
+    let zero_more : 0 + m ≡ m = omega arith in
+    record {
+      kept = IsKept-left slots rows after m h.kept number in_order same;
+      view =
+          ap (λ n. record { rings = n; members = members_from 0 (set slots m None) }) (length-same_rings rows after same)
+          ∙ ap (λ ms. record { rings = length rows; members = ms }) (members_from-emptied 0 slots m there.0 there.1 ∙ ap (λ n. without_member n (members_from 0 slots)) zero_more)
+          ∙ ap (λ (j : Joined). record j { members = without_member m j.members }) h.view;
+    }
+
+pub Rekept-cleared : (slots after : Slots) (rows : List RingOrder) (joined : Joined) → Rekept slots rows joined → length after ≡ length slots → ((n : ℕ) → places_at after n ≡ None) → Rekept after (map emptied rows) (record joined { members = [] })
+Rekept-cleared slots after rows joined h same none =
+    record {
+      kept = IsKept-cleared slots after rows h.kept same none;
+      view =
+          ap (λ n. record { rings = n; members = members_from 0 after }) (length-map rows emptied)
+          ∙ ap (λ ms. record { rings = length rows; members = ms }) (members_from-none 0 after none)
+          ∙ ap (λ (j : Joined). record j { members = [] }) h.view;
+    }

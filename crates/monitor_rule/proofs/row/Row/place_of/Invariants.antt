@@ -1,0 +1,4 @@
+use Rattle.monitor_rule.proofs.row.Row.place_of.Given as goal
+
+abbrev pub ghosts-place_in : goal.ghosts-place_in
+ghosts-place_in a = record { name = a.blank.name; parts = a.blank.parts }

@@ -1,0 +1,44 @@
+//! A slot for each member number.
+
+ghost use Rattle.std.specs.Prelude.{◌≡◌, ℕ, ◌<◌, true, None, Some, length, is_some, slice_index_or, IfOk};
+
+use ff_ids::MemberId;
+use ring_order::Places;
+use std::alloc::{AllocError, Global};
+
+/// How many member numbers there are.
+const NUMBERS: usize = 1024;
+
+/// For each number nothing.
+pub fn none_yet<T: Drop>(alloc: Global) -> Result<Vec<Option<T>>, AllocError>
+    ensures long { IfOk result (λ v. length v.items ≡ 1024) }
+    ensures none { IfOk result (λ v. (n : ℕ) → slice_index_or v.items n None ≡ None) }
+{
+    let mut all = Vec::with_capacity(alloc, NUMBERS)?;
+    for _number in 0..NUMBERS {
+        all.push(None)?;
+    }
+    Ok(all)
+}
+
+/// The places in the slot of the member.
+pub fn places_of(slots: &[Option<Places>], member: MemberId) -> &Places
+    requires long { length slots.now ≡ 1024 }
+    requires filled { is_some (slice_index_or slots.now member None) ≡ true }
+    ensures value { slice_index_or slots.now member None ≡ Some result.now }
+    ensures range { member < 1024 }
+{
+    match &slots[member.get() as usize] {
+        Some(places) => places,
+        None => unreachable!(),
+    }
+}
+
+/// Empties each slot.
+pub fn forget_all(slots: &mut [Option<Places>])
+    ensures none { (n : ℕ) → slice_index_or slots.new n None ≡ None }
+{
+    for slot in slots.iter_mut() {
+        *slot = None;
+    }
+}

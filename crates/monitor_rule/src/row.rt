@@ -1,0 +1,252 @@
+//! One ring: the joined members in order of their keys there, found by halving.
+
+ghost use Rattle.std.specs.Prelude.{◌≡◌, ℕ, ◌+◌, ◌-◌, ◌*◌, ◌^◌, ◌<◌, ◌≤◌, ◌==◌, true, None, Some, [], length, is_some, slice_index, slice_set, IfOk, if◌then◌else◌};
+ghost use Rattle.ff_ids.specs.Rings.{nearest_before as number_before, nearest_after as number_after};
+ghost use Rattle.ff_ids.specs.Views.{key_at};
+ghost use Rattle.monitor_rule.specs.Joined.{keys_on};
+ghost use Rattle.monitor_rule.specs.Sorted.{places_at, members_from, IsRow, IsBetween};
+
+use crate::by_number::places_of;
+use ff_ids::{MemberId, RingNo};
+use ring_order::steps::Steps;
+use ring_order::{Places, key_before};
+use std::alloc::{AllocError, Global};
+use std::marker::{Brand, Model};
+use std::sync::ledger::{Blank, Ledger};
+
+/// How many members there is room for.
+const ROOM: usize = 1024;
+
+/// The members that have joined, in order of their keys on one ring.
+#[derive(Drop)]
+pub struct Row {
+    ring: RingNo,
+    order: Vec<MemberId>,
+}
+
+impl Model for Row {
+    ghost use Rattle.std.specs.Prelude.{◌≤◌, vec_capacity};
+    ghost use Rattle.monitor_rule.specs.Sorted.{RingOrder};
+
+    ghost Value = { RingOrder };
+
+    ghost view = { λ r. record { ring = r.ring.0; order = r.order.items } };
+
+    ghost invariant = { λ r. 1024 ≤ vec_capacity r.order };
+}
+
+impl Row {
+    /// Nobody has joined yet. The room for every member is taken here.
+    pub fn open(alloc: Global, ring: RingNo) -> Result<Row, AllocError>
+        ensures { IfOk result (λ r. r ≡ record { ring = ring.0; order = [] }) }
+    {
+        Ok(Row {
+            ring,
+            order: Vec::with_capacity(alloc, ROOM)?,
+        })
+    }
+
+    /// Puts in a member that isn't there, at its place. The slots are those before it joins.
+    pub fn join(&mut self, slots: &[Option<Places>], member: MemberId, places: &Places)
+        requires in_order { IsRow slots.now self.old }
+        requires long { length slots.now ≡ 1024 }
+        requires number { member < 1024 }
+        requires free { places_at slots.now member ≡ None }
+        requires placed { self.old.ring < length places.now }
+        ensures in_order { IsRow (slice_set slots.now member (Some places.now)) self.new }
+        ensures ring { self.new.ring ≡ self.old.ring }
+    {
+        let place = self.place_of(slots, member, places);
+        let _ = self.order.insert(place, member);
+    }
+
+    /// Takes out a member that is there. The slots are those before it leaves.
+    pub fn leave(&mut self, slots: &[Option<Places>], member: MemberId)
+        requires in_order { IsRow slots.now self.old }
+        requires long { length slots.now ≡ 1024 }
+        requires filled { is_some (places_at slots.now member) ≡ true }
+        ensures in_order { IsRow (slice_set slots.now member None) self.new }
+        ensures ring { self.new.ring ≡ self.old.ring }
+    {
+        let place = self.place_of(slots, member, places_of(slots, member));
+        let _ = self.order.remove(place);
+    }
+
+    /// Takes out everybody.
+    pub fn clear(&mut self)
+        ensures { self.new ≡ record self.old { order = [] } }
+    {
+        self.order.clear();
+    }
+
+    /// The nearest joined member before this one, or none where no other has joined.
+    pub fn before<L: Ledger>(
+        &self,
+        slots: &[Option<Places>],
+        member: MemberId,
+        places: &Places,
+        steps: &mut Steps<L>,
+    ) -> Option<MemberId>
+        requires in_order { IsRow slots.now self.now }
+        requires long { length slots.now ≡ 1024 }
+        requires placed { self.now.ring < length places.now }
+        ensures value { result
+            ≡ number_before (keys_on self.now.ring (members_from 0 slots.now)) (key_at self.now.ring places.now member) }
+        ensures counted { steps.old ≤ steps.new }
+        ensures most { 2 ^ (steps.new - steps.old) ≤ 2 * length self.now.order + 1 }
+        ensures least { length self.now.order + 2 ≤ 2 * 2 ^ (steps.new - steps.old) }
+    {
+        let place = self.search(slots, member, places, steps);
+        if self.order.is_empty() {
+            return None;
+        }
+        let first = self.back(place);
+        self.first_other(first, self.back(first), member)
+    }
+
+    /// The nearest joined member after this one, or none where no other has joined.
+    pub fn after<L: Ledger>(
+        &self,
+        slots: &[Option<Places>],
+        member: MemberId,
+        places: &Places,
+        steps: &mut Steps<L>,
+    ) -> Option<MemberId>
+        requires in_order { IsRow slots.now self.now }
+        requires long { length slots.now ≡ 1024 }
+        requires placed { self.now.ring < length places.now }
+        ensures value { result
+            ≡ number_after (keys_on self.now.ring (members_from 0 slots.now)) (key_at self.now.ring places.now member) }
+        ensures counted { steps.old ≤ steps.new }
+        ensures most { 2 ^ (steps.new - steps.old) ≤ 2 * length self.now.order + 1 }
+        ensures least { length self.now.order + 2 ≤ 2 * 2 ^ (steps.new - steps.old) }
+    {
+        let place = self.search(slots, member, places, steps);
+        if self.order.is_empty() {
+            return None;
+        }
+        let first = self.round(place);
+        self.first_other(first, self.round(first + 1), member)
+    }
+
+    /// The index before this one, going round.
+    fn back(&self, index: usize) -> usize
+        requires some { 0 < length self.now.order }
+        requires within { index ≤ length self.now.order }
+        ensures value { result ≡ (if index == 0 then length self.now.order - 1 else index - 1) }
+        ensures range { result < length self.now.order }
+    {
+        if index == 0 {
+            self.order.len() - 1
+        } else {
+            index - 1
+        }
+    }
+
+    /// The index itself, or the first one where it is behind the last.
+    fn round(&self, index: usize) -> usize
+        requires some { 0 < length self.now.order }
+        requires within { index ≤ length self.now.order }
+        ensures value { result ≡ (if index == length self.now.order then 0 else index) }
+        ensures range { result < length self.now.order }
+    {
+        if index == self.order.len() { 0 } else { index }
+    }
+
+    /// The first of the members at two indexes that isn't this one.
+    fn first_other(&self, first: usize, second: usize, member: MemberId) -> Option<MemberId>
+        requires first { first < length self.now.order }
+        requires second { second < length self.now.order }
+        ensures { result
+            ≡ (if slice_index self.now.order first == member then (if slice_index self.now.order second == member then None else Some (slice_index self.now.order second)) else Some (slice_index self.now.order first)) }
+    {
+        let other = self.order[first];
+        if other != member {
+            return Some(other);
+        }
+        let other = self.order[second];
+        if other != member { Some(other) } else { None }
+    }
+
+    /// How many of the ring's members come before this one, found in a ledger of its own.
+    fn place_of(&self, slots: &[Option<Places>], member: MemberId, places: &Places) -> usize
+        requires in_order { IsRow slots.now self.now }
+        requires long { length slots.now ≡ 1024 }
+        requires placed { self.now.ring < length places.now }
+        ensures { IsBetween slots.now self.now (key_at self.now.ring places.now member) result result }
+    {
+        self.place_in::<Brand>(Blank::new(1), slots, member, places)
+    }
+
+    fn place_in<L: Ledger>(
+        &self,
+        blank: Blank,
+        slots: &[Option<Places>],
+        member: MemberId,
+        places: &Places,
+    ) -> usize
+        requires name { blank.name ≡ L.name }
+        requires parts { blank.parts ≡ L.parts }
+        requires some { 0 < blank.parts }
+        requires in_order { IsRow slots.now self.now }
+        requires long { length slots.now ≡ 1024 }
+        requires placed { self.now.ring < length places.now }
+        ensures { IsBetween slots.now self.now (key_at self.now.ring places.now member) result result }
+    {
+        self.search(slots, member, places, &mut Steps::<L>::open(blank))
+    }
+
+    /// How many of the ring's members come before this one. Each step halves what is left.
+    fn search<L: Ledger>(
+        &self,
+        slots: &[Option<Places>],
+        member: MemberId,
+        places: &Places,
+        steps: &mut Steps<L>,
+    ) -> usize
+        requires in_order { IsRow slots.now self.now }
+        requires long { length slots.now ≡ 1024 }
+        requires placed { self.now.ring < length places.now }
+        ensures place { IsBetween slots.now self.now (key_at self.now.ring places.now member) result result }
+        ensures counted { steps.old ≤ steps.new }
+        ensures most { 2 ^ (steps.new - steps.old) ≤ 2 * length self.now.order + 1 }
+        ensures least { length self.now.order + 2 ≤ 2 * 2 ^ (steps.new - steps.old) }
+    {
+        let mut low = 0;
+        let mut high = self.order.len();
+        while low < high {
+            (low, high) = self.narrow(slots, low, high, member, places, steps);
+        }
+        low
+    }
+
+    /// The half in which the member's place is, of those between the two indexes.
+    fn narrow<L: Ledger>(
+        &self,
+        slots: &[Option<Places>],
+        low: usize,
+        high: usize,
+        member: MemberId,
+        places: &Places,
+        steps: &mut Steps<L>,
+    ) -> (usize, usize)
+        requires in_order { IsRow slots.now self.now }
+        requires long { length slots.now ≡ 1024 }
+        requires placed { self.now.ring < length places.now }
+        requires between { IsBetween slots.now self.now (key_at self.now.ring places.now member) low high }
+        requires some { low < high }
+        ensures between { IsBetween slots.now self.now (key_at self.now.ring places.now member) result.0 result.1 }
+        ensures step { steps.new ≡ steps.old + 1 }
+        ensures most { 2 * (result.1 - result.0) ≤ high - low }
+        ensures least { high - low ≤ 2 * (result.1 - result.0) + 2 }
+    {
+        let middle = low + (high - low) / 2;
+        let other = self.order[middle];
+        let other_places = places_of(slots, other);
+        if key_before(self.ring, other_places, other, places, member, steps) {
+            (middle + 1, high)
+        } else {
+            (low, middle)
+        }
+    }
+}

@@ -1,0 +1,152 @@
+-- How one turn of the loop follows those before it.
+use Rattle.std.proofs.Common.{◌≡◌, ℕ, ◌+◌, ◌≤◌, List, [], ◌∷◌, ◌++◌, length, take, Option, Some, None, Result, Ok, Err, Bool, true, false, refl, ap, sym, ◌∙◌, subst, append_assoc, arith, length-append}
+use Rattle.std.specs.Io.KnownBytes.{Appends, Consumes}
+use Rattle.std.proofs.KnownBytes.{Appends-nil, Appends-trans, Consumes-nil, Consumes-trans}
+use Rattle.ports.specs.Count.{next_count}
+use Rattle.text_trace.specs.Trace.{Owed, Owing, Steps, Waits, Writes, Ends, Refuses}
+use Rattle.text_trace.proofs.TraceLemmas.{steps-none, steps-join, ends-join, refuses-join}
+use Rattle.text_trace.proofs.WholeLemmas.{whole-none, whole-join}
+use Rattle.play.specs.declared.stop.Stop.{Stop}
+use Rattle.play.specs.declared.stop.Stop.TheVariants as stop
+use Rattle.play.specs.Plays.{Standing, Unfailed, Lines, Went, Finished, Refused, Unread, Unwritten, Starved, Stops, Follows, bytes_of}
+
+-- something is still owed
+pub owing-later : (C : Type 0) (A B : Owed C → Type 0) (first next room later : ℕ) (was now : Standing) → Owing C A → Went C A B first next room later was now → Owing C B
+owing-later C A B first next room later was now owing went =
+    let one = went.steps owing.owed owing.is in
+    record { owed = one.later; is = one.owes }
+
+unfailed-join : (was mid now : Standing) → Unfailed was mid → Unfailed mid now → Unfailed was now
+unfailed-join was mid now a b = record { reads = b.reads ∙ a.reads; writes = b.writes ∙ a.writes }
+
+-- no line was taken yet
+pub went-none : (C : Type 0) (A : Owed C → Type 0) (room : ℕ) (was : Standing) → Went C A A 1 1 room room was was
+went-none C A room was = record {
+  lines = [];
+  bytes = [];
+  text = [];
+  whole = whole-none;
+  few = omega arith;
+  number = omega arith;
+  read = Consumes-nil was.left;
+  wrote = Appends-nil was.taken;
+  steps = steps-none C A;
+  unfailed = record { reads = refl; writes = refl };
+}
+
+-- some lines, and then others
+pub went-join : (C : Type 0) (A B D : Owed C → Type 0) (first mid next room some later : ℕ) (was then now : Standing) → Went C A B first mid room some was then → Went C B D mid next some later then now → Went C A D first next room later was now
+went-join C A B D first mid next room some later was then now a b = record {
+  lines = a.lines ++ b.lines;
+  bytes = a.bytes ++ b.bytes;
+  text = a.text ++ b.text;
+  whole = whole-join a.lines b.lines a.bytes b.bytes a.whole b.whole;
+  few = omega (arith, a.few, b.few, length-append a.lines b.lines);
+  number = omega (arith, a.number, b.number, length-append a.lines b.lines);
+  read = Consumes-trans was.left then.left now.left a.bytes b.bytes a.read b.read;
+  wrote = Appends-trans was.taken then.taken now.taken a.text b.text a.wrote b.wrote;
+  steps = steps-join C A B D a.lines b.lines a.text b.text a.steps b.steps;
+  unfailed = unfailed-join was then now a.unfailed b.unfailed;
+}
+
+lines-join : (C : Type 0) (A B : Owed C → Type 0) (first next room later : ℕ) (was then : Standing) (lines : List (List ℕ)) (bytes : List ℕ) (a : Went C A B first next room later was then) → Lines later lines bytes → Lines room (a.lines ++ lines) (a.bytes ++ bytes)
+lines-join C A B first next room later was then lines bytes a b = record {
+  whole = whole-join a.lines lines a.bytes bytes a.whole b.whole;
+  few = omega (arith, a.few, b.few, length-append a.lines lines);
+}
+
+read-join : (was then now : Option (List ℕ)) (a b part : List ℕ) → Consumes was then a → Consumes then now (b ++ part) → Consumes was now ((a ++ b) ++ part)
+read-join was then now a b part first second = subst (Consumes was now) (sym (append_assoc a b part)) (Consumes-trans was then now a (b ++ part) first second)
+
+wrote-join : (was then now : Option (List ℕ)) (a b more : List ℕ) → Appends was then a → Appends then now (b ++ more) → Appends was now ((a ++ b) ++ more)
+wrote-join was then now a b more first second = subst (Appends was now) (sym (append_assoc a b more)) (Appends-trans was then now a (b ++ more) first second)
+
+pub finished-join : (C : Type 0) (A B : Owed C → Type 0) (first next room later : ℕ) (was then now : Standing) → Went C A B first next room later was then → Finished C B later then now → Finished C A room was now
+finished-join C A B first next room later was then now a b = record {
+  lines = a.lines ++ b.lines;
+  bytes = a.bytes ++ b.bytes;
+  text = a.text ++ b.text;
+  taken = lines-join C A B first next room later was then b.lines b.bytes a b.taken;
+  read = Consumes-trans was.left then.left now.left a.bytes b.bytes a.read b.read;
+  used_up = b.used_up;
+  wrote = Appends-trans was.taken then.taken now.taken a.text b.text a.wrote b.wrote;
+  ends = ends-join C A B a.lines b.lines a.text b.text a.steps b.ends;
+  unfailed = unfailed-join was then now a.unfailed b.unfailed;
+}
+
+refused-join : (C : Type 0) (A B : Owed C → Type 0) (first next number room later : ℕ) (cause : C) (was then now : Standing) → Went C A B first next room later was then → Refused C B later next number cause then now → Refused C A room first number cause was now
+refused-join C A B first next number room later cause was then now a b = record {
+  lines = a.lines ++ b.lines;
+  bytes = a.bytes ++ b.bytes;
+  last = b.last;
+  text = a.text ++ b.text;
+  taken = lines-join C A B first next room later was then b.lines b.bytes a b.taken;
+  counted = omega (arith, a.number, b.counted, length-append a.lines b.lines);
+  read = read-join was.left then.left now.left a.bytes b.bytes (bytes_of b.last) a.read b.read;
+  stands = b.stands;
+  wrote = Appends-trans was.taken then.taken now.taken a.text b.text a.wrote b.wrote;
+  refuses = refuses-join C A B a.lines b.lines b.last a.text b.text cause a.steps b.refuses;
+  unfailed = unfailed-join was then now a.unfailed b.unfailed;
+}
+
+unread-join : (C : Type 0) (A B : Owed C → Type 0) (first next room later : ℕ) (was then now : Standing) → Went C A B first next room later was then → Unread C B later then now → Unread C A room was now
+unread-join C A B first next room later was then now a b = record {
+  lines = a.lines ++ b.lines;
+  bytes = a.bytes ++ b.bytes;
+  part = b.part;
+  text = a.text ++ b.text;
+  taken = lines-join C A B first next room later was then b.lines b.bytes a b.taken;
+  read = read-join was.left then.left now.left a.bytes b.bytes b.part a.read b.read;
+  clear = b.clear;
+  short = b.short;
+  wrote = Appends-trans was.taken then.taken now.taken a.text b.text a.wrote b.wrote;
+  writes = steps-join C A B (Waits C) a.lines b.lines a.text b.text a.steps b.writes;
+  failed = b.failed ∙ ap next_count a.unfailed.reads;
+  kept = b.kept ∙ a.unfailed.writes;
+}
+
+follows-join : (C : Type 0) (A B : Owed C → Type 0) (lines others : List (List ℕ)) (last : Option (List ℕ)) (text more : List ℕ) → Steps C A B lines text → Follows C B others last more → Follows C A (lines ++ others) last (text ++ more)
+follows-join C A B lines others (Some line) text more steps follows =
+    let joined : Writes C A (lines ++ (others ++ line ∷ [])) (text ++ more) = steps-join C A B (Waits C) lines (others ++ line ∷ []) text more steps follows.1 in
+    (follows.0, subst (λ (ls : List (List ℕ)). Writes C A ls (text ++ more)) (sym (append_assoc lines others (line ∷ []))) joined)
+follows-join C A B lines others None text more steps follows = ends-join C A B lines others text more steps follows
+
+unwritten-join : (C : Type 0) (A B : Owed C → Type 0) (first next room later : ℕ) (was then now : Standing) → Went C A B first next room later was then → Unwritten C B later then now → Unwritten C A room was now
+unwritten-join C A B first next room later was then now a b = record {
+  lines = a.lines ++ b.lines;
+  bytes = a.bytes ++ b.bytes;
+  last = b.last;
+  text = a.text ++ b.text;
+  more = b.more;
+  count = b.count;
+  taken = lines-join C A B first next room later was then b.lines b.bytes a b.taken;
+  read = read-join was.left then.left now.left a.bytes b.bytes (bytes_of b.last) a.read b.read;
+  stands = b.stands;
+  writes = steps-join C A B (Waits C) a.lines b.lines a.text b.text a.steps b.writes;
+  follows = subst (λ (t : List ℕ). Follows C A (a.lines ++ b.lines) b.last t) (sym (append_assoc a.text b.text b.more)) (follows-join C A B a.lines b.lines b.last a.text (b.text ++ b.more) a.steps b.follows);
+  short = b.short;
+  wrote = wrote-join was.taken then.taken now.taken a.text b.text (take b.count b.more) a.wrote b.wrote;
+  failed = b.failed ∙ ap next_count a.unfailed.writes;
+  kept = b.kept ∙ a.unfailed.reads;
+}
+
+starved-join : (C : Type 0) (A B : Owed C → Type 0) (first next room later : ℕ) (was then now : Standing) → Went C A B first next room later was then → Starved C B later then now → Starved C A room was now
+starved-join C A B first next room later was then now a b = record {
+  lines = a.lines ++ b.lines;
+  bytes = a.bytes ++ b.bytes;
+  part = b.part;
+  text = a.text ++ b.text;
+  taken = lines-join C A B first next room later was then b.lines b.bytes a b.taken;
+  read = read-join was.left then.left now.left a.bytes b.bytes b.part a.read b.read;
+  one = b.one;
+  wrote = Appends-trans was.taken then.taken now.taken a.text b.text a.wrote b.wrote;
+  writes = steps-join C A B (Waits C) a.lines b.lines a.text b.text a.steps b.writes;
+  unfailed = unfailed-join was then now a.unfailed b.unfailed;
+}
+
+-- some lines, and then a turn that stops
+pub stops-join : (C : Type 0) (A B : Owed C → Type 0) (first next room later : ℕ) (was then now : Standing) (s : Stop C) → Went C A B first next room later was then → Stops C B next later then now s → Stops C A first room was now s
+stops-join C A B first next room later was then now (stop.Refused line cause) a b = refused-join C A B first next line room later cause was then now a b
+stops-join C A B first next room later was then now stop.ReadFault a b = unread-join C A B first next room later was then now a b
+stops-join C A B first next room later was then now stop.WriteFault a b = unwritten-join C A B first next room later was then now a b
+stops-join C A B first next room later was then now stop.OutOfMemory a b = starved-join C A B first next room later was then now a b

@@ -1,0 +1,198 @@
+-- How one turn of the loop may end.
+use Rattle.std.proofs.Common.{◌≡◌, ℕ, ◌+◌, ◌-◌, ◌<◌, ◌≤◌, ◌⊎◌, inl, inr, true, false, List, [], ◌∷◌, ◌++◌, length, take, Option, Some, None, Result, Ok, Err, refl, ap, sym, ◌∙◌, subst, arith, length-append}
+use Rattle.std.proofs.lemmas.List.{append-nil}
+use Rattle.std.specs.Io.KnownBytes.{Appends, Consumes}
+use Rattle.ports.specs.Contents.{IsUsedUp, TookFront}
+use Rattle.ports.specs.Count.{next_count}
+use Rattle.std.proofs.KnownBytes.{Appends-nil, Consumes-nil}
+use Rattle.text_trace.specs.Lines.{has_no_feed, has_line_feed, AreWhole, IsFed, IsCut}
+use Rattle.text_trace.specs.Trace.{Owed, Owing, Steps, Waits, Writes, Ends, Refuses}
+use Rattle.text_trace.proofs.TraceLemmas.{steps-none, steps-weaker}
+use Rattle.text_trace.proofs.WholeLemmas.{whole-none, whole-one, feed_apart}
+use Rattle.play.specs.declared.reader.Ending.{Ending}
+use Rattle.play.specs.declared.reader.Ending.TheVariants as ending
+use Rattle.play.specs.Reading.{EndsBy, IsRest, Reads, ReadsPart}
+use Rattle.play.specs.Plays.{Standing, Unfailed, Lines, Went, Finished, Refused, Unread, Unwritten, Starved, IsLast, IsUpToLine, Follows}
+
+no-bytes : (line : List ℕ) → length line ≡ 0 → line ≡ []
+no-bytes [] e = refl
+no-bytes (b ∷ line) e = absurd (omega arith)
+
+no_lines : (room : ℕ) → Lines room [] []
+no_lines room = record { whole = whole-none; few = omega arith }
+
+nothing-read : (before after : Option (List ℕ)) (line : List ℕ) → Consumes before after line → length line ≡ 0 → Consumes before after []
+nothing-read before after line front none = subst (Consumes before after) (no-bytes line none) front
+
+-- nothing was written yet
+writes-none : (C : Type 0) (A : Owed C → Type 0) → ((f : Owed C) → A f → Waits C f) → Writes C A [] []
+writes-none C A waits = steps-weaker C A A (Waits C) [] [] waits (steps-none C A)
+
+is-last : (by : Ending) (line : List ℕ) (left : Option (List ℕ)) → EndsBy by line left → IsLast (Some line) left
+is-last ending.Feed line left e = inl e
+is-last ending.Limit line left e = inr (inl e)
+is-last ending.Input line left e = inr (inr e)
+
+is-end : (by : Ending) (line : List ℕ) (left : Option (List ℕ)) → EndsBy by line left → length line ≡ 0 → IsUsedUp left
+is-end ending.Feed line left e none = absurd (omega (arith, none, ap length e.ended, length-append e.front (10 ∷ [])))
+is-end ending.Limit line left e none = absurd (omega (arith, e.long))
+is-end ending.Input line left e none = e.used_up
+
+is-up_to_line : (by : Ending) (line : List ℕ) (left : Option (List ℕ)) → EndsBy by line left → IsUpToLine line
+is-up_to_line ending.Feed line left e = inr e
+is-up_to_line ending.Limit line left e = inl (e.clear, omega (arith, e.long))
+is-up_to_line ending.Input line left e = inl (e.clear, omega (arith, e.short))
+
+-- a line that ends with a line feed was ended by it
+pub is-fed : (by : Ending) (line : List ℕ) (left : Option (List ℕ)) → EndsBy by line left → has_line_feed line ≡ true → IsFed line
+is-fed ending.Feed line left e fed = e
+is-fed ending.Limit line left e fed = absurd (feed_apart line e.clear fed)
+is-fed ending.Input line left e fed = absurd (feed_apart line e.clear fed)
+
+-- a line was taken, and its trace was written
+pub went-one : (C : Type 0) (A B : Owed C → Type 0) (first room later : ℕ) (was now : Standing) (line text : List ℕ) (by : Ending) → Reads was.left now.left line by → has_line_feed line ≡ true → Steps C A B (line ∷ []) text → Appends was.taken now.taken text → later < room → Unfailed was now → Went C A B first (first + 1) room later was now
+went-one C A B first room later was now line text by read fed steps wrote less unfailed = record {
+  lines = line ∷ [];
+  bytes = line;
+  text = text;
+  whole = whole-one line (is-fed by line now.left read.ends fed);
+  few = omega arith;
+  number = refl;
+  read = read.front;
+  wrote = wrote;
+  steps = steps;
+  unfailed = unfailed;
+}
+
+-- no line was left, and what comes at the end was written
+pub finished-here : (C : Type 0) (A : Owed C → Type 0) (room : ℕ) (was now : Standing) (line text : List ℕ) (by : Ending) → Reads was.left now.left line by → length line ≡ 0 → Ends C A [] text → Appends was.taken now.taken text → Unfailed was now → Finished C A room was now
+finished-here C A room was now line text by read none ends wrote unfailed = record {
+  lines = [];
+  bytes = [];
+  text = text;
+  taken = no_lines room;
+  read = nothing-read was.left now.left line read.front none;
+  used_up = is-end by line now.left read.ends none;
+  wrote = wrote;
+  ends = ends;
+  unfailed = unfailed;
+}
+
+-- the line was refused, before anything was written
+pub refused-line : (C : Type 0) (A : Owed C → Type 0) (room first : ℕ) (cause : C) (was now : Standing) (line : List ℕ) (by : Ending) → Reads was.left now.left line by → Refuses C A [] (Some line) [] cause → Appends was.taken now.taken [] → Unfailed was now → Refused C A room first first cause was now
+refused-line C A room first cause was now line by read refuses same unfailed = record {
+  lines = [];
+  bytes = [];
+  last = Some line;
+  text = [];
+  taken = no_lines room;
+  counted = omega arith;
+  read = read.front;
+  stands = is-last by line now.left read.ends;
+  wrote = same;
+  refuses = refuses;
+  unfailed = unfailed;
+}
+
+-- the end was refused, before anything was written
+pub refused-end : (C : Type 0) (A : Owed C → Type 0) (room first : ℕ) (cause : C) (was now : Standing) (line : List ℕ) (by : Ending) → Reads was.left now.left line by → length line ≡ 0 → Refuses C A [] None [] cause → Appends was.taken now.taken [] → Unfailed was now → Refused C A room first first cause was now
+refused-end C A room first cause was now line by read none refuses same unfailed = record {
+  lines = [];
+  bytes = [];
+  last = None;
+  text = [];
+  taken = no_lines room;
+  counted = omega arith;
+  read = nothing-read was.left now.left line read.front none;
+  stands = is-end by line now.left read.ends none;
+  wrote = same;
+  refuses = refuses;
+  unfailed = unfailed;
+}
+
+-- the read failed, before anything was written
+pub unread-here : (C : Type 0) (A : Owed C → Type 0) (room : ℕ) (was now : Standing) (part : List ℕ) → ReadsPart was.left now.left part → ((f : Owed C) → A f → Waits C f) → Appends was.taken now.taken [] → now.read_faults ≡ next_count was.read_faults → now.write_faults ≡ was.write_faults → Unread C A room was now
+unread-here C A room was now part read waits same failed kept = record {
+  lines = [];
+  bytes = [];
+  part = part;
+  text = [];
+  taken = no_lines room;
+  read = read.front;
+  clear = read.clear;
+  short = read.short;
+  wrote = same;
+  writes = writes-none C A waits;
+  failed = failed;
+  kept = kept;
+}
+
+-- a write of what the line brings failed
+pub unwritten-line : (C : Type 0) (A B : Owed C → Type 0) (room : ℕ) (was now : Standing) (line text : List ℕ) (by : Ending) → Reads was.left now.left line by → has_line_feed line ≡ true → Steps C A B (line ∷ []) text → ((f : Owed C) → A f → Waits C f) → ((f : Owed C) → B f → Waits C f) → TookFront was.taken now.taken text → now.write_faults ≡ next_count was.write_faults → now.read_faults ≡ was.read_faults → Unwritten C A room was now
+unwritten-line C A B room was now line text by read fed steps waits waits_later front failed kept = record {
+  lines = [];
+  bytes = [];
+  last = Some line;
+  text = [];
+  more = text;
+  count = front.count;
+  taken = no_lines room;
+  read = read.front;
+  stands = is-last by line now.left read.ends;
+  writes = writes-none C A waits;
+  follows = (is-fed by line now.left read.ends fed, steps-weaker C A B (Waits C) (line ∷ []) text waits_later steps);
+  short = front.short;
+  wrote = front.gained;
+  failed = failed;
+  kept = kept;
+}
+
+-- a write of what the end brings failed
+pub unwritten-end : (C : Type 0) (A : Owed C → Type 0) (room : ℕ) (was now : Standing) (line text : List ℕ) (by : Ending) → Reads was.left now.left line by → length line ≡ 0 → Ends C A [] text → ((f : Owed C) → A f → Waits C f) → TookFront was.taken now.taken text → now.write_faults ≡ next_count was.write_faults → now.read_faults ≡ was.read_faults → Unwritten C A room was now
+unwritten-end C A room was now line text by read none ends waits front failed kept = record {
+  lines = [];
+  bytes = [];
+  last = None;
+  text = [];
+  more = text;
+  count = front.count;
+  taken = no_lines room;
+  read = nothing-read was.left now.left line read.front none;
+  stands = is-end by line now.left read.ends none;
+  writes = writes-none C A waits;
+  follows = ends;
+  short = front.short;
+  wrote = front.gained;
+  failed = failed;
+  kept = kept;
+}
+
+-- memory was refused, before anything was written
+pub starved-here : (C : Type 0) (A : Owed C → Type 0) (room : ℕ) (was now : Standing) (line : List ℕ) (by : Ending) → Reads was.left now.left line by → ((f : Owed C) → A f → Waits C f) → Appends was.taken now.taken [] → Unfailed was now → Starved C A room was now
+starved-here C A room was now line by read waits same unfailed = record {
+  lines = [];
+  bytes = [];
+  part = line;
+  text = [];
+  taken = no_lines room;
+  read = read.front;
+  one = is-up_to_line by line now.left read.ends;
+  wrote = same;
+  writes = writes-none C A waits;
+  unfailed = unfailed;
+}
+
+-- memory was refused before anything was taken
+pub starved-first : (C : Type 0) (A : Owed C → Type 0) (room : ℕ) (was : Standing) → ((f : Owed C) → A f → Waits C f) → Starved C A room was was
+starved-first C A room was waits = record {
+  lines = [];
+  bytes = [];
+  part = [];
+  text = [];
+  taken = no_lines room;
+  read = Consumes-nil was.left;
+  one = inl (refl, omega arith);
+  wrote = Appends-nil was.taken;
+  writes = writes-none C A waits;
+  unfailed = record { reads = refl; writes = refl };
+}

@@ -1,0 +1,166 @@
+-- How a run over a text went: what it took, what it wrote, and why it stopped.
+use Rattle.std.specs.Prelude.{◌≡◌, ℕ, ◌+◌, ◌<◌, ◌≤◌, ◌⊎◌, true, List, [], ◌∷◌, ◌++◌, length, take, Option, Some, None, Bool, false, Result, Ok, Err}
+use Rattle.std.specs.Io.KnownBytes.{Appends, Consumes}
+use Rattle.ports.specs.Contents.{IsUsedUp}
+use Rattle.ports.specs.Count.{next_count}
+use Rattle.text_trace.specs.Lines.{has_no_feed, line_bytes, seen_bytes, AreWhole, IsCut, IsFed}
+use Rattle.text_trace.specs.Trace.{Owed, Steps, Writes, Ends, Refuses}
+use Rattle.play.specs.Reading.{IsRest}
+use Rattle.play.specs.declared.stop.Stop.{Stop}
+use Rattle.play.specs.declared.stop.Stop.TheVariants as stop
+
+-- What stands before or after a run: the bytes left in the source and those that the sink took, where they are told,
+-- and the counts of faults of both.
+pub record Standing : Type 0 where
+  pub left : Option (List ℕ)
+  pub taken : Option (List ℕ)
+  pub read_faults : ℕ
+  pub write_faults : ℕ
+
+abbrev pub standing : Option (List ℕ) → Option (List ℕ) → ℕ → ℕ → Standing
+standing left taken read_faults write_faults =
+    record { left = left; taken = taken; read_faults = read_faults; write_faults = write_faults }
+
+-- Neither side failed.
+pub record Unfailed (was now : Standing) : Type 0 where
+  pub reads : now.read_faults ≡ was.read_faults
+  pub writes : now.write_faults ≡ was.write_faults
+
+-- The bytes are these whole lines, and so many could come.
+pub record Lines (room : ℕ) (lines : List (List ℕ)) (bytes : List ℕ) : Type 0 where
+  pub whole : AreWhole lines bytes
+  pub few : length lines ≤ room
+
+-- Lines were taken, and their trace was written. The first has the one number, and the line behind them the other; so
+-- many could come before, and so many after.
+pub record Went (C : Type 0) (A B : Owed C → Type 0) (first next room later : ℕ) (was now : Standing) : Type 0 where
+  pub lines : List (List ℕ)
+  pub bytes : List ℕ
+  pub text : List ℕ
+  pub whole : AreWhole lines bytes
+  pub few : later + length lines ≤ room
+  pub number : next ≡ first + length lines
+  pub read : Consumes was.left now.left bytes
+  pub wrote : Appends was.taken now.taken text
+  pub steps : Steps C A B lines text
+  pub unfailed : Unfailed was now
+
+-- The whole text was taken, and its trace was written.
+pub record Finished (C : Type 0) (A : Owed C → Type 0) (room : ℕ) (was now : Standing) : Type 0 where
+  pub lines : List (List ℕ)
+  pub bytes : List ℕ
+  pub text : List ℕ
+  pub taken : Lines room lines bytes
+  pub read : Consumes was.left now.left bytes
+  pub used_up : IsUsedUp now.left
+  pub wrote : Appends was.taken now.taken text
+  pub ends : Ends C A lines text
+  pub unfailed : Unfailed was now
+
+-- The bytes of the line behind whole lines, if there is one.
+abbrev pub bytes_of : Option (List ℕ) → List ℕ
+bytes_of None = []
+bytes_of (Some line) = line
+
+-- The line behind whole lines: with its line feed, or as much as is seen of a longer line, or what was left of the
+-- text; with none, the text is at its end.
+abbrev pub IsLast : Option (List ℕ) → Option (List ℕ) → Type 0
+IsLast None left = IsUsedUp left
+IsLast (Some line) left = IsFed line ⊎ (IsCut line ⊎ IsRest line left)
+
+-- The line of this number was refused, or the end: whole lines and that line were taken, and all of the trace before
+-- it was written.
+pub record Refused (C : Type 0) (A : Owed C → Type 0) (room first number : ℕ) (cause : C) (was now : Standing) : Type 0 where
+  pub lines : List (List ℕ)
+  pub bytes : List ℕ
+  pub last : Option (List ℕ)
+  pub text : List ℕ
+  pub taken : Lines room lines bytes
+  pub counted : number ≡ first + length lines
+  pub read : Consumes was.left now.left (bytes ++ bytes_of last)
+  pub stands : IsLast last now.left
+  pub wrote : Appends was.taken now.taken text
+  pub refuses : Refuses C A lines last text cause
+  pub unfailed : Unfailed was now
+
+-- A read failed: whole lines were taken, and then a part of a line; the trace of the whole lines was written, and
+-- nothing else.
+pub record Unread (C : Type 0) (A : Owed C → Type 0) (room : ℕ) (was now : Standing) : Type 0 where
+  pub lines : List (List ℕ)
+  pub bytes : List ℕ
+  pub part : List ℕ
+  pub text : List ℕ
+  pub taken : Lines room lines bytes
+  pub read : Consumes was.left now.left (bytes ++ part)
+  pub clear : has_no_feed part ≡ true
+  pub short : length part ≤ line_bytes
+  pub wrote : Appends was.taken now.taken text
+  pub writes : Writes C A lines text
+  pub failed : now.read_faults ≡ next_count was.read_faults
+  pub kept : now.write_faults ≡ was.write_faults
+
+-- The text is the trace of these lines and the next one, or with none of the whole text.
+abbrev pub Follows : (C : Type 0) → (Owed C → Type 0) → List (List ℕ) → Option (List ℕ) → List ℕ → Type 0
+Follows C A lines (Some line) text = IsFed line × Writes C A (lines ++ line ∷ []) text
+Follows C A lines None text = Ends C A lines text
+
+-- A write failed: the trace of whole lines was written, and then a front of that of the next line or the end.
+pub record Unwritten (C : Type 0) (A : Owed C → Type 0) (room : ℕ) (was now : Standing) : Type 0 where
+  pub lines : List (List ℕ)
+  pub bytes : List ℕ
+  pub last : Option (List ℕ)
+  pub text : List ℕ
+  pub more : List ℕ
+  pub count : ℕ
+  pub taken : Lines room lines bytes
+  pub read : Consumes was.left now.left (bytes ++ bytes_of last)
+  pub stands : IsLast last now.left
+  pub writes : Writes C A lines text
+  pub follows : Follows C A lines last (text ++ more)
+  pub short : count < length more
+  pub wrote : Appends was.taken now.taken (text ++ take count more)
+  pub failed : now.write_faults ≡ next_count was.write_faults
+  pub kept : now.read_faults ≡ was.read_faults
+
+-- These bytes are no more than a line.
+abbrev pub IsUpToLine : List ℕ → Type 0
+IsUpToLine part = ((has_no_feed part ≡ true) × (length part ≤ seen_bytes)) ⊎ IsFed part
+
+-- Memory was refused: whole lines were taken, and their trace was written; one line more at the most was taken.
+pub record Starved (C : Type 0) (A : Owed C → Type 0) (room : ℕ) (was now : Standing) : Type 0 where
+  pub lines : List (List ℕ)
+  pub bytes : List ℕ
+  pub part : List ℕ
+  pub text : List ℕ
+  pub taken : Lines room lines bytes
+  pub read : Consumes was.left now.left (bytes ++ part)
+  pub one : IsUpToLine part
+  pub wrote : Appends was.taken now.taken text
+  pub writes : Writes C A lines text
+  pub unfailed : Unfailed was now
+
+-- How a run stopped, by the cause. Its first line had this number.
+abbrev pub Stops : (C : Type 0) → (Owed C → Type 0) → ℕ → ℕ → Standing → Standing → Stop C → Type 0
+Stops C A first room was now (stop.Refused line cause) = Refused C A room first line cause was now
+Stops C A first room was now stop.ReadFault = Unread C A room was now
+Stops C A first room was now stop.WriteFault = Unwritten C A room was now
+Stops C A first room was now stop.OutOfMemory = Starved C A room was now
+
+-- How a run over a text went that owes what A says, where so many lines could come, by its answer.
+abbrev pub Runs : (C : Type 0) → (Owed C → Type 0) → ℕ → Standing → Standing → Result (Unit {0}) (Stop C) → Type 0
+Runs C A room was now (Ok _) = Finished C A room was now
+Runs C A room was now (Err s) = Stops C A 1 room was now s
+
+-- The same of one turn: behind a line that was taken the run goes on, and owes what B says.
+abbrev pub Turns : (C : Type 0) → (Owed C → Type 0) → (Owed C → Type 0) → ℕ → ℕ → ℕ → Standing → Standing → Result Bool (Stop C) → Type 0
+Turns C A B first room later was now (Ok true) = Went C A B first (first + 1) room later was now
+Turns C A B first room later was now (Ok false) = Finished C A room was now
+Turns C A B first room later was now (Err s) = Stops C A first room was now s
+
+-- No write failed, so that the sink may be written to.
+abbrev pub has_written : {T C : Type 0} → Result T (Stop C) → Bool
+has_written (Ok _) = true
+has_written (Err (stop.Refused line cause)) = true
+has_written (Err stop.ReadFault) = true
+has_written (Err stop.WriteFault) = false
+has_written (Err stop.OutOfMemory) = true

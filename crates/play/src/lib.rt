@@ -1,0 +1,15 @@
+//! The one loop over a text: takes a line from the source, hands it to a script, writes what the script makes of it,
+//! and then takes the next.
+#![tactic(auto)]
+
+mod player;
+mod reader;
+mod script;
+mod stop;
+
+pub use player::play;
+pub use script::{Refusal, Script};
+pub use stop::Stop;
+
+#[cfg(test)]
+mod tests;

@@ -1,0 +1,93 @@
+//! The loop.
+
+ghost use Rattle.std.specs.Prelude.{◌≡◌, ◌≤◌, ◌+◌, [], true, vec_capacity};
+ghost use Rattle.text_trace.specs.Trace.{Owing};
+ghost use Rattle.play.specs.Plays.{Runs, Turns, has_written, standing};
+
+use crate::reader::{LONGEST, read_line};
+use crate::script::{Refusal, Script};
+use crate::stop::Stop;
+use ports::{Failed, Sink, Source, write_all};
+use std::alloc::Global;
+
+/// Takes the line of this number, and writes what it brings; behind the last line, what the end brings. Answers
+/// whether there was a line.
+fn turn<P: Script, S: Source, O: Sink>(
+    alloc: Global,
+    script: &mut P,
+    input: &mut S,
+    out: &mut O,
+    number: u32,
+    line: &mut Vec<u8>,
+    text: &mut Vec<u8>,
+) -> Result<bool, Stop<P::Cause>>
+    requires source { S.is_open input.old ≡ true }
+    requires sink { O.is_open out.old ≡ true }
+    requires owing { Owing P.Cause (P.owes script.old) }
+    requires room { 65601 ≤ vec_capacity line.old }
+    ensures room { 65601 ≤ vec_capacity line.new }
+    ensures source { result ≡ Ok true → S.is_open input.new ≡ true }
+    ensures sink { O.is_open out.new ≡ has_written result }
+    ensures turns { Turns P.Cause (P.owes script.old) (P.owes script.new) number (P.room script.old) (P.room script.new)
+        (standing (S.left input.old) (O.taken out.old) (S.faults input.old) (O.faults out.old))
+        (standing (S.left input.new) (O.taken out.new) (S.faults input.new) (O.faults out.new)) result }
+{
+    text.clear();
+    match read_line(input, line) {
+        Ok(_) => {}
+        Err(Failed) => return Err(Stop::ReadFault),
+    }
+    if line.is_empty() {
+        return match script.end(alloc, text) {
+            Ok(()) => match write_all(out, text) {
+                Ok(()) => Ok(false),
+                Err(Failed) => Err(Stop::WriteFault),
+            },
+            Err(Refusal::Refused(cause)) => Err(Stop::Refused {
+                line: number,
+                cause,
+            }),
+            Err(Refusal::OutOfMemory) => Err(Stop::OutOfMemory),
+        };
+    }
+    match script.line(alloc, line, text) {
+        Ok(()) => match write_all(out, text) {
+            Ok(()) => Ok(true),
+            Err(Failed) => Err(Stop::WriteFault),
+        },
+        Err(Refusal::Refused(cause)) => Err(Stop::Refused {
+            line: number,
+            cause,
+        }),
+        Err(Refusal::OutOfMemory) => Err(Stop::OutOfMemory),
+    }
+}
+
+/// Plays the text that the source gives, to its end or up to the first cause that stops it, and writes its trace: of
+/// each line before the next is taken. Of the source nothing is taken behind a line that is refused, and nothing is
+/// read behind its end or a fault. At most 100,001 lines are taken.
+pub fn play<P: Script, S: Source, O: Sink>(
+    alloc: Global,
+    script: &mut P,
+    input: &mut S,
+    out: &mut O,
+) -> Result<(), Stop<P::Cause>>
+    requires source { S.is_open input.old ≡ true }
+    requires sink { O.is_open out.old ≡ true }
+    requires owing { Owing P.Cause (P.owes script.old) }
+    requires few { P.room script.old ≤ 100000 }
+    ensures sink { O.is_open out.new ≡ has_written result }
+    ensures runs { Runs P.Cause (P.owes script.old) (P.room script.old)
+        (standing (S.left input.old) (O.taken out.old) (S.faults input.old) (O.faults out.old))
+        (standing (S.left input.new) (O.taken out.new) (S.faults input.new) (O.faults out.new)) result }
+{
+    let Ok(mut line) = Vec::with_capacity(alloc, LONGEST + 1) else {
+        return Err(Stop::OutOfMemory);
+    };
+    let mut text = Vec::new(alloc);
+    let mut number = 1;
+    'lines: while turn(alloc, script, input, out, number, &mut line, &mut text)? {
+        number += 1;
+    }
+    Ok(())
+}

@@ -1,0 +1,50 @@
+//! A reader of lines. It takes a byte at a time, and so nothing behind the line: a source that costs by the call
+//! has a buffer of its own.
+
+ghost use Rattle.std.specs.Prelude.{◌≡◌, ◌≤◌, true, vec_capacity};
+ghost use Rattle.std.specs.Result.{is_err};
+ghost use Rattle.ports.specs.Count.{counted};
+ghost use Rattle.play.specs.Reading.{ReadsLine, is_going};
+
+use ports::{Failed, Source, Taken};
+
+/// The most bytes of a line before its line feed. One more is taken, so that a longer line shows.
+pub const LONGEST: usize = 65_600;
+
+/// What ended the bytes that were taken for a line.
+#[derive(Clone, Copy, Debug, PartialEq, Eq)]
+pub enum Ending {
+    /// Its line feed, which is the last of them.
+    Feed,
+    /// More than 65,600 bytes stand before the line feed, and 65,601 of them were taken.
+    Limit,
+    /// The input.
+    Input,
+}
+
+/// Reads the next line up to and including its line feed; where the input ends inside it, what is left; and
+/// of a line with more than 65,600 bytes before its line feed the first 65,601. Takes no memory.
+pub fn read_line<S: Source>(input: &mut S, line: &mut Vec<u8>) -> Result<Ending, Failed>
+    requires open { S.is_open input.old ≡ true }
+    requires room { 65601 ≤ vec_capacity line.old }
+    ensures room { 65601 ≤ vec_capacity line.new }
+    ensures going { S.is_open input.new ≡ is_going result }
+    ensures faults { S.faults input.new ≡ counted (is_err result) (S.faults input.old) }
+    ensures reads { ReadsLine (S.left input.old) (S.left input.new) line.new.items result }
+{
+    line.clear();
+    'bytes: while line.len() <= LONGEST {
+        let mut byte = [0u8; 1];
+        match input.read(&mut byte) {
+            Taken::Got(_) => {
+                line.push_reserved(byte[0]);
+                if byte[0] == b'\n' {
+                    return Ok(Ending::Feed);
+                }
+            }
+            Taken::End => return Ok(Ending::Input),
+            Taken::Failed => return Err(Failed),
+        }
+    }
+    Ok(Ending::Limit)
+}

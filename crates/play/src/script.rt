@@ -1,0 +1,52 @@
+//! What a line of a text does.
+
+ghost use Rattle.std.specs.Prelude.{◌≡◌, ◌<◌, ℕ, [], OnOk};
+ghost use Rattle.text_trace.specs.Trace.{Owed, Owing, Waits};
+
+use std::alloc::Global;
+
+/// Why a script takes no more.
+#[derive(Clone, Copy, Debug, PartialEq, Eq)]
+pub enum Refusal<C> {
+    /// It refuses the line, or the text's end.
+    Refused(C),
+    /// Memory was refused.
+    OutOfMemory,
+}
+
+/// What the lines of a text do, one after another.
+pub trait Script {
+    ghost use Rattle.play.specs.Answers.{AnswersLine, AnswersEnd};
+
+    /// What refuses a line.
+    type Cause: Copy;
+
+    /// What is owed for the lines that are still to come.
+    ghost owes: { Self → Owed Self.Cause → Type 0 };
+
+    /// How many lines may still come.
+    ghost room: { Self → ℕ };
+
+    /// Takes a line, and puts what is written for it into the text, which is empty. The line has its line feed;
+    /// or the input ends inside it, and it has some bytes; or it is the first 65,601 bytes of a line that has more
+    /// than 65,600 before its line feed. Only a line with its line feed is taken.
+    fn line(
+        &mut self,
+        alloc: Global,
+        bytes: &[u8],
+        text: &mut Vec<u8>,
+    ) -> Result<(), Refusal<Self::Cause>>
+        requires empty { text.old.items ≡ [] }
+        requires owing { Owing Self.Cause (owes self.old) }
+        ensures room { OnOk result (room self.new < room self.old) }
+        ensures line { AnswersLine Self.Cause (owes self.old) (owes self.new) bytes.now text.new.items result };
+
+    /// Ends the text, and puts what is written at its end into the text, which is empty.
+    fn end(&self, alloc: Global, text: &mut Vec<u8>) -> Result<(), Refusal<Self::Cause>>
+        requires empty { text.old.items ≡ [] }
+        requires owing { Owing Self.Cause (owes self.now) }
+        ensures end { AnswersEnd Self.Cause (owes self.now) text.new.items result };
+
+    /// Nothing is written for a line without its line feed, nor for what follows it.
+    ghost waits: { (s : Self) (f : Owed Self.Cause) → owes s f → Waits Self.Cause f };
+}

@@ -1,0 +1,5 @@
+pub mod Fields
+pub mod Records
+pub mod Rows
+pub mod Signatures
+pub mod Telling

@@ -1,0 +1,322 @@
+-- The two laws of the grammar: what is read is spelled so, and what is spelled so is read.
+use Rattle.std.proofs.Common.{◌≡◌, ℕ, ◌^◌, ◌<◌, ◌≤◌, ◌⊎◌, Bool, true, false, cond, eqb, List, [], ◌∷◌, ◌++◌, length, take, Option, Some, Result, Ok, Err, refl, sym, ap, subst, ◌∙◌, arith, inl, inr, lit<}
+use Rattle.std.specs.Int.{w16, w32, w64, to_be_bytes}
+use Rattle.std.proofs.lemmas.Bool.{eqb-true}
+use Rattle.std.proofs.lemmas.Bool.Decides.{nat_tests}
+use Rattle.std.proofs.lemmas.List.{take_at}
+use Rattle.std.specs.Prelude.{IfOk}
+use Rattle.fields.specs.Reading.{Reading, reading_of}
+use Rattle.ff_ids.specs.declared.NoteBody.{NoteBody}
+use Rattle.ff_ids.specs.declared.AccBody.{AccBody}
+use Rattle.lms_ots.specs.declared.kind.OtsKind.{OtsKind}
+use Rattle.lms_ots.specs.declared.kind.OtsKind.TheVariants.{W1, W2, W4, W8}
+use Rattle.lms_ots.specs.Ots as ots
+use Rattle.lms_tree.specs.declared.kind.TreeKind.{TreeKind}
+use Rattle.lms_tree.specs.declared.kind.TreeKind.TheVariants.{H5, H10, H15}
+use Rattle.lms_tree.specs.declared.key.PublicKey.{PublicKey}
+use Rattle.lms_tree.specs.Kinds.{type_number}
+use Rattle.lms_tree.specs.Lms.{tree_of, key_bytes}
+use Rattle.records.specs.declared.CertBody.{CertBody}
+use Rattle.records.specs.declared.Body.{Body}
+use Rattle.records.specs.declared.Body.TheVariants.{Certificate, Note, Accusation}
+use Rattle.records.specs.declared.Record.{Record}
+use Rattle.records.specs.declared.fault.FormFault.{FormFault}
+use Rattle.records.specs.Spelling.{certificate_bytes, note_bytes, accusation_bytes, body_bytes, record_bytes, IsCertificate, IsNote, IsAccusation, IsBody, HasLength, IsRecord}
+use Rattle.records.specs.Grammar.{◌>>=◌, number_at, byte_at, bytes_at, any_number, member_number, nonzero, signature_length, kind_number, key_at, certificate_at, note_at, accusation_at, body_of_kind, body_at, signature_at, record_at, GivesRecord, IsGiven}
+use Rattle.records.proofs.Fields.{IsBytes, bind_ok, ok_is, Takes, Takes-then, bytes_take, byte_takes, byte_again, number_takes, number_again, bytes_again, then_again, map_again, Again, IsRule, wide16, wide32, wide64, any_rule, within_rule, nonzero_rule}
+
+chosen : {A : Type 0} (b : Bool) (x y z : A) → cond b x y ≡ z → ((b ≡ true) × (x ≡ z)) ⊎ ((b ≡ false) × (y ≡ z))
+chosen true x y z e = inl (refl, e)
+chosen false x y z e = inr (refl, e)
+
+abbrev there : {A : Type 0} → A → Option A
+there x = Some x
+
+some_is : {A : Type 0} (x y : A) → there x ≡ there y → x ≡ y
+some_is x y e = cc
+
+-- ---- rules
+
+-- what a chain of tests on a number chose
+picked : {A : Type 0} (n k : ℕ) (x y : A) (others : Option A) (code : A → ℕ) → code x ≡ k → (others ≡ Some y → n ≡ code y) → cond (eqb n k) (Some x) others ≡ Some y → n ≡ code y
+picked n k x y others code is_code later e =
+    elim (chosen (eqb n k) (Some x) others (Some y) e) [
+      | inl p ↦ eqb-true n k p.0 ∙ sym is_code ∙ ap code (some_is x y p.1)
+      | inr p ↦ later p.1
+    ]
+
+tree_back : (n : ℕ) (x : TreeKind) → tree_of n ≡ Some x → n ≡ type_number x
+tree_back n x e =
+    picked n 5 H5 x _ type_number refl (λ e. picked n 6 H10 x _ type_number refl (λ e. picked n 7 H15 x _ type_number refl (λ e. absurd cc) e) e) e
+
+ots_back : (n : ℕ) (x : OtsKind) → ots.kind_of n ≡ Some x → n ≡ ots.type_number x
+ots_back n x e =
+    picked n 1 W1 x _ ots.type_number refl (λ e. picked n 2 W2 x _ ots.type_number refl (λ e. picked n 3 W4 x _ ots.type_number refl (λ e. picked n 4 W8 x _ ots.type_number refl (λ e. absurd cc) e) e) e) e
+
+tree_again : (x : TreeKind) → (tree_of (type_number x) ≡ Some x) × (type_number x < 2 ^ 32)
+tree_again H5 = (refl, lit< tt)
+tree_again H10 = (refl, lit< tt)
+tree_again H15 = (refl, lit< tt)
+
+ots_again : (x : OtsKind) → (ots.kind_of (ots.type_number x) ≡ Some x) × (ots.type_number x < 2 ^ 32)
+ots_again W1 = (refl, lit< tt)
+ots_again W2 = (refl, lit< tt)
+ots_again W4 = (refl, lit< tt)
+ots_again W8 = (refl, lit< tt)
+
+tree_rule : IsRule (2 ^ 32) tree_of type_number (λ _. Unit {0})
+tree_rule = record { back = λ n x lt e. (tree_back n x e, tt); again = λ x good. tree_again x }
+
+kind_rule : IsRule (2 ^ 32) ots.kind_of ots.type_number (λ _. Unit {0})
+kind_rule = record { back = λ n x lt e. (ots_back n x e, tt); again = λ x good. ots_again x }
+
+-- ---- notes
+
+note_fields : NoteBody → List ℕ
+note_fields n = to_be_bytes w16 n.member ++ (to_be_bytes w64 n.epoch ++ to_be_bytes w32 n.mask.0)
+
+note_takes : (r : Reading) (n : NoteBody) (s : Reading) → IsBytes r.left → note_at r ≡ Ok (n, s) → Takes r (note_fields n) s × IsNote n
+unfolding note_at note_fields
+note_takes r n s fits e =
+    let a = bind_ok (number_at w16 member_number r) (λ m. number_at w64 nonzero m.1 >>= λ e. number_at w32 any_number e.1 >>= λ k. Ok (record { member = m.0; epoch = e.0; mask = record { 0 = k.0 } }, k.1)) (n, s) e in
+    let b = bind_ok (number_at w64 nonzero a.0.1) (λ e. number_at w32 any_number e.1 >>= λ k. Ok (record { member = a.0.0; epoch = e.0; mask = record { 0 = k.0 } }, k.1)) (n, s) a.2 in
+    let c = bind_ok (number_at w32 any_number b.0.1) (λ k. Ok (record { member = a.0.0; epoch = b.0.0; mask = record { 0 = k.0 } }, k.1)) (n, s) b.2 in
+    let t0 = number_takes w16 (2 ^ 16) member_number (λ n. n) _ r a.0.0 a.0.1 wide16 (within_rule (2 ^ 16) 0 1023 (lit< tt)) fits a.1 in
+    let t1 = number_takes w64 (2 ^ 64) nonzero (λ n. n) _ a.0.1 b.0.0 b.0.1 wide64 (nonzero_rule (2 ^ 64)) t0.0.fits b.1 in
+    let t2 = number_takes w32 (2 ^ 32) any_number (λ n. n) _ b.0.1 c.0.0 c.0.1 wide32 (any_rule (2 ^ 32)) t1.0.fits c.1 in
+    let made : NoteBody × Reading = (record { member = a.0.0; epoch = b.0.0; mask = record { 0 = c.0.0 } }, c.0.1) in
+    subst (λ (y : NoteBody × Reading). Takes r (note_fields y.0) y.1 × IsNote y.0) (ok_is made (n, s) c.2)
+    (Takes-then _ _ _ _ _ t0.0 (Takes-then _ _ _ _ _ t1.0 t2.0), record { member_number = omega (arith, t0.1); has_epoch = t1.1.0; epoch_fits = t1.1.1; mask_fits = t2.1 })
+
+note_again : (n : NoteBody) → IsNote n → Again note_at n (note_fields n)
+unfolding note_at note_fields
+note_again n good =
+    then_again (number_at w16 member_number) (λ m r. number_at w64 nonzero r >>= λ e. number_at w32 any_number e.1 >>= λ k. Ok (record { member = m; epoch = e.0; mask = record { 0 = k.0 } }, k.1)) n.member n _ _
+    (number_again w16 (2 ^ 16) member_number (λ n. n) _ n.member wide16 (within_rule (2 ^ 16) 0 1023 (lit< tt)) (omega arith, omega (arith, good.member_number)))
+    (then_again (number_at w64 nonzero) (λ e r. number_at w32 any_number r >>= λ k. Ok (record { member = n.member; epoch = e; mask = record { 0 = k.0 } }, k.1)) n.epoch n _ _
+    (number_again w64 (2 ^ 64) nonzero (λ n. n) _ n.epoch wide64 (nonzero_rule (2 ^ 64)) (good.has_epoch, good.epoch_fits))
+    (map_again (number_at w32 any_number) (λ k. record { member = n.member; epoch = n.epoch; mask = record { 0 = k } }) n.mask.0 _
+    (number_again w32 (2 ^ 32) any_number (λ n. n) _ n.mask.0 wide32 (any_rule (2 ^ 32)) good.mask_fits)))
+
+-- ---- accusations
+
+accusation_fields : AccBody → List ℕ
+accusation_fields a = to_be_bytes w16 a.accuser ++ (to_be_bytes w16 a.accused ++ (to_be_bytes w64 a.epoch ++ a.ring.0 ∷ []))
+
+accusation_takes : (r : Reading) (a : AccBody) (s : Reading) → IsBytes r.left → accusation_at r ≡ Ok (a, s) → Takes r (accusation_fields a) s × IsAccusation a
+unfolding accusation_at accusation_fields
+accusation_takes r x s fits e =
+    let a = bind_ok (number_at w16 member_number r) (λ m. number_at w16 member_number m.1 >>= λ d. number_at w64 nonzero d.1 >>= λ e. byte_at any_number e.1 >>= λ k. Ok (record { accuser = m.0; accused = d.0; epoch = e.0; ring = record { 0 = k.0 } }, k.1)) (x, s) e in
+    let b = bind_ok (number_at w16 member_number a.0.1) (λ d. number_at w64 nonzero d.1 >>= λ e. byte_at any_number e.1 >>= λ k. Ok (record { accuser = a.0.0; accused = d.0; epoch = e.0; ring = record { 0 = k.0 } }, k.1)) (x, s) a.2 in
+    let c = bind_ok (number_at w64 nonzero b.0.1) (λ e. byte_at any_number e.1 >>= λ k. Ok (record { accuser = a.0.0; accused = b.0.0; epoch = e.0; ring = record { 0 = k.0 } }, k.1)) (x, s) b.2 in
+    let d = bind_ok (byte_at any_number c.0.1) (λ k. Ok (record { accuser = a.0.0; accused = b.0.0; epoch = c.0.0; ring = record { 0 = k.0 } }, k.1)) (x, s) c.2 in
+    let t0 = number_takes w16 (2 ^ 16) member_number (λ n. n) _ r a.0.0 a.0.1 wide16 (within_rule (2 ^ 16) 0 1023 (lit< tt)) fits a.1 in
+    let t1 = number_takes w16 (2 ^ 16) member_number (λ n. n) _ a.0.1 b.0.0 b.0.1 wide16 (within_rule (2 ^ 16) 0 1023 (lit< tt)) t0.0.fits b.1 in
+    let t2 = number_takes w64 (2 ^ 64) nonzero (λ n. n) _ b.0.1 c.0.0 c.0.1 wide64 (nonzero_rule (2 ^ 64)) t1.0.fits c.1 in
+    let t3 = byte_takes any_number c.0.1 d.0.0 d.0.1 t2.0.fits d.1 in
+    let ring = subst (λ (k : ℕ). Takes c.0.1 (k ∷ []) d.0.1) (some_is t3.0 d.0.0 t3.1) t3.2 in
+    let made : AccBody × Reading = (record { accuser = a.0.0; accused = b.0.0; epoch = c.0.0; ring = record { 0 = d.0.0 } }, d.0.1) in
+    subst (λ (y : AccBody × Reading). Takes r (accusation_fields y.0) y.1 × IsAccusation y.0) (ok_is made (x, s) d.2)
+    (Takes-then _ _ _ _ _ t0.0 (Takes-then _ _ _ _ _ t1.0 (Takes-then _ _ _ _ _ t2.0 ring)), record { accuser_number = omega (arith, t0.1); accused_number = omega (arith, t1.1); has_epoch = t2.1.0; epoch_fits = t2.1.1 })
+
+accusation_again : (a : AccBody) → IsAccusation a → Again accusation_at a (accusation_fields a)
+unfolding accusation_at accusation_fields
+accusation_again a good =
+    then_again (number_at w16 member_number) (λ m r. number_at w16 member_number r >>= λ d. number_at w64 nonzero d.1 >>= λ e. byte_at any_number e.1 >>= λ k. Ok (record { accuser = m; accused = d.0; epoch = e.0; ring = record { 0 = k.0 } }, k.1)) a.accuser a _ _
+    (number_again w16 (2 ^ 16) member_number (λ n. n) _ a.accuser wide16 (within_rule (2 ^ 16) 0 1023 (lit< tt)) (omega arith, omega (arith, good.accuser_number)))
+    (then_again (number_at w16 member_number) (λ d r. number_at w64 nonzero r >>= λ e. byte_at any_number e.1 >>= λ k. Ok (record { accuser = a.accuser; accused = d; epoch = e.0; ring = record { 0 = k.0 } }, k.1)) a.accused a _ _
+    (number_again w16 (2 ^ 16) member_number (λ n. n) _ a.accused wide16 (within_rule (2 ^ 16) 0 1023 (lit< tt)) (omega arith, omega (arith, good.accused_number)))
+    (then_again (number_at w64 nonzero) (λ e r. byte_at any_number r >>= λ k. Ok (record { accuser = a.accuser; accused = a.accused; epoch = e; ring = record { 0 = k.0 } }, k.1)) a.epoch a _ _
+    (number_again w64 (2 ^ 64) nonzero (λ n. n) _ a.epoch wide64 (nonzero_rule (2 ^ 64)) (good.has_epoch, good.epoch_fits))
+    (map_again (byte_at any_number) (λ k. record { accuser = a.accuser; accused = a.accused; epoch = a.epoch; ring = record { 0 = k } }) a.ring.0 _
+    (byte_again any_number a.ring.0 a.ring.0 refl))))
+
+-- ---- keys and certificates
+
+record IsKey (k : PublicKey) : Type 0 where
+  pub id_long : length k.id ≡ 16
+  pub root_long : length k.root ≡ 32
+
+key_takes : (r : Reading) (k : PublicKey) (s : Reading) → IsBytes r.left → key_at r ≡ Ok (k, s) → Takes r (key_bytes k) s × IsKey k
+unfolding key_at key_bytes
+key_takes r x s fits e =
+    let a = bind_ok (number_at w32 tree_of r) (λ t. number_at w32 ots.kind_of t.1 >>= λ k. bytes_at 16 k.1 >>= λ i. bytes_at 32 i.1 >>= λ o. Ok (record { tree = t.0; ots = k.0; id = i.0; root = o.0 }, o.1)) (x, s) e in
+    let b = bind_ok (number_at w32 ots.kind_of a.0.1) (λ k. bytes_at 16 k.1 >>= λ i. bytes_at 32 i.1 >>= λ o. Ok (record { tree = a.0.0; ots = k.0; id = i.0; root = o.0 }, o.1)) (x, s) a.2 in
+    let c = bind_ok (bytes_at 16 b.0.1) (λ i. bytes_at 32 i.1 >>= λ o. Ok (record { tree = a.0.0; ots = b.0.0; id = i.0; root = o.0 }, o.1)) (x, s) b.2 in
+    let d = bind_ok (bytes_at 32 c.0.1) (λ o. Ok (record { tree = a.0.0; ots = b.0.0; id = c.0.0; root = o.0 }, o.1)) (x, s) c.2 in
+    let t0 = number_takes w32 (2 ^ 32) tree_of type_number _ r a.0.0 a.0.1 wide32 tree_rule fits a.1 in
+    let t1 = number_takes w32 (2 ^ 32) ots.kind_of ots.type_number _ a.0.1 b.0.0 b.0.1 wide32 kind_rule t0.0.fits b.1 in
+    let t2 = bytes_take 16 b.0.1 c.0.0 c.0.1 t1.0.fits c.1 in
+    let t3 = bytes_take 32 c.0.1 d.0.0 d.0.1 t2.0.fits d.1 in
+    let made : PublicKey × Reading = (record { tree = a.0.0; ots = b.0.0; id = c.0.0; root = d.0.0 }, d.0.1) in
+    subst (λ (y : PublicKey × Reading). Takes r (key_bytes y.0) y.1 × IsKey y.0) (ok_is made (x, s) d.2)
+    (Takes-then _ _ _ _ _ (Takes-then _ _ _ _ _ (Takes-then _ _ _ _ _ t0.0 t1.0) t2.0) t3.0, record { id_long = t2.1; root_long = t3.1 })
+
+key_again : (k : PublicKey) → IsKey k → Again key_at k (key_bytes k)
+unfolding key_at key_bytes
+key_again k good =
+    let whole : Again key_at k (to_be_bytes w32 (type_number k.tree) ++ (to_be_bytes w32 (ots.type_number k.ots) ++ (k.id ++ k.root))) =
+    then_again (number_at w32 tree_of) (λ t r. number_at w32 ots.kind_of r >>= λ o. bytes_at 16 o.1 >>= λ i. bytes_at 32 i.1 >>= λ b. Ok (record { tree = t; ots = o.0; id = i.0; root = b.0 }, b.1)) k.tree k (to_be_bytes w32 (type_number k.tree)) (to_be_bytes w32 (ots.type_number k.ots) ++ (k.id ++ k.root))
+    (number_again w32 (2 ^ 32) tree_of type_number _ k.tree wide32 tree_rule tt)
+    (then_again (number_at w32 ots.kind_of) (λ o r. bytes_at 16 r >>= λ i. bytes_at 32 i.1 >>= λ b. Ok (record { tree = k.tree; ots = o; id = i.0; root = b.0 }, b.1)) k.ots k (to_be_bytes w32 (ots.type_number k.ots)) (k.id ++ k.root)
+    (number_again w32 (2 ^ 32) ots.kind_of ots.type_number _ k.ots wide32 kind_rule tt)
+    (then_again (bytes_at 16) (λ i r. bytes_at 32 r >>= λ b. Ok (record { tree = k.tree; ots = k.ots; id = i; root = b.0 }, b.1)) k.id k k.id k.root
+    (bytes_again k.id 16 good.id_long)
+    (map_again (bytes_at 32) (λ b. record { tree = k.tree; ots = k.ots; id = k.id; root = b }) k.root k.root (bytes_again k.root 32 good.root_long)))) in
+    whole
+
+certificate_fields : CertBody → List ℕ
+certificate_fields c = to_be_bytes w16 c.member ++ (to_be_bytes w16 c.port ++ key_bytes c.key)
+
+certificate_takes : (r : Reading) (c : CertBody) (s : Reading) → IsBytes r.left → certificate_at r ≡ Ok (c, s) → Takes r (certificate_fields c) s × IsCertificate c
+unfolding certificate_at certificate_fields
+certificate_takes r x s fits e =
+    let a = bind_ok (number_at w16 member_number r) (λ m. number_at w16 nonzero m.1 >>= λ p. key_at p.1 >>= λ k. Ok (record { member = m.0; port = p.0; key = k.0 }, k.1)) (x, s) e in
+    let b = bind_ok (number_at w16 nonzero a.0.1) (λ p. key_at p.1 >>= λ k. Ok (record { member = a.0.0; port = p.0; key = k.0 }, k.1)) (x, s) a.2 in
+    let c = bind_ok (key_at b.0.1) (λ k. Ok (record { member = a.0.0; port = b.0.0; key = k.0 }, k.1)) (x, s) b.2 in
+    let t0 = number_takes w16 (2 ^ 16) member_number (λ n. n) _ r a.0.0 a.0.1 wide16 (within_rule (2 ^ 16) 0 1023 (lit< tt)) fits a.1 in
+    let t1 = number_takes w16 (2 ^ 16) nonzero (λ n. n) _ a.0.1 b.0.0 b.0.1 wide16 (nonzero_rule (2 ^ 16)) t0.0.fits b.1 in
+    let t2 = key_takes b.0.1 c.0.0 c.0.1 t1.0.fits c.1 in
+    let made : CertBody × Reading = (record { member = a.0.0; port = b.0.0; key = c.0.0 }, c.0.1) in
+    subst (λ (y : CertBody × Reading). Takes r (certificate_fields y.0) y.1 × IsCertificate y.0) (ok_is made (x, s) c.2)
+    (Takes-then _ _ _ _ _ t0.0 (Takes-then _ _ _ _ _ t1.0 t2.0), record { member_number = omega (arith, t0.1); has_port = t1.1.0; port_fits = t1.1.1; id_long = t2.1.id_long; root_long = t2.1.root_long })
+
+certificate_again : (c : CertBody) → IsCertificate c → Again certificate_at c (certificate_fields c)
+unfolding certificate_at certificate_fields
+certificate_again c good =
+    then_again (number_at w16 member_number) (λ m r. number_at w16 nonzero r >>= λ p. key_at p.1 >>= λ k. Ok (record { member = m; port = p.0; key = k.0 }, k.1)) c.member c _ _
+    (number_again w16 (2 ^ 16) member_number (λ n. n) _ c.member wide16 (within_rule (2 ^ 16) 0 1023 (lit< tt)) (omega arith, omega (arith, good.member_number)))
+    (then_again (number_at w16 nonzero) (λ p r. key_at r >>= λ k. Ok (record { member = c.member; port = p; key = k.0 }, k.1)) c.port c _ _
+    (number_again w16 (2 ^ 16) nonzero (λ n. n) _ c.port wide16 (nonzero_rule (2 ^ 16)) (good.has_port, good.port_fits))
+    (map_again key_at (λ k. record { member = c.member; port = c.port; key = k }) c.key _ (key_again c.key (record { id_long = good.id_long; root_long = good.root_long }))))
+
+-- ---- bodies
+
+third : (kind : ℕ) → eqb kind 1 ≡ false → eqb kind 2 ≡ false → 1 ≤ kind → kind ≤ 3 → kind ≡ 3
+third kind one two least most = grind (arith, nat_tests)
+
+kind_back : (n x : ℕ) → kind_number n ≡ Some x → (n ≡ x) × (1 ≤ x) × (x ≤ 3)
+kind_back n x e = grind (arith, nat_tests)
+
+abbrev read_as : {A : Type 0} → (Reading → Result (A × Reading) ℕ) → (A → Body) → Reading → Result (Body × Reading) ℕ
+read_as step view r = step r >>= λ x. Ok (view x.0, x.1)
+
+read_as_takes : {A : Type 0} (step : Reading → Result (A × Reading) ℕ) (view : A → Body) (fields : A → List ℕ) (Good : A → Type 0) (kind : ℕ) (r mid : Reading) (b : Body) (s : Reading)
+    → ((x : A) (later : Reading) → step mid ≡ Ok (x, later) → Takes mid (fields x) later × Good x)
+    → ((x : A) → Good x → IsBody (view x)) → ((x : A) → kind ∷ fields x ≡ body_bytes (view x))
+    → Takes r (kind ∷ []) mid → read_as step view mid ≡ Ok (b, s) → Takes r (body_bytes b) s × IsBody b
+read_as_takes step view fields Good kind r mid b s taken good spelled front e =
+    let a = bind_ok (step mid) (λ x. Ok (view x.0, x.1)) (b, s) e in
+    let t = taken a.0.0 a.0.1 a.1 in
+    subst (λ (y : Body × Reading). Takes r (body_bytes y.0) y.1 × IsBody y.0) (ok_is (view a.0.0, a.0.1) (b, s) a.2)
+    (subst (λ (text : List ℕ). Takes r text a.0.1) (spelled a.0.0) (Takes-then _ _ _ _ _ front t.0), good a.0.0 t.1)
+
+body_of_kind_takes : (kind : ℕ) (r mid : Reading) (b : Body) (s : Reading) → 1 ≤ kind → kind ≤ 3 → Takes r (kind ∷ []) mid → body_of_kind kind mid ≡ Ok (b, s) → Takes r (body_bytes b) s × IsBody b
+unfolding certificate_bytes note_bytes accusation_bytes certificate_fields note_fields accusation_fields
+body_of_kind_takes kind r mid b s least most front e =
+    let at : (k : ℕ) → kind ≡ k → Takes r (k ∷ []) mid = λ k same. subst (λ (n : ℕ). Takes r (n ∷ []) mid) same front in
+    elim (chosen (eqb kind 1) (read_as certificate_at (λ c. Certificate c) mid) (cond (eqb kind 2) (read_as note_at (λ n. Note n) mid) (read_as accusation_at (λ a. Accusation a) mid)) (Ok (b, s)) e) [
+      | inl p ↦ read_as_takes certificate_at (λ c. Certificate c) certificate_fields IsCertificate 1 r mid b s (λ x later. certificate_takes mid x later front.fits) (λ x good. good) (λ x. refl) (at 1 (eqb-true kind 1 p.0)) p.1
+      | inr p ↦ elim (chosen (eqb kind 2) (read_as note_at (λ n. Note n) mid) (read_as accusation_at (λ a. Accusation a) mid) (Ok (b, s)) p.1) [
+        | inl q ↦ read_as_takes note_at (λ n. Note n) note_fields IsNote 2 r mid b s (λ x later. note_takes mid x later front.fits) (λ x good. good) (λ x. refl) (at 2 (eqb-true kind 2 q.0)) q.1
+        | inr q ↦ read_as_takes accusation_at (λ a. Accusation a) accusation_fields IsAccusation 3 r mid b s (λ x later. accusation_takes mid x later front.fits) (λ x good. good) (λ x. refl) (at 3 (third kind p.0 q.0 least most)) q.1
+      ]
+    ]
+
+body_takes : (r : Reading) (b : Body) (s : Reading) → IsBytes r.left → body_at r ≡ Ok (b, s) → Takes r (body_bytes b) s × IsBody b
+unfolding body_at
+body_takes r b s fits e =
+    let a = bind_ok (byte_at kind_number r) (λ kind. body_of_kind kind.0 kind.1) (b, s) e in
+    let k = byte_takes kind_number r a.0.0 a.0.1 fits a.1 in
+    let ruled = kind_back k.0 a.0.0 k.1 in
+    body_of_kind_takes a.0.0 r a.0.1 b s ruled.1 ruled.2 (subst (λ (n : ℕ). Takes r (n ∷ []) a.0.1) ruled.0 k.2) a.2
+
+pub body_again : (b : Body) → IsBody b → Again body_at b (body_bytes b)
+unfolding body_at certificate_bytes note_bytes accusation_bytes certificate_fields note_fields accusation_fields
+body_again (Certificate c) good =
+    then_again (byte_at kind_number) body_of_kind 1 (Certificate c) (1 ∷ []) (certificate_fields c) (byte_again kind_number 1 1 refl)
+    (map_again certificate_at (λ c. Certificate c) c (certificate_fields c) (certificate_again c good))
+body_again (Note n) good =
+    then_again (byte_at kind_number) body_of_kind 2 (Note n) (2 ∷ []) (note_fields n) (byte_again kind_number 2 2 refl)
+    (map_again note_at (λ n. Note n) n (note_fields n) (note_again n good))
+body_again (Accusation a) good =
+    then_again (byte_at kind_number) body_of_kind 3 (Accusation a) (3 ∷ []) (accusation_fields a) (byte_again kind_number 3 3 refl)
+    (map_again accusation_at (λ a. Accusation a) a (accusation_fields a) (accusation_again a good))
+
+-- ---- records
+
+signature_takes : (r : Reading) (x : List ℕ) (s : Reading) → IsBytes r.left → signature_at r ≡ Ok (x, s) → Takes r (to_be_bytes w16 (length x) ++ x) s × HasLength x
+unfolding signature_at
+signature_takes r x s fits e =
+    let a = bind_ok (number_at w16 signature_length r) (λ n. bytes_at n.0 n.1) (x, s) e in
+    let t0 = number_takes w16 (2 ^ 16) signature_length (λ n. n) _ r a.0.0 a.0.1 wide16 (within_rule (2 ^ 16) 1 9004 (lit< tt)) fits a.1 in
+    let t1 = bytes_take a.0.0 a.0.1 x s t0.0.fits a.2 in
+    (subst (λ (n : ℕ). Takes r (to_be_bytes w16 n ++ x) s) (sym t1.1) (Takes-then _ _ _ _ _ t0.0 t1.0), record { some = omega (arith, t0.1.0, t1.1); few = omega (arith, t0.1.1, t1.1) })
+
+signature_again : (x : List ℕ) → HasLength x → Again signature_at x (to_be_bytes w16 (length x) ++ x)
+unfolding signature_at
+signature_again x good =
+    then_again (number_at w16 signature_length) bytes_at (length x) x (to_be_bytes w16 (length x)) x
+    (number_again w16 (2 ^ 16) signature_length (λ n. n) _ (length x) wide16 (within_rule (2 ^ 16) 1 9004 (lit< tt)) (omega (arith, good.some), good.few))
+    (bytes_again x (length x) refl)
+
+pub record_takes : (r : Reading) (x : Record) (s : Reading) → IsBytes r.left → record_at r ≡ Ok (x, s) → Takes r (record_bytes x) s × IsBody x.body × HasLength x.signature
+unfolding record_at
+record_takes r x s fits e =
+    let a = bind_ok (body_at r) (λ body. signature_at body.1 >>= λ signature. Ok (record { body = body.0; signature = signature.0 }, signature.1)) (x, s) e in
+    let b = bind_ok (signature_at a.0.1) (λ signature. Ok (record { body = a.0.0; signature = signature.0 }, signature.1)) (x, s) a.2 in
+    let t0 = body_takes r a.0.0 a.0.1 fits a.1 in
+    let t1 = signature_takes a.0.1 b.0.0 b.0.1 t0.0.fits b.1 in
+    let made : Record × Reading = (record { body = a.0.0; signature = b.0.0 }, b.0.1) in
+    subst (λ (y : Record × Reading). Takes r (record_bytes y.0) y.1 × IsBody y.0.body × HasLength y.0.signature) (ok_is made (x, s) b.2)
+    (Takes-then _ _ _ _ _ t0.0 t1.0, t0.1, t1.1)
+
+pub record_again : (x : Record) → IsBody x.body → HasLength x.signature → Again record_at x (record_bytes x)
+unfolding record_at
+record_again x body signature =
+    then_again body_at (λ b r. signature_at r >>= λ s. Ok (record { body = b; signature = s.0 }, s.1)) x.body x (body_bytes x.body) (to_be_bytes w16 (length x.signature) ++ x.signature)
+    (body_again x.body body)
+    (map_again signature_at (λ s. record { body = x.body; signature = s }) x.signature _ (signature_again x.signature signature))
+
+-- ---- what calls give
+
+given : (read : Result (Record × Reading) ℕ) (y : Record × ℕ) → GivesRecord read (Ok y) → (x : Record × Reading) × (read ≡ Ok x) × (y ≡ (x.0, x.1.place))
+given (Ok x) y h = (x, refl, h)
+given (Err p) y h = absurd cc
+
+found_at : (bytes : List ℕ) (y : Record × ℕ) → IsBytes bytes → GivesRecord (record_at (reading_of bytes)) (Ok y) → IsRecord (take y.1 bytes) y.0
+found_at bytes y fits h =
+    let x = given (record_at (reading_of bytes)) y h in
+    let t = record_takes (reading_of bytes) x.0.0 x.0.1 fits x.1 in
+    let taken : x.0.1.place ≡ length (record_bytes x.0.0) = omega (arith, t.0.place) in
+    let front : take x.0.1.place bytes ≡ record_bytes x.0.0 = ap (take x.0.1.place) t.0.parts ∙ take_at (record_bytes x.0.0) x.0.1.left x.0.1.place (sym taken) in
+    subst (λ (z : Record × ℕ). IsRecord (take z.1 bytes) z.0) (sym x.2) (record { body = t.1; signature = t.2; spelled = front })
+
+pub is_found : (bytes : List ℕ) (answer : Result (Record × ℕ) FormFault) → IsBytes bytes → GivesRecord (record_at (reading_of bytes)) answer → IfOk answer (λ x. IsRecord (take x.1 bytes) x.0)
+is_found bytes (Ok y) fits h = found_at bytes y fits h
+is_found bytes (Err e) fits h = tt
+
+given_again : (x : Record) (n : ℕ) (s : Reading) (answer : Result (Record × ℕ) FormFault) → s.place ≡ n → GivesRecord (Ok (x, s)) answer → IsGiven x n answer
+given_again x n s (Ok y) same h = h ∙ ap (λ (k : ℕ). (x, k)) same
+given_again x n s (Err e) same h = h
+
+pub is_given : (bytes : List ℕ) (answer : Result (Record × ℕ) FormFault) → GivesRecord (record_at (reading_of bytes)) answer
+    → (r : Record) (spelled rest : List ℕ) → IsRecord spelled r → bytes ≡ spelled ++ rest → IsGiven r (length spelled) answer
+is_given bytes answer h r spelled rest is front =
+    let a = record_again r is.body is.signature (reading_of bytes) rest (front ∙ ap (λ (t : List ℕ). t ++ rest) is.spelled) in
+    let long : length spelled ≡ length (record_bytes r) = ap length is.spelled in
+    given_again r (length spelled) a.0 answer (omega (arith, a.2.place, long)) (subst (λ (v : Result (Record × Reading) ℕ). GivesRecord v answer) a.1 h)
+
+-- ---- one spelling
+
+pub one_reading : {A : Type 0} (step : Reading → Result (A × Reading) ℕ) (a b x y : List ℕ) (r s : A) → Again step r a → Again step s b → a ++ x ≡ b ++ y → r ≡ s
+one_reading step a b x y r s first second same =
+    let one = first (reading_of (a ++ x)) x refl in
+    let other = second (reading_of (a ++ x)) y same in
+    ap (λ p. p.0) (ok_is (r, one.0) (s, other.0) (sym one.1 ∙ other.1))
+
+pub records_one : (a b x y : List ℕ) (r s : Record) → IsRecord a r → IsRecord b s → a ++ x ≡ b ++ y → (a ≡ b) × (r ≡ s)
+records_one a b x y r s is_r is_s same =
+    let again : (t : List ℕ) (q : Record) → IsRecord t q → Again record_at q t = λ t q is. subst (Again record_at q) (sym is.spelled) (record_again q is.body is.signature) in
+    let one = one_reading record_at a b x y r s (again a r is_r) (again b s is_s) same in
+    (is_r.spelled ∙ ap record_bytes one ∙ sym is_s.spelled, one)

@@ -1,0 +1,80 @@
+-- Records as bytes: the one spelling of each, and what has a spelling. Numbers are big-endian.
+use Rattle.std.specs.Prelude.{◌≡◌, ℕ, ◌^◌, ◌<◌, ◌≤◌, List, [], ◌∷◌, ◌++◌, length}
+use Rattle.std.specs.Int.{w16, w32, w64, to_be_bytes}
+use Rattle.ff_ids.specs.declared.NoteBody.{NoteBody}
+use Rattle.ff_ids.specs.declared.AccBody.{AccBody}
+use Rattle.lms_tree.specs.Lms.{key_bytes}
+use Rattle.records.specs.declared.CertBody.{CertBody}
+use Rattle.records.specs.declared.Body.{Body}
+use Rattle.records.specs.declared.Body.TheVariants.{Certificate, Note, Accusation}
+use Rattle.records.specs.declared.Record.{Record}
+
+-- kind 1, the member, its port, and the key's 56 bytes
+unfoldable pub certificate_bytes : CertBody → List ℕ
+certificate_bytes c = 1 ∷ (to_be_bytes w16 c.member ++ (to_be_bytes w16 c.port ++ key_bytes c.key))
+
+-- kind 2, the member, its epoch, and the mask
+unfoldable pub note_bytes : NoteBody → List ℕ
+note_bytes n = 2 ∷ (to_be_bytes w16 n.member ++ (to_be_bytes w64 n.epoch ++ to_be_bytes w32 n.mask.0))
+
+-- kind 3, the accuser, the accused, the epoch, and the ring
+unfoldable pub accusation_bytes : AccBody → List ℕ
+accusation_bytes a = 3 ∷ (to_be_bytes w16 a.accuser ++ (to_be_bytes w16 a.accused ++ (to_be_bytes w64 a.epoch ++ a.ring.0 ∷ [])))
+
+abbrev pub body_bytes : Body → List ℕ
+body_bytes (Certificate c) = certificate_bytes c
+body_bytes (Note n) = note_bytes n
+body_bytes (Accusation a) = accusation_bytes a
+
+-- the body, the signature's length in two bytes, and the signature
+abbrev pub record_bytes : Record → List ℕ
+record_bytes r = body_bytes r.body ++ (to_be_bytes w16 (length r.signature) ++ r.signature)
+
+-- ---- what has a spelling
+
+pub record IsCertificate (c : CertBody) : Type 0 where
+  pub member_number : c.member < 1024
+  pub has_port : 0 < c.port
+  pub port_fits : c.port < 2 ^ 16
+  pub id_long : length c.key.id ≡ 16
+  pub root_long : length c.key.root ≡ 32
+
+pub record IsNote (n : NoteBody) : Type 0 where
+  pub member_number : n.member < 1024
+  pub has_epoch : 0 < n.epoch
+  pub epoch_fits : n.epoch < 2 ^ 64
+  pub mask_fits : n.mask.0 < 2 ^ 32
+
+pub record IsAccusation (a : AccBody) : Type 0 where
+  pub accuser_number : a.accuser < 1024
+  pub accused_number : a.accused < 1024
+  pub has_epoch : 0 < a.epoch
+  pub epoch_fits : a.epoch < 2 ^ 64
+
+abbrev pub IsBody : Body → Type 0
+IsBody (Certificate c) = IsCertificate c
+IsBody (Note n) = IsNote n
+IsBody (Accusation a) = IsAccusation a
+
+-- a signature has 1 to 9,004 bytes
+pub record HasLength (signature : List ℕ) : Type 0 where
+  pub some : 0 < length signature
+  pub few : length signature ≤ 9004
+
+-- The bytes are the record's one spelling, and each of its fields keeps its rule.
+pub record IsRecord (bytes : List ℕ) (r : Record) : Type 0 where
+  pub body : IsBody r.body
+  pub signature : HasLength r.signature
+  pub spelled : bytes ≡ record_bytes r
+
+-- ---- what a caller sees to, since no type does
+
+-- a certificate's port isn't 0
+abbrev pub HasPort : Body → Type 0
+HasPort (Certificate c) = 0 < c.port
+HasPort (Note n) = Unit {0}
+HasPort (Accusation a) = Unit {0}
+
+pub record IsWritable (r : Record) : Type 0 where
+  pub port : HasPort r.body
+  pub signature : HasLength r.signature

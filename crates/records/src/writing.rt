@@ -1,0 +1,96 @@
+//! Writing records.
+
+ghost use Rattle.std.specs.Prelude.{◌≡◌, ◌≤◌, ◌+◌, [], ◌++◌, length, IfOk, OnOk, OnErr};
+ghost use Rattle.arrayvec.specs.ArrayVec.{array_vec_len};
+ghost use Rattle.records.specs.Spelling.{IsWritable, body_bytes, certificate_bytes, note_bytes, accusation_bytes, record_bytes};
+
+use crate::{Body, CertBody, Record};
+use arrayvec::ArrayVec;
+use ff_ids::{AccBody, NoteBody};
+use fields::{NoMemory, Writer};
+
+/// The bytes of a body, of which a certificate has the most.
+type BodyBytes = ArrayVec<u8, 61>;
+
+/// Appends bytes for which there is room.
+pub(crate) fn put<const N: usize>(out: &mut ArrayVec<u8, N>, bytes: &[u8])
+    requires { array_vec_len out.old + length bytes.now ≤ N }
+    ensures { out.new.items ≡ out.old.items ++ bytes.now }
+{
+    for byte in bytes {
+        out.push(*byte);
+    }
+}
+
+#[tactic(auto, unfolding(crate::specs::Spelling::certificate_bytes))]
+fn certificate_bytes(certificate: &CertBody) -> BodyBytes
+    ensures { result.items ≡ certificate_bytes certificate.now }
+{
+    let mut out = ArrayVec::new();
+    out.push(1);
+    put(&mut out, &certificate.member.get().to_be_bytes());
+    put(&mut out, &certificate.port.to_be_bytes());
+    put(&mut out, &certificate.key.write());
+    out
+}
+
+#[tactic(auto, unfolding(crate::specs::Spelling::note_bytes))]
+fn note_bytes(note: &NoteBody) -> BodyBytes
+    ensures { result.items ≡ note_bytes note.now }
+{
+    let mut out = ArrayVec::new();
+    out.push(2);
+    put(&mut out, &note.member.get().to_be_bytes());
+    put(&mut out, &note.epoch.get().to_be_bytes());
+    put(&mut out, &note.mask.0.to_be_bytes());
+    out
+}
+
+#[tactic(auto, unfolding(crate::specs::Spelling::accusation_bytes))]
+fn accusation_bytes(acc: &AccBody) -> BodyBytes
+    ensures { result.items ≡ accusation_bytes acc.now }
+{
+    let mut out = ArrayVec::new();
+    out.push(3);
+    put(&mut out, &acc.accuser.get().to_be_bytes());
+    put(&mut out, &acc.accused.get().to_be_bytes());
+    put(&mut out, &acc.epoch.get().to_be_bytes());
+    out.push(acc.ring.0);
+    out
+}
+
+/// The bytes of a body.
+pub(crate) fn body_bytes(body: &Body) -> BodyBytes
+    ensures value { result.items ≡ body_bytes body.now }
+    ensures few { array_vec_len result ≤ 61 }
+{
+    match body {
+        Body::Certificate(certificate) => certificate_bytes(certificate),
+        Body::Note(note) => note_bytes(note),
+        Body::Accusation(acc) => accusation_bytes(acc),
+    }
+}
+
+/// The bytes of a record, in memory of their own.
+fn record_bytes(rec: &Record, mut writer: Writer) -> Result<Vec<u8>, NoMemory>
+    requires writable { IsWritable rec.now }
+    requires empty { writer ≡ [] }
+    ensures { IfOk result (λ bytes. bytes.items ≡ record_bytes rec.now) }
+{
+    let signature = rec.signature.as_slice();
+    writer.put_bytes(body_bytes(&rec.body).as_slice())?;
+    writer.put_u16(signature.len() as u16)?;
+    writer.put_bytes(signature)?;
+    Ok(writer.finish())
+}
+
+/// Appends the record's one spelling. Where memory is refused, `out` is as it was.
+pub fn write_record(rec: &Record, out: &mut Vec<u8>) -> Result<(), NoMemory>
+    requires { IsWritable rec.now }
+    ensures ok { OnOk result (out.new.items ≡ out.old.items ++ record_bytes rec.now) }
+    ensures refused { OnErr result (out.new.items ≡ out.old.items) }
+{
+    let bytes = record_bytes(rec, Writer::new(*out.allocator()))?;
+    out.extend_from_slice(bytes.as_slice())?;
+    Ok(())
+}

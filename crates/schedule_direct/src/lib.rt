@@ -1,0 +1,11 @@
+//! The lines of a schedule in the direct form: what each may be, where it may stand, and how it is read. Only the
+//! places of a `member` line take memory.
+#![tactic(auto)]
+
+mod direct;
+mod line;
+mod member;
+mod read;
+
+pub use direct::Direct;
+pub use line::{DirectLine, PlaceList};

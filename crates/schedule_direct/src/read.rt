@@ -1,0 +1,136 @@
+//! The lines that take no memory, read word by word.
+
+ghost use Rattle.std.specs.Prelude.{◌≡◌, ◌*◌, ◌≤◌, [], IfOk};
+ghost use Rattle.line_text.specs.Answers.{refusal};
+ghost use Rattle.line_text.specs.Fields.{number_in};
+ghost use Rattle.line_text.specs.Frame.{behind, fields_line, first_word, row_line};
+ghost use Rattle.schedule_direct.specs.Rows.{accuse_fields, epoch, group_fields, line_of, line_word, member, monitor_fields, note_fields, start_row, tick_fields, word_or_bad};
+
+use crate::line::{DirectLine, LineWord};
+use ff_ids::{AccBody, Epoch, Mask, MemberId, NoteBody, RingNo};
+use line_text::{BadWord, Words};
+
+#[tactic(auto, using(crate::proofs::ReadingLemmas::header_read))]
+pub(crate) fn header_line(words: Words) -> Result<DirectLine, BadWord>
+    ensures { result ≡ row_line (start_row words.entry) (behind words.entry) }
+{
+    if words.again().is_header(b"direct") {
+        Ok(DirectLine::Header)
+    } else if words.is_header(b"world") {
+        Err(BadWord::NotBuilt)
+    } else {
+        Err(BadWord::Header)
+    }
+}
+
+/// The line word that a word is.
+pub(crate) fn line_word(word: &[u8]) -> Result<LineWord, BadWord>
+    ensures { result ≡ word_or_bad (line_word word.now) }
+{
+    if word == b"group".as_slice() {
+        Ok(LineWord::Group)
+    } else if word == b"member".as_slice() {
+        Ok(LineWord::Member)
+    } else if word == b"note".as_slice() {
+        Ok(LineWord::Note)
+    } else if word == b"accuse".as_slice() {
+        Ok(LineWord::Accuse)
+    } else if word == b"tick".as_slice() {
+        Ok(LineWord::Tick)
+    } else if word == b"view".as_slice() {
+        Ok(LineWord::View)
+    } else if word == b"monitor".as_slice() {
+        Ok(LineWord::Monitor)
+    } else if word == b"life".as_slice() {
+        Ok(LineWord::Life)
+    } else if word == b"end".as_slice() {
+        Ok(LineWord::End)
+    } else {
+        Err(BadWord::Word)
+    }
+}
+
+/// Takes the number of a member.
+pub(crate) fn take_member(words: &mut Words) -> Result<MemberId, BadWord>
+    ensures refused { member (first_word words.old) ≡ refusal result }
+    ensures value { IfOk result (λ n. n ≡ number_in (first_word words.old)) }
+    ensures moved { words.new ≡ behind words.old }
+{
+    let number = words.number(0, 1023)?;
+    Ok(MemberId::new(number as u16))
+}
+
+/// Takes an epoch.
+fn take_epoch(words: &mut Words) -> Result<Epoch, BadWord>
+    ensures refused { epoch (first_word words.old) ≡ refusal result }
+    ensures value { IfOk result (λ n. n ≡ number_in (first_word words.old)) }
+    ensures moved { words.new ≡ behind words.old }
+{
+    let number = words.number(1, u64::MAX)?;
+    Ok(Epoch::new(number))
+}
+
+pub(crate) fn group_line(args: Words) -> Result<DirectLine, BadWord>
+    ensures { result ≡ fields_line group_fields (line_of LineWord.Group) args.entry }
+{
+    let mut args = args.exactly(2)?;
+    let t = args.number(1, 15)?;
+    let timeout = args.number(1, 10_000)?;
+    Ok(DirectLine::Group {
+        t: t as u8,
+        timeout: timeout as u32,
+    })
+}
+
+pub(crate) fn note_line(args: Words) -> Result<DirectLine, BadWord>
+    ensures { result ≡ fields_line note_fields (line_of LineWord.Note) args.entry }
+{
+    let mut args = args.exactly(3)?;
+    Ok(DirectLine::Note(NoteBody {
+        member: take_member(&mut args)?,
+        epoch: take_epoch(&mut args)?,
+        mask: Mask(args.number_32()?),
+    }))
+}
+
+pub(crate) fn accuse_line(args: Words) -> Result<DirectLine, BadWord>
+    ensures { result ≡ fields_line accuse_fields (line_of LineWord.Accuse) args.entry }
+{
+    let mut args = args.exactly(4)?;
+    Ok(DirectLine::Accuse(AccBody {
+        accuser: take_member(&mut args)?,
+        accused: take_member(&mut args)?,
+        epoch: take_epoch(&mut args)?,
+        ring: RingNo(args.number(0, 255)? as u8),
+    }))
+}
+
+/// The ticks of one line, where no more than `left` may come.
+pub(crate) fn tick_line(left: u32, args: Words) -> Result<DirectLine, BadWord>
+    ensures { result ≡ fields_line (tick_fields left) (line_of LineWord.Tick) args.entry }
+{
+    let mut args = args.exactly(1)?;
+    let number = args.number(1, u64::from(left.min(10_000)))?;
+    Ok(DirectLine::Tick(number as u32))
+}
+
+pub(crate) fn monitor_line(t: u8, args: Words) -> Result<DirectLine, BadWord>
+    requires { t ≤ 15 }
+    ensures { result ≡ fields_line (monitor_fields t) (line_of LineWord.Monitor) args.entry }
+{
+    let mut args = args.exactly(2)?;
+    let ring = args.number(0, 2 * u64::from(t))?;
+    let member = take_member(&mut args)?;
+    Ok(DirectLine::Monitor {
+        ring: RingNo(ring as u8),
+        member,
+    })
+}
+
+/// A line of one word.
+pub(crate) fn lone_line(line: DirectLine, args: Words) -> Result<DirectLine, BadWord>
+    ensures { result ≡ fields_line [] (λ _. line) args.entry }
+{
+    args.exactly(0)?;
+    Ok(line)
+}

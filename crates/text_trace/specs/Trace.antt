@@ -1,0 +1,48 @@
+-- The trace of a text: what is written for its lines, and what refuses it; and how a trace goes on.
+use Rattle.std.specs.Prelude.{◌≡◌, true, ℕ, List, [], ◌∷◌, ◌++◌, Option, Some, None}
+use Rattle.text_trace.specs.Lines.{has_no_feed}
+
+-- What is written for the lines that are taken, and what refuses the text, if anything does.
+pub record Trace (C : Type 0) : Type 0 where
+  pub output : List ℕ
+  pub cause : Option C
+
+-- This was written before the rest of the trace.
+abbrev pub before : {C : Type 0} → List ℕ → Trace C → Trace C
+before written t = record { output = written ++ t.output; cause = t.cause }
+
+-- What is owed is a function of the lines that come.
+abbrev pub Owed : Type 0 → Type 0
+Owed C = List (List ℕ) → Trace C
+
+-- The text is the trace of these lines, whatever comes after them; for that, something is owed of which B holds.
+pub record GoesOn (C : Type 0) (B : Owed C → Type 0) (f : Owed C) (lines : List (List ℕ)) (text : List ℕ) : Type 0 where
+  pub later : Owed C
+  pub owes : B later
+  pub same : (rest : List (List ℕ)) → f (lines ++ rest) ≡ before text (later rest)
+
+-- These lines lead from what A says is owed to what B says, and the text is their trace.
+abbrev pub Steps : (C : Type 0) → (Owed C → Type 0) → (Owed C → Type 0) → List (List ℕ) → List ℕ → Type 0
+Steps C A B lines text = (f : Owed C) → A f → GoesOn C B f lines text
+
+-- Nothing is written for a line that isn't ended, nor for what follows it.
+abbrev pub Waits : (C : Type 0) → Owed C → Type 0
+Waits C f = (line : List ℕ) (rest : List (List ℕ)) → has_no_feed line ≡ true → (f (line ∷ rest)).output ≡ []
+
+-- The text is exactly what is written for these lines.
+abbrev pub Writes : (C : Type 0) → (Owed C → Type 0) → List (List ℕ) → List ℕ → Type 0
+Writes C A lines text = Steps C A (Waits C) lines text
+
+-- These are all the lines, and the text is the whole trace.
+abbrev pub Ends : (C : Type 0) → (Owed C → Type 0) → List (List ℕ) → List ℕ → Type 0
+Ends C A lines text = (f : Owed C) → A f → f lines ≡ record { output = text; cause = None }
+
+-- After these lines the next one is refused, or with none the end of the text is; the text is the trace till then.
+abbrev pub Refuses : (C : Type 0) → (Owed C → Type 0) → List (List ℕ) → Option (List ℕ) → List ℕ → C → Type 0
+Refuses C A lines (Some line) text c = (f : Owed C) → A f → (rest : List (List ℕ)) → f (lines ++ line ∷ rest) ≡ record { output = text; cause = Some c }
+Refuses C A lines None text c = (f : Owed C) → A f → f lines ≡ record { output = text; cause = Some c }
+
+-- Something is owed.
+pub record Owing (C : Type 0) (A : Owed C → Type 0) : Type 0 where
+  pub owed : Owed C
+  pub is : A owed

@@ -1,0 +1,35 @@
+-- What is written for lines: its whole lines, and what those that give a removal say.
+use Rattle.std.specs.Prelude.{◌≡◌, ℕ, true, List, [], ◌∷◌, ◌++◌, Contains}
+use Rattle.journal.specs.declared.event.What.TheVariants as what
+use Rattle.journal.specs.Events.{event_text}
+use Rattle.text_trace.specs.Lines.{has_line_feed, lines_of}
+use Rattle.trace.specs.Answers.{Recorded}
+use Rattle.trace.specs.Lives.{IsRemoval}
+use Rattle.trace.specs.Walk.{lives_in, walk_over}
+
+-- A whole line of what was written, with its line feed.
+pub record IsLineOf (line written : List ℕ) : Type 0 where
+  pub stands : Contains (lines_of written) line
+  pub ended : has_line_feed line ≡ true
+
+-- The line that gives a removal.
+abbrev pub removal_line : ℕ → ℕ → List ℕ
+removal_line moment m = event_text (record { moment = moment; what = what.Removed m }) ++ 10 ∷ []
+
+-- A life of the walk over these lines reports a removal that this line gives: by a tick, and resting on an accusation.
+pub record IsReported (lines : List (List ℕ)) (line : List ℕ) : Type 0 where
+  pub life : Recorded
+  pub moment : ℕ
+  pub member : ℕ
+  pub recorded : Contains (lives_in (walk_over lines)) life
+  pub spelled : line ≡ removal_line moment member
+  pub removal : IsRemoval life moment member
+
+-- Each whole line of what was written for these lines that gives a removal is the report of a tick of a life, and rests
+-- on an accusation.
+abbrev pub IsJustified : List (List ℕ) → List ℕ → Type 0
+IsJustified lines written = (moment m : ℕ) → IsLineOf (removal_line moment m) written → IsReported lines (removal_line moment m)
+
+-- Each removal that a life of the walk over these lines reports is a line of what was written.
+abbrev pub IsTold : List (List ℕ) → List ℕ → Type 0
+IsTold lines written = (r : Recorded) (moment m : ℕ) → Contains (lives_in (walk_over lines)) r → IsRemoval r moment m → IsLineOf (removal_line moment m) written

@@ -1,0 +1,20 @@
+use Rattle.std.proofs.Common.{◌≡◌, Some, None, refl, sym, ap, subst, ◌∙◌}
+use Rattle.std.specs.Option.{option_copied}
+use Rattle.ff_ids.specs.declared.Group.{Group}
+use Rattle.ff_ids.specs.Faults.{accusation_fault}
+use Rattle.validate.specs.Certified.{certificate_of, key_of}
+use Rattle.validate.specs.Table.{FirstOf, IsSignedBy, fault_in}
+use Rattle.validate.proofs.TableLemmas.{accuser_certified, key_is}
+use Rattle.validate.proofs.table.check_accusation.Goals as goal
+
+pub returns-in_default-get-clause-fault : goal.returns-in_default-get-clause-fault
+returns-in_default-get-clause-fault c = λ s h.
+    let none : certificate_of c.args.roster.now c.args.acc.now.accuser ≡ None = sym c.get.ensures ∙ ap option_copied c.in_default-get.is in
+    absurd (accuser_certified c.args.membership.now s c.args.roster.now c.args.membership.now.group.t c.args.acc.now h c.requires.members (sym (c.accusation_fault.ensures s h) ∙ c.in_default.is) none)
+
+pub returns-clause-fault : goal.returns-clause-fault
+returns-clause-fault c = λ s h.
+    let found : certificate_of c.args.roster.now c.args.acc.now.accuser ≡ Some c.in-Some-get.cert.now = sym c.get.ensures ∙ ap option_copied c.in-Some-get.is in
+    let key = key_is c.args.roster.now c.args.acc.now.accuser c.in-Some-get.cert.now found in
+    let none = ap (λ (g : Group). accusation_fault g.t s c.args.acc.now) (sym c.requires.group) ∙ sym (c.accusation_fault.ensures s h) ∙ c.in_default.is in
+    rw (none, key) c.check_signature.ensures.fault

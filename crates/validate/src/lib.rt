@@ -1,0 +1,13 @@
+//! Checks of signed records: the first fault of an ordered table, the signature last, or the record as checked.
+//! A signature is verified only where no fault stands before it. No check takes memory.
+#![tactic(auto)]
+
+pub mod laws;
+mod roster;
+mod table;
+
+pub use roster::Roster;
+pub use table::check;
+
+#[cfg(test)]
+mod tests;
