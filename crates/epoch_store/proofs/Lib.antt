@@ -1,3 +1,6 @@
 pub mod FileLemmas
 pub mod PutLemmas
 pub mod WriteLemmas
+pub mod ReadLemmas
+pub mod OnceLemmas
+pub mod OpenLemmas

@@ -1,0 +1,2 @@
+-- Opening a store.
+use Rattle.std.proofs.Common.{◌≡◌, ℕ}
