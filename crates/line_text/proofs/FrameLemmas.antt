@@ -3,18 +3,20 @@ use Rattle.std.proofs.Common.{◌≡◌, ℕ, suc, ◌-◌, ◌<◌, ◌≤◌, 
 use Rattle.std.specs.Prelude.{IsOkAnd}
 use Rattle.std.specs.Str.{bytes_eq}
 use Rattle.std.specs.List.{join_with_byte, list_all, All, AllByRecursion}
-use Rattle.std.proofs.lemmas.Bool.{leb-true, ne_eqb, eqb-true, and_parts, ltb-false, not-false}
+use Rattle.std.proofs.lemmas.Bool.{false≢true, leb-true, ne_eqb, eqb-true, and_parts, ltb-false, not-false}
 use Rattle.std.proofs.lemmas.List.{length-append, get_or_at, take_at, take-append-drop, drop_all}
+use Rattle.std.proofs.lemmas.List.Folds.{list_all-append}
 use Rattle.std.proofs.lemmas.List.Elements.{All-from_recursion}
 use Rattle.std.proofs.lemmas.List.Splits.{slice_split_none, slice_split_at, length-slice_split, join_with_byte-slice_split}
 use Rattle.std.proofs.lemmas.Slice.Eq.{bytes_eq-Decides}
+use Rattle.text_trace.specs.Lines.{has_no_feed}
 use Rattle.line_text.specs.declared.bad_word.BadWord.{BadWord}
 use Rattle.line_text.specs.declared.bad_word.BadWord.TheVariants as bad
 use Rattle.line_text.specs.declared.bad_word.LineFault.{LineFault}
 use Rattle.line_text.specs.declared.bad_word.LineFault.TheVariants as faults
 use Rattle.line_text.specs.Answers.{AnswersBy, AnswersThat, Refuses}
 use Rattle.line_text.specs.Fields.{bad_where}
-use Rattle.line_text.specs.Frame.{IsLine, Next, Row, before_line_feed, behind, field_tests, first_bad, first_of, frame_tests, has_line_feed, header_row, is_header, judge, or_else, row_line, row_tests, unless_bad, word_among, words_in}
+use Rattle.line_text.specs.Frame.{IsLine, Next, Row, before_line_feed, behind, field_tests, first_bad, first_of, frame_tests, has_line_feed, header_row, is_header, judge, or_else, row_line, row_of_line, row_tests, unless_bad, word_among, words_in}
 use Rattle.line_text.specs.Words.{is_space, is_printable, is_word, is_spaced, parts}
 
 -- ## Tests that did not hold
@@ -240,3 +242,48 @@ header-line form words line h =
     let p = and_parts _ _ h in
     let many : eqb (length (behind words)) 2 ≡ true = (and_parts _ _ p.1).0 in
     rw many refl
+
+-- ## Rows of several forms
+
+abbrev right : {L : Type 0} → L → Result L BadWord
+right x = Ok x
+
+ok_is : {L : Type 0} (x y : L) → right x ≡ right y → x ≡ y
+ok_is x y e = cc
+
+abbrev pub mapped : {L M : Type 0} → (L → M) → Result L BadWord → Result M BadWord
+mapped of (Err w) = Err w
+mapped of (Ok l) = Ok (of l)
+
+mapped_row : {L M : Type 0} (of : L → M) (stands : Bool) (bad_word : Option BadWord) (l : L) → cond stands (unless_bad bad_word (right (of l))) (Err bad.Order) ≡ mapped of (cond stands (unless_bad bad_word (right l)) (Err bad.Order))
+mapped_row of false bad_word l = refl
+mapped_row of true None l = refl
+mapped_row of true (Some w) l = refl
+
+pub row_mapped : {L M : Type 0} (of : L → M) (row : Result (Row L) BadWord) (words : List (List ℕ)) → row_line (row_of_line of row) words ≡ mapped of (row_line row words)
+row_mapped of (Err w) words = refl
+row_mapped of (Ok row) words = mapped_row of row.stands (first_of (field_tests row.fields words)) (row.line words)
+
+-- a line by the row of its form is one among those of several forms
+pub row_of_line-line : {L M : Type 0} (of : L → M) (row : Result (Row L) BadWord) (words : List (List ℕ)) (l : L) → row_line row words ≡ Ok l → row_line (row_of_line of row) words ≡ Ok (of l)
+row_of_line-line of row words l e = row_mapped of row words ∙ ap (mapped of) e
+
+mapped_ok : {L M : Type 0} (of : L → M) (r : Result L BadWord) (m : M) → mapped of r ≡ Ok m → (l : L) × (r ≡ Ok l) × (of l ≡ m)
+mapped_ok of (Err w) m e = cc
+mapped_ok of (Ok l) m e = (l, refl, ok_is (of l) m e)
+
+-- and the other way round
+pub row_of_line-ok : {L M : Type 0} (of : L → M) (row : Result (Row L) BadWord) (words : List (List ℕ)) (m : M) → row_line (row_of_line of row) words ≡ Ok m → (l : L) × (row_line row words ≡ Ok l) × (of l ≡ m)
+row_of_line-ok of row words m e = mapped_ok of (row_line row words) m (sym (row_mapped of row words) ∙ e)
+
+-- ## The line feed of a line
+
+pub line-fed : {L : Type 0} (ended : Bool) (number : ℕ) (Spells : List (List ℕ) → L → Type 0) (bytes : List ℕ) (l : L) → IsLine ended number Spells bytes l → has_line_feed bytes ≡ true
+line-fed ended number Spells bytes l h = rw h.spaced (fed_again (join_with_byte 32 (h.first ∷ h.others)))
+
+-- Bytes without a line feed are no line.
+pub line-unfed : {L : Type 0} (ended : Bool) (number : ℕ) (Spells : List (List ℕ) → L → Type 0) (bytes : List ℕ) (l : L) → IsLine ended number Spells bytes l → has_no_feed bytes ≡ true → ⊥
+line-unfed ended number Spells bytes l h clear =
+    let text = join_with_byte 32 (h.first ∷ h.others) in
+    let parts = and_parts (has_no_feed text) (has_no_feed (10 ∷ [])) (sym (list_all-append (λ b. not (eqb b 10)) text (10 ∷ [])) ∙ subst (λ (b : List ℕ). has_no_feed b ≡ true) h.spaced clear) in
+    false≢true parts.1

@@ -1,26 +1,19 @@
 -- What the lines of all forms share: the table of bad words, of which the first that holds refuses a line; what
 -- a line is, as a function of its bytes; and what it is, as the grammar says.
-use Rattle.std.specs.Prelude.{◌≡◌, ℕ, ◌-◌, ◌≤◌, Bool, true, false, IsTrue, ◌&&◌, not, nat_lt, ◌==◌, if◌then◌else◌, List, [], ◌∷◌, ◌++◌, length, take, slice_index, Option, Some, None, Result, Ok, Err, codes}
+use Rattle.std.specs.Prelude.{◌≡◌, ℕ, ◌-◌, ◌≤◌, Bool, true, false, IsTrue, ◌&&◌, not, nat_lt, ◌==◌, if◌then◌else◌, List, [], ◌∷◌, ◌++◌, length, take, Option, Some, None, Result, Ok, Err, codes}
 use Rattle.std.specs.List.{join_with_byte, list_all}
 use Rattle.std.specs.Str.{bytes_eq}
 use Rattle.line_text.specs.declared.bad_word.BadWord.{BadWord}
 use Rattle.line_text.specs.declared.bad_word.BadWord.TheVariants as bad
 use Rattle.line_text.specs.Fields.{Field, bad_where}
 use Rattle.line_text.specs.Words.{is_word, is_spaced, parts}
-
--- how many bytes a line may have before its line feed
-abbrev pub line_bytes : ℕ
-line_bytes = 65600
+pub use Rattle.text_trace.specs.Lines.{has_line_feed, line_bytes}
 
 -- how many lines a text may have
 abbrev pub text_lines : ℕ
 text_lines = 100000
 
 -- ## The bytes of a line
-
--- whether a line feed ends them
-abbrev pub has_line_feed : List ℕ → Bool
-has_line_feed bytes = nat_lt 0 (length bytes) && (slice_index bytes (length bytes - 1) == 10)
 
 -- what stands before the line feed that ends them, or all of them
 abbrev pub before_line_feed : List ℕ → List ℕ
@@ -123,6 +116,11 @@ any_word word = None
 -- the row of the header
 abbrev pub header_row : {L : Type 0} → L → Row L
 header_row line = record { stands = true; fields = any_word ∷ any_word ∷ []; line = λ words. line }
+
+-- the same row, whose line stands among those of several forms
+abbrev pub row_of_line : {L M : Type 0} → (L → M) → Result (Row L) BadWord → Result (Row M) BadWord
+row_of_line of (Err word) = Err word
+row_of_line of (Ok row) = Ok (record { stands = row.stands; fields = row.fields; line = λ words. of (row.line words) })
 
 -- The first bad word of the next line, in the order of the table: after-end, long, line-feed, lines, spaces;
 -- header, word or not-built; order; count; and each word's own from the left.

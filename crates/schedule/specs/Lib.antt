@@ -1,6 +1,2 @@
-pub mod Texts
-pub mod Words
-pub mod Numbers
-pub mod Grammar
-pub mod Spelling
-pub mod Fits
+pub mod Forms
+pub mod Laws

@@ -1,20 +1,12 @@
-//! The grammar of the lines of a text: each line is read in one pass, or refused with the first word of
-//! the table of bad words that holds. `specs/` has the grammar; only the places of a `member` line take
-//! memory.
+//! The lines of every text that a command reads: the command says which form the text has, and each form stands in a
+//! crate of its own below.
 #![tactic(auto)]
 
-mod bad_word;
-mod form;
-mod line;
 mod lines;
-mod member;
-mod numbers;
-mod words;
+mod text;
 
-pub use bad_word::{BadWord, LineFault};
-pub use line::{Command, Line, Place, PlaceList, Progress};
-pub use lines::{Lines, before_line_feed, has_line_feed};
-pub use words::Words;
+pub use lines::Lines;
+pub use text::{Command, Line, Text};
 
 #[cfg(test)]
 mod tests;

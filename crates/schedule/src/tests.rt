@@ -1,82 +1,27 @@
-//! Lines that are read, and lines at the limits of a text.
+//! A text for each command.
 
-use crate::{BadWord, Command, Line, LineFault, Lines};
-use ff_ids::{Epoch, Mask, MemberId, NoteBody, RingNo};
-use std::alloc::Global;
+use crate::{Command, Line, Lines};
+use line_text::{BadWord, LineFault};
+use schedule_direct::DirectLine;
 use std::test::Fail;
+use verify_text::VerifyLine;
 
-/// A reader that has read the header and a group of tolerance 1.
-fn below_group(alloc: Global) -> Result<Lines, LineFault> {
+#[test]
+fn the_command_says_which_form(rt: HostRuntime) -> Result<(), Fail> {
     let mut lines = Lines::open(Command::Replay);
-    lines.line(alloc, b"fireflies 1 direct\n")?;
-    lines.line(alloc, b"group 1 3\n")?;
-    Ok(lines)
-}
+    let line = lines.line(rt.alloc(), b"fireflies 1 direct\n")?;
+    assert!(rt; matches!(line, Line::Direct(DirectLine::Header)));
+    let line = lines.line(rt.alloc(), b"group 2 7\n")?;
+    assert!(rt; matches!(line, Line::Direct(DirectLine::Group { t: 2, timeout: 7 })));
+    assert_eq!(rt; lines.number(), 3);
 
-fn bad(word: BadWord) -> Option<LineFault> {
-    Some(LineFault::Bad(word))
-}
-
-#[test]
-fn members_and_notes_are_read(rt: HostRuntime) -> Result<(), Fail> {
-    let alloc = rt.alloc();
-    let mut lines = below_group(alloc)?;
-    let Line::Member { member, places } = lines.line(alloc, b"member 1023 0 4294967295 7\n")? else {
-        return Err(Fail::from("no member"));
-    };
-    assert_eq!(rt; member, MemberId::new(1023));
-    assert_eq!(rt; places.as_slice(), [0, 4294967295, 7].as_slice());
-    let Line::Note(note) = lines.line(alloc, b"note 0 18446744073709551615 4294967295\n")? else {
-        return Err(Fail::from("no note"));
-    };
-    let wanted = NoteBody {
-        member: MemberId::new(0),
-        epoch: Epoch::new(u64::MAX),
-        mask: Mask(u32::MAX),
-    };
-    assert_eq!(rt; note, wanted);
-    Ok(())
-}
-
-#[test]
-fn the_other_lines_are_read(rt: HostRuntime) -> Result<(), Fail> {
-    let alloc = rt.alloc();
-    let mut lines = below_group(alloc)?;
-    let Line::Accuse(accusation) = lines.line(alloc, b"accuse 1 2 3 255\n")? else {
-        return Err(Fail::from("no accusation"));
-    };
-    assert_eq!(rt; accusation.accused, MemberId::new(2));
-    assert_eq!(rt; accusation.ring, RingNo(255));
-    assert!(rt; matches!(lines.line(alloc, b"tick 10000\n")?, Line::Tick(10_000)));
-    assert!(rt; matches!(lines.line(alloc, b"view\n")?, Line::View));
-    assert!(rt; matches!(lines.line(alloc, b"monitor 2 10\n")?, Line::Monitor { .. }));
-    assert!(rt; matches!(lines.line(alloc, b"life\n")?, Line::Life));
-    assert_eq!(rt; lines.end().err(), bad(BadWord::End));
-    assert!(rt; matches!(lines.line(alloc, b"end\n")?, Line::End));
-    assert_eq!(rt; lines.end().err(), None);
-    assert_eq!(rt; lines.line(alloc, b"x\n").err(), bad(BadWord::AfterEnd));
-    Ok(())
-}
-
-#[test]
-fn long_lines_and_long_texts_are_refused(rt: HostRuntime) -> Result<(), Fail> {
-    let alloc = rt.alloc();
-    let mut lines = below_group(alloc)?;
-    let mut text = vec![in alloc; b'x'; 65_600]?;
-    text.push(b'\n')?;
+    let mut lines = Lines::open(Command::Verify);
     assert_eq!(rt;
-        lines.line(alloc, text.as_slice()).err(),
-        bad(BadWord::Word)
+        lines.line(rt.alloc(), b"fireflies 1 direct\n").err(),
+        Some(LineFault::Bad(BadWord::Header))
     );
-    text.insert(0, b'x')?;
-    assert_eq!(rt;
-        lines.line(alloc, text.as_slice()).err(),
-        bad(BadWord::Long)
-    );
-    for _ in 3..100_001 {
-        lines.line(alloc, b"view\n")?;
-    }
-    assert_eq!(rt; lines.line(alloc, b"view\n").err(), bad(BadWord::Lines));
-    assert_eq!(rt; lines.line(alloc, b"view").err(), bad(BadWord::LineFeed));
+    let line = lines.line(rt.alloc(), b"fireflies 1 verify\n")?;
+    assert!(rt; matches!(line, Line::Verify(VerifyLine::Header)));
+    assert_eq!(rt; lines.end(), Err(LineFault::Bad(BadWord::End)));
     Ok(())
 }

@@ -9,3 +9,6 @@ mod read;
 
 pub use direct::Direct;
 pub use line::{DirectLine, PlaceList};
+
+#[cfg(test)]
+mod tests;

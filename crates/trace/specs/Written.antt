@@ -1,16 +1,26 @@
 -- What is written for lines: its whole lines, and what those that give a removal say.
 use Rattle.std.specs.Prelude.{◌≡◌, ℕ, true, List, [], ◌∷◌, ◌++◌, Contains}
+use Rattle.std.specs.List.{AllByRecursion, concat}
 use Rattle.journal.specs.declared.event.What.TheVariants as what
 use Rattle.journal.specs.Events.{event_text}
-use Rattle.text_trace.specs.Lines.{has_line_feed, lines_of}
+use Rattle.text_trace.specs.Lines.{has_no_feed}
 use Rattle.trace.specs.Answers.{Recorded}
 use Rattle.trace.specs.Lives.{IsRemoval}
 use Rattle.trace.specs.Walk.{lives_in, walk_over}
 
--- A whole line of what was written, with its line feed.
+-- The bytes are a line: its only line feed ends it.
+pub record IsWholeLine (line : List ℕ) : Type 0 where
+  pub front : List ℕ
+  pub clear : has_no_feed front ≡ true
+  pub ended : line ≡ front ++ 10 ∷ []
+
+-- The line is a whole line of what was written: whole lines stand before it.
 pub record IsLineOf (line written : List ℕ) : Type 0 where
-  pub stands : Contains (lines_of written) line
-  pub ended : has_line_feed line ≡ true
+  pub earlier : List (List ℕ)
+  pub after : List ℕ
+  pub whole : AllByRecursion IsWholeLine earlier
+  pub here : IsWholeLine line
+  pub parts : written ≡ concat earlier ++ (line ++ after)
 
 -- The line that gives a removal.
 abbrev pub removal_line : ℕ → ℕ → List ℕ

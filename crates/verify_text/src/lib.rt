@@ -10,3 +10,6 @@ mod verify;
 pub use line::VerifyLine;
 pub use question::{Asked, Question, answer_line};
 pub use verify::Verify;
+
+#[cfg(test)]
+mod tests;

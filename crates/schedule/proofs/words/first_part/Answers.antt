@@ -1,8 +1,0 @@
-use Rattle.std.proofs.Common.{◌+◌, sym}
-use Rattle.std.proofs.lemmas.List.{take_rest}
-use Rattle.schedule.proofs.WordLemmas.{parts_at}
-use Rattle.schedule.proofs.words.first_part.Goals as goal
-
-pub returns-in-Some : goal.returns-in-Some
-returns-in-Some c =
-    rw (take_rest c.args.text.now (c.in-Some.at + 1)) (parts_at _ _ (sym c.in-Some.ensures))

@@ -1,0 +1,67 @@
+-- The forms of text, as one: each line and each rule is that of the form that the text has.
+use Rattle.std.specs.Prelude.{◌≡◌, ℕ, Bool, List, Option, Result}
+use Rattle.line_text.specs.declared.bad_word.BadWord.{BadWord}
+use Rattle.line_text.specs.Answers.{Progress, moved, next_line}
+use Rattle.line_text.specs.Frame as frame
+use Rattle.line_text.specs.Frame.{Row, row_of_line}
+use Rattle.schedule_direct.specs.declared.direct.Direct.TheVariants as direct_form
+use Rattle.schedule_direct.specs.Grammar as direct
+use Rattle.schedule_direct.specs.Rows as direct_rows
+use Rattle.verify_text.specs.declared.verify.Verify.TheVariants as verify_form
+use Rattle.verify_text.specs.Grammar as verify
+use Rattle.verify_text.specs.Rows as verify_rows
+use Rattle.schedule.specs.declared.text.Command.{Command}
+use Rattle.schedule.specs.declared.text.Command.TheVariants as commands
+use Rattle.schedule.specs.declared.text.Line.{Line}
+use Rattle.schedule.specs.declared.text.Line.TheVariants as lines
+use Rattle.schedule.specs.declared.text.Text.{Text}
+use Rattle.schedule.specs.declared.text.Text.TheVariants as texts
+
+-- the text of a command, of which nothing has been read
+abbrev pub form_of : Command → Text
+form_of commands.Replay = texts.Direct direct_form.Start
+form_of commands.Verify = texts.Verify verify_form.Start
+
+abbrev pub IsSound : Text → Type 0
+IsSound (texts.Direct d) = direct.IsSound d
+IsSound (texts.Verify v) = verify.IsSound v
+
+abbrev pub is_ended : Text → Bool
+is_ended (texts.Direct d) = direct_rows.is_ended d
+is_ended (texts.Verify v) = verify_rows.is_ended v
+
+abbrev pub row_for : Text → List (List ℕ) → Result (Row Line) BadWord
+row_for (texts.Direct d) ws = row_of_line lines.Direct (direct_rows.row_for d ws)
+row_for (texts.Verify v) ws = row_of_line lines.Verify (verify_rows.row_for v ws)
+
+-- These words are this line, which may stand here, with its numbers and bytes in range.
+abbrev pub Spells : Text → List (List ℕ) → Line → Type 0
+Spells (texts.Direct d) ws (lines.Direct l) = direct.IsDirect d ws l
+Spells (texts.Verify v) ws (lines.Verify l) = verify.IsVerify v ws l
+Spells _ ws _ = ⊥
+
+abbrev pub TakesMemory : Line → Type 0
+TakesMemory (lines.Direct l) = direct_rows.TakesMemory l
+TakesMemory (lines.Verify l) = verify_rows.TakesMemory l
+
+abbrev pub after : Text → Line → Text
+after (texts.Direct d) (lines.Direct l) = texts.Direct (direct.after d l)
+after (texts.Verify v) (lines.Verify l) = texts.Verify (verify.after v l)
+after text _ = text
+
+-- ## A reader
+
+-- Nothing has been read.
+abbrev pub opening : Command → Progress Text
+opening command = record { number = 1; form = form_of command }
+
+-- What the next line is, or its first bad word.
+abbrev pub judge : Progress Text → List ℕ → Result Line BadWord
+judge p bytes = frame.judge (next_line is_ended row_for p) bytes
+
+abbrev pub first_bad : Progress Text → List ℕ → Option BadWord
+first_bad p bytes = frame.first_bad (next_line is_ended row_for p) bytes
+
+-- These bytes are the next line, and it is l.
+abbrev pub IsLine : Progress Text → List ℕ → Line → Type 0
+IsLine p bytes l = frame.IsLine (is_ended p.form) p.number (Spells p.form) bytes l
