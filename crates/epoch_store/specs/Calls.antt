@@ -1,11 +1,14 @@
 -- What the calls of a store answer, and what they do to its file.
-use Rattle.std.specs.Prelude.{◌≡◌, ℕ, Bool, true, false, ◌⊎◌, Option, List, [], ◌∷◌, length, slice_index, Result, Ok, Err}
+use Rattle.std.specs.Prelude.{◌≡◌, ℕ, ◌+◌, ◌<◌, Bool, true, false, ◌⊎◌, Option, None, Some, List, take, [], ◌∷◌, length, slice_index, Result, Ok, Err}
 use Rattle.std.specs.List.{slice_get}
 use Rattle.epoch_store.specs.declared.Stored.{Stored}
 use Rattle.epoch_store.specs.declared.StoreError.{StoreError}
 use Rattle.epoch_store.specs.declared.StoreError.TheVariants.{Fault, Taken, Broken, OtherKey, OutOfMemory}
-use Rattle.ports.specs.Disk.{Moment, settled}
-use Rattle.epoch_store.specs.Reading.{Reading, Finds, Breaks, Differs, Reads}
+use Rattle.epoch_store.specs.declared.entry.Gate.TheVariants.{Shut, Entry}
+use Rattle.epoch_store.specs.Store.{IsEntry, Follows, StoreAt}
+use Rattle.ports.specs.Disk.{Moment, Fails, stays, settled}
+use Rattle.epoch_store.specs.Reading.{Reading, Finds, Breaks, Differs, Reads, ReadsFrom, Stands, window, head_fault}
+use Rattle.epoch_store.specs.declared.entry.Gate.{Gate}
 
 -- what a store keeps in memory: the state, the place of the closed gate, and whether a put has failed
 pub record StoreState : Type 0 where
@@ -89,3 +92,73 @@ OnRefusal (Err (Taken len)) P = P
 OnRefusal (Err (Broken place byte)) P = P
 OnRefusal (Err (OtherKey place byte)) P = P
 OnRefusal (Err OutOfMemory) P = P
+
+-- the head of a file is checked
+abbrev pub ChecksHead : List ℕ → List ℕ → Result Unit StoreError → Type 0
+ChecksHead tag head (Ok value) = head_fault tag head ≡ None
+ChecksHead tag head (Err Fault) = ⊥
+ChecksHead tag head (Err (Taken len)) = ⊥
+ChecksHead tag head (Err (Broken place byte)) = (head_fault tag head ≡ Some (Breaks place)) × (byte ≡ slice_get head place) × (place < 40)
+ChecksHead tag head (Err (OtherKey place byte)) = (head_fault tag head ≡ Some (Differs place)) × (byte ≡ slice_index head place) × (place < 40)
+ChecksHead tag head (Err OutOfMemory) = ⊥
+
+-- the head of a file has no fault, or this one
+abbrev pub HeadAnswer : List ℕ → List ℕ → Result Unit StoreError → Type 0
+HeadAnswer tag image (Ok value) = head_fault tag (take 40 image) ≡ None
+HeadAnswer tag image (Err Fault) = Unit {0}
+HeadAnswer tag image (Err (Taken len)) = ⊥
+HeadAnswer tag image (Err (Broken place byte)) = (head_fault tag (take 40 image) ≡ Some (Breaks place)) × (byte ≡ slice_get image place)
+HeadAnswer tag image (Err (OtherKey place byte)) = (head_fault tag (take 40 image) ≡ Some (Differs place)) × (byte ≡ slice_index image place)
+HeadAnswer tag image (Err OutOfMemory) = ⊥
+
+-- the head of the file is read
+abbrev pub ReadsHead : List ℕ → List Moment → Result Unit StoreError → Type 0
+ReadsHead tag [] result = Unit {0}
+ReadsHead tag (now ∷ past) result = HeadAnswer tag now.image result
+
+-- what stands at a gate of the file is read
+abbrev pub GateAnswer : Option Stored → ℕ → List ℕ → Result Gate StoreError → Type 0
+GateAnswer before gate image (Ok found) = Stands before (window image gate) (Ok found)
+GateAnswer before gate image (Err Fault) = Unit {0}
+GateAnswer before gate image (Err (Taken len)) = ⊥
+GateAnswer before gate image (Err (Broken place byte)) =
+    (at : ℕ) × Stands before (window image gate) (Err at) × (place ≡ gate + at) × (byte ≡ slice_get image place)
+GateAnswer before gate image (Err (OtherKey place byte)) = ⊥
+GateAnswer before gate image (Err OutOfMemory) = ⊥
+
+abbrev pub ReadsGate : Option Stored → ℕ → List Moment → Result Gate StoreError → Type 0
+ReadsGate before gate [] result = Unit {0}
+ReadsGate before gate (now ∷ past) result = GateAnswer before gate now.image result
+
+-- the file was opened or not
+abbrev pub IsOpened : List Moment → List Moment → Result Unit StoreError → Type 0
+IsOpened older newer (Ok value) = newer ≡ older
+IsOpened older newer (Err Fault) = Fails stays older newer
+IsOpened older newer (Err (Taken len)) = ⊥
+IsOpened older newer (Err (Broken place byte)) = ⊥
+IsOpened older newer (Err (OtherKey place byte)) = ⊥
+IsOpened older newer (Err OutOfMemory) = newer ≡ older
+
+-- an entry may come after the one before, if there is one
+abbrev pub IsAfter : Option Stored → Stored → Type 0
+IsAfter None e = Unit {0}
+IsAfter (Some before) e = Follows before e
+
+-- an entry that is found may stand there, and a closed gate stands behind the entry before it
+abbrev pub FindsGate : Option Stored → Result Gate StoreError → Type 0
+FindsGate before (Ok (Shut state)) = before ≡ Some state
+FindsGate before (Ok (Entry e)) = IsEntry e × IsAfter before e
+FindsGate before (Err error) = IsNotTaken {T = Gate} (Err error)
+
+-- the entries are read from the first gate on
+abbrev pub EntriesAnswer : List ℕ → Result StoreState StoreError → Type 0
+EntriesAnswer image result = (reading : Reading) × ReadsFrom image None 40 reading × (result ≡ answer_of image reading)
+
+abbrev pub ReadsEntries : List Moment → Result StoreState StoreError → Type 0
+ReadsEntries [] result = IsNotTaken result
+ReadsEntries (now ∷ past) result = OnRead result (EntriesAnswer now.image result)
+
+-- the file is this store, where it is told
+abbrev pub HoldsStore : List ℕ → Stored → ℕ → List Moment → Type 0
+HoldsStore tag state gate [] = Unit {0}
+HoldsStore tag state gate (now ∷ past) = StoreAt tag now.image state gate

@@ -3,8 +3,8 @@
 use Rattle.std.specs.Prelude.{◌≡◌, ◌≢◌, ℕ, ◌+◌, ◌^◌, ◌<◌, ◌⊎◌, ◌&&◌, nat_eq, nat_lt, nat_le, not, Bool, true, false, if◌then◌else◌, Option, None, Some, MatchOption, List, [], ◌∷◌, ◌++◌, length, take, drop, codes, slice_index, Result, Ok, Err}
 use Rattle.std.specs.List.{common_prefix_len, slice_get}
 use Rattle.epoch_store.specs.declared.Stored.{Stored}
-use Rattle.epoch_store.specs.declared.entry.AtGate.{AtGate}
-use Rattle.epoch_store.specs.declared.entry.AtGate.TheVariants.{Shut, Entry, Broken}
+use Rattle.epoch_store.specs.declared.entry.Gate.{Gate}
+use Rattle.epoch_store.specs.declared.entry.Gate.TheVariants.{Shut, Entry}
 use Rattle.epoch_store.specs.Store.{spelled}
 
 -- what a reading comes to: the state and the place of the closed gate; the place where the file breaks; or the
@@ -64,20 +64,24 @@ pub record IsCut (bytes : List ℕ) : Type 0 where
   pub gate_open : (bytes ≡ []) ⊎ ((rest : List ℕ) × (bytes ≡ 1 ∷ rest))
 
 -- what stands at a gate, the 17 bytes from there on being these, as far as the file has them, and this being
--- the entry before: the first gate must be open
-abbrev pub Stands : Option Stored → List ℕ → AtGate → Type 0
-Stands before bytes Shut = IsClosed bytes × (before ≢ None)
-Stands before bytes (Entry e) = IsOpenEntry bytes e × (wrong_field before e ≡ None)
-Stands before bytes (Broken at) =
+-- the entry before: the first gate must be open. Else how many bytes from the gate on the file breaks
+abbrev pub Stands : Option Stored → List ℕ → Result Gate ℕ → Type 0
+Stands before bytes (Ok (Shut state)) = IsClosed bytes × (before ≡ Some state)
+Stands before bytes (Ok (Entry e)) = IsOpenEntry bytes e × (wrong_field before e ≡ None)
+Stands before bytes (Err at) =
     (IsClosed bytes × (before ≡ None) × (at ≡ 0))
     ⊎ ((IsCut bytes × (at ≡ length bytes))
     ⊎ ((e : Stored) × IsOpenEntry bytes e × (wrong_field before e ≡ Some at)))
 
+-- a gate and the entry behind it
+abbrev pub window : List ℕ → ℕ → List ℕ
+window image gate = take 17 (drop gate image)
+
 -- reading from a gate on, behind this entry
 pub data ReadsFrom (image : List ℕ) : Option Stored → ℕ → Reading → Type 0 where
-  ends : (state : Stored) (gate : ℕ) → Stands (Some state) (take 17 (drop gate image)) Shut → ReadsFrom image (Some state) gate (Finds state gate)
-  breaks : (before : Option Stored) (gate at : ℕ) → Stands before (take 17 (drop gate image)) (Broken at) → ReadsFrom image before gate (Breaks (gate + at))
-  goes : (before : Option Stored) (gate : ℕ) (e : Stored) (reading : Reading) → Stands before (take 17 (drop gate image)) (Entry e) → ReadsFrom image (Some e) (gate + 17) reading → ReadsFrom image before gate reading
+  ends : (before : Option Stored) (gate : ℕ) (state : Stored) → Stands before (window image gate) (Ok (Shut state)) → ReadsFrom image before gate (Finds state gate)
+  breaks : (before : Option Stored) (gate at : ℕ) → Stands before (window image gate) (Err at) → ReadsFrom image before gate (Breaks (gate + at))
+  goes : (before : Option Stored) (gate : ℕ) (e : Stored) (reading : Reading) → Stands before (window image gate) (Ok (Entry e)) → ReadsFrom image (Some e) (gate + 17) reading → ReadsFrom image before gate reading
 
 -- reading a file
 abbrev pub Reads : List ℕ → List ℕ → Reading → Type 0

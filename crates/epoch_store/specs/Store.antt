@@ -2,6 +2,7 @@
 -- closed one.
 use Rattle.std.specs.Prelude.{◌≡◌, ◌≢◌, ℕ, ◌^◌, ◌<◌, ◌≤◌, ◌⊎◌, List, [], ◌∷◌, ◌++◌, length, codes}
 use Rattle.std.specs.Int.{w32, w64, to_be_bytes}
+use Rattle.ff_ids.specs.declared.Mask.{Mask}
 use Rattle.epoch_store.specs.declared.Stored.{Stored}
 use Rattle.ports.specs.Disk.{Moment, Leaves, settled}
 
@@ -49,6 +50,10 @@ pub record StoreAt (tag image : List ℕ) (state : Stored) (gate : ℕ) : Type 0
 -- the file is a store of this tag with this state
 abbrev pub StoreOf : List ℕ → List ℕ → Stored → Type 0
 StoreOf tag image state = (gate : ℕ) × StoreAt tag image state gate
+
+-- the entry of a store that is made new
+abbrev pub first_entry : Mask → Stored
+first_entry mask = record { next = 0; epoch = 0; mask = mask }
 
 -- the bytes of a store that is made new: one entry with next 0 and epoch 0, and a closed gate
 abbrev pub made : List ℕ → Stored → List ℕ

@@ -6,21 +6,28 @@
 //! is 1; the first closed gate ends the file's reading, and the entry before it is the state.
 #![tactic(auto)]
 
-ghost use Rattle.std.specs.Prelude.{◌≡◌, ℕ, ◌+◌, ◌<◌, ◌^◌, List, length, true, false, [], ◌∷◌, ◌++◌, OnOk, OnErr, IfOk, IfErr};
+ghost use Rattle.std.specs.Prelude.{◌≡◌, ℕ, ◌+◌, ◌<◌, ◌≤◌, ◌^◌, List, length, true, false, [], ◌∷◌, ◌++◌, OnOk, OnErr, IfOk, IfErr};
 ghost use Rattle.std.specs.Result.{is_err};
 ghost use Rattle.ports.specs.Count.{counted};
 ghost use Rattle.ports.specs.Disk.{Moment, Since, Fails, stays, torn_at, written};
 ghost use Rattle.epoch_store.specs.declared.StoreError.TheVariants.{Fault};
-ghost use Rattle.epoch_store.specs.Store.{IsEntry, Follows, IsSettled, LeavesEither, LeavesState, made};
-ghost use Rattle.epoch_store.specs.Calls.{StoreState, is_fault, SettlesAs, same, OnRead, OpensAs, IsNotTaken, MakesWhereEmpty, OnRefusal};
+ghost use Rattle.epoch_store.specs.Store.{IsEntry, Follows, IsSettled, LeavesEither, LeavesState, first_entry, made};
+ghost use Rattle.epoch_store.specs.Calls.{StoreState, is_fault, SettlesAs, same, OnRead, OpensAs, IsNotTaken, MakesWhereEmpty, OnRefusal, IsOpened, ReadsHead, ReadsGate, FindsGate, ReadsEntries, HoldsStore};
 
 mod entry;
 
-use entry::{AtGate, entry_bytes, judge};
+use arrayvec::ArrayVec;
+use entry::{Gate, MAGIC, byte_at, check_head, entry_bytes, judge};
 use ff_ids::Mask;
 use ports::{Disk, Failed, Opened};
 use std::marker::Model;
 use thiserror::Error;
+
+/// How many bytes the header and the tag have.
+const HEAD_LEN: usize = 40;
+
+/// How many bytes a gate and its entry have.
+const ENTRY_LEN: usize = 17;
 
 /// What a store keeps: the next index of the key, and the epoch and mask of the newest note that was signed.
 #[derive(Clone, Copy, Debug, PartialEq, Eq)]
@@ -68,6 +75,146 @@ fn write_synced<D: Disk>(disk: &mut D, place: u64, bytes: &[u8]) -> Result<(), F
     disk.sync()
 }
 
+/// Opens the file of that name.
+fn open_file<D: Disk>(disk: &mut D, name: &str) -> Result<(), StoreError>
+    ensures faults { D.faults disk.new ≡ counted (is_fault result) (D.faults disk.old) }
+    ensures opens { IsOpened (D.moments disk.old) (D.moments disk.new) result }
+{
+    match disk.open(name) {
+        Opened::Done => Ok(()),
+        Opened::Failed => Err(StoreError::Fault),
+        Opened::OutOfMemory => Err(StoreError::OutOfMemory),
+    }
+}
+
+/// Puts a piece behind the bytes.
+fn put_piece(bytes: &mut ArrayVec<u8, 58>, piece: &[u8])
+    requires { length bytes.old.items + length piece.now ≤ 58 }
+    ensures { bytes.new.items ≡ bytes.old.items ++ piece.now }
+{
+    for byte in piece {
+        bytes.push(*byte);
+    }
+}
+
+/// The bytes of a store that is made new with this entry.
+fn made_bytes(tag: &[u8; 32], first: Stored) -> ArrayVec<u8, 58>
+    ensures { result.items ≡ made tag.now first }
+{
+    let mut bytes = ArrayVec::new();
+    put_piece(&mut bytes, MAGIC);
+    put_piece(&mut bytes, tag);
+    put_piece(&mut bytes, &[1]);
+    put_piece(&mut bytes, &entry_bytes(first));
+    bytes
+}
+
+/// Makes a store of this tag in the file of that name, with next index 0, epoch 0 and this mask, by opening,
+/// asking for the length, a write of 58 bytes and a sync. After `Ok` a crash leaves exactly these bytes.
+/// `Taken` exactly where the file has bytes already, if the disk does not fail first; then nothing of it has
+/// changed, nor after `OutOfMemory`, which comes from opening alone.
+pub fn make<D: Disk>(disk: &mut D, name: &str, tag: &[u8; 32], mask: Mask) -> Result<(), StoreError>
+    requires { mask.0 < 2 ^ 31 }
+    ensures faults { D.faults disk.new ≡ counted (is_fault result) (D.faults disk.old) }
+    ensures taken { MakesWhereEmpty (D.moments disk.old) result }
+    ensures made { OnOk result (SettlesAs (λ _. made tag.now (first_entry mask)) (D.moments disk.old) (D.moments disk.new)) }
+    ensures store { OnOk result (IsSettled tag.now (first_entry mask) 57 (D.moments disk.new)) }
+    ensures refused { OnRefusal result (D.moments disk.new ≡ D.moments disk.old) }
+    ensures any_moment { Fails (torn_at 0 58) (D.moments disk.old) (D.moments disk.new) }
+{
+    open_file(disk, name)?;
+    let len = disk.len()?;
+    if len > 0 {
+        return Err(StoreError::Taken { len });
+    }
+    let first = Stored {
+        next: 0,
+        epoch: 0,
+        mask,
+    };
+    let bytes = made_bytes(tag, first);
+    write_synced(disk, 0, bytes.as_slice())?;
+    Ok(())
+}
+
+/// Reads the first 40 bytes, and checks that they are the header of a store of this tag.
+fn read_head<D: Disk>(disk: &mut D, tag: &[u8; 32]) -> Result<(), StoreError>
+    ensures faults { D.faults disk.new ≡ counted (is_fault result) (D.faults disk.old) }
+    ensures reads { ReadsHead tag.now (D.moments disk.old) result }
+    ensures not_taken { IsNotTaken result }
+    ensures same { OnRead result (D.moments disk.new ≡ D.moments disk.old) }
+    ensures stays { Fails stays (D.moments disk.old) (D.moments disk.new) }
+{
+    let mut head = [0; HEAD_LEN];
+    let count = disk.read_at(0, &mut head)?;
+    check_head(tag, &head[..count])
+}
+
+/// Reads what stands at a gate.
+fn read_gate<D: Disk>(disk: &mut D, before: Option<Stored>, gate: u64) -> Result<Gate, StoreError>
+    requires { gate < 2 ^ 32 }
+    ensures faults { D.faults disk.new ≡ counted (is_fault result) (D.faults disk.old) }
+    ensures reads { ReadsGate before gate (D.moments disk.old) result }
+    ensures found { FindsGate before result }
+    ensures same { OnRead result (D.moments disk.new ≡ D.moments disk.old) }
+    ensures stays { Fails stays (D.moments disk.old) (D.moments disk.new) }
+{
+    let mut bytes = [0; ENTRY_LEN];
+    let count = disk.read_at(gate, &mut bytes)?;
+    match judge(before, &bytes[..count]) {
+        Ok(found) => Ok(found),
+        Err(at) => Err(StoreError::Broken {
+            place: gate + at as u64,
+            byte: byte_at(&bytes[..count], at),
+        }),
+    }
+}
+
+/// Reads entry after entry, up to the first closed gate.
+fn read_entries<D: Disk>(disk: &mut D) -> Result<Store, StoreError>
+    ensures faults { D.faults disk.new ≡ counted (is_fault result) (D.faults disk.old) }
+    ensures reads { ReadsEntries (D.moments disk.old) result }
+    ensures not_taken { IsNotTaken result }
+    ensures runs { IfOk result (λ store. store.failed ≡ false) }
+    ensures same { OnRead result (D.moments disk.new ≡ D.moments disk.old) }
+    ensures stays { Fails stays (D.moments disk.old) (D.moments disk.new) }
+{
+    let mut before = None;
+    let mut gate = HEAD_LEN as u64;
+    loop {
+        match read_gate(disk, before, gate) {
+            Ok(Gate::Shut(state)) => {
+                return Ok(Store {
+                    state,
+                    gate,
+                    failed: false,
+                });
+            }
+            Ok(Gate::Entry(entry)) => {
+                before = Some(entry);
+                gate += ENTRY_LEN as u64;
+            }
+            Err(error) => return Err(error),
+        }
+    }
+}
+
+/// Reads the file whole.
+fn read_store<D: Disk>(disk: &mut D, tag: &[u8; 32]) -> Result<Store, StoreError>
+    ensures faults { D.faults disk.new ≡ counted (is_fault result) (D.faults disk.old) }
+    ensures reads { OpensAs tag.now (D.moments disk.old) result }
+    ensures not_taken { IsNotTaken result }
+    ensures runs { IfOk result (λ store. store.failed ≡ false) }
+    ensures store { IfOk result (λ store. HoldsStore tag.now store.state store.gate (D.moments disk.old)) }
+    ensures same { OnRead result (D.moments disk.new ≡ D.moments disk.old) }
+    ensures stays { Fails stays (D.moments disk.old) (D.moments disk.new) }
+{
+    match read_head(disk, tag) {
+        Ok(()) => read_entries(disk),
+        Err(error) => Err(error),
+    }
+}
+
 /// A store that was opened.
 #[derive(Drop)]
 pub struct Store {
@@ -89,6 +236,25 @@ impl Model for Store {
 }
 
 impl Store {
+    /// Opens the store of this tag in the file of that name, by opening, a sync, a read of 40 bytes and a read
+    /// of 17 bytes at each gate up to the first closed one; a refusal ends it. `Broken` and `OtherKey` are
+    /// exactly those of the reading of the file, if the disk does not fail first. Whatever it answers, each
+    /// file that a crash leaves is one that a crash before the call might have left; and but for `Fault` and
+    /// `OutOfMemory`, which comes from opening alone, the file is settled as it was.
+    pub fn open<D: Disk>(disk: &mut D, name: &str, tag: &[u8; 32]) -> Result<Store, StoreError>
+        ensures faults { D.faults disk.new ≡ counted (is_fault result) (D.faults disk.old) }
+        ensures reads { OpensAs tag.now (D.moments disk.old) result }
+        ensures not_taken { IsNotTaken result }
+        ensures runs { IfOk result (λ store. store.failed ≡ false) }
+        ensures store { IfOk result (λ store. IsSettled tag.now store.state store.gate (D.moments disk.new)) }
+        ensures settles { OnRead result (SettlesAs same (D.moments disk.old) (D.moments disk.new)) }
+        ensures any_moment { Fails stays (D.moments disk.old) (D.moments disk.new) }
+    {
+        open_file(disk, name)?;
+        disk.sync()?;
+        read_store(disk, tag)
+    }
+
     /// What it keeps.
     pub fn state(&self) -> Stored
         ensures value { result ≡ self.now.state }
@@ -126,7 +292,7 @@ impl Store {
         write_synced(disk, self.gate + 1, &entry_bytes(next))?;
         write_synced(disk, self.gate, &[1])?;
         self.state = next;
-        self.gate += 17;
+        self.gate += ENTRY_LEN as u64;
         self.failed = false;
         Ok(())
     }

@@ -10,7 +10,9 @@ use Rattle.trace.specs.Lives.{IsJustifiedWalk}
 use Rattle.trace.specs.Walk.{replayed, walk_over}
 use Rattle.trace.specs.Written.{IsJustified, IsTold}
 use Rattle.trace.proofs.AnswerLemmas.{rule-out}
+use Rattle.trace.proofs.JustifiedLemmas.{justified-written, told-written}
 use Rattle.trace.proofs.SinceLemmas.{ends-acceptance}
+use Rattle.trace.proofs.UnfedLemmas.{unfed-adds-nothing}
 use Rattle.trace.proofs.UprightLemmas.{justified-walk}
 use Rattle.fireflies.specs.Ends.{Ends, Is, Stands, Tells, room}
 use Rattle.fireflies.specs.Headline.{Headline, OnWhole}
@@ -20,13 +22,7 @@ use Rattle.fireflies.specs.declared.status.Status.{Status}
 use Rattle.fireflies.specs.declared.status.Status.TheVariants as status
 
 silently : EndsSilently replayed
-silently = ?
-
-justified-written : (lines : List (List ℕ)) (written rest : List ℕ) → (replayed lines).output ≡ written ++ rest → IsJustified lines written
-justified-written = ?
-
-told-written : (lines : List (List ℕ)) → IsTold lines (replayed lines).output
-told-written = ?
+silently = unfed-adds-nothing
 
 whole : (was now : Standing) (s : Status) (ends : Ends replayed was now s) → OnWhole s ((traced replayed was now s ends).rest ≡ [])
 whole was now status.Ok ends = (traced replayed was now status.Ok ends).whole

@@ -1,20 +1,29 @@
 -- What was written, beside the trace of what was taken.
-use Rattle.std.proofs.Common.{◌≡◌, ◌<◌, ◌≤◌, ℕ, length, Option, Some, None, List, [], ◌∷◌, ◌++◌, take, drop, refl, sym, subst, ◌∙◌, ap, inl, inr, arith, append-nil, append_assoc, take-append-drop, lit<, true}
-use Rattle.std.specs.Io.KnownBytes.{Appends, Consumes}
-use Rattle.std.proofs.KnownBytes.{Appends-trans}
-use Rattle.std.proofs.lemmas.List.{append_cancel_left}
+use Rattle.std.proofs.Common.{◌≡◌, ◌<◌, ◌≤◌, ℕ, length, Option, Some, None, List, [], ◌∷◌, ◌++◌, take, drop, refl, sym, subst, ◌∙◌, ap, inl, inr, arith, append-nil, append_assoc, take-append-drop, lit<, lit≤, true, ◌+◌, map, length-append}
+use Rattle.std.specs.Prelude.{IfSome}
+use Rattle.std.specs.Io.KnownBytes.{Appends, Consumes, IsAtEnd}
+use Rattle.std.proofs.KnownBytes.{Appends-trans, Consumes-whole}
+use Rattle.std.proofs.lemmas.List.{append_cancel_left, take_all}
 use Rattle.line_text.specs.declared.bad_word.BadWord.{BadWord}
 use Rattle.ports.specs.Contents.{IsUsedUp}
-use Rattle.play.specs.Plays.{Standing, Lines, Finished, Refused, Unread, Unwritten, Starved, IsLast, bytes_of, Follows}
+use Rattle.play.specs.Plays.{Standing, Lines, Finished, Refused, Unread, Unwritten, Starved, IsLast, IsUpToLine, bytes_of, Follows}
 use Rattle.play.specs.Reading.{IsRest}
 use Rattle.text_trace.specs.Lines.{has_no_feed, seen, AreWhole, IsFed, IsCut, IsNext}
 use Rattle.text_trace.specs.Trace.{Owed, Trace, Writes, Refuses, before}
 use Rattle.text_trace.proofs.WholeLemmas.{whole-one, whole-join, rest-next, cut-next, fed-next}
+use Rattle.text_trace.proofs.LineLemmas.{lines_of-rest}
 use Rattle.fireflies.specs.Causes.{cause_line}
 use Rattle.fireflies.specs.Ends.{Cut, Ends, Is, Stands, Tells, Told, room}
-use Rattle.fireflies.specs.Traced.{EndsSilently, IsOwed, Traced}
+use Rattle.fireflies.specs.Traced.{EndsSilently, IsCause, IsEarly, IsNumber, IsOwed, IsTrace, SpeaksAtEnd, Traced}
 use Rattle.fireflies.specs.declared.status.Status.{Status}
 use Rattle.fireflies.specs.declared.status.Status.TheVariants as status
+
+none-shorter : {A : Type 0} (n : ℕ) → n < 0 → A
+none-shorter n h = absurd (omega arith)
+
+at-end : (left : Option (List ℕ)) → IsUsedUp left → IsAtEnd left
+at-end None none = tt
+at-end (Some left) none = none
 
 -- Before the line of the cause: these bytes were taken, and a front of their trace was written.
 record Fronted (owed : Owed BadWord) (was now : Standing) (first : Status) : Type 0 where
@@ -22,32 +31,103 @@ record Fronted (owed : Owed BadWord) (was now : Standing) (first : Status) : Typ
   text : List ℕ
   rest : List ℕ
   read : Consumes was.left now.left bytes
+  few : length (seen bytes) ≤ room + 1
+  number : IsNumber bytes now.left first
   wrote : Appends was.taken now.taken text
   front : (owed (seen bytes)).output ≡ text ++ rest
   whole : IsOwed owed rest first
+  cause : IsCause (owed (seen bytes)).cause first
+  exact : IsTrace owed was.left text first
+  early : IsEarly owed text first
 
 -- whole lines, as they are seen
 seen-whole : (lines : List (List ℕ)) (bytes : List ℕ) → AreWhole lines bytes → seen bytes ≡ lines
 seen-whole lines bytes whole = ap seen (sym (append-nil bytes)) ∙ whole.first [] ∙ append-nil lines
 
--- a line with its line feed, as much as is seen of a longer one, or what was left of the text, is what is seen of it
-last-next : (line : List ℕ) (left : Option (List ℕ)) → IsLast (Some line) left → IsNext line (seen line)
-last-next line left is =
+-- a line without its line feed, no more than is seen of one
+unfed-only : (line : List ℕ) → has_no_feed line ≡ true → 0 < length line → length line ≤ 65601 → seen line ≡ line ∷ []
+unfed-only [] clear some short = absurd (none-shorter _ some)
+unfed-only (b ∷ rest) clear some short = ap (map (take 65601)) (lines_of-rest b rest clear) ∙ ap (λ (l : List ℕ). l ∷ []) (take_all 65601 (b ∷ rest) short)
+
+fed-only : (line : List ℕ) → IsFed line → seen line ≡ line ∷ []
+fed-only line fed = ap seen (sym (append-nil line)) ∙ (whole-one line fed).first []
+
+-- a line with its line feed, as much as is seen of a longer one, or what was left of the text, is all that is seen of it
+last-only : (line : List ℕ) (left : Option (List ℕ)) → IsLast (Some line) left → seen line ≡ line ∷ []
+last-only line left is =
     elim is [
-        inl fed ↦ subst (λ (bytes : List ℕ). IsNext line (seen bytes)) (append-nil line) (fed-next line [] fed)
+        inl fed ↦ fed-only line fed
       | inr other ↦ elim other [
-            inl cut ↦ subst (λ (bytes : List ℕ). IsNext line (seen bytes)) (append-nil line) (cut-next line [] cut)
-          | inr rest ↦ rest-next line rest.clear ? rest.short ] ]
+            inl cut ↦ unfed-only line cut.clear (omega (arith, cut.long)) (omega (arith, cut.long))
+          | inr rest ↦ unfed-only line rest.rest.clear rest.some (omega (arith, rest.rest.short)) ] ]
+
+-- how many lines are seen of no more than a line
+upto-one : (part : List ℕ) → IsUpToLine part → length (seen part) ≤ 1
+upto-one [] is = lit≤ tt
+upto-one (b ∷ part) is =
+    elim is [
+        inl clear ↦ let one = ap length (unfed-only (b ∷ part) clear.0 (omega arith) clear.1) in omega (arith, one)
+      | inr fed ↦ let one = ap length (fed-only (b ∷ part) fed) in omega (arith, one) ]
+
+upto-last : (last left : Option (List ℕ)) → IsLast last left → IsUpToLine (bytes_of last)
+upto-last None left is = inl (refl, lit≤ tt)
+upto-last (Some line) left is =
+    elim is [
+        inl fed ↦ inr fed
+      | inr other ↦ elim other [ inl cut ↦ inl (cut.clear, omega (arith, cut.long)) | inr rest ↦ inl (rest.rest.clear, omega (arith, rest.rest.short)) ] ]
+
+few-lines : (lines : List (List ℕ)) (bytes part : List ℕ) → Lines room lines bytes → IsUpToLine part → length (seen (bytes ++ part)) ≤ room + 1
+few-lines lines bytes part taken is =
+    let all = ap length (taken.whole.first part) ∙ length-append lines (seen part) in
+    omega (arith, all, upto-one part is, taken.few)
+
+numbered : (lines : List (List ℕ)) (bytes : List ℕ) (last left : Option (List ℕ)) (line : ℕ) (refusal : BadWord) → AreWhole lines bytes → IsLast last left → line ≡ 1 + length lines
+    → IsNumber (bytes ++ bytes_of last) left (status.BadInput line refusal)
+numbered lines bytes None left line refusal whole is counted =
+    let all = ap length (whole.first []) ∙ length-append lines [] in
+    inr (omega (arith, all, counted), is)
+numbered lines bytes (Some one) left line refusal whole is counted =
+    let all = ap length (whole.first one ∙ ap (λ (x : List (List ℕ)). lines ++ x) (last-only one left is)) ∙ length-append lines (one ∷ []) in
+    inl (omega (arith, all, counted))
 
 refused : (owed : Owed BadWord) (lines : List (List ℕ)) (bytes text : List ℕ) (refusal : BadWord) (last : Option (List ℕ)) (left : Option (List ℕ))
-    → AreWhole lines bytes → IsLast last left → Refuses BadWord (Is owed) lines last text refusal → (owed (seen (bytes ++ bytes_of last))).output ≡ text ++ []
+    → AreWhole lines bytes → IsLast last left → Refuses BadWord (Is owed) lines last text refusal → owed (seen (bytes ++ bytes_of last)) ≡ record { output = text; cause = Some refusal }
 refused owed lines bytes text refusal None left whole is refuses =
     let same : seen (bytes ++ []) ≡ lines = whole.first [] ∙ append-nil lines in
-    rw same (ap (λ (t : Trace BadWord). t.output) (refuses owed refl) ∙ sym (append-nil text))
+    rw same (refuses owed refl)
 refused owed lines bytes text refusal (Some line) left whole is refuses =
-    let next = last-next line left is in
-    let same : seen (bytes ++ line) ≡ lines ++ line ∷ next.others = whole.first line ∙ ap (λ (others : List (List ℕ)). lines ++ others) next.same in
-    rw same (ap (λ (t : Trace BadWord). t.output) (refuses owed refl next.others) ∙ sym (append-nil text))
+    let same : seen (bytes ++ line) ≡ lines ++ line ∷ [] = whole.first line ∙ ap (λ (others : List (List ℕ)). lines ++ others) (last-only line left is) in
+    rw same (refuses owed refl [])
+
+-- a last line begins what is seen of it and of all that is left behind it
+begins : (line rest : List ℕ) → IsLast (Some line) (Some rest) → IsNext line (seen (line ++ rest))
+begins line rest is =
+    elim is [
+        inl fed ↦ fed-next line rest fed
+      | inr other ↦ elim other [
+            inl cut ↦ cut-next line rest cut
+          | inr end ↦ record { others = []; same = ap (λ (behind : List ℕ). seen (line ++ behind)) end.rest.used_up ∙ ap seen (append-nil line) ∙ last-only line (Some rest) (inr (inr end)) } ] ]
+
+-- the trace of a text that a line refuses is known, whatever stands behind the line
+refused-all : (owed : Owed BadWord) (lines : List (List ℕ)) (bytes text rest : List ℕ) (refusal : BadWord) (last : Option (List ℕ))
+    → AreWhole lines bytes → IsLast last (Some rest) → Refuses BadWord (Is owed) lines last text refusal → owed (seen ((bytes ++ bytes_of last) ++ rest)) ≡ record { output = text; cause = Some refusal }
+refused-all owed lines bytes text rest refusal None whole is refuses =
+    let none : (bytes ++ []) ++ rest ≡ bytes ++ [] = ap (λ (behind : List ℕ). (bytes ++ []) ++ behind) is ∙ append-nil (bytes ++ []) in
+    let same : seen ((bytes ++ []) ++ rest) ≡ lines = ap seen none ∙ whole.first [] ∙ append-nil lines in
+    rw same (refuses owed refl)
+refused-all owed lines bytes text rest refusal (Some line) whole is refuses =
+    let next = begins line rest is in
+    let same : seen ((bytes ++ line) ++ rest) ≡ lines ++ line ∷ next.others =
+        ap seen (append_assoc bytes line rest) ∙ whole.first (line ++ rest) ∙ ap (λ (x : List (List ℕ)). lines ++ x) next.same in
+    rw same (refuses owed refl next.others)
+
+refused-told : (owed : Owed BadWord) (lines : List (List ℕ)) (bytes text : List ℕ) (refusal : BadWord) (last before after : Option (List ℕ))
+    → Consumes before after (bytes ++ bytes_of last) → AreWhole lines bytes → IsLast last after → Refuses BadWord (Is owed) lines last text refusal
+    → IfSome before (λ all. owed (seen all) ≡ record { output = text; cause = Some refusal })
+refused-told owed lines bytes text refusal last None after took whole is refuses = tt
+refused-told owed lines bytes text refusal last (Some all) None took whole is refuses = absurd took
+refused-told owed lines bytes text refusal last (Some all) (Some rest) took whole is refuses =
+    rw took (refused-all owed lines bytes text rest refusal last whole is refuses)
 
 -- a front of what is owed, of which more is owed
 record OwedBehind (owed : Owed BadWord) (bytes text : List ℕ) : Type 0 where
@@ -90,11 +170,23 @@ silent owed lines [] text writes clear short quiet =
     let waits : (goes.later one).output ≡ [] = goes.owes (97 ∷ []) [] refl in
     let short : (owed lines).output ≡ text ++ (goes.later []).output = ap (λ (l : List (List ℕ)). out (owed l)) (sym (append-nil lines)) ∙ ap out (goes.same []) in
     let long : (owed (lines ++ one)).output ≡ text ++ (goes.later one).output = ap out (goes.same one) in
-    append_cancel_left text _ _ (sym short ∙ sym (quiet lines (97 ∷ []) refl (lit< tt)) ∙ long) ∙ waits
+    append_cancel_left text _ _ (sym short ∙ sym (quiet lines (97 ∷ []) refl) ∙ long) ∙ waits
 silent owed lines (b ∷ part) text writes clear short quiet =
     let goes = writes owed refl in
     let next = rest-next (b ∷ part) clear (omega arith) short in
     ap (λ (l : List (List ℕ)). (goes.later l).output) next.same ∙ goes.owes (b ∷ part) next.others clear
+
+pub no-front : (front rest : List ℕ) → front ++ rest ≡ [] → front ≡ []
+no-front [] rest none = refl
+no-front (b ∷ front) rest none = cc
+
+-- where nothing is written before the end of a text, no whole lines have a trace
+nothing-early : (owed : Owed BadWord) (lines : List (List ℕ)) (text : List ℕ) → Writes BadWord (Is owed) lines text → SpeaksAtEnd owed → text ≡ []
+nothing-early owed lines text writes late =
+    let goes = writes owed refl in
+    let one : List (List ℕ) = (97 ∷ []) ∷ [] in
+    let long : (owed (lines ++ one)).output ≡ text ++ (goes.later one).output = ap (λ (t : Trace BadWord). t.output) (goes.same one) in
+    no-front text (goes.later one).output (sym long ∙ late lines (97 ∷ []) refl)
 
 fronted : (owed : Owed BadWord) (was now : Standing) (first : Status) → Stands owed was now first → Fronted owed was now first
 fronted owed was now status.Ok stood = record {
@@ -102,20 +194,34 @@ fronted owed was now status.Ok stood = record {
   text = stood.text;
   rest = [];
   read = stood.read;
+  few = let all = ap length (seen-whole stood.lines stood.bytes stood.taken.whole) in omega (arith, all, stood.taken.few);
+  number = stood.used_up;
   wrote = stood.wrote;
   front = rw (seen-whole stood.lines stood.bytes stood.taken.whole) (ap (λ (t : Trace BadWord). t.output) (stood.ends owed refl) ∙ sym (append-nil stood.text));
   whole = refl;
+  cause = rw (seen-whole stood.lines stood.bytes stood.taken.whole) (ap (λ (t : Trace BadWord). t.cause) (stood.ends owed refl));
+  exact =
+      Consumes-whole was.left now.left stood.bytes (λ all. owed (seen all) ≡ record { output = stood.text; cause = None }) stood.read
+      (at-end now.left stood.used_up) (rw (seen-whole stood.lines stood.bytes stood.taken.whole) (stood.ends owed refl));
+  early = tt;
 }
 fronted owed was now status.Usage stood = absurd stood
-fronted owed was now (status.BadInput line refusal) stood = record {
-  bytes = stood.bytes ++ bytes_of stood.last;
-  text = stood.text;
-  rest = [];
-  read = stood.read;
-  wrote = stood.wrote;
-  front = refused owed stood.lines stood.bytes stood.text refusal stood.last now.left stood.taken.whole stood.stands stood.refuses;
-  whole = refl;
-}
+fronted owed was now (status.BadInput line refusal) stood =
+    let trace = refused owed stood.lines stood.bytes stood.text refusal stood.last now.left stood.taken.whole stood.stands stood.refuses in
+    record {
+      bytes = stood.bytes ++ bytes_of stood.last;
+      text = stood.text;
+      rest = [];
+      read = stood.read;
+      few = few-lines stood.lines stood.bytes (bytes_of stood.last) stood.taken (upto-last stood.last now.left stood.stands);
+      number = numbered stood.lines stood.bytes stood.last now.left line refusal stood.taken.whole stood.stands stood.counted;
+      wrote = stood.wrote;
+      front = ap (λ (t : Trace BadWord). t.output) trace ∙ sym (append-nil stood.text);
+      whole = refl;
+      cause = ap (λ (t : Trace BadWord). t.cause) trace;
+      exact = refused-told owed stood.lines stood.bytes stood.text refusal stood.last was.left now.left stood.read stood.taken.whole stood.stands stood.refuses;
+      early = tt;
+    }
 fronted owed was now status.ReadFault stood =
     let more = behind owed stood.lines stood.bytes stood.part stood.text stood.taken.whole stood.writes in
     record {
@@ -123,33 +229,80 @@ fronted owed was now status.ReadFault stood =
       text = stood.text;
       rest = more.rest;
       read = stood.read;
+      few = few-lines stood.lines stood.bytes stood.part stood.taken (inl (stood.clear, omega (arith, stood.short)));
+      number = tt;
       wrote = stood.wrote;
       front = more.same;
       whole = λ quiet. silent owed stood.lines stood.part stood.text stood.writes stood.clear stood.short quiet;
+      cause = tt;
+      exact = tt;
+      early = λ late. nothing-early owed stood.lines stood.text stood.writes late;
     }
 fronted owed was now status.WriteFault stood =
     let more = shorter owed _ stood.text stood.more stood.count (follows owed stood.lines stood.bytes (stood.text ++ stood.more) stood.last stood.taken.whole stood.follows) in
-    record { bytes = stood.bytes ++ bytes_of stood.last; text = stood.text ++ take stood.count stood.more; rest = more.rest; read = stood.read; wrote = stood.wrote; front = more.same; whole = tt }
+    record {
+      bytes = stood.bytes ++ bytes_of stood.last;
+      text = stood.text ++ take stood.count stood.more;
+      rest = more.rest;
+      read = stood.read;
+      few = few-lines stood.lines stood.bytes (bytes_of stood.last) stood.taken (upto-last stood.last now.left stood.stands);
+      number = tt;
+      wrote = stood.wrote;
+      front = more.same;
+      whole = tt;
+      cause = tt;
+      exact = tt;
+      early = tt;
+    }
 fronted owed was now status.OutOfMemory stood =
     let more = behind owed stood.lines stood.bytes stood.part stood.text stood.taken.whole stood.writes in
-    record { bytes = stood.bytes ++ stood.part; text = stood.text; rest = more.rest; read = stood.read; wrote = stood.wrote; front = more.same; whole = tt }
+    record {
+      bytes = stood.bytes ++ stood.part;
+      text = stood.text;
+      rest = more.rest;
+      read = stood.read;
+      few = few-lines stood.lines stood.bytes stood.part stood.taken stood.one;
+      number = tt;
+      wrote = stood.wrote;
+      front = more.same;
+      whole = tt;
+      cause = tt;
+      exact = tt;
+      early = λ late. nothing-early owed stood.lines stood.text stood.writes late;
+    }
+
+-- What is known of the trace at the first cause is known at the answer.
+record Kept (owed : Owed BadWord) (bytes rest text : List ℕ) (before left : Option (List ℕ)) (refusal : Option BadWord) (s : Status) : Type 0 where
+  number : IsNumber bytes left s
+  whole : IsOwed owed rest s
+  cause : IsCause refusal s
+  exact : IsTrace owed before text s
+  early : IsEarly owed text s
 
 -- what stands behind the line of the cause
-ended : (owed : Owed BadWord) (was between now : Standing) (first s : Status) (line : List ℕ) → now.left ≡ between.left → Appends between.taken now.taken line → ((rest : List ℕ) → IsOwed owed rest first → IsOwed owed rest s) → Fronted owed was between first → Traced owed was now s
-ended owed was between now first s line left wrote kept f = record {
+ended : (owed : Owed BadWord) (was between now : Standing) (first s : Status) (line : List ℕ) → now.left ≡ between.left → Appends between.taken now.taken line → (f : Fronted owed was between first) → Kept owed f.bytes f.rest f.text was.left between.left (owed (seen f.bytes)).cause s → Traced owed was now s
+ended owed was between now first s line left wrote f kept = record {
   bytes = f.bytes;
   text = f.text;
   rest = f.rest;
   line = line;
   read = subst (λ (o : Option (List ℕ)). Consumes was.left o f.bytes) (sym left) f.read;
+  few = f.few;
+  number = subst (λ (o : Option (List ℕ)). IsNumber f.bytes o s) (sym left) kept.number;
   wrote = Appends-trans was.taken between.taken now.taken f.text line f.wrote wrote;
   front = f.front;
-  whole = kept f.rest f.whole;
+  whole = kept.whole;
+  cause = kept.cause;
+  exact = kept.exact;
+  early = kept.early;
 }
 
 pub traced : (owed : Owed BadWord) (was now : Standing) (s : Status) → Ends owed was now s → Traced owed was now s
 traced owed was now s ends =
     let f = fronted owed was ends.between ends.first ends.stands in
+    let known : Kept owed f.bytes f.rest f.text was.left ends.between.left (owed (seen f.bytes)).cause ends.first = record { number = f.number; whole = f.whole; cause = f.cause; exact = f.exact; early = f.early } in
+    let none : Kept owed f.bytes f.rest f.text was.left ends.between.left (owed (seen f.bytes)).cause status.WriteFault = record { number = tt; whole = tt; cause = tt; exact = tt; early = tt } in
+    let P : Status → Type 0 = Kept owed f.bytes f.rest f.text was.left ends.between.left (owed (seen f.bytes)).cause in
     elim ends.tells [
-        inl t ↦ ended owed was ends.between now ends.first s (cause_line ends.first) t.1.left t.1.line (λ rest h. subst (IsOwed owed rest) (sym t.0) h) f
-      | inr t ↦ ended owed was ends.between now ends.first s (take t.1.front.count (cause_line ends.first)) t.1.left t.1.front.gained (λ rest h. subst (IsOwed owed rest) (sym t.0) tt) f ]
+        inl t ↦ ended owed was ends.between now ends.first s (cause_line ends.first) t.1.left t.1.line f (subst P (sym t.0) known)
+      | inr t ↦ ended owed was ends.between now ends.first s (take t.1.front.count (cause_line ends.first)) t.1.left t.1.front.gained f (subst P (sym t.0) none) ]

@@ -1,17 +1,23 @@
 -- What was written, beside the trace of what was taken.
-use Rattle.std.specs.Prelude.{◌≡◌, ◌<◌, ℕ, true, List, [], ◌∷◌, ◌++◌, length, Option}
+use Rattle.std.specs.Prelude.{◌≡◌, ◌≤◌, ◌+◌, ◌⊎◌, ℕ, true, List, [], ◌∷◌, ◌++◌, length, Option, Some, None, IfSome}
 use Rattle.std.specs.Io.KnownBytes.{Appends, Consumes}
 use Rattle.line_text.specs.declared.bad_word.BadWord.{BadWord}
 use Rattle.play.specs.Plays.{Standing}
 use Rattle.text_trace.specs.Lines.{has_no_feed, seen}
 use Rattle.text_trace.specs.Trace.{Owed}
-use Rattle.fireflies.specs.Causes.{cause_line}
+use Rattle.ports.specs.Contents.{IsUsedUp}
+use Rattle.ports.specs.Count.{Rose}
+use Rattle.fireflies.specs.Ends.{room}
 use Rattle.fireflies.specs.declared.status.Status.{Status}
 use Rattle.fireflies.specs.declared.status.Status.TheVariants as status
 
 -- A last line without its line feed adds nothing to the trace; so nothing is written at the end of a text alone.
 abbrev pub EndsSilently : Owed BadWord → Type 0
-EndsSilently owed = (lines : List (List ℕ)) (line : List ℕ) → has_no_feed line ≡ true → 0 < length line → (owed (lines ++ line ∷ [])).output ≡ (owed lines).output
+EndsSilently owed = (lines : List (List ℕ)) (line : List ℕ) → has_no_feed line ≡ true → (owed (lines ++ line ∷ [])).output ≡ (owed lines).output
+
+-- A text whose last line has no line feed has an empty trace; so nothing is written before the end of a text.
+abbrev pub SpeaksAtEnd : Owed BadWord → Type 0
+SpeaksAtEnd owed = (lines : List (List ℕ)) (line : List ℕ) → has_no_feed line ≡ true → (owed (lines ++ line ∷ [])).output ≡ []
 
 -- What a run owes behind what it wrote: nothing where it came to the end or to a line that is refused; nor at a read
 -- fault, where nothing is written at the end alone.
@@ -21,6 +27,31 @@ IsOwed owed rest (status.BadInput line refused) = rest ≡ []
 IsOwed owed rest status.ReadFault = EndsSilently owed → rest ≡ []
 IsOwed owed rest _ = Unit {0}
 
+-- What refuses the text of the trace: nothing where the run came to its end, else the word of the answer.
+abbrev pub IsCause : Option BadWord → Status → Type 0
+IsCause cause status.Ok = cause ≡ None
+IsCause cause (status.BadInput line refused) = cause ≡ Some refused
+IsCause cause _ = Unit {0}
+
+-- The trace of the whole text, where the bytes left at first are told: where the run came to its end or to a line that
+-- is refused, what was written is all of it, whatever stands behind the line.
+abbrev pub IsTrace : Owed BadWord → Option (List ℕ) → List ℕ → Status → Type 0
+IsTrace owed left text status.Ok = IfSome left (λ all. owed (seen all) ≡ record { output = text; cause = None })
+IsTrace owed left text (status.BadInput line refused) = IfSome left (λ all. owed (seen all) ≡ record { output = text; cause = Some refused })
+IsTrace owed left text _ = Unit {0}
+
+-- What was written early: nothing, where nothing is written before the end of a text.
+abbrev pub IsEarly : Owed BadWord → List ℕ → Status → Type 0
+IsEarly owed text status.ReadFault = SpeaksAtEnd owed → text ≡ []
+IsEarly owed text status.OutOfMemory = SpeaksAtEnd owed → text ≡ []
+IsEarly owed text _ = Unit {0}
+
+-- The number of the line that is refused: that of the last line that was taken; or one more, at the end of the text.
+abbrev pub IsNumber : List ℕ → Option (List ℕ) → Status → Type 0
+IsNumber bytes left (status.BadInput line refused) = (line ≡ length (seen bytes)) ⊎ ((line ≡ length (seen bytes) + 1) × IsUsedUp left)
+IsNumber bytes left status.Ok = IsUsedUp left
+IsNumber bytes left _ = Unit {0}
+
 -- These bytes were taken from the source. Written was a front of their trace, and behind it the line of the cause, or a
 -- front of it where a write failed.
 pub record Traced (owed : Owed BadWord) (was now : Standing) (s : Status) : Type 0 where
@@ -29,6 +60,20 @@ pub record Traced (owed : Owed BadWord) (was now : Standing) (s : Status) : Type
   pub rest : List ℕ
   pub line : List ℕ
   pub read : Consumes was.left now.left bytes
+  pub few : length (seen bytes) ≤ room + 1
+  pub number : IsNumber bytes now.left s
   pub wrote : Appends was.taken now.taken (text ++ line)
   pub front : (owed (seen bytes)).output ≡ text ++ rest
   pub whole : IsOwed owed rest s
+  pub cause : IsCause (owed (seen bytes)).cause s
+  pub exact : IsTrace owed was.left text s
+  pub early : IsEarly owed text s
+
+-- The run came to the end of the text, or was refused memory.
+abbrev pub IsComplete : Status → Type 0
+IsComplete s = (s ≡ status.Ok) ⊎ (s ≡ status.OutOfMemory)
+
+-- Where no line refuses the text and neither side failed, all of it is run, unless memory is refused.
+abbrev pub Completes : Owed BadWord → Standing → Standing → Status → Type 0
+Completes owed was now s = IfSome was.left (λ all. (owed (seen all)).cause ≡ None
+    → ¬ (Rose was.read_faults now.read_faults) → ¬ (Rose was.write_faults now.write_faults) → IsComplete s)

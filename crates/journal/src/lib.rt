@@ -3,16 +3,18 @@
 #![tactic(auto)]
 
 ghost use Rattle.std.specs.Prelude.{◌≡◌, ◌++◌, OnOk, OnErr};
-ghost use Rattle.ff_ids.specs.Texts.{fault_text, monitor_text};
 ghost use Rattle.journal.specs.Events.{event_text, members_text};
+ghost use Rattle.journal.specs.Verdicts.{verdict_words};
 
 mod event;
 mod members;
+mod verdict;
 
 pub use event::{Event, What};
-use ff_ids::{Fault, MemberId};
+use ff_ids::MemberId;
 use fields::NoMemory;
 use members::members_line;
+pub use verdict::Verdict;
 
 /// Adds `at NOW ` and what happened, without a line feed.
 pub fn write_event(event: &Event, out: &mut Vec<u8>) -> Result<(), NoMemory>
@@ -24,12 +26,12 @@ pub fn write_event(event: &Event, out: &mut Vec<u8>) -> Result<(), NoMemory>
     Ok(())
 }
 
-/// Adds the words of a fault, as `older 5 31`.
-pub fn write_fault(fault: &Fault, out: &mut Vec<u8>) -> Result<(), NoMemory>
-    ensures ok { OnOk result (out.new.items ≡ out.old.items ++ fault_text fault.now) }
+/// Adds the words of a verdict, as `accepted` or `refused older 5 31`.
+pub fn write_verdict(verdict: &Verdict, out: &mut Vec<u8>) -> Result<(), NoMemory>
+    ensures ok { OnOk result (out.new.items ≡ out.old.items ++ verdict_words verdict.now) }
     ensures refused { OnErr result (out.new.items ≡ out.old.items) }
 {
-    let text = format!(in *out.allocator(); "{fault}")?;
+    let text = format!(in *out.allocator(); "{verdict}")?;
     out.extend_from_slice(text.as_bytes())?;
     Ok(())
 }
@@ -40,19 +42,6 @@ pub fn write_members(members: &[MemberId], out: &mut Vec<u8>) -> Result<(), NoMe
     ensures refused { OnErr result (out.new.items ≡ out.old.items) }
 {
     let text = members_line(*out.allocator(), members)?;
-    out.extend_from_slice(text.as_bytes())?;
-    Ok(())
-}
-
-/// Adds the number of the monitor, or `none`.
-pub fn write_monitor(monitor: Option<MemberId>, out: &mut Vec<u8>) -> Result<(), NoMemory>
-    ensures ok { OnOk result (out.new.items ≡ out.old.items ++ monitor_text monitor) }
-    ensures refused { OnErr result (out.new.items ≡ out.old.items) }
-{
-    let text = match monitor {
-        Some(member) => member.to_string(*out.allocator())?,
-        None => String::from_str(*out.allocator(), "none")?,
-    };
     out.extend_from_slice(text.as_bytes())?;
     Ok(())
 }

@@ -79,32 +79,42 @@ fn writes_each_fault(rt: HostRuntime) -> Result<(), Fail> {
     ];
     let mut out = Vec::new(rt.alloc());
     for fault in &faults {
-        write_fault(fault, &mut out)?;
+        write_verdict(&Verdict::Refused(*fault), &mut out)?;
         out.push(b',')?;
     }
     let texts =
-        "already-member,unknown-member,bad-mask,known,older 5 31,self-accusation,bad-ring,no-note,\
-other-epoch 5,not-in-view,ring-disabled,not-monitor 20,not-monitor none,standing,bad-signature,\
-own-ahead 5 7 9 3,other-certificate 20002 0000000500000004\
+        "refused already-member,refused unknown-member,refused bad-mask,refused known,\
+refused older 5 31,refused self-accusation,refused bad-ring,refused no-note,refused other-epoch 5,\
+refused not-in-view,refused ring-disabled,refused not-monitor 20,refused not-monitor none,\
+refused standing,refused bad-signature,refused own-ahead 5 7 9 3,\
+refused other-certificate 20002 0000000500000004\
 6964656e746966696572206f66203136726f6f74206f66207468697274792d74776f2062797465732c206f72203332ff,";
     assert_eq!(rt; out.as_slice(), texts.as_bytes());
     Ok(())
 }
 
 #[test]
-fn writes_members_and_monitors(rt: HostRuntime) -> Result<(), Fail> {
+fn writes_members_and_verdicts(rt: HostRuntime) -> Result<(), Fail> {
     let members = [MemberId::new(0), MemberId::new(7), MemberId::new(1023)];
     let mut out = Vec::new(rt.alloc());
     for count in 0..4 {
         write_members(&members[..count], &mut out)?;
         out.push(b',')?;
     }
-    write_monitor(Some(members[2]), &mut out)?;
-    out.push(b',')?;
-    write_monitor(None, &mut out)?;
+    let verdicts = [
+        Verdict::Monitor(Some(members[2])),
+        Verdict::Monitor(None),
+        Verdict::Joined,
+        Verdict::Accepted,
+        Verdict::Life(2),
+    ];
+    for verdict in &verdicts {
+        write_verdict(verdict, &mut out)?;
+        out.push(b',')?;
+    }
     assert_eq!(rt;
         out.as_slice(),
-        b"nobody,0,0 7,0 7 1023,1023,none".as_slice()
+        b"nobody,0,0 7,0 7 1023,1023,none,joined,accepted,2,".as_slice()
     );
     Ok(())
 }

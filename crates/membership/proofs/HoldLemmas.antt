@@ -1,10 +1,11 @@
 -- What is kept, and the states that it stands for.
-use Rattle.std.proofs.Common.{◌≡◌, ℕ, ◌<◌, max, Bool, true, false, cond, not, ◌&&◌, ◌||◌, eqb, leb, List, [], ◌∷◌, map, Option, Some, None, Ok, Err, refl, ap, sym, ◌∙◌, subst, arith, unwrap_or}
+use Rattle.std.proofs.Common.{◌≡◌, ℕ, ◌<◌, max, Bool, true, false, cond, not, ◌&&◌, ◌||◌, eqb, leb, List, [], ◌∷◌, map, Option, Some, None, Ok, Err, refl, ap, sym, ◌∙◌, subst, arith, unwrap_or, length}
 use Rattle.std.specs.Prelude.{nat_le, nat_lt, IfSome}
 use Rattle.std.specs.List.{filter}
 use Rattle.std.specs.FinMap.{get}
 use Rattle.std.proofs.lemmas.Bool.{eqb-true, lt-leb}
 use Rattle.std.proofs.lemmas.Bool.Decides.{nat_tests}
+use Rattle.std.proofs.lemmas.List.{length-map}
 use Rattle.std.proofs.lemmas.List.Elements.{filter_agree}
 use Rattle.ff_ids.specs.declared.NoteBody.{NoteBody}
 use Rattle.ff_ids.specs.declared.AccBody.{AccBody}
@@ -15,7 +16,7 @@ use Rattle.ff_ids.specs.Views.{State, Member, has_expired, in_view, is_member, a
 use Rattle.ff_ids.specs.Faults.{note_fault, note_fault_by}
 use Rattle.monitor_rule.specs.Joined.{keys_on}
 use Rattle.membership.specs.Kept.{expired_at, is_live, is_live_at, member_at, live_members}
-use Rattle.membership.specs.Life.{Life, has_joined, live_monitor, live_successor, live_keys, own_key, note_fault_in}
+use Rattle.membership.specs.Life.{Life, has_joined, live_monitor, live_successor, live_keys, live_count, own_key, note_fault_in}
 use Rattle.membership.specs.Holds.{Holds, HoldsAt, greatest_epoch}
 use Rattle.membership.specs.Reports.{Answers}
 
@@ -110,6 +111,11 @@ live_monitor-each l s ring m h =
 pub live_successor-each : (l : Life) (s : State) (ring m : ℕ) → HoldsEach l s → live_successor l ring m ≡ successor s ring m
 live_successor-each l s ring m h =
     ap (λ keys. nearest_after keys (own_key l ring m)) (keys_on-each l s ring h) ∙ ap (nearest_after _) (own_key-each l s ring m h)
+
+-- as many are live as are in the view
+pub live_count-each : (l : Life) (s : State) → HoldsEach l s → live_count l ≡ length (view s)
+live_count-each l s h =
+    length-map (filter (is_live_at l.notes l.expired) all_numbers) (member_at l.places) ∙ ap length (filter_agree (is_live_at l.notes l.expired) (in_view s) (λ m. sym (in_view-each l s m h)) all_numbers)
 
 -- as the rings answer
 pub monitor-held : (l : Life) (s : State) (ring m : ℕ) (members : List Member) (p : List (List ℕ)) → HoldsEach l s → members ≡ live_members l.places l.notes l.expired → get l.places m ≡ Some p → nearest_before (keys_on ring members) (key_at ring p m) ≡ monitor s ring m

@@ -24,7 +24,8 @@ use Rattle.membership.proofs.NumberLemmas.{either_bool, all_length, AtEach, AtEa
 use Rattle.membership.proofs.HoldLemmas.{HoldsEach, in_view-each, in_view-at, live_successor-each}
 use Rattle.membership.proofs.SoundLemmas.{beside, by_number, get_here, get_other, live_here, live_same, comes_in_parts}
 use Rattle.membership.proofs.MonitorLemmas.{ComesIn}
-use Rattle.membership.proofs.TouchLemmas.{IsUpheld, with_accepted, newest_other, stands-entered, stands-answered}
+use Rattle.membership.specs.Touched.{IsUpheld}
+use Rattle.membership.proofs.TouchLemmas.{with_accepted, newest_other, stands-entered, stands-answered}
 use Rattle.membership.proofs.EndLemmas.{AllBy-then, AllBy-both, IsEntry, AllBy-entries, filter_agree_on, Ended, named-answered}
 
 -- ---- what is kept

@@ -19,7 +19,8 @@ use Rattle.membership.specs.Holds.{Holds, greatest_epoch}
 use Rattle.membership.proofs.NumberLemmas.{either_bool, all_length, AtEach, AtEach-here, AtEach-next, filter-filter, filter-range_agree, filter-range_none}
 use Rattle.membership.proofs.HoldLemmas.{HoldsEach, each_held, in_view-each}
 use Rattle.membership.proofs.ExpireLemmas.{takes_out-is, live_fewer, live_same, live_raised, out_parts, same_live, expired_at-raise, expired_at-other}
-use Rattle.membership.proofs.TouchLemmas.{IsUpheld, with_expired, fewer-expired, stands-of_any}
+use Rattle.membership.specs.Touched.{IsUpheld}
+use Rattle.membership.proofs.TouchLemmas.{with_expired, fewer-expired, stands-of_any}
 use Rattle.membership.proofs.NoteLemmas.{AllBy-upheld, Decides, only_before-none, stands-left, stands-fell}
 use Rattle.membership.proofs.EndLemmas.{AllBy-then, Ended}
 

@@ -16,6 +16,7 @@ use Rattle.ff_ids.specs.Views.{State, in_view, has_expired, view, monitor, succe
 use Rattle.membership.specs.Kept.{is_live}
 use Rattle.membership.specs.Life.{Life, has_joined, live_successor}
 use Rattle.membership.specs.Ends.{Entry, is_answered, is_of, is_of_any, next_of}
+use Rattle.membership.specs.Touched.{IsUpheld}
 use Rattle.membership.proofs.NumberLemmas.{either_bool}
 use Rattle.membership.proofs.MonitorLemmas.{Keyed, IsMonitor-some, ComesIn, monitor-leaving, monitor-entering, successor-of_monitor, is_number-some}
 use Rattle.membership.proofs.HoldLemmas.{HoldsEach, in_view-each, live_successor-each, newest-member}
@@ -31,11 +32,6 @@ IsStanding-from s a h =
     let outer = and_parts (in_view s a.accused && option_map_or (is_unanswered_by a) (newest s.notes a.accused) false) (is_number (monitor s a.ring.0 a.accused) a.accuser) h in
     let inner = and_parts (in_view s a.accused) (option_map_or (is_unanswered_by a) (newest s.notes a.accused) false) outer.0 in
     record { viewed = inner.0; unanswered = inner.1; monitored = is_number-some _ a.accuser outer.1 }
-
--- it is against a member's number, and stands
-pub record IsUpheld (s : State) (p : Entry) : Type 0 where
-  pub number : p.0.accused < 1024
-  pub standing : stands s p.0 ≡ true
 
 keyed : (s : State) (ring : ℕ) → Keyed (key_of s ring)
 keyed s ring = record { number = λ m. refl }

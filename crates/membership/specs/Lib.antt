@@ -2,4 +2,5 @@ pub mod Kept
 pub mod Life
 pub mod Holds
 pub mod Ends
+pub mod Touched
 pub mod Reports

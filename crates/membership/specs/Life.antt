@@ -51,6 +51,10 @@ pub record IsConsistent (group : Group) (places : ByNumber (List (List ℕ))) (n
   pub sound : IsSound group places notes expired view
   pub timed : IsTimed group timers
 
+-- How many members are live.
+abbrev pub live_count : Life → ℕ
+live_count l = length (live_members l.places l.notes l.expired)
+
 -- The keys on the ring of the live members.
 abbrev pub live_keys : Life → ℕ → List Key
 live_keys l ring = keys_on ring (live_members l.places l.notes l.expired)

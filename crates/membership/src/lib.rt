@@ -3,17 +3,17 @@
 //! of which far less is kept. After opening no call takes memory.
 #![tactic(auto)]
 
-ghost use Rattle.std.specs.Prelude.{◌≡◌, ℕ, ◌<◌, ◌≤◌, ◌+◌, ◌-◌, ◌^◌, true, not, [], Option, None, Some, length, if◌then◌else◌, map, filter, slice_index_or, IfOk, OnOk, OnErr};
+ghost use Rattle.std.specs.Prelude.{◌≡◌, ℕ, ◌<◌, ◌≤◌, ◌+◌, ◌-◌, ◌*◌, ◌^◌, true, not, [], Option, None, Some, length, if◌then◌else◌, map, filter, slice_index_or, IfOk, OnOk, OnErr};
 ghost use Rattle.std.specs.Ordering.{nat_cmp};
 ghost use Rattle.std.specs.FinMap.{get, insert, empty};
 ghost use Rattle.ff_ids.specs.Masks.{ring_count};
 ghost use Rattle.ff_ids.specs.Notes.{newest};
-ghost use Rattle.ff_ids.specs.Views.{State, is_member as member_of_state, in_view as in_view_of, monitor as monitor_of, successor as successor_of};
+ghost use Rattle.ff_ids.specs.Views.{State, view, is_member as member_of_state, in_view as in_view_of, monitor as monitor_of, successor as successor_of};
 ghost use Rattle.ff_ids.specs.Faults.{note_fault as note_fault_of, accusation_fault as accusation_fault_of, join_fault};
-ghost use Rattle.ff_ids.specs.Steps.{after_note, after_accusation, after_tick, joined, is_due, nothing};
+ghost use Rattle.ff_ids.specs.Steps.{after_note, after_accusation, with_kept, after_tick, joined, is_due, nothing};
 ghost use Rattle.ff_ids.specs.Lives.{opening};
 ghost use Rattle.membership.specs.Kept.{expired_at, is_live_at, takes_out as acc_takes_out, raise as raise_by, raised, leavers};
-ghost use Rattle.membership.specs.Life.{has_joined, live_monitor, note_fault_in, is_newcomer, with_note};
+ghost use Rattle.membership.specs.Life.{has_joined, live_monitor, live_count, note_fault_in, accusation_fault_in, is_newcomer, with_note};
 ghost use Rattle.membership.specs.Ends.{Ends, next_of, answered_on, is_named, is_of, is_of_any, with_fallen};
 ghost use Rattle.membership.specs.Holds.{Holds};
 ghost use Rattle.membership.specs.Reports.{Answers, kept_against};
@@ -23,18 +23,22 @@ mod ends;
 mod expiry;
 mod faults;
 mod kept;
+mod laws;
 mod report;
 
 use by_member::ByMember;
 use ff_ids::{AccBody, Epoch, Fault, Group, MemberId, NoteBody, RingNo};
 use fields::NoMemory;
 use kept::{brings_in, is_live};
+pub use laws::only_the_touched_end;
 use monitor_rule::Rings;
 use removal_timer::Timers;
 pub use report::Changes;
 use ring_order::Places;
+use ring_order::steps::Steps;
 use std::alloc::Global;
 use std::marker::Model;
+use std::sync::ledger::Ledger;
 
 /// The membership of one life. Contracts see what is kept of the life; which states that may stand for is said
 /// by `Holds`.
@@ -133,6 +137,25 @@ impl Membership {
         self.rings.monitor(ring, member, self.places_of(member))
     }
 
+    /// As `monitor`. Among n members of the view d steps are counted, with `2^d <= 2n + 1`.
+    pub fn monitor_counted<L: Ledger>(
+        &self,
+        ring: RingNo,
+        member: MemberId,
+        steps: &mut Steps<L>,
+    ) -> Option<MemberId>
+        requires ring { ring.0 < ring_count self.now.group.t }
+        requires member { has_joined self.now member ≡ true }
+        ensures value { (s : State) → Holds self.now s → result ≡ monitor_of s ring.0 member }
+        ensures kept { result ≡ live_monitor self.now ring.0 member }
+        ensures counted { steps.old ≤ steps.new }
+        ensures most { (s : State) → Holds self.now s → 2 ^ (steps.new - steps.old) ≤ 2 * length (view s) + 1 }
+        ensures most_live { 2 ^ (steps.new - steps.old) ≤ 2 * live_count self.now + 1 }
+    {
+        self.rings
+            .monitor_counted(ring, member, self.places_of(member), steps)
+    }
+
     /// The member of the view that this one monitors on the ring, or none where nobody else is in the view.
     pub fn successor(&self, ring: RingNo, member: MemberId) -> Option<MemberId>
         requires ring { ring.0 < ring_count self.now.group.t }
@@ -195,7 +218,29 @@ impl Membership {
         if let Some(fault) = self.fault_of_accusation(&acc) {
             return Err(fault);
         }
-        self.timers.set(acc, self.moment);
+        self.keep(acc);
+        Ok(())
+    }
+
+    /// As `put_accusation`. Among n members of the view d steps are counted, with `2^d <= 2n + 1`.
+    pub fn put_accusation_counted<L: Ledger>(
+        &mut self,
+        acc: AccBody,
+        steps: &mut Steps<L>,
+    ) -> Result<(), Fault>
+        ensures fault { (s : State) → Holds self.old s → Answers (accusation_fault_of self.old.group.t s acc) result }
+        ensures step { (s : State) → Holds self.old s → OnOk result (Holds self.new (after_accusation s acc)) }
+        ensures same { OnErr result (self.new ≡ self.old) }
+        ensures group { self.new.group ≡ self.old.group }
+        ensures moment { self.new.moment ≡ self.old.moment }
+        ensures members { self.new.places ≡ self.old.places }
+        ensures counted { steps.old ≤ steps.new }
+        ensures most { (s : State) → Holds self.old s → 2 ^ (steps.new - steps.old) ≤ 2 * length (view s) + 1 }
+    {
+        if let Some(fault) = self.fault_of_accusation_counted(&acc, steps) {
+            return Err(fault);
+        }
+        self.keep(acc);
         Ok(())
     }
 
@@ -243,6 +288,15 @@ impl Membership {
         ensures rings { self.now.group.t ≤ 15 }
     {
         self.places.get(member).unwrap()
+    }
+
+    /// Keeps an accusation without a fault from now on.
+    fn keep(&mut self, acc: AccBody)
+        requires { accusation_fault_in self.old acc ≡ None }
+        ensures { self.new
+            ≡ record self.old { kept = with_kept (acc, self.old.moment) self.old.kept } }
+    {
+        self.timers.set(acc, self.moment);
     }
 
     /// Makes a note without a fault the newest of its member. The answer is whether that brings the member into

@@ -35,6 +35,16 @@ impl Model for Row {
     ghost invariant = { λ r. 1024 ≤ vec_capacity r.order };
 }
 
+/// The index in the middle of those from `low` on and before `high`.
+fn middle_of(low: usize, high: usize) -> usize
+    requires { low < high }
+    ensures from { low ≤ result }
+    ensures lower { 2 * (result - low) ≤ high - low }
+    ensures upper { high - low ≤ 2 * (result - low) + 1 }
+{
+    low + (high - low) / 2
+}
+
 impl Row {
     /// Nobody has joined yet. The room for every member is taken here.
     pub fn open(alloc: Global, ring: RingNo) -> Result<Row, AllocError>
@@ -240,7 +250,7 @@ impl Row {
         ensures most { 2 * (result.1 - result.0) ≤ high - low }
         ensures least { high - low ≤ 2 * (result.1 - result.0) + 2 }
     {
-        let middle = low + (high - low) / 2;
+        let middle = middle_of(low, high);
         let other = self.order[middle];
         let other_places = places_of(slots, other);
         if key_before(self.ring, other_places, other, places, member, steps) {

@@ -12,7 +12,7 @@ use Rattle.text_trace.proofs.WholeLemmas.{whole-none, whole-one, feed_apart}
 use Rattle.play.specs.declared.reader.Ending.{Ending}
 use Rattle.play.specs.declared.reader.Ending.TheVariants as ending
 use Rattle.play.specs.Reading.{EndsBy, IsRest, Reads, ReadsPart}
-use Rattle.play.specs.Plays.{Standing, Unfailed, Lines, Went, Finished, Refused, Unread, Unwritten, Starved, IsLast, IsUpToLine, Follows}
+use Rattle.play.specs.Plays.{Standing, Unfailed, Lines, Went, Finished, Refused, Unread, Unwritten, Starved, IsLast, IsUnended, IsUpToLine, Follows}
 
 no-bytes : (line : List ℕ) → length line ≡ 0 → line ≡ []
 no-bytes [] e = refl
@@ -28,10 +28,10 @@ nothing-read before after line front none = subst (Consumes before after) (no-by
 writes-none : (C : Type 0) (A : Owed C → Type 0) → ((f : Owed C) → A f → Waits C f) → Writes C A [] []
 writes-none C A waits = steps-weaker C A A (Waits C) [] [] waits (steps-none C A)
 
-is-last : (by : Ending) (line : List ℕ) (left : Option (List ℕ)) → EndsBy by line left → IsLast (Some line) left
-is-last ending.Feed line left e = inl e
-is-last ending.Limit line left e = inr (inl e)
-is-last ending.Input line left e = inr (inr e)
+is-last : (by : Ending) (line : List ℕ) (left : Option (List ℕ)) → EndsBy by line left → 0 < length line → IsLast (Some line) left
+is-last ending.Feed line left e some = inl e
+is-last ending.Limit line left e some = inr (inl e)
+is-last ending.Input line left e some = inr (inr (record { some = some; rest = e }))
 
 is-end : (by : Ending) (line : List ℕ) (left : Option (List ℕ)) → EndsBy by line left → length line ≡ 0 → IsUsedUp left
 is-end ending.Feed line left e none = absurd (omega (arith, none, ap length e.ended, length-append e.front (10 ∷ [])))
@@ -79,8 +79,8 @@ finished-here C A room was now line text by read none ends wrote unfailed = reco
 }
 
 -- the line was refused, before anything was written
-pub refused-line : (C : Type 0) (A : Owed C → Type 0) (room first : ℕ) (cause : C) (was now : Standing) (line : List ℕ) (by : Ending) → Reads was.left now.left line by → Refuses C A [] (Some line) [] cause → Appends was.taken now.taken [] → Unfailed was now → Refused C A room first first cause was now
-refused-line C A room first cause was now line by read refuses same unfailed = record {
+pub refused-line : (C : Type 0) (A : Owed C → Type 0) (room first : ℕ) (cause : C) (was now : Standing) (line : List ℕ) (by : Ending) → Reads was.left now.left line by → 0 < length line → Refuses C A [] (Some line) [] cause → Appends was.taken now.taken [] → Unfailed was now → Refused C A room first first cause was now
+refused-line C A room first cause was now line by read some refuses same unfailed = record {
   lines = [];
   bytes = [];
   last = Some line;
@@ -88,7 +88,7 @@ refused-line C A room first cause was now line by read refuses same unfailed = r
   taken = no_lines room;
   counted = omega arith;
   read = read.front;
-  stands = is-last by line now.left read.ends;
+  stands = is-last by line now.left read.ends some;
   wrote = same;
   refuses = refuses;
   unfailed = unfailed;
@@ -138,7 +138,7 @@ unwritten-line C A B room was now line text by read fed steps waits waits_later 
   count = front.count;
   taken = no_lines room;
   read = read.front;
-  stands = is-last by line now.left read.ends;
+  stands = inl (is-fed by line now.left read.ends fed);
   writes = writes-none C A waits;
   follows = (is-fed by line now.left read.ends fed, steps-weaker C A B (Waits C) (line ∷ []) text waits_later steps);
   short = front.short;

@@ -62,11 +62,16 @@ abbrev pub bytes_of : Option (List ℕ) → List ℕ
 bytes_of None = []
 bytes_of (Some line) = line
 
+-- Some bytes without a line feed were all that was left of the text.
+pub record IsUnended (line : List ℕ) (left : Option (List ℕ)) : Type 0 where
+  pub some : 0 < length line
+  pub rest : IsRest line left
+
 -- The line behind whole lines: with its line feed, or as much as is seen of a longer line, or what was left of the
 -- text; with none, the text is at its end.
 abbrev pub IsLast : Option (List ℕ) → Option (List ℕ) → Type 0
 IsLast None left = IsUsedUp left
-IsLast (Some line) left = IsFed line ⊎ (IsCut line ⊎ IsRest line left)
+IsLast (Some line) left = IsFed line ⊎ (IsCut line ⊎ IsUnended line left)
 
 -- The line of this number was refused, or the end: whole lines and that line were taken, and all of the trace before
 -- it was written.

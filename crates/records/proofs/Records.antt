@@ -1,7 +1,7 @@
 -- The two laws of the grammar: what is read is spelled so, and what is spelled so is read.
-use Rattle.std.proofs.Common.{◌≡◌, ℕ, zero, suc, ◌+◌, ◌^◌, ◌<◌, ◌≤◌, ◌⊎◌, Bool, true, false, cond, eqb, List, [], ◌∷◌, ◌++◌, length, take, drop, Option, Some, None, Result, Ok, Err, refl, sym, ap, subst, ◌∙◌, append_assoc, arith, inl, inr, lit<}
+use Rattle.std.proofs.Common.{◌≡◌, ℕ, ◌^◌, ◌<◌, ◌≤◌, ◌⊎◌, Bool, true, false, cond, eqb, List, [], ◌∷◌, ◌++◌, length, take, Option, Some, Result, Ok, Err, refl, sym, ap, subst, ◌∙◌, arith, inl, inr, lit<}
 use Rattle.std.specs.Int.{w16, w32, w64, to_be_bytes}
-use Rattle.std.proofs.lemmas.Bool.{eqb-true, false≢true}
+use Rattle.std.proofs.lemmas.Bool.{eqb-true}
 use Rattle.std.proofs.lemmas.Bool.Decides.{nat_tests}
 use Rattle.std.proofs.lemmas.List.{take_at}
 use Rattle.std.specs.Prelude.{IfOk}
@@ -15,15 +15,15 @@ use Rattle.lms_tree.specs.declared.kind.TreeKind.{TreeKind}
 use Rattle.lms_tree.specs.declared.kind.TreeKind.TheVariants.{H5, H10, H15}
 use Rattle.lms_tree.specs.declared.key.PublicKey.{PublicKey}
 use Rattle.lms_tree.specs.Kinds.{type_number}
-use Rattle.lms_tree.specs.Lms.{tree_of, ots_of, key_bytes}
+use Rattle.lms_tree.specs.Lms.{tree_of, key_bytes}
 use Rattle.records.specs.declared.CertBody.{CertBody}
 use Rattle.records.specs.declared.Body.{Body}
 use Rattle.records.specs.declared.Body.TheVariants.{Certificate, Note, Accusation}
 use Rattle.records.specs.declared.Record.{Record}
 use Rattle.records.specs.declared.fault.FormFault.{FormFault}
 use Rattle.records.specs.Spelling.{certificate_bytes, note_bytes, accusation_bytes, body_bytes, record_bytes, IsCertificate, IsNote, IsAccusation, IsBody, HasLength, IsRecord}
-use Rattle.records.specs.Grammar.{◌>>=◌, number_at, byte_at, bytes_at, any_number, number_within, member_number, nonzero, signature_length, kind_number, key_at, certificate_at, note_at, accusation_at, body_of_kind, body_at, signature_at, record_at, GivesRecord, IsGiven}
-use Rattle.records.proofs.Fields.{IsBytes, bind_ok, ok_is, Takes, Takes-then, bytes_take, byte_takes, byte_again, number_takes, number_again, bytes_again, then_again, map_again, Again, Past, IsRule, wide16, wide32, wide64, any_rule, within_rule, nonzero_rule}
+use Rattle.records.specs.Grammar.{◌>>=◌, number_at, byte_at, bytes_at, any_number, member_number, nonzero, signature_length, kind_number, key_at, certificate_at, note_at, accusation_at, body_of_kind, body_at, signature_at, record_at, GivesRecord, IsGiven}
+use Rattle.records.proofs.Fields.{IsBytes, bind_ok, ok_is, Takes, Takes-then, bytes_take, byte_takes, byte_again, number_takes, number_again, bytes_again, then_again, map_again, Again, IsRule, wide16, wide32, wide64, any_rule, within_rule, nonzero_rule}
 
 chosen : {A : Type 0} (b : Bool) (x y z : A) → cond b x y ≡ z → ((b ≡ true) × (x ≡ z)) ⊎ ((b ≡ false) × (y ≡ z))
 chosen true x y z e = inl (refl, e)
@@ -49,7 +49,7 @@ tree_back : (n : ℕ) (x : TreeKind) → tree_of n ≡ Some x → n ≡ type_num
 tree_back n x e =
     picked n 5 H5 x _ type_number refl (λ e. picked n 6 H10 x _ type_number refl (λ e. picked n 7 H15 x _ type_number refl (λ e. absurd cc) e) e) e
 
-ots_back : (n : ℕ) (x : OtsKind) → ots_of n ≡ Some x → n ≡ ots.type_number x
+ots_back : (n : ℕ) (x : OtsKind) → ots.kind_of n ≡ Some x → n ≡ ots.type_number x
 ots_back n x e =
     picked n 1 W1 x _ ots.type_number refl (λ e. picked n 2 W2 x _ ots.type_number refl (λ e. picked n 3 W4 x _ ots.type_number refl (λ e. picked n 4 W8 x _ ots.type_number refl (λ e. absurd cc) e) e) e) e
 
@@ -58,7 +58,7 @@ tree_again H5 = (refl, lit< tt)
 tree_again H10 = (refl, lit< tt)
 tree_again H15 = (refl, lit< tt)
 
-ots_again : (x : OtsKind) → (ots_of (ots.type_number x) ≡ Some x) × (ots.type_number x < 2 ^ 32)
+ots_again : (x : OtsKind) → (ots.kind_of (ots.type_number x) ≡ Some x) × (ots.type_number x < 2 ^ 32)
 ots_again W1 = (refl, lit< tt)
 ots_again W2 = (refl, lit< tt)
 ots_again W4 = (refl, lit< tt)
@@ -67,8 +67,8 @@ ots_again W8 = (refl, lit< tt)
 tree_rule : IsRule (2 ^ 32) tree_of type_number (λ _. Unit {0})
 tree_rule = record { back = λ n x lt e. (tree_back n x e, tt); again = λ x good. tree_again x }
 
-ots_rule : IsRule (2 ^ 32) ots_of ots.type_number (λ _. Unit {0})
-ots_rule = record { back = λ n x lt e. (ots_back n x e, tt); again = λ x good. ots_again x }
+kind_rule : IsRule (2 ^ 32) ots.kind_of ots.type_number (λ _. Unit {0})
+kind_rule = record { back = λ n x lt e. (ots_back n x e, tt); again = λ x good. ots_again x }
 
 -- ---- notes
 
@@ -140,12 +140,12 @@ record IsKey (k : PublicKey) : Type 0 where
 key_takes : (r : Reading) (k : PublicKey) (s : Reading) → IsBytes r.left → key_at r ≡ Ok (k, s) → Takes r (key_bytes k) s × IsKey k
 unfolding key_at key_bytes
 key_takes r x s fits e =
-    let a = bind_ok (number_at w32 tree_of r) (λ t. number_at w32 ots_of t.1 >>= λ k. bytes_at 16 k.1 >>= λ i. bytes_at 32 i.1 >>= λ o. Ok (record { tree = t.0; ots = k.0; id = i.0; root = o.0 }, o.1)) (x, s) e in
-    let b = bind_ok (number_at w32 ots_of a.0.1) (λ k. bytes_at 16 k.1 >>= λ i. bytes_at 32 i.1 >>= λ o. Ok (record { tree = a.0.0; ots = k.0; id = i.0; root = o.0 }, o.1)) (x, s) a.2 in
+    let a = bind_ok (number_at w32 tree_of r) (λ t. number_at w32 ots.kind_of t.1 >>= λ k. bytes_at 16 k.1 >>= λ i. bytes_at 32 i.1 >>= λ o. Ok (record { tree = t.0; ots = k.0; id = i.0; root = o.0 }, o.1)) (x, s) e in
+    let b = bind_ok (number_at w32 ots.kind_of a.0.1) (λ k. bytes_at 16 k.1 >>= λ i. bytes_at 32 i.1 >>= λ o. Ok (record { tree = a.0.0; ots = k.0; id = i.0; root = o.0 }, o.1)) (x, s) a.2 in
     let c = bind_ok (bytes_at 16 b.0.1) (λ i. bytes_at 32 i.1 >>= λ o. Ok (record { tree = a.0.0; ots = b.0.0; id = i.0; root = o.0 }, o.1)) (x, s) b.2 in
     let d = bind_ok (bytes_at 32 c.0.1) (λ o. Ok (record { tree = a.0.0; ots = b.0.0; id = c.0.0; root = o.0 }, o.1)) (x, s) c.2 in
     let t0 = number_takes w32 (2 ^ 32) tree_of type_number _ r a.0.0 a.0.1 wide32 tree_rule fits a.1 in
-    let t1 = number_takes w32 (2 ^ 32) ots_of ots.type_number _ a.0.1 b.0.0 b.0.1 wide32 ots_rule t0.0.fits b.1 in
+    let t1 = number_takes w32 (2 ^ 32) ots.kind_of ots.type_number _ a.0.1 b.0.0 b.0.1 wide32 kind_rule t0.0.fits b.1 in
     let t2 = bytes_take 16 b.0.1 c.0.0 c.0.1 t1.0.fits c.1 in
     let t3 = bytes_take 32 c.0.1 d.0.0 d.0.1 t2.0.fits d.1 in
     let made : PublicKey × Reading = (record { tree = a.0.0; ots = b.0.0; id = c.0.0; root = d.0.0 }, d.0.1) in
@@ -156,13 +156,13 @@ key_again : (k : PublicKey) → IsKey k → Again key_at k (key_bytes k)
 unfolding key_at key_bytes
 key_again k good =
     let whole : Again key_at k (to_be_bytes w32 (type_number k.tree) ++ (to_be_bytes w32 (ots.type_number k.ots) ++ (k.id ++ k.root))) =
-      then_again (number_at w32 tree_of) (λ t r. number_at w32 ots_of r >>= λ o. bytes_at 16 o.1 >>= λ i. bytes_at 32 i.1 >>= λ b. Ok (record { tree = t; ots = o.0; id = i.0; root = b.0 }, b.1)) k.tree k (to_be_bytes w32 (type_number k.tree)) (to_be_bytes w32 (ots.type_number k.ots) ++ (k.id ++ k.root))
-      (number_again w32 (2 ^ 32) tree_of type_number _ k.tree wide32 tree_rule tt)
-      (then_again (number_at w32 ots_of) (λ o r. bytes_at 16 r >>= λ i. bytes_at 32 i.1 >>= λ b. Ok (record { tree = k.tree; ots = o; id = i.0; root = b.0 }, b.1)) k.ots k (to_be_bytes w32 (ots.type_number k.ots)) (k.id ++ k.root)
-      (number_again w32 (2 ^ 32) ots_of ots.type_number _ k.ots wide32 ots_rule tt)
-      (then_again (bytes_at 16) (λ i r. bytes_at 32 r >>= λ b. Ok (record { tree = k.tree; ots = k.ots; id = i; root = b.0 }, b.1)) k.id k k.id k.root
-      (bytes_again k.id 16 good.id_long)
-      (map_again (bytes_at 32) (λ b. record { tree = k.tree; ots = k.ots; id = k.id; root = b }) k.root k.root (bytes_again k.root 32 good.root_long)))) in
+    then_again (number_at w32 tree_of) (λ t r. number_at w32 ots.kind_of r >>= λ o. bytes_at 16 o.1 >>= λ i. bytes_at 32 i.1 >>= λ b. Ok (record { tree = t; ots = o.0; id = i.0; root = b.0 }, b.1)) k.tree k (to_be_bytes w32 (type_number k.tree)) (to_be_bytes w32 (ots.type_number k.ots) ++ (k.id ++ k.root))
+    (number_again w32 (2 ^ 32) tree_of type_number _ k.tree wide32 tree_rule tt)
+    (then_again (number_at w32 ots.kind_of) (λ o r. bytes_at 16 r >>= λ i. bytes_at 32 i.1 >>= λ b. Ok (record { tree = k.tree; ots = o; id = i.0; root = b.0 }, b.1)) k.ots k (to_be_bytes w32 (ots.type_number k.ots)) (k.id ++ k.root)
+    (number_again w32 (2 ^ 32) ots.kind_of ots.type_number _ k.ots wide32 kind_rule tt)
+    (then_again (bytes_at 16) (λ i r. bytes_at 32 r >>= λ b. Ok (record { tree = k.tree; ots = k.ots; id = i; root = b.0 }, b.1)) k.id k k.id k.root
+    (bytes_again k.id 16 good.id_long)
+    (map_again (bytes_at 32) (λ b. record { tree = k.tree; ots = k.ots; id = k.id; root = b }) k.root k.root (bytes_again k.root 32 good.root_long)))) in
     whole
 
 certificate_fields : CertBody → List ℕ

@@ -1,5 +1,5 @@
 -- A signature that verifies has a length that can be written.
-use Rattle.std.proofs.Common.{◌≡◌, ℕ, ◌<◌, ◌≤◌, List, length, arith, lit<, lit≤, subst, sym}
+use Rattle.std.proofs.Common.{ℕ, ◌<◌, ◌≤◌, List, lit<, lit≤}
 use Rattle.lms_ots.specs.declared.kind.OtsKind.{OtsKind}
 use Rattle.lms_ots.specs.declared.kind.OtsKind.TheVariants.{W1, W2, W4, W8}
 use Rattle.lms_tree.specs.declared.kind.TreeKind.{TreeKind}

@@ -1,7 +1,6 @@
 -- The signed bytes tell the tag, the tolerance and the body.
-use Rattle.std.proofs.Common.{◌≡◌, ℕ, List, [], ◌∷◌, ◌++◌, length, refl, sym, ap, ◌∙◌, arith, ◌↔◌, take, drop}
-use Rattle.std.specs.Prelude.{codes}
-use Rattle.std.proofs.lemmas.List.{take_at, drop_at, append-nil}
+use Rattle.std.proofs.Common.{◌≡◌, ℕ, List, [], ◌∷◌, ◌++◌, length, sym, ap, ◌∙◌, ◌↔◌, take, drop}
+use Rattle.std.proofs.lemmas.List.{take_at, drop_at}
 use Rattle.records.specs.declared.Body.{Body}
 use Rattle.records.specs.Spelling.{IsBody, body_bytes}
 use Rattle.records.specs.Grammar.{body_at}

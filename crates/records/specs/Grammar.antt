@@ -1,14 +1,13 @@
 -- Reading a record from left to right. A step gives a value and what is left after it, or the place of the fault:
 -- the first byte of the first field that is cut short or breaks its rule.
-use Rattle.std.specs.Prelude.{◌≡◌, ℕ, Bool, ◌&&◌, ◌==◌, nat_lt, nat_le, if◌then◌else◌, List, length, take, slice_index, Option, Some, None, Result, Ok, Err, IsOk}
+use Rattle.std.specs.Prelude.{◌≡◌, ℕ, ◌&&◌, ◌==◌, nat_lt, nat_le, if◌then◌else◌, List, length, take, slice_index, Option, Some, None, Result, Ok, Err, IsOk}
 use Rattle.std.specs.Int.{Width, w16, w32, w64, byte_len, from_be_bytes}
-use Rattle.fields.specs.Reading.{Reading, reading_of, advanced}
+use Rattle.fields.specs.Reading.{Reading, advanced}
 use Rattle.ff_ids.specs.declared.NoteBody.{NoteBody}
 use Rattle.ff_ids.specs.declared.AccBody.{AccBody}
-use Rattle.lms_ots.specs.declared.kind.OtsKind.{OtsKind}
-use Rattle.lms_tree.specs.declared.kind.TreeKind.{TreeKind}
 use Rattle.lms_tree.specs.declared.key.PublicKey.{PublicKey}
-use Rattle.lms_tree.specs.Lms.{tree_of, ots_of}
+use Rattle.lms_ots.specs.Ots as ots
+use Rattle.lms_tree.specs.Lms.{tree_of}
 use Rattle.records.specs.declared.CertBody.{CertBody}
 use Rattle.records.specs.declared.Body.{Body}
 use Rattle.records.specs.declared.Body.TheVariants.{Certificate, Note, Accusation}
@@ -64,7 +63,7 @@ signature_length n = number_within 1 9004 n
 unfoldable pub key_at : Reading → Result (PublicKey × Reading) ℕ
 key_at r = do
   tree ← number_at w32 tree_of r
-  kind ← number_at w32 ots_of tree.1
+  kind ← number_at w32 ots.kind_of tree.1
   id ← bytes_at 16 kind.1
   root ← bytes_at 32 id.1
   Ok (record { tree = tree.0; ots = kind.0; id = id.0; root = root.0 }, root.1)

@@ -82,3 +82,6 @@ impl RecordList {
         self.records.as_slice()
     }
 }
+
+#[cfg(test)]
+mod tests;

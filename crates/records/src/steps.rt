@@ -3,7 +3,8 @@
 
 ghost use Rattle.std.specs.Prelude.{◌≡◌};
 ghost use Rattle.std.specs.Int.{w16, w32, w64};
-ghost use Rattle.lms_tree.specs.Lms.{tree_of, ots_of};
+ghost use Rattle.lms_ots.specs.Ots.{kind_of};
+ghost use Rattle.lms_tree.specs.Lms.{tree_of};
 ghost use Rattle.records.specs.Grammar.{Reads, number_at, byte_at, bytes_at, any_number, member_number, nonzero, key_at};
 
 use ff_ids::{Epoch, MEMBERS, Mask, MemberId, RingNo};
@@ -84,9 +85,8 @@ pub fn tree_kind(reader: &mut Reader) -> Result<TreeKind, Misread>
 }
 
 /// Four bytes: the type of a one-time signature.
-#[tactic(auto, using(lms_tree::proofs::Keys::ots_of_from))]
 pub fn ots_kind(reader: &mut Reader) -> Result<OtsKind, Misread>
-    ensures { Reads (λ k. k) result reader.new (number_at w32 ots_of reader.old) }
+    ensures { Reads (λ k. k) result reader.new (number_at w32 kind_of reader.old) }
 {
     let place = reader.place();
     let Ok(number) = reader.u32() else {

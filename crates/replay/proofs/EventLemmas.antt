@@ -14,31 +14,30 @@ use Rattle.ff_ids.specs.declared.AccBody.{AccBody}
 use Rattle.ff_ids.specs.declared.Fault.{Fault}
 use Rattle.ff_ids.specs.declared.Fault.TheVariants as faults
 use Rattle.ff_ids.specs.declared.Group.{Group}
-use Rattle.ff_ids.specs.Faults.{accusation_fault}
+use Rattle.ff_ids.specs.Faults.{accusation_fault, join_fault}
 use Rattle.ff_ids.specs.Lives.{opening}
-use Rattle.ff_ids.specs.Steps.{Accuses, Event, Joins, Stepped, Ticks, after_accusation, after_tick, joined, unchanged, unless_fault}
+use Rattle.ff_ids.specs.Steps.{Accuses, Event, Joins, Report, Stepped, Ticks, after_accusation, after_tick, joined, nothing, unchanged, unless_fault}
 use Rattle.ff_ids.specs.Texts.{fault_text}
 use Rattle.ff_ids.specs.Views.{State, all_numbers, in_view, is_member, view}
 use Rattle.membership.specs.Holds.{Holds}
 use Rattle.membership.specs.Life as kept
-use Rattle.membership.specs.Reports.{Answers, Report, Reports, join_fault, nothing, report_of}
-use Rattle.trace.specs.Answers.{Recorded, events_of, events_text, next_life, state_of, stepped, taken, tick_events, ticked, verdict_on, verdict_on_joining, with_ticks}
+use Rattle.membership.specs.Reports.{Answers}
+use Rattle.trace.specs.Answers.{Recorded, events_at, events_of, events_text, next_life, state_of, stepped, taken, tick_events, ticked, verdict_on, verdict_on_joining, with_ticks}
 use Rattle.trace.proofs.LifeLemmas.{state_of-next_life, state_of-with_event}
 use Rattle.replay.specs.declared.life.Life.{Life}
 use Rattle.replay.specs.Plays.{PlaysOne, Tells}
-use Rattle.replay.specs.Reported.{events_in}
 
 -- What a call on the kept life did: the answer is the fault of the rules, and the life and the report are those of
 -- the step.
 pub record IsStepped (fault : Option Fault) (step : Stepped) (answer : Result (Unit {0}) Fault) (later : kept.Life) (report : Report) : Type 0 where
   pub answered : result_err answer ≡ fault
   pub holds : Holds later step.state
-  pub reported : report ≡ report_of step
+  pub reported : report ≡ step.report
 
-pub note-stepped : (fault : Option Fault) (s : State) (next : Stepped) (answer : Result (Unit {0}) Fault) (old later : kept.Life) (report : Report) → Holds old s → Answers fault answer → OnOk answer (Holds later next.state) → OnOk answer (Reports report next) → OnErr answer (later ≡ old) → OnErr answer (report ≡ nothing) → IsStepped fault (unless_fault fault s next) answer later report
+pub note-stepped : (fault : Option Fault) (s : State) (next : Stepped) (answer : Result (Unit {0}) Fault) (old later : kept.Life) (report : Report) → Holds old s → Answers fault answer → OnOk answer (Holds later next.state) → OnOk answer (report ≡ next.report) → OnErr answer (later ≡ old) → OnErr answer (report ≡ nothing) → IsStepped fault (unless_fault fault s next) answer later report
 note-stepped None s next answer old later report holds answered ok reported same emptied =
     let P : Result (Unit {0}) Fault → Type 0 = λ r. OnOk r (Holds later next.state) in
-    let Q : Result (Unit {0}) Fault → Type 0 = λ r. OnOk r (Reports report next) in
+    let Q : Result (Unit {0}) Fault → Type 0 = λ r. OnOk r (report ≡ next.report) in
     record { answered = ap result_err answered; holds = subst P answered ok; reported = subst Q answered reported }
 note-stepped (Some fault) s next answer old later report holds answered ok reported same emptied =
     let P : Result (Unit {0}) Fault → Type 0 = λ r. OnErr r (later ≡ old) in
@@ -53,10 +52,10 @@ regroup : (old colon verdict feed events : List ℕ) → (old ++ colon ++ verdic
 regroup old colon verdict feed events = simp append_assoc
 
 -- A step on the life, and what is written for it, is the answer of the line.
-pub tells-step : (life : Life) (r : Recorded) (e : Event) (verdict : List ℕ) (later : kept.Life) (report : Report) (moment : ℕ) (old new : List ℕ) → PlaysOne life r → later.group ≡ life.membership.group → Holds later (stepped r e).state → report ≡ report_of (stepped r e) → moment ≡ (stepped r e).state.moment → new ≡ old ++ codes " : " ++ verdict ++ 10 ∷ [] ++ events_text (events_in moment report) → Tells (taken r e verdict) (record { number = life.number; membership = later; changes = report }) old new
+pub tells-step : (life : Life) (r : Recorded) (e : Event) (verdict : List ℕ) (later : kept.Life) (report : Report) (moment : ℕ) (old new : List ℕ) → PlaysOne life r → later.group ≡ life.membership.group → Holds later (stepped r e).state → report ≡ (stepped r e).report → moment ≡ (stepped r e).state.moment → new ≡ old ++ codes " : " ++ verdict ++ 10 ∷ [] ++ events_text (events_at moment report) → Tells (taken r e verdict) (record { number = life.number; membership = later; changes = report }) old new
 tells-step life r e verdict later report moment old new plays group holds reported at text =
-    let events : events_in moment report ≡ events_of (stepped r e) =
-    ap (events_in moment) reported ∙ ap (λ (m : ℕ). events_in m (report_of (stepped r e))) at in
+    let events : events_at moment report ≡ events_of (stepped r e) =
+    ap (events_at moment) reported ∙ ap (λ (m : ℕ). events_at m (stepped r e).report) at in
     record {
       plays = record {
         group = group ∙ plays.group;
@@ -76,7 +75,7 @@ known true answer fault answered err = (refl, cc)
 known false answer fault answered err = cc
 
 -- A number joins that had not joined.
-pub tells-joined : (life : Life) (r : Recorded) (m : ℕ) (places : List (List ℕ)) (answer : Result (Unit {0}) Fault) (later : kept.Life) (old new : List ℕ) → PlaysOne life r → Answers (join_fault (state_of r) m) answer → answer ≡ Ok tt → Holds later (joined (state_of r) m places) → later.group ≡ life.membership.group → new ≡ old ++ (codes " : joined" ++ 10 ∷ []) → Tells (taken r (Joins m places) (verdict_on_joining (is_member (state_of r) m))) (record { number = life.number; membership = later; changes = life.changes }) old new
+pub tells-joined : (life : Life) (r : Recorded) (m : ℕ) (places : List (List ℕ)) (answer : Result (Unit {0}) Fault) (later : kept.Life) (old new : List ℕ) → PlaysOne life r → Answers (join_fault (state_of r) m) answer → answer ≡ Ok tt → Holds later (joined (state_of r) m places) → later.group ≡ life.membership.group → new ≡ old ++ codes " : " ++ codes "joined" ++ 10 ∷ [] → Tells (taken r (Joins m places) (verdict_on_joining (is_member (state_of r) m))) (record { number = life.number; membership = later; changes = life.changes }) old new
 tells-joined life r m places answer later old new plays answered ok holds group text =
     let s = state_of r in
     let new_one = free (is_member s m) answer answered ok in
@@ -88,7 +87,10 @@ tells-joined life r m places answer later old new plays answered ok holds group 
         number = plays.number;
         holds = subst (Holds later) (sym (state_of-with_event r (Joins m places) ∙ ap (λ (x : Stepped). x.state) is)) holds;
       };
-      text = text ∙ sym (ap (λ (v : List ℕ). old ++ (codes " : " ++ v ++ 10 ∷ [] ++ events_text (events_of (stepped r (Joins m places))))) said
+      text = text
+          ∙ sym (append-nil (old ++ codes " : " ++ codes "joined" ++ 10 ∷ []))
+          ∙ regroup old (codes " : ") (codes "joined") (10 ∷ []) []
+          ∙ sym (ap (λ (v : List ℕ). old ++ (codes " : " ++ v ++ 10 ∷ [] ++ events_text (events_of (stepped r (Joins m places))))) said
           ∙ ap (λ (x : Stepped). old ++ (codes " : " ++ codes "joined" ++ 10 ∷ [] ++ events_text (events_of x))) is);
     }
 
@@ -168,14 +170,28 @@ ticked-none r life old new plays text = record { plays = plays; text = text ∙ 
 events_text-append : (es more : List reported.Event) → events_text (es ++ more) ≡ events_text es ++ events_text more
 events_text-append es more = flat_map-append (λ e. event_text e ++ 10 ∷ []) es more
 
-pub ticked-more : (n : ℕ) (r : Recorded) (life : Life) (later : kept.Life) (report : Report) (moment : ℕ) (old mid new : List ℕ) → IsTicked n r life old mid → later.group ≡ life.membership.group → Holds later (after_tick life.membership.group.timeout (state_of (with_ticks n r))).state → Reports report (after_tick life.membership.group.timeout (state_of (with_ticks n r))) → ((s : State) → Holds later s → moment ≡ s.moment) → new ≡ mid ++ events_text (events_in moment report) → IsTicked (n + 1) r (record { number = life.number; membership = later; changes = report }) old new
+chained : (old a b c d : List ℕ) → (((old ++ a) ++ b) ++ c) ++ d ≡ old ++ (((a ++ b) ++ c) ++ d)
+chained old a b c d = simp append_assoc
+
+-- four texts of events, one behind another
+pub report-text : (old one two three four : List ℕ) (a b c d : List reported.Event) → one ≡ old ++ events_text a → two ≡ one ++ events_text b → three ≡ two ++ events_text c → four ≡ three ++ events_text d → four ≡ old ++ events_text (((a ++ b) ++ c) ++ d)
+report-text old one two three four a b c d first second third last =
+    let all : events_text (((a ++ b) ++ c) ++ d) ≡ ((events_text a ++ events_text b) ++ events_text c) ++ events_text d =
+    events_text-append ((a ++ b) ++ c) d
+    ∙ ap (λ (x : List ℕ). x ++ events_text d) (events_text-append (a ++ b) c ∙ ap (λ (x : List ℕ). x ++ events_text c) (events_text-append a b)) in
+    last
+    ∙ ap (λ (x : List ℕ). x ++ events_text d) (third ∙ ap (λ (x : List ℕ). x ++ events_text c) (second ∙ ap (λ (x : List ℕ). x ++ events_text b) first))
+    ∙ chained old (events_text a) (events_text b) (events_text c) (events_text d)
+    ∙ ap (λ (x : List ℕ). old ++ x) (sym all)
+
+pub ticked-more : (n : ℕ) (r : Recorded) (life : Life) (later : kept.Life) (report : Report) (moment : ℕ) (old mid new : List ℕ) → IsTicked n r life old mid → later.group ≡ life.membership.group → Holds later (after_tick life.membership.group.timeout (state_of (with_ticks n r))).state → report ≡ (after_tick life.membership.group.timeout (state_of (with_ticks n r))).report → ((s : State) → Holds later s → moment ≡ s.moment) → new ≡ mid ++ events_text (events_at moment report) → IsTicked (n + 1) r (record { number = life.number; membership = later; changes = report }) old new
 ticked-more n r life later report moment old mid new before group holds reported at text =
     let now = with_ticks n r in
     let same : after_tick life.membership.group.timeout (state_of now) ≡ stepped now Ticks =
     ap (λ (g : Group). after_tick g.timeout (state_of now)) before.plays.group in
     let held : Holds later (stepped now Ticks).state = subst (λ (t : Stepped). Holds later t.state) same holds in
-    let events : events_in moment report ≡ events_of (stepped now Ticks) =
-    ap (events_in moment) (reported ∙ ap report_of same) ∙ ap (λ (m : ℕ). events_in m (report_of (stepped now Ticks))) (at (stepped now Ticks).state held) in
+    let events : events_at moment report ≡ events_of (stepped now Ticks) =
+    ap (events_at moment) (reported ∙ ap (λ (t : Stepped). t.report) same) ∙ ap (λ (m : ℕ). events_at m (stepped now Ticks).report) (at (stepped now Ticks).state held) in
     subst (λ (k : ℕ). IsTicked k r (record { number = life.number; membership = later; changes = report }) old new) (sym (add-one n))
     (record {
       plays = record {
@@ -195,7 +211,7 @@ tells-ticked n r life old new t =
     record { plays = t.plays; text = t.text ∙ append_assoc old (10 ∷ []) (events_text (tick_events n r)) }
 
 -- Another life begins.
-pub tells-another : (life : Life) (r : Recorded) (later : kept.Life) (old new : List ℕ) → PlaysOne life r → Holds later (opening (state_of r).members) → later.group ≡ life.membership.group → new ≡ old ++ (codes " : " ++ decimal (life.number + 1) ++ 10 ∷ []) → Tells (record { recorded = Some (next_life r); verdict = Some (decimal (r.life + 1)); events = [] }) (record { number = life.number + 1; membership = later; changes = life.changes }) old new
+pub tells-another : (life : Life) (r : Recorded) (later : kept.Life) (old new : List ℕ) → PlaysOne life r → Holds later (opening (state_of r).members) → later.group ≡ life.membership.group → new ≡ old ++ codes " : " ++ decimal (life.number + 1) ++ 10 ∷ [] → Tells (record { recorded = Some (next_life r); verdict = Some (decimal (r.life + 1)); events = [] }) (record { number = life.number + 1; membership = later; changes = life.changes }) old new
 tells-another life r later old new plays holds group text =
     record {
       plays = record {
@@ -204,6 +220,7 @@ tells-another life r later old new plays holds group text =
         holds = subst (Holds later) (sym (state_of-next_life r)) holds;
       };
       text = text
-          ∙ ap (λ (n : ℕ). old ++ (codes " : " ++ decimal (n + 1) ++ 10 ∷ [])) plays.number
-          ∙ ap (λ (t : List ℕ). old ++ t) (sym (append-nil (codes " : " ++ decimal (r.life + 1) ++ 10 ∷ [])));
+          ∙ ap (λ (n : ℕ). old ++ codes " : " ++ decimal (n + 1) ++ 10 ∷ []) plays.number
+          ∙ sym (append-nil (old ++ codes " : " ++ decimal (r.life + 1) ++ 10 ∷ []))
+          ∙ regroup old (codes " : ") (decimal (r.life + 1)) (10 ∷ []) [];
     }

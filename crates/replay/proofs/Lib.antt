@@ -1,3 +1,3 @@
-pub mod TurnLemmas
-pub mod PlaceLemmas
 pub mod EventLemmas
+pub mod PlaceLemmas
+pub mod LineLemmas

@@ -1,5 +1,2 @@
-pub mod Reading
 pub mod Plays
-pub mod Reported
-pub mod StopsFrom
-pub mod Stops
+pub mod Playing

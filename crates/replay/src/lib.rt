@@ -3,8 +3,6 @@
 
 mod life;
 mod player;
-mod reader;
 mod report;
 
-pub use player::{Stop, replay, write_text};
-pub use reader::{Ending, ReadStop, read_line};
+pub use player::replay;

@@ -1,31 +1,24 @@
-// The life that is being recorded, and what a line brings to it. What is written behind a line goes to the
-// end of a text, as `specs/` of the trace says.
+//! The life that is being recorded, and what a line brings to it. What is written behind a line goes to the
+//! end of a text, as `specs/` of the trace says.
 
 ghost use Rattle.std.specs.Prelude.{◌≡◌, ◌<◌, ◌≤◌, ◌+◌, ◌++◌, ◌∷◌, [], ℕ, List, Option, IfOk, OnOk, length, codes, filter};
 ghost use Rattle.std.specs.List.{range_with_len};
 ghost use Rattle.ff_ids.specs.Faults.{note_fault};
 ghost use Rattle.ff_ids.specs.Masks.{ring_count};
-ghost use Rattle.ff_ids.specs.Steps.{Stepped};
-ghost use Rattle.ff_ids.specs.Texts.{fault_text};
 ghost use Rattle.ff_ids.specs.Views.{State, in_view, view};
 ghost use Rattle.journal.specs.Events.{members_text};
 ghost use Rattle.membership.specs.Holds.{Holds};
-ghost use Rattle.membership.specs.Reports.{Reports};
-ghost use Rattle.trace.specs.Answers.{Recorded, answer as answer_to, answer_in, answer_text, events_of, events_text, first_life, monitor_answer, plain_group, verdict_on};
+ghost use Rattle.trace.specs.Answers.{Recorded, answer as answer_to, answer_in, answer_text, first_life, monitor_answer, plain_group, verdict_on};
 ghost use Rattle.replay.specs.Plays.{Plays, PlaysOne, Tells, FitsLife, FitsOn};
-ghost use Rattle.replay.specs.Reported.{events_in};
 
-use crate::report::{Fate, Way, add, add_accusations, add_members, add_verdict};
-use ff_ids::{AccBody, Fault, Group, MemberId, NoteBody, RingNo};
+use crate::report::{add, add_report, add_verdict, add_verdict_on};
+use ff_ids::{AccBody, Fault, Group, MEMBERS, MemberId, NoteBody, RingNo};
 use fields::NoMemory;
-use journal::{write_members, write_monitor};
+use journal::{Verdict, write_members};
 use membership::{Changes, Membership};
 use ring_order::number_places;
-use schedule::{Line, PlaceList};
+use schedule_direct::{DirectLine, PlaceList};
 use std::alloc::Global;
-
-/// How many member numbers there are.
-const NUMBERS: u16 = 1024;
 
 /// A life, its number from 1 on, and room for what a step reports.
 #[derive(Drop)]
@@ -35,22 +28,12 @@ pub struct Life {
     pub changes: Changes,
 }
 
-/// Adds a line for each event of a report, in order.
-fn add_report(text: &mut Vec<u8>, moment: u64, report: &Changes) -> Result<(), NoMemory>
-    ensures { OnOk result (text.new.items ≡ text.old.items ++ events_text (events_in moment report.now)) }
-{
-    add_accusations(text, moment, report.expired(), Fate::Expired)?;
-    add_members(text, moment, report.removed(), Way::Out)?;
-    add_members(text, moment, report.entered(), Way::In)?;
-    add_accusations(text, moment, report.fell(), Fate::Fell)
-}
-
 /// The members of the view, in order of number.
 fn members_in_view(alloc: Global, membership: &Membership) -> Result<Vec<MemberId>, NoMemory>
     ensures { (s : State) → Holds membership.now s → IfOk result (λ v. v.items ≡ view s) }
 {
     let mut members = Vec::new(alloc);
-    for number in 0..NUMBERS {
+    for number in 0..MEMBERS {
         let member = MemberId::new(number);
         if membership.in_view(member) {
             members.push(member)?;
@@ -88,15 +71,18 @@ impl Life {
     ) -> Result<(), NoMemory>
         requires rings { length places.now ≡ ring_count self.old.membership.group.t }
         requires few { length places.now ≤ 31 }
-        ensures { (r : Recorded) → PlaysOne self.old r → OnOk result (Tells (answer_in r (Line.Member member places.now)) self.new text.old.items text.new.items) }
+        ensures { (r : Recorded) → PlaysOne self.old r → OnOk result (Tells (answer_in r (DirectLine.Member member places.now)) self.new text.old.items text.new.items) }
     {
         match self
             .membership
             .add_member(member, number_places(places.as_slice()))
         {
-            Ok(()) => add(text, b" : joined\n"),
+            Ok(()) => {
+                add_verdict(text, Verdict::Joined)?;
+                add(text, b"\n")
+            }
             Err(fault) => {
-                add_verdict(text, Some(fault))?;
+                add_verdict(text, Verdict::Refused(fault))?;
                 add(text, b"\n")
             }
         }
@@ -104,21 +90,21 @@ impl Life {
 
     /// A note comes.
     fn take_note(&mut self, note: NoteBody, text: &mut Vec<u8>) -> Result<(), NoMemory>
-        ensures { (r : Recorded) → PlaysOne self.old r → OnOk result (Tells (answer_in r (Line.Note note)) self.new text.old.items text.new.items) }
+        ensures { (r : Recorded) → PlaysOne self.old r → OnOk result (Tells (answer_in r (DirectLine.Note note)) self.new text.old.items text.new.items) }
     {
         let verdict = self.membership.put_note(note, &mut self.changes);
-        add_verdict(text, verdict.err())?;
+        add_verdict_on(text, verdict.err())?;
         add(text, b"\n")?;
         add_report(text, self.membership.now(), &self.changes)
     }
 
     /// An accusation comes.
     fn take_accusation(&mut self, accusation: AccBody, text: &mut Vec<u8>) -> Result<(), NoMemory>
-        ensures { (r : Recorded) → PlaysOne self.old r → OnOk result (Tells (answer_in r (Line.Accuse accusation)) self.new text.old.items text.new.items) }
+        ensures { (r : Recorded) → PlaysOne self.old r → OnOk result (Tells (answer_in r (DirectLine.Accuse accusation)) self.new text.old.items text.new.items) }
     {
         match self.membership.put_accusation(accusation) {
-            Ok(()) => add_verdict(text, None)?,
-            Err(fault) => add_verdict(text, Some(fault))?,
+            Ok(()) => add_verdict(text, Verdict::Accepted)?,
+            Err(fault) => add_verdict(text, Verdict::Refused(fault))?,
         }
         add(text, b"\n")
     }
@@ -126,7 +112,7 @@ impl Life {
     /// So many ticks come, one after another.
     fn take_ticks(&mut self, ticks: u32, text: &mut Vec<u8>) -> Result<(), NoMemory>
         requires { self.old.membership.moment + ticks ≤ 1000000 }
-        ensures { (r : Recorded) → PlaysOne self.old r → OnOk result (Tells (answer_in r (Line.Tick ticks)) self.new text.old.items text.new.items) }
+        ensures { (r : Recorded) → PlaysOne self.old r → OnOk result (Tells (answer_in r (DirectLine.Tick ticks)) self.new text.old.items text.new.items) }
     {
         add(text, b"\n")?;
         for _tick in 0..ticks {
@@ -139,18 +125,17 @@ impl Life {
     /// Another life begins, with the same members.
     fn begin_another(&mut self, text: &mut Vec<u8>) -> Result<(), NoMemory>
         requires { self.old.number ≤ 100000 }
-        ensures { (r : Recorded) → PlaysOne self.old r → OnOk result (Tells (answer_in r Line.Life) self.new text.old.items text.new.items) }
+        ensures { (r : Recorded) → PlaysOne self.old r → OnOk result (Tells (answer_in r DirectLine.Life) self.new text.old.items text.new.items) }
     {
         self.membership.new_life();
         self.number += 1;
-        let number = self.number;
-        let verdict = format!(in *text.allocator(); " : {number}\n")?;
-        add(text, verdict.as_bytes())
+        add_verdict(text, Verdict::Life(self.number))?;
+        add(text, b"\n")
     }
 
     /// The view is asked for.
     fn tell_view(&self, alloc: Global, text: &mut Vec<u8>) -> Result<(), NoMemory>
-        ensures { (r : Recorded) → PlaysOne self.now r → OnOk result (Tells (answer_in r Line.View) self.now text.old.items text.new.items) }
+        ensures { (r : Recorded) → PlaysOne self.now r → OnOk result (Tells (answer_in r DirectLine.View) self.now text.old.items text.new.items) }
     {
         let members = members_in_view(alloc, &self.membership)?;
         add(text, b" : ")?;
@@ -166,31 +151,30 @@ impl Life {
         text: &mut Vec<u8>,
     ) -> Result<(), NoMemory>
         requires { ring.0 < ring_count self.now.membership.group.t }
-        ensures { (r : Recorded) → PlaysOne self.now r → OnOk result (Tells (answer_in r (Line.Monitor ring member)) self.now text.old.items text.new.items) }
+        ensures { (r : Recorded) → PlaysOne self.now r → OnOk result (Tells (answer_in r (DirectLine.Monitor ring member)) self.now text.old.items text.new.items) }
     {
         if self.membership.is_member(member) {
-            add(text, b" : ")?;
-            write_monitor(self.membership.monitor(ring, member), text)?;
+            add_verdict(text, Verdict::Monitor(self.membership.monitor(ring, member)))?;
         } else {
-            add_verdict(text, Some(Fault::UnknownMember))?;
+            add_verdict(text, Verdict::Refused(Fault::UnknownMember))?;
         }
         add(text, b"\n")
     }
 
     /// Runs a line below that of the group.
-    fn answer(&mut self, alloc: Global, line: Line, text: &mut Vec<u8>) -> Result<(), NoMemory>
+    fn answer(&mut self, alloc: Global, line: DirectLine, text: &mut Vec<u8>) -> Result<(), NoMemory>
         requires { FitsLife self.old line }
         ensures { (r : Recorded) → PlaysOne self.old r → OnOk result (Tells (answer_in r line) self.new text.old.items text.new.items) }
     {
         match line {
-            Line::Header | Line::Group { .. } | Line::End => add(text, b"\n"),
-            Line::Member { member, places } => self.join(member, &places, text),
-            Line::Note(note) => self.take_note(note, text),
-            Line::Accuse(accusation) => self.take_accusation(accusation, text),
-            Line::Tick(ticks) => self.take_ticks(ticks, text),
-            Line::Life => self.begin_another(text),
-            Line::View => self.tell_view(alloc, text),
-            Line::Monitor { ring, member } => self.tell_monitor(ring, member, text),
+            DirectLine::Header | DirectLine::Group { .. } | DirectLine::End => add(text, b"\n"),
+            DirectLine::Member { member, places } => self.join(member, &places, text),
+            DirectLine::Note(note) => self.take_note(note, text),
+            DirectLine::Accuse(accusation) => self.take_accusation(accusation, text),
+            DirectLine::Tick(ticks) => self.take_ticks(ticks, text),
+            DirectLine::Life => self.begin_another(text),
+            DirectLine::View => self.tell_view(alloc, text),
+            DirectLine::Monitor { ring, member } => self.tell_monitor(ring, member, text),
         }
     }
 }
@@ -200,7 +184,7 @@ impl Life {
 pub fn answer(
     alloc: Global,
     life: &mut Option<Life>,
-    line: Line,
+    line: DirectLine,
     text: &mut Vec<u8>,
 ) -> Result<(), NoMemory>
     requires { FitsOn life.old line }
@@ -210,7 +194,7 @@ pub fn answer(
     match life {
         Some(life) => life.answer(alloc, line, text),
         None => {
-            if let Line::Group { t, timeout } = line {
+            if let DirectLine::Group { t, timeout } = line {
                 *life = Some(Life::first(alloc, t, timeout)?);
             }
             add(text, b"\n")

@@ -1,12 +1,13 @@
-// What is written behind a line: a verdict, and a line for each event.
+//! What is written behind a line: a verdict, and a line for each event.
 
-ghost use Rattle.std.specs.Prelude.{◌≡◌, ◌++◌, ◌∷◌, [], OnOk, codes};
-ghost use Rattle.trace.specs.Answers.{events_text, verdict_on};
-ghost use Rattle.replay.specs.Reported.{fate_of, fates, way_of, ways};
+ghost use Rattle.std.specs.Prelude.{◌≡◌, ◌++◌, ◌∷◌, [], OnOk, codes, map};
+ghost use Rattle.journal.specs.Verdicts.{verdict_words};
+ghost use Rattle.trace.specs.Answers.{events_at, events_text, verdict_on};
 
 use ff_ids::{AccBody, Fault, MemberId};
 use fields::NoMemory;
-use journal::{Event, What, write_event, write_fault};
+use journal::{Event, Verdict, What, write_event, write_verdict};
+use membership::Changes;
 
 /// Adds bytes to the text.
 pub fn add(text: &mut Vec<u8>, bytes: &[u8]) -> Result<(), NoMemory>
@@ -16,89 +17,82 @@ pub fn add(text: &mut Vec<u8>, bytes: &[u8]) -> Result<(), NoMemory>
     Ok(())
 }
 
+/// Adds ` : ` and the verdict.
+pub fn add_verdict(text: &mut Vec<u8>, verdict: Verdict) -> Result<(), NoMemory>
+    ensures { OnOk result (text.new.items ≡ text.old.items ++ codes " : " ++ verdict_words verdict) }
+{
+    add(text, b" : ")?;
+    write_verdict(&verdict, text)
+}
+
 /// Adds ` : ` and the verdict on a record: accepted, or refused for the fault.
-pub fn add_verdict(text: &mut Vec<u8>, fault: Option<Fault>) -> Result<(), NoMemory>
+pub fn add_verdict_on(text: &mut Vec<u8>, fault: Option<Fault>) -> Result<(), NoMemory>
     ensures { OnOk result (text.new.items ≡ text.old.items ++ codes " : " ++ verdict_on fault) }
 {
     match fault {
-        None => add(text, b" : accepted"),
-        Some(fault) => {
-            add(text, b" : refused ")?;
-            write_fault(&fault, text)
-        }
+        None => add_verdict(text, Verdict::Accepted),
+        Some(fault) => add_verdict(text, Verdict::Refused(fault)),
     }
 }
 
 /// Adds a line for an event.
-pub fn add_event(text: &mut Vec<u8>, moment: u64, what: What) -> Result<(), NoMemory>
+fn add_event(text: &mut Vec<u8>, moment: u64, what: What) -> Result<(), NoMemory>
     ensures { OnOk result (text.new.items ≡ text.old.items ++ events_text (record { moment = moment; what = what } ∷ [])) }
 {
     write_event(&Event { moment, what }, text)?;
     add(text, b"\n")
 }
 
-/// What became of an accusation.
-#[derive(Clone, Copy)]
-pub enum Fate {
-    Expired,
-    Fell,
-}
-
-impl Fate {
-    pub fn of(self, accusation: AccBody) -> What
-        ensures { result ≡ fate_of self accusation }
-    {
-        match self {
-            Fate::Expired => What::Expired(accusation),
-            Fate::Fell => What::Fell(accusation),
-        }
-    }
-}
-
-/// Which way a member went.
-#[derive(Clone, Copy)]
-pub enum Way {
-    Out,
-    In,
-}
-
-impl Way {
-    pub fn of(self, member: MemberId) -> What
-        ensures { result ≡ way_of self member }
-    {
-        match self {
-            Way::Out => What::Removed(member),
-            Way::In => What::Entered(member),
-        }
-    }
-}
-
-/// Adds a line for each accusation.
-pub fn add_accusations(
+/// Adds a line for each accusation that expired.
+fn add_expired(
     text: &mut Vec<u8>,
     moment: u64,
     accusations: &[AccBody],
-    fate: Fate,
 ) -> Result<(), NoMemory>
-    ensures { OnOk result (text.new.items ≡ text.old.items ++ events_text (fates moment fate accusations.now)) }
+    ensures { OnOk result (text.new.items ≡ text.old.items ++ events_text (map (λ a. record { moment = moment; what = What.Expired a }) accusations.now)) }
 {
     for accusation in accusations {
-        add_event(text, moment, fate.of(*accusation))?;
+        add_event(text, moment, What::Expired(*accusation))?;
     }
     Ok(())
 }
 
-/// Adds a line for each member.
-pub fn add_members(
-    text: &mut Vec<u8>,
-    moment: u64,
-    members: &[MemberId],
-    way: Way,
-) -> Result<(), NoMemory>
-    ensures { OnOk result (text.new.items ≡ text.old.items ++ events_text (ways moment way members.now)) }
+/// Adds a line for each member that left the view.
+fn add_removed(text: &mut Vec<u8>, moment: u64, members: &[MemberId]) -> Result<(), NoMemory>
+    ensures { OnOk result (text.new.items ≡ text.old.items ++ events_text (map (λ m. record { moment = moment; what = What.Removed m }) members.now)) }
 {
     for member in members {
-        add_event(text, moment, way.of(*member))?;
+        add_event(text, moment, What::Removed(*member))?;
     }
     Ok(())
+}
+
+/// Adds a line for each member that entered the view.
+fn add_entered(text: &mut Vec<u8>, moment: u64, members: &[MemberId]) -> Result<(), NoMemory>
+    ensures { OnOk result (text.new.items ≡ text.old.items ++ events_text (map (λ m. record { moment = moment; what = What.Entered m }) members.now)) }
+{
+    for member in members {
+        add_event(text, moment, What::Entered(*member))?;
+    }
+    Ok(())
+}
+
+/// Adds a line for each accusation that fell.
+fn add_fell(text: &mut Vec<u8>, moment: u64, accusations: &[AccBody]) -> Result<(), NoMemory>
+    ensures { OnOk result (text.new.items ≡ text.old.items ++ events_text (map (λ a. record { moment = moment; what = What.Fell a }) accusations.now)) }
+{
+    for accusation in accusations {
+        add_event(text, moment, What::Fell(*accusation))?;
+    }
+    Ok(())
+}
+
+/// Adds a line for each event of a report, in order.
+pub fn add_report(text: &mut Vec<u8>, moment: u64, report: &Changes) -> Result<(), NoMemory>
+    ensures { OnOk result (text.new.items ≡ text.old.items ++ events_text (events_at moment report.now)) }
+{
+    add_expired(text, moment, report.expired())?;
+    add_removed(text, moment, report.removed())?;
+    add_entered(text, moment, report.entered())?;
+    add_fell(text, moment, report.fell())
 }

@@ -12,9 +12,8 @@ mod hashed;
 pub mod laws;
 pub mod steps;
 
-pub use hashed::hash_places;
-
 use ff_ids::{MemberId, RingNo};
+pub use hashed::hash_places;
 use std::marker::Model;
 use std::sync::ledger::Ledger;
 use steps::Steps;

@@ -6,6 +6,7 @@ use Rattle.std.specs.Fmt.{decimal, digit_glyph, digits, digits_onto}
 use Rattle.std.proofs.lemmas.Bool.{and_from, and_parts, cases_Bool, eqb-true, false≢true, leb-true, ne_eqb, eq-eqb}
 use Rattle.std.proofs.lemmas.List.{append-nil, take_at}
 use Rattle.std.proofs.lemmas.List.Folds.{concat-append, list_all-append}
+use Rattle.hex.specs.Hex.{encode_lower, encode_with, lower_digits}
 use Rattle.line_text.specs.Words.{is_printable, is_word}
 use Rattle.text_trace.specs.Lines.{has_no_feed}
 
@@ -71,6 +72,19 @@ clear-words (w ∷ v ∷ ws) h =
 pub clear-numbers : (ms : List ℕ) → has_no_feed (flat_map (λ m. codes " " ++ decimal m) ms) ≡ true
 clear-numbers [] = refl
 clear-numbers (m ∷ ms) = clear-append (codes " " ++ decimal m) (flat_map (λ m. codes " " ++ decimal m) ms) (clear-append (codes " ") (decimal m) refl (clear-decimal m)) (clear-numbers ms)
+
+-- no digit of a table is a line feed, where none of its bytes is
+get-all : (p : ℕ → Bool) (xs : List ℕ) (k : ℕ) → list_all p xs ≡ true → p 0 ≡ true → p (get_or xs k 0) ≡ true
+get-all p [] k all first = first
+get-all p (x ∷ xs) zero all first = (and_parts _ _ all).0
+get-all p (x ∷ xs) (suc k) all first = get-all p xs k (and_parts _ _ all).1 first
+
+pub clear-hex : (bytes : List ℕ) → has_no_feed (encode_lower bytes) ≡ true
+unfolding encode_with
+clear-hex [] = refl
+clear-hex (b ∷ bytes) =
+    let digit : (k : ℕ) → not (eqb (get_or lower_digits k 0) 10) ≡ true = λ k. get-all (λ b. not (eqb b 10)) lower_digits k refl refl in
+    and_from _ _ (digit (b / 16)) (and_from _ _ (digit (b % 16)) (clear-hex bytes))
 
 -- ## The first place of a byte
 

@@ -11,6 +11,7 @@ use Rattle.ff_ids.specs.declared.Fault.TheVariants as faults
 use Rattle.ff_ids.specs.Faults.{accusation_fault, note_fault}
 use Rattle.ff_ids.specs.Texts.{accusation_text, fault_text, monitor_text}
 use Rattle.ff_ids.specs.Views.{State, is_member, monitor, view}
+use Rattle.hex.specs.Hex.{encode_lower}
 use Rattle.journal.specs.declared.event.Event as reported
 use Rattle.journal.specs.declared.event.What.{What}
 use Rattle.journal.specs.declared.event.What.TheVariants as what
@@ -30,7 +31,7 @@ use Rattle.text_trace.specs.Lines.{has_no_feed}
 use Rattle.trace.specs.Answers.{Answer, Recorded, answer, answer_in, answer_text, events_text, monitor_answer, state_of, told, verdict_on, verdict_on_joining, verdict_text}
 use Rattle.trace.specs.Walk.{Taken, Walk, events_in, from_line, onto, output_of, walk, walk_over}
 use Rattle.trace.specs.Written.{IsWholeLine}
-use Rattle.trace.proofs.TextLemmas.{clear-append, clear-decimal, clear-numbers, clear-words}
+use Rattle.trace.proofs.TextLemmas.{clear-append, clear-decimal, clear-hex, clear-numbers, clear-words}
 
 -- ## What is written has no line feed inside its lines
 
@@ -62,6 +63,14 @@ clear-fault faults.NotInView = refl
 clear-fault faults.RingDisabled = refl
 clear-fault (faults.NotMonitor m) = clear-append (codes "not-monitor ") (monitor_text m) refl (clear-monitor m)
 clear-fault faults.Standing = refl
+clear-fault faults.BadSignature = refl
+clear-fault (faults.OtherCertificate port key) =
+    clear-append ((codes "other-certificate " ++ decimal port) ++ codes " ") (encode_lower key) (clear-append (codes "other-certificate " ++ decimal port) (codes " ") (clear-append (codes "other-certificate ") (decimal port) refl (clear-decimal port)) refl) (clear-hex key)
+clear-fault (faults.OwnAhead stored seen) =
+    let one = codes "own-ahead " ++ decimal stored.epoch in
+    let two = (one ++ codes " ") ++ decimal stored.mask.0 in
+    let three = (two ++ codes " ") ++ decimal seen.epoch in
+    clear-then three seen.mask.0 (clear-then two seen.epoch (clear-then one stored.mask.0 (clear-append (codes "own-ahead ") (decimal stored.epoch) refl (clear-decimal stored.epoch))))
 
 clear-what : (w : What) → has_no_feed (what_text w) ≡ true
 clear-what (what.Entered m) = clear-append (codes "entered ") (decimal m) refl (clear-decimal m)

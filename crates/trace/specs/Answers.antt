@@ -1,18 +1,18 @@
 -- Answers: what a line of a recorded text brings, by the rules of membership.
 use Rattle.std.specs.Prelude.{ℕ, zero, suc, ◌+◌, ◌-◌, Bool, true, false, List, [], ◌∷◌, ◌++◌, Option, Some, None, map, flat_map, replicate, codes, if◌then◌else◌, take, length}
-use Rattle.std.specs.Fmt.{decimal}
 use Rattle.ff_ids.specs.declared.Fault.{Fault}
 use Rattle.ff_ids.specs.declared.Fault.TheVariants as faults
 use Rattle.ff_ids.specs.declared.Group.{Group}
 use Rattle.ff_ids.specs.Faults.{accusation_fault, note_fault}
 use Rattle.ff_ids.specs.Lives.{after, opening}
-use Rattle.ff_ids.specs.Steps.{Accuses, Event, Joins, Notes, Stepped, Ticks, step}
-use Rattle.ff_ids.specs.Texts.{fault_text, monitor_text}
+use Rattle.ff_ids.specs.Steps.{Accuses, Event, Joins, Notes, Report, Stepped, Ticks, step}
 use Rattle.ff_ids.specs.Views.{Member, State, is_member, monitor, view}
 use Rattle.ring_order.specs.Rows.{place_of_number}
 use Rattle.journal.specs.declared.event.Event as reported
 use Rattle.journal.specs.declared.event.What.TheVariants as what
+use Rattle.journal.specs.declared.verdict.Verdict.TheVariants as verdicts
 use Rattle.journal.specs.Events.{event_text, members_text}
+use Rattle.journal.specs.Verdicts.{verdict_words}
 use Rattle.schedule_direct.specs.declared.line.DirectLine.{DirectLine}
 use Rattle.schedule_direct.specs.declared.line.DirectLine.TheVariants as lines
 
@@ -49,13 +49,17 @@ plain_group t timeout = record { tag = replicate 16 0; t = t; timeout = timeout;
 abbrev pub first_life : Group → Recorded
 first_life group = record { group = group; life = 1; members = []; events = [] }
 
--- What a step reports, in order: expired accusations, removed members, entered ones, fallen accusations.
+-- What is reported at a moment, in order: expired accusations, removed members, entered ones, fallen accusations.
+abbrev pub events_at : ℕ → Report → List reported.Event
+events_at moment r =
+    map (λ a. record { moment = moment; what = what.Expired a }) r.expired
+    ++ map (λ m. record { moment = moment; what = what.Removed m }) r.removed
+    ++ map (λ m. record { moment = moment; what = what.Entered m }) r.entered
+    ++ map (λ a. record { moment = moment; what = what.Fell a }) r.fell
+
+-- What a step reports.
 abbrev pub events_of : Stepped → List reported.Event
-events_of r =
-    map (λ a. record { moment = r.state.moment; what = what.Expired a }) r.report.expired
-    ++ map (λ m. record { moment = r.state.moment; what = what.Removed m }) r.report.removed
-    ++ map (λ m. record { moment = r.state.moment; what = what.Entered m }) r.report.entered
-    ++ map (λ a. record { moment = r.state.moment; what = what.Fell a }) r.report.fell
+events_of st = events_at st.state.moment st.report
 
 abbrev pub quiet : Option Recorded → Answer
 quiet recorded = record { recorded = recorded; verdict = None; events = [] }
@@ -65,18 +69,18 @@ says r verdict = record { recorded = Some r; verdict = Some verdict; events = []
 
 -- The verdict on a record: accepted, or refused for its first fault.
 abbrev pub verdict_on : Option Fault → List ℕ
-verdict_on None = codes "accepted"
-verdict_on (Some fault) = codes "refused " ++ fault_text fault
+verdict_on None = verdict_words verdicts.Accepted
+verdict_on (Some fault) = verdict_words (verdicts.Refused fault)
 
 -- The verdict on a number that joins, by whether it has joined before.
 abbrev pub verdict_on_joining : Bool → List ℕ
-verdict_on_joining true = codes "refused " ++ fault_text faults.AlreadyMember
-verdict_on_joining false = codes "joined"
+verdict_on_joining true = verdict_words (verdicts.Refused faults.AlreadyMember)
+verdict_on_joining false = verdict_words verdicts.Joined
 
 -- Who monitors the member on the ring, where it has joined.
 abbrev pub monitor_answer : State → ℕ → ℕ → List ℕ
 monitor_answer s ring member =
-    if is_member s member then monitor_text (monitor s ring member) else codes "refused " ++ fault_text faults.UnknownMember
+    if is_member s member then verdict_words (verdicts.Monitor (monitor s ring member)) else verdict_words (verdicts.Refused faults.UnknownMember)
 
 -- An event with its verdict, and what it reports.
 abbrev pub taken : Recorded → Event → List ℕ → Answer
@@ -111,7 +115,7 @@ answer_in r (lines.Accuse a) = taken r (Accuses a) (verdict_on (accusation_fault
 answer_in r (lines.Tick n) = ticked n r
 answer_in r lines.View = says r (members_text (view (state_of r)))
 answer_in r (lines.Monitor ring member) = says r (monitor_answer (state_of r) ring.0 member)
-answer_in r lines.Life = record { recorded = Some (next_life r); verdict = Some (decimal (r.life + 1)); events = [] }
+answer_in r lines.Life = record { recorded = Some (next_life r); verdict = Some (verdict_words (verdicts.Life (r.life + 1))); events = [] }
 answer_in r lines.End = quiet (Some r)
 
 -- What a line brings: the line of the group begins the first life.

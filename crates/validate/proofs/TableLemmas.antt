@@ -23,7 +23,7 @@ both_first true b e = refl
 both_first false b e = e
 
 joined_same : (l : Life) (s : State) (m : ℕ) → Holds l s → has_joined l m ≡ is_member s m
-joined_same l s m h = ?
+joined_same l s m h = sym (h.at_number m).member
 
 gone : (o : Option CertBody) → IsSome o → o ≡ None → ⊥
 gone (Some c) some e = absurd cc

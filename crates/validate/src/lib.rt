@@ -2,8 +2,12 @@
 //! A signature is verified only where no fault stands before it. No check takes memory.
 #![tactic(auto)]
 
+pub mod laws;
 mod roster;
 mod table;
 
 pub use roster::Roster;
 pub use table::check;
+
+#[cfg(test)]
+mod tests;

@@ -6,8 +6,8 @@ ghost use Rattle.std.specs.FinMap as map;
 ghost use Rattle.validate.specs.Certified.{certificate_of};
 
 use by_member::ByMember;
-use fields::NoMemory;
 use ff_ids::MemberId;
+use fields::NoMemory;
 use records::CertBody;
 use std::alloc::Global;
 use std::marker::Model;

@@ -1,0 +1,102 @@
+-- What a part of the file tells of the whole.
+use Rattle.std.proofs.Common.{◌≡◌, ◌≢◌, ℕ, zero, suc, ◌+◌, ◌-◌, ◌*◌, ◌^◌, ◌<◌, ◌≤◌, ◌&&◌, nat_le, nat_lt, ◌⊎◌, inl, inr, Bool, true, false, Option, None, Some, List, [], ◌∷◌, ◌++◌, length, take, drop, get_or, refl, sym, ap, ◌∙◌, subst, arith, Result, Ok, Err}
+use Rattle.std.specs.List.{slice_get}
+use Rattle.std.proofs.lemmas.List.{get_or-take}
+use Rattle.epoch_store.specs.declared.Stored.{Stored}
+use Rattle.epoch_store.specs.declared.StoreError.{StoreError}
+use Rattle.epoch_store.specs.declared.StoreError.TheVariants.{Fault, Taken, Broken, OtherKey, OutOfMemory}
+use Rattle.epoch_store.specs.declared.entry.Gate.{Gate}
+use Rattle.epoch_store.specs.declared.entry.Gate.TheVariants.{Shut, Entry}
+use Rattle.epoch_store.specs.Reading.{Reading, Finds, Breaks, Differs, head_fault, first_broken, wrong_field, is_above, is_at_least, IsOpenEntry, IsClosed, IsCut, Stands, window, ReadsFrom}
+use Rattle.epoch_store.specs.Calls.{ChecksHead, HeadAnswer, ReadsHead, GateAnswer, ReadsGate, EntriesAnswer, ReadsEntries, answer_of, OnRead, FindsGate, IsAfter, StoreState}
+use Rattle.epoch_store.specs.Store.{IsEntry, Follows}
+use Rattle.ports.specs.Disk.{Moment, ReadsPart}
+
+pub slice_get-take : (n p : ℕ) (xs : List ℕ) → p < n → slice_get (take n xs) p ≡ slice_get xs p
+slice_get-take zero p xs below = absurd (omega arith)
+slice_get-take (suc n) p [] below = refl
+slice_get-take (suc n) zero (x ∷ xs) below = refl
+slice_get-take (suc n) (suc p) (x ∷ xs) below = slice_get-take n p xs (omega arith)
+
+pub slice_get-drop : (n p : ℕ) (xs : List ℕ) → slice_get (drop n xs) p ≡ slice_get xs (n + p)
+slice_get-drop zero p xs = let at : 0 + p ≡ p = omega arith in rw at refl
+slice_get-drop (suc n) p [] = refl
+slice_get-drop (suc n) p (x ∷ xs) = let at : suc n + p ≡ suc (n + p) = omega arith in rw at (slice_get-drop n p xs)
+
+-- the head of the file is what was read of it
+pub head_read : (tag : List ℕ) (moments : List Moment) (filled head : List ℕ) (n : ℕ) (result : Result Unit StoreError) → head ≡ take n filled → length filled ≡ 40 → ReadsPart moments 0 filled n → ChecksHead tag head result → ReadsHead tag moments result
+head_read tag [] filled head n result is size reads checks = tt
+head_read tag (now ∷ past) filled head n (Ok value) is size reads checks =
+    let whole : head ≡ take 40 now.image = is ∙ reads ∙ ap (λ (k : ℕ). take k now.image) size in rw (← whole) checks
+head_read tag (now ∷ past) filled head n (Err Fault) is size reads checks = tt
+head_read tag (now ∷ past) filled head n (Err (Taken len)) is size reads checks = checks
+head_read tag (now ∷ past) filled head n (Err (Broken place byte)) is size reads checks =
+    let whole : head ≡ take 40 now.image = is ∙ reads ∙ ap (λ (k : ℕ). take k now.image) size in
+    (rw (← whole) checks.0, checks.1 ∙ ap (λ (h : List ℕ). slice_get h place) whole ∙ slice_get-take 40 place now.image checks.2)
+head_read tag (now ∷ past) filled head n (Err (OtherKey place byte)) is size reads checks =
+    let whole : head ≡ take 40 now.image = is ∙ reads ∙ ap (λ (k : ℕ). take k now.image) size in
+    (rw (← whole) checks.0, checks.1 ∙ ap (λ (h : List ℕ). get_or h place 0) whole ∙ get_or-take 40 now.image place 0 checks.2)
+head_read tag (now ∷ past) filled head n (Err OutOfMemory) is size reads checks = checks
+
+first_broken_small : (a b c : Bool) (at : ℕ) → first_broken ((1, a) ∷ (5, b) ∷ (13, c) ∷ []) ≡ Some at → at < 17
+first_broken_small false b c at is = let same : 1 ≡ at = cc in omega arith
+first_broken_small true false c at is = let same : 5 ≡ at = cc in omega arith
+first_broken_small true true false at is = let same : 13 ≡ at = cc in omega arith
+first_broken_small true true true at is = cc
+
+-- a file breaks within the bytes that were read at a gate, or at their end
+broken_small : (before : Option Stored) (bytes : List ℕ) (at : ℕ) → Stands before bytes (Err at) → at < 17
+broken_small before bytes at (inl none) = omega (arith, none.2)
+broken_small before bytes at (inr (inl cut)) = omega (arith, cut.1, cut.0.short)
+broken_small before bytes at (inr (inr wrong)) =
+    first_broken_small (nat_le wrong.0.next 32768 && is_above before wrong.0.next) (nat_le wrong.0.epoch wrong.0.next && is_at_least before wrong.0.epoch) (nat_lt wrong.0.mask.0 (2 ^ 31)) at wrong.2
+
+-- the file breaks where what was read at the gate does
+pub gate_broken : (moments : List Moment) (before : Option Stored) (gate n at : ℕ) (filled bytes : List ℕ) (byte : Option ℕ) → bytes ≡ take n filled → length filled ≡ 17 → ReadsPart moments gate filled n → Stands before bytes (Err at) → byte ≡ slice_get bytes at → ReadsGate before gate moments (Err (Broken (gate + at) byte))
+gate_broken [] before gate n at filled bytes byte is size reads stands shown = tt
+gate_broken (now ∷ past) before gate n at filled bytes byte is size reads stands shown =
+    let whole : bytes ≡ window now.image gate = is ∙ reads ∙ ap (λ (k : ℕ). take k (drop gate now.image)) size in
+    let P : List ℕ → Type 0 = λ b. Stands before b (Err at) in
+    (at, subst P whole stands, refl,
+        shown ∙ ap (λ (b : List ℕ). slice_get b at) whole ∙ slice_get-take 17 at (drop gate now.image) (broken_small before bytes at stands) ∙ slice_get-drop gate at now.image)
+
+-- the reading from a gate on is the reading of all
+abbrev pub Continues : List Moment → Option Stored → ℕ → Type 0
+Continues [] before gate = Unit {0}
+Continues (now ∷ past) before gate = (reading : Reading) → ReadsFrom now.image before gate reading → ReadsFrom now.image None 40 reading
+
+-- where a gate may be, behind this entry
+abbrev pub IsPlaced : Option Stored → ℕ → Type 0
+IsPlaced None gate = gate ≡ 40
+IsPlaced (Some e) gate = IsEntry e × (gate ≤ 57 + 17 * e.next)
+
+-- how many entries may still come
+abbrev pub left_of : Option Stored → ℕ
+left_of None = 32770
+left_of (Some e) = 32769 - e.next
+
+pub begins : (moments : List Moment) → Continues moments None 40
+begins [] = tt
+begins (now ∷ past) = λ reading reads. reads
+
+pub ends_shut : (moments : List Moment) (before : Option Stored) (gate : ℕ) (state : Stored) → Continues moments before gate → ReadsGate before gate moments (Ok (Shut state)) → ReadsEntries moments (Ok (record { state = state; gate = gate; failed = false }))
+ends_shut [] before gate state goes stands = tt
+ends_shut (now ∷ past) before gate state goes stands = (Finds state gate, goes (Finds state gate) (ReadsFrom.ends before gate state stands), refl)
+
+pub ends_broken : (moments : List Moment) (before : Option Stored) (gate : ℕ) (error : StoreError) → Continues moments before gate → ReadsGate before gate moments (Err error) → FindsGate before (Err error) → ReadsEntries moments (Err error)
+ends_broken [] before gate error goes stands found = found
+ends_broken (now ∷ past) before gate Fault goes stands found = tt
+ends_broken (now ∷ past) before gate (Taken len) goes stands found = absurd stands
+ends_broken (now ∷ past) before gate (Broken place byte) goes stands found =
+    let shown : byte ≡ slice_get now.image (gate + stands.0) = stands.3 ∙ ap (slice_get now.image) stands.2 in
+    (Breaks (gate + stands.0), goes (Breaks (gate + stands.0)) (ReadsFrom.breaks before gate stands.0 stands.1), rw (stands.2, shown) refl)
+ends_broken (now ∷ past) before gate (OtherKey place byte) goes stands found = absurd stands
+ends_broken (now ∷ past) before gate OutOfMemory goes stands found = tt
+
+pub goes_on : (moments : List Moment) (before : Option Stored) (gate : ℕ) (e : Stored) → Continues moments before gate → ReadsGate before gate moments (Ok (Entry e)) → Continues moments (Some e) (gate + 17)
+goes_on [] before gate e goes stands = tt
+goes_on (now ∷ past) before gate e goes stands = λ reading reads. goes reading (ReadsFrom.goes before gate e reading stands reads)
+
+pub placed_next : (before : Option Stored) (gate : ℕ) (e : Stored) → IsPlaced before gate → IsEntry e → IsAfter before e → IsPlaced (Some e) (gate + 17)
+placed_next None gate e placed entry after = (entry, omega arith)
+placed_next (Some b) gate e placed entry after = (entry, omega (arith, placed.1, after.next_rises))

@@ -1,0 +1,84 @@
+-- What is known of less that is owed.
+use Rattle.std.proofs.Common.{◌≡◌, ℕ, List, [], ◌∷◌, ◌++◌, Option, Some, None, Result, Ok, Err}
+use Rattle.text_trace.specs.Trace.{Owed, Steps, Waits, Writes, Ends, Refuses}
+use Rattle.play.specs.declared.stop.Stop.{Stop}
+use Rattle.play.specs.declared.stop.Stop.TheVariants as stop
+use Rattle.play.specs.Plays.{Standing, Finished, Refused, Unread, Unwritten, Starved, Follows, Runs}
+
+refuses-less : (C : Type 0) (A B : Owed C → Type 0) (lines : List (List ℕ)) (last : Option (List ℕ)) (text : List ℕ) (c : C) → ((f : Owed C) → B f → A f) → Refuses C A lines last text c → Refuses C B lines last text c
+refuses-less C A B lines (Some line) text c less h = λ f b. h f (less f b)
+refuses-less C A B lines None text c less h = λ f b. h f (less f b)
+
+follows-less : (C : Type 0) (A B : Owed C → Type 0) (lines : List (List ℕ)) (last : Option (List ℕ)) (text : List ℕ) → ((f : Owed C) → B f → A f) → Follows C A lines last text → Follows C B lines last text
+follows-less C A B lines (Some line) text less h = (h.0, λ f b. h.1 f (less f b))
+follows-less C A B lines None text less h = λ f b. h f (less f b)
+
+-- what holds of all that A owes holds of all that B owes, where A owes it too
+pub runs-less : (C : Type 0) (A B : Owed C → Type 0) (room : ℕ) (was now : Standing) (result : Result (Unit {0}) (Stop C)) → ((f : Owed C) → B f → A f) → Runs C A room was now result → Runs C B room was now result
+runs-less C A B room was now (Ok _) less h = record {
+  lines = h.lines;
+  bytes = h.bytes;
+  text = h.text;
+  taken = h.taken;
+  read = h.read;
+  used_up = h.used_up;
+  wrote = h.wrote;
+  ends = λ f b. h.ends f (less f b);
+  unfailed = h.unfailed;
+}
+runs-less C A B room was now (Err (stop.Refused line cause)) less h = record {
+  lines = h.lines;
+  bytes = h.bytes;
+  last = h.last;
+  text = h.text;
+  taken = h.taken;
+  counted = h.counted;
+  read = h.read;
+  stands = h.stands;
+  wrote = h.wrote;
+  refuses = refuses-less C A B h.lines h.last h.text cause less h.refuses;
+  unfailed = h.unfailed;
+}
+runs-less C A B room was now (Err stop.ReadFault) less h = record {
+  lines = h.lines;
+  bytes = h.bytes;
+  part = h.part;
+  text = h.text;
+  taken = h.taken;
+  read = h.read;
+  clear = h.clear;
+  short = h.short;
+  wrote = h.wrote;
+  writes = λ f b. h.writes f (less f b);
+  failed = h.failed;
+  kept = h.kept;
+}
+runs-less C A B room was now (Err stop.WriteFault) less h = record {
+  lines = h.lines;
+  bytes = h.bytes;
+  last = h.last;
+  text = h.text;
+  more = h.more;
+  count = h.count;
+  taken = h.taken;
+  read = h.read;
+  stands = h.stands;
+  writes = λ f b. h.writes f (less f b);
+  follows = follows-less C A B h.lines h.last (h.text ++ h.more) less h.follows;
+  short = h.short;
+  wrote = h.wrote;
+  failed = h.failed;
+  kept = h.kept;
+}
+runs-less C A B room was now (Err stop.OutOfMemory) less h = record {
+  lines = h.lines;
+  bytes = h.bytes;
+  part = h.part;
+  text = h.text;
+  taken = h.taken;
+  read = h.read;
+  one = h.one;
+  wrote = h.wrote;
+  writes = λ f b. h.writes f (less f b);
+  unfailed = h.unfailed;
+}

@@ -1,0 +1,8 @@
+use Rattle.std.proofs.Common.{◌≡◌, ◌++◌, map, take}
+use Rattle.journal.specs.declared.event.What.TheVariants as what
+use Rattle.trace.specs.Answers.{events_text}
+use Rattle.replay.proofs.report.add_fell.Given as goal
+
+abbrev pub invariant-loop-accusation : goal.invariant-loop-accusation
+invariant-loop-accusation l =
+    l.text.items ≡ l.fn.text.items ++ events_text (map (λ a. record { moment = l.moment; what = what.Fell a }) (take l.accusation-index l.accusations))

@@ -1,0 +1,21 @@
+-- What is owed for the lines that are still to come.
+use Rattle.std.specs.Prelude.{◌≡◌, Option}
+use Rattle.line_text.specs.declared.bad_word.BadWord.{BadWord}
+use Rattle.line_text.specs.Answers.{Progress}
+use Rattle.schedule_direct.specs.declared.direct.Direct.{Direct}
+use Rattle.text_trace.specs.Trace.{Owed, Waits}
+use Rattle.trace.specs.Answers.{Recorded}
+use Rattle.trace.specs.Walk.{played}
+use Rattle.trace.proofs.UnfedLemmas.{waits-as}
+use Rattle.replay.specs.declared.life.Life.{Life}
+use Rattle.replay.specs.Plays.{IsPlaced, Plays}
+
+-- The life that is kept stands for a recorded one, which fits its place, and what is owed is what that one plays.
+pub record Owes (p : Progress Direct) (life : Option Life) (f : Owed BadWord) : Type 0 where
+  pub recorded : Option Recorded
+  pub plays : Plays life recorded
+  pub placed : IsPlaced p.form p.number recorded
+  pub same : f ≡ played p recorded
+
+pub owes_waits : (p : Progress Direct) (life : Option Life) (f : Owed BadWord) → Owes p life f → Waits BadWord f
+owes_waits p life f owes = waits-as p owes.recorded f owes.same
