@@ -1,7 +1,8 @@
 -- What was written, beside the trace of what was taken.
 use Rattle.std.proofs.Common.{◌≡◌, ◌<◌, ◌≤◌, ℕ, length, Option, Some, None, List, [], ◌∷◌, ◌++◌, take, drop, refl, sym, subst, ◌∙◌, ap, inl, inr, arith, append-nil, append_assoc, take-append-drop, lit<, lit≤, true, ◌+◌, map, length-append}
-use Rattle.std.specs.Io.KnownBytes.{Appends, Consumes}
-use Rattle.std.proofs.KnownBytes.{Appends-trans}
+use Rattle.std.specs.Prelude.{IfSome}
+use Rattle.std.specs.Io.KnownBytes.{Appends, Consumes, IsAtEnd}
+use Rattle.std.proofs.KnownBytes.{Appends-trans, Consumes-whole}
 use Rattle.std.proofs.lemmas.List.{append_cancel_left, take_all}
 use Rattle.line_text.specs.declared.bad_word.BadWord.{BadWord}
 use Rattle.ports.specs.Contents.{IsUsedUp}
@@ -9,16 +10,20 @@ use Rattle.play.specs.Plays.{Standing, Lines, Finished, Refused, Unread, Unwritt
 use Rattle.play.specs.Reading.{IsRest}
 use Rattle.text_trace.specs.Lines.{has_no_feed, seen, AreWhole, IsFed, IsCut, IsNext}
 use Rattle.text_trace.specs.Trace.{Owed, Trace, Writes, Refuses, before}
-use Rattle.text_trace.proofs.WholeLemmas.{whole-one, whole-join, rest-next}
+use Rattle.text_trace.proofs.WholeLemmas.{whole-one, whole-join, rest-next, cut-next, fed-next}
 use Rattle.text_trace.proofs.LineLemmas.{lines_of-rest}
 use Rattle.fireflies.specs.Causes.{cause_line}
 use Rattle.fireflies.specs.Ends.{Cut, Ends, Is, Stands, Tells, Told, room}
-use Rattle.fireflies.specs.Traced.{EndsSilently, IsCause, IsEarly, IsNumber, IsOwed, SpeaksAtEnd, Traced}
+use Rattle.fireflies.specs.Traced.{EndsSilently, IsCause, IsEarly, IsNumber, IsOwed, IsTrace, SpeaksAtEnd, Traced}
 use Rattle.fireflies.specs.declared.status.Status.{Status}
 use Rattle.fireflies.specs.declared.status.Status.TheVariants as status
 
 none-shorter : {A : Type 0} (n : ℕ) → n < 0 → A
 none-shorter n h = absurd (omega arith)
+
+at-end : (left : Option (List ℕ)) → IsUsedUp left → IsAtEnd left
+at-end None none = tt
+at-end (Some left) none = none
 
 -- Before the line of the cause: these bytes were taken, and a front of their trace was written.
 record Fronted (owed : Owed BadWord) (was now : Standing) (first : Status) : Type 0 where
@@ -32,6 +37,7 @@ record Fronted (owed : Owed BadWord) (was now : Standing) (first : Status) : Typ
   front : (owed (seen bytes)).output ≡ text ++ rest
   whole : IsOwed owed rest first
   cause : IsCause (owed (seen bytes)).cause first
+  exact : IsTrace owed was.left text first
   early : IsEarly owed text first
 
 -- whole lines, as they are seen
@@ -53,7 +59,7 @@ last-only line left is =
         inl fed ↦ fed-only line fed
       | inr other ↦ elim other [
             inl cut ↦ unfed-only line cut.clear (omega (arith, cut.long)) (omega (arith, cut.long))
-          | inr rest ↦ unfed-only line rest.clear rest.some (omega (arith, rest.short)) ] ]
+          | inr rest ↦ unfed-only line rest.rest.clear rest.some (omega (arith, rest.rest.short)) ] ]
 
 -- how many lines are seen of no more than a line
 upto-one : (part : List ℕ) → IsUpToLine part → length (seen part) ≤ 1
@@ -68,7 +74,7 @@ upto-last None left is = inl (refl, lit≤ tt)
 upto-last (Some line) left is =
     elim is [
         inl fed ↦ inr fed
-      | inr other ↦ elim other [ inl cut ↦ inl (cut.clear, omega (arith, cut.long)) | inr rest ↦ inl (rest.clear, omega (arith, rest.short)) ] ]
+      | inr other ↦ elim other [ inl cut ↦ inl (cut.clear, omega (arith, cut.long)) | inr rest ↦ inl (rest.rest.clear, omega (arith, rest.rest.short)) ] ]
 
 few-lines : (lines : List (List ℕ)) (bytes part : List ℕ) → Lines room lines bytes → IsUpToLine part → length (seen (bytes ++ part)) ≤ room + 1
 few-lines lines bytes part taken is =
@@ -92,6 +98,36 @@ refused owed lines bytes text refusal None left whole is refuses =
 refused owed lines bytes text refusal (Some line) left whole is refuses =
     let same : seen (bytes ++ line) ≡ lines ++ line ∷ [] = whole.first line ∙ ap (λ (others : List (List ℕ)). lines ++ others) (last-only line left is) in
     rw same (refuses owed refl [])
+
+-- a last line begins what is seen of it and of all that is left behind it
+begins : (line rest : List ℕ) → IsLast (Some line) (Some rest) → IsNext line (seen (line ++ rest))
+begins line rest is =
+    elim is [
+        inl fed ↦ fed-next line rest fed
+      | inr other ↦ elim other [
+            inl cut ↦ cut-next line rest cut
+          | inr end ↦ record { others = []; same = ap (λ (behind : List ℕ). seen (line ++ behind)) end.rest.used_up ∙ ap seen (append-nil line) ∙ last-only line (Some rest) (inr (inr end)) } ] ]
+
+-- the trace of a text that a line refuses is known, whatever stands behind the line
+refused-all : (owed : Owed BadWord) (lines : List (List ℕ)) (bytes text rest : List ℕ) (refusal : BadWord) (last : Option (List ℕ))
+    → AreWhole lines bytes → IsLast last (Some rest) → Refuses BadWord (Is owed) lines last text refusal → owed (seen ((bytes ++ bytes_of last) ++ rest)) ≡ record { output = text; cause = Some refusal }
+refused-all owed lines bytes text rest refusal None whole is refuses =
+    let none : (bytes ++ []) ++ rest ≡ bytes ++ [] = ap (λ (behind : List ℕ). (bytes ++ []) ++ behind) is ∙ append-nil (bytes ++ []) in
+    let same : seen ((bytes ++ []) ++ rest) ≡ lines = ap seen none ∙ whole.first [] ∙ append-nil lines in
+    rw same (refuses owed refl)
+refused-all owed lines bytes text rest refusal (Some line) whole is refuses =
+    let next = begins line rest is in
+    let same : seen ((bytes ++ line) ++ rest) ≡ lines ++ line ∷ next.others =
+        ap seen (append_assoc bytes line rest) ∙ whole.first (line ++ rest) ∙ ap (λ (x : List (List ℕ)). lines ++ x) next.same in
+    rw same (refuses owed refl next.others)
+
+refused-told : (owed : Owed BadWord) (lines : List (List ℕ)) (bytes text : List ℕ) (refusal : BadWord) (last before after : Option (List ℕ))
+    → Consumes before after (bytes ++ bytes_of last) → AreWhole lines bytes → IsLast last after → Refuses BadWord (Is owed) lines last text refusal
+    → IfSome before (λ all. owed (seen all) ≡ record { output = text; cause = Some refusal })
+refused-told owed lines bytes text refusal last None after took whole is refuses = tt
+refused-told owed lines bytes text refusal last (Some all) None took whole is refuses = absurd took
+refused-told owed lines bytes text refusal last (Some all) (Some rest) took whole is refuses =
+    rw took (refused-all owed lines bytes text rest refusal last whole is refuses)
 
 -- a front of what is owed, of which more is owed
 record OwedBehind (owed : Owed BadWord) (bytes text : List ℕ) : Type 0 where
@@ -140,7 +176,7 @@ silent owed lines (b ∷ part) text writes clear short quiet =
     let next = rest-next (b ∷ part) clear (omega arith) short in
     ap (λ (l : List (List ℕ)). (goes.later l).output) next.same ∙ goes.owes (b ∷ part) next.others clear
 
-no-front : (front rest : List ℕ) → front ++ rest ≡ [] → front ≡ []
+pub no-front : (front rest : List ℕ) → front ++ rest ≡ [] → front ≡ []
 no-front [] rest none = refl
 no-front (b ∷ front) rest none = cc
 
@@ -164,6 +200,9 @@ fronted owed was now status.Ok stood = record {
   front = rw (seen-whole stood.lines stood.bytes stood.taken.whole) (ap (λ (t : Trace BadWord). t.output) (stood.ends owed refl) ∙ sym (append-nil stood.text));
   whole = refl;
   cause = rw (seen-whole stood.lines stood.bytes stood.taken.whole) (ap (λ (t : Trace BadWord). t.cause) (stood.ends owed refl));
+  exact =
+      Consumes-whole was.left now.left stood.bytes (λ all. owed (seen all) ≡ record { output = stood.text; cause = None }) stood.read
+      (at-end now.left stood.used_up) (rw (seen-whole stood.lines stood.bytes stood.taken.whole) (stood.ends owed refl));
   early = tt;
 }
 fronted owed was now status.Usage stood = absurd stood
@@ -180,6 +219,7 @@ fronted owed was now (status.BadInput line refusal) stood =
       front = ap (λ (t : Trace BadWord). t.output) trace ∙ sym (append-nil stood.text);
       whole = refl;
       cause = ap (λ (t : Trace BadWord). t.cause) trace;
+      exact = refused-told owed stood.lines stood.bytes stood.text refusal stood.last was.left now.left stood.read stood.taken.whole stood.stands stood.refuses;
       early = tt;
     }
 fronted owed was now status.ReadFault stood =
@@ -195,6 +235,7 @@ fronted owed was now status.ReadFault stood =
       front = more.same;
       whole = λ quiet. silent owed stood.lines stood.part stood.text stood.writes stood.clear stood.short quiet;
       cause = tt;
+      exact = tt;
       early = λ late. nothing-early owed stood.lines stood.text stood.writes late;
     }
 fronted owed was now status.WriteFault stood =
@@ -210,6 +251,7 @@ fronted owed was now status.WriteFault stood =
       front = more.same;
       whole = tt;
       cause = tt;
+      exact = tt;
       early = tt;
     }
 fronted owed was now status.OutOfMemory stood =
@@ -225,18 +267,20 @@ fronted owed was now status.OutOfMemory stood =
       front = more.same;
       whole = tt;
       cause = tt;
+      exact = tt;
       early = λ late. nothing-early owed stood.lines stood.text stood.writes late;
     }
 
 -- What is known of the trace at the first cause is known at the answer.
-record Kept (owed : Owed BadWord) (bytes rest text : List ℕ) (left : Option (List ℕ)) (refusal : Option BadWord) (s : Status) : Type 0 where
+record Kept (owed : Owed BadWord) (bytes rest text : List ℕ) (before left : Option (List ℕ)) (refusal : Option BadWord) (s : Status) : Type 0 where
   number : IsNumber bytes left s
   whole : IsOwed owed rest s
   cause : IsCause refusal s
+  exact : IsTrace owed before text s
   early : IsEarly owed text s
 
 -- what stands behind the line of the cause
-ended : (owed : Owed BadWord) (was between now : Standing) (first s : Status) (line : List ℕ) → now.left ≡ between.left → Appends between.taken now.taken line → (f : Fronted owed was between first) → Kept owed f.bytes f.rest f.text between.left (owed (seen f.bytes)).cause s → Traced owed was now s
+ended : (owed : Owed BadWord) (was between now : Standing) (first s : Status) (line : List ℕ) → now.left ≡ between.left → Appends between.taken now.taken line → (f : Fronted owed was between first) → Kept owed f.bytes f.rest f.text was.left between.left (owed (seen f.bytes)).cause s → Traced owed was now s
 ended owed was between now first s line left wrote f kept = record {
   bytes = f.bytes;
   text = f.text;
@@ -249,15 +293,16 @@ ended owed was between now first s line left wrote f kept = record {
   front = f.front;
   whole = kept.whole;
   cause = kept.cause;
+  exact = kept.exact;
   early = kept.early;
 }
 
 pub traced : (owed : Owed BadWord) (was now : Standing) (s : Status) → Ends owed was now s → Traced owed was now s
 traced owed was now s ends =
     let f = fronted owed was ends.between ends.first ends.stands in
-    let known : Kept owed f.bytes f.rest f.text ends.between.left (owed (seen f.bytes)).cause ends.first = record { number = f.number; whole = f.whole; cause = f.cause; early = f.early } in
-    let none : Kept owed f.bytes f.rest f.text ends.between.left (owed (seen f.bytes)).cause status.WriteFault = record { number = tt; whole = tt; cause = tt; early = tt } in
-    let P : Status → Type 0 = Kept owed f.bytes f.rest f.text ends.between.left (owed (seen f.bytes)).cause in
+    let known : Kept owed f.bytes f.rest f.text was.left ends.between.left (owed (seen f.bytes)).cause ends.first = record { number = f.number; whole = f.whole; cause = f.cause; exact = f.exact; early = f.early } in
+    let none : Kept owed f.bytes f.rest f.text was.left ends.between.left (owed (seen f.bytes)).cause status.WriteFault = record { number = tt; whole = tt; cause = tt; exact = tt; early = tt } in
+    let P : Status → Type 0 = Kept owed f.bytes f.rest f.text was.left ends.between.left (owed (seen f.bytes)).cause in
     elim ends.tells [
         inl t ↦ ended owed was ends.between now ends.first s (cause_line ends.first) t.1.left t.1.line f (subst P (sym t.0) known)
       | inr t ↦ ended owed was ends.between now ends.first s (take t.1.front.count (cause_line ends.first)) t.1.left t.1.front.gained f (subst P (sym t.0) none) ]

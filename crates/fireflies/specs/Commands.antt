@@ -3,6 +3,7 @@ use Rattle.std.specs.Prelude.{ℕ, List, [], ◌∷◌, Option, Some, None, code
 use Rattle.std.specs.Str.{bytes_eq}
 use Rattle.text_trace.specs.Trace.{Owed}
 use Rattle.trace.specs.Walk.{replayed}
+use Rattle.verifier.specs.Answered.{verified}
 use Rattle.line_text.specs.declared.bad_word.BadWord.{BadWord}
 use Rattle.fireflies.specs.declared.command.Command.{Command}
 use Rattle.fireflies.specs.declared.command.Command.TheVariants.{Replay, Verify}
@@ -21,4 +22,4 @@ command_of (word ∷ other ∷ words) = None
 -- What a run of the command owes for the lines of its text.
 abbrev pub owed_by : Command → Owed BadWord
 owed_by Replay = replayed
-owed_by Verify = replayed
+owed_by Verify = verified

@@ -5,4 +5,6 @@ pub mod Causes
 pub mod Ends
 pub mod Traced
 pub mod Headline
+pub mod Verification
+pub mod Upheld
 pub mod Starts

@@ -3,6 +3,7 @@ use Rattle.std.specs.Prelude.{◌≡◌, ℕ, ◌↔◌, List, Option, None, IfS
 use Rattle.play.specs.Plays.{Standing, standing}
 use Rattle.fireflies.specs.Commands.{command_of, owed_by}
 use Rattle.fireflies.specs.Ends.{Counts, Ends}
+use Rattle.fireflies.specs.Upheld.{Upholds}
 use Rattle.fireflies.specs.declared.status.Status.{Status}
 use Rattle.fireflies.specs.declared.status.Status.TheVariants as status
 
@@ -12,4 +13,5 @@ pub record Ran (words : List (List ℕ)) (was : Standing) (taken : Option (List 
   pub read_faults : ℕ
   pub usage : (s ≡ status.Usage) ↔ (command_of words ≡ None)
   pub ends : IfSome (command_of words) (λ command. Ends (owed_by command) was (standing left taken read_faults write_faults) s)
+  pub upholds : IfSome (command_of words) (λ command. Upholds command was (standing left taken read_faults write_faults) s)
   pub counts : Counts was (standing left taken read_faults write_faults) s

@@ -1,11 +1,12 @@
 -- What was written, beside the trace of what was taken.
-use Rattle.std.specs.Prelude.{◌≡◌, ◌≤◌, ◌+◌, ◌⊎◌, ℕ, true, List, [], ◌∷◌, ◌++◌, length, Option, Some, None}
+use Rattle.std.specs.Prelude.{◌≡◌, ◌≤◌, ◌+◌, ◌⊎◌, ℕ, true, List, [], ◌∷◌, ◌++◌, length, Option, Some, None, IfSome}
 use Rattle.std.specs.Io.KnownBytes.{Appends, Consumes}
 use Rattle.line_text.specs.declared.bad_word.BadWord.{BadWord}
 use Rattle.play.specs.Plays.{Standing}
 use Rattle.text_trace.specs.Lines.{has_no_feed, seen}
 use Rattle.text_trace.specs.Trace.{Owed}
 use Rattle.ports.specs.Contents.{IsUsedUp}
+use Rattle.ports.specs.Count.{Rose}
 use Rattle.fireflies.specs.Ends.{room}
 use Rattle.fireflies.specs.declared.status.Status.{Status}
 use Rattle.fireflies.specs.declared.status.Status.TheVariants as status
@@ -31,6 +32,13 @@ abbrev pub IsCause : Option BadWord → Status → Type 0
 IsCause cause status.Ok = cause ≡ None
 IsCause cause (status.BadInput line refused) = cause ≡ Some refused
 IsCause cause _ = Unit {0}
+
+-- The trace of the whole text, where the bytes left at first are told: where the run came to its end or to a line that
+-- is refused, what was written is all of it, whatever stands behind the line.
+abbrev pub IsTrace : Owed BadWord → Option (List ℕ) → List ℕ → Status → Type 0
+IsTrace owed left text status.Ok = IfSome left (λ all. owed (seen all) ≡ record { output = text; cause = None })
+IsTrace owed left text (status.BadInput line refused) = IfSome left (λ all. owed (seen all) ≡ record { output = text; cause = Some refused })
+IsTrace owed left text _ = Unit {0}
 
 -- What was written early: nothing, where nothing is written before the end of a text.
 abbrev pub IsEarly : Owed BadWord → List ℕ → Status → Type 0
@@ -58,4 +66,14 @@ pub record Traced (owed : Owed BadWord) (was now : Standing) (s : Status) : Type
   pub front : (owed (seen bytes)).output ≡ text ++ rest
   pub whole : IsOwed owed rest s
   pub cause : IsCause (owed (seen bytes)).cause s
+  pub exact : IsTrace owed was.left text s
   pub early : IsEarly owed text s
+
+-- The run came to the end of the text, or was refused memory.
+abbrev pub IsComplete : Status → Type 0
+IsComplete s = (s ≡ status.Ok) ⊎ (s ≡ status.OutOfMemory)
+
+-- Where no line refuses the text and neither side failed, all of it is run, unless memory is refused.
+abbrev pub Completes : Owed BadWord → Standing → Standing → Status → Type 0
+Completes owed was now s = IfSome was.left (λ all. (owed (seen all)).cause ≡ None
+    → ¬ (Rose was.read_faults now.read_faults) → ¬ (Rose was.write_faults now.write_faults) → IsComplete s)

@@ -7,6 +7,8 @@ mod ending;
 mod run;
 mod start;
 mod status;
+#[cfg(test)]
+mod tests;
 mod words;
 
 pub use command::Command;

@@ -19,7 +19,8 @@ use Rattle.life_laws.specs.Removals.{IsNoteAcceptedAt, ExpiresAt, IsOlderThan}
 use Rattle.life_laws.proofs.Lists.{In, In-from_filter, In-from_map, In-from_Contains}
 use Rattle.life_laws.proofs.NoteLemmas.{below, below-back}
 use Rattle.life_laws.proofs.ViewLemmas.{IsStanding-from, not_below-epoch}
-use Rattle.life_laws.proofs.StepLemmas.{none-parts, stands-accepted, In-with_kept}
+use Rattle.life_laws.proofs.StepLemmas.{stands-accepted, In-with_kept}
+use Rattle.ff_ids.proofs.FaultLemmas.{passed}
 use Rattle.life_laws.proofs.LifeLemmas.{state_at-next, reports-at, event_at}
 
 -- what stands is at the epoch of the newest note of the accused
@@ -195,8 +196,8 @@ newest_after n (Some k) f = newest_beside n k (note_cmp n k) refl f
 
 pub newest-accepted : (t : ℕ) (s : State) (n : NoteBody) → note_fault t s n ≡ None → newest (n ∷ s.notes) n.member ≡ Some n
 newest-accepted t s n fine =
-    let member = none-parts (not (is_member s n.member)) _ _ fine in
-    let mask = none-parts (not (good_mask t n.mask.0)) _ _ member.1 in
+    let member = passed (not (is_member s n.member)) _ _ fine in
+    let mask = passed (not (good_mask t n.mask.0)) _ _ member.1 in
     newest-itself n s.notes ∙ ap (λ x. Some x) (newest_after n (newest s.notes n.member) mask.1)
 
 pub left_unanswered : (t : ℕ) (s : State) (n : NoteBody) → note_fault t s n ≡ None → (q : AccBody × ℕ) → In (after_note s n).state.kept q → q.0.accused ≡ n.member → is_unanswered_by q.0 n ≡ true

@@ -1,46 +1,29 @@
 -- What one event does to what stands and to the view.
-use Rattle.std.proofs.Common.{◌≡◌, ℕ, ◌+◌, ◌-◌, ◌≤◌, Bool, true, false, ◌&&◌, not, cond, eqb, leb, List, [], ◌∷◌, ◌++◌, Option, Some, None, ◌⊎◌, inl, inr, map, filter, refl, ap, sym, ◌∙◌, subst, arith}
+use Rattle.std.proofs.Common.{◌≡◌, ℕ, ◌+◌, ◌-◌, ◌≤◌, true, false, not, eqb, List, [], ◌∷◌, ◌++◌, Option, Some, None, ◌⊎◌, inl, inr, map, filter, refl, ap, sym, ◌∙◌, subst, arith}
 use Rattle.std.specs.Option.{option_map_or}
-use Rattle.std.proofs.lemmas.Bool.{cond_both, cases_Bool, eqb-true, leb-true, false≢true, and_parts, and_from, not-false, or_right}
+use Rattle.std.proofs.lemmas.Bool.{cond_both, cases_Bool, eqb-true, leb-true, false≢true, and_parts, not-false, or_right}
 use Rattle.ff_ids.specs.declared.NoteBody.{NoteBody}
 use Rattle.ff_ids.specs.declared.AccBody.{AccBody}
 use Rattle.ff_ids.specs.declared.Group.{Group}
 use Rattle.ff_ids.specs.declared.Fault.{Fault}
-use Rattle.ff_ids.specs.Masks.{ring_count, enables}
 use Rattle.ff_ids.specs.Notes.{newest}
-use Rattle.ff_ids.specs.Views.{State, is_member, has_expired, in_view, monitor, is_number, stands}
-use Rattle.ff_ids.specs.Faults.{note_fault, accusation_fault, facts_of, fault_under}
+use Rattle.ff_ids.specs.Views.{State, is_member, has_expired, in_view, is_unanswered_by, stands}
+use Rattle.ff_ids.specs.Faults.{note_fault, accusation_fault, facts_of}
+use Rattle.ff_ids.proofs.FaultLemmas.{passed, passes}
 use Rattle.ff_ids.specs.Steps.{Event, Joins, Notes, Accuses, Ticks, joined, with_kept, comes_first, is_due, after_note, after_accusation, after_tick, unless_fault, unchanged, step}
 use Rattle.life_laws.proofs.Lists.{In, In-from_filter, In-from_map, In-append_cases, some_passes, any_from_In}
 use Rattle.life_laws.proofs.ViewLemmas.{IsViewed-from, in_view-noted, AllJoined, stands-joined, stands-from}
 use Rattle.life_laws.proofs.NoteLemmas.{newest-fits}
 
--- a condition that is none: its test is false, and the rest is none
-pub none-parts : {X : Type 0} (b : Bool) (x : X) (o : Option X) → cond b (Some x) o ≡ None → (b ≡ false) × (o ≡ None)
-none-parts true x o e = cc
-none-parts false x o e = (refl, e)
-
--- what an accusation without a fault has
-standing_under : (s : State) (a : AccBody) (o : Option NoteBody) → newest s.notes a.accused ≡ o → fault_under (facts_of s a) a o ≡ None → stands s a ≡ true
-standing_under s a None e h = cc
-standing_under s a (Some n) e h =
-    let epoch = none-parts (not (eqb n.epoch a.epoch)) _ _ h in
-    let viewed = none-parts (not (in_view s a.accused)) _ _ epoch.1 in
-    let enabled = none-parts (not (enables n.mask.0 a.ring.0)) _ _ viewed.1 in
-    let by_monitor = none-parts (not (is_number (monitor s a.ring.0 a.accused) a.accuser)) _ _ enabled.1 in
-    stands-from s a
-    record {
-      viewed = not-false _ viewed.0;
-      unanswered = rw e (and_from _ _ (not-false _ epoch.0) (not-false _ enabled.0));
-      by_monitor = not-false _ by_monitor.0;
-    }
-
 pub stands-accepted : (t : ℕ) (s : State) (a : AccBody) → accusation_fault t s a ≡ None → stands s a ≡ true
 stands-accepted t s a h =
-    let members = none-parts (not (is_member s a.accuser && is_member s a.accused)) _ _ h in
-    let others = none-parts (eqb a.accuser a.accused) _ _ members.1 in
-    let ring = none-parts (leb (ring_count t) a.ring.0) _ _ others.1 in
-    standing_under s a (newest s.notes a.accused) refl ring.1
+    let p = passes t (facts_of s a) a h in
+    stands-from s a
+    record {
+      viewed = p.viewed;
+      unanswered = ap (λ o. option_map_or (is_unanswered_by a) o false) p.newest ∙ p.unanswered;
+      by_monitor = p.monitored;
+    }
 
 pub In-with_kept : (p q : AccBody × ℕ) (xs : List (AccBody × ℕ)) → In (with_kept p xs) q → (p ≡ q) ⊎ In xs q
 In-with_kept p q [] = λ h. elim h [ inl e ↦ inl e | inr i ↦ absurd i ]
@@ -88,7 +71,7 @@ steps-joined g s number places new known upheld =
 
 steps-noted : (g : Group) (s : State) (n : NoteBody) → note_fault g.t s n ≡ None → AllJoined s → Steps g s (Notes n) (after_note s n).state
 steps-noted g s n fine known =
-    let of_member = not-false _ (none-parts (not (is_member s n.member)) _ _ fine).0 in
+    let of_member = not-false _ (passed (not (is_member s n.member)) _ _ fine).0 in
     record {
       later = omega arith;
       all_joined = λ x i. elim i [ inl e ↦ subst (λ y. is_member s y.member ≡ true) e of_member | inr j ↦ known x j ];

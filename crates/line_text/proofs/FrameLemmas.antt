@@ -3,11 +3,13 @@ use Rattle.std.proofs.Common.{◌≡◌, ℕ, suc, ◌-◌, ◌<◌, ◌≤◌, 
 use Rattle.std.specs.Prelude.{IsOkAnd}
 use Rattle.std.specs.Str.{bytes_eq}
 use Rattle.std.specs.List.{join_with_byte, list_all, All, AllByRecursion}
-use Rattle.std.proofs.lemmas.Bool.{leb-true, ne_eqb, eqb-true, and_parts, ltb-false, not-false}
+use Rattle.std.proofs.lemmas.Bool.{false≢true, leb-true, ne_eqb, eqb-true, and_parts, ltb-false, not-false}
 use Rattle.std.proofs.lemmas.List.{length-append, get_or_at, take_at, take-append-drop, drop_all}
+use Rattle.std.proofs.lemmas.List.Folds.{list_all-append}
 use Rattle.std.proofs.lemmas.List.Elements.{All-from_recursion}
 use Rattle.std.proofs.lemmas.List.Splits.{slice_split_none, slice_split_at, length-slice_split, join_with_byte-slice_split}
 use Rattle.std.proofs.lemmas.Slice.Eq.{bytes_eq-Decides}
+use Rattle.text_trace.specs.Lines.{has_no_feed}
 use Rattle.line_text.specs.declared.bad_word.BadWord.{BadWord}
 use Rattle.line_text.specs.declared.bad_word.BadWord.TheVariants as bad
 use Rattle.line_text.specs.declared.bad_word.LineFault.{LineFault}
@@ -273,3 +275,15 @@ mapped_ok of (Ok l) m e = (l, refl, ok_is (of l) m e)
 -- and the other way round
 pub row_of_line-ok : {L M : Type 0} (of : L → M) (row : Result (Row L) BadWord) (words : List (List ℕ)) (m : M) → row_line (row_of_line of row) words ≡ Ok m → (l : L) × (row_line row words ≡ Ok l) × (of l ≡ m)
 row_of_line-ok of row words m e = mapped_ok of (row_line row words) m (sym (row_mapped of row words) ∙ e)
+
+-- ## The line feed of a line
+
+pub line-fed : {L : Type 0} (ended : Bool) (number : ℕ) (Spells : List (List ℕ) → L → Type 0) (bytes : List ℕ) (l : L) → IsLine ended number Spells bytes l → has_line_feed bytes ≡ true
+line-fed ended number Spells bytes l h = rw h.spaced (fed_again (join_with_byte 32 (h.first ∷ h.others)))
+
+-- Bytes without a line feed are no line.
+pub line-unfed : {L : Type 0} (ended : Bool) (number : ℕ) (Spells : List (List ℕ) → L → Type 0) (bytes : List ℕ) (l : L) → IsLine ended number Spells bytes l → has_no_feed bytes ≡ true → ⊥
+line-unfed ended number Spells bytes l h clear =
+    let text = join_with_byte 32 (h.first ∷ h.others) in
+    let parts = and_parts (has_no_feed text) (has_no_feed (10 ∷ [])) (sym (list_all-append (λ b. not (eqb b 10)) text (10 ∷ [])) ∙ subst (λ (b : List ℕ). has_no_feed b ≡ true) h.spaced clear) in
+    false≢true parts.1

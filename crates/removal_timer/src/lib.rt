@@ -2,11 +2,12 @@
 //! the timeout. All memory is taken at opening.
 #![tactic(auto)]
 
-ghost use Rattle.std.specs.Prelude.{◌≡◌, ◌+◌, ◌*◌, ◌<◌, ◌≤◌, [], ◌++◌, ◌==◌, not, IfOk, None, length, filter, map, vec_len, vec_capacity};
+ghost use Rattle.std.specs.Prelude.{◌≡◌, ◌+◌, ◌*◌, ◌<◌, ◌≤◌, [], ◌++◌, ◌==◌, not, IfOk, IfSome, None, Some, is_some, if◌then◌else◌, length, filter, map, vec_len, vec_capacity};
+ghost use Rattle.std.specs.Bool.{OnTrue};
 ghost use Rattle.std.specs.List.{prefix_len};
 ghost use Rattle.ff_ids.specs.Masks.{ring_count};
-ghost use Rattle.ff_ids.specs.Steps.{comes_first, is_due, with_kept};
-ghost use Rattle.removal_timer.specs.Kept.{entry_at, is_at, IsInOrder};
+ghost use Rattle.ff_ids.specs.Steps.{is_due, with_kept};
+ghost use Rattle.removal_timer.specs.Kept.{entry_at, is_at, is_before, AreRising, AreSince};
 
 use ff_ids::{AccBody, Group, MemberId, RingNo};
 use fields::NoMemory;
@@ -23,25 +24,20 @@ const PAIRS: usize = 1024 * 31;
 pub struct Timers {
     rings: u8,
     timeout: u32,
+    /// No entry stands since before this tick.
+    oldest: u64,
     kept: Vec<(AccBody, u64)>,
 }
 
 impl Model for Timers {
-    ghost use Rattle.std.specs.Prelude.{◌≤◌, vec_capacity};
-    ghost use Rattle.removal_timer.specs.Kept.{Kept, IsInOrder};
+    ghost use Rattle.removal_timer.specs.Kept.{Kept, IsKept};
+    ghost use Rattle.std.specs.Prelude.{vec_capacity};
 
     ghost Value = { Kept };
 
     ghost view = { λ x. record { rings = x.rings; timeout = x.timeout; entries = x.kept.items } };
 
-    ghost invariant = { λ x. (x.rings ≤ 31) × (31744 ≤ vec_capacity x.kept) × IsInOrder x.rings x.kept.items };
-}
-
-/// Whether an accusation comes before another in the order of the accused, then of the ring.
-fn comes_first(a: &AccBody, b: &AccBody) -> bool
-    ensures { result ≡ comes_first a.now b.now }
-{
-    a.accused < b.accused || (a.accused == b.accused && a.ring < b.ring)
+    ghost invariant = { λ x. IsKept x.rings x.oldest (vec_capacity x.kept) x.kept.items };
 }
 
 fn is_at(entry: &(AccBody, u64), accused: MemberId, ring: RingNo) -> bool
@@ -50,38 +46,75 @@ fn is_at(entry: &(AccBody, u64), accused: MemberId, ring: RingNo) -> bool
     entry.0.accused == accused && entry.0.ring == ring
 }
 
+fn is_before(entry: &(AccBody, u64), accused: MemberId, ring: RingNo) -> bool
+    ensures { result ≡ is_before accused ring.0 entry.now }
+{
+    entry.0.accused < accused || (entry.0.accused == accused && entry.0.ring < ring)
+}
+
 fn is_due(entry: &(AccBody, u64), timeout: u32, now: u64) -> bool
     ensures { result ≡ is_due timeout now entry.now }
 {
     u64::from(timeout) <= now.saturating_sub(entry.1)
 }
 
-/// How many of the first entries come before the accusation.
-fn place_of(kept: &[(AccBody, u64)], acc: &AccBody) -> usize
-    ensures { result ≡ prefix_len (λ p. comes_first p.0 acc.now) kept.now }
+/// How many entries are against an earlier member, or against this one on an earlier ring, found by halving.
+fn place_of(kept: &[(AccBody, u64)], accused: MemberId, ring: RingNo) -> usize
+    requires { AreRising kept.now }
+    ensures { result ≡ prefix_len (is_before accused ring.0) kept.now }
 {
-    kept.iter()
-        .take_while(|entry| comes_first(&entry.0, acc))
-        .count()
+    kept.partition_point(|entry| is_before(entry, accused, ring))
 }
 
 fn insert_in_order(kept: &mut Vec<(AccBody, u64)>, acc: AccBody, now: u64)
-    requires { vec_len kept.old < vec_capacity kept.old }
+    requires ordered { AreRising kept.old.items }
+    requires room { vec_len kept.old < vec_capacity kept.old }
     ensures entries { kept.new.items ≡ with_kept (acc, now) kept.old.items }
     ensures capacity { vec_capacity kept.old ≤ vec_capacity kept.new }
 {
-    let place = place_of(kept, &acc);
+    let place = place_of(kept, acc.accused, acc.ring);
     match kept.insert(place, (acc, now)) {
         Ok(()) => {}
         Err(_) => unreachable!(),
     }
 }
 
+/// The index of the entry against the member on the ring, if there is one.
+fn index_of(kept: &[(AccBody, u64)], accused: MemberId, ring: RingNo) -> Option<usize>
+    requires { AreRising kept.now }
+    ensures range { IfSome result (λ i. i < length kept.now) }
+    ensures value { result
+        ≡ (if is_some (entry_at accused ring.0 kept.now) then Some (prefix_len (is_before accused ring.0) kept.now) else None) }
+{
+    let place = place_of(kept, accused, ring);
+    if place < kept.len() && is_at(&kept[place], accused, ring) {
+        Some(place)
+    } else {
+        None
+    }
+}
+
 fn remove_at(kept: &mut Vec<(AccBody, u64)>, accused: MemberId, ring: RingNo)
+    requires { AreRising kept.old.items }
     ensures entries { kept.new.items ≡ filter (λ p. not (is_at accused ring.0 p)) kept.old.items }
     ensures capacity { vec_capacity kept.new ≡ vec_capacity kept.old }
 {
-    kept.retain(|entry| !is_at(entry, accused, ring));
+    match index_of(kept, accused, ring) {
+        Some(index) => {
+            let _ = kept.remove(index);
+        }
+        None => {}
+    }
+}
+
+fn find_at(kept: &[(AccBody, u64)], accused: MemberId, ring: RingNo) -> Option<(AccBody, u64)>
+    requires { AreRising kept.now }
+    ensures { result ≡ entry_at accused ring.0 kept.now }
+{
+    match index_of(kept, accused, ring) {
+        Some(index) => Some(kept[index]),
+        None => None,
+    }
 }
 
 fn remove_due(kept: &mut Vec<(AccBody, u64)>, timeout: u32, now: u64)
@@ -107,12 +140,15 @@ fn append_due(kept: &[(AccBody, u64)], timeout: u32, now: u64, out: &mut Vec<Acc
     }
 }
 
-fn find_at(kept: &[(AccBody, u64)], accused: MemberId, ring: RingNo) -> Option<(AccBody, u64)>
-    ensures { result ≡ entry_at accused ring.0 kept.now }
+/// Since when the oldest of the entries stands; the greatest number where there is none.
+fn oldest_of(kept: &[(AccBody, u64)]) -> u64
+    ensures { AreSince result kept.now }
 {
-    kept.iter()
-        .find(|entry| is_at(entry, accused, ring))
-        .copied()
+    let mut oldest = u64::MAX;
+    for entry in kept {
+        oldest = oldest.min(entry.1);
+    }
+    oldest
 }
 
 impl Timers {
@@ -124,17 +160,9 @@ impl Timers {
         Ok(Timers {
             rings: 2 * group.t + 1,
             timeout: group.timeout,
+            oldest: u64::MAX,
             kept: Vec::with_capacity(alloc, PAIRS)?,
         })
-    }
-
-    /// All entries, in order of the accused, then of the ring.
-    pub fn entries(&self) -> &[(AccBody, u64)]
-        ensures value { result.now ≡ self.now.entries }
-        ensures ordered { IsInOrder self.now.rings self.now.entries }
-        ensures few { length self.now.entries ≤ 1024 * 31 }
-    {
-        self.kept.as_slice()
     }
 
     /// The accusation stands from this tick on.
@@ -145,6 +173,7 @@ impl Timers {
     {
         let _accused = acc.accused.get();
         insert_in_order(&mut self.kept, acc, now);
+        self.oldest = self.oldest.min(now);
     }
 
     /// What stands against the member on the ring falls, if anything does.
@@ -159,17 +188,31 @@ impl Timers {
         ensures { self.new ≡ record self.old { entries = [] } }
     {
         self.kept.clear();
+        self.oldest = u64::MAX;
     }
 
-    /// Takes out the accusations that have stood for the timeout, and appends them to `out`, in order.
+    /// Takes out the accusations that have stood for the timeout, and appends them to `out`, in order. Where the
+    /// oldest hasn't, none is looked at.
     pub fn due(&mut self, now: u64, out: &mut Vec<AccBody>)
         requires { vec_len out.old + length (filter (is_due self.old.timeout now) self.old.entries) ≤ vec_capacity out.old }
         ensures taken { out.new.items ≡ out.old.items ++ map (λ p. p.0) (filter (is_due self.old.timeout now) self.old.entries) }
         ensures left { self.new ≡ record self.old { entries = filter (λ p. not (is_due self.old.timeout now p)) self.old.entries } }
         ensures capacity { vec_capacity out.old ≤ vec_capacity out.new }
     {
+        if now.saturating_sub(self.oldest) < u64::from(self.timeout) {
+            return;
+        }
         append_due(&self.kept, self.timeout, now, out);
         remove_due(&mut self.kept, self.timeout, now);
+        self.oldest = oldest_of(&self.kept);
+    }
+
+    /// Whether nothing stands.
+    pub fn is_empty(&self) -> bool
+        ensures value { result ≡ (length self.now.entries == 0) }
+        ensures empty { OnTrue result (self.now.entries ≡ []) }
+    {
+        self.kept.is_empty()
     }
 
     /// What stands against the member on the ring, and since when.
@@ -222,7 +265,7 @@ mod tests {
         assert_eq!(rt; out.len(), 0);
         timers.due(8, &mut out);
         assert_eq!(rt; out.as_slice(), [accusation(7, 2)].as_slice());
-        assert_eq!(rt; timers.entries().len(), 0);
+        assert_eq!(rt; timers.standing(MemberId::new(7), RingNo(2)), None);
         Ok(())
     }
 }

@@ -1,1 +1,3 @@
-pub mod Asking
+pub mod Answered
+pub mod Laws
+pub mod Verified

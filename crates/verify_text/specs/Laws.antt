@@ -15,7 +15,7 @@ use Rattle.lms_tree.specs.declared.kind.TreeKind.{TreeKind}
 use Rattle.lms_tree.specs.declared.kind.TreeKind.TheVariants.{H5, H10, H15}
 use Rattle.lms_tree.specs.declared.kind.KeyFault.TheVariants as key_fault
 use Rattle.lms_tree.specs.Kinds.{type_number}
-use Rattle.lms_tree.specs.Lms.{key_bytes, key_in, key_with, number_at, ots_of, tree_of}
+use Rattle.lms_tree.specs.Lms.{key_bytes, key_in, key_with, tree_of}
 use Rattle.lms_tree.proofs.Keys.{key-spelled, key_in-key_bytes}
 use Rattle.line_text.specs.declared.bad_word.BadWord.{BadWord}
 use Rattle.line_text.specs.declared.bad_word.BadWord.TheVariants as bad
@@ -61,7 +61,7 @@ tree_typed n t =
     (picked type_number n 6 H10 t _ (eqb n 6) refl refl
     (picked type_number n 7 H15 t None (eqb n 7) refl refl (no_kind type_number n t)))
 
-ots_typed : (n : ℕ) (t : OtsKind) → ots_of n ≡ Some t → ots.type_number t ≡ n
+ots_typed : (n : ℕ) (t : OtsKind) → ots.kind_of n ≡ Some t → ots.type_number t ≡ n
 ots_typed n t =
     picked ots.type_number n 1 W1 t _ (eqb n 1) refl refl
     (picked ots.type_number n 2 W2 t _ (eqb n 2) refl refl
@@ -74,7 +74,7 @@ digit_below c n (inr (inl h)) = h.1
 digit_below c n (inr (inr h)) = h.1
 
 -- bytes that a word spells are bytes
-below_256 : (word bytes : List ℕ) → SpellsBytes word bytes → (k : ℕ) → get_or bytes k 0 < 256
+pub below_256 : (word bytes : List ℕ) → SpellsBytes word bytes → (k : ℕ) → get_or bytes k 0 < 256
 below_256 [] [] h k = omega arith
 below_256 [] (b ∷ bytes) h k = absurd h
 below_256 (digit ∷ []) [] h k = absurd h
@@ -98,20 +98,20 @@ right k = Ok k
 key_same : (a b : PublicKey) → right a ≡ right b → a ≡ b
 key_same a b e = cc
 
-key_kinds : (bytes : List ℕ) (k : PublicKey) (t : Option TreeKind) (o : Option OtsKind) → length bytes ≡ 56 → ((i : ℕ) → get_or bytes i 0 < 256) → tree_of (number_at 0 bytes) ≡ t → ots_of (number_at 4 bytes) ≡ o → key_with bytes t o ≡ Ok k → KeyIn bytes k
+key_kinds : (bytes : List ℕ) (k : PublicKey) (t : Option TreeKind) (o : Option OtsKind) → length bytes ≡ 56 → ((i : ℕ) → get_or bytes i 0 < 256) → tree_of (ots.number_at 0 bytes) ≡ t → ots.kind_of (ots.number_at 4 bytes) ≡ o → key_with bytes t o ≡ Ok k → KeyIn bytes k
 key_kinds bytes k None o long below t_is o_is e = cc
 key_kinds bytes k (Some t) None long below t_is o_is e = cc
 key_kinds bytes k (Some t) (Some o) long below t_is o_is e =
     let made : PublicKey = record { tree = t; ots = o; id = slice_range bytes 8 24; root = slice_range bytes 24 56 } in
     let same : made ≡ k = key_same made k e in
-    let spelled = key-spelled bytes long below t (tree_typed (number_at 0 bytes) t t_is) o (ots_typed (number_at 4 bytes) o o_is) in
+    let spelled = key-spelled bytes long below t (tree_typed (ots.number_at 0 bytes) t t_is) o (ots_typed (ots.number_at 4 bytes) o o_is) in
     let id : length (slice_range bytes 8 24) ≡ 16 = omega (arith, long, length-take 16 (drop 8 bytes), length-drop 8 bytes) in
     let root : length (slice_range bytes 24 56) ≡ 32 = omega (arith, long, length-take 32 (drop 24 bytes), length-drop 24 bytes) in
     let all : KeyIn bytes made = record { spelled = spelled; id = id; root = root } in
     subst (KeyIn bytes) same all
 
-key_read : (bytes : List ℕ) (k : PublicKey) (b : Bool) → eqb (length bytes) 56 ≡ b → ((i : ℕ) → get_or bytes i 0 < 256) → cond b (key_with bytes (tree_of (number_at 0 bytes)) (ots_of (number_at 4 bytes))) (Err (key_fault.Length (length bytes))) ≡ Ok k → KeyIn bytes k
-key_read bytes k true is below e = key_kinds bytes k (tree_of (number_at 0 bytes)) (ots_of (number_at 4 bytes)) (eqb-true (length bytes) 56 is) below refl refl e
+key_read : (bytes : List ℕ) (k : PublicKey) (b : Bool) → eqb (length bytes) 56 ≡ b → ((i : ℕ) → get_or bytes i 0 < 256) → cond b (key_with bytes (tree_of (ots.number_at 0 bytes)) (ots.kind_of (ots.number_at 4 bytes))) (Err (key_fault.Length (length bytes))) ≡ Ok k → KeyIn bytes k
+key_read bytes k true is below e = key_kinds bytes k (tree_of (ots.number_at 0 bytes)) (ots.kind_of (ots.number_at 4 bytes)) (eqb-true (length bytes) 56 is) below refl refl e
 key_read bytes k false is below e = cc
 
 key_in-spelled : (word bytes : List ℕ) (k : PublicKey) → SpellsBytes word bytes → key_in bytes ≡ Ok k → KeyIn bytes k

@@ -1,12 +1,12 @@
 use Rattle.std.proofs.Common.{arith}
 use Rattle.std.proofs.lemmas.List.Sums.{prefix_len-le-length}
-use Rattle.ff_ids.specs.Steps.{comes_first}
+use Rattle.removal_timer.specs.Kept.{is_before}
 use Rattle.removal_timer.proofs.KeptLemmas.{insert_is}
 use Rattle.removal_timer.proofs.insert_in_order.Goals as goal
 
 pub insert-requires : goal.insert-requires
 insert-requires c =
-    omega (arith, c.place_of-place.ensures, prefix_len-le-length (λ q. comes_first q.0 c.args.acc) c.deref.result.now)
+    omega (arith, c.place_of-place.ensures, prefix_len-le-length (is_before c.args.acc.accused c.args.acc.ring.0) c.deref.result.now, c.deref.ensures.len)
 
 pub returns-clause-entries : goal.returns-clause-entries
 returns-clause-entries c =

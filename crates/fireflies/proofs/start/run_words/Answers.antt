@@ -6,5 +6,6 @@ returns g c = record {
   read_faults = _;
   usage = c.run.ensures.usage;
   ends = c.run.ensures.ends;
+  upholds = c.run.ensures.upholds;
   counts = c.run.ensures.counts;
 }
