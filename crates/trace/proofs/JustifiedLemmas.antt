@@ -130,13 +130,13 @@ in-pieces (t ∷ taken) line all i =
     elim (In-append_cases (pieces_of t) (pieces taken) line i) [
       | inl (inl told) ↦ inl (t, (all.0, told))
       | inl (inr event) ↦
-        let x = In-from_map event_line t.answer.events line event in
-        inr (x.0, (In-append_left t.answer.events (flat_map (λ t. t.answer.events) taken) x.0 x.1.0, x.1.1))
+          let x = In-from_map event_line t.answer.events line event in
+          inr (x.0, (In-append_left t.answer.events (flat_map (λ t. t.answer.events) taken) x.0 x.1.0, x.1.1))
       | inr later ↦
-        elim (in-pieces taken line all.1 later) [
-          | inl told ↦ inl told
-          | inr event ↦ inr (event.0, (In-append_right t.answer.events (flat_map (λ t. t.answer.events) taken) event.0 event.1.0, event.1.1))
-        ]
+          elim (in-pieces taken line all.1 later) [
+            | inl told ↦ inl told
+            | inr event ↦ inr (event.0, (In-append_right t.answer.events (flat_map (λ t. t.answer.events) taken) event.0 event.1.0, event.1.1))
+          ]
     ]
 
 event-in : (taken : List Taken) (e : reported.Event) → In (flat_map (λ t. t.answer.events) taken) e → In (pieces taken) (event_line e)
@@ -162,11 +162,11 @@ justified-written ls written rest same moment m line =
     elim (in-pieces w.taken (removal_line moment m) all i) [
       | inl told ↦ absurd (no-removal told.0 moment m told.1.0 told.1.1)
       | inr event ↦
-        let e = event.0 in
-        let k = removal-event e moment m event.1.1 in
-        let given : e ≡ record { moment = e.moment; what = what.Removed k.0 } = ap (λ (x : What). record { moment = e.moment; what = x }) k.1 in
-        let there = justified-walk ls e.moment k.0 (Contains-from_In (events_in w) _ (subst (In (events_in w)) given event.1.0)) in
-        record { life = there.0; moment = e.moment; member = k.0; recorded = there.1; spelled = sym event.1.1 ∙ ap event_line given; removal = there.2 }
+          let e = event.0 in
+          let k = removal-event e moment m event.1.1 in
+          let given : e ≡ record { moment = e.moment; what = what.Removed k.0 } = ap (λ (x : What). record { moment = e.moment; what = x }) k.1 in
+          let there = justified-walk ls e.moment k.0 (Contains-from_In (events_in w) _ (subst (In (events_in w)) given event.1.0)) in
+          record { life = there.0; moment = e.moment; member = k.0; recorded = there.1; spelled = sym event.1.1 ∙ ap event_line given; removal = there.2 }
     ]
 
 -- ## Each removal of a life is told
