@@ -1,5 +1,5 @@
 use super::*;
-use ff_ids::{AccBody, Epoch, Mask, NoteBody, RingNo};
+use ff_ids::{AccBody, Epoch, Fault, Mask, NoteBody, RingNo};
 use std::test::Fail;
 
 fn at(moment: u64, what: What) -> Event {

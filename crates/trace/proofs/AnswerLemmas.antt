@@ -1,9 +1,7 @@
 -- What an accepted note rules out, in a walk.
-use Rattle.std.proofs.Common.{◌≡◌, ℕ, zero, suc, ◌+◌, ◌-◌, ◌<◌, ◌≤◌, ◌⊎◌, inl, inr, Bool, true, false, List, [], ◌∷◌, ◌++◌, length, get_or, map, filter, take, Option, Some, None, refl, ap, sym, ◌∙◌, subst, append_assoc, arith, length-append}
-use Rattle.std.specs.Prelude.{codes, flat_map}
-use Rattle.std.specs.List.{Contains, slice_get}
-use Rattle.std.proofs.lemmas.Bool.{false≢true, cases_lt}
-use Rattle.std.proofs.lemmas.List.{append-nil, take-append-le}
+use Rattle.std.proofs.Common.{◌≡◌, ℕ, zero, suc, ◌<◌, inl, inr, List, [], ◌∷◌, ◌++◌, length, get_or, map, take, Option, Some, None, refl, ap, sym, ◌∙◌, subst, append_assoc, arith, length-append}
+use Rattle.std.specs.Prelude.{codes}
+use Rattle.std.specs.List.{slice_get}
 use Rattle.std.proofs.Math.Seq.{take-append_seam}
 use Rattle.ff_ids.specs.declared.AccBody.{AccBody}
 use Rattle.ff_ids.specs.declared.Fault.{Fault}
@@ -11,7 +9,7 @@ use Rattle.ff_ids.specs.declared.Group.{Group}
 use Rattle.ff_ids.specs.declared.NoteBody.{NoteBody}
 use Rattle.ff_ids.specs.Faults.{accusation_fault, note_fault}
 use Rattle.ff_ids.specs.Lives.{IsAcceptedAt, after, opening, reports, state_at}
-use Rattle.ff_ids.specs.Steps.{Accuses, Event, Joins, Notes, Report, Stepped, Ticks, step}
+use Rattle.ff_ids.specs.Steps.{Accuses, Event, Joins, Notes, Stepped, Ticks, step}
 use Rattle.ff_ids.specs.Views.{State}
 use Rattle.ff_ids.specs.Texts.{fault_text}
 use Rattle.journal.specs.declared.event.Event as reported
@@ -24,7 +22,7 @@ use Rattle.schedule_direct.specs.declared.line.DirectLine.TheVariants as lines
 use Rattle.schedule_direct.specs.Grammar as grammar
 use Rattle.trace.specs.Answers.{Answer, Recorded, answer, answer_in, events_of, places_at, state_of, stepped, tick_events, verdict_on, with_event, with_ticks}
 use Rattle.trace.specs.Replies.{AcceptsAccusation, AcceptsNote, Expires, RuleOut, accepted}
-use Rattle.trace.specs.Walk.{Taken, Walk, walk_over}
+use Rattle.trace.specs.Walk.{Taken, walk_over}
 use Rattle.trace.proofs.ReplyLemmas.{Extends, Later, all-answered, extends-ticks, goes-on-to, some-same}
 
 -- ## Places in lists of events

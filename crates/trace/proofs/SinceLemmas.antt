@@ -1,5 +1,5 @@
 -- Behind an accepted note, what it answers expires only where it was accepted again.
-use Rattle.std.proofs.Common.{◌≡◌, ℕ, zero, suc, ◌+◌, ◌-◌, ◌<◌, ◌≤◌, ◌⊎◌, inl, inr, Bool, true, false, ◌&&◌, List, [], ◌∷◌, ◌++◌, length, map, filter, take, Option, Some, None, refl, ap, sym, ◌∙◌, subst, append_assoc, arith, length-append}
+use Rattle.std.proofs.Common.{◌≡◌, ℕ, zero, suc, ◌+◌, ◌-◌, ◌<◌, ◌≤◌, ◌⊎◌, inl, inr, true, false, List, [], ◌∷◌, ◌++◌, length, filter, take, Option, Some, None, refl, ap, sym, ◌∙◌, subst, append_assoc, arith, length-append}
 use Rattle.std.specs.List.{slice_get}
 use Rattle.std.specs.Option.{option_map_or}
 use Rattle.std.proofs.lemmas.Bool.{and_parts, cases_Bool, cases_lt, false≢true, leb-true}
@@ -12,7 +12,7 @@ use Rattle.ff_ids.specs.declared.NoteBody.{NoteBody}
 use Rattle.ff_ids.specs.Faults.{accusation_fault, note_fault}
 use Rattle.ff_ids.specs.Lives.{IsAcceptedAt, after, opening, state_at}
 use Rattle.ff_ids.specs.Notes.{newest}
-use Rattle.ff_ids.specs.Steps.{Accuses, Event, Joins, Notes, Stepped, Ticks, after_accusation, after_note, is_due, joined, step, unchanged, unless_fault}
+use Rattle.ff_ids.specs.Steps.{Accuses, Event, Joins, Notes, Ticks, after_accusation, after_note, is_due, step, unchanged, unless_fault}
 use Rattle.ff_ids.specs.Views.{State, is_member, is_unanswered_by, stands}
 use Rattle.life_laws.proofs.AnsweredLemmas.{newest-accepted}
 use Rattle.life_laws.proofs.JustifiedLemmas.{Upheld, sound}
@@ -20,9 +20,9 @@ use Rattle.life_laws.proofs.LifeLemmas.{state_at-next}
 use Rattle.life_laws.proofs.Lists.{In, In-from_filter, In-from_map}
 use Rattle.life_laws.specs.Removals.{IsNoteAcceptedAt}
 use Rattle.trace.specs.Answers.{Recorded, state_of, stepped, with_event, with_ticks}
-use Rattle.trace.specs.Replies.{AcceptedSince, AcceptsNote, EndsAcceptance, Expires}
+use Rattle.trace.specs.Replies.{AcceptedSince, EndsAcceptance}
 use Rattle.trace.specs.Walk.{walk_over}
-use Rattle.trace.proofs.AnswerLemmas.{LineExpires, Noted, behind-note, expires-there, noted-before, noted-more, noted-place, state-place}
+use Rattle.trace.proofs.AnswerLemmas.{Noted, behind-note, expires-there, noted-before, noted-more, noted-place, state-place}
 use Rattle.trace.proofs.ReplyLemmas.{extends-ticks}
 
 -- ## Ticks

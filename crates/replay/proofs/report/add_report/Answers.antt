@@ -1,4 +1,4 @@
-use Rattle.std.proofs.Common.{◌≡◌, ◌++◌, map, List}
+use Rattle.std.proofs.Common.{map, List}
 use Rattle.std.proofs.lemmas.Result.{on_ok_weaker}
 use Rattle.journal.specs.declared.event.Event as reported
 use Rattle.journal.specs.declared.event.What.TheVariants as what

@@ -1,11 +1,10 @@
-use Rattle.std.proofs.Common.{◌≡◌, ℕ, List, [], ◌∷◌, ◌++◌, true, Option, refl, ap, sym, ◌∙◌, subst}
+use Rattle.std.proofs.Common.{◌≡◌, ℕ, List, [], ◌∷◌, true, sym, subst}
 use Rattle.std.specs.List.{join_with_byte}
 use Rattle.line_text.specs.declared.bad_word.BadWord.{BadWord}
 use Rattle.line_text.specs.Answers.{Progress}
 use Rattle.schedule_direct.specs.declared.direct.Direct.{Direct}
 use Rattle.text_trace.specs.Lines.{has_line_feed}
 use Rattle.text_trace.specs.Trace.{Steps}
-use Rattle.trace.specs.Answers.{Recorded, answer}
 use Rattle.replay.specs.Playing.{Owes}
 use Rattle.replay.proofs.LineLemmas.{fed-line, line-steps}
 use Rattle.replay.proofs.PlaceLemmas.{fits, placed-after}
