@@ -73,3 +73,11 @@ signed_by group key index body = record {
 
 abbrev pub signed_record : SignerState → Body → CheckedRecord
 signed_record s body = signed_by s.group s.key s.state.next body
+
+-- what holds where nothing was tried
+abbrev pub OnIdle : {T : Type 0} → Result T SignFault → Type 0 → Type 0
+OnIdle (Ok value) P = Unit {0}
+OnIdle (Err OutOfMemory) P = P
+OnIdle (Err Closed) P = P
+OnIdle (Err (Exhausted next)) P = P
+OnIdle (Err StoreFault) P = Unit {0}

@@ -2,16 +2,19 @@
 //! in the store before the leaf that has the index is spent.
 #![tactic(auto)]
 
-ghost use Rattle.std.specs.Prelude.{◌≡◌, ℕ, ◌+◌, ◌<◌, ◌≤◌, ◌^◌, List, length, true, false, OnOk, IfOk, IfErr};
+ghost use Rattle.std.specs.Prelude.{◌≡◌, ℕ, ◌+◌, ◌<◌, ◌≤◌, ◌^◌, ◌++◌, List, length, true, false, OnOk, IfOk, IfErr};
 ghost use Rattle.ports.specs.Count.{counted};
-ghost use Rattle.ports.specs.Disk.{Since};
+ghost use Rattle.ports.specs.Disk.{Moment, Since};
 ghost use Rattle.lms_tree.specs.Kinds.{leaf_count as leaf_count_of, signature_length};
 ghost use Rattle.lms_tree.specs.Lms.{public_of};
 ghost use Rattle.records.specs.Spelling.{HasPort};
 ghost use Rattle.records.specs.declared.Body.TheVariants.{Certificate, Accusation};
 ghost use Rattle.epoch_store.specs.Store.{IsSettled, LeavesEither, LeavesState};
 ghost use Rattle.signer.specs.declared.SignFault.TheVariants.{OutOfMemory};
-ghost use Rattle.signer.specs.Signing.{SignerState, stored_after as stored_after_it, MayComeNext, next_note, AnswersBy, is_store_fault, after_signing, signed_by, signed_record};
+ghost use Rattle.signer.specs.Signing.{SignerState, stored_after as stored_after_it, MayComeNext, next_note, AnswersBy, is_store_fault, after_signing, signed_by, signed_record, OnIdle};
+ghost use Rattle.signer.specs.Lives.{Spent, IsLiving, BeginsLife, EndsLife, spent_in};
+
+pub mod laws;
 
 use epoch_store::{Store, Stored};
 use ff_ids::{AccBody, Epoch, Group, Mask, MemberId, NoteBody};
@@ -107,7 +110,9 @@ impl Signer {
         requires runs { store.failed ≡ false }
         requires behind { leaves.next ≤ store.state.next }
         requires within { store.state.next ≤ leaf_count_of tree.tree }
-        ensures { result ≡ record {
+        ensures begins { (tag : List ℕ) (moments : List Moment) → IsSettled tag store.state store.gate moments
+            → BeginsLife tag result moments }
+        ensures value { result ≡ record {
           group = group;
           key = tree;
           leaf = store.state.next;
@@ -152,12 +157,17 @@ impl Signer {
         ensures answers { AnswersBy self.old result }
         ensures signed { IfOk result (λ rec. rec ≡ signed_record self.old (next_note self.old.state member mask)) }
         ensures after { self.new ≡ after_signing self.old (next_note self.old.state member mask) result }
+        ensures same { OnIdle result (D.moments disk.new ≡ D.moments disk.old) }
         ensures any_moment { (tag : List ℕ) → IsSettled tag self.old.state self.old.gate (D.moments disk.old)
             → Since (LeavesEither tag self.old.state (stored_after_it self.old.state (next_note self.old.state member mask))) (D.moments disk.old) (D.moments disk.new) }
         ensures settled { OnOk result ((tag : List ℕ) → IsSettled tag self.old.state self.old.gate (D.moments disk.old)
             → IsSettled tag self.new.state self.new.gate (D.moments disk.new)) }
         ensures leaves { OnOk result ((tag : List ℕ) → IsSettled tag self.old.state self.old.gate (D.moments disk.old)
             → LeavesState tag self.new.state (D.moments disk.new)) }
+        ensures lives { (tag before : List ℕ) (spent : List Spent) → IsLiving tag before spent self.old (D.moments disk.old)
+            → IsLiving tag before (spent ++ spent_in self.old (next_note self.old.state member mask) result) self.new (D.moments disk.new) }
+        ensures any_life { (tag before : List ℕ) (spent : List Spent) → IsLiving tag before spent self.old (D.moments disk.old)
+            → Since (EndsLife tag before spent) (D.moments disk.old) (D.moments disk.new) }
     {
         let epoch = Epoch::new(self.store.state().epoch + 1);
         self.sign(
@@ -182,12 +192,17 @@ impl Signer {
         ensures answers { AnswersBy self.old result }
         ensures signed { IfOk result (λ rec. rec ≡ signed_record self.old (Accusation acc)) }
         ensures after { self.new ≡ after_signing self.old (Accusation acc) result }
+        ensures same { OnIdle result (D.moments disk.new ≡ D.moments disk.old) }
         ensures any_moment { (tag : List ℕ) → IsSettled tag self.old.state self.old.gate (D.moments disk.old)
             → Since (LeavesEither tag self.old.state (stored_after_it self.old.state (Accusation acc))) (D.moments disk.old) (D.moments disk.new) }
         ensures settled { OnOk result ((tag : List ℕ) → IsSettled tag self.old.state self.old.gate (D.moments disk.old)
             → IsSettled tag self.new.state self.new.gate (D.moments disk.new)) }
         ensures leaves { OnOk result ((tag : List ℕ) → IsSettled tag self.old.state self.old.gate (D.moments disk.old)
             → LeavesState tag self.new.state (D.moments disk.new)) }
+        ensures lives { (tag before : List ℕ) (spent : List Spent) → IsLiving tag before spent self.old (D.moments disk.old)
+            → IsLiving tag before (spent ++ spent_in self.old (Accusation acc) result) self.new (D.moments disk.new) }
+        ensures any_life { (tag before : List ℕ) (spent : List Spent) → IsLiving tag before spent self.old (D.moments disk.old)
+            → Since (EndsLife tag before spent) (D.moments disk.old) (D.moments disk.new) }
     {
         self.sign(alloc, disk, Body::Accusation(acc))
     }
@@ -204,12 +219,17 @@ impl Signer {
         ensures answers { AnswersBy self.old result }
         ensures signed { IfOk result (λ rec. rec ≡ signed_record self.old (Certificate cert)) }
         ensures after { self.new ≡ after_signing self.old (Certificate cert) result }
+        ensures same { OnIdle result (D.moments disk.new ≡ D.moments disk.old) }
         ensures any_moment { (tag : List ℕ) → IsSettled tag self.old.state self.old.gate (D.moments disk.old)
             → Since (LeavesEither tag self.old.state (stored_after_it self.old.state (Certificate cert))) (D.moments disk.old) (D.moments disk.new) }
         ensures settled { OnOk result ((tag : List ℕ) → IsSettled tag self.old.state self.old.gate (D.moments disk.old)
             → IsSettled tag self.new.state self.new.gate (D.moments disk.new)) }
         ensures leaves { OnOk result ((tag : List ℕ) → IsSettled tag self.old.state self.old.gate (D.moments disk.old)
             → LeavesState tag self.new.state (D.moments disk.new)) }
+        ensures lives { (tag before : List ℕ) (spent : List Spent) → IsLiving tag before spent self.old (D.moments disk.old)
+            → IsLiving tag before (spent ++ spent_in self.old (Certificate cert) result) self.new (D.moments disk.new) }
+        ensures any_life { (tag before : List ℕ) (spent : List Spent) → IsLiving tag before spent self.old (D.moments disk.old)
+            → Since (EndsLife tag before spent) (D.moments disk.old) (D.moments disk.new) }
     {
         self.sign(alloc, disk, Body::Certificate(cert))
     }
@@ -227,12 +247,17 @@ impl Signer {
         ensures answers { AnswersBy self.old result }
         ensures signed { IfOk result (λ rec. rec ≡ signed_record self.old body) }
         ensures after { self.new ≡ after_signing self.old body result }
+        ensures same { OnIdle result (D.moments disk.new ≡ D.moments disk.old) }
         ensures any_moment { (tag : List ℕ) → IsSettled tag self.old.state self.old.gate (D.moments disk.old)
             → Since (LeavesEither tag self.old.state (stored_after_it self.old.state body)) (D.moments disk.old) (D.moments disk.new) }
         ensures settled { OnOk result ((tag : List ℕ) → IsSettled tag self.old.state self.old.gate (D.moments disk.old)
             → IsSettled tag self.new.state self.new.gate (D.moments disk.new)) }
         ensures leaves { OnOk result ((tag : List ℕ) → IsSettled tag self.old.state self.old.gate (D.moments disk.old)
             → LeavesState tag self.new.state (D.moments disk.new)) }
+        ensures lives { (tag before : List ℕ) (spent : List Spent) → IsLiving tag before spent self.old (D.moments disk.old)
+            → IsLiving tag before (spent ++ spent_in self.old body result) self.new (D.moments disk.new) }
+        ensures any_life { (tag before : List ℕ) (spent : List Spent) → IsLiving tag before spent self.old (D.moments disk.old)
+            → Since (EndsLife tag before spent) (D.moments disk.old) (D.moments disk.new) }
     {
         let key = self.tree.public();
         let length = 8 + key.ots.signature_length() + 32 * key.tree.height();
@@ -244,16 +269,16 @@ impl Signer {
         if state.next == leaf_count(key.tree) {
             return Err(SignFault::Exhausted { next: state.next });
         }
-        if self.store.put(disk, stored_after(state, &body)).is_err() {
-            return Err(SignFault::StoreFault);
+        match self.store.put(disk, stored_after(state, &body)) {
+            Ok(()) => Ok(spend_leaf(
+                &self.tree,
+                &mut self.leaves,
+                &self.group,
+                body,
+                signature,
+            )),
+            Err(_) => Err(SignFault::StoreFault),
         }
-        Ok(spend_leaf(
-            &self.tree,
-            &mut self.leaves,
-            &self.group,
-            body,
-            signature,
-        ))
     }
 }
 
