@@ -80,11 +80,11 @@ lives_on tag before spent s later body (Ok value) older newer answers next after
     let P : Stored → Type 0 = λ z. MayComeNext z body in
     let may = MayCome-push living.opened living.bodies body living.may_come (subst P state next) in
     let spent_now : spent ++ record { index = s.state.next; body = body } ∷ [] ≡ spent_by living.opened (living.bodies ++ body ∷ []) =
-        ap (λ (z : Stored). spent ++ record { index = z.next; body = body } ∷ []) state
-        ∙ ap (λ (z : List Spent). z ++ record { index = (state_after living.opened living.bodies).next; body = body } ∷ []) living.spent_is
-        ∙ sym (spent_by-push living.opened living.bodies body) in
+    ap (λ (z : Stored). spent ++ record { index = z.next; body = body } ∷ []) state
+    ∙ ap (λ (z : List Spent). z ++ record { index = (state_after living.opened living.bodies).next; body = body } ∷ []) living.spent_is
+    ∙ sym (spent_by-push living.opened living.bodies body) in
     let state_now : later.state ≡ state_after living.opened (living.bodies ++ body ∷ []) =
-        ap (λ (z : SignerState). z.state) after ∙ ap (λ (z : Stored). stored_after z body) state ∙ sym (state_after-push living.opened living.bodies body) in
+    ap (λ (z : SignerState). z.state) after ∙ ap (λ (z : Stored). stored_after z body) state ∙ sym (state_after-push living.opened living.bodies body) in
     let now = settled tag (living.settled answers.0) in
     record {
       opened = living.opened;

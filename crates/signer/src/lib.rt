@@ -234,7 +234,7 @@ impl Signer {
         self.sign(alloc, disk, Body::Certificate(cert))
     }
 
-    #[tactic(auto, unfolding(lms_tree::specs::Lms::public_of))]
+    /// Signs the body, in the life that goes on.
     fn sign<D: Disk>(
         &mut self,
         alloc: Global,
@@ -259,6 +259,31 @@ impl Signer {
         ensures any_life { (tag before : List ℕ) (spent : List Spent) → IsLiving tag before spent self.old (D.moments disk.old)
             → Since (EndsLife tag before spent) (D.moments disk.old) (D.moments disk.new) }
     {
+        self.sign_body(alloc, disk, body)
+    }
+
+    /// Takes memory, puts the next index, and then spends the leaf.
+    #[tactic(auto, unfolding(lms_tree::specs::Lms::public_of))]
+    fn sign_body<D: Disk>(
+        &mut self,
+        alloc: Global,
+        disk: &mut D,
+        body: Body,
+    ) -> Result<Checked, SignFault>
+        requires port { HasPort body }
+        requires next { MayComeNext self.old.state body }
+        ensures faults { D.faults disk.new ≡ counted (is_store_fault result) (D.faults disk.old) }
+        ensures answers { AnswersBy self.old result }
+        ensures signed { IfOk result (λ rec. rec ≡ signed_record self.old body) }
+        ensures after { self.new ≡ after_signing self.old body result }
+        ensures same { OnIdle result (D.moments disk.new ≡ D.moments disk.old) }
+        ensures any_moment { (tag : List ℕ) → IsSettled tag self.old.state self.old.gate (D.moments disk.old)
+            → Since (LeavesEither tag self.old.state (stored_after_it self.old.state body)) (D.moments disk.old) (D.moments disk.new) }
+        ensures settled { OnOk result ((tag : List ℕ) → IsSettled tag self.old.state self.old.gate (D.moments disk.old)
+            → IsSettled tag self.new.state self.new.gate (D.moments disk.new)) }
+        ensures leaves { OnOk result ((tag : List ℕ) → IsSettled tag self.old.state self.old.gate (D.moments disk.old)
+            → LeavesState tag self.new.state (D.moments disk.new)) }
+    {
         let key = self.tree.public();
         let length = 8 + key.ots.signature_length() + 32 * key.tree.height();
         let signature = zeros(alloc, length)?;
@@ -270,13 +295,7 @@ impl Signer {
             return Err(SignFault::Exhausted { next: state.next });
         }
         match self.store.put(disk, stored_after(state, &body)) {
-            Ok(()) => Ok(spend_leaf(
-                &self.tree,
-                &mut self.leaves,
-                &self.group,
-                body,
-                signature,
-            )),
+            Ok(()) => Ok(spend_leaf(&self.tree, &mut self.leaves, &self.group, body, signature)),
             Err(_) => Err(SignFault::StoreFault),
         }
     }

@@ -1,15 +1,12 @@
-use Rattle.std.proofs.Common.{◌≡◌, ap}
-use Rattle.signer.specs.Signing.{SignerState}
+use Rattle.signer.proofs.LivingLemmas.{lives_on, any_life}
 use Rattle.signer.proofs.Signer.sign.Goals as goal
 
-pub returns-in-Ok-clause-settled : goal.returns-in-Ok-clause-settled
-returns-in-Ok-clause-settled g c = λ tag at.
-    let state : c.self.inside.store.state ≡ c.args.self.now.state = ap (λ (s : SignerState). s.state) c.self.view_is in
-    let gate : c.self.inside.store.gate ≡ c.args.self.now.gate = ap (λ (s : SignerState). s.gate) c.self.view_is in
-    rw c.in-Ok.ensures.put (c.in-Ok.ensures.settled tag (rw (state, gate) at))
+pub returns-clause-lives : goal.returns-clause-lives
+returns-clause-lives g c = λ tag before spent living.
+    lives_on tag before spent c.args.self.now c.sign_body.new.self c.args.body c.sign_body.result (g.D.Disk.moments c.args.disk.now) (g.D.Disk.moments c.sign_body.new.disk)
+    c.sign_body.ensures.answers c.requires.next c.sign_body.ensures.after c.sign_body.ensures.any_moment c.sign_body.ensures.settled c.sign_body.ensures.same living
 
-pub returns-in-Ok-clause-leaves : goal.returns-in-Ok-clause-leaves
-returns-in-Ok-clause-leaves g c = λ tag at.
-    let state : c.self.inside.store.state ≡ c.args.self.now.state = ap (λ (s : SignerState). s.state) c.self.view_is in
-    let gate : c.self.inside.store.gate ≡ c.args.self.now.gate = ap (λ (s : SignerState). s.gate) c.self.view_is in
-    rw c.in-Ok.ensures.put (c.in-Ok.ensures.leaves tag (rw (state, gate) at))
+pub returns-clause-any_life : goal.returns-clause-any_life
+returns-clause-any_life g c = λ tag before spent living.
+    any_life tag before spent c.args.self.now c.args.body c.sign_body.result (g.D.Disk.moments c.args.disk.now) (g.D.Disk.moments c.sign_body.new.disk)
+    c.sign_body.ensures.answers c.requires.next c.sign_body.ensures.any_moment c.sign_body.ensures.same living
