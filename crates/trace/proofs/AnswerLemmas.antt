@@ -144,28 +144,28 @@ step-expires : (st : Stepped) (moment : ℕ) (a : AccBody) → In (events_of st)
 step-expires st moment a i =
     elim (In-append_cases _ (map (λ (b : AccBody). record { moment = st.state.moment; what = what.Fell b }) st.report.fell) (expiry moment a) i) [
       | inr fell ↦
-        let x = In-from_map (λ (b : AccBody). record { moment = st.state.moment; what = what.Fell b }) st.report.fell (expiry moment a) fell in
-        let same : what.Fell x.0 ≡ what.Expired a = ap (λ (e : reported.Event). e.what) x.1.1 in
-        absurd cc
+          let x = In-from_map (λ (b : AccBody). record { moment = st.state.moment; what = what.Fell b }) st.report.fell (expiry moment a) fell in
+          let same : what.Fell x.0 ≡ what.Expired a = ap (λ (e : reported.Event). e.what) x.1.1 in
+          absurd cc
       | inl others ↦
-        elim (In-append_cases _ (map (λ (k : ℕ). record { moment = st.state.moment; what = what.Entered k }) st.report.entered) (expiry moment a) others) [
-          | inr entered ↦
-            let x = In-from_map (λ (k : ℕ). record { moment = st.state.moment; what = what.Entered k }) st.report.entered (expiry moment a) entered in
-            let same : what.Entered x.0 ≡ what.Expired a = ap (λ (e : reported.Event). e.what) x.1.1 in
-            absurd cc
-          | inl first ↦
-            elim (In-append_cases (map (λ (b : AccBody). record { moment = st.state.moment; what = what.Expired b }) st.report.expired) (map (λ (k : ℕ). record { moment = st.state.moment; what = what.Removed k }) st.report.removed) (expiry moment a) first) [
-              | inr removed ↦
-                let x = In-from_map (λ (k : ℕ). record { moment = st.state.moment; what = what.Removed k }) st.report.removed (expiry moment a) removed in
-                let same : what.Removed x.0 ≡ what.Expired a = ap (λ (e : reported.Event). e.what) x.1.1 in
+          elim (In-append_cases _ (map (λ (k : ℕ). record { moment = st.state.moment; what = what.Entered k }) st.report.entered) (expiry moment a) others) [
+            | inr entered ↦
+                let x = In-from_map (λ (k : ℕ). record { moment = st.state.moment; what = what.Entered k }) st.report.entered (expiry moment a) entered in
+                let same : what.Entered x.0 ≡ what.Expired a = ap (λ (e : reported.Event). e.what) x.1.1 in
                 absurd cc
-              | inl expired ↦
-                let x = In-from_map (λ (b : AccBody). record { moment = st.state.moment; what = what.Expired b }) st.report.expired (expiry moment a) expired in
-                let same : what.Expired x.0 ≡ what.Expired a = ap (λ (e : reported.Event). e.what) x.1.1 in
-                let b : x.0 ≡ a = cc in
-                record { expired = subst (In st.report.expired) b x.1.0; at = ap (λ (e : reported.Event). e.moment) x.1.1 }
-            ]
-        ]
+            | inl first ↦
+                elim (In-append_cases (map (λ (b : AccBody). record { moment = st.state.moment; what = what.Expired b }) st.report.expired) (map (λ (k : ℕ). record { moment = st.state.moment; what = what.Removed k }) st.report.removed) (expiry moment a) first) [
+                  | inr removed ↦
+                      let x = In-from_map (λ (k : ℕ). record { moment = st.state.moment; what = what.Removed k }) st.report.removed (expiry moment a) removed in
+                      let same : what.Removed x.0 ≡ what.Expired a = ap (λ (e : reported.Event). e.what) x.1.1 in
+                      absurd cc
+                  | inl expired ↦
+                      let x = In-from_map (λ (b : AccBody). record { moment = st.state.moment; what = what.Expired b }) st.report.expired (expiry moment a) expired in
+                      let same : what.Expired x.0 ≡ what.Expired a = ap (λ (e : reported.Event). e.what) x.1.1 in
+                      let b : x.0 ≡ a = cc in
+                      record { expired = subst (In st.report.expired) b x.1.0; at = ap (λ (e : reported.Event). e.moment) x.1.1 }
+                ]
+          ]
     ]
 
 -- under a line of the life, some step of the life as it stands after so many ticks reports the accusation as expired
@@ -186,8 +186,8 @@ ticks-expire (suc n) r moment a i =
     elim (In-append_cases (tick_events n r) (events_of (stepped (with_ticks n r) Ticks)) (expiry moment a) i) [
       | inl before ↦ ticks-expire n r moment a before
       | inr last ↦
-        let x = step-expires (stepped (with_ticks n r) Ticks) moment a last in
-        record { ticks = n; event = Ticks; expired = x.expired; at = x.at }
+          let x = step-expires (stepped (with_ticks n r) Ticks) moment a last in
+          record { ticks = n; event = Ticks; expired = x.expired; at = x.at }
     ]
 
 line-expires : (r : Recorded) (line : DirectLine) (moment : ℕ) (a : AccBody) → In (answer_in r line).events (expiry moment a) → LineExpires r moment a

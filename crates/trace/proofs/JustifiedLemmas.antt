@@ -5,6 +5,7 @@ use Rattle.std.specs.Prelude.{codes, flat_map}
 use Rattle.std.specs.List.{AllByRecursion, Contains, concat, join_with_byte, list_all, slice_get}
 use Rattle.std.specs.Fmt.{decimal}
 use Rattle.std.proofs.lemmas.List.Folds.{concat-append}
+use Rattle.ff_ids.specs.declared.AccBody.{AccBody}
 use Rattle.ff_ids.specs.declared.Group.{Group}
 use Rattle.ff_ids.specs.Lives.{opening, reports, state_at}
 use Rattle.ff_ids.specs.Steps.{Event, Report, step}
@@ -129,13 +130,13 @@ in-pieces (t ∷ taken) line all i =
     elim (In-append_cases (pieces_of t) (pieces taken) line i) [
       | inl (inl told) ↦ inl (t, (all.0, told))
       | inl (inr event) ↦
-        let x = In-from_map event_line t.answer.events line event in
-        inr (x.0, (In-append_left t.answer.events (flat_map (λ t. t.answer.events) taken) x.0 x.1.0, x.1.1))
+          let x = In-from_map event_line t.answer.events line event in
+          inr (x.0, (In-append_left t.answer.events (flat_map (λ t. t.answer.events) taken) x.0 x.1.0, x.1.1))
       | inr later ↦
-        elim (in-pieces taken line all.1 later) [
-          | inl told ↦ inl told
-          | inr event ↦ inr (event.0, (In-append_right t.answer.events (flat_map (λ t. t.answer.events) taken) event.0 event.1.0, event.1.1))
-        ]
+          elim (in-pieces taken line all.1 later) [
+            | inl told ↦ inl told
+            | inr event ↦ inr (event.0, (In-append_right t.answer.events (flat_map (λ t. t.answer.events) taken) event.0 event.1.0, event.1.1))
+          ]
     ]
 
 event-in : (taken : List Taken) (e : reported.Event) → In (flat_map (λ t. t.answer.events) taken) e → In (pieces taken) (event_line e)
@@ -161,11 +162,11 @@ justified-written ls written rest same moment m line =
     elim (in-pieces w.taken (removal_line moment m) all i) [
       | inl told ↦ absurd (no-removal told.0 moment m told.1.0 told.1.1)
       | inr event ↦
-        let e = event.0 in
-        let k = removal-event e moment m event.1.1 in
-        let given : e ≡ record { moment = e.moment; what = what.Removed k.0 } = ap (λ (x : What). record { moment = e.moment; what = x }) k.1 in
-        let there = justified-walk ls e.moment k.0 (Contains-from_In (events_in w) _ (subst (In (events_in w)) given event.1.0)) in
-        record { life = there.0; moment = e.moment; member = k.0; recorded = there.1; spelled = sym event.1.1 ∙ ap event_line given; removal = there.2 }
+          let e = event.0 in
+          let k = removal-event e moment m event.1.1 in
+          let given : e ≡ record { moment = e.moment; what = what.Removed k.0 } = ap (λ (x : What). record { moment = e.moment; what = x }) k.1 in
+          let there = justified-walk ls e.moment k.0 (Contains-from_In (events_in w) _ (subst (In (events_in w)) given event.1.0)) in
+          record { life = there.0; moment = e.moment; member = k.0; recorded = there.1; spelled = sym event.1.1 ∙ ap event_line given; removal = there.2 }
     ]
 
 -- ## Each removal of a life is told
@@ -182,8 +183,12 @@ reported-at g s (e ∷ events) zero report m at i =
     let same : st.report ≡ report = cc in
     let ev : ℕ → reported.Event = λ k. record { moment = st.state.moment; what = what.Removed k } in
     let removed : In (map ev st.report.removed) (ev m) = in-map ev st.report.removed m (subst (λ (r : Report). In r.removed m) (sym same) i) in
+    let expired : List reported.Event = map (λ (a : AccBody). record { moment = st.state.moment; what = what.Expired a }) st.report.expired in
+    let entered : List reported.Event = map (λ (k : ℕ). record { moment = st.state.moment; what = what.Entered k }) st.report.entered in
+    let fell : List reported.Event = map (λ (a : AccBody). record { moment = st.state.moment; what = what.Fell a }) st.report.fell in
+    let gone = map ev st.report.removed in
     In-append_left (events_of st) (reported_from g st.state events) (ev m)
-    (In-append_left _ _ (ev m) (In-append_left _ _ (ev m) (In-append_right _ (map ev st.report.removed) (ev m) removed)))
+    (In-append_left ((expired ++ gone) ++ entered) fell (ev m) (In-append_left (expired ++ gone) entered (ev m) (In-append_right expired gone (ev m) removed)))
 reported-at g s (e ∷ events) (suc place) report m at i =
     let inner = reported-at g (step g s e).state events place report m at i in
     let more : suc place + 1 ≡ suc (place + 1) = omega arith in

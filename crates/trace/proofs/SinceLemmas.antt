@@ -115,10 +115,10 @@ behind g s events i j n q less note about answered u =
           elim (cases_lt u.place i) [
             | inr same ↦ let is : u.place ≡ i = omega (arith, same, before) in other-event events i q.0 n (subst (λ (k : ℕ). slice_get events k ≡ Some (Accuses q.0)) is u.accepted_there.event) note.event
             | inl earlier ↦
-              let stood = u.stood (i + 1) (omega (arith, earlier)) (omega arith) in
-              let next = state_at-next g s events i (Notes n) note.event in
-              let still = stood-unanswered g (state_at g s events i) n q.0 note.no_fault about (rw next at stood) in
-              false≢true (sym answered ∙ still)
+                let stood = u.stood (i + 1) (omega (arith, earlier)) (omega arith) in
+                let next = state_at-next g s events i (Notes n) note.event in
+                let still = stood-unanswered g (state_at g s events i) n q.0 note.no_fault about (rw next at stood) in
+                false≢true (sym answered ∙ still)
           ])
     ]
 

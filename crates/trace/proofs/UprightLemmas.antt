@@ -92,14 +92,14 @@ removes st moment m i =
     elim (In-append_cases _ (map (λ (a : AccBody). record { moment = st.state.moment; what = what.Fell a }) st.report.fell) (removal moment m) i) [
       | inr fell ↦ removes-fell st moment m fell
       | inl others ↦
-        elim (In-append_cases _ (map (λ (k : ℕ). record { moment = st.state.moment; what = what.Entered k }) st.report.entered) (removal moment m) others) [
-          | inr entered ↦ removes-entered st moment m entered
-          | inl first ↦
-            elim (In-append_cases (map (λ (a : AccBody). record { moment = st.state.moment; what = what.Expired a }) st.report.expired) (map (λ (k : ℕ). record { moment = st.state.moment; what = what.Removed k }) st.report.removed) (removal moment m) first) [
-              | inl expired ↦ removes-expired st moment m expired
-              | inr removed ↦ removes-removed st moment m removed
-            ]
-        ]
+          elim (In-append_cases _ (map (λ (k : ℕ). record { moment = st.state.moment; what = what.Entered k }) st.report.entered) (removal moment m) others) [
+            | inr entered ↦ removes-entered st moment m entered
+            | inl first ↦
+                elim (In-append_cases (map (λ (a : AccBody). record { moment = st.state.moment; what = what.Expired a }) st.report.expired) (map (λ (k : ℕ). record { moment = st.state.moment; what = what.Removed k }) st.report.removed) (removal moment m) first) [
+                  | inl expired ↦ removes-expired st moment m expired
+                  | inr removed ↦ removes-removed st moment m removed
+                ]
+          ]
     ]
 
 -- ## The removals of a life
@@ -118,8 +118,8 @@ removed-at g s (e ∷ events) moment m i =
     elim (In-append_cases (events_of (step g s e)) (reported_from g (step g s e).state events) (removal moment m) i) [
       | inl here ↦ record { place = 0; event = e; is = refl; removes_there = removes (step g s e) moment m here; reported_there = refl }
       | inr later ↦
-        let r = removed-at g (step g s e).state events moment m later in
-        record { place = suc r.place; event = r.event; is = r.is; removes_there = r.removes_there; reported_there = r.reported_there }
+          let r = removed-at g (step g s e).state events moment m later in
+          record { place = suc r.place; event = r.event; is = r.is; removes_there = r.removes_there; reported_there = r.reported_there }
     ]
 
 pub removal-rests : (r : Recorded) (moment m : ℕ) → In (reported_in r) (removal moment m) → IsRemoval r moment m

@@ -1,1 +1,2 @@
-pub mod VerifyLemmas
+pub mod VerdictLemmas
+pub mod TextLemmas
