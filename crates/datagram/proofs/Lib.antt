@@ -4,3 +4,4 @@ pub mod Readings
 pub mod Puts
 pub mod Loops
 pub mod Rows
+pub mod Sizes
