@@ -49,6 +49,7 @@ pub struct Signer {
     tree: Tree,
     leaves: Leaves,
     store: Store,
+    closed: bool,
 }
 
 impl Model for Signer {
@@ -64,10 +65,10 @@ impl Model for Signer {
       leaf = s.leaves.next;
       state = s.store.state;
       gate = s.store.gate;
-      closed = s.store.failed;
+      closed = s.closed;
     } };
 
-    ghost invariant = { λ s. (s.leaves.key ≡ s.tree) × (s.leaves.next ≡ s.store.state.next)
+    ghost invariant = { λ s. (s.store.failed ≡ s.closed) × (s.leaves.key ≡ s.tree) × (s.leaves.next ≡ s.store.state.next)
         × (s.store.state.next ≤ leaf_count s.tree.tree) };
 }
 
@@ -128,6 +129,7 @@ impl Signer {
             tree,
             leaves,
             store,
+            closed: false,
         }
     }
 
@@ -287,7 +289,7 @@ impl Signer {
         let key = self.tree.public();
         let length = 8 + key.ots.signature_length() + 32 * key.tree.height();
         let signature = zeros(alloc, length)?;
-        if self.store.has_failed() {
+        if self.closed {
             return Err(SignFault::Closed);
         }
         let state = self.store.state();
@@ -296,7 +298,10 @@ impl Signer {
         }
         match self.store.put(disk, stored_after(state, &body)) {
             Ok(()) => Ok(spend_leaf(&self.tree, &mut self.leaves, &self.group, body, signature)),
-            Err(_) => Err(SignFault::StoreFault),
+            Err(_) => {
+                self.closed = true;
+                Err(SignFault::StoreFault)
+            }
         }
     }
 }

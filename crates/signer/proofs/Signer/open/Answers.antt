@@ -11,5 +11,5 @@ returns-clause-begins c = λ tag moments settled.
       leaf = c.skip_to.new.self.next;
       state = c.args.store.state;
       gate = c.args.store.gate;
-      closed = c.args.store.failed;
+      closed = false;
     }) moments settled
