@@ -1,5 +1,5 @@
 -- No index and no epoch comes twice, over any lives.
-use Rattle.std.proofs.Common.{◌≡◌, ℕ, ◌+◌, ◌<◌, ◌≤◌, ◌⊎◌, inl, inr, List, [], ◌∷◌, ◌++◌, length, refl, sym, ap, ◌∙◌, subst, arith, append_assoc}
+use Rattle.std.proofs.Common.{◌≡◌, ℕ, ◌+◌, ◌<◌, ◌≤◌, inl, inr, List, [], ◌∷◌, ◌++◌, length, refl, sym, ap, ◌∙◌, subst, arith, append_assoc}
 use Rattle.std.specs.List.{AllByRecursion}
 use Rattle.records.specs.declared.Body.{Body}
 use Rattle.records.specs.declared.Body.TheVariants.{Certificate, Note, Accusation}
@@ -7,7 +7,7 @@ use Rattle.epoch_store.specs.declared.Stored.{Stored}
 use Rattle.epoch_store.specs.Store.{StoreOf}
 use Rattle.epoch_store.proofs.FoundLemmas.{one_state}
 use Rattle.signer.specs.Signing.{stored_after, MayComeNext}
-use Rattle.signer.specs.Lives.{Spent, spent_by, state_after, MayCome, IsLeft, Life, PastLife, AreLives, all_spent, epochs_of, indexes, note_epochs, IsRising, IsOnce, OnceOverLives}
+use Rattle.signer.specs.Lives.{Spent, spent_by, state_after, MayCome, IsLeft, PastLife, AreLives, all_spent, epochs_of, indexes, note_epochs, IsRising, OnceOverLives}
 
 -- each number is in this range
 abbrev Between : ℕ → ℕ → List ℕ → Type 0

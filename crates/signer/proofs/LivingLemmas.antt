@@ -1,9 +1,9 @@
 -- How a life goes on, call after call.
-use Rattle.std.proofs.Common.{◌≡◌, ℕ, ◌+◌, ◌⊎◌, inl, inr, Bool, true, false, List, [], ◌∷◌, ◌++◌, refl, sym, ap, ◌∙◌, subst, Result, Ok, Err, OnOk, append-nil}
+use Rattle.std.proofs.Common.{◌≡◌, ℕ, ◌⊎◌, inl, inr, true, false, List, [], ◌∷◌, ◌++◌, refl, sym, ap, ◌∙◌, subst, Result, Ok, Err, OnOk, append-nil}
 use Rattle.records.specs.declared.Body.{Body}
 use Rattle.records.specs.Signing.{CheckedRecord}
 use Rattle.epoch_store.specs.declared.Stored.{Stored}
-use Rattle.epoch_store.specs.Store.{StoreOf, IsSettled, LeavesEither, LeavesState}
+use Rattle.epoch_store.specs.Store.{StoreOf, IsSettled, LeavesEither}
 use Rattle.epoch_store.proofs.PutLemmas.{settled_leaves_state}
 use Rattle.ports.specs.Disk.{Moment, Leaves, Since}
 use Rattle.ports.proofs.SinceLemmas.{Since-same, Since-weaken, newest_has}

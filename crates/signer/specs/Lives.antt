@@ -1,6 +1,6 @@
 -- The lives of a key: what each found in the store, what it signed, and what a crash left of the store. Over all
 -- of them no index is spent twice, and no two notes have one epoch.
-use Rattle.std.specs.Prelude.{◌≡◌, ℕ, ◌<◌, ◌⊎◌, false, List, [], ◌∷◌, ◌++◌, length, map, Result, Ok, Err}
+use Rattle.std.specs.Prelude.{◌≡◌, ℕ, ◌<◌, ◌⊎◌, false, List, [], ◌∷◌, ◌++◌, length, Result, Ok, Err}
 use Rattle.std.specs.List.{AllByRecursion}
 use Rattle.records.specs.declared.Body.{Body}
 use Rattle.records.specs.declared.Body.TheVariants.{Certificate, Note, Accusation}

@@ -1,5 +1,5 @@
 -- What a signer keeps, what it answers, and what it signs.
-use Rattle.std.specs.Prelude.{◌≡◌, ℕ, ◌+◌, ◌^◌, ◌<◌, Bool, true, false, List, Result, Ok, Err}
+use Rattle.std.specs.Prelude.{◌≡◌, ℕ, ◌+◌, ◌^◌, ◌<◌, Bool, true, false, Result, Ok, Err}
 use Rattle.ff_ids.specs.declared.Group.{Group}
 use Rattle.ff_ids.specs.declared.Mask.{Mask}
 use Rattle.lms_tree.specs.declared.secret.Secret.{Secret}

@@ -1,5 +1,4 @@
-use Rattle.std.proofs.Common.{◌≡◌, false, refl}
-use Rattle.signer.specs.Signing.{SignerState}
+use Rattle.std.proofs.Common.{false}
 use Rattle.signer.proofs.LivingLemmas.{begins_life}
 use Rattle.signer.proofs.Signer.open.Goals as goal
 
