@@ -4,3 +4,4 @@ pub mod WriteLemmas
 pub mod ReadLemmas
 pub mod OnceLemmas
 pub mod OpenLemmas
+pub mod FoundLemmas

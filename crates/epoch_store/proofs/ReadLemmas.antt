@@ -1,5 +1,5 @@
 -- What a part of the file tells of the whole.
-use Rattle.std.proofs.Common.{◌≡◌, ◌≢◌, ℕ, zero, suc, ◌+◌, ◌-◌, ◌<◌, ◌≤◌, ◌⊎◌, inl, inr, Bool, true, false, Option, None, Some, List, [], ◌∷◌, ◌++◌, length, take, drop, get_or, refl, sym, ap, ◌∙◌, subst, arith, Result, Ok, Err}
+use Rattle.std.proofs.Common.{◌≡◌, ◌≢◌, ℕ, zero, suc, ◌+◌, ◌-◌, ◌*◌, ◌^◌, ◌<◌, ◌≤◌, ◌&&◌, nat_le, nat_lt, ◌⊎◌, inl, inr, Bool, true, false, Option, None, Some, List, [], ◌∷◌, ◌++◌, length, take, drop, get_or, refl, sym, ap, ◌∙◌, subst, arith, Result, Ok, Err}
 use Rattle.std.specs.List.{slice_get}
 use Rattle.std.proofs.lemmas.List.{get_or-take}
 use Rattle.epoch_store.specs.declared.Stored.{Stored}
@@ -8,8 +8,8 @@ use Rattle.epoch_store.specs.declared.StoreError.TheVariants.{Fault, Taken, Brok
 use Rattle.epoch_store.specs.declared.entry.Gate.{Gate}
 use Rattle.epoch_store.specs.declared.entry.Gate.TheVariants.{Shut, Entry}
 use Rattle.epoch_store.specs.Reading.{Reading, Finds, Breaks, Differs, head_fault, first_broken, wrong_field, is_above, is_at_least, IsOpenEntry, IsClosed, IsCut, Stands, window, ReadsFrom}
-use Rattle.epoch_store.specs.Calls.{ChecksHead, HeadAnswer, ReadsHead, GateAnswer, ReadsGate, EntriesAnswer, ReadsEntries, answer_of, OnRead, FindsGate, StoreState}
-use Rattle.epoch_store.specs.Store.{IsEntry}
+use Rattle.epoch_store.specs.Calls.{ChecksHead, HeadAnswer, ReadsHead, GateAnswer, ReadsGate, EntriesAnswer, ReadsEntries, answer_of, OnRead, FindsGate, IsAfter, StoreState}
+use Rattle.epoch_store.specs.Store.{IsEntry, Follows}
 use Rattle.ports.specs.Disk.{Moment, ReadsPart}
 
 pub slice_get-take : (n p : ℕ) (xs : List ℕ) → p < n → slice_get (take n xs) p ≡ slice_get xs p
@@ -48,7 +48,8 @@ first_broken_small true true true at is = cc
 broken_small : (before : Option Stored) (bytes : List ℕ) (at : ℕ) → Stands before bytes (Err at) → at < 17
 broken_small before bytes at (inl none) = omega (arith, none.2)
 broken_small before bytes at (inr (inl cut)) = omega (arith, cut.1, cut.0.short)
-broken_small before bytes at (inr (inr wrong)) = first_broken_small _ _ _ at wrong.2
+broken_small before bytes at (inr (inr wrong)) =
+    first_broken_small (nat_le wrong.0.next 32768 && is_above before wrong.0.next) (nat_le wrong.0.epoch wrong.0.next && is_at_least before wrong.0.epoch) (nat_lt wrong.0.mask.0 (2 ^ 31)) at wrong.2
 
 -- the file breaks where what was read at the gate does
 pub gate_broken : (moments : List Moment) (before : Option Stored) (gate n at : ℕ) (filled bytes : List ℕ) (byte : Option ℕ) → bytes ≡ take n filled → length filled ≡ 17 → ReadsPart moments gate filled n → Stands before bytes (Err at) → byte ≡ slice_get bytes at → ReadsGate before gate moments (Err (Broken (gate + at) byte))
@@ -83,8 +84,19 @@ ends_shut [] before gate state goes stands = tt
 ends_shut (now ∷ past) before gate state goes stands = (Finds state gate, goes (Finds state gate) (ReadsFrom.ends before gate state stands), refl)
 
 pub ends_broken : (moments : List Moment) (before : Option Stored) (gate : ℕ) (error : StoreError) → Continues moments before gate → ReadsGate before gate moments (Err error) → FindsGate before (Err error) → ReadsEntries moments (Err error)
-ends_broken moments before gate error goes stands found = ?
+ends_broken [] before gate error goes stands found = found
+ends_broken (now ∷ past) before gate Fault goes stands found = tt
+ends_broken (now ∷ past) before gate (Taken len) goes stands found = absurd stands
+ends_broken (now ∷ past) before gate (Broken place byte) goes stands found =
+    let shown : byte ≡ slice_get now.image (gate + stands.0) = stands.3 ∙ ap (slice_get now.image) stands.2 in
+    (Breaks (gate + stands.0), goes (Breaks (gate + stands.0)) (ReadsFrom.breaks before gate stands.0 stands.1), rw (stands.2, shown) refl)
+ends_broken (now ∷ past) before gate (OtherKey place byte) goes stands found = absurd stands
+ends_broken (now ∷ past) before gate OutOfMemory goes stands found = tt
 
 pub goes_on : (moments : List Moment) (before : Option Stored) (gate : ℕ) (e : Stored) → Continues moments before gate → ReadsGate before gate moments (Ok (Entry e)) → Continues moments (Some e) (gate + 17)
 goes_on [] before gate e goes stands = tt
 goes_on (now ∷ past) before gate e goes stands = λ reading reads. goes reading (ReadsFrom.goes before gate e reading stands reads)
+
+pub placed_next : (before : Option Stored) (gate : ℕ) (e : Stored) → IsPlaced before gate → IsEntry e → IsAfter before e → IsPlaced (Some e) (gate + 17)
+placed_next None gate e placed entry after = (entry, omega arith)
+placed_next (Some b) gate e placed entry after = (entry, omega (arith, placed.1, after.next_rises))

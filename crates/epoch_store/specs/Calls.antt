@@ -5,7 +5,7 @@ use Rattle.epoch_store.specs.declared.Stored.{Stored}
 use Rattle.epoch_store.specs.declared.StoreError.{StoreError}
 use Rattle.epoch_store.specs.declared.StoreError.TheVariants.{Fault, Taken, Broken, OtherKey, OutOfMemory}
 use Rattle.epoch_store.specs.declared.entry.Gate.TheVariants.{Shut, Entry}
-use Rattle.epoch_store.specs.Store.{IsEntry, Follows}
+use Rattle.epoch_store.specs.Store.{IsEntry, Follows, StoreAt}
 use Rattle.ports.specs.Disk.{Moment, Fails, stays, settled}
 use Rattle.epoch_store.specs.Reading.{Reading, Finds, Breaks, Differs, Reads, ReadsFrom, Stands, window, head_fault}
 use Rattle.epoch_store.specs.declared.entry.Gate.{Gate}
@@ -148,7 +148,7 @@ IsAfter (Some before) e = Follows before e
 abbrev pub FindsGate : Option Stored → Result Gate StoreError → Type 0
 FindsGate before (Ok (Shut state)) = before ≡ Some state
 FindsGate before (Ok (Entry e)) = IsEntry e × IsAfter before e
-FindsGate before (Err error) = Unit {0}
+FindsGate before (Err error) = IsNotTaken {T = Gate} (Err error)
 
 -- the entries are read from the first gate on
 abbrev pub EntriesAnswer : List ℕ → Result StoreState StoreError → Type 0
@@ -157,3 +157,8 @@ EntriesAnswer image result = (reading : Reading) × ReadsFrom image None 40 read
 abbrev pub ReadsEntries : List Moment → Result StoreState StoreError → Type 0
 ReadsEntries [] result = IsNotTaken result
 ReadsEntries (now ∷ past) result = OnRead result (EntriesAnswer now.image result)
+
+-- the file is this store, where it is told
+abbrev pub HoldsStore : List ℕ → Stored → ℕ → List Moment → Type 0
+HoldsStore tag state gate [] = Unit {0}
+HoldsStore tag state gate (now ∷ past) = StoreAt tag now.image state gate

@@ -1,6 +1,6 @@
 //! One entry of the file, and what stands at a gate.
 
-ghost use Rattle.std.specs.Prelude.{◌≡◌, ◌↔◌, ◌<◌, ◌≤◌, [], ◌∷◌, ◌++◌, length, Option, IsErr, IfOk, nat_eq};
+ghost use Rattle.std.specs.Prelude.{◌≡◌, ◌↔◌, ◌<◌, ◌≤◌, [], ◌∷◌, ◌++◌, length, Option, IsErr, IfOk, IfErr, IfSome, nat_eq};
 ghost use Rattle.std.specs.List.{common_prefix_len, slice_get};
 ghost use Rattle.epoch_store.specs.declared.StoreError.TheVariants.{Broken};
 ghost use Rattle.epoch_store.specs.Store.{spelled};
@@ -82,7 +82,8 @@ fn is_at_least(before: Option<Stored>, epoch: u64) -> bool
 
 /// The first field of the entry that may not stand there, as the number of bytes from its gate on.
 fn wrong_field(before: Option<Stored>, entry: Stored) -> Option<usize>
-    ensures { result ≡ wrong_field_of before entry }
+    ensures value { result ≡ wrong_field_of before entry }
+    ensures small { IfSome result (λ place. place < 17) }
 {
     if !(entry.next <= LAST_NEXT && is_above(before, entry.next)) {
         return Some(NEXT_PLACE);
@@ -100,7 +101,8 @@ fn wrong_field(before: Option<Stored>, entry: Stored) -> Option<usize>
 /// or how many bytes from the gate on the file is broken.
 pub(crate) fn judge(before: Option<Stored>, bytes: &[u8]) -> Result<Gate, usize>
     requires { length bytes.now ≤ 17 }
-    ensures { Stands before bytes.now result }
+    ensures stands { Stands before bytes.now result }
+    ensures small { IfErr result (λ place. place < 17) }
 {
     match bytes {
         [] => Err(0),
@@ -156,12 +158,19 @@ pub(crate) fn check_head(tag: &[u8; 32], head: &[u8]) -> Result<(), StoreError>
     Ok(())
 }
 
+/// The byte at a place, or none behind the end.
+pub(crate) fn byte_at(bytes: &[u8], place: usize) -> Option<u8>
+    ensures { result ≡ slice_get bytes.now place }
+{
+    bytes.get(place).copied()
+}
+
 /// Where the head of a file breaks.
 fn broken(head: &[u8], place: usize) -> StoreError
     ensures { result ≡ Broken place (slice_get head.now place) }
 {
     StoreError::Broken {
         place: place as u64,
-        byte: head.get(place).copied(),
+        byte: byte_at(head, place),
     }
 }

@@ -12,12 +12,12 @@ ghost use Rattle.ports.specs.Count.{counted};
 ghost use Rattle.ports.specs.Disk.{Moment, Since, Fails, stays, torn_at, written};
 ghost use Rattle.epoch_store.specs.declared.StoreError.TheVariants.{Fault};
 ghost use Rattle.epoch_store.specs.Store.{IsEntry, Follows, IsSettled, LeavesEither, LeavesState, first_entry, made};
-ghost use Rattle.epoch_store.specs.Calls.{StoreState, is_fault, SettlesAs, same, OnRead, OpensAs, IsNotTaken, MakesWhereEmpty, OnRefusal, IsOpened, ReadsHead, ReadsGate, FindsGate, ReadsEntries};
+ghost use Rattle.epoch_store.specs.Calls.{StoreState, is_fault, SettlesAs, same, OnRead, OpensAs, IsNotTaken, MakesWhereEmpty, OnRefusal, IsOpened, ReadsHead, ReadsGate, FindsGate, ReadsEntries, HoldsStore};
 
 mod entry;
 
 use arrayvec::ArrayVec;
-use entry::{Gate, MAGIC, check_head, entry_bytes, judge};
+use entry::{Gate, MAGIC, byte_at, check_head, entry_bytes, judge};
 use ff_ids::Mask;
 use ports::{Disk, Failed, Opened};
 use std::marker::Model;
@@ -132,7 +132,8 @@ pub fn make<D: Disk>(disk: &mut D, name: &str, tag: &[u8; 32], mask: Mask) -> Re
         epoch: 0,
         mask,
     };
-    write_synced(disk, 0, &made_bytes(tag, first))?;
+    let bytes = made_bytes(tag, first);
+    write_synced(disk, 0, bytes.as_slice())?;
     Ok(())
 }
 
@@ -140,6 +141,7 @@ pub fn make<D: Disk>(disk: &mut D, name: &str, tag: &[u8; 32], mask: Mask) -> Re
 fn read_head<D: Disk>(disk: &mut D, tag: &[u8; 32]) -> Result<(), StoreError>
     ensures faults { D.faults disk.new ≡ counted (is_fault result) (D.faults disk.old) }
     ensures reads { ReadsHead tag.now (D.moments disk.old) result }
+    ensures not_taken { IsNotTaken result }
     ensures same { OnRead result (D.moments disk.new ≡ D.moments disk.old) }
     ensures stays { Fails stays (D.moments disk.old) (D.moments disk.new) }
 {
@@ -163,7 +165,7 @@ fn read_gate<D: Disk>(disk: &mut D, before: Option<Stored>, gate: u64) -> Result
         Ok(found) => Ok(found),
         Err(at) => Err(StoreError::Broken {
             place: gate + at as u64,
-            byte: bytes[..count].get(at).copied(),
+            byte: byte_at(&bytes[..count], at),
         }),
     }
 }
@@ -172,6 +174,8 @@ fn read_gate<D: Disk>(disk: &mut D, before: Option<Stored>, gate: u64) -> Result
 fn read_entries<D: Disk>(disk: &mut D) -> Result<Store, StoreError>
     ensures faults { D.faults disk.new ≡ counted (is_fault result) (D.faults disk.old) }
     ensures reads { ReadsEntries (D.moments disk.old) result }
+    ensures not_taken { IsNotTaken result }
+    ensures runs { IfOk result (λ store. store.failed ≡ false) }
     ensures same { OnRead result (D.moments disk.new ≡ D.moments disk.old) }
     ensures stays { Fails stays (D.moments disk.old) (D.moments disk.new) }
 {
@@ -192,6 +196,22 @@ fn read_entries<D: Disk>(disk: &mut D) -> Result<Store, StoreError>
             }
             Err(error) => return Err(error),
         }
+    }
+}
+
+/// Reads the file whole.
+fn read_store<D: Disk>(disk: &mut D, tag: &[u8; 32]) -> Result<Store, StoreError>
+    ensures faults { D.faults disk.new ≡ counted (is_fault result) (D.faults disk.old) }
+    ensures reads { OpensAs tag.now (D.moments disk.old) result }
+    ensures not_taken { IsNotTaken result }
+    ensures runs { IfOk result (λ store. store.failed ≡ false) }
+    ensures store { IfOk result (λ store. HoldsStore tag.now store.state store.gate (D.moments disk.old)) }
+    ensures same { OnRead result (D.moments disk.new ≡ D.moments disk.old) }
+    ensures stays { Fails stays (D.moments disk.old) (D.moments disk.new) }
+{
+    match read_head(disk, tag) {
+        Ok(()) => read_entries(disk),
+        Err(error) => Err(error),
     }
 }
 
@@ -232,8 +252,7 @@ impl Store {
     {
         open_file(disk, name)?;
         disk.sync()?;
-        read_head(disk, tag)?;
-        read_entries(disk)
+        read_store(disk, tag)
     }
 
     /// What it keeps.

@@ -6,6 +6,7 @@ use Rattle.play.specs.Plays.{Standing}
 use Rattle.text_trace.specs.Lines.{has_no_feed, seen}
 use Rattle.text_trace.specs.Trace.{Owed}
 use Rattle.ports.specs.Contents.{IsUsedUp}
+use Rattle.ports.specs.Count.{Rose}
 use Rattle.fireflies.specs.Ends.{room}
 use Rattle.fireflies.specs.declared.status.Status.{Status}
 use Rattle.fireflies.specs.declared.status.Status.TheVariants as status
@@ -67,3 +68,12 @@ pub record Traced (owed : Owed BadWord) (was now : Standing) (s : Status) : Type
   pub cause : IsCause (owed (seen bytes)).cause s
   pub exact : IsTrace owed was.left text s
   pub early : IsEarly owed text s
+
+-- The run came to the end of the text, or was refused memory.
+abbrev pub IsComplete : Status → Type 0
+IsComplete s = (s ≡ status.Ok) ⊎ (s ≡ status.OutOfMemory)
+
+-- Where no line refuses the text and neither side failed, all of it is run, unless memory is refused.
+abbrev pub Completes : Owed BadWord → Standing → Standing → Status → Type 0
+Completes owed was now s = IfSome was.left (λ all. (owed (seen all)).cause ≡ None
+    → ¬ (Rose was.read_faults now.read_faults) → ¬ (Rose was.write_faults now.write_faults) → IsComplete s)

@@ -5,7 +5,7 @@ ghost use Rattle.play.specs.Plays.{Runs, standing, has_written};
 ghost use Rattle.line_text.specs.declared.bad_word.BadWord.{BadWord};
 ghost use Rattle.fireflies.specs.Commands.{command_of, owed_by};
 ghost use Rattle.fireflies.specs.Ends.{Counts, Ends, Is, room};
-ghost use Rattle.fireflies.specs.Traced.{Traced};
+ghost use Rattle.fireflies.specs.Traced.{Completes, Traced};
 ghost use Rattle.fireflies.specs.Upheld.{Upholds};
 
 use crate::command::Command;
@@ -54,6 +54,9 @@ fn run_command<S: Source, O: Sink>(
     ensures traced { Traced (owed_by command)
         (standing (S.left input.old) (O.taken out.old) (S.faults input.old) (O.faults out.old))
         (standing (S.left input.new) (O.taken out.new) (S.faults input.new) (O.faults out.new)) result }
+    ensures complete { Completes (owed_by command)
+        (standing (S.left input.old) (O.taken out.old) (S.faults input.old) (O.faults out.old))
+        (standing (S.left input.new) (O.taken out.new) (S.faults input.new) (O.faults out.new)) result }
     ensures upholds { Upholds command
         (standing (S.left input.old) (O.taken out.old) (S.faults input.old) (O.faults out.old))
         (standing (S.left input.new) (O.taken out.new) (S.faults input.new) (O.faults out.new)) result }
@@ -90,6 +93,11 @@ pub fn run<S: Source, O: Sink, D: Disk, L: Link, C: Clock>(
 
     // What is written is a front of the trace of what was taken, and behind it the line of the cause.
     ensures traced { IfSome (command_of (map string_bytes words.now)) (λ command. Traced (owed_by command)
+        (standing (S.left input.old) (O.taken out.old) (S.faults input.old) (O.faults out.old))
+        (standing (S.left input.new) (O.taken out.new) (S.faults input.new) (O.faults out.new)) result) }
+
+    // Where no line refuses the text and neither side failed, all of it is run, unless memory is refused.
+    ensures complete { IfSome (command_of (map string_bytes words.now)) (λ command. Completes (owed_by command)
         (standing (S.left input.old) (O.taken out.old) (S.faults input.old) (O.faults out.old))
         (standing (S.left input.new) (O.taken out.new) (S.faults input.new) (O.faults out.new)) result) }
 

@@ -5,6 +5,7 @@ use Rattle.std.specs.Prelude.{codes, flat_map}
 use Rattle.std.specs.List.{AllByRecursion, Contains, concat, join_with_byte, list_all, slice_get}
 use Rattle.std.specs.Fmt.{decimal}
 use Rattle.std.proofs.lemmas.List.Folds.{concat-append}
+use Rattle.ff_ids.specs.declared.AccBody.{AccBody}
 use Rattle.ff_ids.specs.declared.Group.{Group}
 use Rattle.ff_ids.specs.Lives.{opening, reports, state_at}
 use Rattle.ff_ids.specs.Steps.{Event, Report, step}
@@ -182,8 +183,12 @@ reported-at g s (e ∷ events) zero report m at i =
     let same : st.report ≡ report = cc in
     let ev : ℕ → reported.Event = λ k. record { moment = st.state.moment; what = what.Removed k } in
     let removed : In (map ev st.report.removed) (ev m) = in-map ev st.report.removed m (subst (λ (r : Report). In r.removed m) (sym same) i) in
+    let expired : List reported.Event = map (λ (a : AccBody). record { moment = st.state.moment; what = what.Expired a }) st.report.expired in
+    let entered : List reported.Event = map (λ (k : ℕ). record { moment = st.state.moment; what = what.Entered k }) st.report.entered in
+    let fell : List reported.Event = map (λ (a : AccBody). record { moment = st.state.moment; what = what.Fell a }) st.report.fell in
+    let gone = map ev st.report.removed in
     In-append_left (events_of st) (reported_from g st.state events) (ev m)
-    (In-append_left _ _ (ev m) (In-append_left _ _ (ev m) (In-append_right _ (map ev st.report.removed) (ev m) removed)))
+    (In-append_left ((expired ++ gone) ++ entered) fell (ev m) (In-append_left (expired ++ gone) entered (ev m) (In-append_right expired gone (ev m) removed)))
 reported-at g s (e ∷ events) (suc place) report m at i =
     let inner = reported-at g (step g s e).state events place report m at i in
     let more : suc place + 1 ≡ suc (place + 1) = omega arith in

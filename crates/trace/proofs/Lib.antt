@@ -8,3 +8,4 @@ pub mod TextLemmas
 pub mod WrittenLemmas
 pub mod JustifiedLemmas
 pub mod UnfedLemmas
+mod Rows

@@ -2,22 +2,15 @@
 
 mod author;
 mod observer;
+mod scene;
 
-ghost use Rattle.std.specs.Prelude.{◌≡◌, ◌≤◌, IfOk};
-ghost use Rattle.records.specs.Spelling.{HasPort};
+ghost use Rattle.std.specs.Prelude.{◌≡◌, ◌≤◌};
 
-use author::Author;
 use ff_ids::{AccBody, Epoch, Fault, Group, Mask, MemberId, NoteBody, RingNo};
-use fields::Bytes;
 use membership::Changes;
-use observer::Observer;
-use records::{Body, CertBody, Record};
-use std::alloc::Global;
-use std::process::Abort;
+use records::Body;
+use scene::{Row, Scene, Signer};
 use std::test::Fail;
-
-/// The number that stands for the authority.
-const AUTHORITY: u16 = 65535;
 
 fn group() -> Group
     ensures { result.t ≤ 15 }
@@ -31,235 +24,165 @@ fn group() -> Group
     }
 }
 
-fn note_of(member: MemberId, epoch: Epoch, rings: u32) -> NoteBody {
+fn note_of(member: u8, epoch: u8, rings: u32) -> NoteBody {
     NoteBody {
-        member,
-        epoch,
+        member: MemberId::new(member as u16),
+        epoch: Epoch::new(epoch as u64 + 1),
         mask: Mask(rings),
     }
 }
 
-fn accusation_of(accuser: MemberId, accused: MemberId, epoch: Epoch, ring: u8) -> AccBody {
+fn accusation_of(accuser: u8, accused: u8, epoch: u8, ring: u8) -> AccBody {
     AccBody {
-        accuser,
-        accused,
-        epoch,
+        accuser: MemberId::new(accuser as u16),
+        accused: MemberId::new(accused as u16),
+        epoch: Epoch::new(epoch as u64 + 1),
         ring: RingNo(ring),
     }
 }
 
-/// The body with a signature that no key made.
-fn unsigned(alloc: Global, body: Body) -> Result<Record, Fail>
-    ensures { IfOk result (λ r. r.body ≡ body) }
-{
-    let signature = Bytes::from_vec(vec![in alloc; 0u8; 1292]?);
-    Ok(Record { body, signature })
-}
-
-/// Members 1, 2 and 3 with a certificate each, before observer 3. The authors are these three, 4, and the authority.
-struct Scene {
-    observer: Observer,
-    one: Author,
-    two: Author,
-    three: Author,
-    four: Author,
-    authority: Author,
-}
-
-fn certificate_of(member: MemberId, port: u16, author: &Author) -> CertBody
-    ensures { result.port ≡ port }
-{
-    CertBody {
-        member,
-        port,
-        key: author.public(),
+/// A note's row; its epoch is one above the number given.
+fn note(signer: Signer, member: u8, epoch: u8, rings: u32, fault: Option<Fault>) -> Row {
+    Row {
+        signer,
+        body: Body::Note(note_of(member, epoch, rings)),
+        fault,
     }
 }
 
-fn scene(alloc: Global, group: &Group) -> Result<Scene, Fail>
-    requires { group.now.t ≤ 15 }
-{
-    let one = Author::make(alloc, &group.tag, 1)?;
-    let two = Author::make(alloc, &group.tag, 2)?;
-    let three = Author::make(alloc, &group.tag, 3)?;
-    let four = Author::make(alloc, &group.tag, 4)?;
-    let authority = Author::make(alloc, &group.tag, AUTHORITY)?;
-    let mut observer = Observer::open(alloc, *group, authority.public(), MemberId::new(3))?;
-    observer.join(certificate_of(MemberId::new(1), 20001, &one))?;
-    observer.join(certificate_of(MemberId::new(2), 20002, &two))?;
-    observer.join(certificate_of(MemberId::new(3), 20003, &three))?;
-    Ok(Scene {
-        observer,
-        one,
-        two,
-        three,
-        four,
-        authority,
-    })
+/// An accusation's row; its epoch is one above the number given.
+fn accusation(signer: Signer, numbers: (u8, u8), epoch: u8, ring: u8, fault: Option<Fault>) -> Row {
+    Row {
+        signer,
+        body: Body::Accusation(accusation_of(numbers.0, numbers.1, epoch, ring)),
+        fault,
+    }
 }
 
-/// The record has this first fault, or none.
-fn expect(rt: &impl Abort, observer: &Observer, rec: Record, fault: Option<Fault>)
-    requires { HasPort rec.body }
+/// Members 1, 2 and 3 have notes of epoch 1 with all rings.
+fn noted_scene(alloc: std::alloc::Global, group: &Group) -> Result<Scene, Fail>
+    requires { group.now.t ≤ 15 }
 {
-    assert_eq!(rt; observer.check(rec).err(), fault);
+    let mut scene = Scene::open(alloc, group)?;
+    let mut out = Changes::new(alloc)?;
+    for member in 1..4u8 {
+        scene.observer.put_note(note_of(member, 0, 7), &mut out)?;
+    }
+    Ok(scene)
 }
 
 #[test]
-fn notes_certificates_and_accusations_before_an_observer(rt: HostRuntime) -> Result<(), Fail> {
+fn records_before_an_observer(rt: HostRuntime) -> Result<(), Fail> {
     let alloc = rt.alloc();
     let group = group();
-    let mut seen = scene(alloc, &group)?;
-    let (first, ninth) = (Epoch::new(1), Epoch::new(9));
-    let (one, two, three) = (MemberId::new(1), MemberId::new(2), MemberId::new(3));
-    let mut out = Changes::new(alloc)?;
-    for member in [one, two, three] {
-        seen.observer.put_note(note_of(member, first, 7), &mut out)?;
-    }
-
-    let newer = Body::Note(note_of(two, Epoch::new(2), 7));
-    let rec = seen.two.sign(alloc, &group, newer)?;
-    let key = seen.two.public();
-    match seen.observer.check(rec) {
-        Ok(checked) => {
-            assert_eq!(rt; checked.rec().body, newer);
-            assert_eq!(rt; *checked.key(), key);
-        }
-        Err(fault) => panic!(rt; "{fault}"),
-    }
+    let mut scene = noted_scene(alloc, &group)?;
+    let bad = Some(Fault::BadSignature);
+    let ahead = note_of(3, 8, 7);
+    let kept = scene.certificate(2);
+    let newest = note_of(2, 0, 7);
+    let rows = [
+        note(Signer::Two, 2, 1, 7, None),
+        note(Signer::One, 2, 1, 7, bad),
+        note(Signer::Two, 2, 1, 8, Some(Fault::BadMask)),
+        note(
+            Signer::Nobody,
+            2,
+            0,
+            3,
+            Some(Fault::Older {
+                epoch: newest.epoch,
+                mask: newest.mask,
+            }),
+        ),
+        note(
+            Signer::Three,
+            3,
+            8,
+            7,
+            Some(Fault::OwnAhead {
+                stored: note_of(3, 0, 7),
+                seen: ahead,
+            }),
+        ),
+        note(Signer::Two, 3, 8, 7, bad),
+        scene.certificate_row(Signer::Nobody, 2, 20002, Some(Fault::Known)),
+        scene.certificate_row(
+            Signer::Nobody,
+            2,
+            20009,
+            Some(Fault::OtherCertificate {
+                port: 20002,
+                key: kept.key.write(),
+            }),
+        ),
+        // The hashes put the three in order on ring 0, so 1 is the monitor of 2.
+        accusation(
+            Signer::Nobody,
+            (3, 2),
+            0,
+            0,
+            Some(Fault::NotMonitor {
+                monitor: Some(MemberId::new(1)),
+            }),
+        ),
+        accusation(Signer::One, (1, 2), 0, 0, None),
+        accusation(Signer::Two, (1, 2), 0, 0, bad),
+    ];
+    scene.compare(&rt, alloc, &group, &rows)?;
+    let rows = [note(Signer::Two, 2, 1, 7, bad)];
     let mut other = group;
     other.tag[0] = 1;
-    let rec = seen.two.sign(alloc, &other, newer)?;
-    expect(&rt, &seen.observer, rec, Some(Fault::BadSignature));
+    scene.compare(&rt, alloc, &other, &rows)?;
     other = group;
     other.t = 2;
-    let rec = seen.two.sign(alloc, &other, newer)?;
-    expect(&rt, &seen.observer, rec, Some(Fault::BadSignature));
-    let rec = unsigned(alloc, Body::Note(note_of(two, Epoch::new(2), 8)))?;
-    expect(&rt, &seen.observer, rec, Some(Fault::BadMask));
-    let rec = unsigned(alloc, Body::Note(note_of(two, first, 3)))?;
-    let mask = Mask(7);
-    expect(
-        &rt,
-        &seen.observer,
-        rec,
-        Some(Fault::Older { epoch: first, mask }),
-    );
-
-    let ahead = note_of(three, ninth, 7);
-    let rec = seen.three.sign(alloc, &group, Body::Note(ahead))?;
-    let stored = note_of(three, first, 7);
-    let seen_ahead = Some(Fault::OwnAhead {
-        stored,
-        seen: ahead,
-    });
-    expect(&rt, &seen.observer, rec, seen_ahead);
-    let rec = seen.two.sign(alloc, &group, Body::Note(ahead))?;
-    expect(&rt, &seen.observer, rec, Some(Fault::BadSignature));
-
-    let kept = certificate_of(two, 20002, &seen.two);
-    let rec = unsigned(alloc, Body::Certificate(kept))?;
-    expect(&rt, &seen.observer, rec, Some(Fault::Known));
-    let rec = unsigned(
-        alloc,
-        Body::Certificate(certificate_of(two, 20009, &seen.two)),
-    )?;
-    let (port, key) = (20002, kept.key.write());
-    expect(
-        &rt,
-        &seen.observer,
-        rec,
-        Some(Fault::OtherCertificate { port, key }),
-    );
-
-    // The hashes put the three in this order on ring 0, so that 2 has the monitor 1.
-    let rec = unsigned(alloc, Body::Accusation(accusation_of(three, two, first, 0)))?;
-    let monitor = Some(one);
-    expect(
-        &rt,
-        &seen.observer,
-        rec,
-        Some(Fault::NotMonitor { monitor }),
-    );
-    let rec = seen.one.sign(
-        alloc,
-        &group,
-        Body::Accusation(accusation_of(one, two, first, 0)),
-    )?;
-    expect(&rt, &seen.observer, rec, None);
-    Ok(())
+    scene.compare(&rt, alloc, &other, &rows)
 }
 
 #[test]
 fn each_fault_comes_before_the_later_ones(rt: HostRuntime) -> Result<(), Fail> {
     let alloc = rt.alloc();
     let group = group();
-    let mut seen = scene(alloc, &group)?;
-    let first = Epoch::new(1);
-    let (one, two, three) = (MemberId::new(1), MemberId::new(2), MemberId::new(3));
-    let (four, five) = (MemberId::new(4), MemberId::new(5));
+    let mut scene = Scene::open(alloc, &group)?;
     let mut out = Changes::new(alloc)?;
-    seen.observer.join(certificate_of(five, 20005, &seen.four))?;
-    seen.observer.put_note(note_of(one, first, 7), &mut out)?;
-    seen.observer.put_note(note_of(two, first, 6), &mut out)?;
-    seen.observer.put_note(note_of(three, first, 6), &mut out)?;
+    let five = scene.certificate(5);
+    scene.observer.join(five)?;
+    scene.observer.put_note(note_of(1, 0, 7), &mut out)?;
+    scene.observer.put_note(note_of(2, 0, 6), &mut out)?;
+    scene.observer.put_note(note_of(3, 0, 6), &mut out)?;
     // On ring 1 the order is 2, 1, 3: 3 accuses 2, which goes.
-    seen.observer
-        .put_accusation(accusation_of(three, two, first, 1))?;
-    seen.observer.tick(&mut out);
-    seen.observer
-        .put_accusation(accusation_of(one, three, first, 1))?;
+    scene.observer.put_accusation(accusation_of(3, 2, 0, 1))?;
+    scene.observer.tick(&mut out);
+    scene.observer.put_accusation(accusation_of(1, 3, 0, 1))?;
 
-    let monitor = Some(one);
-    let kept = Mask(6);
-    let notes = [
-        (note_of(four, first, 8), Fault::UnknownMember),
-        (note_of(three, first, 1), Fault::BadMask),
-        (note_of(three, first, 6), Fault::Known),
-        (
-            note_of(three, first, 5),
-            Fault::Older {
-                epoch: first,
-                mask: kept,
-            },
+    let nobody = Signer::Nobody;
+    let kept = note_of(3, 0, 6);
+    let (epoch, mask) = (kept.epoch, kept.mask);
+    let monitor = Some(MemberId::new(1));
+    let rows = [
+        note(nobody, 4, 0, 8, Some(Fault::UnknownMember)),
+        note(nobody, 3, 0, 1, Some(Fault::BadMask)),
+        note(nobody, 3, 0, 6, Some(Fault::Known)),
+        note(nobody, 3, 0, 5, Some(Fault::Older { epoch, mask })),
+        accusation(nobody, (4, 4), 0, 3, Some(Fault::UnknownMember)),
+        accusation(nobody, (1, 4), 0, 3, Some(Fault::UnknownMember)),
+        accusation(nobody, (5, 5), 0, 3, Some(Fault::SelfAccusation)),
+        accusation(nobody, (1, 5), 0, 3, Some(Fault::BadRing)),
+        accusation(nobody, (1, 5), 0, 0, Some(Fault::NoNote)),
+        accusation(
+            nobody,
+            (1, 2),
+            8,
+            0,
+            Some(Fault::OtherEpoch { kept: epoch }),
         ),
+        accusation(nobody, (5, 2), 0, 0, Some(Fault::NotInView)),
+        accusation(nobody, (5, 3), 0, 0, Some(Fault::RingDisabled)),
+        accusation(nobody, (5, 3), 0, 1, Some(Fault::NotMonitor { monitor })),
+        accusation(nobody, (1, 3), 0, 1, Some(Fault::Standing)),
+        accusation(Signer::One, (3, 1), 0, 2, Some(Fault::BadSignature)),
+        accusation(Signer::Three, (3, 1), 0, 2, None),
+        scene.certificate_row(Signer::Four, 4, 20004, Some(Fault::BadSignature)),
+        scene.certificate_row(Signer::Authority, 4, 20004, None),
     ];
-    for (note, fault) in &notes {
-        let rec = unsigned(alloc, Body::Note(*note))?;
-        expect(&rt, &seen.observer, rec, Some(*fault));
-    }
-    let accusations = [
-        (accusation_of(four, four, first, 3), Fault::UnknownMember),
-        (accusation_of(one, four, first, 3), Fault::UnknownMember),
-        (accusation_of(five, five, first, 3), Fault::SelfAccusation),
-        (accusation_of(one, five, first, 3), Fault::BadRing),
-        (accusation_of(one, five, first, 0), Fault::NoNote),
-        (
-            accusation_of(one, two, Epoch::new(9), 0),
-            Fault::OtherEpoch { kept: first },
-        ),
-        (accusation_of(five, two, first, 0), Fault::NotInView),
-        (accusation_of(five, three, first, 0), Fault::RingDisabled),
-        (
-            accusation_of(five, three, first, 1),
-            Fault::NotMonitor { monitor },
-        ),
-        (accusation_of(one, three, first, 1), Fault::Standing),
-    ];
-    for (acc, fault) in &accusations {
-        let rec = unsigned(alloc, Body::Accusation(*acc))?;
-        expect(&rt, &seen.observer, rec, Some(*fault));
-    }
-    let against_one = Body::Accusation(accusation_of(three, one, first, 2));
-    let rec = seen.one.sign(alloc, &group, against_one)?;
-    expect(&rt, &seen.observer, rec, Some(Fault::BadSignature));
-    let rec = seen.three.sign(alloc, &group, against_one)?;
-    expect(&rt, &seen.observer, rec, None);
-
-    let certificate = Body::Certificate(certificate_of(four, 20004, &seen.four));
-    let rec = seen.four.sign(alloc, &group, certificate)?;
-    expect(&rt, &seen.observer, rec, Some(Fault::BadSignature));
-    let rec = seen.authority.sign(alloc, &group, certificate)?;
-    expect(&rt, &seen.observer, rec, None);
-    Ok(())
+    scene.compare(&rt, alloc, &group, &rows)
 }

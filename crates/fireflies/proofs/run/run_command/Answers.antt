@@ -1,4 +1,5 @@
 use Rattle.fireflies.proofs.EndLemmas.{concluded}
+use Rattle.fireflies.proofs.CompleteLemmas.{completes}
 use Rattle.fireflies.proofs.TraceLemmas.{traced}
 use Rattle.fireflies.proofs.UpheldLemmas.{upheld}
 use Rattle.fireflies.proofs.run.run_command.Goals as goal
@@ -14,6 +15,9 @@ returns-clause-counts g c = (concluded _ _ _ _ c.play_text-ended.result _ _ c.pl
 
 pub returns-clause-command : goal.returns-clause-command
 returns-clause-command g c = (concluded _ _ _ _ c.play_text-ended.result _ _ c.play_text-ended.ensures.runs c.from.ensures (c.conclude.ensures _ _)).command
+
+pub returns-clause-complete : goal.returns-clause-complete
+returns-clause-complete g c = completes _ _ _ _ (returns-clause-command g c) (returns-clause-counts g c) (returns-clause-traced g c)
 
 pub returns-clause-upholds : goal.returns-clause-upholds
 returns-clause-upholds g c = upheld c.args.command _ _ _ (returns-clause-ends g c)

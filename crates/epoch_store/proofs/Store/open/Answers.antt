@@ -1,0 +1,29 @@
+use Rattle.std.proofs.Common.{◌≡◌}
+use Rattle.epoch_store.specs.Calls.{SettlesAs, same}
+use Rattle.epoch_store.proofs.OpenLemmas.{settles_same, opens_before, settled_store, settles_on, opened_stays}
+use Rattle.ports.proofs.SinceLemmas.{Fails-trans, Settles-fails}
+use Rattle.epoch_store.proofs.Store.open.Goals as goal
+
+pub returns-clause-reads : goal.returns-clause-reads
+returns-clause-reads g c =
+    let settles = rw c.in_ok-open_file.ensures.opens at (settles_same (g.D.Disk.moments c.open_file.new.disk) (g.D.Disk.moments c.sync.new.self) c.in_ok-sync.ensures.settles) in
+    opens_before c.args.tag.now (g.D.Disk.moments c.args.disk.now) (g.D.Disk.moments c.sync.new.self) c.read_store.result settles c.read_store.ensures.reads
+
+pub returns-clause-store : goal.returns-clause-store
+returns-clause-store g c =
+    let settles = rw c.in_ok-open_file.ensures.opens at (settles_same (g.D.Disk.moments c.open_file.new.disk) (g.D.Disk.moments c.sync.new.self) c.in_ok-sync.ensures.settles) in
+    settled_store c.args.tag.now (g.D.Disk.moments c.args.disk.now) (g.D.Disk.moments c.sync.new.self) (g.D.Disk.moments c.read_store.new.disk) c.read_store.result settles c.read_store.ensures.store c.read_store.ensures.same
+
+pub returns-clause-settles : goal.returns-clause-settles
+returns-clause-settles g c =
+    let settles = rw c.in_ok-open_file.ensures.opens at (settles_same (g.D.Disk.moments c.open_file.new.disk) (g.D.Disk.moments c.sync.new.self) c.in_ok-sync.ensures.settles) in
+    settles_on (g.D.Disk.moments c.args.disk.now) (g.D.Disk.moments c.sync.new.self) (g.D.Disk.moments c.read_store.new.disk) c.read_store.result settles c.read_store.ensures.same
+
+pub returns-clause-any_moment : goal.returns-clause-any_moment
+returns-clause-any_moment g c =
+    let first = g.D.Disk.moments c.args.disk.now in
+    let opened = g.D.Disk.moments c.open_file.new.disk in
+    let synced = g.D.Disk.moments c.sync.new.self in
+    let last = g.D.Disk.moments c.read_store.new.disk in
+    Fails-trans first opened last (opened_stays first opened c.open_file.result c.open_file.ensures.opens)
+        (Fails-trans opened synced last (Settles-fails opened synced (g.met.D.Disk.image_left c.open_file.new.disk) c.in_ok-sync.ensures.settles) c.read_store.ensures.stays)

@@ -1,0 +1,24 @@
+use Rattle.std.proofs.Common.{◌≡◌, ◌∙◌}
+use Rattle.epoch_store.proofs.ReadLemmas.{ends_shut, ends_broken, goes_on, placed_next}
+use Rattle.epoch_store.proofs.read_entries.Goals as goal
+
+pub returns-in-Ok-Shut-clause-reads : goal.returns-in-Ok-Shut-clause-reads
+returns-in-Ok-Shut-clause-reads g c =
+    ends_shut (g.D.Disk.moments c.args.disk.now) c.loop-state.before c.loop-state.gate c.in-Ok-Shut.state c.loop-state.invariant.so_far
+        (rw (c.in-Ok-Shut.field-0-is, c.loop-state.invariant.told) at c.in-Ok-Shut.ensures.reads)
+
+pub loop-state-preserved : goal.loop-state-preserved
+loop-state-preserved g c =
+    let found = rw c.in-Ok-Entry.field-0-is at c.in-Ok-Entry.ensures.found in
+    record {
+      told = c.in-Ok-Entry.ensures.same ∙ c.loop-state.invariant.told;
+      faults = c.in-Ok-Entry.ensures.faults ∙ c.loop-state.invariant.faults;
+      so_far =
+          goes_on (g.D.Disk.moments c.args.disk.now) c.loop-state.before c.loop-state.gate c.in-Ok-Entry.entry c.loop-state.invariant.so_far
+              (rw (c.in-Ok-Entry.field-0-is, c.loop-state.invariant.told) at c.in-Ok-Entry.ensures.reads);
+      place = placed_next c.loop-state.before c.loop-state.gate c.in-Ok-Entry.entry c.loop-state.invariant.place found.0 found.1;
+    }
+
+pub returns-in-Err-clause-reads : goal.returns-in-Err-clause-reads
+returns-in-Err-clause-reads g c =
+    ends_broken (g.D.Disk.moments c.args.disk.now) c.loop-state.before c.loop-state.gate c.in-Err.error c.loop-state.invariant.so_far (rw c.loop-state.invariant.told at c.in-Err.ensures.reads) c.in-Err.ensures.found

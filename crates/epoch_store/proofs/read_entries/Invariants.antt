@@ -1,0 +1,14 @@
+use Rattle.std.proofs.Common.{◌≡◌}
+use Rattle.epoch_store.proofs.ReadLemmas.{Continues, IsPlaced, left_of}
+use Rattle.epoch_store.proofs.read_entries.Given as goal
+
+abbrev pub invariant-loop-state : goal.invariant-loop-state
+invariant-loop-state g l = record {
+  told : g.D.Disk.moments l.disk ≡ g.D.Disk.moments l.initial.disk;
+  faults : g.D.Disk.faults l.disk ≡ g.D.Disk.faults l.initial.disk;
+  so_far : Continues (g.D.Disk.moments l.initial.disk) l.before l.gate;
+  place : IsPlaced l.before l.gate;
+}
+
+abbrev pub decreases-loop-state : goal.decreases-loop-state
+decreases-loop-state g l = left_of l.before

@@ -1,0 +1,20 @@
+use Rattle.std.proofs.Common.{◌≡◌, length, arith, Ok}
+use Rattle.epoch_store.proofs.OpenLemmas.{head_refused, entries_read, entries_hold}
+use Rattle.ports.proofs.SinceLemmas.{Fails-trans}
+use Rattle.epoch_store.proofs.read_store.Goals as goal
+
+pub returns-in-Ok-clause-reads : goal.returns-in-Ok-clause-reads
+returns-in-Ok-clause-reads g c =
+    entries_read c.args.tag.now (g.D.Disk.moments c.args.disk.now) c.read_entries.result c.in-Ok.ensures.reads (rw c.in-Ok.ensures.same at c.read_entries.ensures.reads)
+
+pub returns-in-Ok-clause-store : goal.returns-in-Ok-clause-store
+returns-in-Ok-clause-store g c =
+    let size : length c.args.tag.now ≡ 32 = omega arith in
+    entries_hold c.args.tag.now (g.D.Disk.moments c.args.disk.now) c.read_entries.result size c.in-Ok.ensures.reads (rw c.in-Ok.ensures.same at c.read_entries.ensures.reads)
+
+pub returns-in-Ok-clause-stays : goal.returns-in-Ok-clause-stays
+returns-in-Ok-clause-stays g c =
+    Fails-trans (g.D.Disk.moments c.args.disk.now) (g.D.Disk.moments c.read_head.new.disk) (g.D.Disk.moments c.read_entries.new.disk) c.in-Ok.ensures.stays c.read_entries.ensures.stays
+
+pub returns-in-Err-clause-reads : goal.returns-in-Err-clause-reads
+returns-in-Err-clause-reads g c = head_refused c.args.tag.now (g.D.Disk.moments c.args.disk.now) c.in-Err.error c.in-Err.ensures.reads

@@ -1,0 +1,37 @@
+-- A worked text, by computation: a member is accused, and removed at the timeout.
+use Rattle.std.proofs.Common.{◌≡◌, ℕ, List, [], ◌∷◌, ◌++◌, length, None, refl}
+use Rattle.std.specs.Prelude.{codes}
+
+use Rattle.ff_ids.specs.Views.{all_numbers}
+use Rattle.journal.specs.declared.event.Event as reported
+use Rattle.journal.specs.declared.event.What.TheVariants as what
+use Rattle.line_text.specs.Frame.{judge}
+
+use Rattle.trace.specs.Answers.{state_of}
+use Rattle.trace.specs.Walk.{events_in, lives_in, replayed, walk_over}
+
+abbrev schedule : List (List ℕ)
+schedule =
+    (codes "fireflies 1 direct" ++ 10 ∷ [])
+    ∷ (codes "group 1 1" ++ 10 ∷ [])
+    ∷ (codes "member 1 10 10 10" ++ 10 ∷ [])
+    ∷ (codes "member 2 20 20 20" ++ 10 ∷ [])
+    ∷ (codes "note 1 1 7" ++ 10 ∷ [])
+    ∷ (codes "note 2 1 7" ++ 10 ∷ [])
+    ∷ (codes "accuse 1 2 1 0" ++ 10 ∷ [])
+    ∷ (codes "tick 1" ++ 10 ∷ [])
+    ∷ (codes "end" ++ 10 ∷ [])
+    ∷ []
+
+-- the events of its only life: at the tick the accusation expires, and the accused is removed
+removed : events_in (walk_over schedule) ≡ record { moment = 0; what = what.Entered 1 } ∷ record { moment = 0; what = what.Entered 2 } ∷ record { moment = 1; what = what.Expired (record { accuser = 1; accused = 2; epoch = 1; ring = record { 0 = 0 } }) } ∷ record { moment = 1; what = what.Removed 2 } ∷ []
+unfolding all_numbers state_of judge
+removed = refl
+
+one_life : length (lives_in (walk_over schedule)) ≡ 1
+unfolding all_numbers state_of judge
+one_life = refl
+
+taken_whole : (replayed schedule).cause ≡ None
+unfolding all_numbers state_of judge
+taken_whole = refl
