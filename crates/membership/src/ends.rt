@@ -115,6 +115,7 @@ impl Membership {
     }
 
     /// Ends what is kept against the members that the expired accusations take out, and against their successors.
+    /// Where nothing is kept no ring is looked at.
     pub(crate) fn end_of_expired(&mut self, out: &mut Changes)
         requires room { length self.old.kept ≤ 31744 }
         requires empty { out.old.fell ≡ [] }
@@ -124,6 +125,9 @@ impl Membership {
         ensures fell { out.new
             ≡ record out.old { fell = map (λ p. p.0) (filter (is_of_any self.old out.old.expired) self.old.kept) } }
     {
+        if self.timers.is_empty() {
+            return;
+        }
         for index in 0..out.expired().len() {
             let accused = out.expired()[index].accused;
             self.end_of(accused, out);

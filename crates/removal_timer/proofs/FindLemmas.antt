@@ -1,5 +1,6 @@
 -- Finding the entry of a member and ring among entries in order, and which are due.
-use Rattle.std.proofs.Common.{◌≡◌, ℕ, zero, suc, ◌+◌, ◌-◌, ◌<◌, ◌≤◌, Bool, true, false, cond, not, ◌⊎◌, inl, inr, List, [], ◌∷◌, Some, None, length, get_or, filter, refl, sym, ap, ◌∙◌, subst, arith}
+use Rattle.std.proofs.Common.{◌≡◌, ℕ, zero, suc, ◌+◌, ◌-◌, ◌<◌, ◌≤◌, Bool, true, false, cond, not, eqb, ◌⊎◌, inl, inr, List, [], ◌∷◌, Some, None, length, get_or, filter, refl, sym, ap, ◌∙◌, subst, arith}
+use Rattle.std.specs.Bool.{OnTrue}
 use Rattle.std.specs.Prelude.{is_some}
 use Rattle.std.specs.List.{AllByRecursion, AllWithin, prefix_len, remove}
 use Rattle.std.specs.List.Sorted.{IsPartitionedBy}
@@ -195,3 +196,8 @@ NoneDue-since oldest timeout now (x ∷ xs) h lt =
 pub AreSince-lower : (low high : ℕ) (xs : List Entry) → low ≤ high → AreSince high xs → AreSince low xs
 AreSince-lower low high [] le h = tt
 AreSince-lower low high (x ∷ xs) le h = (omega (arith, h.0), AreSince-lower low high xs le h.1)
+
+pub empty_from : (b : Bool) (xs : List Entry) → b ≡ eqb (length xs) 0 → OnTrue b (xs ≡ [])
+empty_from false xs h = tt
+empty_from true [] h = refl
+empty_from true (x ∷ xs) h = absurd (grind arith)

@@ -3,6 +3,7 @@
 #![tactic(auto)]
 
 ghost use Rattle.std.specs.Prelude.{◌≡◌, ◌+◌, ◌*◌, ◌<◌, ◌≤◌, [], ◌++◌, ◌==◌, not, IfOk, IfSome, None, Some, is_some, if◌then◌else◌, length, filter, map, vec_len, vec_capacity};
+ghost use Rattle.std.specs.Bool.{OnTrue};
 ghost use Rattle.std.specs.List.{prefix_len};
 ghost use Rattle.ff_ids.specs.Masks.{ring_count};
 ghost use Rattle.ff_ids.specs.Steps.{is_due, with_kept};
@@ -204,6 +205,14 @@ impl Timers {
         append_due(&self.kept, self.timeout, now, out);
         remove_due(&mut self.kept, self.timeout, now);
         self.oldest = oldest_of(&self.kept);
+    }
+
+    /// Whether nothing stands.
+    pub fn is_empty(&self) -> bool
+        ensures value { result ≡ (length self.now.entries == 0) }
+        ensures empty { OnTrue result (self.now.entries ≡ []) }
+    {
+        self.kept.is_empty()
     }
 
     /// What stands against the member on the ring, and since when.

@@ -170,6 +170,20 @@ ticked-none r life old new plays text = record { plays = plays; text = text ∙ 
 events_text-append : (es more : List reported.Event) → events_text (es ++ more) ≡ events_text es ++ events_text more
 events_text-append es more = flat_map-append (λ e. event_text e ++ 10 ∷ []) es more
 
+chained : (old a b c d : List ℕ) → (((old ++ a) ++ b) ++ c) ++ d ≡ old ++ (((a ++ b) ++ c) ++ d)
+chained old a b c d = simp append_assoc
+
+-- four texts of events, one behind another
+pub report-text : (old one two three four : List ℕ) (a b c d : List reported.Event) → one ≡ old ++ events_text a → two ≡ one ++ events_text b → three ≡ two ++ events_text c → four ≡ three ++ events_text d → four ≡ old ++ events_text (((a ++ b) ++ c) ++ d)
+report-text old one two three four a b c d first second third last =
+    let all : events_text (((a ++ b) ++ c) ++ d) ≡ ((events_text a ++ events_text b) ++ events_text c) ++ events_text d =
+    events_text-append ((a ++ b) ++ c) d
+    ∙ ap (λ (x : List ℕ). x ++ events_text d) (events_text-append (a ++ b) c ∙ ap (λ (x : List ℕ). x ++ events_text c) (events_text-append a b)) in
+    last
+    ∙ ap (λ (x : List ℕ). x ++ events_text d) (third ∙ ap (λ (x : List ℕ). x ++ events_text c) (second ∙ ap (λ (x : List ℕ). x ++ events_text b) first))
+    ∙ chained old (events_text a) (events_text b) (events_text c) (events_text d)
+    ∙ ap (λ (x : List ℕ). old ++ x) (sym all)
+
 pub ticked-more : (n : ℕ) (r : Recorded) (life : Life) (later : kept.Life) (report : Report) (moment : ℕ) (old mid new : List ℕ) → IsTicked n r life old mid → later.group ≡ life.membership.group → Holds later (after_tick life.membership.group.timeout (state_of (with_ticks n r))).state → report ≡ (after_tick life.membership.group.timeout (state_of (with_ticks n r))).report → ((s : State) → Holds later s → moment ≡ s.moment) → new ≡ mid ++ events_text (events_at moment report) → IsTicked (n + 1) r (record { number = life.number; membership = later; changes = report }) old new
 ticked-more n r life later report moment old mid new before group holds reported at text =
     let now = with_ticks n r in

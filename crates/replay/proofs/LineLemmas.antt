@@ -1,5 +1,6 @@
 -- What one line does to what is owed.
-use Rattle.std.proofs.Common.{◌≡◌, ℕ, ◌+◌, ◌<◌, ◌≤◌, true, false, List, [], ◌∷◌, ◌++◌, length, Option, Some, None, Result, Ok, Err, refl, ap, sym, ◌∙◌, subst, arith, length-append}
+use Rattle.std.proofs.Common.{◌≡◌, ℕ, ◌+◌, ◌-◌, ◌<◌, ◌≤◌, true, false, lt-ltb, List, [], ◌∷◌, ◌++◌, length, Option, Some, None, Result, Ok, Err, refl, ap, sym, ◌∙◌, subst, arith, length-append}
+use Rattle.std.proofs.lemmas.List.{get_or_at}
 use Rattle.line_text.specs.declared.bad_word.BadWord.{BadWord}
 use Rattle.line_text.specs.declared.bad_word.BadWord.TheVariants as words
 use Rattle.line_text.specs.Answers.{Progress}
@@ -7,6 +8,7 @@ use Rattle.schedule_direct.specs.declared.direct.Direct.{Direct}
 use Rattle.schedule_direct.specs.declared.line.DirectLine.{DirectLine}
 use Rattle.schedule_direct.specs.Grammar as grammar
 use Rattle.schedule_direct.specs.Rows.{is_ended}
+use Rattle.text_trace.specs.Lines.{has_line_feed}
 use Rattle.text_trace.specs.Trace.{Ends, GoesOn, Owed, Owing, Refuses, Steps, Trace, before}
 use Rattle.trace.specs.Answers.{Recorded, answer, told}
 use Rattle.trace.specs.Walk.{Walk, from_line, played, replayed, trace_in, walk}
@@ -57,3 +59,10 @@ end-refuses p life ended = λ f owes. at-lines f (played p owes.recorded) [] owe
 -- the whole of a text is owed at first
 pub owes-first : (f : Owed BadWord) → f ≡ replayed → Owes grammar.opening None f
 owes-first f same = record { recorded = None; plays = tt; placed = tt; same = same }
+
+-- bytes with a line feed behind them end with it
+pub fed-line : (text : List ℕ) → has_line_feed (text ++ 10 ∷ []) ≡ true
+fed-line text =
+    let many = length-append text (10 ∷ []) in
+    let last = get_or_at text 10 [] 0 (length (text ++ 10 ∷ []) - 1) (omega (arith, many)) in
+    rw (lt-ltb 0 (length (text ++ 10 ∷ [])) (omega (arith, many)), last) refl

@@ -19,21 +19,21 @@ never e = absurd (false≢true e)
 
 -- ## Which lines may be run
 
-fits-body : (t ticks number : ℕ) (life : Life) (r : Recorded) (l : DirectLine) → t ≤ 15 → PlaysOne life r → InBody t number ticks r → Stands (direct.Body t ticks) l → InRange t ticks l → number ≤ 100000 → FitsLife life l
-fits-body t ticks number life r lines.Header small plays b stands range few = tt
-fits-body t ticks number life r (lines.Group u timeout) small plays b stands range few = tt
-fits-body t ticks number life r (lines.Member m ps) small plays b stands range few =
+fits-body : (t ticks number : ℕ) (life : Life) (r : Recorded) (l : DirectLine) → PlaysOne life r → InBody t number ticks r → Stands (direct.Body t ticks) l → InRange t ticks l → number ≤ 100000 → FitsLife life l
+fits-body t ticks number life r lines.Header plays b stands range few = tt
+fits-body t ticks number life r (lines.Group u timeout) plays b stands range few = tt
+fits-body t ticks number life r (lines.Member m ps) plays b stands range few =
     let same : life.membership.group.t ≡ t = ap (λ g. g.t) plays.group ∙ b.tolerance in
-    (range.1 ∙ ap ring_count (sym same), omega (arith, range.1, small))
-fits-body t ticks number life r (lines.Note n) small plays b stands range few = tt
-fits-body t ticks number life r (lines.Accuse a) small plays b stands range few = tt
-fits-body t ticks number life r (lines.Tick n) small plays b stands range few = omega (arith, range.2, b.moment, plays.holds.moment_same)
-fits-body t ticks number life r lines.View small plays b stands range few = tt
-fits-body t ticks number life r (lines.Monitor ring m) small plays b stands range few =
+    (range.1 ∙ ap ring_count (sym same), omega (arith, range.1, b.small))
+fits-body t ticks number life r (lines.Note n) plays b stands range few = tt
+fits-body t ticks number life r (lines.Accuse a) plays b stands range few = tt
+fits-body t ticks number life r (lines.Tick n) plays b stands range few = omega (arith, range.2, b.moment, plays.holds.moment_same)
+fits-body t ticks number life r lines.View plays b stands range few = tt
+fits-body t ticks number life r (lines.Monitor ring m) plays b stands range few =
     let same : life.membership.group.t ≡ t = ap (λ g. g.t) plays.group ∙ b.tolerance in
     omega (arith, range.0, same)
-fits-body t ticks number life r lines.Life small plays b stands range few = omega (arith, b.life, plays.number, few)
-fits-body t ticks number life r lines.End small plays b stands range few = tt
+fits-body t ticks number life r lines.Life plays b stands range few = omega (arith, b.life, plays.number, few)
+fits-body t ticks number life r lines.End plays b stands range few = tt
 
 fits-first : (d : Direct) (l : DirectLine) → InRange (tolerance d) (ticks_of d) l → FitsOn None l
 fits-first d lines.Header range = tt
@@ -60,25 +60,25 @@ no-line lines.Life stands = never stands
 no-line lines.End stands = never stands
 
 -- a line that stands here may be run on the life that fits the place
-pub fits : (d : Direct) (number : ℕ) (life : Option Life) (r : Option Recorded) (l : DirectLine) → tolerance d ≤ 15 → Plays life r → IsPlaced d number r → Stands d l → InRange (tolerance d) (ticks_of d) l → number ≤ 100000 → FitsOn life l
-fits d number None None l small plays placed stands range few = fits-first d l range
-fits d number None (Some r) l small plays placed stands range few = absurd plays
-fits d number (Some life) None l small plays placed stands range few = absurd plays
-fits direct.Start number (Some life) (Some r) l small plays placed stands range few = absurd placed
-fits direct.Headed number (Some life) (Some r) l small plays placed stands range few = absurd placed
-fits (direct.Body t ticks) number (Some life) (Some r) l small plays placed stands range few = fits-body t ticks number life r l small plays placed stands range few
-fits direct.Ended number (Some life) (Some r) l small plays placed stands range few = no-line l stands
+pub fits : (d : Direct) (number : ℕ) (life : Option Life) (r : Option Recorded) (l : DirectLine) → Plays life r → IsPlaced d number r → Stands d l → InRange (tolerance d) (ticks_of d) l → number ≤ 100000 → FitsOn life l
+fits d number None None l plays placed stands range few = fits-first d l range
+fits d number None (Some r) l plays placed stands range few = absurd plays
+fits d number (Some life) None l plays placed stands range few = absurd plays
+fits direct.Start number (Some life) (Some r) l plays placed stands range few = absurd placed
+fits direct.Headed number (Some life) (Some r) l plays placed stands range few = absurd placed
+fits (direct.Body t ticks) number (Some life) (Some r) l plays placed stands range few = fits-body t ticks number life r l plays placed stands range few
+fits direct.Ended number (Some life) (Some r) l plays placed stands range few = no-line l stands
 
 -- ## Where the life is behind a line
 
 -- what doesn't touch the life
 stays : (t number ticks : ℕ) (r : Recorded) → InBody t number ticks r → InBody t (number + 1) ticks r
-stays t number ticks r b = record { tolerance = b.tolerance; moment = b.moment; life = omega (arith, b.life) }
+stays t number ticks r b = record { small = b.small; tolerance = b.tolerance; moment = b.moment; life = omega (arith, b.life) }
 
 -- an event other than a tick
 moves : (t number ticks : ℕ) (r later : Recorded) → InBody t number ticks r → later.group.t ≡ r.group.t → later.life ≡ r.life → (state_of later).moment ≡ (state_of r).moment → InBody t (number + 1) ticks later
 moves t number ticks r later b group life moment =
-    record { tolerance = group ∙ b.tolerance; moment = omega (arith, b.moment, moment); life = omega (arith, b.life, life) }
+    record { small = b.small; tolerance = group ∙ b.tolerance; moment = omega (arith, b.moment, moment); life = omega (arith, b.life, life) }
 
 in_body : (t number ticks : ℕ) (r : Recorded) (l : DirectLine) → InBody t number ticks r → Stands (direct.Body t ticks) l → IsPlaced (after (direct.Body t ticks) l) (number + 1) (answer (Some r) l).recorded
 in_body t number ticks r lines.Header b stands = never stands
@@ -89,6 +89,7 @@ in_body t number ticks r (lines.Accuse a) b stands = moves t number ticks r (wit
 in_body t number ticks r (lines.Tick n) b stands =
     let same = group-with_ticks n r in
     record {
+      small = b.small;
       tolerance = ap (λ g. g.t) same.0 ∙ b.tolerance;
       moment = omega (arith, b.moment, moment-with_ticks n r);
       life = omega (arith, b.life, same.1);
@@ -97,15 +98,16 @@ in_body t number ticks r lines.View b stands = stays t number ticks r b
 in_body t number ticks r (lines.Monitor ring m) b stands = stays t number ticks r b
 in_body t number ticks r lines.Life b stands =
     record {
+      small = b.small;
       tolerance = b.tolerance;
       moment = omega (arith, ap (λ s. s.moment) (state_of-next_life r));
       life = omega (arith, b.life);
     }
 in_body t number ticks r lines.End b stands = tt
 
-first-moment : (t number timeout : ℕ) → 1 ≤ number → IsPlaced (direct.Body t 0) number (answer None (lines.Group t timeout)).recorded
+first-moment : (t number timeout : ℕ) → t ≤ 15 → 1 ≤ number → IsPlaced (direct.Body t 0) number (answer None (lines.Group t timeout)).recorded
 unfolding state_of
-first-moment t number timeout some = record { tolerance = refl; moment = omega arith; life = some }
+first-moment t number timeout small some = record { small = small; tolerance = refl; moment = omega arith; life = some }
 
 at_start : (number : ℕ) (l : DirectLine) → Stands direct.Start l → IsPlaced (after direct.Start l) (number + 1) (answer None l).recorded
 at_start number lines.Header stands = tt
@@ -119,24 +121,24 @@ at_start number (lines.Monitor ring m) stands = never stands
 at_start number lines.Life stands = never stands
 at_start number lines.End stands = never stands
 
-at_group : (number : ℕ) (l : DirectLine) → Stands direct.Headed l → IsPlaced (after direct.Headed l) (number + 1) (answer None l).recorded
-at_group number lines.Header stands = never stands
-at_group number (lines.Group t timeout) stands = first-moment t (number + 1) timeout (omega arith)
-at_group number (lines.Member m ps) stands = never stands
-at_group number (lines.Note n) stands = never stands
-at_group number (lines.Accuse a) stands = never stands
-at_group number (lines.Tick n) stands = never stands
-at_group number lines.View stands = never stands
-at_group number (lines.Monitor ring m) stands = never stands
-at_group number lines.Life stands = never stands
-at_group number lines.End stands = never stands
+at_group : (number : ℕ) (l : DirectLine) → Stands direct.Headed l → InRange 0 0 l → IsPlaced (after direct.Headed l) (number + 1) (answer None l).recorded
+at_group number lines.Header stands range = never stands
+at_group number (lines.Group t timeout) stands range = first-moment t (number + 1) timeout range.1 (omega arith)
+at_group number (lines.Member m ps) stands range = never stands
+at_group number (lines.Note n) stands range = never stands
+at_group number (lines.Accuse a) stands range = never stands
+at_group number (lines.Tick n) stands range = never stands
+at_group number lines.View stands range = never stands
+at_group number (lines.Monitor ring m) stands range = never stands
+at_group number lines.Life stands range = never stands
+at_group number lines.End stands range = never stands
 
 -- the life behind a line fits the place behind it
-pub placed-after : (d : Direct) (number : ℕ) (r : Option Recorded) (l : DirectLine) → IsPlaced d number r → Stands d l → IsPlaced (after d l) (number + 1) (answer r l).recorded
-placed-after direct.Start number (Some r) l placed stands = absurd placed
-placed-after direct.Start number None l placed stands = at_start number l stands
-placed-after direct.Headed number (Some r) l placed stands = absurd placed
-placed-after direct.Headed number None l placed stands = at_group number l stands
-placed-after (direct.Body t ticks) number None l placed stands = absurd placed
-placed-after (direct.Body t ticks) number (Some r) l placed stands = in_body t number ticks r l placed stands
-placed-after direct.Ended number r l placed stands = no-line l stands
+pub placed-after : (d : Direct) (number : ℕ) (r : Option Recorded) (l : DirectLine) → IsPlaced d number r → Stands d l → InRange (tolerance d) (ticks_of d) l → IsPlaced (after d l) (number + 1) (answer r l).recorded
+placed-after direct.Start number (Some r) l placed stands range = absurd placed
+placed-after direct.Start number None l placed stands range = at_start number l stands
+placed-after direct.Headed number (Some r) l placed stands range = absurd placed
+placed-after direct.Headed number None l placed stands range = at_group number l stands range
+placed-after (direct.Body t ticks) number None l placed stands range = absurd placed
+placed-after (direct.Body t ticks) number (Some r) l placed stands range = in_body t number ticks r l placed stands
+placed-after direct.Ended number r l placed stands range = no-line l stands

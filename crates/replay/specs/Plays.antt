@@ -26,9 +26,10 @@ pub record Tells (a : Answer) (life : Life) (before later : List ℕ) : Type 0 w
   pub plays : Plays (Some life) a.recorded
   pub text : later ≡ before ++ answer_text a
 
--- A life that is recorded has the tolerance of the text's group, as many ticks at the most as the text had, and a
+-- A life that is recorded has the tolerance of the text's group, at most 15, as many ticks at the most as the text had, and a
 -- number that is no more than the lines.
 pub record InBody (t number ticks : ℕ) (r : Recorded) : Type 0 where
+  pub small : t ≤ 15
   pub tolerance : r.group.t ≡ t
   pub moment : (state_of r).moment ≤ ticks
   pub life : r.life ≤ number

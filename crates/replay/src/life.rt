@@ -102,8 +102,10 @@ impl Life {
     fn take_accusation(&mut self, accusation: AccBody, text: &mut Vec<u8>) -> Result<(), NoMemory>
         ensures { (r : Recorded) → PlaysOne self.old r → OnOk result (Tells (answer_in r (DirectLine.Accuse accusation)) self.new text.old.items text.new.items) }
     {
-        let verdict = self.membership.put_accusation(accusation);
-        add_verdict_on(text, verdict.err())?;
+        match self.membership.put_accusation(accusation) {
+            Ok(()) => add_verdict(text, Verdict::Accepted)?,
+            Err(fault) => add_verdict(text, Verdict::Refused(fault))?,
+        }
         add(text, b"\n")
     }
 

@@ -3,6 +3,7 @@
 ghost use Rattle.std.specs.Prelude.{◌≡◌, true};
 ghost use Rattle.play.specs.Plays.{Runs, has_written, standing};
 ghost use Rattle.verifier.specs.Answered.{verified};
+ghost use Rattle.verifier.specs.Verified.{Brings};
 
 use crate::verifier::Verifier;
 use line_text::BadWord;
@@ -21,6 +22,9 @@ pub fn verify_input<S: Source, O: Sink>(
     requires sink { O.is_open out.old ≡ true }
     ensures sink { O.is_open out.new ≡ has_written result }
     ensures runs { Runs BadWord (λ f. f ≡ verified) 100000
+        (standing (S.left input.old) (O.taken out.old) (S.faults input.old) (O.faults out.old))
+        (standing (S.left input.new) (O.taken out.new) (S.faults input.new) (O.faults out.new)) result }
+    ensures brings { Brings
         (standing (S.left input.old) (O.taken out.old) (S.faults input.old) (O.faults out.old))
         (standing (S.left input.new) (O.taken out.new) (S.faults input.new) (O.faults out.new)) result }
 {

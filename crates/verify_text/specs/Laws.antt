@@ -74,7 +74,7 @@ digit_below c n (inr (inl h)) = h.1
 digit_below c n (inr (inr h)) = h.1
 
 -- bytes that a word spells are bytes
-below_256 : (word bytes : List ℕ) → SpellsBytes word bytes → (k : ℕ) → get_or bytes k 0 < 256
+pub below_256 : (word bytes : List ℕ) → SpellsBytes word bytes → (k : ℕ) → get_or bytes k 0 < 256
 below_256 [] [] h k = omega arith
 below_256 [] (b ∷ bytes) h k = absurd h
 below_256 (digit ∷ []) [] h k = absurd h

@@ -1,18 +1,29 @@
-use Rattle.std.proofs.Common.{◌≡◌, ◌-◌, subst}
+use Rattle.std.proofs.Common.{◌≡◌, ◌-◌, Result, subst}
 use Rattle.line_text.specs.declared.bad_word.BadWord.{BadWord}
 use Rattle.line_text.specs.Answers.{Progress}
 use Rattle.play.specs.Plays.{Runs, Standing, standing}
 use Rattle.verify_text.specs.declared.question.Asked.{Asked}
 use Rattle.verify_text.specs.declared.question.Asked.TheVariants as asked
 use Rattle.verify_text.specs.declared.verify.Verify.{Verify}
-use Rattle.verifier.specs.Answered.{answered}
+use Rattle.play.specs.declared.stop.Stop.{Stop}
+use Rattle.verify_text.specs.Grammar.{opening}
+use Rattle.verifier.specs.Answered.{answered, verified}
+use Rattle.verifier.specs.declared.verifier.Verifier.{Verifier}
+use Rattle.verifier.proofs.TextLemmas.{run-brings}
 use Rattle.verifier.proofs.input.verify_input.Goals as goal
+
+-- what a verifier that has read nothing owes
+opened : (v : Verifier) (was now : Standing) (result : Result (Unit {0}) (Stop BadWord)) → v.reader ≡ opening → v.asked ≡ asked.Nothing → Runs BadWord (λ f. f ≡ answered v.reader v.asked) (100001 - v.reader.number) was now result → Runs BadWord (λ f. f ≡ verified) 100000 was now result
+opened v was now result reader asks h =
+    let P : Asked → Type 0 = λ a. Runs BadWord (λ f. f ≡ answered v.reader a) (100001 - v.reader.number) was now result in
+    let Q : Progress Verify → Type 0 = λ p. Runs BadWord (λ f. f ≡ answered p asked.Nothing) (100001 - p.number) was now result in
+    subst Q reader (subst P asks h)
 
 pub returns-clause-runs : goal.returns-clause-runs
 returns-clause-runs g c =
-    let was : Standing = standing (g.S.Source.left c.args.input.now) (g.O.Sink.taken c.args.out.now) (g.S.Source.faults c.args.input.now) (g.O.Sink.faults c.args.out.now) in
-    let now : Standing = standing (g.S.Source.left c.play.new.input) (g.O.Sink.taken c.play.new.out) (g.S.Source.faults c.play.new.input) (g.O.Sink.faults c.play.new.out) in
-    let made = c.open-verifier.result in
-    let P : Asked → Type 0 = λ a. Runs BadWord (λ f. f ≡ answered made.reader a) (100001 - made.reader.number) was now c.play.result in
-    let Q : Progress Verify → Type 0 = λ p. Runs BadWord (λ f. f ≡ answered p asked.Nothing) (100001 - p.number) was now c.play.result in
-    subst Q c.open-verifier.ensures.reader (subst P c.open-verifier.ensures.asked c.play.ensures.runs)
+    opened c.open-verifier.result (standing (g.S.Source.left c.args.input.now) (g.O.Sink.taken c.args.out.now) (g.S.Source.faults c.args.input.now) (g.O.Sink.faults c.args.out.now))
+    (standing (g.S.Source.left c.play.new.input) (g.O.Sink.taken c.play.new.out) (g.S.Source.faults c.play.new.input) (g.O.Sink.faults c.play.new.out))
+    c.play.result c.open-verifier.ensures.reader c.open-verifier.ensures.asked c.play.ensures.runs
+
+pub returns-clause-brings : goal.returns-clause-brings
+returns-clause-brings g c = run-brings _ _ c.play.result (returns-clause-runs g c)

@@ -6,13 +6,13 @@ use Rattle.trace.specs.Answers.{places_at, state_of}
 use Rattle.replay.proofs.EventLemmas.{tells-joined, tells-known}
 use Rattle.replay.proofs.life.Life.join.Goals as goal
 
-pub returns-in-Ok : goal.returns-in-Ok
-returns-in-Ok c = λ r plays.
+pub returns-in_ok-add_verdict-in-Ok : goal.returns-in_ok-add_verdict-in-Ok
+returns-in_ok-add_verdict-in-Ok c = λ r plays.
     let placed : c.number_places.result ≡ places_at c.args.places.now = c.number_places.ensures ∙ ap places_at c.as_slice.ensures in
     let holds : Holds c.add_member.new.self (joined (state_of r) c.args.member (places_at c.args.places.now)) =
     subst (λ p. Holds c.add_member.new.self (joined (state_of r) c.args.member p)) placed (c.in-Ok.ensures.step (state_of r) plays.holds) in
     on_ok_weaker c.add.result
-    (λ text. tells-joined c.args.self.now r c.args.member (places_at c.args.places.now) c.add_member.result c.add_member.new.self _ _ plays (c.add_member.ensures.fault (state_of r) plays.holds) c.in-Ok.is holds c.add_member.ensures.group text)
+    (λ text. tells-joined c.args.self.now r c.args.member (places_at c.args.places.now) c.add_member.result c.add_member.new.self _ _ plays (c.add_member.ensures.fault (state_of r) plays.holds) c.in-Ok.is holds c.add_member.ensures.group (rw c.in_ok-add_verdict-in-Ok.ensures at text))
     c.add.ensures
 
 pub returns-in_ok-add_verdict-in-Err : goal.returns-in_ok-add_verdict-in-Err
