@@ -14,9 +14,9 @@ same_part c s from n within longer same =
     let size_s : length (take n (drop from s)) ≡ n = simp (length-take, length-drop) (omega arith) in
     let size_c : length (take n (drop from c)) ≡ n = simp (length-take, length-drop) (omega arith) in
     ext_get_or 0 (take n (drop from c)) (take n (drop from s)) (size_c ∙ sym size_s) (λ i below.
-        let in_n : i < n = omega (arith, size_c) in
-        rw (get_or-take n (drop from c) i 0 in_n, get_or-take n (drop from s) i 0 in_n, get_or-drop from c i 0, get_or-drop from s i 0)
-            (same (from + i) (omega arith) (omega arith)))
+    let in_n : i < n = omega (arith, size_c) in
+    rw (get_or-take n (drop from c) i 0 in_n, get_or-take n (drop from s) i 0 in_n, get_or-drop from c i 0, get_or-drop from s i 0)
+    (same (from + i) (omega arith) (omega arith)))
 
 pub below_range : (place count i : ℕ) → i < place → is_torn ((place, count) ∷ []) i ≡ false
 below_range place count i below = grind (arith, nat_tests)
@@ -54,7 +54,7 @@ behind_gate tag image c state gate count store leaves =
     let size : gate < length image = store_size tag image state gate store in
     let within : 0 + (gate + 1) ≤ length image = omega arith in
     let same : take (gate + 1) c ≡ take (gate + 1) image =
-        same_part c image 0 (gate + 1) within leaves.no_shorter (λ i from below. leaves.outside i (omega arith) (below_range (gate + 1) count i (omega arith))) in
+    same_part c image 0 (gate + 1) within leaves.no_shorter (λ i from below. leaves.outside i (omega arith) (below_range (gate + 1) count i (omega arith))) in
     let parts = take-append-drop (gate + 1) c in
     record {
       older = store.older;
@@ -100,13 +100,14 @@ with_entry tag image bytes state next gate store spell =
     let count : length bytes ≡ 17 = rw spell refl in
     let some : 0 < length bytes = omega arith in
     let within : gate + 1 ≤ length image = omega arith in
-    let rest = drop (gate + 1 + length bytes) image in
-    (rest,
-        rw (written_within (gate + 1) bytes image some within, store_with_gate tag image state gate store)
-            (append_assoc (front tag (state ∷ store.older) ++ store.shut ∷ []) bytes rest
-            ∙ append_assoc (front tag (state ∷ store.older)) (store.shut ∷ []) (bytes ++ rest)
-            ∙ ap (λ (b : List ℕ). front tag (state ∷ store.older) ++ store.shut ∷ (b ++ rest)) spell
-            ∙ ap (λ (b : List ℕ). front tag (state ∷ store.older) ++ store.shut ∷ b) (append_assoc (spelled next) (0 ∷ []) rest)))
+    let rest = drop (gate + 1 + length bytes) image in (
+      rest,
+      rw (written_within (gate + 1) bytes image some within, store_with_gate tag image state gate store)
+          (append_assoc (front tag (state ∷ store.older) ++ store.shut ∷ []) bytes rest
+          ∙ append_assoc (front tag (state ∷ store.older)) (store.shut ∷ []) (bytes ++ rest)
+          ∙ ap (λ (b : List ℕ). front tag (state ∷ store.older) ++ store.shut ∷ (b ++ rest)) spell
+          ∙ ap (λ (b : List ℕ). front tag (state ∷ store.older) ++ store.shut ∷ b) (append_assoc (spelled next) (0 ∷ []) rest)),
+    )
 
 -- a file that a crash leaves in which the gate was being opened
 torn_gate : (before behind rest c : List ℕ) (gate shut : ℕ) → gate ≡ length before → Leaves (torn_at gate 1 (settled (before ++ shut ∷ (behind ++ rest)))) c → (x : ℕ) × (more : List ℕ) × (c ≡ before ++ x ∷ (behind ++ more))
@@ -116,34 +117,37 @@ torn_gate before behind rest c gate shut place leaves =
     let in_front : 0 + gate ≤ length image = omega arith in
     let in_back : gate + 1 + length behind ≤ length image = omega arith in
     let front_same : take gate c ≡ take gate image =
-        same_part c image 0 gate in_front leaves.no_shorter (λ i from below. leaves.outside i (omega arith) (below_range gate 1 i (omega arith))) in
+    same_part c image 0 gate in_front leaves.no_shorter (λ i from below. leaves.outside i (omega arith) (below_range gate 1 i (omega arith))) in
     let back_same : take (length behind) (drop (gate + 1) c) ≡ take (length behind) (drop (gate + 1) image) =
-        same_part c image (gate + 1) (length behind) in_back leaves.no_shorter (λ i from below. leaves.outside i (omega arith) (above_range gate 1 i from)) in
+    same_part c image (gate + 1) (length behind) in_back leaves.no_shorter (λ i from below. leaves.outside i (omega arith) (above_range gate 1 i from)) in
     let front_is : take gate image ≡ before = take_at before (shut ∷ (behind ++ rest)) gate (sym place) in
     let cut : drop (gate + 1) image ≡ behind ++ rest =
-        let whole : image ≡ (before ++ shut ∷ []) ++ (behind ++ rest) = sym (append_assoc before (shut ∷ []) (behind ++ rest)) in
-        rw whole (drop_at (before ++ shut ∷ []) (behind ++ rest) (gate + 1) (omega (arith, length-append before (shut ∷ [])))) in
+    let whole : image ≡ (before ++ shut ∷ []) ++ (behind ++ rest) = sym (append_assoc before (shut ∷ []) (behind ++ rest)) in
+    rw whole (drop_at (before ++ shut ∷ []) (behind ++ rest) (gate + 1) (omega (arith, length-append before (shut ∷ [])))) in
     let back_is : take (length behind) (drop (gate + 1) image) ≡ behind = rw cut (take_at behind rest (length behind) refl) in
     let here : gate < length c = omega (arith, leaves.no_shorter) in
     let behind_c : drop (gate + 1) c ≡ behind ++ drop (length behind) (drop (gate + 1) c) =
-        sym (take-append-drop (length behind) (drop (gate + 1) c)) ∙ ap (λ (b : List ℕ). b ++ drop (length behind) (drop (gate + 1) c)) (back_same ∙ back_is) in
-    (get_or c gate 0, drop (length behind) (drop (gate + 1) c),
-        sym (take-append-drop gate c)
-        ∙ ap (λ (b : List ℕ). b ++ drop gate c) (front_same ∙ front_is)
-        ∙ ap (λ (b : List ℕ). before ++ b) (drop_more c gate 0 here)
-        ∙ ap (λ (b : List ℕ). before ++ get_or c gate 0 ∷ b) behind_c)
+    sym (take-append-drop (length behind) (drop (gate + 1) c)) ∙ ap (λ (b : List ℕ). b ++ drop (length behind) (drop (gate + 1) c)) (back_same ∙ back_is) in (
+      get_or c gate 0,
+      drop (length behind) (drop (gate + 1) c),
+      sym (take-append-drop gate c)
+          ∙ ap (λ (b : List ℕ). b ++ drop gate c) (front_same ∙ front_is)
+          ∙ ap (λ (b : List ℕ). before ++ b) (drop_more c gate 0 here)
+          ∙ ap (λ (b : List ℕ). before ++ get_or c gate 0 ∷ b) behind_c,
+    )
 
 -- while the gate is being opened, a crash leaves the store or the next one
 pub at_gate : (tag image full c rest : List ℕ) (state next : Stored) (gate : ℕ) (store : StoreAt tag image state gate) → IsEntry next → Follows state next → full ≡ front tag (state ∷ store.older) ++ store.shut ∷ (spelled next ++ 0 ∷ rest) → Leaves (torn_at gate 1 (settled full)) c → StoreOf tag c state ⊎ StoreOf tag c next
 at_gate tag image full c rest state next gate store entry follows is leaves =
     let before = front tag (state ∷ store.older) in
     let shape : full ≡ before ++ store.shut ∷ ((spelled next ++ 0 ∷ []) ++ rest) =
-        is ∙ ap (λ (b : List ℕ). before ++ store.shut ∷ b) (sym (append_assoc (spelled next) (0 ∷ []) rest)) in
+    is ∙ ap (λ (b : List ℕ). before ++ store.shut ∷ b) (sym (append_assoc (spelled next) (0 ∷ []) rest)) in
     let torn = torn_gate before (spelled next ++ 0 ∷ []) rest c gate store.shut store.place (rw shape at leaves) in
     let whole : c ≡ before ++ torn.0 ∷ (spelled next ++ 0 ∷ torn.1) = torn.2 ∙ ap (λ (b : List ℕ). before ++ torn.0 ∷ b) (append_assoc (spelled next) (0 ∷ []) torn.1) in
     elim (cases_eq torn.0 1) [
-    inl one ↦ inr (gate + 17, opened tag image c torn.1 state next gate store entry follows (rw one at whole))
-    | inr other ↦ inl (gate, shut_still tag image c (spelled next ++ 0 ∷ torn.1) state gate torn.0 store other whole) ]
+      | inl one ↦ inr (gate + 17, opened tag image c torn.1 state next gate store entry follows (rw one at whole))
+      | inr other ↦ inl (gate, shut_still tag image c (spelled next ++ 0 ∷ torn.1) state gate torn.0 store other whole)
+    ]
 
 -- once it is open, the file is the next store
 pub gate_open : (tag image full rest : List ℕ) (state next : Stored) (gate : ℕ) (store : StoreAt tag image state gate) → IsEntry next → Follows state next → full ≡ front tag (state ∷ store.older) ++ store.shut ∷ (spelled next ++ 0 ∷ rest) → StoreAt tag (written gate (1 ∷ []) full) next (gate + 17)
@@ -154,8 +158,8 @@ gate_open tag image full rest state next gate store entry follows is =
     let within : gate ≤ length full = omega arith in
     let front_is : take gate full ≡ before = rw is (take_at before (store.shut ∷ (spelled next ++ 0 ∷ rest)) gate (sym store.place)) in
     let back_is : drop (gate + 1) full ≡ spelled next ++ 0 ∷ rest =
-        let whole : full ≡ (before ++ store.shut ∷ []) ++ (spelled next ++ 0 ∷ rest) = is ∙ sym (append_assoc before (store.shut ∷ []) (spelled next ++ 0 ∷ rest)) in
-        rw whole (drop_at (before ++ store.shut ∷ []) (spelled next ++ 0 ∷ rest) (gate + 1) (omega (arith, store.place, length-append before (store.shut ∷ [])))) in
+    let whole : full ≡ (before ++ store.shut ∷ []) ++ (spelled next ++ 0 ∷ rest) = is ∙ sym (append_assoc before (store.shut ∷ []) (spelled next ++ 0 ∷ rest)) in
+    rw whole (drop_at (before ++ store.shut ∷ []) (spelled next ++ 0 ∷ rest) (gate + 1) (omega (arith, store.place, length-append before (store.shut ∷ [])))) in
     let shape : written gate (1 ∷ []) full ≡ before ++ 1 ∷ (spelled next ++ 0 ∷ rest) =
-        rw (written_within gate (1 ∷ []) full some within, front_is, back_is) (append_assoc before (1 ∷ []) (spelled next ++ 0 ∷ rest)) in
+    rw (written_within gate (1 ∷ []) full some within, front_is, back_is) (append_assoc before (1 ∷ []) (spelled next ++ 0 ∷ rest)) in
     opened tag image (written gate (1 ∷ []) full) rest state next gate store entry follows shape

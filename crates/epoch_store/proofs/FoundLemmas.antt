@@ -31,9 +31,11 @@ chained [] e none chain =
 chained (b ∷ older) e none chain =
     let good = no_rule_broken (nat_le e.next 32768 && nat_lt b.next e.next) (nat_le e.epoch e.next && nat_le b.epoch e.epoch) (nat_lt e.mask.0 (2 ^ 31)) none in
     let next = and_parts (nat_le e.next 32768) (nat_lt b.next e.next) good.0 in
-    let epoch = and_parts (nat_le e.epoch e.next) (nat_le b.epoch e.epoch) good.1 in
-    (record { next_small = leb-true _ _ next.0; epoch_small = leb-true _ _ epoch.0; mask_small = ltb-true _ _ good.2 },
-        record { next_rises = ltb-true _ _ next.1; epoch_stays = leb-true _ _ epoch.1 }, chain)
+    let epoch = and_parts (nat_le e.epoch e.next) (nat_le b.epoch e.epoch) good.1 in (
+      record { next_small = leb-true _ _ next.0; epoch_small = leb-true _ _ epoch.0; mask_small = ltb-true _ _ good.2 },
+      record { next_rises = ltb-true _ _ next.1; epoch_stays = leb-true _ _ epoch.1 },
+      chain,
+    )
 
 rules_met : (a b c : Bool) → a ≡ true → b ≡ true → c ≡ true → first_broken ((1, a) ∷ (5, b) ∷ (13, c) ∷ []) ≡ None
 rules_met a b c x y z = rw (x, y, z) refl
@@ -42,10 +44,10 @@ rules_met a b c x y z = rw (x, y, z) refl
 not_wrong : (entries : List Stored) (e : Stored) → IsEntry e → Comes entries e → wrong_field (head_of entries) e ≡ None
 not_wrong [] e entry comes =
     rules_met (nat_le e.next 32768 && true) (nat_le e.epoch e.next && true) (nat_lt e.mask.0 (2 ^ 31))
-        (and_from _ _ (le-leb _ _ entry.next_small) refl) (and_from _ _ (le-leb _ _ entry.epoch_small) refl) (lt-ltb _ _ entry.mask_small)
+    (and_from _ _ (le-leb _ _ entry.next_small) refl) (and_from _ _ (le-leb _ _ entry.epoch_small) refl) (lt-ltb _ _ entry.mask_small)
 not_wrong (b ∷ older) e entry comes =
     rules_met (nat_le e.next 32768 && nat_lt b.next e.next) (nat_le e.epoch e.next && nat_le b.epoch e.epoch) (nat_lt e.mask.0 (2 ^ 31))
-        (and_from _ _ (le-leb _ _ entry.next_small) (lt-ltb _ _ comes.next_rises)) (and_from _ _ (le-leb _ _ entry.epoch_small) (le-leb _ _ comes.epoch_stays)) (lt-ltb _ _ entry.mask_small)
+    (and_from _ _ (le-leb _ _ entry.next_small) (lt-ltb _ _ comes.next_rises)) (and_from _ _ (le-leb _ _ entry.epoch_small) (le-leb _ _ comes.epoch_stays)) (lt-ltb _ _ entry.mask_small)
 
 begins_with : (n x : ℕ) (xs rest : List ℕ) → take (suc n) xs ≡ x ∷ rest → xs ≡ x ∷ drop 1 xs
 begins_with n x [] rest is = cc
@@ -56,9 +58,9 @@ found_from : (tag image : List ℕ) (before : Option Stored) (gate : ℕ) (readi
 found_from tag image before gate reading (ReadsFrom.ends _ _ s stands) [] bytes place chain last state at is = let no : None ≡ Some s = sym last ∙ stands.1 in cc
 found_from tag image before gate reading (ReadsFrom.ends _ _ s stands) (e ∷ older) bytes place chain last state at is =
     let first : e ≡ state =
-        let both : Some e ≡ Some s = sym last ∙ stands.1 in
-        let one : e ≡ s = cc in
-        let two : s ≡ state = cc in one ∙ two in
+    let both : Some e ≡ Some s = sym last ∙ stands.1 in
+    let one : e ≡ s = cc in
+    let two : s ≡ state = cc in one ∙ two in
     let where_at : at ≡ gate = cc in
     let shut = begins_with 16 stands.0.gate (drop gate image) stands.0.rest stands.0.begins in
     let P : Stored → Type 0 = λ z. StoreAt tag image z at in
@@ -74,9 +76,9 @@ found_from tag image before gate reading (ReadsFrom.ends _ _ s stands) (e ∷ ol
 found_from tag image before gate reading (ReadsFrom.breaks _ _ at' stands) entries bytes place chain last state at is = cc
 found_from tag image before gate reading (ReadsFrom.goes _ _ e _ stands more) entries bytes place chain last state at is =
     let behind : drop gate image ≡ (1 ∷ spelled e) ++ drop (gate + 17) image =
-        sym (take-append-drop 17 (drop gate image)) ∙ ap (λ (b : List ℕ). b ++ drop 17 (drop gate image)) stands.0.begins ∙ ap (λ (b : List ℕ). (1 ∷ spelled e) ++ b) (drop-drop 17 gate image) in
+    sym (take-append-drop 17 (drop gate image)) ∙ ap (λ (b : List ℕ). b ++ drop 17 (drop gate image)) stands.0.begins ∙ ap (λ (b : List ℕ). (1 ∷ spelled e) ++ b) (drop-drop 17 gate image) in
     let longer : image ≡ front tag (e ∷ entries) ++ drop (gate + 17) image =
-        bytes ∙ ap (λ (b : List ℕ). front tag entries ++ b) behind ∙ sym (append_assoc (front tag entries) (1 ∷ spelled e) (drop (gate + 17) image)) in
+    bytes ∙ ap (λ (b : List ℕ). front tag entries ++ b) behind ∙ sym (append_assoc (front tag entries) (1 ∷ spelled e) (drop (gate + 17) image)) in
     let further : gate + 17 ≡ length (front tag (e ∷ entries)) = omega (arith, place, length-append (front tag entries) (1 ∷ spelled e)) in
     let fine : wrong_field (head_of entries) e ≡ None = rw (← last) stands.1 in
     found_from tag image (Some e) (gate + 17) reading more (e ∷ entries) longer further (chained entries e fine chain) refl state at is
@@ -93,11 +95,12 @@ whole_prefix [] ys all = refl
 whole_prefix (x ∷ xs) [] all = absurd (omega arith)
 whole_prefix (x ∷ xs) (y ∷ ys) all =
     elim (Rattle.std.proofs.lemmas.Bool.cases_Bool (eqb x y)) [
-    inl equal ↦
-      let same : x ≡ y = eqb-true x y equal in
-      let more : length xs ≤ common_prefix_len nat_eq xs ys = let h : suc (length xs) ≤ 1 + common_prefix_len nat_eq xs ys = rw equal at all in omega arith in
-      rw same (ap (λ (b : List ℕ). y ∷ b) (whole_prefix xs ys more))
-    | inr other ↦ let h : suc (length xs) ≤ 0 = rw other at all in absurd (omega arith) ]
+      | inl equal ↦
+          let same : x ≡ y = eqb-true x y equal in
+          let more : length xs ≤ common_prefix_len nat_eq xs ys = let h : suc (length xs) ≤ 1 + common_prefix_len nat_eq xs ys = rw equal at all in omega arith in
+          rw same (ap (λ (b : List ℕ). y ∷ b) (whole_prefix xs ys more))
+      | inr other ↦ let h : suc (length xs) ≤ 0 = rw other at all in absurd (omega arith)
+    ]
 
 self_prefix : (xs more : List ℕ) → common_prefix_len nat_eq xs (xs ++ more) ≡ length xs
 self_prefix [] more = refl
@@ -145,12 +148,12 @@ back tag image (e ∷ older) rest reading size chain bytes reads =
     let further : length (front tag (e ∷ older)) ≡ length before + 17 = length-append before (1 ∷ spelled e) in
     let P : ℕ → Type 0 = λ at. ReadsFrom image (Some e) at reading in
     back tag image older ((1 ∷ spelled e) ++ rest) reading size chain.2 shape
-        (ReadsFrom.goes (head_of older) (length before) e reading (here, not_wrong older e entry chain.1) (subst P further reads))
+    (ReadsFrom.goes (head_of older) (length before) e reading (here, not_wrong older e entry chain.1) (subst P further reads))
 
 fault_free : (tag more : List ℕ) → length tag ≡ 32 → head_fault tag (codes "FFSTORE1" ++ tag) ≡ None
 fault_free tag more size =
     let same : common_prefix_len nat_eq tag tag ≡ 32 =
-        let whole = self_prefix tag [] in rw (Rattle.std.proofs.lemmas.List.append-nil tag) at whole ∙ size in
+    let whole = self_prefix tag [] in rw (Rattle.std.proofs.lemmas.List.append-nil tag) at whole ∙ size in
     let long : length (codes "FFSTORE1" ++ tag) ≡ 40 = omega (arith, size, length-append (codes "FFSTORE1") tag) in
     let a : nat_lt (length (codes "FFSTORE1" ++ tag)) 40 ≡ false = le-ltb _ _ (omega arith) in
     let b : nat_lt (common_prefix_len nat_eq tag tag) 32 ≡ false = le-ltb _ _ (omega arith) in
@@ -170,8 +173,8 @@ store_found tag image state gate size store =
     let before = front tag entries in
     let begins = front_of tag entries (store.shut ∷ store.rest) in
     let head : take 40 image ≡ front tag [] =
-        let whole : image ≡ front tag [] ++ begins.0 = store.bytes ∙ begins.1 in
-        rw whole (take_at (front tag []) begins.0 40 (sym (front_size tag size))) in
+    let whole : image ≡ front tag [] ++ begins.0 = store.bytes ∙ begins.1 in
+    rw whole (take_at (front tag []) begins.0 40 (sym (front_size tag size))) in
     let fine : head_fault tag (take 40 image) ≡ None = rw head (fault_free tag [] size) in
     let cut : drop (length before) image ≡ store.shut ∷ store.rest = rw store.bytes (drop_at before (store.shut ∷ store.rest) (length before) refl) in
     let closed : IsClosed (window image (length before)) = record { gate = store.shut; rest = take 16 store.rest; begins = rw cut refl; closed = store.closed } in

@@ -33,8 +33,9 @@ closed_open bytes rest closed is = closed.closed (ap (λ (b : List ℕ). get_or 
 closed_cut : (bytes : List ℕ) → IsClosed bytes → IsCut bytes → ⊥
 closed_cut bytes closed cut =
     elim cut.gate_open [
-    inl none ↦ let sizes = ap length (sym none ∙ closed.begins) in omega (arith, sizes)
-    | inr more ↦ closed_open bytes more.0 closed more.1 ]
+      | inl none ↦ let sizes = ap length (sym none ∙ closed.begins) in omega (arith, sizes)
+      | inr more ↦ closed_open bytes more.0 closed more.1
+    ]
 
 cut_entry : (bytes : List ℕ) (e : Stored) → IsCut bytes → IsOpenEntry bytes e → ⊥
 cut_entry bytes e cut entry = let size : length bytes ≡ 17 = ap length entry.begins in omega (arith, cut.short)

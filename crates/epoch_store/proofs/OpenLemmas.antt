@@ -73,7 +73,7 @@ pub entries_read : (tag : List ℕ) (moments : List Moment) (result : Result Sto
 entries_read tag [] result head entries = tt
 entries_read tag (now ∷ past) result head entries =
     on_read result (EntriesAnswer now.image result) (AnswersAs tag now.image result)
-        (λ found. answers tag now.image result found.0 (fine tag now.image found.0 head found.1) found.2) entries
+    (λ found. answers tag now.image result found.0 (fine tag now.image found.0 head found.1) found.2) entries
 
 finds_at : (tag image : List ℕ) (store : StoreState) → length tag ≡ 32 → head_fault tag (take 40 image) ≡ None → (reading : Reading) → ReadsFrom image None 40 reading → Ok store ≡ answer_of image reading → StoreAt tag image store.state store.gate
 finds_at tag image store size head (Finds state gate) reads is =
@@ -126,13 +126,15 @@ made_store tag bytes mask [] b size small spell empty settles = rw settles tt
 made_store tag bytes mask (was ∷ older) [] size small spell empty settles = absurd settles
 made_store tag bytes mask (was ∷ older) (now ∷ past) size small spell empty settles =
     let whole : now ≡ settled (made tag (first_entry mask)) = settles ∙ ap settled (written_first bytes was.image empty ∙ spell) in
-    let image : now.image ≡ made tag (first_entry mask) = ap (λ (m : Moment). m.image) whole in
-    (whole ∙ ap settled (sym image), record {
-      older = [];
-      shut = 0;
-      rest = [];
-      chain = (record { next_small = omega arith; epoch_small = omega arith; mask_small = small }, tt, tt);
-      closed = λ one. omega (arith, one);
-      bytes = image;
-      place = omega (arith, size, Rattle.std.proofs.Common.length-append (Rattle.std.proofs.Common.codes "FFSTORE1") tag, Rattle.std.proofs.Common.length-append (front tag []) (1 ∷ Rattle.epoch_store.specs.Store.spelled (first_entry mask)));
-    })
+    let image : now.image ≡ made tag (first_entry mask) = ap (λ (m : Moment). m.image) whole in (
+      whole ∙ ap settled (sym image),
+      record {
+        older = [];
+        shut = 0;
+        rest = [];
+        chain = (record { next_small = omega arith; epoch_small = omega arith; mask_small = small }, tt, tt);
+        closed = λ one. omega (arith, one);
+        bytes = image;
+        place = omega (arith, size, Rattle.std.proofs.Common.length-append (Rattle.std.proofs.Common.codes "FFSTORE1") tag, Rattle.std.proofs.Common.length-append (front tag []) (1 ∷ Rattle.epoch_store.specs.Store.spelled (first_entry mask)));
+      },
+    )

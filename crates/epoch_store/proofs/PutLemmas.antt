@@ -18,10 +18,10 @@ while_entry tag state next gate count [] newer at fails = untold _ newer fails
 while_entry tag state next gate count (now ∷ past) newer at fails =
     let torn = torn_at (gate + 1) count in
     Since-weaken (IsAmong (torn now)) (LeavesEither tag state next) (now ∷ past) newer
-        (λ m among c leaves.
-            let P : Moment → Type 0 = λ was. Leaves (torn was) c in
-            inl (gate, behind_gate tag now.image c state gate count at.1 (subst P at.0 (among c leaves))))
-        fails
+    (λ m among c leaves.
+    let P : Moment → Type 0 = λ was. Leaves (torn was) c in
+    inl (gate, behind_gate tag now.image c state gate count at.1 (subst P at.0 (among c leaves))))
+    fails
 
 -- while the gate is being opened
 pub while_gate : (tag bytes : List ℕ) (state next : Stored) (gate : ℕ) (older middle newer : List Moment) → IsEntry next → Follows state next → bytes ≡ spelled next ++ 0 ∷ [] → IsSettled tag state gate older → SettlesAs (written (gate + 1) bytes) older middle → Fails (torn_at gate 1) middle newer → Since (LeavesEither tag state next) middle newer
@@ -33,10 +33,10 @@ while_gate tag bytes state next gate (was ∷ past) (now ∷ later) newer entry 
     let shape = with_entry tag was.image bytes state next gate at.1 spell in
     let torn = torn_at gate 1 in
     Since-weaken (IsAmong (torn now)) (LeavesEither tag state next) (now ∷ later) newer
-        (λ m among c leaves.
-            let P : Moment → Type 0 = λ moment. Leaves (torn moment) c in
-            at_gate tag was.image (written (gate + 1) bytes was.image) c shape.0 state next gate at.1 entry follows shape.1 (subst P full (among c leaves)))
-        fails
+    (λ m among c leaves.
+    let P : Moment → Type 0 = λ moment. Leaves (torn moment) c in
+    at_gate tag was.image (written (gate + 1) bytes was.image) c shape.0 state next gate at.1 entry follows shape.1 (subst P full (among c leaves)))
+    fails
 
 -- once the gate is open
 pub after_gate : (tag bytes : List ℕ) (state next : Stored) (gate : ℕ) (older middle newer : List Moment) → IsEntry next → Follows state next → bytes ≡ spelled next ++ 0 ∷ [] → IsSettled tag state gate older → SettlesAs (written (gate + 1) bytes) older middle → SettlesAs (written gate (1 ∷ [])) middle newer → IsSettled tag next (gate + 17) newer

@@ -56,9 +56,12 @@ pub gate_broken : (moments : List Moment) (before : Option Stored) (gate n at : 
 gate_broken [] before gate n at filled bytes byte is size reads stands shown = tt
 gate_broken (now ∷ past) before gate n at filled bytes byte is size reads stands shown =
     let whole : bytes ≡ window now.image gate = is ∙ reads ∙ ap (λ (k : ℕ). take k (drop gate now.image)) size in
-    let P : List ℕ → Type 0 = λ b. Stands before b (Err at) in
-    (at, subst P whole stands, refl,
-        shown ∙ ap (λ (b : List ℕ). slice_get b at) whole ∙ slice_get-take 17 at (drop gate now.image) (broken_small before bytes at stands) ∙ slice_get-drop gate at now.image)
+    let P : List ℕ → Type 0 = λ b. Stands before b (Err at) in (
+      at,
+      subst P whole stands,
+      refl,
+      shown ∙ ap (λ (b : List ℕ). slice_get b at) whole ∙ slice_get-take 17 at (drop gate now.image) (broken_small before bytes at stands) ∙ slice_get-drop gate at now.image,
+    )
 
 -- the reading from a gate on is the reading of all
 abbrev pub Continues : List Moment → Option Stored → ℕ → Type 0

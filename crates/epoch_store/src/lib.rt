@@ -263,6 +263,13 @@ impl Store {
         self.state
     }
 
+    /// Whether a put has failed.
+    pub fn has_failed(&self) -> bool
+        ensures { result ≡ self.now.failed }
+    {
+        self.failed
+    }
+
     /// Puts another state in place of the one that is kept, by a write, a sync, a write and a sync. At each
     /// moment of the call a crash leaves a store of the old state or of the new one, and after `Ok` one of
     /// the new one. After `Fault`, the one error, the store must be opened again.

@@ -43,8 +43,9 @@ cut owed was between now status.OutOfMemory stood t = absurd (none_shorter _ t.f
 counts : (owed : Owed BadWord) (was between now : Standing) (first s : Status) → Stands owed was between first → Tells first between now s → Counts was now s
 counts owed was between now first s stood tells =
     elim tells [
-        inl t ↦ subst (Counts was now) (sym t.0) (told owed was between now first stood t.1)
-      | inr t ↦ subst (Counts was now) (sym t.0) (cut owed was between now first stood t.1) ]
+      | inl t ↦ subst (Counts was now) (sym t.0) (told owed was between now first stood t.1)
+      | inr t ↦ subst (Counts was now) (sym t.0) (cut owed was between now first stood t.1)
+    ]
 
 never_usage : (owed : Owed BadWord) (was between : Standing) (first : Status) → Stands owed was between first → first ≢ status.Usage
 never_usage owed was between first stood is = subst (Stands owed was between) is stood
@@ -62,6 +63,7 @@ concluded owed was between now r first s ran is tells =
       ends = record { first = first; between = between; stands = stood; tells = tells };
       counts = counts owed was between now first s stood tells;
       command = λ usage. elim tells [
-          inl t ↦ never_usage owed was between first stood (sym t.0 ∙ usage)
-        | inr t ↦ let same : status.WriteFault ≡ status.Usage = sym t.0 ∙ usage in cc ];
+        | inl t ↦ never_usage owed was between first stood (sym t.0 ∙ usage)
+        | inr t ↦ let same : status.WriteFault ≡ status.Usage = sym t.0 ∙ usage in cc
+      ];
     }

@@ -56,25 +56,29 @@ fed-only line fed = ap seen (sym (append-nil line)) ∙ (whole-one line fed).fir
 last-only : (line : List ℕ) (left : Option (List ℕ)) → IsLast (Some line) left → seen line ≡ line ∷ []
 last-only line left is =
     elim is [
-        inl fed ↦ fed-only line fed
+      | inl fed ↦ fed-only line fed
       | inr other ↦ elim other [
-            inl cut ↦ unfed-only line cut.clear (omega (arith, cut.long)) (omega (arith, cut.long))
-          | inr rest ↦ unfed-only line rest.rest.clear rest.some (omega (arith, rest.rest.short)) ] ]
+        | inl cut ↦ unfed-only line cut.clear (omega (arith, cut.long)) (omega (arith, cut.long))
+        | inr rest ↦ unfed-only line rest.rest.clear rest.some (omega (arith, rest.rest.short))
+      ]
+    ]
 
 -- how many lines are seen of no more than a line
 upto-one : (part : List ℕ) → IsUpToLine part → length (seen part) ≤ 1
 upto-one [] is = lit≤ tt
 upto-one (b ∷ part) is =
     elim is [
-        inl clear ↦ let one = ap length (unfed-only (b ∷ part) clear.0 (omega arith) clear.1) in omega (arith, one)
-      | inr fed ↦ let one = ap length (fed-only (b ∷ part) fed) in omega (arith, one) ]
+      | inl clear ↦ let one = ap length (unfed-only (b ∷ part) clear.0 (omega arith) clear.1) in omega (arith, one)
+      | inr fed ↦ let one = ap length (fed-only (b ∷ part) fed) in omega (arith, one)
+    ]
 
 upto-last : (last left : Option (List ℕ)) → IsLast last left → IsUpToLine (bytes_of last)
 upto-last None left is = inl (refl, lit≤ tt)
 upto-last (Some line) left is =
     elim is [
-        inl fed ↦ inr fed
-      | inr other ↦ elim other [ inl cut ↦ inl (cut.clear, omega (arith, cut.long)) | inr rest ↦ inl (rest.rest.clear, omega (arith, rest.rest.short)) ] ]
+      | inl fed ↦ inr fed
+      | inr other ↦ elim other [ inl cut ↦ inl (cut.clear, omega (arith, cut.long)) | inr rest ↦ inl (rest.rest.clear, omega (arith, rest.rest.short)) ]
+    ]
 
 few-lines : (lines : List (List ℕ)) (bytes part : List ℕ) → Lines room lines bytes → IsUpToLine part → length (seen (bytes ++ part)) ≤ room + 1
 few-lines lines bytes part taken is =
@@ -103,10 +107,12 @@ refused owed lines bytes text refusal (Some line) left whole is refuses =
 begins : (line rest : List ℕ) → IsLast (Some line) (Some rest) → IsNext line (seen (line ++ rest))
 begins line rest is =
     elim is [
-        inl fed ↦ fed-next line rest fed
+      | inl fed ↦ fed-next line rest fed
       | inr other ↦ elim other [
-            inl cut ↦ cut-next line rest cut
-          | inr end ↦ record { others = []; same = ap (λ (behind : List ℕ). seen (line ++ behind)) end.rest.used_up ∙ ap seen (append-nil line) ∙ last-only line (Some rest) (inr (inr end)) } ] ]
+        | inl cut ↦ cut-next line rest cut
+        | inr end ↦ record { others = []; same = ap (λ (behind : List ℕ). seen (line ++ behind)) end.rest.used_up ∙ ap seen (append-nil line) ∙ last-only line (Some rest) (inr (inr end)) }
+      ]
+    ]
 
 -- the trace of a text that a line refuses is known, whatever stands behind the line
 refused-all : (owed : Owed BadWord) (lines : List (List ℕ)) (bytes text rest : List ℕ) (refusal : BadWord) (last : Option (List ℕ))
@@ -118,7 +124,7 @@ refused-all owed lines bytes text rest refusal None whole is refuses =
 refused-all owed lines bytes text rest refusal (Some line) whole is refuses =
     let next = begins line rest is in
     let same : seen ((bytes ++ line) ++ rest) ≡ lines ++ line ∷ next.others =
-        ap seen (append_assoc bytes line rest) ∙ whole.first (line ++ rest) ∙ ap (λ (x : List (List ℕ)). lines ++ x) next.same in
+    ap seen (append_assoc bytes line rest) ∙ whole.first (line ++ rest) ∙ ap (λ (x : List (List ℕ)). lines ++ x) next.same in
     rw same (refuses owed refl next.others)
 
 refused-told : (owed : Owed BadWord) (lines : List (List ℕ)) (bytes text : List ℕ) (refusal : BadWord) (last before after : Option (List ℕ))
@@ -304,5 +310,6 @@ traced owed was now s ends =
     let none : Kept owed f.bytes f.rest f.text was.left ends.between.left (owed (seen f.bytes)).cause status.WriteFault = record { number = tt; whole = tt; cause = tt; exact = tt; early = tt } in
     let P : Status → Type 0 = Kept owed f.bytes f.rest f.text was.left ends.between.left (owed (seen f.bytes)).cause in
     elim ends.tells [
-        inl t ↦ ended owed was ends.between now ends.first s (cause_line ends.first) t.1.left t.1.line f (subst P (sym t.0) known)
-      | inr t ↦ ended owed was ends.between now ends.first s (take t.1.front.count (cause_line ends.first)) t.1.left t.1.front.gained f (subst P (sym t.0) none) ]
+      | inl t ↦ ended owed was ends.between now ends.first s (cause_line ends.first) t.1.left t.1.line f (subst P (sym t.0) known)
+      | inr t ↦ ended owed was ends.between now ends.first s (take t.1.front.count (cause_line ends.first)) t.1.left t.1.front.gained f (subst P (sym t.0) none)
+    ]

@@ -24,7 +24,9 @@ fn run_words<S: Source + Drop, O: Sink>(
         (standing (S.left input) (O.taken out.old) (S.faults input) (O.faults out.old)) (O.taken out.new) (O.faults out.new) result }
 {
     let (mut disk, mut link, mut clock) = (Absent::new(), Absent::new(), NoClock);
-    run(alloc, words, &mut input, out, &mut disk, &mut link, &mut clock)
+    run(
+        alloc, words, &mut input, out, &mut disk, &mut link, &mut clock,
+    )
 }
 
 /// Runs the command of the words from the source to the sink. Where the words were not read, or there is no source,

@@ -1,5 +1,5 @@
 use super::*;
-use ff_ids::{AccBody, Epoch, Mask, NoteBody, RingNo};
+use ff_ids::{AccBody, Epoch, Fault, Mask, NoteBody, RingNo};
 use std::test::Fail;
 
 fn at(moment: u64, what: What) -> Event {
@@ -82,8 +82,7 @@ fn writes_each_fault(rt: HostRuntime) -> Result<(), Fail> {
         write_verdict(&Verdict::Refused(*fault), &mut out)?;
         out.push(b',')?;
     }
-    let texts =
-        "refused already-member,refused unknown-member,refused bad-mask,refused known,\
+    let texts = "refused already-member,refused unknown-member,refused bad-mask,refused known,\
 refused older 5 31,refused self-accusation,refused bad-ring,refused no-note,refused other-epoch 5,\
 refused not-in-view,refused ring-disabled,refused not-monitor 20,refused not-monitor none,\
 refused standing,refused bad-signature,refused own-ahead 5 7 9 3,\

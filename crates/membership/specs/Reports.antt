@@ -3,6 +3,8 @@ use Rattle.std.specs.Prelude.{◌≡◌, ◌≤◌, ℕ, List, Option, Some, Non
 use Rattle.ff_ids.specs.declared.AccBody.{AccBody}
 use Rattle.ff_ids.specs.declared.Fault.{Fault}
 use Rattle.std.specs.Option.{option_map}
+use Rattle.ff_ids.specs.declared.TheConstants.{MEMBERS}
+use Rattle.membership.specs.declared.report.TheConstants.{ACCUSATIONS}
 use Rattle.removal_timer.specs.Kept.{entry_at}
 
 -- The answer is the fault, or Ok where there is none.
@@ -12,10 +14,10 @@ Answers (Some fault) answer = answer ≡ Err fault
 
 -- There is room for every report, whatever it is.
 pub record HasRoom (expired removed entered fell : ℕ) : Type 0 where
-  pub all_expired : 31744 ≤ expired
-  pub all_removed : 31744 ≤ removed
-  pub all_entered : 1024 ≤ entered
-  pub all_fell : 31744 ≤ fell
+  pub all_expired : ACCUSATIONS ≤ expired
+  pub all_removed : ACCUSATIONS ≤ removed
+  pub all_entered : MEMBERS ≤ entered
+  pub all_fell : ACCUSATIONS ≤ fell
 
 -- The accusation kept against the member on the ring, if there is one.
 abbrev pub kept_against : List (AccBody × ℕ) → ℕ → ℕ → Option AccBody

@@ -4,6 +4,7 @@ ghost use Rattle.std.specs.Prelude.{◌≡◌, ℕ, ◌<◌, ◌≤◌, ◌+◌,
 ghost use Rattle.std.specs.Option.{option_map_or};
 ghost use Rattle.ff_ids.specs.Masks.{ring_count};
 ghost use Rattle.ff_ids.specs.Views.{is_unanswered_by as note_leaves};
+ghost use Rattle.membership.specs.declared.report.TheConstants.{ACCUSATIONS};
 ghost use Rattle.membership.specs.Ends.{Entry, Ends, HasEnded, next_of, answered_on, is_on, is_named, is_of, is_of_any, with_fallen};
 ghost use Rattle.removal_timer.specs.Kept.{is_at, entry_at, IsInOrder};
 
@@ -62,12 +63,12 @@ impl Membership {
 
     /// Ends what is kept against the member on the ring.
     fn end_at(&mut self, accused: MemberId, ring: RingNo, out: &mut Changes)
-        requires { length out.old.fell + length self.old.kept ≤ 31744 }
+        requires { length out.old.fell + length self.old.kept ≤ ACCUSATIONS }
         ensures kept { self.new
             ≡ record self.old { kept = filter (λ p. not (is_at accused ring.0 p)) self.old.kept } }
         ensures fell { out.new
             ≡ record out.old { fell = option_map_or (λ p. with_fallen p.0 out.old.fell) (entry_at accused ring.0 self.old.kept) out.old.fell } }
-        ensures room { length out.new.fell + length self.new.kept ≤ 31744 }
+        ensures room { length out.new.fell + length self.new.kept ≤ ACCUSATIONS }
     {
         if let Some((acc, _since)) = self.timers.standing(accused, ring) {
             self.timers.clear(accused, ring);
@@ -77,11 +78,11 @@ impl Membership {
 
     /// Ends what is kept on the ring against the member, if there is one.
     fn end_on(&mut self, accused: Option<MemberId>, ring: RingNo, out: &mut Changes)
-        requires { length out.old.fell + length self.old.kept ≤ 31744 }
+        requires { length out.old.fell + length self.old.kept ≤ ACCUSATIONS }
         ensures ends { Ends (ring_count self.old.group.t) (is_on accused ring.0) self.old.kept out.old.fell self.new.kept out.new.fell }
         ensures rest { self.new ≡ record self.old { kept = self.new.kept } }
         ensures report { out.new ≡ record out.old { fell = out.new.fell } }
-        ensures room { length out.new.fell + length self.new.kept ≤ 31744 }
+        ensures room { length out.new.fell + length self.new.kept ≤ ACCUSATIONS }
     {
         if let Some(member) = accused {
             self.end_at(member, ring, out);
@@ -90,11 +91,11 @@ impl Membership {
 
     /// Ends what is kept on each ring against the member that is named for it.
     pub(crate) fn end_named(&mut self, named: &[Option<MemberId>; 31], out: &mut Changes)
-        requires { length out.old.fell + length self.old.kept ≤ 31744 }
+        requires { length out.old.fell + length self.old.kept ≤ ACCUSATIONS }
         ensures ends { Ends (ring_count self.old.group.t) (is_named named.now) self.old.kept out.old.fell self.new.kept out.new.fell }
         ensures rest { self.new ≡ record self.old { kept = self.new.kept } }
         ensures report { out.new ≡ record out.old { fell = out.new.fell } }
-        ensures room { length out.new.fell + length self.new.kept ≤ 31744 }
+        ensures room { length out.new.fell + length self.new.kept ≤ ACCUSATIONS }
     {
         for ring in 0..2 * self.group.t + 1 {
             self.end_on(named[ring as usize], RingNo(ring), out);
@@ -103,11 +104,11 @@ impl Membership {
 
     /// Ends what is kept against the member, and against its successors.
     fn end_of(&mut self, member: MemberId, out: &mut Changes)
-        requires { length out.old.fell + length self.old.kept ≤ 31744 }
+        requires { length out.old.fell + length self.old.kept ≤ ACCUSATIONS }
         ensures ends { Ends (ring_count self.old.group.t) (is_of self.old member) self.old.kept out.old.fell self.new.kept out.new.fell }
         ensures rest { self.new ≡ record self.old { kept = self.new.kept } }
         ensures report { out.new ≡ record out.old { fell = out.new.fell } }
-        ensures room { length out.new.fell + length self.new.kept ≤ 31744 }
+        ensures room { length out.new.fell + length self.new.kept ≤ ACCUSATIONS }
     {
         let next = self.next_after(member);
         self.end_named(&[Some(member); 31], out);
@@ -117,7 +118,7 @@ impl Membership {
     /// Ends what is kept against the members that the expired accusations take out, and against their successors.
     /// Where nothing is kept no ring is looked at.
     pub(crate) fn end_of_expired(&mut self, out: &mut Changes)
-        requires room { length self.old.kept ≤ 31744 }
+        requires room { length self.old.kept ≤ ACCUSATIONS }
         requires empty { out.old.fell ≡ [] }
         requires in_order { IsInOrder (ring_count self.old.group.t) self.old.kept }
         ensures kept { self.new

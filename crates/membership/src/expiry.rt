@@ -5,6 +5,7 @@ ghost use Rattle.std.specs.FinMap.{get};
 ghost use Rattle.ff_ids.specs.Masks.{ring_count};
 ghost use Rattle.ff_ids.specs.Steps.{is_due};
 ghost use Rattle.removal_timer.specs.Kept.{IsInOrder};
+ghost use Rattle.membership.specs.declared.report.TheConstants.{ACCUSATIONS};
 ghost use Rattle.membership.specs.Kept.{expired_at, takes_out as acc_takes_out, raise as raise_by, raised, leavers};
 
 use crate::Membership;
@@ -21,7 +22,7 @@ impl Membership {
             ≡ record self.old { moment = self.old.moment + 1; kept = filter (λ p. not (is_due self.old.group.timeout (self.old.moment + 1) p)) self.old.kept } }
         ensures expired { out.new
             ≡ record out.old { expired = map (λ p. p.0) (filter (is_due self.old.group.timeout (self.old.moment + 1)) self.old.kept) } }
-        ensures few { length out.new.expired + length self.new.kept ≤ 31744 }
+        ensures few { length out.new.expired + length self.new.kept ≤ ACCUSATIONS }
         ensures in_order { IsInOrder (ring_count self.old.group.t) self.old.kept }
         ensures noted { (m : ℕ) → get self.old.places m ≡ None → get self.old.notes m ≡ None }
     {
@@ -32,7 +33,7 @@ impl Membership {
     /// Counts the reported accusations as expired, and reports the members that they take out of the view.
     pub(crate) fn expire_all(&mut self, out: &mut Changes)
         requires empty { out.old.removed ≡ [] }
-        requires few { length out.old.expired ≤ 31744 }
+        requires few { length out.old.expired ≤ ACCUSATIONS }
         ensures kept { self.new ≡ record self.old { expired = raised self.old.expired out.old.expired } }
         ensures removed { out.new
             ≡ record out.old { removed = leavers self.old.notes self.old.expired out.old.expired } }

@@ -6,6 +6,7 @@
 ghost use Rattle.std.specs.Prelude.{◌≡◌, ℕ, ◌<◌, ◌≤◌, ◌+◌, ◌-◌, ◌*◌, ◌^◌, true, not, [], Option, None, Some, length, if◌then◌else◌, map, filter, slice_index_or, IfOk, OnOk, OnErr};
 ghost use Rattle.std.specs.Ordering.{nat_cmp};
 ghost use Rattle.std.specs.FinMap.{get, insert, empty};
+ghost use Rattle.ff_ids.specs.declared.TheConstants.{MEMBERS};
 ghost use Rattle.ff_ids.specs.Masks.{ring_count};
 ghost use Rattle.ff_ids.specs.Notes.{newest};
 ghost use Rattle.ff_ids.specs.Views.{State, view, is_member as member_of_state, in_view as in_view_of, monitor as monitor_of, successor as successor_of};
@@ -306,7 +307,7 @@ impl Membership {
         ensures value { result ≡ is_newcomer self.old note.now }
         ensures kept { self.new ≡ with_note self.old note.now }
         ensures positive { 0 < note.now.epoch }
-        ensures range { note.now.member < 1024 }
+        ensures range { note.now.member < MEMBERS }
         ensures in_order { IsInOrder (ring_count self.old.group.t) self.old.kept }
         ensures few { ring_count self.old.group.t ≤ 31 }
     {

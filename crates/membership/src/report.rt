@@ -12,7 +12,7 @@ use std::alloc::Global;
 use std::marker::Model;
 
 /// How many accusations can be kept: one for each member and ring.
-const ACCUSATIONS: usize = 31 * MEMBERS as usize;
+pub const ACCUSATIONS: usize = 31 * MEMBERS as usize;
 
 /// What one step reports. Contracts see the four lists.
 #[derive(Drop)]
@@ -99,7 +99,7 @@ impl Changes {
 
     /// Reports one more member that left.
     pub(crate) fn report_removal(&mut self, member: MemberId)
-        requires { length self.old.removed < 31744 }
+        requires { length self.old.removed < ACCUSATIONS }
         ensures { self.new ≡ record self.old { removed = self.old.removed ++ member ∷ [] } }
     {
         self.removed.push_reserved(member);
@@ -108,7 +108,7 @@ impl Changes {
     /// Takes out of the timers what is due at the moment, and reports it as expired.
     pub(crate) fn take_due(&mut self, timers: &mut Timers, moment: u64)
         requires empty { self.old.expired ≡ [] }
-        requires few { length timers.old.entries ≤ 31744 }
+        requires few { length timers.old.entries ≤ ACCUSATIONS }
         ensures expired { self.new
             ≡ record self.old { expired = map (λ p. p.0) (filter (is_due timers.old.timeout moment) timers.old.entries) } }
         ensures left { timers.new
@@ -119,7 +119,7 @@ impl Changes {
 
     /// Reports one more kept accusation that fell, at its place in the order.
     pub(crate) fn report_fallen(&mut self, acc: &AccBody)
-        requires { length self.old.fell < 31744 }
+        requires { length self.old.fell < ACCUSATIONS }
         ensures { self.new ≡ record self.old { fell = with_fallen acc.now self.old.fell } }
     {
         let place = place_of(&self.fell, acc);

@@ -1,9 +1,9 @@
 -- How one turn of the loop follows those before it.
-use Rattle.std.proofs.Common.{◌≡◌, ℕ, ◌+◌, ◌≤◌, List, [], ◌∷◌, ◌++◌, length, take, Option, Some, None, Result, Ok, Err, Bool, true, false, refl, ap, sym, ◌∙◌, subst, append_assoc, arith, length-append}
+use Rattle.std.proofs.Common.{ℕ, List, [], ◌∷◌, ◌++◌, take, Option, Some, None, refl, ap, sym, ◌∙◌, subst, append_assoc, arith, length-append}
 use Rattle.std.specs.Io.KnownBytes.{Appends, Consumes}
 use Rattle.std.proofs.KnownBytes.{Appends-nil, Appends-trans, Consumes-nil, Consumes-trans}
 use Rattle.ports.specs.Count.{next_count}
-use Rattle.text_trace.specs.Trace.{Owed, Owing, Steps, Waits, Writes, Ends, Refuses}
+use Rattle.text_trace.specs.Trace.{Owed, Owing, Steps, Waits, Writes}
 use Rattle.text_trace.proofs.TraceLemmas.{steps-none, steps-join, ends-join, refuses-join}
 use Rattle.text_trace.proofs.WholeLemmas.{whole-none, whole-join}
 use Rattle.play.specs.declared.stop.Stop.{Stop}

@@ -1,9 +1,9 @@
 -- What is known of less that is owed.
-use Rattle.std.proofs.Common.{◌≡◌, ℕ, List, [], ◌∷◌, ◌++◌, Option, Some, None, Result, Ok, Err}
-use Rattle.text_trace.specs.Trace.{Owed, Steps, Waits, Writes, Ends, Refuses}
+use Rattle.std.proofs.Common.{ℕ, List, ◌++◌, Option, Some, None, Result, Ok, Err}
+use Rattle.text_trace.specs.Trace.{Owed, Refuses}
 use Rattle.play.specs.declared.stop.Stop.{Stop}
 use Rattle.play.specs.declared.stop.Stop.TheVariants as stop
-use Rattle.play.specs.Plays.{Standing, Finished, Refused, Unread, Unwritten, Starved, Follows, Runs}
+use Rattle.play.specs.Plays.{Standing, Follows, Runs}
 
 refuses-less : (C : Type 0) (A B : Owed C → Type 0) (lines : List (List ℕ)) (last : Option (List ℕ)) (text : List ℕ) (c : C) → ((f : Owed C) → B f → A f) → Refuses C A lines last text c → Refuses C B lines last text c
 refuses-less C A B lines (Some line) text c less h = λ f b. h f (less f b)

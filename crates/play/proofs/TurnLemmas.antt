@@ -1,18 +1,17 @@
 -- How one turn of the loop may end.
-use Rattle.std.proofs.Common.{◌≡◌, ℕ, ◌+◌, ◌-◌, ◌<◌, ◌≤◌, ◌⊎◌, inl, inr, true, false, List, [], ◌∷◌, ◌++◌, length, take, Option, Some, None, Result, Ok, Err, refl, ap, sym, ◌∙◌, subst, arith, length-append}
-use Rattle.std.proofs.lemmas.List.{append-nil}
+use Rattle.std.proofs.Common.{◌≡◌, ℕ, ◌+◌, ◌<◌, inl, inr, true, List, [], ◌∷◌, length, Option, Some, None, refl, ap, subst, arith, length-append}
 use Rattle.std.specs.Io.KnownBytes.{Appends, Consumes}
 use Rattle.ports.specs.Contents.{IsUsedUp, TookFront}
 use Rattle.ports.specs.Count.{next_count}
 use Rattle.std.proofs.KnownBytes.{Appends-nil, Consumes-nil}
-use Rattle.text_trace.specs.Lines.{has_no_feed, has_line_feed, AreWhole, IsFed, IsCut}
-use Rattle.text_trace.specs.Trace.{Owed, Owing, Steps, Waits, Writes, Ends, Refuses}
+use Rattle.text_trace.specs.Lines.{has_line_feed, IsFed}
+use Rattle.text_trace.specs.Trace.{Owed, Steps, Waits, Writes, Ends, Refuses}
 use Rattle.text_trace.proofs.TraceLemmas.{steps-none, steps-weaker}
 use Rattle.text_trace.proofs.WholeLemmas.{whole-none, whole-one, feed_apart}
 use Rattle.play.specs.declared.reader.Ending.{Ending}
 use Rattle.play.specs.declared.reader.Ending.TheVariants as ending
-use Rattle.play.specs.Reading.{EndsBy, IsRest, Reads, ReadsPart}
-use Rattle.play.specs.Plays.{Standing, Unfailed, Lines, Went, Finished, Refused, Unread, Unwritten, Starved, IsLast, IsUnended, IsUpToLine, Follows}
+use Rattle.play.specs.Reading.{EndsBy, Reads, ReadsPart}
+use Rattle.play.specs.Plays.{Standing, Unfailed, Lines, Went, Finished, Refused, Unread, Unwritten, Starved, IsLast, IsUpToLine}
 
 no-bytes : (line : List ℕ) → length line ≡ 0 → line ≡ []
 no-bytes [] e = refl

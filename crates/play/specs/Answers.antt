@@ -1,5 +1,5 @@
 -- What a script answers to a line, and to the end of the text.
-use Rattle.std.specs.Prelude.{◌≡◌, ℕ, true, List, [], ◌∷◌, Option, Some, None, Result, Ok, Err}
+use Rattle.std.specs.Prelude.{◌≡◌, ℕ, true, List, [], ◌∷◌, Some, None, Result, Ok, Err}
 use Rattle.text_trace.specs.Lines.{has_line_feed}
 use Rattle.text_trace.specs.Trace.{Owed, Steps, Ends, Refuses}
 use Rattle.play.specs.declared.script.Refusal.{Refusal}

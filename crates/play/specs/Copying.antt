@@ -1,7 +1,7 @@
 -- A script to try the loop with: it writes each line again, and refuses some.
 use Rattle.std.specs.Prelude.{◌≡◌, ℕ, Bool, true, false, ◌-◌, ◌==◌, List, [], ◌∷◌, Option, Some, None, slice_index, codes, if◌then◌else◌}
 use Rattle.std.proofs.Common.{refl, subst, sym}
-use Rattle.text_trace.specs.Lines.{has_line_feed, has_no_feed}
+use Rattle.text_trace.specs.Lines.{has_line_feed}
 use Rattle.text_trace.specs.Trace.{Owed, Trace, Waits, before}
 use Rattle.text_trace.proofs.TraceLemmas.{waits-same}
 use Rattle.text_trace.proofs.WholeLemmas.{unfed}

@@ -56,7 +56,7 @@ Fails-trans (now ∷ past) [] c first second = absurd (none_more now past first.
 Fails-trans (now ∷ past) (m ∷ b) c first second =
     let last = newest_has (IsAmong now) now m past b (among_self now) first in
     Since-trans (IsAmong now) (now ∷ past) (m ∷ b) c first
-        (Since-weaken (IsAmong m) (IsAmong now) (m ∷ b) c (λ x among d leaves. last d (among d leaves)) second)
+    (Since-weaken (IsAmong m) (IsAmong now) (m ∷ b) c (λ x among d leaves. last d (among d leaves)) second)
 
 pub Fails-same : (a b : List Moment) → b ≡ a → Fails stays a b
 Fails-same [] b is = is
@@ -83,5 +83,5 @@ Fails-after_write place bytes (now ∷ past) b c is fails =
     let torn = torn_at place (length bytes) now in
     let then : Since (IsAmong (wrote place bytes now)) (wrote place bytes now ∷ now ∷ past) c = rw is at fails in
     Since-trans (IsAmong torn) (now ∷ past) (wrote place bytes now ∷ now ∷ past) c
-        (record { more = wrote place bytes now ∷ []; grew = refl; each = (wrote_among place bytes now, tt) })
-        (Since-weaken (IsAmong (wrote place bytes now)) (IsAmong torn) (wrote place bytes now ∷ now ∷ past) c (λ m among d leaves. wrote_among place bytes now d (among d leaves)) then)
+    (record { more = wrote place bytes now ∷ []; grew = refl; each = (wrote_among place bytes now, tt) })
+    (Since-weaken (IsAmong (wrote place bytes now)) (IsAmong torn) (wrote place bytes now ∷ now ∷ past) c (λ m among d leaves. wrote_among place bytes now d (among d leaves)) then)

@@ -1,6 +1,6 @@
 -- Reading a record from left to right. A step gives a value and what is left after it, or the place of the fault:
 -- the first byte of the first field that is cut short or breaks its rule.
-use Rattle.std.specs.Prelude.{◌≡◌, ℕ, ◌&&◌, ◌==◌, nat_lt, nat_le, if◌then◌else◌, List, length, take, slice_index, Option, Some, None, Result, Ok, Err, IsOk}
+use Rattle.std.specs.Prelude.{◌≡◌, ℕ, ◌&&◌, ◌==◌, nat_lt, nat_le, if◌then◌else◌, List, length, take, slice_index, Option, Some, None, Result, Ok, Err, IsOk, IsOkAnd}
 use Rattle.std.specs.Int.{Width, w16, w32, w64, byte_len, from_be_bytes}
 use Rattle.fields.specs.Reading.{Reading, advanced}
 use Rattle.ff_ids.specs.declared.NoteBody.{NoteBody}
@@ -119,6 +119,11 @@ record_at r = do
 abbrev pub Reads : {X A : Type 0} → (X → A) → Result X Misread → Reading → Result (A × Reading) ℕ → Type 0
 Reads view (Ok x) later read = read ≡ Ok (view x, later)
 Reads view (Err e) later read = read ≡ Err e.place
+
+-- The step went past what the definition reads, or gave the place of the fault.
+abbrev pub Passes : {A : Type 0} → Result Unit Misread → Reading → Result (A × Reading) ℕ → Type 0
+Passes (Ok done) later read = IsOkAnd read (λ x. x.1 ≡ later)
+Passes (Err e) later read = read ≡ Err e.place
 
 -- The answer is the record that is read next, or the place of the fault. Memory may be wanted for a record alone.
 abbrev pub ReadsRecord : Result Record FormFault → Reading → Result (Record × Reading) ℕ → Type 0

@@ -4,7 +4,7 @@ ghost use Rattle.std.specs.Prelude.{◌≡◌, ℕ, ◌++◌, List, take, length
 ghost use Rattle.fields.specs.Reading.{reading_of};
 ghost use Rattle.records.specs.declared.Record.{Record as Signed};
 ghost use Rattle.records.specs.Spelling.{IsRecord};
-ghost use Rattle.records.specs.Grammar.{Reads, ReadsRecord, GivesRecord, IsGiven, certificate_at, note_at, accusation_at, body_at, signature_at, record_at};
+ghost use Rattle.records.specs.Grammar.{Reads, Passes, ReadsRecord, GivesRecord, IsGiven, certificate_at, note_at, accusation_at, body_at, signature_at, record_at};
 
 use crate::fault::FormFault;
 use crate::steps::{Misread, epoch, key, mask, member, port, ring};
@@ -95,6 +95,17 @@ pub fn next_record(alloc: Global, reader: &mut Reader) -> Result<Record, FormFau
     let signature = signature(reader)?;
     let signature = Bytes::from_vec(Vec::from_slice(alloc, signature)?);
     Ok(Record { body, signature })
+}
+
+/// Goes past the next record. It takes no memory. Where it is refused, the place is counted from the reader's
+/// first byte, and the reader may have moved.
+#[tactic(auto, unfolding(crate::specs::Grammar::record_at))]
+pub fn pass_record(reader: &mut Reader) -> Result<(), Misread>
+    ensures { Passes result reader.new (record_at reader.old) }
+{
+    body(reader)?;
+    signature(reader)?;
+    Ok(())
 }
 
 /// The record at the front of the bytes and how many it takes, or why there is none.

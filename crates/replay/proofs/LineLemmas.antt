@@ -1,5 +1,5 @@
 -- What one line does to what is owed.
-use Rattle.std.proofs.Common.{◌≡◌, ℕ, ◌+◌, ◌-◌, ◌<◌, ◌≤◌, true, false, lt-ltb, List, [], ◌∷◌, ◌++◌, length, Option, Some, None, Result, Ok, Err, refl, ap, sym, ◌∙◌, subst, arith, length-append}
+use Rattle.std.proofs.Common.{◌≡◌, ℕ, ◌+◌, ◌-◌, true, false, lt-ltb, List, [], ◌∷◌, ◌++◌, length, Option, Some, None, Result, Ok, Err, refl, ap, sym, ◌∙◌, arith, length-append}
 use Rattle.std.proofs.lemmas.List.{get_or_at}
 use Rattle.line_text.specs.declared.bad_word.BadWord.{BadWord}
 use Rattle.line_text.specs.declared.bad_word.BadWord.TheVariants as words
@@ -9,9 +9,9 @@ use Rattle.schedule_direct.specs.declared.line.DirectLine.{DirectLine}
 use Rattle.schedule_direct.specs.Grammar as grammar
 use Rattle.schedule_direct.specs.Rows.{is_ended}
 use Rattle.text_trace.specs.Lines.{has_line_feed}
-use Rattle.text_trace.specs.Trace.{Ends, GoesOn, Owed, Owing, Refuses, Steps, Trace, before}
+use Rattle.text_trace.specs.Trace.{Ends, Owed, Refuses, Steps, before}
 use Rattle.trace.specs.Answers.{Recorded, answer, told}
-use Rattle.trace.specs.Walk.{Walk, from_line, played, replayed, trace_in, walk}
+use Rattle.trace.specs.Walk.{from_line, played, replayed, trace_in, walk}
 use Rattle.replay.specs.declared.life.Life.{Life}
 use Rattle.replay.specs.Plays.{IsPlaced, Plays}
 use Rattle.replay.specs.Playing.{Owes}

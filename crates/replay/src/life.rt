@@ -154,7 +154,10 @@ impl Life {
         ensures { (r : Recorded) → PlaysOne self.now r → OnOk result (Tells (answer_in r (DirectLine.Monitor ring member)) self.now text.old.items text.new.items) }
     {
         if self.membership.is_member(member) {
-            add_verdict(text, Verdict::Monitor(self.membership.monitor(ring, member)))?;
+            add_verdict(
+                text,
+                Verdict::Monitor(self.membership.monitor(ring, member)),
+            )?;
         } else {
             add_verdict(text, Verdict::Refused(Fault::UnknownMember))?;
         }
@@ -162,7 +165,12 @@ impl Life {
     }
 
     /// Runs a line below that of the group.
-    fn answer(&mut self, alloc: Global, line: DirectLine, text: &mut Vec<u8>) -> Result<(), NoMemory>
+    fn answer(
+        &mut self,
+        alloc: Global,
+        line: DirectLine,
+        text: &mut Vec<u8>,
+    ) -> Result<(), NoMemory>
         requires { FitsLife self.old line }
         ensures { (r : Recorded) → PlaysOne self.old r → OnOk result (Tells (answer_in r line) self.new text.old.items text.new.items) }
     {

@@ -44,11 +44,7 @@ fn add_event(text: &mut Vec<u8>, moment: u64, what: What) -> Result<(), NoMemory
 }
 
 /// Adds a line for each accusation that expired.
-fn add_expired(
-    text: &mut Vec<u8>,
-    moment: u64,
-    accusations: &[AccBody],
-) -> Result<(), NoMemory>
+fn add_expired(text: &mut Vec<u8>, moment: u64, accusations: &[AccBody]) -> Result<(), NoMemory>
     ensures { OnOk result (text.new.items ≡ text.old.items ++ events_text (map (λ a. record { moment = moment; what = What.Expired a }) accusations.now)) }
 {
     for accusation in accusations {

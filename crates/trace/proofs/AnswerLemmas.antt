@@ -1,9 +1,7 @@
 -- What an accepted note rules out, in a walk.
-use Rattle.std.proofs.Common.{◌≡◌, ℕ, zero, suc, ◌+◌, ◌-◌, ◌<◌, ◌≤◌, ◌⊎◌, inl, inr, Bool, true, false, List, [], ◌∷◌, ◌++◌, length, get_or, map, filter, take, Option, Some, None, refl, ap, sym, ◌∙◌, subst, append_assoc, arith, length-append}
-use Rattle.std.specs.Prelude.{codes, flat_map}
-use Rattle.std.specs.List.{Contains, slice_get}
-use Rattle.std.proofs.lemmas.Bool.{false≢true, cases_lt}
-use Rattle.std.proofs.lemmas.List.{append-nil, take-append-le}
+use Rattle.std.proofs.Common.{◌≡◌, ℕ, zero, suc, ◌<◌, inl, inr, List, [], ◌∷◌, ◌++◌, length, get_or, map, take, Option, Some, None, refl, ap, sym, ◌∙◌, subst, append_assoc, arith, length-append}
+use Rattle.std.specs.Prelude.{codes}
+use Rattle.std.specs.List.{slice_get}
 use Rattle.std.proofs.Math.Seq.{take-append_seam}
 use Rattle.ff_ids.specs.declared.AccBody.{AccBody}
 use Rattle.ff_ids.specs.declared.Fault.{Fault}
@@ -11,7 +9,7 @@ use Rattle.ff_ids.specs.declared.Group.{Group}
 use Rattle.ff_ids.specs.declared.NoteBody.{NoteBody}
 use Rattle.ff_ids.specs.Faults.{accusation_fault, note_fault}
 use Rattle.ff_ids.specs.Lives.{IsAcceptedAt, after, opening, reports, state_at}
-use Rattle.ff_ids.specs.Steps.{Accuses, Event, Joins, Notes, Report, Stepped, Ticks, step}
+use Rattle.ff_ids.specs.Steps.{Accuses, Event, Joins, Notes, Stepped, Ticks, step}
 use Rattle.ff_ids.specs.Views.{State}
 use Rattle.ff_ids.specs.Texts.{fault_text}
 use Rattle.journal.specs.declared.event.Event as reported
@@ -24,7 +22,7 @@ use Rattle.schedule_direct.specs.declared.line.DirectLine.TheVariants as lines
 use Rattle.schedule_direct.specs.Grammar as grammar
 use Rattle.trace.specs.Answers.{Answer, Recorded, answer, answer_in, events_of, places_at, state_of, stepped, tick_events, verdict_on, with_event, with_ticks}
 use Rattle.trace.specs.Replies.{AcceptsAccusation, AcceptsNote, Expires, RuleOut, accepted}
-use Rattle.trace.specs.Walk.{Taken, Walk, walk_over}
+use Rattle.trace.specs.Walk.{Taken, walk_over}
 use Rattle.trace.proofs.ReplyLemmas.{Extends, Later, all-answered, extends-ticks, goes-on-to, some-same}
 
 -- ## Places in lists of events
@@ -144,28 +142,28 @@ step-expires : (st : Stepped) (moment : ℕ) (a : AccBody) → In (events_of st)
 step-expires st moment a i =
     elim (In-append_cases _ (map (λ (b : AccBody). record { moment = st.state.moment; what = what.Fell b }) st.report.fell) (expiry moment a) i) [
       | inr fell ↦
-        let x = In-from_map (λ (b : AccBody). record { moment = st.state.moment; what = what.Fell b }) st.report.fell (expiry moment a) fell in
-        let same : what.Fell x.0 ≡ what.Expired a = ap (λ (e : reported.Event). e.what) x.1.1 in
-        absurd cc
+          let x = In-from_map (λ (b : AccBody). record { moment = st.state.moment; what = what.Fell b }) st.report.fell (expiry moment a) fell in
+          let same : what.Fell x.0 ≡ what.Expired a = ap (λ (e : reported.Event). e.what) x.1.1 in
+          absurd cc
       | inl others ↦
-        elim (In-append_cases _ (map (λ (k : ℕ). record { moment = st.state.moment; what = what.Entered k }) st.report.entered) (expiry moment a) others) [
-          | inr entered ↦
-            let x = In-from_map (λ (k : ℕ). record { moment = st.state.moment; what = what.Entered k }) st.report.entered (expiry moment a) entered in
-            let same : what.Entered x.0 ≡ what.Expired a = ap (λ (e : reported.Event). e.what) x.1.1 in
-            absurd cc
-          | inl first ↦
-            elim (In-append_cases (map (λ (b : AccBody). record { moment = st.state.moment; what = what.Expired b }) st.report.expired) (map (λ (k : ℕ). record { moment = st.state.moment; what = what.Removed k }) st.report.removed) (expiry moment a) first) [
-              | inr removed ↦
-                let x = In-from_map (λ (k : ℕ). record { moment = st.state.moment; what = what.Removed k }) st.report.removed (expiry moment a) removed in
-                let same : what.Removed x.0 ≡ what.Expired a = ap (λ (e : reported.Event). e.what) x.1.1 in
+          elim (In-append_cases _ (map (λ (k : ℕ). record { moment = st.state.moment; what = what.Entered k }) st.report.entered) (expiry moment a) others) [
+            | inr entered ↦
+                let x = In-from_map (λ (k : ℕ). record { moment = st.state.moment; what = what.Entered k }) st.report.entered (expiry moment a) entered in
+                let same : what.Entered x.0 ≡ what.Expired a = ap (λ (e : reported.Event). e.what) x.1.1 in
                 absurd cc
-              | inl expired ↦
-                let x = In-from_map (λ (b : AccBody). record { moment = st.state.moment; what = what.Expired b }) st.report.expired (expiry moment a) expired in
-                let same : what.Expired x.0 ≡ what.Expired a = ap (λ (e : reported.Event). e.what) x.1.1 in
-                let b : x.0 ≡ a = cc in
-                record { expired = subst (In st.report.expired) b x.1.0; at = ap (λ (e : reported.Event). e.moment) x.1.1 }
-            ]
-        ]
+            | inl first ↦
+                elim (In-append_cases (map (λ (b : AccBody). record { moment = st.state.moment; what = what.Expired b }) st.report.expired) (map (λ (k : ℕ). record { moment = st.state.moment; what = what.Removed k }) st.report.removed) (expiry moment a) first) [
+                  | inr removed ↦
+                      let x = In-from_map (λ (k : ℕ). record { moment = st.state.moment; what = what.Removed k }) st.report.removed (expiry moment a) removed in
+                      let same : what.Removed x.0 ≡ what.Expired a = ap (λ (e : reported.Event). e.what) x.1.1 in
+                      absurd cc
+                  | inl expired ↦
+                      let x = In-from_map (λ (b : AccBody). record { moment = st.state.moment; what = what.Expired b }) st.report.expired (expiry moment a) expired in
+                      let same : what.Expired x.0 ≡ what.Expired a = ap (λ (e : reported.Event). e.what) x.1.1 in
+                      let b : x.0 ≡ a = cc in
+                      record { expired = subst (In st.report.expired) b x.1.0; at = ap (λ (e : reported.Event). e.moment) x.1.1 }
+                ]
+          ]
     ]
 
 -- under a line of the life, some step of the life as it stands after so many ticks reports the accusation as expired
@@ -186,8 +184,8 @@ ticks-expire (suc n) r moment a i =
     elim (In-append_cases (tick_events n r) (events_of (stepped (with_ticks n r) Ticks)) (expiry moment a) i) [
       | inl before ↦ ticks-expire n r moment a before
       | inr last ↦
-        let x = step-expires (stepped (with_ticks n r) Ticks) moment a last in
-        record { ticks = n; event = Ticks; expired = x.expired; at = x.at }
+          let x = step-expires (stepped (with_ticks n r) Ticks) moment a last in
+          record { ticks = n; event = Ticks; expired = x.expired; at = x.at }
     ]
 
 line-expires : (r : Recorded) (line : DirectLine) (moment : ℕ) (a : AccBody) → In (answer_in r line).events (expiry moment a) → LineExpires r moment a

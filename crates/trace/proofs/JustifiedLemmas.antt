@@ -1,10 +1,9 @@
 -- Each whole line of what was written that gives a removal is the report of a tick of a life, and rests on an accusation;
 -- and each removal of a life is such a line.
-use Rattle.std.proofs.Common.{◌≡◌, ℕ, zero, suc, ◌+◌, ◌-◌, ◌<◌, ◌≤◌, ◌⊎◌, inl, inr, Bool, true, false, not, eqb, List, [], ◌∷◌, ◌++◌, length, map, take, drop, get_or, Option, Some, None, Result, Ok, Err, refl, ap, sym, ◌∙◌, subst, append_assoc, arith, length-append}
+use Rattle.std.proofs.Common.{◌≡◌, ℕ, zero, suc, ◌+◌, ◌-◌, ◌⊎◌, inl, inr, List, [], ◌∷◌, ◌++◌, length, map, take, drop, get_or, Some, None, refl, ap, sym, ◌∙◌, subst, append_assoc, arith, length-append}
 use Rattle.std.specs.Prelude.{codes, flat_map}
-use Rattle.std.specs.List.{AllByRecursion, Contains, concat, join_with_byte, list_all, slice_get}
+use Rattle.std.specs.List.{AllByRecursion, concat, join_with_byte, slice_get}
 use Rattle.std.specs.Fmt.{decimal}
-use Rattle.std.proofs.lemmas.List.Folds.{concat-append}
 use Rattle.ff_ids.specs.declared.AccBody.{AccBody}
 use Rattle.ff_ids.specs.declared.Group.{Group}
 use Rattle.ff_ids.specs.Lives.{opening, reports, state_at}
@@ -13,17 +12,16 @@ use Rattle.ff_ids.specs.Views.{State}
 use Rattle.journal.specs.declared.event.Event as reported
 use Rattle.journal.specs.declared.event.What.{What}
 use Rattle.journal.specs.declared.event.What.TheVariants as what
-use Rattle.journal.specs.Events.{event_text, what_text}
+use Rattle.journal.specs.Events.{what_text}
 use Rattle.life_laws.proofs.Lists.{In, In-append_cases, In-append_left, In-append_right, In-from_Contains, Contains-from_In, In-from_map}
 use Rattle.schedule_direct.specs.declared.line.DirectLine.{DirectLine}
 use Rattle.schedule_direct.specs.declared.line.DirectLine.TheVariants as lines
 use Rattle.schedule_direct.specs.Grammar as grammar
 use Rattle.schedule_direct.specs.Grammar.{spelled_words}
-use Rattle.text_trace.specs.Lines.{has_no_feed}
 use Rattle.trace.specs.Answers.{Recorded, events_of, verdict_text}
-use Rattle.trace.specs.Lives.{IsJustifiedWalk, IsRemoval, reported_from, reported_in}
-use Rattle.trace.specs.Walk.{Taken, Walk, events_in, lives_in, output_of, replayed, walk_over}
-use Rattle.trace.specs.Written.{IsJustified, IsLineOf, IsReported, IsTold, IsWholeLine, removal_line}
+use Rattle.trace.specs.Lives.{reported_from, reported_in}
+use Rattle.trace.specs.Walk.{Taken, events_in, lives_in, replayed, walk_over}
+use Rattle.trace.specs.Written.{IsJustified, IsLineOf, IsTold, IsWholeLine, removal_line}
 use Rattle.trace.proofs.TextLemmas.{same-fronts, unspaced-decimal}
 use Rattle.trace.proofs.UprightLemmas.{justified-walk}
 use Rattle.trace.proofs.WalkLemmas.{are-of-lives}
@@ -130,13 +128,13 @@ in-pieces (t ∷ taken) line all i =
     elim (In-append_cases (pieces_of t) (pieces taken) line i) [
       | inl (inl told) ↦ inl (t, (all.0, told))
       | inl (inr event) ↦
-        let x = In-from_map event_line t.answer.events line event in
-        inr (x.0, (In-append_left t.answer.events (flat_map (λ t. t.answer.events) taken) x.0 x.1.0, x.1.1))
+          let x = In-from_map event_line t.answer.events line event in
+          inr (x.0, (In-append_left t.answer.events (flat_map (λ t. t.answer.events) taken) x.0 x.1.0, x.1.1))
       | inr later ↦
-        elim (in-pieces taken line all.1 later) [
-          | inl told ↦ inl told
-          | inr event ↦ inr (event.0, (In-append_right t.answer.events (flat_map (λ t. t.answer.events) taken) event.0 event.1.0, event.1.1))
-        ]
+          elim (in-pieces taken line all.1 later) [
+            | inl told ↦ inl told
+            | inr event ↦ inr (event.0, (In-append_right t.answer.events (flat_map (λ t. t.answer.events) taken) event.0 event.1.0, event.1.1))
+          ]
     ]
 
 event-in : (taken : List Taken) (e : reported.Event) → In (flat_map (λ t. t.answer.events) taken) e → In (pieces taken) (event_line e)
@@ -162,11 +160,11 @@ justified-written ls written rest same moment m line =
     elim (in-pieces w.taken (removal_line moment m) all i) [
       | inl told ↦ absurd (no-removal told.0 moment m told.1.0 told.1.1)
       | inr event ↦
-        let e = event.0 in
-        let k = removal-event e moment m event.1.1 in
-        let given : e ≡ record { moment = e.moment; what = what.Removed k.0 } = ap (λ (x : What). record { moment = e.moment; what = x }) k.1 in
-        let there = justified-walk ls e.moment k.0 (Contains-from_In (events_in w) _ (subst (In (events_in w)) given event.1.0)) in
-        record { life = there.0; moment = e.moment; member = k.0; recorded = there.1; spelled = sym event.1.1 ∙ ap event_line given; removal = there.2 }
+          let e = event.0 in
+          let k = removal-event e moment m event.1.1 in
+          let given : e ≡ record { moment = e.moment; what = what.Removed k.0 } = ap (λ (x : What). record { moment = e.moment; what = x }) k.1 in
+          let there = justified-walk ls e.moment k.0 (Contains-from_In (events_in w) _ (subst (In (events_in w)) given event.1.0)) in
+          record { life = there.0; moment = e.moment; member = k.0; recorded = there.1; spelled = sym event.1.1 ∙ ap event_line given; removal = there.2 }
     ]
 
 -- ## Each removal of a life is told

@@ -1,10 +1,8 @@
 -- How the lives of a walk go on, from one line to a later one.
-use Rattle.std.proofs.Common.{◌≡◌, ℕ, zero, suc, ◌+◌, ◌<◌, ◌≤◌, ◌⊎◌, inl, inr, List, [], ◌∷◌, ◌++◌, length, Option, Some, None, Result, Ok, Err, refl, ap, sym, ◌∙◌, subst, append_assoc, arith, length-append}
+use Rattle.std.proofs.Common.{◌≡◌, ℕ, zero, suc, ◌<◌, ◌⊎◌, inl, inr, List, [], ◌∷◌, ◌++◌, Option, Some, Result, Ok, Err, refl, ap, sym, ◌∙◌, subst, append_assoc, arith}
 use Rattle.std.specs.List.{slice_get}
 use Rattle.std.proofs.lemmas.List.{append-nil}
-use Rattle.ff_ids.specs.declared.Group.{Group}
 use Rattle.ff_ids.specs.Steps.{Accuses, Event, Joins, Notes, Ticks}
-use Rattle.ff_ids.specs.Views.{Member}
 use Rattle.line_text.specs.declared.bad_word.BadWord.{BadWord}
 use Rattle.schedule_direct.specs.declared.line.DirectLine.{DirectLine}
 use Rattle.schedule_direct.specs.declared.line.DirectLine.TheVariants as lines

@@ -1,12 +1,9 @@
 -- A worked text, by computation: a member is accused, and removed at the timeout.
 use Rattle.std.proofs.Common.{◌≡◌, ℕ, List, [], ◌∷◌, ◌++◌, length, None, refl}
 use Rattle.std.specs.Prelude.{codes}
-
 use Rattle.ff_ids.specs.Views.{all_numbers}
-use Rattle.journal.specs.declared.event.Event as reported
 use Rattle.journal.specs.declared.event.What.TheVariants as what
 use Rattle.line_text.specs.Frame.{judge}
-
 use Rattle.trace.specs.Answers.{state_of}
 use Rattle.trace.specs.Walk.{events_in, lives_in, replayed, walk_over}
 

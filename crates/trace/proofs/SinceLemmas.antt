@@ -1,5 +1,5 @@
 -- Behind an accepted note, what it answers expires only where it was accepted again.
-use Rattle.std.proofs.Common.{◌≡◌, ℕ, zero, suc, ◌+◌, ◌-◌, ◌<◌, ◌≤◌, ◌⊎◌, inl, inr, Bool, true, false, ◌&&◌, List, [], ◌∷◌, ◌++◌, length, map, filter, take, Option, Some, None, refl, ap, sym, ◌∙◌, subst, append_assoc, arith, length-append}
+use Rattle.std.proofs.Common.{◌≡◌, ℕ, zero, suc, ◌+◌, ◌-◌, ◌<◌, ◌≤◌, ◌⊎◌, inl, inr, true, false, List, [], ◌∷◌, ◌++◌, length, filter, take, Option, Some, None, refl, ap, sym, ◌∙◌, subst, append_assoc, arith, length-append}
 use Rattle.std.specs.List.{slice_get}
 use Rattle.std.specs.Option.{option_map_or}
 use Rattle.std.proofs.lemmas.Bool.{and_parts, cases_Bool, cases_lt, false≢true, leb-true}
@@ -12,7 +12,7 @@ use Rattle.ff_ids.specs.declared.NoteBody.{NoteBody}
 use Rattle.ff_ids.specs.Faults.{accusation_fault, note_fault}
 use Rattle.ff_ids.specs.Lives.{IsAcceptedAt, after, opening, state_at}
 use Rattle.ff_ids.specs.Notes.{newest}
-use Rattle.ff_ids.specs.Steps.{Accuses, Event, Joins, Notes, Stepped, Ticks, after_accusation, after_note, is_due, joined, step, unchanged, unless_fault}
+use Rattle.ff_ids.specs.Steps.{Accuses, Event, Joins, Notes, Ticks, after_accusation, after_note, is_due, step, unchanged, unless_fault}
 use Rattle.ff_ids.specs.Views.{State, is_member, is_unanswered_by, stands}
 use Rattle.life_laws.proofs.AnsweredLemmas.{newest-accepted}
 use Rattle.life_laws.proofs.JustifiedLemmas.{Upheld, sound}
@@ -20,9 +20,9 @@ use Rattle.life_laws.proofs.LifeLemmas.{state_at-next}
 use Rattle.life_laws.proofs.Lists.{In, In-from_filter, In-from_map}
 use Rattle.life_laws.specs.Removals.{IsNoteAcceptedAt}
 use Rattle.trace.specs.Answers.{Recorded, state_of, stepped, with_event, with_ticks}
-use Rattle.trace.specs.Replies.{AcceptedSince, AcceptsNote, EndsAcceptance, Expires}
+use Rattle.trace.specs.Replies.{AcceptedSince, EndsAcceptance}
 use Rattle.trace.specs.Walk.{walk_over}
-use Rattle.trace.proofs.AnswerLemmas.{LineExpires, Noted, behind-note, expires-there, noted-before, noted-more, noted-place, state-place}
+use Rattle.trace.proofs.AnswerLemmas.{Noted, behind-note, expires-there, noted-before, noted-more, noted-place, state-place}
 use Rattle.trace.proofs.ReplyLemmas.{extends-ticks}
 
 -- ## Ticks
@@ -115,10 +115,10 @@ behind g s events i j n q less note about answered u =
           elim (cases_lt u.place i) [
             | inr same ↦ let is : u.place ≡ i = omega (arith, same, before) in other-event events i q.0 n (subst (λ (k : ℕ). slice_get events k ≡ Some (Accuses q.0)) is u.accepted_there.event) note.event
             | inl earlier ↦
-              let stood = u.stood (i + 1) (omega (arith, earlier)) (omega arith) in
-              let next = state_at-next g s events i (Notes n) note.event in
-              let still = stood-unanswered g (state_at g s events i) n q.0 note.no_fault about (rw next at stood) in
-              false≢true (sym answered ∙ still)
+                let stood = u.stood (i + 1) (omega (arith, earlier)) (omega arith) in
+                let next = state_at-next g s events i (Notes n) note.event in
+                let still = stood-unanswered g (state_at g s events i) n q.0 note.no_fault about (rw next at stood) in
+                false≢true (sym answered ∙ still)
           ])
     ]
 

@@ -1,7 +1,7 @@
 -- Each removal that a walk reports is a removal of one of its lives, and each removal of a life rests on an accusation.
-use Rattle.std.proofs.Common.{◌≡◌, ℕ, zero, suc, ◌+◌, ◌<◌, ◌⊎◌, inl, inr, Bool, true, false, not, List, [], ◌∷◌, ◌++◌, length, map, Option, Some, None, refl, ap, sym, ◌∙◌, subst, cond, arith}
+use Rattle.std.proofs.Common.{◌≡◌, ℕ, suc, inl, inr, Bool, true, false, not, List, [], ◌∷◌, map, Option, Some, None, refl, ap, ◌∙◌, subst, cond}
 use Rattle.std.specs.Prelude.{flat_map}
-use Rattle.std.specs.List.{Contains, slice_get}
+use Rattle.std.specs.List.{slice_get}
 use Rattle.std.proofs.lemmas.Bool.{not-true}
 use Rattle.std.proofs.lemmas.Option.{slice_get_within}
 use Rattle.ff_ids.specs.declared.AccBody.{AccBody}
@@ -9,17 +9,16 @@ use Rattle.ff_ids.specs.declared.Fault.{Fault}
 use Rattle.ff_ids.specs.declared.Group.{Group}
 use Rattle.ff_ids.specs.Faults.{accusation_fault, note_fault}
 use Rattle.ff_ids.specs.Lives.{IsRemovedAt, opening, reports, state_at}
-use Rattle.ff_ids.specs.Steps.{Accuses, Event, Joins, Notes, Report, Stepped, Ticks, after_accusation, after_note, after_tick, joined, only_before, step, unchanged, unless_fault}
+use Rattle.ff_ids.specs.Steps.{Accuses, Event, Joins, Notes, Stepped, Ticks, after_accusation, after_note, after_tick, joined, only_before, step, unchanged, unless_fault}
 use Rattle.ff_ids.specs.Views.{State, all_numbers, in_view, is_member}
 use Rattle.journal.specs.declared.event.Event as reported
-use Rattle.journal.specs.declared.event.What.{What}
 use Rattle.journal.specs.declared.event.What.TheVariants as what
 use Rattle.life_laws.proofs.JustifiedLemmas.{justified}
 use Rattle.life_laws.proofs.LifeLemmas.{state_at-next}
 use Rattle.life_laws.proofs.Lists.{In, In-append_cases, In-from_Contains, Contains-from_In, In-from_filter, In-from_map}
 use Rattle.trace.specs.Answers.{Recorded, events_of}
 use Rattle.trace.specs.Lives.{IsJustifiedWalk, IsRemoval, reported_from, reported_in}
-use Rattle.trace.specs.Walk.{Walk, events_in, lives_in, walk_over}
+use Rattle.trace.specs.Walk.{events_in, lives_in, walk_over}
 use Rattle.trace.proofs.WalkLemmas.{are-of-lives}
 
 -- ## Who left the view in a step
@@ -92,14 +91,14 @@ removes st moment m i =
     elim (In-append_cases _ (map (λ (a : AccBody). record { moment = st.state.moment; what = what.Fell a }) st.report.fell) (removal moment m) i) [
       | inr fell ↦ removes-fell st moment m fell
       | inl others ↦
-        elim (In-append_cases _ (map (λ (k : ℕ). record { moment = st.state.moment; what = what.Entered k }) st.report.entered) (removal moment m) others) [
-          | inr entered ↦ removes-entered st moment m entered
-          | inl first ↦
-            elim (In-append_cases (map (λ (a : AccBody). record { moment = st.state.moment; what = what.Expired a }) st.report.expired) (map (λ (k : ℕ). record { moment = st.state.moment; what = what.Removed k }) st.report.removed) (removal moment m) first) [
-              | inl expired ↦ removes-expired st moment m expired
-              | inr removed ↦ removes-removed st moment m removed
-            ]
-        ]
+          elim (In-append_cases _ (map (λ (k : ℕ). record { moment = st.state.moment; what = what.Entered k }) st.report.entered) (removal moment m) others) [
+            | inr entered ↦ removes-entered st moment m entered
+            | inl first ↦
+                elim (In-append_cases (map (λ (a : AccBody). record { moment = st.state.moment; what = what.Expired a }) st.report.expired) (map (λ (k : ℕ). record { moment = st.state.moment; what = what.Removed k }) st.report.removed) (removal moment m) first) [
+                  | inl expired ↦ removes-expired st moment m expired
+                  | inr removed ↦ removes-removed st moment m removed
+                ]
+          ]
     ]
 
 -- ## The removals of a life
@@ -118,8 +117,8 @@ removed-at g s (e ∷ events) moment m i =
     elim (In-append_cases (events_of (step g s e)) (reported_from g (step g s e).state events) (removal moment m) i) [
       | inl here ↦ record { place = 0; event = e; is = refl; removes_there = removes (step g s e) moment m here; reported_there = refl }
       | inr later ↦
-        let r = removed-at g (step g s e).state events moment m later in
-        record { place = suc r.place; event = r.event; is = r.is; removes_there = r.removes_there; reported_there = r.reported_there }
+          let r = removed-at g (step g s e).state events moment m later in
+          record { place = suc r.place; event = r.event; is = r.is; removes_there = r.removes_there; reported_there = r.reported_there }
     ]
 
 pub removal-rests : (r : Recorded) (moment m : ℕ) → In (reported_in r) (removal moment m) → IsRemoval r moment m

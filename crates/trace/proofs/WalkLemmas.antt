@@ -14,9 +14,9 @@ use Rattle.schedule_direct.specs.declared.line.DirectLine.TheVariants as lines
 use Rattle.line_text.specs.Answers.{Progress}
 use Rattle.schedule_direct.specs.declared.direct.Direct.{Direct}
 use Rattle.schedule_direct.specs.Grammar as grammar
-use Rattle.trace.specs.Answers.{Answer, Recorded, answer, answer_in, events_of, places_at, state_of, stepped, tick_events, with_event, with_ticks}
+use Rattle.trace.specs.Answers.{Recorded, answer, events_of, places_at, state_of, stepped, tick_events, with_event, with_ticks}
 use Rattle.trace.specs.Lives.{AreOfLives, reported_from, reported_in}
-use Rattle.trace.specs.Walk.{Taken, Walk, events_in, from_line, left_behind, lives_in, onto, walk, walk_over}
+use Rattle.trace.specs.Walk.{Taken, Walk, events_in, from_line, left_behind, lives_in, walk, walk_over}
 
 -- what one more event reports comes last
 reported-push : (g : Group) (s : State) (events : List Event) (e : Event) → reported_from g s (events ++ e ∷ []) ≡ reported_from g s events ++ events_of (step g (after g s events) e)

@@ -1,16 +1,16 @@
 -- What is written is whole lines: one for each line that is taken, and one for each event.
-use Rattle.std.proofs.Common.{◌≡◌, ℕ, zero, suc, ◌+◌, ◌-◌, ◌<◌, ◌≤◌, ◌⊎◌, inl, inr, Bool, true, false, cond, not, eqb, List, [], ◌∷◌, ◌++◌, length, map, take, get_or, Option, Some, None, Result, Ok, Err, refl, ap, sym, ◌∙◌, subst, append_assoc, arith, length-append}
+use Rattle.std.proofs.Common.{◌≡◌, ℕ, ◌+◌, ◌-◌, Bool, true, false, cond, List, [], ◌∷◌, ◌++◌, length, map, take, Option, Some, None, Result, Ok, Err, refl, ap, sym, ◌∙◌, subst, append_assoc, arith, length-append}
 use Rattle.std.specs.Prelude.{codes, flat_map}
-use Rattle.std.specs.List.{AllByRecursion, Contains, concat, join_with_byte, list_all, slice_get}
+use Rattle.std.specs.List.{AllByRecursion, concat, join_with_byte}
 use Rattle.std.specs.Fmt.{decimal}
-use Rattle.std.proofs.lemmas.List.{append-nil, take_at}
+use Rattle.std.proofs.lemmas.List.{take_at}
 use Rattle.std.proofs.lemmas.List.Folds.{concat-append}
 use Rattle.ff_ids.specs.declared.AccBody.{AccBody}
 use Rattle.ff_ids.specs.declared.Fault.{Fault}
 use Rattle.ff_ids.specs.declared.Fault.TheVariants as faults
 use Rattle.ff_ids.specs.Faults.{accusation_fault, note_fault}
 use Rattle.ff_ids.specs.Texts.{accusation_text, fault_text, monitor_text}
-use Rattle.ff_ids.specs.Views.{State, is_member, monitor, view}
+use Rattle.ff_ids.specs.Views.{is_member, monitor, view}
 use Rattle.hex.specs.Hex.{encode_lower}
 use Rattle.journal.specs.declared.event.Event as reported
 use Rattle.journal.specs.declared.event.What.{What}
@@ -18,7 +18,6 @@ use Rattle.journal.specs.declared.event.What.TheVariants as what
 use Rattle.journal.specs.Events.{event_text, members_text, what_text}
 use Rattle.line_text.specs.declared.bad_word.BadWord.{BadWord}
 use Rattle.line_text.specs.Answers.{Progress, next_line}
-use Rattle.line_text.specs.Words.{is_word}
 use Rattle.line_text.proofs.FrameLemmas.{judge-spelled}
 use Rattle.schedule_direct.specs.declared.direct.Direct.{Direct}
 use Rattle.schedule_direct.specs.declared.line.DirectLine.{DirectLine}
@@ -28,8 +27,8 @@ use Rattle.schedule_direct.specs.Grammar.{IsDirect, spelled_words}
 use Rattle.schedule_direct.specs.Laws.{direct-spelled}
 use Rattle.schedule_direct.specs.Rows.{is_ended, row_for}
 use Rattle.text_trace.specs.Lines.{has_no_feed}
-use Rattle.trace.specs.Answers.{Answer, Recorded, answer, answer_in, answer_text, events_text, monitor_answer, state_of, told, verdict_on, verdict_on_joining, verdict_text}
-use Rattle.trace.specs.Walk.{Taken, Walk, events_in, from_line, onto, output_of, walk, walk_over}
+use Rattle.trace.specs.Answers.{Answer, Recorded, answer, answer_in, events_text, state_of, told, verdict_on, verdict_on_joining, verdict_text}
+use Rattle.trace.specs.Walk.{Taken, Walk, from_line, output_of, walk}
 use Rattle.trace.specs.Written.{IsWholeLine}
 use Rattle.trace.proofs.TextLemmas.{clear-append, clear-decimal, clear-hex, clear-numbers, clear-words}
 

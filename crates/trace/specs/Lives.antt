@@ -8,7 +8,7 @@ use Rattle.ff_ids.specs.Views.{State}
 use Rattle.journal.specs.declared.event.Event as reported
 use Rattle.journal.specs.declared.event.What.TheVariants as what
 use Rattle.trace.specs.Answers.{Recorded, events_of}
-use Rattle.trace.specs.Walk.{Walk, events_in, lives_in, walk_over}
+use Rattle.trace.specs.Walk.{Walk, events_in, lives_in}
 
 -- What the steps of a life report, one after another.
 abbrev pub reported_from : Group → State → List Event → List reported.Event

@@ -1,10 +1,9 @@
 -- What an accepted note rules out in the walk behind it.
-use Rattle.std.specs.Prelude.{◌≡◌, ◌≢◌, ℕ, ◌+◌, ◌<◌, ◌≤◌, false, List, length, Option, Some, Contains, codes, slice_get}
+use Rattle.std.specs.Prelude.{◌≡◌, ℕ, ◌+◌, ◌<◌, ◌≤◌, false, List, length, Option, Some, Contains, codes, slice_get}
 use Rattle.ff_ids.specs.declared.AccBody.{AccBody}
 use Rattle.ff_ids.specs.declared.NoteBody.{NoteBody}
 use Rattle.ff_ids.specs.Lives.{IsAcceptedAt, opening, state_at}
 use Rattle.ff_ids.specs.Views.{is_unanswered_by}
-use Rattle.journal.specs.declared.event.Event as reported
 use Rattle.journal.specs.declared.event.What.TheVariants as what
 use Rattle.life_laws.specs.Removals.{IsOlderThan}
 use Rattle.schedule_direct.specs.declared.line.DirectLine.TheVariants as lines

@@ -1,2 +1,1 @@
-pub mod CertifiedLemmas
 pub mod TableLemmas

@@ -12,7 +12,7 @@ use Rattle.membership.specs.Life.{Life, has_joined}
 use Rattle.membership.specs.Holds.{Holds}
 use Rattle.records.specs.declared.CertBody.{CertBody}
 use Rattle.validate.specs.Certified.{Certificates, certificate_of, key_of, AreCertified}
-use Rattle.validate.specs.Table.{FirstOf}
+use Rattle.validate.specs.Table.{Decides}
 
 first_test : (b : Bool) (f : Fault) (later : Option Fault) → cond (not b) (Some f) later ≡ None → b ≡ true
 first_test true f later e = refl
@@ -49,9 +49,12 @@ none_isn't_some : (f : Fault) → None ≡ Some f → ⊥
 none_isn't_some f e = absurd cc
 
 -- After a good signature the answer is what comes later.
-pub after_good : (signed : Type 0) (later answer : Option Fault) → FirstOf None signed None None → answer ≡ later → FirstOf None signed later answer
+pub after_good : (signed : Type 0) (later answer : Option Fault) → Decides signed None None → answer ≡ later → Decides signed later answer
 after_good signed later answer good same = (λ _. same, λ bad. absurd (none_isn't_some faults.BadSignature (good.1 bad)))
 
 -- The key of a number whose certificate this is.
 pub key_is : (certificates : Certificates) (m : ℕ) (c : CertBody) → certificate_of certificates m ≡ Some c → key_of certificates m ≡ Some c.key
 key_is certificates m c e = ap (λ o. option_map (λ x. x.key) o) e
+
+pub no_key : (certificates : Certificates) (m : ℕ) → certificate_of certificates m ≡ None → key_of certificates m ≡ None
+no_key certificates m e = ap (λ o. option_map (λ x. x.key) o) e

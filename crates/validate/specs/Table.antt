@@ -16,41 +16,46 @@ use Rattle.records.specs.declared.Body.{Body}
 use Rattle.records.specs.declared.Body.TheVariants.{Certificate, Note, Accusation}
 use Rattle.records.specs.declared.Record.{Record}
 use Rattle.records.specs.Signing.{IsSigned, CheckedRecord}
-use Rattle.validate.specs.Certified.{Certificates, certificate_of, signing_key}
+use Rattle.validate.specs.Certified.{Certificates, certificate_of, key_of}
 
 -- ---- the rows
 
--- The record's signature verifies under this key, in the group. Under no key none does.
-abbrev pub IsSignedBy : Option PublicKey → Group → Record → Type 0
-IsSignedBy (Some key) g r = IsSigned key g.tag g.t r
-IsSignedBy None g r = ⊥
+-- The signature decides: where it is good the answer is what comes after it.
+abbrev pub Decides : Type 0 → Option Fault → Option Fault → Type 0
+Decides signed later answer = (signed → answer ≡ later) × ((signed → ⊥) → answer ≡ Some faults.BadSignature)
 
--- A fault that stands before the signature is the answer. Else the signature decides, and what comes after it
--- is looked at where it is good.
-abbrev pub FirstOf : Option Fault → Type 0 → Option Fault → Option Fault → Type 0
-FirstOf (Some fault) signed later answer = answer ≡ Some fault
-FirstOf None signed later answer = (signed → answer ≡ later) × ((signed → ⊥) → answer ≡ Some faults.BadSignature)
+-- It is to verify under this key, in the group. Who has no certificate, and so no key, is no member.
+abbrev pub DecidesUnder : Option PublicKey → Group → Record → Option Fault → Option Fault → Type 0
+DecidesUnder (Some key) g r later answer = Decides (IsSigned key g.tag g.t r) later answer
+DecidesUnder None g r later answer = answer ≡ Some faults.UnknownMember
+
+-- A fault that stands before the signature is the answer, whatever comes after it.
+abbrev pub FirstOf : Option Fault → Type 0 → Option Fault → Type 0
+FirstOf (Some fault) later answer = answer ≡ Some fault
+FirstOf None later answer = later
 
 -- A certificate: this very one is kept; another one is kept for the number; the signature.
 abbrev pub FirstOfCertificate : Option CertBody → CertBody → Type 0 → Option Fault → Type 0
-FirstOfCertificate (Some kept) c signed answer =
+FirstOfCertificate (Some kept) c later answer =
     (kept ≡ c → answer ≡ Some faults.Known) × ((kept ≡ c → ⊥) → answer ≡ Some (faults.OtherCertificate kept.port (key_bytes kept.key)))
-FirstOfCertificate None c signed answer = FirstOf None signed None answer
+FirstOfCertificate None c later answer = later
 
 -- a note of the observer itself, of which it had a newest one before
 abbrev pub own_ahead : ℕ → Option NoteBody → NoteBody → Option Fault
 own_ahead own newest_note n = if n.member == own then option_map (λ stored. faults.OwnAhead stored n) newest_note else None
 
--- The answer is the first fault of a record with this body, if it has one, by the certificates kept, the state
--- and the observer's own number; signed says that the signature verifies under the key that is to sign the body.
-abbrev pub FirstFaultOf : ℕ → Certificates → State → ℕ → Type 0 → Body → Option Fault → Type 0
-FirstFaultOf t certificates s own signed (Certificate c) answer = FirstOfCertificate (certificate_of certificates c.member) c signed answer
-FirstFaultOf t certificates s own signed (Note n) answer = FirstOf (note_fault t s n) signed (own_ahead own (newest s.notes own) n) answer
-FirstFaultOf t certificates s own signed (Accusation a) answer = FirstOf (accusation_fault t s a) signed None answer
+-- The answer is the record's first fault, if it has one, by the certificates kept, the state and the observer's
+-- own number.
+abbrev pub FirstFaultOf : Group → PublicKey → Certificates → State → ℕ → Record → Body → Option Fault → Type 0
+FirstFaultOf g authority certificates s own r (Certificate c) answer =
+    FirstOfCertificate (certificate_of certificates c.member) c (DecidesUnder (Some authority) g r None answer) answer
+FirstFaultOf g authority certificates s own r (Note n) answer =
+    FirstOf (note_fault g.t s n) (DecidesUnder (key_of certificates n.member) g r (own_ahead own (newest s.notes own) n) answer) answer
+FirstFaultOf g authority certificates s own r (Accusation a) answer =
+    FirstOf (accusation_fault g.t s a) (DecidesUnder (key_of certificates a.accuser) g r None answer) answer
 
 abbrev pub FirstFault : Group → PublicKey → Certificates → State → ℕ → Record → Option Fault → Type 0
-FirstFault g authority certificates s own r answer =
-    FirstFaultOf g.t certificates s own (IsSignedBy (signing_key authority certificates r.body) g r) r.body answer
+FirstFault g authority certificates s own r answer = FirstFaultOf g authority certificates s own r r.body answer
 
 -- ---- what a call gives
 

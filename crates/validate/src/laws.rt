@@ -1,21 +1,19 @@
-//! How those who have joined stay certified. The functions do nothing: what they ensure holds of all lives and
-//! certificates.
+//! Where each who has joined has a certificate, no record without a fault before its signature lacks a key. The
+//! function does nothing: what it ensures holds of all lives, certificates and records.
 
-ghost use Rattle.std.specs.Prelude.{◌≡◌, ℕ, List, IsSome};
-ghost use Rattle.std.specs.FinMap.{insert, empty};
+ghost use Rattle.std.specs.Prelude.{◌≡◌, ℕ, None};
+ghost use Rattle.ff_ids.specs.declared.NoteBody.{NoteBody};
+ghost use Rattle.ff_ids.specs.declared.AccBody.{AccBody};
+ghost use Rattle.ff_ids.specs.Faults.{note_fault, accusation_fault};
+ghost use Rattle.ff_ids.specs.Views.{State};
+ghost use Rattle.membership.specs.Holds.{Holds};
 ghost use Rattle.membership.specs.Life.{Life};
-ghost use Rattle.records.specs.declared.CertBody.{CertBody};
-ghost use Rattle.validate.specs.Certified.{Certificates, certificate_of, AreCertified};
+ghost use Rattle.validate.specs.Certified.{Certificates, AreCertified, certificate_of};
 
-/// Where nobody has joined, all who have are certified.
-pub fn nobody_wants_a_certificate()
-    ensures { (l : Life) (certificates : Certificates) → l.places ≡ empty → AreCertified l certificates }
-{}
-
-/// A certificate is kept, and then its member joins.
-pub fn a_certified_member_joins()
-    ensures certified { (l : Life) (certificates : Certificates) (c : CertBody) → AreCertified l certificates → AreCertified l (insert certificates c.member c) }
-    ensures joins { (l later : Life) (certificates : Certificates) (m : ℕ) (places : List (List ℕ)) → AreCertified l certificates → IsSome (certificate_of certificates m)
-        → later.places ≡ insert l.places m places → AreCertified later certificates }
-    ensures stays { (l later : Life) (certificates : Certificates) → AreCertified l certificates → later.places ≡ l.places → AreCertified later certificates }
+/// Who a note without a fault is of has a certificate, and so has who made an accusation without a fault.
+pub fn authors_are_certified()
+    ensures notes { (l : Life) (s : State) (certificates : Certificates) (t : ℕ) (n : NoteBody) → Holds l s → AreCertified l certificates
+        → note_fault t s n ≡ None → certificate_of certificates n.member ≡ None → ⊥ }
+    ensures accusations { (l : Life) (s : State) (certificates : Certificates) (t : ℕ) (a : AccBody) → Holds l s → AreCertified l certificates
+        → accusation_fault t s a ≡ None → certificate_of certificates a.accuser ≡ None → ⊥ }
 {}

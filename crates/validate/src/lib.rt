@@ -8,6 +8,3 @@ mod table;
 
 pub use roster::Roster;
 pub use table::check;
-
-#[cfg(test)]
-mod tests;

@@ -1,11 +1,11 @@
 //! The ordered table of faults.
 
-ghost use Rattle.std.specs.Prelude.{◌≡◌, IfOk};
+ghost use Rattle.std.specs.Prelude.{◌≡◌, IfOk, None};
 ghost use Rattle.ff_ids.specs.Views.{State};
 ghost use Rattle.membership.specs.Holds.{Holds};
 ghost use Rattle.records.specs.Spelling.{HasPort};
-ghost use Rattle.validate.specs.Certified.{AreCertified, key_of, certificate_of, signing_key};
-ghost use Rattle.validate.specs.Table.{FirstFault, FirstOf, FirstOfCertificate, IsSignedBy, own_ahead, fault_in, IsCheckOf};
+ghost use Rattle.validate.specs.Certified.{key_of, certificate_of, signing_key};
+ghost use Rattle.validate.specs.Table.{FirstFault, FirstOf, FirstOfCertificate, DecidesUnder, own_ahead, fault_in, IsCheckOf};
 ghost use Rattle.ff_ids.specs.Notes.{newest};
 ghost use Rattle.ff_ids.specs.Faults.{note_fault, accusation_fault};
 
@@ -19,7 +19,7 @@ use records::{Body, CertBody, Checked, Record};
 fn check_signature(group: &Group, key: &PublicKey, rec: Record) -> Result<Checked, Fault>
     requires { HasPort rec.body }
     ensures checked { IfOk result (IsCheckOf group.now (Some key.now) rec) }
-    ensures fault { FirstOf None (IsSignedBy (Some key.now) group.now rec) None (fault_in result) }
+    ensures fault { DecidesUnder (Some key.now) group.now rec None (fault_in result) }
 {
     match Checked::new(group, key, rec) {
         Ok(checked) => Ok(checked),
@@ -28,16 +28,14 @@ fn check_signature(group: &Group, key: &PublicKey, rec: Record) -> Result<Checke
 }
 
 /// Why the certificate is refused by what is kept for its number.
-fn certificate_fault(roster: &Roster, cert: &CertBody) -> Result<(), Fault>
-    ensures { FirstOfCertificate (certificate_of roster.now cert.now.member) cert.now (Unit {0}) (fault_in result) }
+fn certificate_fault(roster: &Roster, cert: &CertBody) -> Option<Fault>
+    ensures { FirstOfCertificate (certificate_of roster.now cert.now.member) cert.now (result ≡ None) result }
 {
-    let Some(kept) = roster.get(cert.member) else {
-        return Ok(());
-    };
+    let kept = roster.get(cert.member)?;
     if kept == cert {
-        return Err(Fault::Known);
+        return Some(Fault::Known);
     }
-    Err(Fault::OtherCertificate {
+    Some(Fault::OtherCertificate {
         port: kept.port,
         key: kept.key.write(),
     })
@@ -66,9 +64,11 @@ fn check_certificate(
 ) -> Result<Checked, Fault>
     requires { HasPort rec.body }
     ensures checked { IfOk result (IsCheckOf group.now (Some authority.now) rec) }
-    ensures fault { FirstOfCertificate (certificate_of roster.now cert.now.member) cert.now (IsSignedBy (Some authority.now) group.now rec) (fault_in result) }
+    ensures fault { FirstOfCertificate (certificate_of roster.now cert.now.member) cert.now (DecidesUnder (Some authority.now) group.now rec None (fault_in result)) (fault_in result) }
 {
-    certificate_fault(roster, cert)?;
+    if let Some(fault) = certificate_fault(roster, cert) {
+        return Err(fault);
+    }
     check_signature(group, authority, rec)
 }
 
@@ -81,10 +81,9 @@ fn check_note(
     rec: Record,
 ) -> Result<Checked, Fault>
     requires group { membership.now.group ≡ group.now }
-    requires members { AreCertified membership.now roster.now }
     requires port { HasPort rec.body }
     ensures checked { IfOk result (IsCheckOf group.now (key_of roster.now note.now.member) rec) }
-    ensures fault { (s : State) → Holds membership.now s → FirstOf (note_fault group.now.t s note.now) (IsSignedBy (key_of roster.now note.now.member) group.now rec) (own_ahead own (newest s.notes own) note.now) (fault_in result) }
+    ensures fault { (s : State) → Holds membership.now s → FirstOf (note_fault group.now.t s note.now) (DecidesUnder (key_of roster.now note.now.member) group.now rec (own_ahead own (newest s.notes own) note.now) (fault_in result)) (fault_in result) }
 {
     if let Some(fault) = membership.note_fault(note) {
         return Err(fault);
@@ -107,10 +106,9 @@ fn check_accusation(
     rec: Record,
 ) -> Result<Checked, Fault>
     requires group { membership.now.group ≡ group.now }
-    requires members { AreCertified membership.now roster.now }
     requires port { HasPort rec.body }
     ensures checked { IfOk result (IsCheckOf group.now (key_of roster.now acc.now.accuser) rec) }
-    ensures fault { (s : State) → Holds membership.now s → FirstOf (accusation_fault group.now.t s acc.now) (IsSignedBy (key_of roster.now acc.now.accuser) group.now rec) None (fault_in result) }
+    ensures fault { (s : State) → Holds membership.now s → FirstOf (accusation_fault group.now.t s acc.now) (DecidesUnder (key_of roster.now acc.now.accuser) group.now rec None (fault_in result)) (fault_in result) }
 {
     if let Some(fault) = membership.accusation_fault(acc) {
         return Err(fault);
@@ -133,7 +131,6 @@ pub fn check(
     rec: Record,
 ) -> Result<Checked, Fault>
     requires group { membership.now.group ≡ group.now }
-    requires members { AreCertified membership.now roster.now }
     requires port { HasPort rec.body }
     ensures checked { IfOk result (IsCheckOf group.now (signing_key authority.now roster.now rec.body) rec) }
     ensures fault { (s : State) → Holds membership.now s → FirstFault group.now authority.now roster.now s own rec (fault_in result) }

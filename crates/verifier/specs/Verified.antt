@@ -48,7 +48,7 @@ pub record IsAnswered (was now : Standing) : Type 0 where
 -- What a run brings: the answer; or nothing, but where a write failed.
 abbrev pub Brings : Standing → Standing → Result (Unit {0}) (Stop BadWord) → Type 0
 Brings was now (Ok _) = IsAnswered was now
-Brings was now (Err (stop.Refused line word)) = Appends was.taken now.taken []
+Brings was now (Err (stop.Refused line w)) = Appends was.taken now.taken []
 Brings was now (Err stop.ReadFault) = Appends was.taken now.taken []
 Brings was now (Err stop.WriteFault) = Unit {0}
 Brings was now (Err stop.OutOfMemory) = Appends was.taken now.taken []

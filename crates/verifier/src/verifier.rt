@@ -2,7 +2,7 @@
 
 ghost use Rattle.std.specs.Prelude.{◌≡◌, ◌-◌};
 ghost use Rattle.text_trace.specs.Trace.{Owed};
-ghost use Rattle.verifier.specs.Answered.{answered};
+ghost use Rattle.verifier.specs.Answered.{answered, refusal_of};
 
 use line_text::{BadWord, LineFault, Reader};
 use play::{Refusal, Script};
@@ -30,6 +30,16 @@ impl Verifier {
     }
 }
 
+/// The refusal for a line that wasn't read: its bad word, or want of memory.
+fn refusal(fault: LineFault) -> Refusal<BadWord>
+    ensures { result ≡ refusal_of fault }
+{
+    match fault {
+        LineFault::Bad(word) => Refusal::Refused(word),
+        LineFault::OutOfMemory => Refusal::OutOfMemory,
+    }
+}
+
 impl Script for Verifier {
     ghost use Rattle.verifier.specs.Laws.{answered-waits};
 
@@ -51,8 +61,7 @@ impl Script for Verifier {
                 self.asked = asked.after(line);
                 Ok(())
             }
-            Err(LineFault::Bad(word)) => Err(Refusal::Refused(word)),
-            Err(LineFault::OutOfMemory) => Err(Refusal::OutOfMemory),
+            Err(fault) => Err(refusal(fault)),
         }
     }
 

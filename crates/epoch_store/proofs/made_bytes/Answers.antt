@@ -8,4 +8,4 @@ joined m t s = sym (append_assoc (m ++ t ++ 1 ∷ []) s (0 ∷ [])) ∙ ap (λ (
 pub returns : goal.returns
 returns c =
     rw (c.put_piece-4.ensures, c.put_piece-3.ensures, c.put_piece-2.ensures, c.put_piece.ensures, c.new-bytes.ensures, c.entry_bytes.ensures)
-        (joined (codes "FFSTORE1") c.args.tag.now (spelled c.args.first))
+    (joined (codes "FFSTORE1") c.args.tag.now (spelled c.args.first))

@@ -18,4 +18,4 @@ returns-clause-store g c =
     let none : c.in_ok-len.len ≤ 0 = omega arith in
     let empty : HasLength (g.D.Disk.moments c.len.new.self) 0 = rw c.in_ok-len.ensures.same (measured (g.D.Disk.moments c.open_file.new.disk) c.in_ok-len.len c.in_ok-len.ensures.value none) in
     made_store c.args.tag.now c.as_slice.result.now c.args.mask (g.D.Disk.moments c.len.new.self) (g.D.Disk.moments c.write_synced.new.disk) size c.requires
-        (c.as_slice.ensures.value ∙ c.made_bytes-bytes.ensures) empty c.in_ok-write_synced.ensures.stores
+    (c.as_slice.ensures.value ∙ c.made_bytes-bytes.ensures) empty c.in_ok-write_synced.ensures.stores

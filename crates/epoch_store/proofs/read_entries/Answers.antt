@@ -5,7 +5,7 @@ use Rattle.epoch_store.proofs.read_entries.Goals as goal
 pub returns-in-Ok-Shut-clause-reads : goal.returns-in-Ok-Shut-clause-reads
 returns-in-Ok-Shut-clause-reads g c =
     ends_shut (g.D.Disk.moments c.args.disk.now) c.loop-state.before c.loop-state.gate c.in-Ok-Shut.state c.loop-state.invariant.so_far
-        (rw (c.in-Ok-Shut.field-0-is, c.loop-state.invariant.told) at c.in-Ok-Shut.ensures.reads)
+    (rw (c.in-Ok-Shut.field-0-is, c.loop-state.invariant.told) at c.in-Ok-Shut.ensures.reads)
 
 pub loop-state-preserved : goal.loop-state-preserved
 loop-state-preserved g c =
@@ -15,7 +15,7 @@ loop-state-preserved g c =
       faults = c.in-Ok-Entry.ensures.faults ∙ c.loop-state.invariant.faults;
       so_far =
           goes_on (g.D.Disk.moments c.args.disk.now) c.loop-state.before c.loop-state.gate c.in-Ok-Entry.entry c.loop-state.invariant.so_far
-              (rw (c.in-Ok-Entry.field-0-is, c.loop-state.invariant.told) at c.in-Ok-Entry.ensures.reads);
+          (rw (c.in-Ok-Entry.field-0-is, c.loop-state.invariant.told) at c.in-Ok-Entry.ensures.reads);
       place = placed_next c.loop-state.before c.loop-state.gate c.in-Ok-Entry.entry c.loop-state.invariant.place found.0 found.1;
     }
 

@@ -26,4 +26,4 @@ returns-clause-any_moment g c =
     let synced = g.D.Disk.moments c.sync.new.self in
     let last = g.D.Disk.moments c.read_store.new.disk in
     Fails-trans first opened last (opened_stays first opened c.open_file.result c.open_file.ensures.opens)
-        (Fails-trans opened synced last (Settles-fails opened synced (g.met.D.Disk.image_left c.open_file.new.disk) c.in_ok-sync.ensures.settles) c.read_store.ensures.stays)
+    (Fails-trans opened synced last (Settles-fails opened synced (g.met.D.Disk.image_left c.open_file.new.disk) c.in_ok-sync.ensures.settles) c.read_store.ensures.stays)

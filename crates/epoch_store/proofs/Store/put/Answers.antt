@@ -18,8 +18,8 @@ returns-in_err-write_synced-2-clause-any_moment g c = λ tag at.
     let middle = g.D.Disk.moments c.write_synced.new.disk in
     let last = g.D.Disk.moments c.write_synced-2.new.disk in
     Since-trans _ first middle last
-        (while_entry tag state c.args.next place _ first middle at (rw gate at c.write_synced.ensures.tears))
-        (while_gate tag c.entry_bytes.result state c.args.next place first middle last c.requires.entry c.requires.follows c.entry_bytes.ensures at (rw gate at c.in_ok-write_synced.ensures.stores) (rw gate at c.write_synced-2.ensures.tears))
+    (while_entry tag state c.args.next place _ first middle at (rw gate at c.write_synced.ensures.tears))
+    (while_gate tag c.entry_bytes.result state c.args.next place first middle last c.requires.entry c.requires.follows c.entry_bytes.ensures at (rw gate at c.in_ok-write_synced.ensures.stores) (rw gate at c.write_synced-2.ensures.tears))
 
 pub returns-clause-any_moment : goal.returns-clause-any_moment
 returns-clause-any_moment g c = λ tag at.
@@ -30,8 +30,8 @@ returns-clause-any_moment g c = λ tag at.
     let middle = g.D.Disk.moments c.write_synced.new.disk in
     let last = g.D.Disk.moments c.write_synced-2.new.disk in
     Since-trans _ first middle last
-        (while_entry tag state c.args.next place _ first middle at (rw gate at c.write_synced.ensures.tears))
-        (while_gate tag c.entry_bytes.result state c.args.next place first middle last c.requires.entry c.requires.follows c.entry_bytes.ensures at (rw gate at c.in_ok-write_synced.ensures.stores) (rw gate at c.write_synced-2.ensures.tears))
+    (while_entry tag state c.args.next place _ first middle at (rw gate at c.write_synced.ensures.tears))
+    (while_gate tag c.entry_bytes.result state c.args.next place first middle last c.requires.entry c.requires.follows c.entry_bytes.ensures at (rw gate at c.in_ok-write_synced.ensures.stores) (rw gate at c.write_synced-2.ensures.tears))
 
 pub returns-clause-settled : goal.returns-clause-settled
 returns-clause-settled g c = λ tag at.

@@ -17,13 +17,14 @@ none_past a b place at =
 pub returns-then-place-b : goal.returns-then-place-b
 returns-then-place-b c =
     elim c.then-place-b.branch [
-    then-place-b-via-then-place-b w ↦
-      let none = none_past c.args.a.now c.args.b.now c.loop-place.place (omega arith) in
-      omega (arith, c.loop-place.invariant.so_far, none)
-    | then-place-b-via-else-place-b+then-b-place w ↦
-      let in_a : c.loop-place.place < length c.args.a.now = omega arith in
-      let in_b : c.loop-place.place < length c.args.b.now = omega arith in
-      let other : nat_eq (get_or c.args.a.now c.loop-place.place 0) (get_or c.args.b.now c.loop-place.place 0) ≡ false =
+      | then-place-b-via-then-place-b w ↦
+          let none = none_past c.args.a.now c.args.b.now c.loop-place.place (omega arith) in
+          omega (arith, c.loop-place.invariant.so_far, none)
+      | then-place-b-via-else-place-b+then-b-place w ↦
+          let in_a : c.loop-place.place < length c.args.a.now = omega arith in
+          let in_b : c.loop-place.place < length c.args.b.now = omega arith in
+          let other : nat_eq (get_or c.args.a.now c.loop-place.place 0) (get_or c.args.b.now c.loop-place.place 0) ≡ false =
           ne_eqb _ _ (λ same. w.if-b-place.true (sym same)) in
-      let none = common_prefix_len-drop_no nat_eq c.args.a.now c.args.b.now c.loop-place.place 0 0 in_a in_b other in
-      omega (arith, c.loop-place.invariant.so_far, none) ]
+          let none = common_prefix_len-drop_no nat_eq c.args.a.now c.args.b.now c.loop-place.place 0 0 in_a in_b other in
+          omega (arith, c.loop-place.invariant.so_far, none)
+    ]

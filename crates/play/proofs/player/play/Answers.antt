@@ -1,6 +1,5 @@
-use Rattle.std.proofs.Common.{◌≡◌, refl, ap, sym, ◌∙◌, rules, arith}
+use Rattle.std.proofs.Common.{rules, arith}
 use Rattle.std.proofs.lemmas.Result.{err_from_is_err_and}
-use Rattle.play.specs.Plays.{standing}
 use Rattle.play.proofs.TurnLemmas.{starved-first}
 use Rattle.play.proofs.JoinLemmas.{went-none, went-join, owing-later, finished-join, stops-join}
 use Rattle.play.proofs.player.play.Goals as goal

@@ -1,8 +1,7 @@
-use Rattle.std.proofs.Common.{◌≡◌, ℕ, List, [], ◌++◌, length, Option, refl, ap, sym, ◌∙◌, subst, rules, arith}
+use Rattle.std.proofs.Common.{ℕ, List, refl, subst, rules}
 use Rattle.std.specs.Io.KnownBytes.{Appends}
 use Rattle.std.proofs.KnownBytes.{Appends-nil}
 use Rattle.ports.specs.Contents.{TookFront}
-use Rattle.play.specs.Plays.{Standing, standing}
 use Rattle.play.proofs.TurnLemmas.{went-one, finished-here, refused-line, refused-end, unread-here, unwritten-line, unwritten-end, starved-here}
 use Rattle.play.proofs.player.turn.Goals as goal
 

@@ -1,4 +1,4 @@
-use Rattle.std.proofs.Common.{◌≡◌, ◌++◌, map, List}
+use Rattle.std.proofs.Common.{map, List}
 use Rattle.std.proofs.lemmas.Result.{on_ok_weaker}
 use Rattle.journal.specs.declared.event.Event as reported
 use Rattle.journal.specs.declared.event.What.TheVariants as what
@@ -15,5 +15,5 @@ returns c =
     let fell : List reported.Event = map (λ a. record { moment = moment; what = what.Fell a }) report.fell in
     on_ok_weaker c.add_fell.result
     (λ text. report-text c.args.text.now.items c.add_expired.new.text.items c.add_removed.new.text.items c.add_entered.new.text.items c.add_fell.new.text.items expired removed entered fell
-        (rw c.expired.ensures at c.in_ok-add_expired.ensures) (rw c.removed.ensures at c.in_ok-add_removed.ensures) (rw c.entered.ensures at c.in_ok-add_entered.ensures) (rw c.fell.ensures at text))
+    (rw c.expired.ensures at c.in_ok-add_expired.ensures) (rw c.removed.ensures at c.in_ok-add_removed.ensures) (rw c.entered.ensures at c.in_ok-add_entered.ensures) (rw c.fell.ensures at text))
     c.add_fell.ensures

@@ -1,16 +1,17 @@
-use Rattle.std.proofs.Common.{◌≡◌, Some, None, refl, sym, ap, subst, ◌∙◌}
+use Rattle.std.proofs.Common.{◌≡◌, Some, None, refl, sym, ap, ◌∙◌}
 use Rattle.std.specs.Option.{option_copied}
 use Rattle.ff_ids.specs.declared.Group.{Group}
 use Rattle.ff_ids.specs.Faults.{accusation_fault}
-use Rattle.validate.specs.Certified.{certificate_of, key_of}
-use Rattle.validate.specs.Table.{FirstOf, IsSignedBy, fault_in}
-use Rattle.validate.proofs.TableLemmas.{accuser_certified, key_is}
+use Rattle.validate.specs.Certified.{certificate_of}
+use Rattle.validate.proofs.TableLemmas.{key_is, no_key}
 use Rattle.validate.proofs.table.check_accusation.Goals as goal
 
 pub returns-in_default-get-clause-fault : goal.returns-in_default-get-clause-fault
 returns-in_default-get-clause-fault c = λ s h.
-    let none : certificate_of c.args.roster.now c.args.acc.now.accuser ≡ None = sym c.get.ensures ∙ ap option_copied c.in_default-get.is in
-    absurd (accuser_certified c.args.membership.now s c.args.roster.now c.args.membership.now.group.t c.args.acc.now h c.requires.members (sym (c.accusation_fault.ensures s h) ∙ c.in_default.is) none)
+    let missing : certificate_of c.args.roster.now c.args.acc.now.accuser ≡ None = sym c.get.ensures ∙ ap option_copied c.in_default-get.is in
+    let key = no_key c.args.roster.now c.args.acc.now.accuser missing in
+    let none = ap (λ (g : Group). accusation_fault g.t s c.args.acc.now) (sym c.requires.group) ∙ sym (c.accusation_fault.ensures s h) ∙ c.in_default.is in
+    rw (none, key) refl
 
 pub returns-clause-fault : goal.returns-clause-fault
 returns-clause-fault c = λ s h.

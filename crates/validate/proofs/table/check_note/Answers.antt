@@ -1,15 +1,17 @@
-use Rattle.std.proofs.Common.{◌≡◌, Some, None, sym, ap, ◌∙◌}
+use Rattle.std.proofs.Common.{◌≡◌, Some, None, refl, sym, ap, ◌∙◌}
 use Rattle.std.specs.Option.{option_copied}
 use Rattle.ff_ids.specs.declared.Group.{Group}
 use Rattle.ff_ids.specs.Faults.{note_fault}
 use Rattle.validate.specs.Certified.{certificate_of}
-use Rattle.validate.proofs.TableLemmas.{note_certified, after_good, key_is}
+use Rattle.validate.proofs.TableLemmas.{after_good, key_is, no_key}
 use Rattle.validate.proofs.table.check_note.Goals as goal
 
 pub returns-in_default-get-clause-fault : goal.returns-in_default-get-clause-fault
 returns-in_default-get-clause-fault c = λ s h.
-    let none : certificate_of c.args.roster.now c.args.note.now.member ≡ None = sym c.get.ensures ∙ ap option_copied c.in_default-get.is in
-    absurd (note_certified c.args.membership.now s c.args.roster.now c.args.membership.now.group.t c.args.note.now h c.requires.members (sym (c.note_fault.ensures s h) ∙ c.in_default.is) none)
+    let missing : certificate_of c.args.roster.now c.args.note.now.member ≡ None = sym c.get.ensures ∙ ap option_copied c.in_default-get.is in
+    let key = no_key c.args.roster.now c.args.note.now.member missing in
+    let none = ap (λ (g : Group). note_fault g.t s c.args.note.now) (sym c.requires.group) ∙ sym (c.note_fault.ensures s h) ∙ c.in_default.is in
+    rw (none, key) refl
 
 pub returns-in-Some-own_note_fault-clause-fault : goal.returns-in-Some-own_note_fault-clause-fault
 returns-in-Some-own_note_fault-clause-fault c = λ s h.

@@ -1,0 +1,2 @@
+pub mod Rebuttals
+pub use Rattle.ff_ids.specs.Masks

@@ -1,0 +1,69 @@
+//! How a member answers an accusation: by a note of a greater epoch that disables the accusation's ring. No call
+//! takes memory.
+#![tactic(auto)]
+
+ghost use Rattle.std.specs.Prelude.{◌≡◌, ℕ, ◌^◌, ◌<◌, ◌≤◌, ◌↔◌, true, false, bit_xor, MatchOption};
+ghost use Rattle.ff_ids.specs.Masks.{ring_count, enables, good_mask as is_good};
+ghost use Rattle.rebuttal.specs.Rebuttals.{IsLowestDisabled, IsEnabledByAnswer, IsAgainst};
+
+use ff_ids::{AccBody, Mask, NoteBody, RingNo, good_mask};
+
+/// The mask with this one ring switched.
+fn switched(mask: Mask, ring: RingNo) -> Mask
+    requires { ring.0 < 32 }
+    ensures { result.0 ≡ bit_xor mask.0 (2 ^ ring.0) }
+{
+    Mask(mask.0 ^ (1 << ring.0))
+}
+
+/// The lowest-numbered of the first rings that the mask disables.
+fn lowest_disabled(mask: Mask, rings: u8) -> Option<RingNo>
+    requires { rings < 32 }
+    ensures { MatchOption result ((r : ℕ) → r < rings → enables mask.0 r ≡ true) (λ r. (r.0 < rings) × IsLowestDisabled mask.0 r.0) }
+{
+    for ring in 0..rings {
+        if !mask.enables(RingNo(ring)) {
+            return Some(RingNo(ring));
+        }
+    }
+    None
+}
+
+/// The mask of the note that answers an accusation on this ring, in a group of tolerance `t`, 1 to 15: the ring
+/// is disabled, and where `t` rings are disabled already, the lowest-numbered of those is enabled again. The
+/// mask is good and enables the ring.
+pub fn answer_mask(t: u8, mask: Mask, ring: RingNo) -> Mask
+    requires tolerance { 1 ≤ t × t ≤ 15 }
+    requires good { is_good t mask.0 ≡ true }
+    requires enabled { enables mask.0 ring.0 ≡ true }
+    ensures good { is_good t result.0 ≡ true }
+    ensures lacks { enables result.0 ring.0 ≡ false }
+    ensures exact { (r : ℕ) → r < ring_count t → (enables result.0 r ≡ true) ↔ IsEnabledByAnswer t mask.0 ring.0 r }
+{
+    let without = switched(mask, ring);
+    if good_mask(t, without) {
+        return without;
+    }
+    match lowest_disabled(mask, 2 * t + 1) {
+        Some(lowest) => switched(without, lowest),
+        None => without,
+    }
+}
+
+/// Whether the ring of this number is enabled. No mask has a bit at or above 32.
+fn is_enabled(rings: u32, ring: u8) -> bool
+    ensures { result ≡ enables rings ring }
+{
+    ring < 32 && Mask(rings).enables(RingNo(ring))
+}
+
+/// Whether an accepted accusation is against the member whose newest note this is: accused, epoch and enabled
+/// ring are the note's.
+pub fn must_answer(own: &NoteBody, acc: &AccBody) -> bool
+    ensures { (result ≡ true) ↔ IsAgainst own.now acc.now }
+{
+    acc.accused == own.member && acc.epoch == own.epoch && is_enabled(own.mask.0, acc.ring.0)
+}
+
+#[cfg(test)]
+mod tests;

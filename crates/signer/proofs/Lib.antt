@@ -1,0 +1,3 @@
+pub mod StepLemmas
+pub mod LivesLemmas
+pub mod LivingLemmas

@@ -1,0 +1,335 @@
+//! A signer: records signed under one key, each with an index of its own, whatever stops it. The next index is
+//! in the store before the leaf that has the index is spent.
+#![tactic(auto)]
+
+ghost use Rattle.std.specs.Prelude.{◌≡◌, ℕ, ◌+◌, ◌<◌, ◌≤◌, ◌^◌, ◌++◌, List, length, true, false, OnOk, IfOk, IfErr};
+ghost use Rattle.ports.specs.Count.{counted};
+ghost use Rattle.ports.specs.Disk.{Moment, Since};
+ghost use Rattle.lms_tree.specs.Kinds.{leaf_count as leaf_count_of, signature_length};
+ghost use Rattle.lms_tree.specs.Lms.{public_of};
+ghost use Rattle.records.specs.Spelling.{HasPort};
+ghost use Rattle.records.specs.declared.Body.TheVariants.{Certificate, Accusation};
+ghost use Rattle.epoch_store.specs.Store.{IsSettled, LeavesEither, LeavesState};
+ghost use Rattle.signer.specs.declared.SignFault.TheVariants.{OutOfMemory};
+ghost use Rattle.signer.specs.Signing.{SignerState, stored_after as stored_after_it, MayComeNext, next_note, AnswersBy, is_store_fault, after_signing, signed_by, signed_record, OnIdle};
+ghost use Rattle.signer.specs.Lives.{Spent, IsLiving, BeginsLife, EndsLife, spent_in};
+
+pub mod laws;
+
+use epoch_store::{Store, Stored};
+use ff_ids::{AccBody, Epoch, Group, Mask, MemberId, NoteBody};
+use fields::Bytes;
+use lms_tree::{Leaves, Tree, TreeKind};
+use ports::Disk;
+use records::{Body, CertBody, Checked, Record, signed_bytes};
+use std::alloc::Global;
+use std::marker::Model;
+use thiserror::Error;
+
+/// Why nothing was signed. No leaf was spent.
+#[derive(Clone, Copy, Debug, PartialEq, Eq, Error)]
+pub enum SignFault {
+    #[error("out of memory")]
+    OutOfMemory,
+    /// An earlier call answered `StoreFault`.
+    #[error("the store failed earlier")]
+    Closed,
+    #[error("the key has no leaf from {next} on")]
+    Exhausted { next: u32 },
+    /// The store is to be opened again.
+    #[error("the store failed")]
+    StoreFault,
+}
+
+/// A key with its store. Contracts see the group, the key, the number of the next leaf, what the store keeps, and
+/// whether the store has failed.
+#[derive(Drop)]
+pub struct Signer {
+    group: Group,
+    tree: Tree,
+    leaves: Leaves,
+    store: Store,
+}
+
+impl Model for Signer {
+    ghost use Rattle.std.specs.Prelude.{◌≡◌, ◌≤◌, false};
+    ghost use Rattle.lms_tree.specs.Kinds.{leaf_count};
+    ghost use Rattle.signer.specs.Signing.{SignerState};
+
+    ghost Value = { SignerState };
+
+    ghost view = { λ s. record {
+      group = s.group;
+      key = s.tree;
+      leaf = s.leaves.next;
+      state = s.store.state;
+      gate = s.store.gate;
+      closed = s.store.failed;
+    } };
+
+    ghost invariant = { λ s. (s.leaves.key ≡ s.tree) × (s.leaves.next ≡ s.store.state.next)
+        × (s.store.state.next ≤ leaf_count s.tree.tree) };
+}
+
+/// So many zeros.
+fn zeros(alloc: Global, count: usize) -> Result<Vec<u8>, SignFault>
+    ensures ok { IfOk result (λ bytes. length bytes.items ≡ count) }
+    ensures memory { IfErr result (λ e. e ≡ OutOfMemory) }
+{
+    match vec![in alloc; 0; count] {
+        Ok(bytes) => Ok(bytes),
+        Err(_) => Err(SignFault::OutOfMemory),
+    }
+}
+
+/// What the store keeps once the body is signed.
+fn stored_after(state: Stored, body: &Body) -> Stored
+    requires { state.next < 32768 }
+    ensures { result ≡ stored_after_it state body.now }
+{
+    let next = state.next + 1;
+    match body {
+        Body::Note(note) => Stored {
+            next,
+            epoch: note.epoch.get(),
+            mask: note.mask,
+        },
+        Body::Certificate(_) | Body::Accusation(_) => Stored {
+            next,
+            epoch: state.epoch,
+            mask: state.mask,
+        },
+    }
+}
+
+impl Signer {
+    /// A signer with the tree and the leaves of one key and its store, on which no put has failed. The leaves are
+    /// not past the store's next index, and skip to it; the key has that many.
+    pub fn open(group: Group, tree: Tree, leaves: Leaves, store: Store) -> Signer
+        requires key { leaves.key ≡ tree }
+        requires runs { store.failed ≡ false }
+        requires behind { leaves.next ≤ store.state.next }
+        requires within { store.state.next ≤ leaf_count_of tree.tree }
+        ensures begins { (tag : List ℕ) (moments : List Moment) → IsSettled tag store.state store.gate moments
+            → BeginsLife tag result moments }
+        ensures value { result ≡ record {
+          group = group;
+          key = tree;
+          leaf = store.state.next;
+          state = store.state;
+          gate = store.gate;
+          closed = false;
+        } }
+    {
+        let mut leaves = leaves;
+        leaves.skip_to(store.state().next);
+        Signer {
+            group,
+            tree,
+            leaves,
+            store,
+        }
+    }
+
+    /// What the store keeps.
+    pub fn state(&self) -> Stored
+        ensures { result ≡ self.now.state }
+    {
+        self.store.state()
+    }
+
+    /// Signs a note of this member and mask, with the epoch after the one that the store keeps. The mask has no
+    /// bit at or above 31.
+    ///
+    /// The disk is the one on which the store was opened, and since then only this signer's calls have changed
+    /// the file. Takes its memory first, puts the next index, and only then takes and spends the leaf. `Closed`
+    /// exactly where an earlier call answered `StoreFault`, else `Exhausted` exactly where no leaf is left; after
+    /// these, and after want of memory, nothing has changed.
+    pub fn sign_note<D: Disk>(
+        &mut self,
+        alloc: Global,
+        disk: &mut D,
+        member: MemberId,
+        mask: Mask,
+    ) -> Result<Checked, SignFault>
+        requires { mask.0 < 2 ^ 31 }
+        ensures faults { D.faults disk.new ≡ counted (is_store_fault result) (D.faults disk.old) }
+        ensures answers { AnswersBy self.old result }
+        ensures signed { IfOk result (λ rec. rec ≡ signed_record self.old (next_note self.old.state member mask)) }
+        ensures after { self.new ≡ after_signing self.old (next_note self.old.state member mask) result }
+        ensures same { OnIdle result (D.moments disk.new ≡ D.moments disk.old) }
+        ensures any_moment { (tag : List ℕ) → IsSettled tag self.old.state self.old.gate (D.moments disk.old)
+            → Since (LeavesEither tag self.old.state (stored_after_it self.old.state (next_note self.old.state member mask))) (D.moments disk.old) (D.moments disk.new) }
+        ensures settled { OnOk result ((tag : List ℕ) → IsSettled tag self.old.state self.old.gate (D.moments disk.old)
+            → IsSettled tag self.new.state self.new.gate (D.moments disk.new)) }
+        ensures leaves { OnOk result ((tag : List ℕ) → IsSettled tag self.old.state self.old.gate (D.moments disk.old)
+            → LeavesState tag self.new.state (D.moments disk.new)) }
+        ensures lives { (tag before : List ℕ) (spent : List Spent) → IsLiving tag before spent self.old (D.moments disk.old)
+            → IsLiving tag before (spent ++ spent_in self.old (next_note self.old.state member mask) result) self.new (D.moments disk.new) }
+        ensures any_life { (tag before : List ℕ) (spent : List Spent) → IsLiving tag before spent self.old (D.moments disk.old)
+            → Since (EndsLife tag before spent) (D.moments disk.old) (D.moments disk.new) }
+    {
+        let epoch = Epoch::new(self.store.state().epoch + 1);
+        self.sign(
+            alloc,
+            disk,
+            Body::Note(NoteBody {
+                member,
+                epoch,
+                mask,
+            }),
+        )
+    }
+
+    /// Signs an accusation, as a note is signed; the store's epoch and mask stay.
+    pub fn sign_accusation<D: Disk>(
+        &mut self,
+        alloc: Global,
+        disk: &mut D,
+        acc: AccBody,
+    ) -> Result<Checked, SignFault>
+        ensures faults { D.faults disk.new ≡ counted (is_store_fault result) (D.faults disk.old) }
+        ensures answers { AnswersBy self.old result }
+        ensures signed { IfOk result (λ rec. rec ≡ signed_record self.old (Accusation acc)) }
+        ensures after { self.new ≡ after_signing self.old (Accusation acc) result }
+        ensures same { OnIdle result (D.moments disk.new ≡ D.moments disk.old) }
+        ensures any_moment { (tag : List ℕ) → IsSettled tag self.old.state self.old.gate (D.moments disk.old)
+            → Since (LeavesEither tag self.old.state (stored_after_it self.old.state (Accusation acc))) (D.moments disk.old) (D.moments disk.new) }
+        ensures settled { OnOk result ((tag : List ℕ) → IsSettled tag self.old.state self.old.gate (D.moments disk.old)
+            → IsSettled tag self.new.state self.new.gate (D.moments disk.new)) }
+        ensures leaves { OnOk result ((tag : List ℕ) → IsSettled tag self.old.state self.old.gate (D.moments disk.old)
+            → LeavesState tag self.new.state (D.moments disk.new)) }
+        ensures lives { (tag before : List ℕ) (spent : List Spent) → IsLiving tag before spent self.old (D.moments disk.old)
+            → IsLiving tag before (spent ++ spent_in self.old (Accusation acc) result) self.new (D.moments disk.new) }
+        ensures any_life { (tag before : List ℕ) (spent : List Spent) → IsLiving tag before spent self.old (D.moments disk.old)
+            → Since (EndsLife tag before spent) (D.moments disk.old) (D.moments disk.new) }
+    {
+        self.sign(alloc, disk, Body::Accusation(acc))
+    }
+
+    /// Signs a certificate, as a note is signed; the store's epoch and mask stay.
+    pub fn sign_certificate<D: Disk>(
+        &mut self,
+        alloc: Global,
+        disk: &mut D,
+        cert: CertBody,
+    ) -> Result<Checked, SignFault>
+        requires { 0 < cert.port }
+        ensures faults { D.faults disk.new ≡ counted (is_store_fault result) (D.faults disk.old) }
+        ensures answers { AnswersBy self.old result }
+        ensures signed { IfOk result (λ rec. rec ≡ signed_record self.old (Certificate cert)) }
+        ensures after { self.new ≡ after_signing self.old (Certificate cert) result }
+        ensures same { OnIdle result (D.moments disk.new ≡ D.moments disk.old) }
+        ensures any_moment { (tag : List ℕ) → IsSettled tag self.old.state self.old.gate (D.moments disk.old)
+            → Since (LeavesEither tag self.old.state (stored_after_it self.old.state (Certificate cert))) (D.moments disk.old) (D.moments disk.new) }
+        ensures settled { OnOk result ((tag : List ℕ) → IsSettled tag self.old.state self.old.gate (D.moments disk.old)
+            → IsSettled tag self.new.state self.new.gate (D.moments disk.new)) }
+        ensures leaves { OnOk result ((tag : List ℕ) → IsSettled tag self.old.state self.old.gate (D.moments disk.old)
+            → LeavesState tag self.new.state (D.moments disk.new)) }
+        ensures lives { (tag before : List ℕ) (spent : List Spent) → IsLiving tag before spent self.old (D.moments disk.old)
+            → IsLiving tag before (spent ++ spent_in self.old (Certificate cert) result) self.new (D.moments disk.new) }
+        ensures any_life { (tag before : List ℕ) (spent : List Spent) → IsLiving tag before spent self.old (D.moments disk.old)
+            → Since (EndsLife tag before spent) (D.moments disk.old) (D.moments disk.new) }
+    {
+        self.sign(alloc, disk, Body::Certificate(cert))
+    }
+
+    /// Signs the body, in the life that goes on.
+    fn sign<D: Disk>(
+        &mut self,
+        alloc: Global,
+        disk: &mut D,
+        body: Body,
+    ) -> Result<Checked, SignFault>
+        requires port { HasPort body }
+        requires next { MayComeNext self.old.state body }
+        ensures faults { D.faults disk.new ≡ counted (is_store_fault result) (D.faults disk.old) }
+        ensures answers { AnswersBy self.old result }
+        ensures signed { IfOk result (λ rec. rec ≡ signed_record self.old body) }
+        ensures after { self.new ≡ after_signing self.old body result }
+        ensures same { OnIdle result (D.moments disk.new ≡ D.moments disk.old) }
+        ensures any_moment { (tag : List ℕ) → IsSettled tag self.old.state self.old.gate (D.moments disk.old)
+            → Since (LeavesEither tag self.old.state (stored_after_it self.old.state body)) (D.moments disk.old) (D.moments disk.new) }
+        ensures settled { OnOk result ((tag : List ℕ) → IsSettled tag self.old.state self.old.gate (D.moments disk.old)
+            → IsSettled tag self.new.state self.new.gate (D.moments disk.new)) }
+        ensures leaves { OnOk result ((tag : List ℕ) → IsSettled tag self.old.state self.old.gate (D.moments disk.old)
+            → LeavesState tag self.new.state (D.moments disk.new)) }
+        ensures lives { (tag before : List ℕ) (spent : List Spent) → IsLiving tag before spent self.old (D.moments disk.old)
+            → IsLiving tag before (spent ++ spent_in self.old body result) self.new (D.moments disk.new) }
+        ensures any_life { (tag before : List ℕ) (spent : List Spent) → IsLiving tag before spent self.old (D.moments disk.old)
+            → Since (EndsLife tag before spent) (D.moments disk.old) (D.moments disk.new) }
+    {
+        self.sign_body(alloc, disk, body)
+    }
+
+    /// Takes memory, puts the next index, and then spends the leaf.
+    #[tactic(auto, unfolding(lms_tree::specs::Lms::public_of))]
+    fn sign_body<D: Disk>(
+        &mut self,
+        alloc: Global,
+        disk: &mut D,
+        body: Body,
+    ) -> Result<Checked, SignFault>
+        requires port { HasPort body }
+        requires next { MayComeNext self.old.state body }
+        ensures faults { D.faults disk.new ≡ counted (is_store_fault result) (D.faults disk.old) }
+        ensures answers { AnswersBy self.old result }
+        ensures signed { IfOk result (λ rec. rec ≡ signed_record self.old body) }
+        ensures after { self.new ≡ after_signing self.old body result }
+        ensures same { OnIdle result (D.moments disk.new ≡ D.moments disk.old) }
+        ensures any_moment { (tag : List ℕ) → IsSettled tag self.old.state self.old.gate (D.moments disk.old)
+            → Since (LeavesEither tag self.old.state (stored_after_it self.old.state body)) (D.moments disk.old) (D.moments disk.new) }
+        ensures settled { OnOk result ((tag : List ℕ) → IsSettled tag self.old.state self.old.gate (D.moments disk.old)
+            → IsSettled tag self.new.state self.new.gate (D.moments disk.new)) }
+        ensures leaves { OnOk result ((tag : List ℕ) → IsSettled tag self.old.state self.old.gate (D.moments disk.old)
+            → LeavesState tag self.new.state (D.moments disk.new)) }
+    {
+        let key = self.tree.public();
+        let length = 8 + key.ots.signature_length() + 32 * key.tree.height();
+        let signature = zeros(alloc, length)?;
+        if self.store.has_failed() {
+            return Err(SignFault::Closed);
+        }
+        let state = self.store.state();
+        if state.next == leaf_count(key.tree) {
+            return Err(SignFault::Exhausted { next: state.next });
+        }
+        match self.store.put(disk, stored_after(state, &body)) {
+            Ok(()) => Ok(spend_leaf(&self.tree, &mut self.leaves, &self.group, body, signature)),
+            Err(_) => Err(SignFault::StoreFault),
+        }
+    }
+}
+
+/// The number of leaves of a tree.
+fn leaf_count(kind: TreeKind) -> u32
+    ensures value { result ≡ leaf_count_of kind }
+    ensures small { result ≤ 32768 }
+{
+    kind.leaf_count()
+}
+
+/// Takes the next leaf, which there is, and signs the body with it.
+fn spend_leaf(
+    tree: &Tree,
+    leaves: &mut Leaves,
+    group: &Group,
+    body: Body,
+    mut signature: Vec<u8>,
+) -> Checked
+    requires key { leaves.old.key ≡ tree.now }
+    requires left { leaves.old.next < leaf_count_of tree.now.tree }
+    requires port { HasPort body }
+    requires long { length signature.items ≡ signature_length tree.now.tree tree.now.ots }
+    ensures signed { result ≡ signed_by group.now tree.now leaves.old.next body }
+    ensures taken { leaves.new ≡ record leaves.old { next = leaves.old.next + 1 } }
+{
+    let leaf = leaves.take().unwrap();
+    let signed = signed_bytes(group, &body);
+    tree.sign(leaf, signed.as_slice(), &mut signature);
+    let rec = Record {
+        body,
+        signature: Bytes::from_vec(signature),
+    };
+    Checked::from_signed(group, &tree.public(), rec)
+}
