@@ -8,3 +8,6 @@ mod table;
 
 pub use roster::Roster;
 pub use table::check;
+
+#[cfg(test)]
+mod tests;
