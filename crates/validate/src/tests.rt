@@ -40,6 +40,7 @@ fn members_are_placed_by_their_hashes(rt: HostRuntime) {
     let two = MemberId::new(2);
     let places = hash_places(&group, one);
     let others = hash_places(&group, two);
+    // Bit r is set where 1 comes before 2 on ring r.
     let mut first = 0u32;
     for ring in 0..31u8 {
         if key_order(RingNo(ring), &places, one, &others, two) {
