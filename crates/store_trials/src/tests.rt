@@ -1,0 +1,457 @@
+//! Disks in memory under stores and signers.
+
+ghost use Rattle.std.specs.Prelude.{◌≡◌, IfOk, length};
+
+use crate::plain::state_of;
+use epoch_store::{Store, StoreError, Stored, make};
+use ff_ids::{AccBody, Epoch, Group, Mask, MemberId, RingNo};
+use fields::Reader;
+use lms_ots::OtsKind;
+use lms_tree::{SecretKey, TreeKind};
+use ports::{Disk, MemoryDisk};
+use records::{Body, Checked};
+use signer::{SignFault, Signer};
+use std::alloc::Global;
+use std::test::Fail;
+
+const TAG: [u8; 32] = [5; 32];
+
+const NAME: &str = "a.st";
+
+fn new_disk(alloc: Global) -> Result<MemoryDisk, Fail> {
+    let fail = Vec::new(alloc);
+    Ok(MemoryDisk::new(alloc, 700, 200, fail).or(Err("no memory"))?)
+}
+
+/// A disk whose file has these bytes, settled.
+fn disk_with(alloc: Global, bytes: &[u8]) -> Result<MemoryDisk, Fail> {
+    let mut disk = new_disk(alloc)?;
+    let mut place = 0;
+    for part in bytes.chunks(60) {
+        disk.write_at(place, part).or(Err("write"))?;
+        place = place.wrapping_add(part.len() as u64);
+    }
+    disk.sync().or(Err("sync"))?;
+    Ok(disk)
+}
+
+/// What opening the file with these bytes answers.
+fn opened(alloc: Global, bytes: &[u8]) -> Result<Result<Stored, StoreError>, Fail> {
+    let mut disk = disk_with(alloc, bytes)?;
+    match Store::open(&mut disk, NAME, &TAG) {
+        Ok(store) => Ok(Ok(store.state())),
+        Err(error) => Ok(Err(error)),
+    }
+}
+
+fn stored(next: u32, epoch: u64, mask: u32) -> Stored
+    ensures value { (result.next ≡ next) × (result.epoch ≡ epoch) × (result.mask.0 ≡ mask) }
+{
+    Stored {
+        next,
+        epoch,
+        mask: Mask(mask),
+    }
+}
+
+/// The bytes of a store that is made new with mask 7.
+fn made(alloc: Global) -> Result<Vec<u8>, Fail>
+    ensures { IfOk result (λ bytes. length bytes.items ≡ 58) }
+{
+    let mut disk = new_disk(alloc)?;
+    make(&mut disk, NAME, &TAG, Mask(7)).or(Err("make"))?;
+    let bytes = disk.image().to_vec(alloc)?;
+    if bytes.len() != 58 {
+        return Err("another length".into());
+    }
+    Ok(bytes)
+}
+
+/// The first so many bytes, if there are as many.
+fn front(bytes: &[u8], count: usize) -> &[u8] {
+    if count <= bytes.len() {
+        &bytes[..count]
+    } else {
+        bytes
+    }
+}
+
+/// The bytes with one of them changed.
+fn changed(alloc: Global, bytes: &[u8], place: usize, value: u8) -> Result<Vec<u8>, Fail> {
+    let mut bytes = bytes.to_vec(alloc)?;
+    if place < bytes.len() {
+        bytes[place] = value;
+    }
+    Ok(bytes)
+}
+
+#[test]
+fn a_made_store_has_58_bytes_and_is_made_once(rt: HostRuntime) -> Result<(), Fail> {
+    let alloc = rt.alloc();
+    let bytes = made(alloc)?;
+    assert_eq!(rt; bytes.len(), 58);
+    assert_eq!(rt; &bytes[..8], b"FFSTORE1".as_slice());
+    assert_eq!(rt; &bytes[8..40], TAG.as_slice());
+    assert_eq!(rt;
+        &bytes[40..],
+        [1, 0, 0, 0, 0, 0, 0, 0, 0, 0, 0, 0, 0, 0, 0, 0, 7, 0].as_slice()
+    );
+    let mut disk = disk_with(alloc, &bytes)?;
+    assert_eq!(rt;
+        make(&mut disk, NAME, &TAG, Mask(7)),
+        Err(StoreError::Taken { len: 58 })
+    );
+    assert_eq!(rt; opened(alloc, &bytes)?, Ok(stored(0, 0, 7)));
+    Ok(())
+}
+
+#[test]
+fn a_file_that_is_no_store_is_refused_at_its_place(rt: HostRuntime) -> Result<(), Fail> {
+    let alloc = rt.alloc();
+    let good = made(alloc)?;
+    let none = None;
+    assert_eq!(rt;
+        opened(alloc, &[])?,
+        Err(StoreError::Broken {
+            place: 0,
+            byte: none
+        })
+    );
+    assert_eq!(rt;
+        opened(alloc, &[b'X'])?,
+        Err(StoreError::Broken {
+            place: 0,
+            byte: Some(b'X')
+        })
+    );
+    assert_eq!(rt;
+        opened(alloc, front(&good, 39))?,
+        Err(StoreError::Broken {
+            place: 39,
+            byte: none
+        })
+    );
+    assert_eq!(rt;
+        opened(alloc, front(&good, 57))?,
+        Err(StoreError::Broken {
+            place: 57,
+            byte: none
+        })
+    );
+    let other = changed(alloc, &good, 8, 6)?;
+    assert_eq!(rt;
+        opened(alloc, &other)?,
+        Err(StoreError::OtherKey { place: 8, byte: 6 })
+    );
+    let shut = changed(alloc, &good, 40, 0)?;
+    assert_eq!(rt;
+        opened(alloc, &shut)?,
+        Err(StoreError::Broken {
+            place: 40,
+            byte: Some(0)
+        })
+    );
+    let closed = changed(alloc, &good, 57, 7)?;
+    assert_eq!(rt; opened(alloc, &closed)?, Ok(stored(0, 0, 7)));
+    let open = changed(alloc, &good, 57, 1)?;
+    assert_eq!(rt;
+        opened(alloc, &open)?,
+        Err(StoreError::Broken {
+            place: 58,
+            byte: none
+        })
+    );
+    Ok(())
+}
+
+/// The bytes of a store with the entries (0, 0, 7) and (3, 2, 5).
+fn two_entries(alloc: Global) -> Result<Vec<u8>, Fail> {
+    let mut disk = new_disk(alloc)?;
+    make(&mut disk, NAME, &TAG, Mask(7)).or(Err("make"))?;
+    let mut store = Store::open(&mut disk, NAME, &TAG).or(Err("open"))?;
+    let state = store.state();
+    if state.next > 0 || state.epoch > 0 {
+        return Err("another state".into());
+    }
+    store.put(&mut disk, stored(3, 2, 5)).or(Err("put"))?;
+    Ok(disk.image().to_vec(alloc)?)
+}
+
+#[test]
+fn each_cut_and_each_changed_byte_is_answered_as_a_plain_reader_does(
+    rt: HostRuntime,
+) -> Result<(), Fail> {
+    let alloc = rt.alloc();
+    let good = two_entries(alloc)?;
+    assert_eq!(rt; good.len(), 75);
+    assert_eq!(rt; opened(alloc, &good)?, Ok(stored(3, 2, 5)));
+    for len in 0..good.len() {
+        assert_eq!(rt; opened(alloc, &good[..len])?, state_of(&good[..len], &TAG));
+    }
+    for place in 0..good.len() {
+        for value in 0..=255u8 {
+            let bytes = changed(alloc, &good, place, value)?;
+            assert_eq!(rt; opened(alloc, &bytes)?, state_of(&bytes, &TAG));
+        }
+    }
+    Ok(())
+}
+
+fn group() -> Group {
+    Group {
+        tag: [0; 16],
+        t: 1,
+        timeout: 3,
+        period: 1,
+        misses: 2,
+    }
+}
+
+/// The signer of the one key of these trials, over the store in the disk's file.
+fn open_signer(alloc: Global, disk: &mut MemoryDisk) -> Result<Option<Signer>, Fail> {
+    let store = match Store::open(disk, NAME, &TAG) {
+        Ok(store) => store,
+        Err(StoreError::Fault) => return Ok(None),
+        Err(_) => return Err("the file is no store".into()),
+    };
+    let key = SecretKey::make(alloc, TreeKind::H5, OtsKind::W4, [1; 16], [2; 32]).or(Err("key"))?;
+    let (tree, leaves) = key.split();
+    if store.state().next > 32 {
+        return Err("a next index that the key has not".into());
+    }
+    Ok(Some(Signer::open(group(), tree, leaves, store)))
+}
+
+/// The greatest index and the greatest epoch that were handed out, if any was.
+#[derive(Clone, Copy)]
+struct Handed {
+    index: Option<u32>,
+    epoch: u64,
+}
+
+impl Handed {
+    /// Takes a record's index, and its epoch if it is a note. Each must be above all before.
+    fn take(&mut self, record: &Checked) -> Result<(), Fail> {
+        let signature = record.rec().signature.as_slice();
+        let index = Reader::new(signature).u32().or(Err("short"))?;
+        if let Some(before) = self.index {
+            if index <= before {
+                return Err("an index came twice".into());
+            }
+        }
+        self.index = Some(index);
+        if let Body::Note(note) = record.rec().body {
+            if note.epoch.get() <= self.epoch {
+                return Err("an epoch came twice".into());
+            }
+            self.epoch = note.epoch.get();
+        }
+        Ok(())
+    }
+}
+
+fn accusation() -> AccBody {
+    AccBody {
+        accuser: MemberId::new(1),
+        accused: MemberId::new(2),
+        epoch: Epoch::new(1),
+        ring: RingNo(0),
+    }
+}
+
+/// Makes five notes and three accusations, or as many as the disk lets it.
+fn sign_all(
+    alloc: Global,
+    signer: &mut Signer,
+    disk: &mut MemoryDisk,
+    handed: &mut Handed,
+) -> Result<bool, Fail> {
+    for is_note in [true, true, false, true, false, true, false, true] {
+        let answer = if is_note {
+            signer.sign_note(alloc, disk, MemberId::new(1), Mask(7))
+        } else {
+            signer.sign_accusation(alloc, disk, accusation())
+        };
+        match answer {
+            Ok(record) => handed.take(&record)?,
+            Err(SignFault::StoreFault) => return Ok(false),
+            Err(_) => return Err("another fault".into()),
+        }
+    }
+    Ok(true)
+}
+
+const OUTCOMES: [u16; 8] = [0, 1, 2, 57, 74, 183, 200, 65_535];
+
+#[test]
+fn no_index_and_no_epoch_comes_twice_whatever_call_is_stopped(rt: HostRuntime) -> Result<(), Fail> {
+    let alloc = rt.alloc();
+    let mut whole = false;
+    for calls in 0..40u64 {
+        for outcome in OUTCOMES {
+            let mut disk = new_disk(alloc)?;
+            make(&mut disk, NAME, &TAG, Mask(7)).or(Err("make"))?;
+            let mut handed = Handed {
+                index: None,
+                epoch: 0,
+            };
+            disk.arm(calls, outcome);
+            if let Some(mut signer) = open_signer(alloc, &mut disk)? {
+                whole = sign_all(alloc, &mut signer, &mut disk, &mut handed)?;
+            }
+            disk.crash(outcome);
+            match open_signer(alloc, &mut disk)? {
+                Some(mut signer) => {
+                    sign_all(alloc, &mut signer, &mut disk, &mut handed)?;
+                }
+                None => {
+                    // The stop that was armed came only now.
+                    disk.crash(outcome);
+                }
+            }
+        }
+    }
+    assert_eq!(rt; whole, true);
+    Ok(())
+}
+
+#[test]
+fn a_stop_within_a_put_leaves_the_old_state_or_the_new_one(rt: HostRuntime) -> Result<(), Fail> {
+    let alloc = rt.alloc();
+    for calls in 0..4u64 {
+        for outcome in [0u16, 1, 2, 183] {
+            let mut disk = new_disk(alloc)?;
+            make(&mut disk, NAME, &TAG, Mask(7)).or(Err("make"))?;
+            let member = MemberId::new(1);
+            let mut signer = open_signer(alloc, &mut disk)?.ok_or("open")?;
+            signer
+                .sign_note(alloc, &mut disk, member, Mask(7))
+                .or(Err("sign"))?;
+            assert_eq!(rt; signer.state(), stored(1, 1, 7));
+            disk.arm(calls, outcome);
+            let faults = [
+                SignFault::StoreFault,
+                SignFault::Closed,
+                SignFault::Closed,
+                SignFault::Closed,
+            ];
+            for fault in faults {
+                match signer.sign_note(alloc, &mut disk, member, Mask(7)) {
+                    Ok(_) => return Err("a record without its index in the store".into()),
+                    Err(answer) => assert_eq!(rt; answer, fault),
+                }
+            }
+            disk.crash(0);
+            let opened = open_signer(alloc, &mut disk)?.ok_or("open")?;
+            let is_new = calls >= 2 && (outcome == 1 || outcome == 183);
+            let state = if is_new {
+                stored(2, 2, 7)
+            } else {
+                stored(1, 1, 7)
+            };
+            assert_eq!(rt; opened.state(), state);
+        }
+    }
+    Ok(())
+}
+
+#[test]
+fn a_key_is_used_up_and_certificates_are_signed(rt: HostRuntime) -> Result<(), Fail> {
+    let alloc = rt.alloc();
+    let mut disk = new_disk(alloc)?;
+    make(&mut disk, NAME, &TAG, Mask(7)).or(Err("make"))?;
+    let mut signer = open_signer(alloc, &mut disk)?.ok_or("open")?;
+    let key = SecretKey::make(alloc, TreeKind::H5, OtsKind::W4, [1; 16], [2; 32]).or(Err("key"))?;
+    let cert = records::CertBody {
+        member: MemberId::new(1),
+        port: 20_001,
+        key: key.public(),
+    };
+    let mut handed = Handed {
+        index: None,
+        epoch: 0,
+    };
+    for _ in 0..16 {
+        let record = signer
+            .sign_certificate(alloc, &mut disk, cert)
+            .or(Err("sign"))?;
+        handed.take(&record)?;
+        let record = signer
+            .sign_accusation(alloc, &mut disk, accusation())
+            .or(Err("sign"))?;
+        handed.take(&record)?;
+    }
+    assert_eq!(rt; signer.state(), stored(32, 0, 7));
+    match signer.sign_note(alloc, &mut disk, MemberId::new(1), Mask(7)) {
+        Ok(_) => Err("an index that the key has not".into()),
+        Err(fault) => {
+            assert_eq!(rt; fault, SignFault::Exhausted { next: 32 });
+            Ok(())
+        }
+    }
+}
+
+/// Which call of a disk fails, counted from 0, that serves a store as it is made, opened and put.
+fn first_failure(alloc: Global, call: u64) -> Result<&'static str, Fail> {
+    let fail = [call].to_vec(alloc)?;
+    let mut disk = MemoryDisk::new(alloc, 700, 200, fail).or(Err("no memory"))?;
+    if make(&mut disk, NAME, &TAG, Mask(7)).is_err() {
+        return Ok("make");
+    }
+    let mut store = match Store::open(&mut disk, NAME, &TAG) {
+        Ok(store) => store,
+        Err(_) => return Ok("open"),
+    };
+    let state = store.state();
+    if state.next > 0 || state.epoch > 0 {
+        return Err("another state".into());
+    }
+    if store.put(&mut disk, stored(1, 1, 7)).is_err() {
+        return Ok("put");
+    }
+    Ok("none")
+}
+
+#[test]
+fn each_call_of_a_store_makes_its_disk_calls_and_no_more(rt: HostRuntime) -> Result<(), Fail> {
+    let alloc = rt.alloc();
+    let names = [
+        "make", "make", "make", "make", "open", "open", "open", "open", "open", "put", "put",
+        "put", "put", "none",
+    ];
+    for (call, name) in names.iter().enumerate() {
+        assert_eq!(rt; first_failure(alloc, call as u64)?, *name);
+    }
+    Ok(())
+}
+
+#[test]
+fn a_crash_of_a_disk_leaves_what_its_outcome_says(rt: HostRuntime) -> Result<(), Fail> {
+    let alloc = rt.alloc();
+    let cases: [(u16, &[u8]); 4] = [
+        (0, b"abcd".as_slice()),
+        (1, b"aXYdef".as_slice()),
+        (2, [b'a', 3, 4, b'd', 6, 7].as_slice()),
+        (65_535, [b'a', 0, 1, b'd', 3, 4].as_slice()),
+    ];
+    for (outcome, left) in cases {
+        let mut disk = disk_with(alloc, b"abcd")?;
+        disk.write_at(1, b"XY").or(Err("write"))?;
+        disk.write_at(4, b"ef").or(Err("write"))?;
+        assert_eq!(rt; disk.image(), b"aXYdef".as_slice());
+        disk.crash(outcome);
+        assert_eq!(rt; disk.image(), left);
+    }
+    let mut disk = disk_with(alloc, b"abcd")?;
+    disk.arm(1, 1);
+    assert_eq!(rt; disk.write_at(0, b"X"), Ok(()));
+    assert_eq!(rt; disk.write_at(1, b"Y"), Err(ports::Failed));
+    assert_eq!(rt; disk.len(), Err(ports::Failed));
+    assert_eq!(rt; disk.image(), b"XYcd".as_slice());
+    disk.crash(0);
+    assert_eq!(rt; disk.image(), b"XYcd".as_slice());
+    assert_eq!(rt; disk.len(), Ok(4));
+    assert_eq!(rt; disk.write_at(0, &[0; 65]), Err(ports::Failed));
+    assert_eq!(rt; disk.write_at(700, b"Z"), Err(ports::Failed));
+    Ok(())
+}
