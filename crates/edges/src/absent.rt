@@ -1,6 +1,6 @@
 // What no command uses yet: each call fails, and the clock stands still.
 
-ghost use Rattle.std.specs.Prelude.{◌≡◌, true, [], is_err};
+ghost use Rattle.std.specs.Prelude.{◌≡◌, true, None, [], is_err};
 ghost use Rattle.ports.specs.Count.{next_count};
 
 use ports::{Clock, Disk, Failed, Link, Opened, Received, Sent};
@@ -29,6 +29,8 @@ impl Disk for Absent {
     ghost faults = { λ d. d.faults };
 
     ghost moments = { λ _. [] };
+
+    ghost calls = { λ _. None };
 
     fn open(&mut self, _name: &str) -> Opened
         ensures answer { result ≡ Opened.Failed }
@@ -78,6 +80,8 @@ impl Disk for Absent {
 impl Link for Absent {
     ghost faults = { λ d. d.faults };
 
+    ghost contents = { λ _. None };
+
     fn bind(&mut self, _port: u16) -> Opened
         ensures answer { result ≡ Opened.Failed }
         ensures counted { self.new.faults ≡ next_count self.old.faults }
@@ -111,6 +115,8 @@ pub struct NoClock;
 
 impl Clock for NoClock {
     ghost reading = { λ _. 0 };
+
+    ghost coming = { λ _. None };
 
     fn now(&mut self) -> u64
         ensures { result ≡ 0 }

@@ -1,13 +1,10 @@
 -- What a crash may leave, moment after moment.
-use Rattle.std.proofs.Common.{◌≡◌, ℕ, zero, suc, ◌+◌, ◌-◌, ◌%◌, ◌<◌, ◌≤◌, ◌⊎◌, inl, inr, Bool, true, false, ◌&&◌, ◌||◌, max, List, [], ◌∷◌, ◌++◌, length, take, drop, replicate, get_or, refl, sym, ap, ◌∙◌, arith, rules, length-append, length-take, length-drop, cond, eqb, leb, ltb, add-zero}
-use Rattle.std.proofs.lemmas.Grind.{common_steps}
-use Rattle.std.proofs.lemmas.List.{places, get_or-replicate, length-replicate, ext_get_or}
-use Rattle.std.proofs.lemmas.List.Folds.{list_any-append}
+use Rattle.std.proofs.Common.{◌≡◌, ℕ, zero, suc, ◌+◌, true, false, List, [], ◌∷◌, ◌++◌, length, get_or, refl, ap, ◌∙◌, arith, length-append, cond, eqb, add-zero}
+use Rattle.std.proofs.lemmas.List.{ext_get_or}
 use Rattle.std.proofs.lemmas.Bool.Decides.{nat_tests}
-use Rattle.std.specs.List.{list_any}
-use Rattle.ports.specs.Disk.{Moment, Leaves, LeavesItself, LeavesImage, Each, is_torn, written, end_of, settled, torn_at, wrote, IsAmong}
-use Rattle.ports.specs.MemoryDisk.{picked, garbled, is_unstable, changed, now_of, past_of, moments_of}
-use Rattle.ports.specs.DiskLaws.{not_torn_before, settled_leaves, wrote_leaves, now_leaves}
+use Rattle.ports.specs.Disk.{Moment, Leaves, LeavesItself, settled, torn_at, wrote, IsAmong}
+use Rattle.ports.specs.MemoryDisk.{picked, garbled, is_unstable, now_of}
+use Rattle.ports.specs.DiskLaws.{not_torn_before}
 use Rattle.ports.specs.declared.memory_disk.Change.{Change}
 use Rattle.ports.specs.declared.memory_disk.Change.TheVariants.{Wrote, Synced, Stopped}
 

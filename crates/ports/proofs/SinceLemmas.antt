@@ -1,6 +1,6 @@
 -- How the moments of a disk join, call after call.
-use Rattle.std.proofs.Common.{◌≡◌, ℕ, ◌⊎◌, inl, inr, List, [], ◌∷◌, ◌++◌, length, refl, sym, ◌∙◌, ap, subst, Result, Ok, Err, OnOk, OnErr, append_assoc}
-use Rattle.ports.specs.Disk.{Moment, Leaves, LeavesItself, LeavesImage, Each, Since, IsAmong, Fails, Settles, settled, next, stays, torn_at, wrote}
+use Rattle.std.proofs.Common.{◌≡◌, ℕ, inl, inr, List, [], ◌∷◌, ◌++◌, length, refl, sym, subst, append_assoc}
+use Rattle.ports.specs.Disk.{Moment, LeavesItself, LeavesImage, Each, Since, IsAmong, Fails, Settles, settled, next, stays, torn_at, wrote}
 use Rattle.ports.proofs.MomentLemmas.{settled_only, before_torn_among, wrote_among}
 
 pub Each-append : (P : Moment → Type 0) (a b : List Moment) → Each P a → Each P b → Each P (a ++ b)

@@ -1,14 +1,13 @@
 -- What a call of a disk in memory does to its moments, by its turn.
-use Rattle.std.proofs.Common.{◌≡◌, ℕ, ◌&&◌, ◌||◌, if◌then◌else◌, ◌⊎◌, inl, inr, Bool, true, false, not, List, [], ◌∷◌, length, Result, Ok, Err, OnOk, OnErr, refl, sym, ap, subst, ◌∙◌, arith, rules}
+use Rattle.std.proofs.Common.{◌≡◌, ℕ, ◌&&◌, ◌||◌, if◌then◌else◌, inl, inr, Bool, true, false, not, List, [], ◌∷◌, length, Result, Ok, Err, OnOk, OnErr, refl, sym, subst}
 use Rattle.std.specs.Result.{is_err}
 use Rattle.std.proofs.lemmas.List.{nil_from_length}
 use Rattle.std.proofs.lemmas.Bool.{eqb-true}
-use Rattle.ports.specs.Count.{counted}
-use Rattle.ports.specs.Disk.{Moment, Fails, Settles, Since, IsAmong, LeavesItself, next, stays, torn_at, wrote, settled}
+use Rattle.ports.specs.Disk.{Moment, Fails, Settles, Since, IsAmong, stays, torn_at, wrote, settled}
 use Rattle.ports.specs.declared.memory_disk.Change.TheVariants.{Synced}
 use Rattle.ports.specs.declared.memory_disk.Turn.{Turn}
 use Rattle.ports.specs.declared.memory_disk.Turn.TheVariants.{Passes, Fails as FailsNow, Stops}
-use Rattle.ports.specs.MemoryDisk.{DiskState, moment_of, moments_of, now_of, picked, passes, called, stopped_by, stopped_or_not, written_by, with_write, with_sync, synced_by, can_sync, is_settled, failed}
+use Rattle.ports.specs.MemoryDisk.{DiskState, moment_of, moments_of, picked, passes, called, stopped_by, stopped_or_not, written_by, with_sync, synced_by, can_sync, failed}
 use Rattle.ports.specs.DiskLaws.{now_leaves, wrote_leaves}
 use Rattle.ports.proofs.MomentLemmas.{picked_among, before_torn_among, wrote_among, settled_unless_torn}
 

@@ -103,6 +103,11 @@ abbrev pub ReadsPart : List Moment → ℕ → List ℕ → ℕ → Type 0
 ReadsPart [] place filled n = Unit {0}
 ReadsPart (now ∷ past) place filled n = take n filled ≡ take (length filled) (drop place now.image)
 
+-- behind those bytes the buffer is as it was, where the file is told
+abbrev pub KeepsRest : List Moment → ℕ → List ℕ → List ℕ → Type 0
+KeepsRest [] n before filled = Unit {0}
+KeepsRest (now ∷ past) n before filled = drop n filled ≡ drop n before
+
 -- a crash may leave the file as it is
 abbrev pub LeavesItself : Moment → Type 0
 LeavesItself moment = Leaves moment moment.image

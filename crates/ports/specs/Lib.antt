@@ -4,6 +4,11 @@ pub mod Reading
 pub mod Writing
 pub mod Device
 pub mod Memory
+pub mod DiskCalls
 pub mod Disk
 pub mod MemoryDisk
 pub mod DiskLaws
+pub mod Link
+pub mod MemoryLink
+pub mod Clock
+pub mod MemoryClock

@@ -1,9 +1,10 @@
 //! A disk: a file whose writes last only once they are synced.
 
-ghost use Rattle.std.specs.Prelude.{◌≡◌, ◌≤◌, ℕ, List, length, IfOk, OnOk, OnErr, is_err};
+ghost use Rattle.std.specs.Prelude.{◌≡◌, ◌≤◌, ℕ, Option, List, length, IfOk, OnOk, OnErr, is_err};
 ghost use Rattle.ports.specs.Count.{counted};
-ghost use Rattle.ports.specs.Disk.{Moment, LeavesImage, Fails, Opens, Measures, ReadsPart, Settles, next, wrote, torn_at, stays};
+ghost use Rattle.ports.specs.Disk.{Moment, LeavesImage, Fails, Opens, Measures, ReadsPart, KeepsRest, Settles, next, wrote, torn_at, stays};
 ghost use Rattle.ports.specs.Device.{open_failed};
+ghost use Rattle.ports.specs.DiskCalls.{DiskCall, ToOpen, ToMeasure, ToRead, ToWrite, ToSync, with_call};
 
 use crate::{Failed, Opened};
 
@@ -17,14 +18,19 @@ pub trait Disk {
     /// told. No call changes whether something is.
     ghost moments: { Self → List Moment };
 
+    /// The calls that were made of it, the last one first, whatever they answered, where they are told.
+    ghost calls: { Self → Option (List DiskCall) };
+
     /// Opens the file of that name, an empty one if there is none.
     fn open(&mut self, name: &str) -> Opened
         ensures faults { faults self.new ≡ counted (open_failed result) (faults self.old) }
+        ensures called { calls self.new ≡ with_call (ToOpen name.now) (calls self.old) }
         ensures opens { Opens (moments self.old) (moments self.new) result };
 
     /// The file's length in bytes.
     fn len(&mut self) -> Result<u64, Failed>
         ensures faults { faults self.new ≡ counted (is_err result) (faults self.old) }
+        ensures called { calls self.new ≡ with_call ToMeasure (calls self.old) }
         ensures value { IfOk result (λ n. Measures (moments self.old) n) }
         ensures same { OnOk result (moments self.new ≡ moments self.old) }
         ensures stays { OnErr result (Fails stays (moments self.old) (moments self.new)) };
@@ -33,20 +39,24 @@ pub trait Disk {
     /// number of bytes.
     fn read_at(&mut self, place: u64, buf: &mut [u8]) -> Result<usize, Failed>
         ensures faults { faults self.new ≡ counted (is_err result) (faults self.old) }
+        ensures called { calls self.new ≡ with_call (ToRead place (length buf.old)) (calls self.old) }
         ensures fits { IfOk result (λ n. n ≤ length buf.old) }
         ensures value { IfOk result (λ n. ReadsPart (moments self.old) place buf.new n) }
+        ensures rest { IfOk result (λ n. KeepsRest (moments self.old) n buf.old buf.new) }
         ensures same { OnOk result (moments self.new ≡ moments self.old) }
         ensures stays { OnErr result (Fails stays (moments self.old) (moments self.new)) };
 
     /// Writes the bytes at a place. Until a sync, a crash may leave anything of them.
     fn write_at(&mut self, place: u64, bytes: &[u8]) -> Result<(), Failed>
         ensures faults { faults self.new ≡ counted (is_err result) (faults self.old) }
+        ensures called { calls self.new ≡ with_call (ToWrite place bytes.now) (calls self.old) }
         ensures writes { OnOk result (moments self.new ≡ next (wrote place bytes.now) (moments self.old)) }
         ensures tears { OnErr result (Fails (torn_at place (length bytes.now)) (moments self.old) (moments self.new)) };
 
     /// After it, a crash leaves what was written.
     fn sync(&mut self) -> Result<(), Failed>
         ensures faults { faults self.new ≡ counted (is_err result) (faults self.old) }
+        ensures called { calls self.new ≡ with_call ToSync (calls self.old) }
         ensures settles { OnOk result (Settles (moments self.old) (moments self.new)) }
         ensures stays { OnErr result (Fails stays (moments self.old) (moments self.new)) };
 

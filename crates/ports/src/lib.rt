@@ -6,19 +6,22 @@
 //! behind a fault; a disk and a link go on after a failure.
 #![tactic(auto)]
 
-ghost use Rattle.std.specs.Prelude.{◌≡◌, ℕ, ◌≤◌, Bool, true, Option, List, length};
+ghost use Rattle.std.specs.Prelude.{◌≡◌, ℕ, Bool, true, Option, List, length};
 ghost use Rattle.std.specs.Result.{is_err, is_ok};
 ghost use Rattle.ports.specs.Count.{counted};
 ghost use Rattle.ports.specs.Contents.{Wrote};
 ghost use Rattle.ports.specs.Reading.{has_got, read_failed, GotAtMost, GotSome, Reads, EndsUsedUp};
 ghost use Rattle.ports.specs.Writing.{has_taken, write_failed, TookAtMost, TookSome, Gives};
-ghost use Rattle.ports.specs.Device.{open_failed, receive_failed, ReceivedAtMost, send_failed};
 
+mod clock;
 mod disk;
+mod link;
 mod memory;
 mod memory_disk;
 
+pub use clock::{Clock, MemoryClock};
 pub use disk::Disk;
+pub use link::{Link, LinkAnswer, MemoryLink};
 pub use memory::{MemorySink, MemorySource};
 pub use memory_disk::MemoryDisk;
 
@@ -120,36 +123,6 @@ pub trait Sink {
         ensures fits { TookAtMost result (length bytes.now) }
         ensures some { TookSome result (length bytes.now) }
         ensures gives { Gives (taken self.old) (taken self.new) bytes.now result };
-}
-
-/// Datagrams between ports of this machine.
-pub trait Link {
-    /// How often a call failed.
-    ghost faults: { Self → ℕ };
-
-    /// Makes this port the one to receive at.
-    fn bind(&mut self, port: u16) -> Opened
-        ensures faults { faults self.new ≡ counted (open_failed result) (faults self.old) };
-
-    /// Takes the next datagram into the front of the buffer, cut to its length.
-    fn receive(&mut self, buf: &mut [u8]) -> Received
-        ensures faults { faults self.new ≡ counted (receive_failed result) (faults self.old) }
-        ensures fits { ReceivedAtMost result (length buf.old) };
-
-    /// Sends a datagram to a port.
-    fn send(&mut self, port: u16, bytes: &[u8]) -> Sent
-        ensures faults { faults self.new ≡ counted (send_failed result) (faults self.old) };
-}
-
-/// A clock.
-pub trait Clock {
-    /// The last reading, or a number that no reading is below.
-    ghost reading: { Self → ℕ };
-
-    /// Milliseconds from some fixed moment, never falling.
-    fn now(&mut self) -> u64
-        ensures kept { reading self.new ≡ result }
-        ensures rising { reading self.old ≤ result };
 }
 
 /// Writes the whole slice. Where the sink tells the bytes taken, they gained the slice; after

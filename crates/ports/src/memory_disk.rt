@@ -95,11 +95,9 @@ fn lengthen(bytes: &mut Vec<u8>, len: usize)
 fn append(bytes: &mut Vec<u8>, piece: &[u8])
     requires { length bytes.old.items + length piece.now ≤ vec_capacity bytes.old }
     ensures items { bytes.new.items ≡ bytes.old.items ++ piece.now }
-    ensures capacity { vec_capacity bytes.new ≡ vec_capacity bytes.old }
+    ensures capacity { vec_capacity bytes.old ≤ vec_capacity bytes.new }
 {
-    for byte in piece {
-        bytes.push_reserved(*byte);
-    }
+    bytes.extend_from_slice(piece).unwrap();
 }
 
 /// Copies the bytes to a place.
@@ -162,7 +160,7 @@ fn pick(image: &mut Vec<u8>, stable: &[u8], torn: &[(usize, usize)], outcome: u1
       most = length image.old.items;
     }) }
     ensures fits { length image.new.items ≤ max (length image.old.items) (length stable.now) }
-    ensures capacity { vec_capacity image.new ≡ vec_capacity image.old }
+    ensures capacity { vec_capacity image.old ≤ vec_capacity image.new }
 {
     if outcome == 0 {
         image.clear();
@@ -540,6 +538,8 @@ impl Disk for MemoryDisk {
 
     ghost moments = { λ disk. moments_of disk.start disk.log };
 
+    ghost calls = { λ _. None };
+
     ghost image_left = { λ disk. moments_leave disk.start disk.log };
 
     fn open(&mut self, _name: &str) -> Opened
@@ -570,6 +570,7 @@ impl Disk for MemoryDisk {
         ensures faults { self.new.failures ≡ counted (is_err result) self.old.failures }
         ensures fits { IfOk result (λ n. n ≤ length buf.old) }
         ensures value { IfOk result (λ n. ReadsPart (moments_of self.old.start self.old.log) place buf.new n) }
+        ensures rest { IfOk result (λ n. drop n buf.new ≡ drop n buf.old) }
         ensures same { OnOk result (moments_of self.new.start self.new.log ≡ moments_of self.old.start self.old.log) }
         ensures stays { OnErr result (Fails stays (moments_of self.old.start self.old.log) (moments_of self.new.start self.new.log)) }
         ensures answer { is_err result ≡ not (passes (turn_of self.old)) }

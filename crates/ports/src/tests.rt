@@ -3,6 +3,7 @@
 ghost use Rattle.std.specs.Prelude.{◌≡◌, true};
 
 use super::*;
+use fields::Bytes;
 use std::test::Fail;
 
 /// Two reads of up to eight bytes, the second only where the first got some.
@@ -68,5 +69,38 @@ fn write_all_goes_on_until_a_fault(rt: HostRuntime) -> Result<(), Fail> {
     };
     assert_eq!(rt; write_all(&mut sink, b"fghij"), Err(Failed));
     assert_eq!(rt; sink.bytes(), b"abcdefg".as_slice());
+    Ok(())
+}
+
+#[test]
+fn link_gives_its_answers_and_keeps_what_is_sent(rt: HostRuntime) -> Result<(), Fail> {
+    let mut answers = Vec::new(rt.alloc());
+    answers.push(LinkAnswer::Got(Bytes::from_vec(b"abcde".to_vec(rt.alloc())?)))?;
+    answers.push(LinkAnswer::Failed)?;
+    let fail_sends = [1u64].to_vec(rt.alloc())?;
+    let mut link = MemoryLink::new(rt.alloc(), answers, fail_sends, false);
+    let mut buf = [b'-'; 3];
+    assert_eq!(rt; link.bind(7), Opened::Done);
+    assert_eq!(rt; link.receive(&mut buf), Received::Got(3));
+    assert_eq!(rt; buf, *b"abc");
+    assert_eq!(rt; link.receive(&mut buf), Received::Failed);
+    assert_eq!(rt; link.receive(&mut buf), Received::Nothing);
+    assert_eq!(rt; link.send(8, b"x"), Sent::Done);
+    assert_eq!(rt; link.send(9, b"yz"), Sent::Failed);
+    let [first, second] = link.sent() else {
+        return Err("not both were kept".into());
+    };
+    assert_eq!(rt; (first.0, first.1.as_slice()), (8, b"x".as_slice()));
+    assert_eq!(rt; (second.0, second.1.as_slice()), (9, b"yz".as_slice()));
+    Ok(())
+}
+
+#[test]
+fn clock_stands_at_its_last_reading(rt: HostRuntime) -> Result<(), Fail> {
+    let mut clock = MemoryClock::new([5u64, 9].to_vec(rt.alloc())?);
+    assert_eq!(rt; clock.now(), 5);
+    assert_eq!(rt; clock.now(), 9);
+    assert_eq!(rt; clock.now(), 9);
+    assert_eq!(rt; MemoryClock::new(Vec::new(rt.alloc())).now(), 0);
     Ok(())
 }
