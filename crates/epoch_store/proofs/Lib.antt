@@ -5,3 +5,4 @@ pub mod ReadLemmas
 pub mod OnceLemmas
 pub mod OpenLemmas
 pub mod FoundLemmas
+pub mod CallLemmas

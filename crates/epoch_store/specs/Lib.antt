@@ -1,3 +1,4 @@
 pub mod Store
 pub mod Reading
 pub mod Calls
+pub mod Asked

@@ -10,9 +10,11 @@ ghost use Rattle.std.specs.Prelude.{◌≡◌, ℕ, ◌+◌, ◌<◌, ◌≤◌,
 ghost use Rattle.std.specs.Result.{is_err};
 ghost use Rattle.ports.specs.Count.{counted};
 ghost use Rattle.ports.specs.Disk.{Moment, Since, Fails, stays, torn_at, written};
+ghost use Rattle.ports.specs.DiskCalls.{ToOpen, ToRead, ToSync, ToWrite, with_call};
 ghost use Rattle.epoch_store.specs.declared.StoreError.TheVariants.{Fault};
 ghost use Rattle.epoch_store.specs.Store.{IsEntry, Follows, IsSettled, LeavesEither, LeavesState, first_entry, made};
 ghost use Rattle.epoch_store.specs.Calls.{StoreState, is_fault, SettlesAs, same, OnRead, OpensAs, IsNotTaken, MakesWhereEmpty, OnRefusal, IsOpened, ReadsHead, ReadsGate, FindsGate, ReadsEntries, HoldsStore};
+ghost use Rattle.epoch_store.specs.Asked.{put_calls, open_calls, Makes, MakesStore, ReadsGates, RefusedInHead, RefusedAtGate};
 
 mod entry;
 
@@ -68,6 +70,7 @@ impl From<Failed> for StoreError {
 /// Writes the bytes at a place, and syncs.
 fn write_synced<D: Disk>(disk: &mut D, place: u64, bytes: &[u8]) -> Result<(), Failed>
     ensures faults { D.faults disk.new ≡ counted (is_err result) (D.faults disk.old) }
+    ensures calls { Makes result (ToSync ∷ ToWrite place bytes.now ∷ []) (D.calls disk.old) (D.calls disk.new) }
     ensures tears { Fails (torn_at place (length bytes.now)) (D.moments disk.old) (D.moments disk.new) }
     ensures stores { OnOk result (SettlesAs (written place bytes.now) (D.moments disk.old) (D.moments disk.new)) }
 {
@@ -78,6 +81,7 @@ fn write_synced<D: Disk>(disk: &mut D, place: u64, bytes: &[u8]) -> Result<(), F
 /// Opens the file of that name.
 fn open_file<D: Disk>(disk: &mut D, name: &str) -> Result<(), StoreError>
     ensures faults { D.faults disk.new ≡ counted (is_fault result) (D.faults disk.old) }
+    ensures called { D.calls disk.new ≡ with_call (ToOpen name.now) (D.calls disk.old) }
     ensures opens { IsOpened (D.moments disk.old) (D.moments disk.new) result }
 {
     match disk.open(name) {
@@ -116,6 +120,7 @@ fn made_bytes(tag: &[u8; 32], first: Stored) -> ArrayVec<u8, 58>
 pub fn make<D: Disk>(disk: &mut D, name: &str, tag: &[u8; 32], mask: Mask) -> Result<(), StoreError>
     requires { mask.0 < 2 ^ 31 }
     ensures faults { D.faults disk.new ≡ counted (is_fault result) (D.faults disk.old) }
+    ensures calls { MakesStore name.now tag.now (first_entry mask) result (D.calls disk.old) (D.calls disk.new) }
     ensures taken { MakesWhereEmpty (D.moments disk.old) result }
     ensures made { OnOk result (SettlesAs (λ _. made tag.now (first_entry mask)) (D.moments disk.old) (D.moments disk.new)) }
     ensures store { OnOk result (IsSettled tag.now (first_entry mask) 57 (D.moments disk.new)) }
@@ -140,6 +145,8 @@ pub fn make<D: Disk>(disk: &mut D, name: &str, tag: &[u8; 32], mask: Mask) -> Re
 /// Reads the first 40 bytes, and checks that they are the header of a store of this tag.
 fn read_head<D: Disk>(disk: &mut D, tag: &[u8; 32]) -> Result<(), StoreError>
     ensures faults { D.faults disk.new ≡ counted (is_fault result) (D.faults disk.old) }
+    ensures called { D.calls disk.new ≡ with_call (ToRead 0 40) (D.calls disk.old) }
+    ensures near { RefusedInHead result }
     ensures reads { ReadsHead tag.now (D.moments disk.old) result }
     ensures not_taken { IsNotTaken result }
     ensures same { OnRead result (D.moments disk.new ≡ D.moments disk.old) }
@@ -154,6 +161,8 @@ fn read_head<D: Disk>(disk: &mut D, tag: &[u8; 32]) -> Result<(), StoreError>
 fn read_gate<D: Disk>(disk: &mut D, before: Option<Stored>, gate: u64) -> Result<Gate, StoreError>
     requires { gate < 2 ^ 32 }
     ensures faults { D.faults disk.new ≡ counted (is_fault result) (D.faults disk.old) }
+    ensures called { D.calls disk.new ≡ with_call (ToRead gate 17) (D.calls disk.old) }
+    ensures near { RefusedAtGate gate result }
     ensures reads { ReadsGate before gate (D.moments disk.old) result }
     ensures found { FindsGate before result }
     ensures same { OnRead result (D.moments disk.new ≡ D.moments disk.old) }
@@ -173,6 +182,7 @@ fn read_gate<D: Disk>(disk: &mut D, before: Option<Stored>, gate: u64) -> Result
 /// Reads entry after entry, up to the first closed gate.
 fn read_entries<D: Disk>(disk: &mut D) -> Result<Store, StoreError>
     ensures faults { D.faults disk.new ≡ counted (is_fault result) (D.faults disk.old) }
+    ensures calls { ReadsGates [] result (D.calls disk.old) (D.calls disk.new) }
     ensures reads { ReadsEntries (D.moments disk.old) result }
     ensures not_taken { IsNotTaken result }
     ensures runs { IfOk result (λ store. store.failed ≡ false) }
@@ -202,6 +212,7 @@ fn read_entries<D: Disk>(disk: &mut D) -> Result<Store, StoreError>
 /// Reads the file whole.
 fn read_store<D: Disk>(disk: &mut D, tag: &[u8; 32]) -> Result<Store, StoreError>
     ensures faults { D.faults disk.new ≡ counted (is_fault result) (D.faults disk.old) }
+    ensures calls { ReadsGates (ToRead 0 40 ∷ []) result (D.calls disk.old) (D.calls disk.new) }
     ensures reads { OpensAs tag.now (D.moments disk.old) result }
     ensures not_taken { IsNotTaken result }
     ensures runs { IfOk result (λ store. store.failed ≡ false) }
@@ -243,6 +254,7 @@ impl Store {
     /// `OutOfMemory`, which comes from opening alone, the file is settled as it was.
     pub fn open<D: Disk>(disk: &mut D, name: &str, tag: &[u8; 32]) -> Result<Store, StoreError>
         ensures faults { D.faults disk.new ≡ counted (is_fault result) (D.faults disk.old) }
+        ensures calls { ReadsGates (open_calls name.now) result (D.calls disk.old) (D.calls disk.new) }
         ensures reads { OpensAs tag.now (D.moments disk.old) result }
         ensures not_taken { IsNotTaken result }
         ensures runs { IfOk result (λ store. store.failed ≡ false) }
@@ -274,6 +286,7 @@ impl Store {
         requires entry { IsEntry next }
         requires follows { Follows self.old.state next }
         ensures faults { D.faults disk.new ≡ counted (is_err result) (D.faults disk.old) }
+        ensures calls { Makes result (put_calls self.old.gate next) (D.calls disk.old) (D.calls disk.new) }
         ensures fault { IfErr result (λ e. e ≡ Fault) }
         ensures put { OnOk result (self.new ≡ record {
           state = next;

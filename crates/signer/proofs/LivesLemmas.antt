@@ -7,7 +7,7 @@ use Rattle.epoch_store.specs.declared.Stored.{Stored}
 use Rattle.epoch_store.specs.Store.{StoreOf}
 use Rattle.epoch_store.proofs.FoundLemmas.{one_state}
 use Rattle.signer.specs.Signing.{stored_after, MayComeNext}
-use Rattle.signer.specs.Lives.{Spent, spent_by, state_after, MayCome, IsLeft, PastLife, AreLives, all_spent, epochs_of, indexes, note_epochs, IsRising, OnceOverLives}
+use Rattle.signer.specs.Lives.{Spent, spent_by, state_after, MayCome, IsLeft, PastLife, AreLives, all_spent, epochs_of, indexes, note_epochs, IsRising, OnceOverLives, SpentOnce}
 
 -- each number is in this range
 abbrev Between : ℕ → ℕ → List ℕ → Type 0
@@ -135,3 +135,7 @@ once tag before [] size are = record { indexes_rise = tt; epochs_rise = tt }
 once tag before (life ∷ later) size are =
     let all = lives_spend tag before are.0.opened (life ∷ later) size are.0.found are in
     record { indexes_rise = all.spends_so.rising; epochs_rise = all.spends_so.epochs_rising }
+
+-- what was spent in all
+pub spent_once : SpentOnce
+spent_once tag before after spent size lived = rw lived.spent_is (once tag before lived.lives size lived.are)

@@ -1,16 +1,18 @@
--- How a life goes on, call after call.
-use Rattle.std.proofs.Common.{◌≡◌, ℕ, ◌⊎◌, inl, inr, true, false, List, [], ◌∷◌, ◌++◌, refl, sym, ap, ◌∙◌, subst, Result, Ok, Err, OnOk, append-nil}
+-- How lives go on, call after call.
+use Rattle.std.proofs.Common.{◌≡◌, ℕ, ◌⊎◌, inl, inr, true, false, List, [], ◌∷◌, ◌++◌, refl, sym, ap, ◌∙◌, subst, Result, Ok, Err, OnOk, append-nil, append_assoc}
 use Rattle.records.specs.declared.Body.{Body}
 use Rattle.records.specs.Signing.{CheckedRecord}
 use Rattle.epoch_store.specs.declared.Stored.{Stored}
 use Rattle.epoch_store.specs.Store.{StoreOf, IsSettled, LeavesEither}
 use Rattle.epoch_store.proofs.PutLemmas.{settled_leaves_state}
-use Rattle.ports.specs.Disk.{Moment, Leaves, Since}
+use Rattle.ports.specs.Disk.{Moment, Leaves, Since, IsAmong, settled}
+use Rattle.ports.specs.DiskLaws.{settled_leaves}
+use Rattle.ports.proofs.MomentLemmas.{settled_only}
 use Rattle.ports.proofs.SinceLemmas.{Since-same, Since-weaken, newest_has}
 use Rattle.signer.specs.declared.SignFault.{SignFault}
 use Rattle.signer.specs.declared.SignFault.TheVariants.{OutOfMemory, Closed, Exhausted, StoreFault}
 use Rattle.signer.specs.Signing.{SignerState, stored_after, MayComeNext, AnswersBy, after_signing, OnIdle}
-use Rattle.signer.specs.Lives.{Spent, spent_by, state_after, MayCome, IsLeft, Life, EndsLife, EndsNow, IsLiving, BeginsLife, spent_in}
+use Rattle.signer.specs.Lives.{Spent, spent_by, state_after, MayCome, IsLeft, Life, PastLife, AreLives, all_spent, left_by, Lived, EndsLives, EndsNow, IsLiving, spent_in, NothingSpent, KeptByOpening, KeptByCrash}
 
 spent_by-push : (s : Stored) (bodies : List Body) (b : Body) → spent_by s (bodies ++ b ∷ []) ≡ spent_by s bodies ++ record { index = (state_after s bodies).next; body = b } ∷ []
 spent_by-push s [] b = refl
@@ -24,54 +26,70 @@ MayCome-push : (s : Stored) (bodies : List Body) (b : Body) → MayCome s bodies
 MayCome-push s [] b may next = (next, tt)
 MayCome-push s (x ∷ bodies) b may next = (may.0, MayCome-push (stored_after s x) bodies b may.1 next)
 
--- a file of the state, or of the next one, ends the life
-ends_with : (tag before c : List ℕ) (spent : List Spent) (s : SignerState) (moments : List Moment) (body : Body) → IsLiving tag before spent s moments → s.closed ≡ false → MayComeNext s.state body → StoreOf tag c s.state ⊎ StoreOf tag c (stored_after s.state body) → Life tag before c spent
+-- one life more
+AreLives-push : (tag before : List ℕ) (lives : List PastLife) (life : PastLife) → AreLives tag before lives → Life tag (left_by before lives) life.left life.spent → AreLives tag before (lives ++ life ∷ [])
+AreLives-push tag before [] life are last = (last, tt)
+AreLives-push tag before (first ∷ lives) life are last = (are.0, AreLives-push tag first.left lives life are.1 last)
+
+left_by-push : (before : List ℕ) (lives : List PastLife) (life : PastLife) → left_by before (lives ++ life ∷ []) ≡ life.left
+left_by-push before [] life = refl
+left_by-push before (first ∷ lives) life = left_by-push first.left lives life
+
+all_spent-push : (lives : List PastLife) (life : PastLife) → all_spent (lives ++ life ∷ []) ≡ all_spent lives ++ life.spent
+all_spent-push [] life = append-nil life.spent
+all_spent-push (first ∷ lives) life = ap (λ (rest : List Spent). first.spent ++ rest) (all_spent-push lives life) ∙ sym (append_assoc first.spent (all_spent lives) life.spent)
+
+lived_with : (tag before c : List ℕ) (spent : List Spent) (earlier : List PastLife) (opened : Stored) (bodies : List Body) → AreLives tag before earlier → StoreOf tag (left_by before earlier) opened → MayCome opened bodies → spent ≡ all_spent earlier ++ spent_by opened bodies → IsLeft tag c (state_after opened bodies) → Lived tag before c spent
+lived_with tag before c spent earlier opened bodies are found may is left =
+    let life : PastLife = record { left = c; spent = spent_by opened bodies } in
+    record {
+      lives = earlier ++ life ∷ [];
+      are = AreLives-push tag before earlier life are (record { opened = opened; bodies = bodies; found = found; may_come = may; spent_is = refl; left = left });
+      left = sym (left_by-push before earlier life);
+      spent_is = is ∙ sym (all_spent-push earlier life);
+    }
+
+-- a file of the state, or of the next one, ends the lives
+ends_with : (tag before c : List ℕ) (spent : List Spent) (s : SignerState) (moments : List Moment) (body : Body) → IsLiving tag before spent s moments → s.closed ≡ false → MayComeNext s.state body → StoreOf tag c s.state ⊎ StoreOf tag c (stored_after s.state body) → Lived tag before c spent
 ends_with tag before c spent s moments body living running next file =
     let state = living.state running in
-    let P : Stored → Type 0 = λ z. MayComeNext z body → StoreOf tag c z ⊎ StoreOf tag c (stored_after z body) → IsLeft tag c z in
     let left : IsLeft tag c s.state = elim file [ inl same ↦ inl same | inr further ↦ inr (body, next, further) ] in
     let Q : Stored → Type 0 = λ z. IsLeft tag c z in
-    record {
-      opened = living.opened;
-      bodies = living.bodies;
-      found = living.found;
-      may_come = living.may_come;
-      spent_is = living.spent_is;
-      left = subst Q state left;
-    }
+    lived_with tag before c spent living.earlier living.opened living.bodies living.are living.found living.may_come living.spent_is (subst Q state left)
 
 -- at each moment of a call, a crash ends the life with what was spent before it
-pub any_life : (tag before : List ℕ) (spent : List Spent) (s : SignerState) (body : Body) (result : Result CheckedRecord SignFault) (older newer : List Moment) → AnswersBy s result → MayComeNext s.state body → ((t : List ℕ) → IsSettled t s.state s.gate older → Since (LeavesEither t s.state (stored_after s.state body)) older newer) → OnIdle result (newer ≡ older) → IsLiving tag before spent s older → Since (EndsLife tag before spent) older newer
+pub any_life : (tag before : List ℕ) (spent : List Spent) (s : SignerState) (body : Body) (result : Result CheckedRecord SignFault) (older newer : List Moment) → AnswersBy s result → MayComeNext s.state body → ((t : List ℕ) → IsSettled t s.state s.gate older → Since (LeavesEither t s.state (stored_after s.state body)) older newer) → OnIdle result (newer ≡ older) → IsLiving tag before spent s older → Since (EndsLives tag before spent) older newer
 any_life tag before spent s body (Ok value) older newer answers next each idle living =
-    Since-weaken (LeavesEither tag s.state (stored_after s.state body)) (EndsLife tag before spent) older newer (λ m either c leaves. ends_with tag before c spent s older body living answers.0 next (either c leaves)) (each tag (living.settled answers.0))
-any_life tag before spent s body (Err OutOfMemory) older newer answers next each idle living = rw idle (Since-same (EndsLife tag before spent) older)
-any_life tag before spent s body (Err Closed) older newer answers next each idle living = rw idle (Since-same (EndsLife tag before spent) older)
-any_life tag before spent s body (Err (Exhausted n)) older newer answers next each idle living = rw idle (Since-same (EndsLife tag before spent) older)
+    Since-weaken (LeavesEither tag s.state (stored_after s.state body)) (EndsLives tag before spent) older newer (λ m either c leaves. ends_with tag before c spent s older body living answers.0 next (either c leaves)) (each tag (living.settled answers.0))
+any_life tag before spent s body (Err OutOfMemory) older newer answers next each idle living = rw idle (Since-same (EndsLives tag before spent) older)
+any_life tag before spent s body (Err Closed) older newer answers next each idle living = rw idle (Since-same (EndsLives tag before spent) older)
+any_life tag before spent s body (Err (Exhausted n)) older newer answers next each idle living = rw idle (Since-same (EndsLives tag before spent) older)
 any_life tag before spent s body (Err StoreFault) older newer answers next each idle living =
-    Since-weaken (LeavesEither tag s.state (stored_after s.state body)) (EndsLife tag before spent) older newer (λ m either c leaves. ends_with tag before c spent s older body living answers.0 next (either c leaves)) (each tag (living.settled answers.0))
+    Since-weaken (LeavesEither tag s.state (stored_after s.state body)) (EndsLives tag before spent) older newer (λ m either c leaves. ends_with tag before c spent s older body living answers.0 next (either c leaves)) (each tag (living.settled answers.0))
+
+none_left : (now : Moment) (past more : List Moment) → [] ≡ more ++ now ∷ past → ⊥
+none_left now past [] is = cc
+none_left now past (m ∷ more) is = cc
 
 -- the newest moment too
-newest : (tag before : List ℕ) (spent : List Spent) (older newer : List Moment) → EndsNow tag before spent older → Since (EndsLife tag before spent) older newer → EndsNow tag before spent newer
-newest tag before spent older [] now since = tt
-newest tag before spent [] (m ∷ later) now since = first_of_all since.more since.grew since.each
-  where
-    first_of_all : (more : List Moment) → m ∷ later ≡ more ++ [] → Rattle.ports.specs.Disk.Each (EndsLife tag before spent) more → EndsLife tag before spent m
-    first_of_all [] is each = cc
-    first_of_all (x ∷ more) is each = let same : m ≡ x = cc in subst (EndsLife tag before spent) (sym same) each.0
-newest tag before spent (now ∷ past) (m ∷ later) at since = newest_has (EndsLife tag before spent) now m past later at since
+newest : (tag before : List ℕ) (spent : List Spent) (older newer : List Moment) → EndsNow tag before spent older → Since (EndsLives tag before spent) older newer → EndsNow tag before spent newer
+newest tag before spent [] newer now since = absurd now
+newest tag before spent (now ∷ past) [] at since = none_left now past since.more since.grew
+newest tag before spent (now ∷ past) (m ∷ later) at since = newest_has (EndsLives tag before spent) now m past later at since
 
-settled_ends : (tag before : List ℕ) (spent : List Spent) (opened : Stored) (bodies : List Body) (state : Stored) (gate : ℕ) (moments : List Moment) → StoreOf tag before opened → MayCome opened bodies → spent ≡ spent_by opened bodies → state ≡ state_after opened bodies → IsSettled tag state gate moments → EndsNow tag before spent moments
-settled_ends tag before spent opened bodies state gate [] found may is at settled = tt
-settled_ends tag before spent opened bodies state gate (now ∷ past) found may is at settled = λ c leaves.
+settled_ends : (tag before : List ℕ) (spent : List Spent) (earlier : List PastLife) (opened : Stored) (bodies : List Body) (state : Stored) (gate : ℕ) (now : Moment) (past : List Moment) → AreLives tag before earlier → StoreOf tag (left_by before earlier) opened → MayCome opened bodies → spent ≡ all_spent earlier ++ spent_by opened bodies → state ≡ state_after opened bodies → IsSettled tag state gate (now ∷ past) → EndsLives tag before spent now
+settled_ends tag before spent earlier opened bodies state gate now past are found may is at settled = λ c leaves.
     let Q : Stored → Type 0 = λ z. IsLeft tag c z in
-    record {
-      opened = opened;
-      bodies = bodies;
-      found = found;
-      may_come = may;
-      spent_is = is;
-      left = subst Q at (inl (settled_leaves_state tag state gate (now ∷ past) settled c leaves));
-    }
+    lived_with tag before c spent earlier opened bodies are found may is (subst Q at (inl (settled_leaves_state tag state gate (now ∷ past) settled c leaves)))
+
+-- moments go on from some moment
+told : (P : Moment → Type 0) (tag before : List ℕ) (spent : List Spent) (older newer : List Moment) → EndsNow tag before spent older → Since P older newer → newer ≡ [] → ⊥
+told P tag before spent [] newer at since none = at
+told P tag before spent (now ∷ past) newer at since none = none_left now past since.more (sym none ∙ since.grew)
+
+now_settled : (tag before : List ℕ) (spent : List Spent) (earlier : List PastLife) (opened : Stored) (bodies : List Body) (state : Stored) (gate : ℕ) (moments : List Moment) → (moments ≡ [] → ⊥) → AreLives tag before earlier → StoreOf tag (left_by before earlier) opened → MayCome opened bodies → spent ≡ all_spent earlier ++ spent_by opened bodies → state ≡ state_after opened bodies → IsSettled tag state gate moments → EndsNow tag before spent moments
+now_settled tag before spent earlier opened bodies state gate [] some are found may is at settled = some refl
+now_settled tag before spent earlier opened bodies state gate (now ∷ past) some are found may is at settled = settled_ends tag before spent earlier opened bodies state gate now past are found may is at settled
 
 -- the life goes on, with what was handed out spent too
 pub lives_on : (tag before : List ℕ) (spent : List Spent) (s later : SignerState) (body : Body) (result : Result CheckedRecord SignFault) (older newer : List Moment) → AnswersBy s result → MayComeNext s.state body → later ≡ after_signing s body result → ((t : List ℕ) → IsSettled t s.state s.gate older → Since (LeavesEither t s.state (stored_after s.state body)) older newer) → OnOk result ((t : List ℕ) → IsSettled t s.state s.gate older → IsSettled t later.state later.gate newer) → OnIdle result (newer ≡ older) → IsLiving tag before spent s older → IsLiving tag before (spent ++ spent_in s body result) later newer
@@ -79,22 +97,29 @@ lives_on tag before spent s later body (Ok value) older newer answers next after
     let state = living.state answers.0 in
     let P : Stored → Type 0 = λ z. MayComeNext z body in
     let may = MayCome-push living.opened living.bodies body living.may_come (subst P state next) in
-    let spent_now : spent ++ record { index = s.state.next; body = body } ∷ [] ≡ spent_by living.opened (living.bodies ++ body ∷ []) =
+    let one : List Spent = record { index = s.state.next; body = body } ∷ [] in
+    let last : List Spent = record { index = (state_after living.opened living.bodies).next; body = body } ∷ [] in
+    let spent_now : spent ++ one ≡ all_spent living.earlier ++ spent_by living.opened (living.bodies ++ body ∷ []) =
     ap (λ (z : Stored). spent ++ record { index = z.next; body = body } ∷ []) state
-    ∙ ap (λ (z : List Spent). z ++ record { index = (state_after living.opened living.bodies).next; body = body } ∷ []) living.spent_is
-    ∙ sym (spent_by-push living.opened living.bodies body) in
+    ∙ ap (λ (z : List Spent). z ++ last) living.spent_is
+    ∙ append_assoc (all_spent living.earlier) (spent_by living.opened living.bodies) last
+    ∙ ap (λ (z : List Spent). all_spent living.earlier ++ z) (sym (spent_by-push living.opened living.bodies body)) in
     let state_now : later.state ≡ state_after living.opened (living.bodies ++ body ∷ []) =
     ap (λ (z : SignerState). z.state) after ∙ ap (λ (z : Stored). stored_after z body) state ∙ sym (state_after-push living.opened living.bodies body) in
     let now = settled tag (living.settled answers.0) in
     record {
+      earlier = living.earlier;
       opened = living.opened;
       bodies = living.bodies ++ body ∷ [];
+      are = living.are;
       found = living.found;
       may_come = may;
       spent_is = spent_now;
       state = λ running. state_now;
       settled = λ running. now;
-      ends = settled_ends tag before _ living.opened (living.bodies ++ body ∷ []) later.state later.gate newer living.found may spent_now state_now now;
+      ends = now_settled tag before _ living.earlier living.opened (living.bodies ++ body ∷ []) later.state later.gate newer
+          (told (LeavesEither tag s.state (stored_after s.state body)) tag before spent older newer living.ends (each tag (living.settled answers.0)))
+          living.are living.found may spent_now state_now now;
     }
 lives_on tag before spent s later body (Err OutOfMemory) older newer answers next after each settled idle living = rw (append-nil spent, after, idle) living
 lives_on tag before spent s later body (Err Closed) older newer answers next after each settled idle living = rw (append-nil spent, after, idle) living
@@ -103,8 +128,10 @@ lives_on tag before spent s later body (Err StoreFault) older newer answers next
     let shut : later.closed ≡ true = ap (λ (z : SignerState). z.closed) after in
     let ends = newest tag before spent older newer living.ends (any_life tag before spent s body (Err StoreFault) older newer answers next each idle living) in
     rw (append-nil spent) (record {
+      earlier = living.earlier;
       opened = living.opened;
       bodies = living.bodies;
+      are = living.are;
       found = living.found;
       may_come = living.may_come;
       spent_is = living.spent_is;
@@ -113,16 +140,41 @@ lives_on tag before spent s later body (Err StoreFault) older newer answers next
       ends = ends;
     })
 
--- a life begins where a settled store was opened
-pub begins_life : (tag : List ℕ) (s : SignerState) (moments : List Moment) → IsSettled tag s.state s.gate moments → BeginsLife tag s moments
-begins_life tag s [] settled = tt
-begins_life tag s (now ∷ past) settled = record {
-  opened = s.state;
-  bodies = [];
-  found = (s.gate, settled.1);
-  may_come = tt;
-  spent_is = refl;
-  state = λ running. refl;
-  settled = λ running. settled;
-  ends = settled_ends tag now.image [] s.state [] s.state s.gate (now ∷ past) (s.gate, settled.1) tt refl refl settled;
-}
+-- the last life begins where a settled store was opened
+pub begins_life : (tag before : List ℕ) (spent : List Spent) (s : SignerState) (moments : List Moment) → IsSettled tag s.state s.gate moments → EndsNow tag before spent moments → IsLiving tag before spent s moments
+begins_life tag before spent s [] at ends = absurd ends
+begins_life tag before spent s (now ∷ past) at ends =
+    let P : Moment → Type 0 = λ m. Leaves m now.image in
+    let lived = ends now.image (subst P (sym at.0) (settled_leaves now.image)) in
+    let Q : List ℕ → Type 0 = λ file. StoreOf tag file s.state in
+    record {
+      earlier = lived.lives;
+      opened = s.state;
+      bodies = [];
+      are = lived.are;
+      found = subst Q lived.left (s.gate, at.1);
+      may_come = tt;
+      spent_is = lived.spent_is ∙ sym (append-nil (all_spent lived.lives));
+      state = λ running. refl;
+      settled = λ running. at;
+      ends = ends;
+    }
+
+-- no life has begun
+pub nothing_spent : NothingSpent
+nothing_spent tag now past is = λ c leaves.
+    let P : Moment → Type 0 = λ m. Leaves m c in
+    record { lives = []; are = tt; left = settled_only now.image c (subst P is leaves); spent_is = refl }
+
+-- an opening
+pub kept_by_opening : KeptByOpening
+kept_by_opening tag before spent [] newer ends fails = absurd ends
+kept_by_opening tag before spent (now ∷ past) newer ends fails =
+    let since = Since-weaken (IsAmong now) (EndsLives tag before spent) (now ∷ past) newer (λ m among c leaves. ends c (among c leaves)) fails in
+    (since, newest tag before spent (now ∷ past) newer ends since)
+
+-- a crash
+pub kept_by_crash : KeptByCrash
+kept_by_crash tag before spent now past c ends leaves = λ d left.
+    let P : List ℕ → Type 0 = λ file. Lived tag before file spent in
+    subst P (sym (settled_only c d left)) (ends c leaves)

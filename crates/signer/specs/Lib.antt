@@ -1,2 +1,3 @@
 pub mod Signing
 pub mod Lives
+pub mod Signs

@@ -4,7 +4,7 @@ use Rattle.std.specs.Prelude.{◌≡◌, ℕ, ◌<◌, ◌⊎◌, false, List, [
 use Rattle.std.specs.List.{AllByRecursion}
 use Rattle.records.specs.declared.Body.{Body}
 use Rattle.records.specs.declared.Body.TheVariants.{Certificate, Note, Accusation}
-use Rattle.ports.specs.Disk.{Moment, Leaves}
+use Rattle.ports.specs.Disk.{Moment, Leaves, Fails, Since, settled, stays}
 use Rattle.epoch_store.specs.declared.Stored.{Stored}
 use Rattle.epoch_store.specs.Store.{StoreOf, IsSettled}
 use Rattle.signer.specs.declared.SignFault.{SignFault}
@@ -86,32 +86,61 @@ pub record IsOnce (spent : List Spent) : Type 0 where
 abbrev pub OnceOverLives : Type 0
 OnceOverLives = (tag before : List ℕ) (lives : List PastLife) → length tag ≡ 32 → AreLives tag before lives → IsOnce (all_spent lives)
 
--- each file that a crash at this moment may leave ends a life that began with this file and spent this
-abbrev pub EndsLife : List ℕ → List ℕ → List Spent → Moment → Type 0
-EndsLife tag before spent moment = (c : List ℕ) → Leaves moment c → Life tag before c spent
+-- the file that the last of these lives left
+abbrev pub left_by : List ℕ → List PastLife → List ℕ
+left_by before [] = before
+left_by before (life ∷ later) = left_by life.left later
 
+-- lives from the one file to the other, which spent this in all
+pub record Lived (tag before after : List ℕ) (spent : List Spent) : Type 0 where
+  pub lives : List PastLife
+  pub are : AreLives tag before lives
+  pub left : after ≡ left_by before lives
+  pub spent_is : spent ≡ all_spent lives
+
+-- each file that a crash at this moment may leave ends lives that began with the one file and spent this
+abbrev pub EndsLives : List ℕ → List ℕ → List Spent → Moment → Type 0
+EndsLives tag before spent moment = (c : List ℕ) → Leaves moment c → Lived tag before c spent
+
+-- a crash now does so; the disk tells its file
 abbrev pub EndsNow : List ℕ → List ℕ → List Spent → List Moment → Type 0
-EndsNow tag before spent [] = Unit {0}
-EndsNow tag before spent (now ∷ past) = EndsLife tag before spent now
+EndsNow tag before spent [] = ⊥
+EndsNow tag before spent (now ∷ past) = EndsLives tag before spent now
 
--- a life that is not over: it found this file and has spent this so far; unless the disk has failed, the file is
--- settled with what the signer keeps; and a crash ends the life with exactly this spent
+-- lives of which the last is not over: they began with this file and have spent this so far; unless the disk has
+-- failed, the file is settled with what the signer keeps; and a crash ends them with exactly this spent
 pub record IsLiving (tag before : List ℕ) (spent : List Spent) (s : SignerState) (moments : List Moment) : Type 0 where
+  pub earlier : List PastLife
   pub opened : Stored
   pub bodies : List Body
-  pub found : StoreOf tag before opened
+  pub are : AreLives tag before earlier
+  pub found : StoreOf tag (left_by before earlier) opened
   pub may_come : MayCome opened bodies
-  pub spent_is : spent ≡ spent_by opened bodies
+  pub spent_is : spent ≡ all_spent earlier ++ spent_by opened bodies
   pub state : s.closed ≡ false → s.state ≡ state_after opened bodies
   pub settled : s.closed ≡ false → IsSettled tag s.state s.gate moments
   pub ends : EndsNow tag before spent moments
-
--- a life begins with nothing spent, where the disk tells its file
-abbrev pub BeginsLife : List ℕ → SignerState → List Moment → Type 0
-BeginsLife tag s [] = Unit {0}
-BeginsLife tag s (now ∷ past) = IsLiving tag now.image [] s (now ∷ past)
 
 -- what a call spent, by its answer
 abbrev pub spent_in : {T : Type 0} → SignerState → Body → Result T SignFault → List Spent
 spent_in s body (Ok value) = record { index = s.state.next; body = body } ∷ []
 spent_in s body (Err fault) = []
+
+-- what a key has spent is kept over whatever comes between two lives: where a crash now ends lives that spent this,
+-- it does so at each moment of an opening, whatever the opening answers
+abbrev pub KeptByOpening : Type 0
+KeptByOpening = (tag before : List ℕ) (spent : List Spent) (older newer : List Moment) → EndsNow tag before spent older
+    → Fails stays older newer → Since (EndsLives tag before spent) older newer × EndsNow tag before spent newer
+
+-- and once the disk came up with a file that a crash has left
+abbrev pub KeptByCrash : Type 0
+KeptByCrash = (tag before : List ℕ) (spent : List Spent) (now : Moment) (past : List Moment) (c : List ℕ)
+    → EndsNow tag before spent (now ∷ past) → Leaves now c → EndsNow tag before spent (settled c ∷ [])
+
+-- nothing is spent where the file is settled and no life has begun
+abbrev pub NothingSpent : Type 0
+NothingSpent = (tag : List ℕ) (now : Moment) (past : List Moment) → now ≡ settled now.image → EndsNow tag now.image [] (now ∷ past)
+
+-- and what was spent, was spent once
+abbrev pub SpentOnce : Type 0
+SpentOnce = (tag before after : List ℕ) (spent : List Spent) → length tag ≡ 32 → Lived tag before after spent → IsOnce spent

@@ -10,9 +10,11 @@ ghost use Rattle.lms_tree.specs.Lms.{public_of};
 ghost use Rattle.records.specs.Spelling.{HasPort};
 ghost use Rattle.records.specs.declared.Body.TheVariants.{Certificate, Accusation};
 ghost use Rattle.epoch_store.specs.Store.{IsSettled, LeavesEither, LeavesState};
+ghost use Rattle.epoch_store.specs.Asked.{put_calls};
 ghost use Rattle.signer.specs.declared.SignFault.TheVariants.{OutOfMemory};
 ghost use Rattle.signer.specs.Signing.{SignerState, stored_after as stored_after_it, MayComeNext, next_note, AnswersBy, is_store_fault, after_signing, signed_by, signed_record, OnIdle};
-ghost use Rattle.signer.specs.Lives.{Spent, IsLiving, BeginsLife, EndsLife, spent_in};
+ghost use Rattle.signer.specs.Lives.{Spent, IsLiving, EndsNow};
+ghost use Rattle.signer.specs.Signs.{Signs, MakesCalls};
 
 pub mod laws;
 
@@ -111,8 +113,8 @@ impl Signer {
         requires runs { store.failed ≡ false }
         requires behind { leaves.next ≤ store.state.next }
         requires within { store.state.next ≤ leaf_count_of tree.tree }
-        ensures begins { (tag : List ℕ) (moments : List Moment) → IsSettled tag store.state store.gate moments
-            → BeginsLife tag result moments }
+        ensures begins { (tag before : List ℕ) (spent : List Spent) (moments : List Moment) → IsSettled tag store.state store.gate moments
+            → EndsNow tag before spent moments → IsLiving tag before spent result moments }
         ensures value { result ≡ record {
           group = group;
           key = tree;
@@ -155,21 +157,8 @@ impl Signer {
         mask: Mask,
     ) -> Result<Checked, SignFault>
         requires { mask.0 < 2 ^ 31 }
-        ensures faults { D.faults disk.new ≡ counted (is_store_fault result) (D.faults disk.old) }
-        ensures answers { AnswersBy self.old result }
-        ensures signed { IfOk result (λ rec. rec ≡ signed_record self.old (next_note self.old.state member mask)) }
-        ensures after { self.new ≡ after_signing self.old (next_note self.old.state member mask) result }
-        ensures same { OnIdle result (D.moments disk.new ≡ D.moments disk.old) }
-        ensures any_moment { (tag : List ℕ) → IsSettled tag self.old.state self.old.gate (D.moments disk.old)
-            → Since (LeavesEither tag self.old.state (stored_after_it self.old.state (next_note self.old.state member mask))) (D.moments disk.old) (D.moments disk.new) }
-        ensures settled { OnOk result ((tag : List ℕ) → IsSettled tag self.old.state self.old.gate (D.moments disk.old)
-            → IsSettled tag self.new.state self.new.gate (D.moments disk.new)) }
-        ensures leaves { OnOk result ((tag : List ℕ) → IsSettled tag self.old.state self.old.gate (D.moments disk.old)
-            → LeavesState tag self.new.state (D.moments disk.new)) }
-        ensures lives { (tag before : List ℕ) (spent : List Spent) → IsLiving tag before spent self.old (D.moments disk.old)
-            → IsLiving tag before (spent ++ spent_in self.old (next_note self.old.state member mask) result) self.new (D.moments disk.new) }
-        ensures any_life { (tag before : List ℕ) (spent : List Spent) → IsLiving tag before spent self.old (D.moments disk.old)
-            → Since (EndsLife tag before spent) (D.moments disk.old) (D.moments disk.new) }
+        ensures { Signs self.old self.new (next_note self.old.state member mask) result (D.faults disk.old) (D.faults disk.new)
+            (D.calls disk.old) (D.calls disk.new) (D.moments disk.old) (D.moments disk.new) }
     {
         let epoch = Epoch::new(self.store.state().epoch + 1);
         self.sign(
@@ -190,21 +179,8 @@ impl Signer {
         disk: &mut D,
         acc: AccBody,
     ) -> Result<Checked, SignFault>
-        ensures faults { D.faults disk.new ≡ counted (is_store_fault result) (D.faults disk.old) }
-        ensures answers { AnswersBy self.old result }
-        ensures signed { IfOk result (λ rec. rec ≡ signed_record self.old (Accusation acc)) }
-        ensures after { self.new ≡ after_signing self.old (Accusation acc) result }
-        ensures same { OnIdle result (D.moments disk.new ≡ D.moments disk.old) }
-        ensures any_moment { (tag : List ℕ) → IsSettled tag self.old.state self.old.gate (D.moments disk.old)
-            → Since (LeavesEither tag self.old.state (stored_after_it self.old.state (Accusation acc))) (D.moments disk.old) (D.moments disk.new) }
-        ensures settled { OnOk result ((tag : List ℕ) → IsSettled tag self.old.state self.old.gate (D.moments disk.old)
-            → IsSettled tag self.new.state self.new.gate (D.moments disk.new)) }
-        ensures leaves { OnOk result ((tag : List ℕ) → IsSettled tag self.old.state self.old.gate (D.moments disk.old)
-            → LeavesState tag self.new.state (D.moments disk.new)) }
-        ensures lives { (tag before : List ℕ) (spent : List Spent) → IsLiving tag before spent self.old (D.moments disk.old)
-            → IsLiving tag before (spent ++ spent_in self.old (Accusation acc) result) self.new (D.moments disk.new) }
-        ensures any_life { (tag before : List ℕ) (spent : List Spent) → IsLiving tag before spent self.old (D.moments disk.old)
-            → Since (EndsLife tag before spent) (D.moments disk.old) (D.moments disk.new) }
+        ensures { Signs self.old self.new (Accusation acc) result (D.faults disk.old) (D.faults disk.new)
+            (D.calls disk.old) (D.calls disk.new) (D.moments disk.old) (D.moments disk.new) }
     {
         self.sign(alloc, disk, Body::Accusation(acc))
     }
@@ -217,21 +193,8 @@ impl Signer {
         cert: CertBody,
     ) -> Result<Checked, SignFault>
         requires { 0 < cert.port }
-        ensures faults { D.faults disk.new ≡ counted (is_store_fault result) (D.faults disk.old) }
-        ensures answers { AnswersBy self.old result }
-        ensures signed { IfOk result (λ rec. rec ≡ signed_record self.old (Certificate cert)) }
-        ensures after { self.new ≡ after_signing self.old (Certificate cert) result }
-        ensures same { OnIdle result (D.moments disk.new ≡ D.moments disk.old) }
-        ensures any_moment { (tag : List ℕ) → IsSettled tag self.old.state self.old.gate (D.moments disk.old)
-            → Since (LeavesEither tag self.old.state (stored_after_it self.old.state (Certificate cert))) (D.moments disk.old) (D.moments disk.new) }
-        ensures settled { OnOk result ((tag : List ℕ) → IsSettled tag self.old.state self.old.gate (D.moments disk.old)
-            → IsSettled tag self.new.state self.new.gate (D.moments disk.new)) }
-        ensures leaves { OnOk result ((tag : List ℕ) → IsSettled tag self.old.state self.old.gate (D.moments disk.old)
-            → LeavesState tag self.new.state (D.moments disk.new)) }
-        ensures lives { (tag before : List ℕ) (spent : List Spent) → IsLiving tag before spent self.old (D.moments disk.old)
-            → IsLiving tag before (spent ++ spent_in self.old (Certificate cert) result) self.new (D.moments disk.new) }
-        ensures any_life { (tag before : List ℕ) (spent : List Spent) → IsLiving tag before spent self.old (D.moments disk.old)
-            → Since (EndsLife tag before spent) (D.moments disk.old) (D.moments disk.new) }
+        ensures { Signs self.old self.new (Certificate cert) result (D.faults disk.old) (D.faults disk.new)
+            (D.calls disk.old) (D.calls disk.new) (D.moments disk.old) (D.moments disk.new) }
     {
         self.sign(alloc, disk, Body::Certificate(cert))
     }
@@ -245,21 +208,8 @@ impl Signer {
     ) -> Result<Checked, SignFault>
         requires port { HasPort body }
         requires next { MayComeNext self.old.state body }
-        ensures faults { D.faults disk.new ≡ counted (is_store_fault result) (D.faults disk.old) }
-        ensures answers { AnswersBy self.old result }
-        ensures signed { IfOk result (λ rec. rec ≡ signed_record self.old body) }
-        ensures after { self.new ≡ after_signing self.old body result }
-        ensures same { OnIdle result (D.moments disk.new ≡ D.moments disk.old) }
-        ensures any_moment { (tag : List ℕ) → IsSettled tag self.old.state self.old.gate (D.moments disk.old)
-            → Since (LeavesEither tag self.old.state (stored_after_it self.old.state body)) (D.moments disk.old) (D.moments disk.new) }
-        ensures settled { OnOk result ((tag : List ℕ) → IsSettled tag self.old.state self.old.gate (D.moments disk.old)
-            → IsSettled tag self.new.state self.new.gate (D.moments disk.new)) }
-        ensures leaves { OnOk result ((tag : List ℕ) → IsSettled tag self.old.state self.old.gate (D.moments disk.old)
-            → LeavesState tag self.new.state (D.moments disk.new)) }
-        ensures lives { (tag before : List ℕ) (spent : List Spent) → IsLiving tag before spent self.old (D.moments disk.old)
-            → IsLiving tag before (spent ++ spent_in self.old body result) self.new (D.moments disk.new) }
-        ensures any_life { (tag before : List ℕ) (spent : List Spent) → IsLiving tag before spent self.old (D.moments disk.old)
-            → Since (EndsLife tag before spent) (D.moments disk.old) (D.moments disk.new) }
+        ensures { Signs self.old self.new body result (D.faults disk.old) (D.faults disk.new)
+            (D.calls disk.old) (D.calls disk.new) (D.moments disk.old) (D.moments disk.new) }
     {
         self.sign_body(alloc, disk, body)
     }
@@ -278,6 +228,7 @@ impl Signer {
         ensures answers { AnswersBy self.old result }
         ensures signed { IfOk result (λ rec. rec ≡ signed_record self.old body) }
         ensures after { self.new ≡ after_signing self.old body result }
+        ensures calls { MakesCalls result (put_calls self.old.gate (stored_after_it self.old.state body)) (D.calls disk.old) (D.calls disk.new) }
         ensures same { OnIdle result (D.moments disk.new ≡ D.moments disk.old) }
         ensures any_moment { (tag : List ℕ) → IsSettled tag self.old.state self.old.gate (D.moments disk.old)
             → Since (LeavesEither tag self.old.state (stored_after_it self.old.state body)) (D.moments disk.old) (D.moments disk.new) }

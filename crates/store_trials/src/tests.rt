@@ -1,6 +1,6 @@
 //! Disks in memory under stores and signers.
 
-ghost use Rattle.std.specs.Prelude.{◌≡◌, IfOk, length};
+ghost use Rattle.std.specs.Prelude.{◌≡◌, ◌<◌, IfOk, length};
 
 use crate::plain::state_of;
 use epoch_store::{Store, StoreError, Stored, make};
@@ -9,7 +9,7 @@ use fields::Reader;
 use lms_ots::OtsKind;
 use lms_tree::{SecretKey, TreeKind};
 use ports::{Disk, MemoryDisk};
-use records::{Body, Checked};
+use records::{Body, CertBody, Checked};
 use signer::{SignFault, Signer};
 use std::alloc::Global;
 use std::test::Fail;
@@ -32,6 +32,13 @@ fn disk_with(alloc: Global, bytes: &[u8]) -> Result<MemoryDisk, Fail> {
         place = place.wrapping_add(part.len() as u64);
     }
     disk.sync().or(Err("sync"))?;
+    Ok(disk)
+}
+
+/// A disk with a store that was made with mask 7.
+fn disk_with_store(alloc: Global) -> Result<MemoryDisk, Fail> {
+    let mut disk = new_disk(alloc)?;
+    make(&mut disk, NAME, &TAG, Mask(7)).or(Err("make"))?;
     Ok(disk)
 }
 
@@ -197,6 +204,33 @@ fn each_cut_and_each_changed_byte_is_answered_as_a_plain_reader_does(
     Ok(())
 }
 
+#[test]
+fn a_put_changes_the_state_and_the_file(rt: HostRuntime) -> Result<(), Fail> {
+    let alloc = rt.alloc();
+    let mut disk = new_disk(alloc)?;
+    make(&mut disk, NAME, &TAG, Mask(7)).or(Err("make"))?;
+    let mut store = Store::open(&mut disk, NAME, &TAG).or(Err("open"))?;
+    let state = store.state();
+    if state.next > 0 || state.epoch > 0 {
+        return Err("another state".into());
+    }
+    assert_eq!(rt; store.put(&mut disk, stored(1, 1, 5)), Ok(()));
+    assert_eq!(rt; store.state(), stored(1, 1, 5));
+    assert_eq!(rt; opened(alloc, disk.image())?, Ok(stored(1, 1, 5)));
+    Ok(())
+}
+
+#[test]
+fn a_store_may_have_a_name_of_255_bytes(rt: HostRuntime) -> Result<(), Fail> {
+    let bytes = [b'n'; 255];
+    let name = std::str::from_utf8(&bytes).or(Err("no text"))?;
+    let mut disk = new_disk(rt.alloc())?;
+    assert_eq!(rt; make(&mut disk, name, &TAG, Mask(7)), Ok(()));
+    let store = Store::open(&mut disk, name, &TAG).or(Err("open"))?;
+    assert_eq!(rt; store.state(), stored(0, 0, 7));
+    Ok(())
+}
+
 fn group() -> Group {
     Group {
         tag: [0; 16],
@@ -283,112 +317,183 @@ fn sign_all(
 
 const OUTCOMES: [u16; 8] = [0, 1, 2, 57, 74, 183, 200, 65_535];
 
+/// Signs all, stopped at this call of the disk, crashes, and signs on: whether the stop came before all were signed.
+fn stopped_and_carried_on(
+    alloc: Global,
+    disk: &mut MemoryDisk,
+    calls: u64,
+    outcome: u16,
+) -> Result<bool, Fail> {
+    let mut handed = Handed {
+        index: None,
+        epoch: 0,
+    };
+    disk.arm(calls, outcome);
+    let whole = open_and_sign_all(alloc, disk, &mut handed)?;
+    disk.crash(outcome);
+    // A stop that has not come yet may come only now.
+    let again = open_and_sign_all(alloc, disk, &mut handed)?;
+    if !whole && !again {
+        return Err("a disk that is up failed".into());
+    }
+    Ok(!whole)
+}
+
+/// Opens the signer and signs all, or as much as the disk lets it: whether that was all.
+fn open_and_sign_all(
+    alloc: Global,
+    disk: &mut MemoryDisk,
+    handed: &mut Handed,
+) -> Result<bool, Fail> {
+    match open_signer(alloc, disk)? {
+        Some(mut signer) => sign_all(alloc, &mut signer, disk, handed),
+        None => Ok(false),
+    }
+}
+
 #[test]
 fn no_index_and_no_epoch_comes_twice_whatever_call_is_stopped(rt: HostRuntime) -> Result<(), Fail> {
-    let alloc = rt.alloc();
-    let mut whole = false;
+    let mut was_stopped = true;
     for calls in 0..40u64 {
         for outcome in OUTCOMES {
-            let mut disk = new_disk(alloc)?;
-            make(&mut disk, NAME, &TAG, Mask(7)).or(Err("make"))?;
-            let mut handed = Handed {
-                index: None,
-                epoch: 0,
-            };
-            disk.arm(calls, outcome);
-            if let Some(mut signer) = open_signer(alloc, &mut disk)? {
-                whole = sign_all(alloc, &mut signer, &mut disk, &mut handed)?;
-            }
-            disk.crash(outcome);
-            match open_signer(alloc, &mut disk)? {
-                Some(mut signer) => {
-                    sign_all(alloc, &mut signer, &mut disk, &mut handed)?;
-                }
-                None => {
-                    // The stop that was armed came only now.
-                    disk.crash(outcome);
-                }
-            }
+            let mut disk = disk_with_store(rt.alloc())?;
+            was_stopped = stopped_and_carried_on(rt.alloc(), &mut disk, calls, outcome)?;
         }
     }
-    assert_eq!(rt; whole, true);
+    assert_eq!(rt; was_stopped, false);
     Ok(())
+}
+
+/// What signing a note of this member answers, which must be a fault.
+fn fault_of(alloc: Global, signer: &mut Signer, disk: &mut MemoryDisk) -> Result<SignFault, Fail> {
+    match signer.sign_note(alloc, disk, MemberId::new(1), Mask(7)) {
+        Ok(_) => Err("a record was handed out".into()),
+        Err(fault) => Ok(fault),
+    }
+}
+
+/// Signs a note, and then one that is stopped at this call of the put: the faults that it answers, and then three
+/// more.
+fn stopped_faults(
+    alloc: Global,
+    signer: &mut Signer,
+    disk: &mut MemoryDisk,
+    calls: u64,
+    outcome: u16,
+) -> Result<[SignFault; 4], Fail> {
+    signer
+        .sign_note(alloc, disk, MemberId::new(1), Mask(7))
+        .or(Err("sign"))?;
+    disk.arm(calls, outcome);
+    let first = fault_of(alloc, signer, disk)?;
+    let second = fault_of(alloc, signer, disk)?;
+    let third = fault_of(alloc, signer, disk)?;
+    let fourth = fault_of(alloc, signer, disk)?;
+    Ok([first, second, third, fourth])
+}
+
+/// The faults of a signature that is stopped so, and the state that is found afterwards.
+fn stopped(
+    alloc: Global,
+    disk: &mut MemoryDisk,
+    calls: u64,
+    outcome: u16,
+) -> Result<([SignFault; 4], Stored), Fail> {
+    let mut signer = open_signer(alloc, disk)?.ok_or("open")?;
+    let faults = stopped_faults(alloc, &mut signer, disk, calls, outcome)?;
+    disk.crash(0);
+    let left = open_signer(alloc, disk)?.ok_or("open")?;
+    Ok((faults, left.state()))
 }
 
 #[test]
 fn a_stop_within_a_put_leaves_the_old_state_or_the_new_one(rt: HostRuntime) -> Result<(), Fail> {
-    let alloc = rt.alloc();
+    let closed = SignFault::Closed;
     for calls in 0..4u64 {
         for outcome in [0u16, 1, 2, 183] {
-            let mut disk = new_disk(alloc)?;
-            make(&mut disk, NAME, &TAG, Mask(7)).or(Err("make"))?;
-            let member = MemberId::new(1);
-            let mut signer = open_signer(alloc, &mut disk)?.ok_or("open")?;
-            signer
-                .sign_note(alloc, &mut disk, member, Mask(7))
-                .or(Err("sign"))?;
-            assert_eq!(rt; signer.state(), stored(1, 1, 7));
-            disk.arm(calls, outcome);
-            let faults = [
-                SignFault::StoreFault,
-                SignFault::Closed,
-                SignFault::Closed,
-                SignFault::Closed,
-            ];
-            for fault in faults {
-                match signer.sign_note(alloc, &mut disk, member, Mask(7)) {
-                    Ok(_) => return Err("a record without its index in the store".into()),
-                    Err(answer) => assert_eq!(rt; answer, fault),
-                }
-            }
-            disk.crash(0);
-            let opened = open_signer(alloc, &mut disk)?.ok_or("open")?;
+            let mut disk = disk_with_store(rt.alloc())?;
+            let (faults, left) = stopped(rt.alloc(), &mut disk, calls, outcome)?;
+            assert_eq!(rt; faults, [SignFault::StoreFault, closed, closed, closed]);
             let is_new = calls >= 2 && (outcome == 1 || outcome == 183);
             let state = if is_new {
                 stored(2, 2, 7)
             } else {
                 stored(1, 1, 7)
             };
-            assert_eq!(rt; opened.state(), state);
+            assert_eq!(rt; left, state);
         }
     }
     Ok(())
 }
 
-#[test]
-fn a_key_is_used_up_and_certificates_are_signed(rt: HostRuntime) -> Result<(), Fail> {
-    let alloc = rt.alloc();
-    let mut disk = new_disk(alloc)?;
-    make(&mut disk, NAME, &TAG, Mask(7)).or(Err("make"))?;
-    let mut signer = open_signer(alloc, &mut disk)?.ok_or("open")?;
-    let key = SecretKey::make(alloc, TreeKind::H5, OtsKind::W4, [1; 16], [2; 32]).or(Err("key"))?;
-    let cert = records::CertBody {
-        member: MemberId::new(1),
-        port: 20_001,
-        key: key.public(),
-    };
+/// Signs a certificate and an accusation.
+fn sign_both(
+    alloc: Global,
+    signer: &mut Signer,
+    disk: &mut MemoryDisk,
+    handed: &mut Handed,
+    cert: CertBody,
+) -> Result<(), Fail>
+    requires { 0 < cert.port }
+{
+    let record = signer
+        .sign_certificate(alloc, disk, cert)
+        .or(Err("certificate"))?;
+    handed.take(&record)?;
+    let record = signer
+        .sign_accusation(alloc, disk, accusation())
+        .or(Err("accusation"))?;
+    handed.take(&record)
+}
+
+/// Spends all 32 leaves of the key.
+fn use_up(
+    alloc: Global,
+    signer: &mut Signer,
+    disk: &mut MemoryDisk,
+    cert: &CertBody,
+) -> Result<(), Fail>
+    requires { 0 < cert.now.port }
+{
     let mut handed = Handed {
         index: None,
         epoch: 0,
     };
     for _ in 0..16 {
-        let record = signer
-            .sign_certificate(alloc, &mut disk, cert)
-            .or(Err("sign"))?;
-        handed.take(&record)?;
-        let record = signer
-            .sign_accusation(alloc, &mut disk, accusation())
-            .or(Err("sign"))?;
-        handed.take(&record)?;
+        sign_both(alloc, signer, disk, &mut handed, *cert)?;
     }
-    assert_eq!(rt; signer.state(), stored(32, 0, 7));
-    match signer.sign_note(alloc, &mut disk, MemberId::new(1), Mask(7)) {
-        Ok(_) => Err("an index that the key has not".into()),
-        Err(fault) => {
-            assert_eq!(rt; fault, SignFault::Exhausted { next: 32 });
-            Ok(())
-        }
-    }
+    Ok(())
+}
+
+/// The certificate of the key of these trials.
+fn certificate(alloc: Global) -> Result<CertBody, Fail>
+    ensures { IfOk result (λ cert. 0 < cert.port) }
+{
+    let key = SecretKey::make(alloc, TreeKind::H5, OtsKind::W4, [1; 16], [2; 32]).or(Err("key"))?;
+    Ok(CertBody {
+        member: MemberId::new(1),
+        port: 20_001,
+        key: key.public(),
+    })
+}
+
+/// What is kept once all leaves of the key are spent, and what signing answers then.
+fn used_up(alloc: Global, disk: &mut MemoryDisk) -> Result<(Stored, SignFault), Fail> {
+    let cert = certificate(alloc)?;
+    let mut signer = open_signer(alloc, disk)?.ok_or("open")?;
+    use_up(alloc, &mut signer, disk, &cert)?;
+    let fault = fault_of(alloc, &mut signer, disk)?;
+    Ok((signer.state(), fault))
+}
+
+#[test]
+fn a_key_is_used_up_and_certificates_are_signed(rt: HostRuntime) -> Result<(), Fail> {
+    let mut disk = disk_with_store(rt.alloc())?;
+    assert_eq!(rt;
+        used_up(rt.alloc(), &mut disk)?,
+        (stored(32, 0, 7), SignFault::Exhausted { next: 32 })
+    );
+    Ok(())
 }
 
 /// Which call of a disk fails, counted from 0, that serves a store as it is made, opened and put.

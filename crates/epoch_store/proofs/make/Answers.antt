@@ -1,7 +1,12 @@
-use Rattle.std.proofs.Common.{◌≡◌, ◌≤◌, length, arith, ◌∙◌, sym}
+use Rattle.std.proofs.Common.{◌≡◌, ◌≤◌, length, arith, ◌∙◌}
 use Rattle.epoch_store.specs.Calls.{HasLength}
 use Rattle.epoch_store.proofs.OpenLemmas.{opened_torn, measured, made_store}
 use Rattle.ports.proofs.SinceLemmas.{Fails-torn}
+use Rattle.std.proofs.Common.{ap, ◌∷◌, [], subst, List, ℕ}
+use Rattle.std.proofs.lemmas.Result.{err_from_is_err_and}
+use Rattle.ports.specs.DiskCalls.{ToOpen, ToMeasure, ToSync, ToWrite, with_call, AsFarAs}
+use Rattle.epoch_store.proofs.CallLemmas.{not_opened, joined}
+use Rattle.epoch_store.specs.Store.{first_entry}
 use Rattle.epoch_store.proofs.make.Goals as goal
 
 pub returns-in_err-open_file-clause-any_moment : goal.returns-in_err-open_file-clause-any_moment
@@ -19,3 +24,21 @@ returns-clause-store g c =
     let empty : HasLength (g.D.Disk.moments c.len.new.self) 0 = rw c.in_ok-len.ensures.same (measured (g.D.Disk.moments c.open_file.new.disk) c.in_ok-len.len c.in_ok-len.ensures.value none) in
     made_store c.args.tag.now c.as_slice.result.now c.args.mask (g.D.Disk.moments c.len.new.self) (g.D.Disk.moments c.write_synced.new.disk) size c.requires
     (c.as_slice.ensures.value ∙ c.made_bytes-bytes.ensures) empty c.in_ok-write_synced.ensures.stores
+
+pub returns-in_err-open_file-clause-calls : goal.returns-in_err-open_file-clause-calls
+returns-in_err-open_file-clause-calls g c =
+    let p = err_from_is_err_and c.from_residual.result c.from_residual.ensures.1 in
+    rw (p.1, p.2) (not_opened c.args.name.now c.args.tag.now (first_entry c.args.mask) c.in_err-open_file.field-0.0 (g.D.Disk.moments c.args.disk.now) (g.D.Disk.moments c.open_file.new.disk) _ _ c.in_err-open_file.ensures.opens c.open_file.ensures.called)
+
+pub returns-in_err-len-clause-calls : goal.returns-in_err-len-clause-calls
+returns-in_err-len-clause-calls g c =
+    let p = err_from_is_err_and c.from_residual-in_err-len.result c.from_residual-in_err-len.ensures.1 in
+    rw (p.1, p.2) (record { left_out = 2; made = c.len.ensures.called ∙ ap (with_call ToMeasure) c.open_file.ensures.called })
+
+pub returns-in_err-write_synced-clause-calls : goal.returns-in_err-write_synced-clause-calls
+returns-in_err-write_synced-clause-calls g c =
+    let p = err_from_is_err_and c.from_residual-in_err-write_synced.result c.from_residual-in_err-write_synced.ensures.1 in
+    let spelled = c.as_slice.ensures.value ∙ c.made_bytes-bytes.ensures in
+    let P : List ℕ → Type 0 = λ bytes. AsFarAs (ToSync ∷ ToWrite 0 bytes ∷ ToMeasure ∷ ToOpen c.args.name.now ∷ []) (g.D.Disk.calls c.args.disk.now) (g.D.Disk.calls c.write_synced.new.disk) in
+    rw (p.1, p.2) (subst P spelled (joined (ToSync ∷ ToWrite 0 c.as_slice.result.now ∷ []) (ToMeasure ∷ ToOpen c.args.name.now ∷ []) (g.D.Disk.calls c.args.disk.now) (g.D.Disk.calls c.len.new.self) (g.D.Disk.calls c.write_synced.new.disk)
+    (c.len.ensures.called ∙ ap (with_call ToMeasure) c.open_file.ensures.called) c.in_err-write_synced.ensures.calls))

@@ -1,5 +1,6 @@
 use Rattle.std.proofs.Common.{◌≡◌}
 use Rattle.epoch_store.proofs.ReadLemmas.{Continues, IsPlaced, left_of}
+use Rattle.epoch_store.proofs.CallLemmas.{HasRead}
 use Rattle.epoch_store.proofs.read_entries.Given as goal
 
 abbrev pub invariant-loop-state : goal.invariant-loop-state
@@ -8,6 +9,7 @@ invariant-loop-state g l = record {
   faults : g.D.Disk.faults l.disk ≡ g.D.Disk.faults l.initial.disk;
   so_far : Continues (g.D.Disk.moments l.initial.disk) l.before l.gate;
   place : IsPlaced l.before l.gate;
+  calls : HasRead l.gate (g.D.Disk.calls l.initial.disk) (g.D.Disk.calls l.disk);
 }
 
 abbrev pub decreases-loop-state : goal.decreases-loop-state

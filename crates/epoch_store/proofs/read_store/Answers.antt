@@ -1,6 +1,9 @@
-use Rattle.std.proofs.Common.{◌≡◌, length, arith, Ok}
+use Rattle.std.proofs.Common.{◌≡◌, length, arith}
 use Rattle.epoch_store.proofs.OpenLemmas.{head_refused, entries_read, entries_hold}
 use Rattle.ports.proofs.SinceLemmas.{Fails-trans}
+use Rattle.std.proofs.Common.{[], ◌∷◌}
+use Rattle.ports.specs.DiskCalls.{ToRead}
+use Rattle.epoch_store.proofs.CallLemmas.{read_after, head_only}
 use Rattle.epoch_store.proofs.read_store.Goals as goal
 
 pub returns-in-Ok-clause-reads : goal.returns-in-Ok-clause-reads
@@ -18,3 +21,10 @@ returns-in-Ok-clause-stays g c =
 
 pub returns-in-Err-clause-reads : goal.returns-in-Err-clause-reads
 returns-in-Err-clause-reads g c = head_refused c.args.tag.now (g.D.Disk.moments c.args.disk.now) c.in-Err.error c.in-Err.ensures.reads
+
+pub returns-in-Ok-clause-calls : goal.returns-in-Ok-clause-calls
+returns-in-Ok-clause-calls g c =
+    read_after [] (ToRead 0 40 ∷ []) c.read_entries.result (g.D.Disk.calls c.args.disk.now) (g.D.Disk.calls c.read_head.new.disk) (g.D.Disk.calls c.read_entries.new.disk) c.in-Ok.ensures.called c.read_entries.ensures.calls
+
+pub returns-in-Err-clause-calls : goal.returns-in-Err-clause-calls
+returns-in-Err-clause-calls g c = head_only c.in-Err.error _ _ c.in-Err.ensures.near c.in-Err.ensures.called

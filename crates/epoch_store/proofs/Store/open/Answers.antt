@@ -1,7 +1,9 @@
-use Rattle.std.proofs.Common.{◌≡◌}
-use Rattle.epoch_store.specs.Calls.{SettlesAs, same}
 use Rattle.epoch_store.proofs.OpenLemmas.{settles_same, opens_before, settled_store, settles_on, opened_stays}
 use Rattle.ports.proofs.SinceLemmas.{Fails-trans, Settles-fails}
+use Rattle.std.proofs.Common.{[], ◌∷◌, ap, ◌∙◌}
+use Rattle.std.proofs.lemmas.Result.{err_from_is_err_and}
+use Rattle.ports.specs.DiskCalls.{ToOpen, ToRead, ToSync, with_call}
+use Rattle.epoch_store.proofs.CallLemmas.{not_opened_to_read, read_after}
 use Rattle.epoch_store.proofs.Store.open.Goals as goal
 
 pub returns-clause-reads : goal.returns-clause-reads
@@ -27,3 +29,13 @@ returns-clause-any_moment g c =
     let last = g.D.Disk.moments c.read_store.new.disk in
     Fails-trans first opened last (opened_stays first opened c.open_file.result c.open_file.ensures.opens)
     (Fails-trans opened synced last (Settles-fails opened synced (g.met.D.Disk.image_left c.open_file.new.disk) c.in_ok-sync.ensures.settles) c.read_store.ensures.stays)
+
+pub returns-in_err-open_file-clause-calls : goal.returns-in_err-open_file-clause-calls
+returns-in_err-open_file-clause-calls g c =
+    let p = err_from_is_err_and c.from_residual.result c.from_residual.ensures.1 in
+    rw (p.1, p.2) (not_opened_to_read c.args.name.now c.in_err-open_file.field-0.0 (g.D.Disk.moments c.args.disk.now) (g.D.Disk.moments c.open_file.new.disk) _ _ c.in_err-open_file.ensures.opens c.open_file.ensures.called)
+
+pub returns-clause-calls : goal.returns-clause-calls
+returns-clause-calls g c =
+    read_after (ToRead 0 40 ∷ []) (ToSync ∷ ToOpen c.args.name.now ∷ []) c.read_store.result (g.D.Disk.calls c.args.disk.now) (g.D.Disk.calls c.sync.new.self) (g.D.Disk.calls c.read_store.new.disk)
+    (c.sync.ensures.called ∙ ap (with_call ToSync) c.open_file.ensures.called) c.read_store.ensures.calls

@@ -2,6 +2,10 @@ use Rattle.std.proofs.Common.{◌≡◌, ap}
 use Rattle.epoch_store.specs.Calls.{StoreState}
 use Rattle.epoch_store.proofs.PutLemmas.{while_entry, while_gate, after_gate, settled_leaves_state}
 use Rattle.ports.proofs.SinceLemmas.{Since-trans}
+use Rattle.std.proofs.Common.{◌∷◌, [], ◌+◌, ℕ, List, subst}
+use Rattle.std.proofs.lemmas.Result.{err_from_is_err_and}
+use Rattle.ports.specs.DiskCalls.{ToSync, ToWrite, AsFarAs}
+use Rattle.epoch_store.proofs.CallLemmas.{further, joined}
 use Rattle.epoch_store.proofs.Store.put.Goals as goal
 
 pub returns-in_err-write_synced-clause-any_moment : goal.returns-in_err-write_synced-clause-any_moment
@@ -44,3 +48,24 @@ returns-clause-settled g c = λ tag at.
 pub returns-clause-leaves : goal.returns-clause-leaves
 returns-clause-leaves g c = λ tag at.
     settled_leaves_state tag c.args.next _ (g.D.Disk.moments c.write_synced-2.new.disk) (returns-clause-settled g c tag at)
+
+pub returns-in_err-write_synced-clause-calls : goal.returns-in_err-write_synced-clause-calls
+returns-in_err-write_synced-clause-calls g c =
+    let p = err_from_is_err_and c.from_residual.result c.from_residual.ensures.1 in
+    let gate : c.self.inside.gate ≡ c.args.self.now.gate = ap (λ (s : StoreState). s.gate) c.self.view_is in
+    let older = g.D.Disk.calls c.args.disk.now in
+    let newer = g.D.Disk.calls c.write_synced.new.disk in
+    let P : List ℕ → Type 0 = λ bytes. AsFarAs (ToSync ∷ ToWrite (c.args.self.now.gate + 1) bytes ∷ []) older newer in
+    let first = subst P c.entry_bytes.ensures (rw gate at c.in_err-write_synced.ensures.calls) in
+    rw p.1 (further (ToSync ∷ ToWrite c.args.self.now.gate (1 ∷ []) ∷ []) _ older newer first)
+
+pub returns-in_err-write_synced-2-clause-calls : goal.returns-in_err-write_synced-2-clause-calls
+returns-in_err-write_synced-2-clause-calls g c =
+    let p = err_from_is_err_and c.from_residual-in_err-write_synced-2.result c.from_residual-in_err-write_synced-2.ensures.1 in
+    let gate : c.self.inside.gate ≡ c.args.self.now.gate = ap (λ (s : StoreState). s.gate) c.self.view_is in
+    let older = g.D.Disk.calls c.args.disk.now in
+    let middle = g.D.Disk.calls c.write_synced.new.disk in
+    let newer = g.D.Disk.calls c.write_synced-2.new.disk in
+    let P : List ℕ → Type 0 = λ bytes. AsFarAs (ToSync ∷ ToWrite c.args.self.now.gate (1 ∷ []) ∷ ToSync ∷ ToWrite (c.args.self.now.gate + 1) bytes ∷ []) older newer in
+    rw p.1 (subst P c.entry_bytes.ensures
+    (joined (ToSync ∷ ToWrite c.args.self.now.gate (1 ∷ []) ∷ []) (ToSync ∷ ToWrite (c.args.self.now.gate + 1) c.entry_bytes.result ∷ []) older middle newer (rw gate at c.in_ok-write_synced.ensures.calls) (rw gate at c.in_err-write_synced-2.ensures.calls)))

@@ -3,12 +3,12 @@ use Rattle.signer.proofs.LivingLemmas.{begins_life}
 use Rattle.signer.proofs.Signer.open.Goals as goal
 
 pub returns-clause-begins : goal.returns-clause-begins
-returns-clause-begins c = λ tag moments settled.
-    begins_life tag (record {
+returns-clause-begins c = λ tag before spent moments settled ends.
+    begins_life tag before spent (record {
       group = c.args.group;
       key = c.args.tree;
       leaf = c.skip_to.new.self.next;
       state = c.args.store.state;
       gate = c.args.store.gate;
       closed = false;
-    }) moments settled
+    }) moments settled ends

@@ -1,12 +1,25 @@
 use Rattle.signer.proofs.LivingLemmas.{lives_on, any_life}
 use Rattle.signer.proofs.Signer.sign.Goals as goal
 
-pub returns-clause-lives : goal.returns-clause-lives
-returns-clause-lives g c = λ tag before spent living.
-    lives_on tag before spent c.args.self.now c.sign_body.new.self c.args.body c.sign_body.result (g.D.Disk.moments c.args.disk.now) (g.D.Disk.moments c.sign_body.new.disk)
-    c.sign_body.ensures.answers c.requires.next c.sign_body.ensures.after c.sign_body.ensures.any_moment c.sign_body.ensures.settled c.sign_body.ensures.same living
-
-pub returns-clause-any_life : goal.returns-clause-any_life
-returns-clause-any_life g c = λ tag before spent living.
-    any_life tag before spent c.args.self.now c.args.body c.sign_body.result (g.D.Disk.moments c.args.disk.now) (g.D.Disk.moments c.sign_body.new.disk)
-    c.sign_body.ensures.answers c.requires.next c.sign_body.ensures.any_moment c.sign_body.ensures.same living
+pub returns : goal.returns
+returns g c =
+    let done = c.sign_body.ensures in
+    let older = g.D.Disk.moments c.args.disk.now in
+    let newer = g.D.Disk.moments c.sign_body.new.disk in
+    record {
+      faults = done.faults;
+      answers = done.answers;
+      signed = done.signed;
+      after = done.after;
+      calls = done.calls;
+      same = done.same;
+      any_moment = done.any_moment;
+      settled = done.settled;
+      leaves = done.leaves;
+      lives = λ tag before spent living.
+          lives_on tag before spent c.args.self.now c.sign_body.new.self c.args.body c.sign_body.result older newer
+          done.answers c.requires.next done.after done.any_moment done.settled done.same living;
+      any_life = λ tag before spent living.
+          any_life tag before spent c.args.self.now c.args.body c.sign_body.result older newer
+          done.answers c.requires.next done.any_moment done.same living;
+    }

@@ -1,0 +1,37 @@
+-- What a call that signs does: to the signer, to its disk, and to what its key has spent.
+use Rattle.std.specs.Prelude.{◌≡◌, ℕ, Option, List, ◌++◌, Result, Ok, Err, OnOk, IfOk}
+use Rattle.ports.specs.Count.{counted}
+use Rattle.ports.specs.Disk.{Moment, Since}
+use Rattle.ports.specs.DiskCalls.{DiskCall, with_calls, AsFarAs}
+use Rattle.records.specs.declared.Body.{Body}
+use Rattle.records.specs.Signing.{CheckedRecord}
+use Rattle.epoch_store.specs.Store.{IsSettled, LeavesEither, LeavesState}
+use Rattle.epoch_store.specs.Asked.{put_calls}
+use Rattle.signer.specs.declared.SignFault.{SignFault}
+use Rattle.signer.specs.declared.SignFault.TheVariants.{OutOfMemory, Closed, Exhausted, StoreFault}
+use Rattle.signer.specs.Signing.{SignerState, stored_after, AnswersBy, is_store_fault, after_signing, signed_record, OnIdle}
+use Rattle.signer.specs.Lives.{Spent, IsLiving, EndsLives, spent_in}
+
+-- all of the disk calls were made, or as many as it took one to fail; or nothing was tried, and none was made
+abbrev pub MakesCalls : {T : Type 0} → Result T SignFault → List DiskCall → Option (List DiskCall) → Option (List DiskCall) → Type 0
+MakesCalls (Ok value) all older newer = newer ≡ with_calls all older
+MakesCalls (Err OutOfMemory) all older newer = newer ≡ older
+MakesCalls (Err Closed) all older newer = newer ≡ older
+MakesCalls (Err (Exhausted next)) all older newer = newer ≡ older
+MakesCalls (Err StoreFault) all older newer = AsFarAs all older newer
+
+-- the body was signed, or the answer says why not. Of the disk: its failures, the calls that were made of it and
+-- its moments, each before and after
+pub record Signs (s later : SignerState) (body : Body) (result : Result CheckedRecord SignFault)
+    (failures failures_now : ℕ) (made made_now : Option (List DiskCall)) (older newer : List Moment) : Type 0 where
+  pub faults : failures_now ≡ counted (is_store_fault result) failures
+  pub answers : AnswersBy s result
+  pub signed : IfOk result (λ rec. rec ≡ signed_record s body)
+  pub after : later ≡ after_signing s body result
+  pub calls : MakesCalls result (put_calls s.gate (stored_after s.state body)) made made_now
+  pub same : OnIdle result (newer ≡ older)
+  pub any_moment : (tag : List ℕ) → IsSettled tag s.state s.gate older → Since (LeavesEither tag s.state (stored_after s.state body)) older newer
+  pub settled : OnOk result ((tag : List ℕ) → IsSettled tag s.state s.gate older → IsSettled tag later.state later.gate newer)
+  pub leaves : OnOk result ((tag : List ℕ) → IsSettled tag s.state s.gate older → LeavesState tag later.state newer)
+  pub lives : (tag before : List ℕ) (spent : List Spent) → IsLiving tag before spent s older → IsLiving tag before (spent ++ spent_in s body result) later newer
+  pub any_life : (tag before : List ℕ) (spent : List Spent) → IsLiving tag before spent s older → Since (EndsLives tag before spent) older newer
