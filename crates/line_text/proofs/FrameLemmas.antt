@@ -16,7 +16,7 @@ use Rattle.line_text.specs.declared.bad_word.LineFault.{LineFault}
 use Rattle.line_text.specs.declared.bad_word.LineFault.TheVariants as faults
 use Rattle.line_text.specs.Answers.{AnswersBy, AnswersThat, Refuses}
 use Rattle.line_text.specs.Fields.{bad_where}
-use Rattle.line_text.specs.Frame.{IsLine, Next, Row, before_line_feed, behind, field_tests, first_bad, first_of, frame_tests, has_line_feed, header_row, is_header, judge, or_else, row_line, row_of_line, row_tests, unless_bad, word_among, words_in}
+use Rattle.line_text.specs.Frame.{IsLine, Next, Row, before_line_feed, behind, field_tests, fields_line, first_bad, first_of, frame_tests, has_line_feed, header_row, is_header, judge, known_row, line_bytes, or_else, row_line, row_of_line, row_tests, text_lines, unless_bad, word_among, word_or_bad, words_in}
 use Rattle.line_text.specs.Words.{is_space, is_printable, is_word, is_spaced, parts}
 
 -- ## Tests that did not hold
@@ -64,7 +64,7 @@ fed bytes h =
     let end : drop last bytes ≡ 10 ∷ [] = rw (drop-cons bytes last 0 here) (rw (eqb-true _ _ b.1, drop_all (suc last) bytes (omega arith)) refl) in
     rw h (sym (take-append-drop last bytes) ∙ ap (λ (rest : List ℕ). take last bytes ++ rest) end)
 
-fed_again : (text : List ℕ) → has_line_feed (text ++ 10 ∷ []) ≡ true
+pub fed_again : (text : List ℕ) → has_line_feed (text ++ 10 ∷ []) ≡ true
 fed_again text =
     let many = length-append text (10 ∷ []) in
     let last = get_or_at text 10 [] 0 (length (text ++ 10 ∷ []) - 1) (omega (arith, many)) in
@@ -103,7 +103,7 @@ judge-spelled {L} next Spells spelled bytes l e =
     let d = or_none _ _ c.1 in
     let f = or_none _ _ d.1 in
     let spaced : is_spaced text ≡ true = not-false _ (passed _ _ f.0) in
-    let short : length text ≤ 65600 = ltb-false 65600 (length text) (passed _ _ b.0) in
+    let short : length text ≤ line_bytes = ltb-false line_bytes (length text) (passed _ _ b.0) in
     let feed : has_line_feed bytes ≡ true = not-false _ (passed _ _ c.0) in
     let w = worded (parts text) (has_parts text) in
     let joined : join_with_byte 32 (w.first ∷ w.others) ≡ text = ap (join_with_byte 32) (sym w.same) ∙ join_with_byte-slice_split 32 text in
@@ -115,8 +115,8 @@ judge-spelled {L} next Spells spelled bytes l e =
       spells = spelled w.first w.others l (subst P w.same u.1);
       words = subst Q w.same spaced;
       spaced = fed bytes feed ∙ ap (λ (t : List ℕ). t ++ 10 ∷ []) (sym joined);
-      short = subst (λ (t : List ℕ). length t ≤ 65600) (sym joined) short;
-      few = ltb-false 100000 next.number (passed _ _ d.0);
+      short = subst (λ (t : List ℕ). length t ≤ line_bytes) (sym joined) short;
+      few = ltb-false text_lines next.number (passed _ _ d.0);
       going = passed _ _ a.0;
     }
 
@@ -129,7 +129,7 @@ judge-taken next Spells taken bytes l h =
     let cut = parts-joined h.first h.others h.words in
     let row = taken h.first h.others l h.spells in
     rw h.spaced
-    (rw (unfed_again text, fed_again text, h.going, le-ltb 65600 (length text) h.short, le-ltb 100000 next.number h.few)
+    (rw (unfed_again text, fed_again text, h.going, le-ltb line_bytes (length text) h.short, le-ltb text_lines next.number h.few)
     (rw cut (rw h.words row)))
 
 -- ## The first bad word
@@ -215,7 +215,7 @@ frame-good Takes next ended number bytes words answer e n good in_line h =
 
 -- ## Line words
 
-chosen : {A : Type 0} (b : Bool) (x y z : A) → cond b x y ≡ z → ((b ≡ true) × (x ≡ z)) ⊎ ((b ≡ false) × (y ≡ z))
+pub chosen : {A : Type 0} (b : Bool) (x y z : A) → cond b x y ≡ z → ((b ≡ true) × (x ≡ z)) ⊎ ((b ≡ false) × (y ≡ z))
 chosen true x y z e = inl (refl, e)
 chosen false x y z e = inr (refl, e)
 
@@ -233,6 +233,20 @@ word_among-text text (x ∷ ks) word k e =
       | inl h ↦ ((bytes_eq-Decides word (text x)).0 h.0 ∙ ap text (some_is x k h.1))
       | inr h ↦ word_among-text text ks word k h.1
     ]
+
+-- the row that stands, or the bad word
+pub stood : {A : Type 0} (b : Bool) (r : Result A BadWord) (w : BadWord) (x : A) → cond b r (Err w) ≡ Ok x → (b ≡ true) × (r ≡ Ok x)
+stood true r w x e = (refl, e)
+stood false r w x e = cc
+
+-- what was read behind a line word that may stand here is what its row says
+pub known-read : {W L : Type 0} (Takes : L → Type 0) (row : W → Row L) (o : Option W) (k : W) (words args : List (List ℕ)) (answer : Result L LineFault) → word_or_bad o ≡ Ok k → (row k).stands ≡ true → args ≡ behind words → AnswersBy Takes (fields_line (row k).fields (row k).line args) answer
+    → AnswersBy Takes (row_line (known_row row o) (behind words)) answer
+known-read {W} {L} Takes row None k words args answer word may same h = cc
+known-read {W} {L} Takes row (Some j) k words args answer word may same h =
+    let is : k ≡ j = cc in
+    subst (λ (i : W). AnswersBy Takes (row_line (known_row row (Some i)) (behind words)) answer) is
+    (rw may (subst (λ (ws : List (List ℕ)). AnswersBy Takes (fields_line (row k).fields (row k).line ws) answer) same h))
 
 -- ## Headers
 
@@ -287,3 +301,18 @@ line-unfed ended number Spells bytes l h clear =
     let text = join_with_byte 32 (h.first ∷ h.others) in
     let parts = and_parts (has_no_feed text) (has_no_feed (10 ∷ [])) (sym (list_all-append (λ b. not (eqb b 10)) text (10 ∷ [])) ∙ subst (λ (b : List ℕ). has_no_feed b ≡ true) h.spaced clear) in
     false≢true parts.1
+
+-- ## Bytes that are none
+
+-- What refuses a line of no bytes, by whether the text is at its end.
+abbrev pub empty_fault : Bool → BadWord
+empty_fault true = bad.AfterEnd
+empty_fault false = bad.LineFeed
+
+judge_empty : {L : Type 0} (ended : Bool) (number : ℕ) (row : List (List ℕ) → Result (Row L) BadWord) → judge (record { ended = ended; number = number; row = row }) [] ≡ Err (empty_fault ended)
+unfolding judge
+judge_empty true number row = refl
+judge_empty false number row = refl
+
+pub judge-empty : {L : Type 0} (next : Next L) → judge next [] ≡ Err (empty_fault next.ended)
+judge-empty next = judge_empty next.ended next.number next.row

@@ -7,11 +7,7 @@ use Rattle.line_text.specs.declared.bad_word.BadWord.{BadWord}
 use Rattle.line_text.specs.declared.bad_word.BadWord.TheVariants as bad
 use Rattle.line_text.specs.Fields.{Field, bad_where}
 use Rattle.line_text.specs.Words.{is_word, is_spaced, parts}
-pub use Rattle.text_trace.specs.Lines.{has_line_feed, line_bytes}
-
--- how many lines a text may have
-abbrev pub text_lines : ℕ
-text_lines = 100000
+pub use Rattle.text_trace.specs.Lines.{has_line_feed, line_bytes, text_lines}
 
 -- ## The bytes of a line
 
@@ -85,6 +81,16 @@ field_tests fields words = bad_where bad.Count (not (length words == length fiel
 abbrev pub row_tests : {L : Type 0} → Result (Row L) BadWord → List (List ℕ) → List (Option BadWord)
 row_tests (Err word) words = Some word ∷ []
 row_tests (Ok row) words = bad_where bad.Order (not row.stands) ∷ field_tests row.fields words
+
+-- the line word of a word, or that it is none
+abbrev pub word_or_bad : {W : Type 0} → Option W → Result W BadWord
+word_or_bad None = Err bad.Word
+word_or_bad (Some word) = Ok word
+
+-- the row of a line word
+abbrev pub known_row : {W L : Type 0} → (W → Row L) → Option W → Result (Row L) BadWord
+known_row row None = Err bad.Word
+known_row row (Some word) = Ok (row word)
 
 -- What a form says of the next line: whether the line `end` was read, which number it has, and the row for its
 -- words.

@@ -2,16 +2,11 @@
 
 ghost use Rattle.std.specs.Prelude.{◌≡◌, ◌≤◌, IfOk, OnOk};
 ghost use Rattle.line_text.specs.Answers.{refusal};
-ghost use Rattle.line_text.specs.Frame.{before_line_feed, first_of, frame_tests, has_line_feed, words_in};
+ghost use Rattle.line_text.specs.Frame.{before_line_feed, first_of, frame_tests, has_line_feed, text_lines, words_in};
 
 use crate::bad_word::BadWord;
 use crate::words::Words;
-
-/// How many bytes a line may have before its line feed.
-const LINE_BYTES: usize = 65_600;
-
-/// How many lines a text may have.
-pub(crate) const TEXT_LINES: u32 = 100_000;
+use text_trace::{LINE_BYTES, TEXT_LINES};
 
 /// Whether a line feed ends the bytes.
 fn has_line_feed(bytes: &[u8]) -> bool
@@ -35,7 +30,7 @@ fn before_line_feed(bytes: &[u8]) -> &[u8]
 pub(crate) fn frame_words(ended: bool, number: u32, bytes: &[u8]) -> Result<Words, BadWord>
     ensures refused { first_of (frame_tests ended number bytes.now) ≡ refusal result }
     ensures words { IfOk result (λ words. words ≡ words_in bytes.now) }
-    ensures few { OnOk result (number ≤ TEXT_LINES) }
+    ensures few { OnOk result (number ≤ text_lines) }
 {
     let text = before_line_feed(bytes);
     if ended {

@@ -2,11 +2,11 @@
 
 ghost use Rattle.std.specs.Prelude.{◌≡◌, ◌≤◌, is_ok, IfOk, IfErr, OnOk};
 ghost use Rattle.line_text.specs.Answers.{AnswersBy, AnswersThat, Refuses, next_line, progress_after};
-ghost use Rattle.line_text.specs.Frame.{IsLine, first_bad, judge};
+ghost use Rattle.line_text.specs.Frame.{IsLine, first_bad, judge, text_lines};
 
 use crate::bad_word::{BadWord, LineFault};
 use crate::form::Form;
-use crate::frame::{TEXT_LINES, frame_words};
+use crate::frame::frame_words;
 use std::alloc::Global;
 use std::marker::Model;
 
@@ -19,14 +19,15 @@ pub struct Reader<F: Form> {
 }
 
 impl<F: Form> Model for Reader<F> {
-    ghost use Rattle.std.specs.Prelude.{◌≤◌};
+    ghost use Rattle.std.specs.Prelude.{◌≤◌, ◌+◌};
     ghost use Rattle.line_text.specs.Answers.{Progress};
+    ghost use Rattle.line_text.specs.Frame.{text_lines};
 
     ghost Value = { Progress F };
 
     ghost view = { λ r. record { number = r.number; form = r.form } };
 
-    ghost invariant = { λ r. (r.number ≤ 100001) × F.is_sound r.form };
+    ghost invariant = { λ r. (r.number ≤ text_lines + 1) × F.is_sound r.form };
 }
 
 impl<F: Form> Reader<F> {
@@ -79,7 +80,7 @@ impl<F: Form> Reader<F> {
     // What the next line is, or the first bad word that holds.
     fn judge(&self, alloc: Global, bytes: &[u8]) -> Result<F::Line, LineFault>
         ensures answer { AnswersBy F.takes_memory (judge (next_line F.is_ended F.row_for self.now) bytes.now) result }
-        ensures few { OnOk result (self.now.number ≤ TEXT_LINES) }
+        ensures few { OnOk result (self.now.number ≤ text_lines) }
     {
         let words = frame_words(self.form.is_ended(), self.number, bytes)?;
         self.form.judge(alloc, words)

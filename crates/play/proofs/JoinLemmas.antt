@@ -1,14 +1,14 @@
 -- How one turn of the loop follows those before it.
-use Rattle.std.proofs.Common.{ℕ, List, [], ◌∷◌, ◌++◌, take, Option, Some, None, refl, ap, sym, ◌∙◌, subst, append_assoc, arith, length-append}
+use Rattle.std.proofs.Common.{ℕ, inr, List, [], ◌∷◌, ◌++◌, take, Option, Some, None, refl, ap, sym, ◌∙◌, subst, append_assoc, arith, length-append}
 use Rattle.std.specs.Io.KnownBytes.{Appends, Consumes}
 use Rattle.std.proofs.KnownBytes.{Appends-nil, Appends-trans, Consumes-nil, Consumes-trans}
 use Rattle.ports.specs.Count.{next_count}
 use Rattle.text_trace.specs.Trace.{Owed, Owing, Steps, Waits, Writes}
-use Rattle.text_trace.proofs.TraceLemmas.{steps-none, steps-join, ends-join, refuses-join}
+use Rattle.text_trace.proofs.TraceLemmas.{steps-none, steps-join, ends-join, refuses-join, admits-join}
 use Rattle.text_trace.proofs.WholeLemmas.{whole-none, whole-join}
 use Rattle.play.specs.declared.stop.Stop.{Stop}
 use Rattle.play.specs.declared.stop.Stop.TheVariants as stop
-use Rattle.play.specs.Plays.{Standing, Unfailed, Lines, Went, Finished, Refused, Unread, Unwritten, Starved, Stops, Follows, bytes_of}
+use Rattle.play.specs.Plays.{Standing, Unfailed, Lines, Went, Finished, Refused, Unread, Unwritten, Starved, Stops, StopsRun, Follows, IsAdmitted, bytes_of}
 
 -- something is still owed
 pub owing-later : (C : Type 0) (A B : Owed C → Type 0) (first next room later : ℕ) (was now : Standing) → Owing C A → Went C A B first next room later was now → Owing C B
@@ -130,15 +130,19 @@ unwritten-join C A B first next room later was then now a b = record {
   kept = b.kept ∙ a.unfailed.reads;
 }
 
+admitted-join : (C : Type 0) (A B : Owed C → Type 0) (lines others : List (List ℕ)) (last left : Option (List ℕ)) (text : List ℕ) → Steps C A B lines text → IsAdmitted C B others last left → IsAdmitted C A (lines ++ others) last left
+admitted-join C A B lines others (Some line) left text steps is = (is.0, admits-join C A B lines others (Some line) text steps is.1)
+admitted-join C A B lines others None left text steps is = (is.0, admits-join C A B lines others None text steps is.1)
+
 starved-join : (C : Type 0) (A B : Owed C → Type 0) (first next room later : ℕ) (was then now : Standing) → Went C A B first next room later was then → Starved C B later then now → Starved C A room was now
 starved-join C A B first next room later was then now a b = record {
   lines = a.lines ++ b.lines;
   bytes = a.bytes ++ b.bytes;
-  part = b.part;
+  last = b.last;
   text = a.text ++ b.text;
   taken = lines-join C A B first next room later was then b.lines b.bytes a b.taken;
-  read = read-join was.left then.left now.left a.bytes b.bytes b.part a.read b.read;
-  one = b.one;
+  read = read-join was.left then.left now.left a.bytes b.bytes (bytes_of b.last) a.read b.read;
+  admitted = admitted-join C A B a.lines b.lines b.last now.left a.text a.steps b.admitted;
   wrote = Appends-trans was.taken then.taken now.taken a.text b.text a.wrote b.wrote;
   writes = steps-join C A B (Waits C) a.lines b.lines a.text b.text a.steps b.writes;
   unfailed = unfailed-join was then now a.unfailed b.unfailed;
@@ -150,3 +154,10 @@ stops-join C A B first next room later was then now (stop.Refused line cause) a 
 stops-join C A B first next room later was then now stop.ReadFault a b = unread-join C A B first next room later was then now a b
 stops-join C A B first next room later was then now stop.WriteFault a b = unwritten-join C A B first next room later was then now a b
 stops-join C A B first next room later was then now stop.OutOfMemory a b = starved-join C A B first next room later was then now a b
+
+-- the turns of a whole run
+pub run-stops : (C : Type 0) (A : Owed C → Type 0) (room : ℕ) (was now : Standing) (s : Stop C) → Stops C A 1 room was now s → StopsRun C A room was now s
+run-stops C A room was now (stop.Refused line cause) stops = stops
+run-stops C A room was now stop.ReadFault stops = stops
+run-stops C A room was now stop.WriteFault stops = stops
+run-stops C A room was now stop.OutOfMemory stops = inr stops

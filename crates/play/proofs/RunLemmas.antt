@@ -1,9 +1,9 @@
 -- What is known of less that is owed.
-use Rattle.std.proofs.Common.{ℕ, List, ◌++◌, Option, Some, None, Result, Ok, Err}
+use Rattle.std.proofs.Common.{ℕ, inl, inr, List, ◌++◌, Option, Some, None, Result, Ok, Err}
 use Rattle.text_trace.specs.Trace.{Owed, Refuses}
 use Rattle.play.specs.declared.stop.Stop.{Stop}
 use Rattle.play.specs.declared.stop.Stop.TheVariants as stop
-use Rattle.play.specs.Plays.{Standing, Follows, Runs}
+use Rattle.play.specs.Plays.{Standing, Starved, Follows, IsAdmitted, Runs}
 
 refuses-less : (C : Type 0) (A B : Owed C → Type 0) (lines : List (List ℕ)) (last : Option (List ℕ)) (text : List ℕ) (c : C) → ((f : Owed C) → B f → A f) → Refuses C A lines last text c → Refuses C B lines last text c
 refuses-less C A B lines (Some line) text c less h = λ f b. h f (less f b)
@@ -12,6 +12,24 @@ refuses-less C A B lines None text c less h = λ f b. h f (less f b)
 follows-less : (C : Type 0) (A B : Owed C → Type 0) (lines : List (List ℕ)) (last : Option (List ℕ)) (text : List ℕ) → ((f : Owed C) → B f → A f) → Follows C A lines last text → Follows C B lines last text
 follows-less C A B lines (Some line) text less h = (h.0, λ f b. h.1 f (less f b))
 follows-less C A B lines None text less h = λ f b. h f (less f b)
+
+admitted-less : (C : Type 0) (A B : Owed C → Type 0) (lines : List (List ℕ)) (last left : Option (List ℕ)) → ((f : Owed C) → B f → A f) → IsAdmitted C A lines last left → IsAdmitted C B lines last left
+admitted-less C A B lines (Some line) left less h = (h.0, λ f b. h.1 f (less f b))
+admitted-less C A B lines None left less h = (h.0, λ f b. h.1 f (less f b))
+
+starved-less : (C : Type 0) (A B : Owed C → Type 0) (room : ℕ) (was now : Standing) → ((f : Owed C) → B f → A f) → Starved C A room was now → Starved C B room was now
+starved-less C A B room was now less h = record {
+  lines = h.lines;
+  bytes = h.bytes;
+  last = h.last;
+  text = h.text;
+  taken = h.taken;
+  read = h.read;
+  admitted = admitted-less C A B h.lines h.last now.left less h.admitted;
+  wrote = h.wrote;
+  writes = λ f b. h.writes f (less f b);
+  unfailed = h.unfailed;
+}
 
 -- what holds of all that A owes holds of all that B owes, where A owes it too
 pub runs-less : (C : Type 0) (A B : Owed C → Type 0) (room : ℕ) (was now : Standing) (result : Result (Unit {0}) (Stop C)) → ((f : Owed C) → B f → A f) → Runs C A room was now result → Runs C B room was now result
@@ -70,15 +88,4 @@ runs-less C A B room was now (Err stop.WriteFault) less h = record {
   failed = h.failed;
   kept = h.kept;
 }
-runs-less C A B room was now (Err stop.OutOfMemory) less h = record {
-  lines = h.lines;
-  bytes = h.bytes;
-  part = h.part;
-  text = h.text;
-  taken = h.taken;
-  read = h.read;
-  one = h.one;
-  wrote = h.wrote;
-  writes = λ f b. h.writes f (less f b);
-  unfailed = h.unfailed;
-}
+runs-less C A B room was now (Err stop.OutOfMemory) less h = elim h [ inl same ↦ inl same | inr starved ↦ inr (starved-less C A B room was now less starved) ]

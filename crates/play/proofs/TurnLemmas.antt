@@ -3,15 +3,14 @@ use Rattle.std.proofs.Common.{◌≡◌, ℕ, ◌+◌, ◌<◌, inl, inr, true, 
 use Rattle.std.specs.Io.KnownBytes.{Appends, Consumes}
 use Rattle.ports.specs.Contents.{IsUsedUp, TookFront}
 use Rattle.ports.specs.Count.{next_count}
-use Rattle.std.proofs.KnownBytes.{Appends-nil, Consumes-nil}
 use Rattle.text_trace.specs.Lines.{has_line_feed, IsFed}
-use Rattle.text_trace.specs.Trace.{Owed, Steps, Waits, Writes, Ends, Refuses}
+use Rattle.text_trace.specs.Trace.{Owed, Steps, Waits, Writes, Ends, Refuses, Admits}
 use Rattle.text_trace.proofs.TraceLemmas.{steps-none, steps-weaker}
 use Rattle.text_trace.proofs.WholeLemmas.{whole-none, whole-one, feed_apart}
 use Rattle.play.specs.declared.reader.Ending.{Ending}
 use Rattle.play.specs.declared.reader.Ending.TheVariants as ending
 use Rattle.play.specs.Reading.{EndsBy, Reads, ReadsPart}
-use Rattle.play.specs.Plays.{Standing, Unfailed, Lines, Went, Finished, Refused, Unread, Unwritten, Starved, IsLast, IsUpToLine}
+use Rattle.play.specs.Plays.{Standing, Unfailed, Lines, Went, Finished, Refused, Unread, Unwritten, Starved, IsLast}
 
 no-bytes : (line : List ℕ) → length line ≡ 0 → line ≡ []
 no-bytes [] e = refl
@@ -36,11 +35,6 @@ is-end : (by : Ending) (line : List ℕ) (left : Option (List ℕ)) → EndsBy b
 is-end ending.Feed line left e none = absurd (omega (arith, none, ap length e.ended, length-append e.front (10 ∷ [])))
 is-end ending.Limit line left e none = absurd (omega (arith, e.long))
 is-end ending.Input line left e none = e.used_up
-
-is-up_to_line : (by : Ending) (line : List ℕ) (left : Option (List ℕ)) → EndsBy by line left → IsUpToLine line
-is-up_to_line ending.Feed line left e = inr e
-is-up_to_line ending.Limit line left e = inl (e.clear, omega (arith, e.long))
-is-up_to_line ending.Input line left e = inl (e.clear, omega (arith, e.short))
 
 -- a line that ends with a line feed was ended by it
 pub is-fed : (by : Ending) (line : List ℕ) (left : Option (List ℕ)) → EndsBy by line left → has_line_feed line ≡ true → IsFed line
@@ -166,32 +160,32 @@ unwritten-end C A room was now line text by read none ends waits front failed ke
   kept = kept;
 }
 
--- memory was refused, before anything was written
-pub starved-here : (C : Type 0) (A : Owed C → Type 0) (room : ℕ) (was now : Standing) (line : List ℕ) (by : Ending) → Reads was.left now.left line by → ((f : Owed C) → A f → Waits C f) → Appends was.taken now.taken [] → Unfailed was now → Starved C A room was now
-starved-here C A room was now line by read waits same unfailed = record {
+-- memory was refused for a line, before anything was written
+pub starved-line : (C : Type 0) (A : Owed C → Type 0) (room : ℕ) (was now : Standing) (line : List ℕ) (by : Ending) → Reads was.left now.left line by → has_line_feed line ≡ true → Admits C A [] (Some line) → ((f : Owed C) → A f → Waits C f) → Appends was.taken now.taken [] → Unfailed was now → Starved C A room was now
+starved-line C A room was now line by read fed admits waits same unfailed = record {
   lines = [];
   bytes = [];
-  part = line;
+  last = Some line;
   text = [];
   taken = no_lines room;
   read = read.front;
-  one = is-up_to_line by line now.left read.ends;
+  admitted = (is-fed by line now.left read.ends fed, admits);
   wrote = same;
   writes = writes-none C A waits;
   unfailed = unfailed;
 }
 
--- memory was refused before anything was taken
-pub starved-first : (C : Type 0) (A : Owed C → Type 0) (room : ℕ) (was : Standing) → ((f : Owed C) → A f → Waits C f) → Starved C A room was was
-starved-first C A room was waits = record {
+-- memory was refused at the end, before anything was written
+pub starved-end : (C : Type 0) (A : Owed C → Type 0) (room : ℕ) (was now : Standing) (line : List ℕ) (by : Ending) → Reads was.left now.left line by → length line ≡ 0 → Admits C A [] None → ((f : Owed C) → A f → Waits C f) → Appends was.taken now.taken [] → Unfailed was now → Starved C A room was now
+starved-end C A room was now line by read none admits waits same unfailed = record {
   lines = [];
   bytes = [];
-  part = [];
+  last = None;
   text = [];
   taken = no_lines room;
-  read = Consumes-nil was.left;
-  one = inl (refl, omega arith);
-  wrote = Appends-nil was.taken;
+  read = nothing-read was.left now.left line read.front none;
+  admitted = (is-end by line now.left read.ends none, admits);
+  wrote = same;
   writes = writes-none C A waits;
-  unfailed = record { reads = refl; writes = refl };
+  unfailed = unfailed;
 }

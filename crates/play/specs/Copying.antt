@@ -1,7 +1,7 @@
 -- A script to try the loop with: it writes each line again, and refuses some.
 use Rattle.std.specs.Prelude.{◌≡◌, ℕ, Bool, true, false, ◌-◌, ◌==◌, List, [], ◌∷◌, Option, Some, None, slice_index, codes, if◌then◌else◌}
 use Rattle.std.proofs.Common.{refl, subst, sym}
-use Rattle.text_trace.specs.Lines.{has_line_feed}
+use Rattle.text_trace.specs.Lines.{has_line_feed, has_no_feed}
 use Rattle.text_trace.specs.Trace.{Owed, Trace, Waits, before}
 use Rattle.text_trace.proofs.TraceLemmas.{waits-same}
 use Rattle.text_trace.proofs.WholeLemmas.{unfed}
@@ -25,10 +25,16 @@ refused-unfed : (b : Bool) (cause : Option ℕ) (rest : Trace ℕ) → (unless_r
 refused-unfed true cause rest = refl
 refused-unfed false cause rest = refl
 
-copied-waits : (room : ℕ) → Waits ℕ (copied room)
-copied-waits room = λ line rest clear.
+copied-silent : (room : ℕ) (line : List ℕ) (rest : List (List ℕ)) → has_no_feed line ≡ true → (copied room (line ∷ rest)).output ≡ []
+copied-silent room line rest clear =
     let fault : Bool → Option ℕ = λ fed. if room == 0 then Some 1 else (if fed then (if slice_index line 0 == 35 then Some 3 else None) else Some 2) in
     subst (λ (fed : Bool). (unless_refused (fault fed) (before line (copied (room - 1) rest))).output ≡ []) (sym (unfed line clear)) (refused-unfed (room == 0) (if slice_index line 0 == 35 then Some 3 else None) (before line (copied (room - 1) rest)))
+
+ends-somewhere : (room cause : ℕ) → (copied room []).cause ≡ Some cause → ⊥
+ends-somewhere room cause e = cc
+
+copied-waits : (room : ℕ) → Waits ℕ (copied room)
+copied-waits room = record { silent = copied-silent room; unrefused = λ cause all. ends-somewhere room cause (all []) }
 
 pub waits : (room : ℕ) (f : Owed ℕ) → f ≡ copied room → Waits ℕ f
 waits room f same = waits-same ℕ f (copied room) same (copied-waits room)

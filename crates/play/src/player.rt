@@ -1,14 +1,16 @@
 //! The loop.
 
 ghost use Rattle.std.specs.Prelude.{◌≡◌, ◌≤◌, ◌+◌, [], true, vec_capacity};
+ghost use Rattle.text_trace.specs.Lines.{seen_bytes, text_lines};
 ghost use Rattle.text_trace.specs.Trace.{Owing};
 ghost use Rattle.play.specs.Plays.{Runs, Turns, has_written, standing};
 
-use crate::reader::{LONGEST, read_line};
+use crate::reader::read_line;
 use crate::script::{Refusal, Script};
 use crate::stop::Stop;
 use ports::{Failed, Sink, Source, write_all};
 use std::alloc::Global;
+use text_trace::SEEN_BYTES;
 
 /// Takes the line of this number, and writes what it brings; behind the last line, what the end brings. Answers
 /// whether there was a line.
@@ -24,8 +26,8 @@ fn turn<P: Script, S: Source, O: Sink>(
     requires source { S.is_open input.old ≡ true }
     requires sink { O.is_open out.old ≡ true }
     requires owing { Owing P.Cause (P.owes script.old) }
-    requires room { 65601 ≤ vec_capacity line.old }
-    ensures room { 65601 ≤ vec_capacity line.new }
+    requires room { seen_bytes ≤ vec_capacity line.old }
+    ensures room { seen_bytes ≤ vec_capacity line.new }
     ensures source { result ≡ Ok true → S.is_open input.new ≡ true }
     ensures sink { O.is_open out.new ≡ has_written result }
     ensures turns { Turns P.Cause (P.owes script.old) (P.owes script.new) number (P.room script.old) (P.room script.new)
@@ -65,7 +67,8 @@ fn turn<P: Script, S: Source, O: Sink>(
 
 /// Plays the text that the source gives, to its end or up to the first cause that stops it, and writes its trace: of
 /// each line before the next is taken. Of the source nothing is taken behind a line that is refused, and nothing is
-/// read behind its end or a fault. At most 100,001 lines are taken.
+/// read behind its end or a fault. At most 100,001 lines are taken. Memory is refused before anything is read, or for a
+/// line or an end that isn't refused.
 pub fn play<P: Script, S: Source, O: Sink>(
     alloc: Global,
     script: &mut P,
@@ -75,13 +78,13 @@ pub fn play<P: Script, S: Source, O: Sink>(
     requires source { S.is_open input.old ≡ true }
     requires sink { O.is_open out.old ≡ true }
     requires owing { Owing P.Cause (P.owes script.old) }
-    requires few { P.room script.old ≤ 100000 }
+    requires few { P.room script.old ≤ text_lines }
     ensures sink { O.is_open out.new ≡ has_written result }
     ensures runs { Runs P.Cause (P.owes script.old) (P.room script.old)
         (standing (S.left input.old) (O.taken out.old) (S.faults input.old) (O.faults out.old))
         (standing (S.left input.new) (O.taken out.new) (S.faults input.new) (O.faults out.new)) result }
 {
-    let Ok(mut line) = Vec::with_capacity(alloc, LONGEST + 1) else {
+    let Ok(mut line) = Vec::with_capacity(alloc, SEEN_BYTES) else {
         return Err(Stop::OutOfMemory);
     };
     let mut text = Vec::new(alloc);

@@ -4,12 +4,11 @@
 ghost use Rattle.std.specs.Prelude.{◌≡◌, ◌≤◌, true, vec_capacity};
 ghost use Rattle.std.specs.Result.{is_err};
 ghost use Rattle.ports.specs.Count.{counted};
+ghost use Rattle.text_trace.specs.Lines.{seen_bytes};
 ghost use Rattle.play.specs.Reading.{ReadsLine, is_going};
 
 use ports::{Failed, Source, Taken};
-
-/// The most bytes of a line before its line feed. One more is taken, so that a longer line shows.
-pub const LONGEST: usize = 65_600;
+use text_trace::SEEN_BYTES;
 
 /// What ended the bytes that were taken for a line.
 #[derive(Clone, Copy, Debug, PartialEq, Eq)]
@@ -26,14 +25,14 @@ pub enum Ending {
 /// of a line with more than 65,600 bytes before its line feed the first 65,601. Takes no memory.
 pub fn read_line<S: Source>(input: &mut S, line: &mut Vec<u8>) -> Result<Ending, Failed>
     requires open { S.is_open input.old ≡ true }
-    requires room { 65601 ≤ vec_capacity line.old }
-    ensures room { 65601 ≤ vec_capacity line.new }
+    requires room { seen_bytes ≤ vec_capacity line.old }
+    ensures room { seen_bytes ≤ vec_capacity line.new }
     ensures going { S.is_open input.new ≡ is_going result }
     ensures faults { S.faults input.new ≡ counted (is_err result) (S.faults input.old) }
     ensures reads { ReadsLine (S.left input.old) (S.left input.new) line.new.items result }
 {
     line.clear();
-    'bytes: while line.len() <= LONGEST {
+    'bytes: while line.len() < SEEN_BYTES {
         let mut byte = [0u8; 1];
         match input.read(&mut byte) {
             Taken::Got(_) => {

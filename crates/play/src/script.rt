@@ -29,7 +29,8 @@ pub trait Script {
 
     /// Takes a line, and puts what is written for it into the text, which is empty. The line has its line feed;
     /// or the input ends inside it, and it has some bytes; or it is the first 65,601 bytes of a line that has more
-    /// than 65,600 before its line feed. Only a line with its line feed is taken.
+    /// than 65,600 before its line feed. Only a line with its line feed is taken. Memory is refused for no line that
+    /// is refused.
     fn line(
         &mut self,
         alloc: Global,
@@ -41,12 +42,14 @@ pub trait Script {
         ensures room { OnOk result (room self.new < room self.old) }
         ensures line { AnswersLine Self.Cause (owes self.old) (owes self.new) bytes.now text.new.items result };
 
-    /// Ends the text, and puts what is written at its end into the text, which is empty.
+    /// Ends the text, and puts what is written at its end into the text, which is empty. Memory is refused for no
+    /// end that is refused.
     fn end(&self, alloc: Global, text: &mut Vec<u8>) -> Result<(), Refusal<Self::Cause>>
         requires empty { text.old.items ≡ [] }
         requires owing { Owing Self.Cause (owes self.now) }
         ensures end { AnswersEnd Self.Cause (owes self.now) text.new.items result };
 
-    /// Nothing is written for a line without its line feed, nor for what follows it.
+    /// Nothing is written for a line without its line feed, nor for what follows it; and between two lines the text
+    /// isn't refused yet.
     ghost waits: { (s : Self) (f : Owed Self.Cause) → owes s f → Waits Self.Cause f };
 }

@@ -1,5 +1,5 @@
 -- The grammar of the direct form: which words are which line, where, and in which ranges; and the reader's progress.
-use Rattle.std.specs.Prelude.{◌≡◌, ℕ, ◌+◌, ◌*◌, ◌-◌, ◌^◌, ◌≤◌, Bool, IsTrue, List, [], ◌∷◌, length, map, Option, Result, codes}
+use Rattle.std.specs.Prelude.{◌≡◌, ℕ, ◌+◌, ◌*◌, ◌-◌, ◌^◌, ◌≤◌, IsTrue, List, [], ◌∷◌, length, map, Option, Result, codes}
 use Rattle.std.specs.Fmt.{decimal}
 use Rattle.std.specs.List.{AllByRecursion}
 use Rattle.ff_ids.specs.Masks.{ring_count}
@@ -10,11 +10,11 @@ use Rattle.schedule_direct.specs.declared.direct.Direct.{Direct}
 use Rattle.schedule_direct.specs.declared.direct.Direct.TheVariants as direct
 use Rattle.schedule_direct.specs.declared.line.DirectLine.{DirectLine}
 use Rattle.schedule_direct.specs.declared.line.DirectLine.TheVariants as lines
-use Rattle.schedule_direct.specs.Rows.{is_body, is_ended, is_headed, is_start, row_for, tolerance}
+use Rattle.schedule_direct.specs.Rows.{is_body, is_ended, is_headed, is_start, most_ticks, row_for, tolerance}
 
 -- What holds of each value that a reader reaches.
 abbrev pub IsSound : Direct → Type 0
-IsSound (direct.Body t ticks) = (t ≤ 15) × (ticks ≤ 1000000)
+IsSound (direct.Body t ticks) = (t ≤ 15) × (ticks ≤ most_ticks)
 IsSound _ = Unit {0}
 
 -- the ticks so far
@@ -47,7 +47,7 @@ InRange t ticks (lines.Group own timeout) = (1 ≤ own) × (own ≤ 15) × (1 �
 InRange t ticks (lines.Member m ps) = (m ≤ 1023) × (length ps ≡ ring_count t) × AllByRecursion (λ n. n ≤ 2 ^ 32 - 1) ps
 InRange t ticks (lines.Note n) = (n.member ≤ 1023) × (1 ≤ n.epoch) × (n.epoch ≤ 2 ^ 64 - 1) × (n.mask.0 ≤ 2 ^ 32 - 1)
 InRange t ticks (lines.Accuse a) = (a.accuser ≤ 1023) × (a.accused ≤ 1023) × (1 ≤ a.epoch) × (a.epoch ≤ 2 ^ 64 - 1) × (a.ring.0 ≤ 255)
-InRange t ticks (lines.Tick n) = (1 ≤ n) × (n ≤ 10000) × (ticks + n ≤ 1000000)
+InRange t ticks (lines.Tick n) = (1 ≤ n) × (n ≤ 10000) × (ticks + n ≤ most_ticks)
 InRange t ticks (lines.Monitor r m) = (r.0 ≤ 2 * t) × (m ≤ 1023)
 InRange t ticks _ = Unit {0}
 

@@ -1,8 +1,7 @@
 -- What is taken as a line of the direct form is one by its grammar, and what is one is taken.
-use Rattle.std.proofs.Common.{◌≡◌, ℕ, suc, ◌+◌, ◌-◌, ◌*◌, ◌^◌, ◌<◌, ◌≤◌, min, Bool, true, false, cond, List, [], ◌∷◌, length, map, replicate, Option, Some, None, Result, Ok, Err, ◌⊎◌, inl, inr, refl, sym, ap, subst, ◌∙◌, arith, codes}
+use Rattle.std.proofs.Common.{◌≡◌, ℕ, suc, ◌+◌, ◌-◌, ◌*◌, ◌^◌, ◌<◌, ◌≤◌, min, Bool, true, false, cond, List, [], ◌∷◌, length, map, replicate, Option, Some, None, Result, Ok, Err, refl, sym, ap, subst, ◌∙◌, arith, codes}
 use Rattle.std.specs.Fmt.{decimal}
 use Rattle.std.specs.List.{AllByRecursion}
-use Rattle.std.specs.Str.{bytes_eq}
 use Rattle.std.proofs.Math.Nat.{min-le_left, min-le_right, le-min}
 use Rattle.std.proofs.lemmas.Bool.{and_parts, eqb-true}
 use Rattle.std.proofs.lemmas.List.{length-map, length-replicate}
@@ -10,17 +9,17 @@ use Rattle.std.proofs.lemmas.Slice.Eq.{bytes_eq-Decides}
 use Rattle.ff_ids.specs.Masks.{ring_count}
 use Rattle.line_text.specs.declared.bad_word.BadWord.{BadWord}
 use Rattle.line_text.specs.declared.bad_word.BadWord.TheVariants as bad
-use Rattle.line_text.specs.Fields.{Field, number, number_32, number_in}
-use Rattle.line_text.specs.Frame.{Row, behind, fields_line, first_of, first_word, fourth_word, header_row, is_header, row_line, second_word, third_word, word_tests}
-use Rattle.line_text.proofs.FieldLemmas.{Passed, fields_line-good, fields_line-ok, four_words, no_word, number-decimal, number-good, number_in-decimal, numbers-again, numbers-good, numbers_in-decimals, one_word, three_words, two_words}
-use Rattle.line_text.proofs.FrameLemmas.{or_none, word_among-text}
+use Rattle.line_text.specs.Fields.{number_32, number_in}
+use Rattle.line_text.specs.Frame.{Row, behind, fields_line, first_of, first_word, fourth_word, header_row, is_header, known_row, row_line, second_word, third_word, word_tests}
+use Rattle.line_text.proofs.FieldLemmas.{fields_line-good, fields_line-ok, four_words, no_word, number-decimal, number-good, number_in-decimal, numbers-again, numbers-good, numbers_in-decimals, one_word, three_words, two_words}
+use Rattle.line_text.proofs.FrameLemmas.{or_none, stood, word_among-text}
 use Rattle.schedule_direct.specs.declared.direct.Direct.{Direct}
 use Rattle.schedule_direct.specs.declared.direct.Direct.TheVariants as direct
 use Rattle.schedule_direct.specs.declared.line.DirectLine.{DirectLine}
 use Rattle.schedule_direct.specs.declared.line.DirectLine.TheVariants as lines
 use Rattle.schedule_direct.specs.declared.line.LineWord.{LineWord}
 use Rattle.schedule_direct.specs.declared.line.LineWord.TheVariants as words
-use Rattle.schedule_direct.specs.Rows.{accuse_fields, epoch, fields_of, group_fields, is_body, is_headed, is_start, known_row, line_of, line_word, line_words, may_stand, member, member_fields, monitor_fields, note_fields, row_for, row_of, start_row, tick_fields, ticks_left, tolerance, word_text}
+use Rattle.schedule_direct.specs.Rows.{epoch, fields_of, is_body, is_headed, is_start, line_of, line_word, line_words, may_stand, member, most_ticks, row_for, row_of, start_row, ticks_left, tolerance, word_text}
 use Rattle.schedule_direct.specs.Grammar.{InRange, IsDirect, IsSound, Stands, spelled_words, ticks_of}
 
 -- ## What is taken is a line
@@ -45,7 +44,7 @@ member_words many (m ∷ ps) e good =
     let a = numbers-good many ps count good in
     (onto m ps _ a.spelled, a.range, length-map ps number_in ∙ count)
 
-ticks_fit : (d : Direct) (n : ℕ) → 1 ≤ n → n ≤ ticks_left d → ticks_of d + n ≤ 1000000
+ticks_fit : (d : Direct) (n : ℕ) → 1 ≤ n → n ≤ ticks_left d → ticks_of d + n ≤ most_ticks
 ticks_fit direct.Start n low high = absurd (omega (arith, low, high))
 ticks_fit direct.Headed n low high = absurd (omega (arith, low, high))
 ticks_fit (direct.Body t ticks) n low high = omega (arith, low, high)
@@ -128,11 +127,7 @@ stands d words.Monitor args may = may
 stands d words.Life args may = may
 stands d words.End args may = may
 
-stood : {A : Type 0} (b : Bool) (r : Result A BadWord) (w : BadWord) (x : A) → cond b r (Err w) ≡ Ok x → (b ≡ true) × (r ≡ Ok x)
-stood true r w x e = (refl, e)
-stood false r w x e = cc
-
-below_header : (d : Direct) (o : Option LineWord) (first : List ℕ) (args : List (List ℕ)) (l : DirectLine) → line_word first ≡ o → row_line (known_row d o) args ≡ Ok l → IsDirect d (first ∷ args) l
+below_header : (d : Direct) (o : Option LineWord) (first : List ℕ) (args : List (List ℕ)) (l : DirectLine) → line_word first ≡ o → row_line (known_row (row_of d) o) args ≡ Ok l → IsDirect d (first ∷ args) l
 below_header d None first args l is e = cc
 below_header d (Some k) first args l is e =
     let h = stood (may_stand d k) (fields_line (fields_of d k) (line_of k) args) bad.Order l e in
@@ -145,10 +140,6 @@ below_header d (Some k) first args l is e =
       words = onto_first first (word_text k) args first_is ∙ f.words;
     } in
     subst (IsDirect d (first ∷ args)) p.same made
-
-chosen : {A : Type 0} (b : Bool) (x y z : A) → cond b x y ≡ z → ((b ≡ true) × (x ≡ z)) ⊎ ((b ≡ false) × (y ≡ z))
-chosen true x y z e = inl (refl, e)
-chosen false x y z e = inr (refl, e)
 
 header_words : (first : List ℕ) (args : List (List ℕ)) → is_header (codes "direct") (first ∷ args) ≡ true → first ∷ args ≡ spelled_words lines.Header
 header_words first args h =
@@ -178,7 +169,7 @@ at_header d true first args l start is e =
     subst (IsDirect d (first ∷ args)) p.same made
 at_header d false first args l start is e = absurd (no_header (is_header (codes "world") (first ∷ args)) args l e)
 
-either : (d : Direct) (b : Bool) (first : List ℕ) (args : List (List ℕ)) (l : DirectLine) → is_start d ≡ b → row_line (cond b (start_row (first ∷ args)) (known_row d (line_word first))) args ≡ Ok l → IsDirect d (first ∷ args) l
+either : (d : Direct) (b : Bool) (first : List ℕ) (args : List (List ℕ)) (l : DirectLine) → is_start d ≡ b → row_line (cond b (start_row (first ∷ args)) (known_row (row_of d) (line_word first))) args ≡ Ok l → IsDirect d (first ∷ args) l
 either d true first args l start e = at_header d (is_header (codes "direct") (first ∷ args)) first args l start refl e
 either d false first args l start e = below_header d (line_word first) first args l refl e
 
@@ -228,7 +219,7 @@ row_read : (d : Direct) (k : LineWord) (args : List (List ℕ)) (l : DirectLine)
 row_read d k args l may many good same =
     rw (started d k may, word_again k, may) (fields_line-good (fields_of d k) (line_of k) args many good ∙ ap Ok same)
 
-tick_fits : (d : Direct) (n : ℕ) → is_body d ≡ true → ticks_of d + n ≤ 1000000 → n ≤ ticks_left d
+tick_fits : (d : Direct) (n : ℕ) → is_body d ≡ true → ticks_of d + n ≤ most_ticks → n ≤ ticks_left d
 tick_fits direct.Start n body h = cc
 tick_fits direct.Headed n body h = cc
 tick_fits (direct.Body t ticks) n body h = omega (arith, h)

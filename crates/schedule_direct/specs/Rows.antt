@@ -1,11 +1,11 @@
 -- The rows of the direct form: each line word, where its line may stand, what the words behind it must be, and what
 -- line they are.
-use Rattle.std.specs.Prelude.{ℕ, ◌+◌, ◌*◌, ◌-◌, ◌^◌, min, Bool, true, false, if◌then◌else◌, List, [], ◌∷◌, map, replicate, length, Option, Some, None, Result, Ok, Err, codes}
+use Rattle.std.specs.Prelude.{ℕ, ◌*◌, ◌-◌, ◌^◌, min, Bool, true, false, if◌then◌else◌, List, [], ◌∷◌, map, replicate, length, Option, Result, Ok, Err, codes}
 use Rattle.ff_ids.specs.Masks.{ring_count}
 use Rattle.line_text.specs.declared.bad_word.BadWord.{BadWord}
 use Rattle.line_text.specs.declared.bad_word.BadWord.TheVariants as bad
 use Rattle.line_text.specs.Fields.{Field, number, number_32, number_in}
-use Rattle.line_text.specs.Frame.{Row, behind, first_of, first_word, fourth_word, header_row, is_header, second_word, third_word, unless_bad, word_among, word_tests}
+use Rattle.line_text.specs.Frame.{Row, behind, first_of, first_word, fourth_word, header_row, is_header, known_row, second_word, third_word, unless_bad, word_among, word_tests}
 use Rattle.schedule_direct.specs.declared.direct.Direct.{Direct}
 use Rattle.schedule_direct.specs.declared.direct.Direct.TheVariants as direct
 use Rattle.schedule_direct.specs.declared.line.DirectLine.{DirectLine}
@@ -36,9 +36,13 @@ abbrev pub tolerance : Direct → ℕ
 tolerance (direct.Body t ticks) = t
 tolerance _ = 0
 
--- how many ticks may still come: a schedule has 1,000,000 at most
+-- how many ticks a schedule may have
+abbrev pub most_ticks : ℕ
+most_ticks = 1000000
+
+-- how many ticks may still come
 abbrev pub ticks_left : Direct → ℕ
-ticks_left (direct.Body t ticks) = 1000000 - ticks
+ticks_left (direct.Body t ticks) = most_ticks - ticks
 ticks_left _ = 0
 
 -- The line of the group stands directly below the header, and every other line below the group.
@@ -124,16 +128,8 @@ line_words = words.Group ∷ words.Member ∷ words.Note ∷ words.Accuse ∷ wo
 abbrev pub line_word : List ℕ → Option LineWord
 line_word word = word_among word_text line_words word
 
-abbrev pub word_or_bad : Option LineWord → Result LineWord BadWord
-word_or_bad None = Err bad.Word
-word_or_bad (Some word) = Ok word
-
 abbrev pub row_of : Direct → LineWord → Row DirectLine
 row_of d word = record { stands = may_stand d word; fields = fields_of d word; line = line_of word }
-
-abbrev pub known_row : Direct → Option LineWord → Result (Row DirectLine) BadWord
-known_row d None = Err bad.Word
-known_row d (Some word) = Ok (row_of d word)
 
 -- The header of the world form isn't read yet.
 abbrev pub start_row : List (List ℕ) → Result (Row DirectLine) BadWord
@@ -142,7 +138,7 @@ start_row ws =
     else (if is_header (codes "world") ws then Err bad.NotBuilt else Err bad.Header)
 
 abbrev pub row_for : Direct → List (List ℕ) → Result (Row DirectLine) BadWord
-row_for d ws = if is_start d then start_row ws else known_row d (line_word (first_word ws))
+row_for d ws = if is_start d then start_row ws else known_row (row_of d) (line_word (first_word ws))
 
 -- the places that the words spell, the first bad one deciding
 abbrev pub read_places : List (List ℕ) → Result (List ℕ) BadWord

@@ -3,8 +3,8 @@
 ghost use Rattle.std.specs.Prelude.{◌≡◌, ◌*◌, ◌≤◌, [], IfOk};
 ghost use Rattle.line_text.specs.Answers.{refusal};
 ghost use Rattle.line_text.specs.Fields.{number_in};
-ghost use Rattle.line_text.specs.Frame.{behind, fields_line, first_word, row_line};
-ghost use Rattle.schedule_direct.specs.Rows.{accuse_fields, epoch, group_fields, line_of, line_word, member, monitor_fields, note_fields, start_row, tick_fields, word_or_bad};
+ghost use Rattle.line_text.specs.Frame.{behind, fields_line, first_word, row_line, word_or_bad};
+ghost use Rattle.schedule_direct.specs.Rows.{accuse_fields, epoch, group_fields, line_of, line_word, member, monitor_fields, note_fields, start_row, tick_fields};
 
 use crate::line::{DirectLine, LineWord};
 use ff_ids::{AccBody, Epoch, Mask, MemberId, NoteBody, RingNo};

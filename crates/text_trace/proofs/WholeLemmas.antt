@@ -1,11 +1,11 @@
 -- Whole lines, and what stands behind them.
-use Rattle.std.proofs.Common.{◌≡◌, ℕ, ◌+◌, ◌-◌, ◌<◌, ◌≤◌, Bool, true, false, not, eqb, ltb, List, [], ◌∷◌, ◌++◌, length, map, take, get_or, refl, ap, sym, ◌∙◌, append_assoc, arith, length-append}
+use Rattle.std.proofs.Common.{◌≡◌, ℕ, ◌-◌, ◌<◌, ◌≤◌, Bool, true, false, not, eqb, ltb, List, [], ◌∷◌, ◌++◌, length, map, take, get_or, refl, ap, sym, ◌∙◌, append_assoc, arith, length-append}
 use Rattle.std.specs.List.{concat}
 use Rattle.std.proofs.lemmas.Bool.{and_parts, false≢true, ltb-true}
-use Rattle.std.proofs.lemmas.List.{append-nil, map-append, take_all, take_at}
+use Rattle.std.proofs.lemmas.List.{append-nil, take_all, take_at}
 use Rattle.std.proofs.lemmas.List.Folds.{concat-append}
 use Rattle.std.proofs.lemmas.List.Sums.{AllPass-from_list_all}
-use Rattle.text_trace.specs.Lines.{lines_of, seen, has_no_feed, has_line_feed, AreWhole, IsFed, IsCut, IsNext}
+use Rattle.text_trace.specs.Lines.{lines_of, line_bytes, seen, seen_bytes, has_no_feed, has_line_feed, AreWhole, IsFed, IsCut, IsNext}
 use Rattle.text_trace.proofs.LineLemmas.{lines_of-fed, lines_of-rest, lines_of-begun}
 
 -- no lines are no bytes
@@ -21,7 +21,7 @@ whole-join lines others bytes more a b = record {
       ∙ sym (append_assoc lines others (seen rest));
 }
 
-fed-length : (line : List ℕ) → IsFed line → length line ≤ 65601
+fed-length : (line : List ℕ) → IsFed line → length line ≤ seen_bytes
 fed-length line f = omega (arith, f.short, ap length f.ended, length-append f.front (10 ∷ []))
 
 -- a line with its line feed is whole
@@ -31,7 +31,7 @@ whole-one line f = record {
   first = λ rest.
       let same : lines_of (line ++ rest) ≡ line ∷ lines_of rest =
       ap (λ (l : List ℕ). lines_of (l ++ rest)) f.ended ∙ lines_of-fed f.front rest f.clear ∙ ap (λ (l : List ℕ). l ∷ lines_of rest) (sym f.ended) in
-      ap (λ (ls : List (List ℕ)). map (take 65601) ls) same ∙ ap (λ (l : List ℕ). l ∷ seen rest) (take_all 65601 line (fed-length line f));
+      ap (λ (ls : List (List ℕ)). map (take seen_bytes) ls) same ∙ ap (λ (l : List ℕ). l ∷ seen rest) (take_all seen_bytes line (fed-length line f));
 }
 
 -- a line that is cut is what is seen first
@@ -40,16 +40,16 @@ cut-next [] rest f = absurd (omega (arith, f.long))
 cut-next (b ∷ front) rest f =
     let g = lines_of-begun b front rest f.clear in
     record {
-      others = map (take 65601) g.others;
-      same = ap (λ (ls : List (List ℕ)). map (take 65601) ls) g.same ∙ ap (λ (l : List ℕ). l ∷ map (take 65601) g.others) (take_at (b ∷ front) g.more 65601 f.long);
+      others = map (take seen_bytes) g.others;
+      same = ap (λ (ls : List (List ℕ)). map (take seen_bytes) ls) g.same ∙ ap (λ (l : List ℕ). l ∷ map (take seen_bytes) g.others) (take_at (b ∷ front) g.more seen_bytes f.long);
     }
 
 -- bytes without a line feed at the end of a text are what is seen last
-pub rest-next : (line : List ℕ) → has_no_feed line ≡ true → 0 < length line → length line ≤ 65600 → IsNext line (seen line)
+pub rest-next : (line : List ℕ) → has_no_feed line ≡ true → 0 < length line → length line ≤ line_bytes → IsNext line (seen line)
 rest-next [] clear some short = absurd (omega arith)
 rest-next (b ∷ front) clear some short = record {
   others = [];
-  same = ap (λ (ls : List (List ℕ)). map (take 65601) ls) (lines_of-rest b front clear) ∙ ap (λ (l : List ℕ). l ∷ []) (take_all 65601 (b ∷ front) (omega (arith, short)));
+  same = ap (λ (ls : List (List ℕ)). map (take seen_bytes) ls) (lines_of-rest b front clear) ∙ ap (λ (l : List ℕ). l ∷ []) (take_all seen_bytes (b ∷ front) (omega (arith, short)));
 }
 
 -- a line with its line feed is what is seen first

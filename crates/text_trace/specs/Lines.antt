@@ -24,6 +24,10 @@ has_line_feed bytes = nat_lt 0 (length bytes) && (slice_index bytes (length byte
 abbrev pub line_bytes : ℕ
 line_bytes = 65600
 
+-- How many lines a text may have.
+abbrev pub text_lines : ℕ
+text_lines = 100000
+
 -- The most bytes that are seen of a line: one more, so that a longer line shows.
 abbrev pub seen_bytes : ℕ
 seen_bytes = line_bytes + 1

@@ -25,11 +25,17 @@ pub record GoesOn (C : Type 0) (B : Owed C → Type 0) (f : Owed C) (lines : Lis
 abbrev pub Steps : (C : Type 0) → (Owed C → Type 0) → (Owed C → Type 0) → List (List ℕ) → List ℕ → Type 0
 Steps C A B lines text = (f : Owed C) → A f → GoesOn C B f lines text
 
--- Nothing is written for a line that isn't ended, nor for what follows it.
-abbrev pub Waits : (C : Type 0) → Owed C → Type 0
-Waits C f = (line : List ℕ) (rest : List (List ℕ)) → has_no_feed line ≡ true → (f (line ∷ rest)).output ≡ []
+-- There is no cause that refuses the text whatever comes: so it isn't refused yet.
+abbrev pub IsUnrefused : (C : Type 0) → Owed C → Type 0
+IsUnrefused C f = (c : C) → ((lines : List (List ℕ)) → (f lines).cause ≡ Some c) → ⊥
 
--- The text is exactly what is written for these lines.
+-- What is owed between two lines: nothing is written for a line that isn't ended, nor for what follows it; and the text
+-- isn't refused yet.
+pub record Waits (C : Type 0) (f : Owed C) : Type 0 where
+  pub silent : (line : List ℕ) (rest : List (List ℕ)) → has_no_feed line ≡ true → (f (line ∷ rest)).output ≡ []
+  pub unrefused : IsUnrefused C f
+
+-- The text is exactly what is written for these lines, none of which is refused.
 abbrev pub Writes : (C : Type 0) → (Owed C → Type 0) → List (List ℕ) → List ℕ → Type 0
 Writes C A lines text = Steps C A (Waits C) lines text
 
@@ -41,6 +47,11 @@ Ends C A lines text = (f : Owed C) → A f → f lines ≡ record { output = tex
 abbrev pub Refuses : (C : Type 0) → (Owed C → Type 0) → List (List ℕ) → Option (List ℕ) → List ℕ → C → Type 0
 Refuses C A lines (Some line) text c = (f : Owed C) → A f → (rest : List (List ℕ)) → f (lines ++ line ∷ rest) ≡ record { output = text; cause = Some c }
 Refuses C A lines None text c = (f : Owed C) → A f → f lines ≡ record { output = text; cause = Some c }
+
+-- The line behind these isn't refused; or with none the end of the text isn't.
+abbrev pub Admits : (C : Type 0) → (Owed C → Type 0) → List (List ℕ) → Option (List ℕ) → Type 0
+Admits C A lines (Some line) = (f : Owed C) → A f → IsUnrefused C (λ rest. f (lines ++ line ∷ rest))
+Admits C A lines None = (f : Owed C) → A f → (f lines).cause ≡ None
 
 -- Something is owed.
 pub record Owing (C : Type 0) (A : Owed C → Type 0) : Type 0 where

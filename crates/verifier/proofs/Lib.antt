@@ -1,2 +1,3 @@
+mod LineLemmas
 pub mod VerdictLemmas
 pub mod TextLemmas

@@ -1,7 +1,8 @@
 -- A text that is answered is the five lines of a question.
-use Rattle.std.proofs.Common.{◌≡◌, ◌↔◌, ℕ, ◌+◌, ◌<◌, ◌≤◌, Bool, true, false, List, [], ◌∷◌, ◌++◌, length, get_or, Option, Some, None, Result, Ok, Err, ◌⊎◌, inl, inr, refl, sym, ap, subst, ◌∙◌, arith, codes}
-use Rattle.std.specs.List.{concat, join_with_byte}
-use Rattle.std.specs.Io.KnownBytes.{Appends}
+use Rattle.std.proofs.Common.{◌≡◌, ◌↔◌, ℕ, ◌+◌, ◌<◌, ◌≤◌, Bool, true, false, List, [], ◌∷◌, ◌++◌, length, take, get_or, Option, Some, None, Result, Ok, Err, inl, inr, refl, sym, ap, subst, ◌∙◌, arith, codes}
+use Rattle.std.specs.List.{concat}
+use Rattle.std.specs.Io.KnownBytes.{Appends, Consumes}
+use Rattle.std.proofs.KnownBytes.{Appends-nil}
 use Rattle.std.proofs.lemmas.List.{append-nil}
 use Rattle.line_text.specs.declared.bad_word.BadWord.{BadWord}
 use Rattle.line_text.specs.declared.bad_word.BadWord.TheVariants as bad
@@ -9,10 +10,11 @@ use Rattle.line_text.specs.Answers.{Progress}
 use Rattle.line_text.specs.Digits.{SpellsBytes}
 use Rattle.lms_tree.specs.declared.key.PublicKey.{PublicKey}
 use Rattle.lms_tree.specs.Lms.{Verifies, key_bytes}
-use Rattle.play.specs.Plays.{Finished, Refused, Runs, Standing, Starved, Unread}
+use Rattle.play.specs.Plays.{Finished, Follows, IsLast, Refused, Runs, Standing, Starved, bytes_of}
 use Rattle.play.specs.declared.stop.Stop.{Stop}
 use Rattle.play.specs.declared.stop.Stop.TheVariants as stop
-use Rattle.text_trace.specs.Trace.{Ends, Owed, Refuses, Trace, Waits, Writes, before}
+use Rattle.text_trace.specs.Lines.{AreWhole, text_lines}
+use Rattle.text_trace.specs.Trace.{Owed, Refuses, Trace, Writes}
 use Rattle.verify_text.specs.declared.line.VerifyLine.{VerifyLine}
 use Rattle.verify_text.specs.declared.line.VerifyLine.TheVariants as lines
 use Rattle.verify_text.specs.declared.question.Asked.{Asked}
@@ -22,12 +24,12 @@ use Rattle.verify_text.specs.declared.verify.Verify.TheVariants as verify
 use Rattle.verify_text.specs.declared.question.Question.{Question}
 use Rattle.verify_text.specs.Answering.{answer_line}
 use Rattle.verify_text.specs.Asking.{asked_after}
-use Rattle.verify_text.specs.Grammar.{AreBytes, AreKey, IsLine, SpellsOrDash, behind, judge, opening}
+use Rattle.verify_text.specs.Grammar.{IsLine, SpellsOrDash, behind, judge, opening}
 use Rattle.verify_text.specs.Laws.{below_256}
-use Rattle.verify_text.specs.Rows.{is_ended}
+use Rattle.verify_text.specs.Rows.{is_ended, message_bytes, signature_bytes}
 use Rattle.verifier.specs.Answered.{answered, at_end, from_judged, verified}
 use Rattle.verifier.specs.Laws.{line-is, unfed-silent}
-use Rattle.verifier.specs.Verified.{Brings, IsAnswered, IsText, line_of}
+use Rattle.verifier.specs.Verified.{Brings, IsAnswer, IsAnswered, IsCutShort, line_of}
 use Rattle.verifier.proofs.VerdictLemmas.{answer-good}
 
 -- ## Nothing is written before the end
@@ -76,7 +78,7 @@ written_silent : (ls : List (List ℕ)) (text : List ℕ) → Writes BadWord (λ
 written_silent ls text h =
     let g = h verified refl in
     let unfed : List (List ℕ) = (0 ∷ []) ∷ [] in
-    let none : (g.later unfed).output ≡ [] = g.owes (0 ∷ []) [] refl in
+    let none : (g.later unfed).output ≡ [] = g.owes.silent (0 ∷ []) [] refl in
     let all : (verified (ls ++ unfed)).output ≡ [] = unfed-silent ls opening asked.Nothing (0 ∷ []) [] refl in
     let same : (verified (ls ++ unfed)).output ≡ text ++ (g.later unfed).output = output_same _ _ (g.same unfed) in
     sym (append-nil text) ∙ ap (λ (t : List ℕ). text ++ t) (sym none) ∙ sym same ∙ all
@@ -137,7 +139,7 @@ record FromSignature (left : List ℕ) (k : PublicKey) (m text : List ℕ) : Typ
   signature : List ℕ
   line : left ≡ line_of (codes "signature" ∷ word ∷ []) ++ line_of (codes "end" ∷ [])
   spells : SpellsOrDash word signature
-  few : length signature ≤ 10000
+  few : length signature ≤ signature_bytes
   answer : text ≡ answer_line (record { key = k; message = m; signature = signature })
 
 signature_line : (n : ℕ) (k : PublicKey) (m b : List ℕ) (ls : List (List ℕ)) (text : List ℕ) (l : VerifyLine) → IsLine (at n verify.Worded) b l → answered (behind (at n verify.Worded) l) (asked_after (asked.Message k m) l) ls ≡ trace text None → FromSignature (concat (b ∷ ls)) k m text
@@ -168,7 +170,7 @@ record FromMessage (left : List ℕ) (k : PublicKey) (text : List ℕ) : Type 0 
   others : List ℕ
   line : left ≡ line_of (codes "message" ∷ word ∷ []) ++ others
   spells : SpellsOrDash word message
-  few : length message ≤ 16384
+  few : length message ≤ message_bytes
   rest : FromSignature others k message text
 
 message_line : (n : ℕ) (k : PublicKey) (b : List ℕ) (ls : List (List ℕ)) (text : List ℕ) (l : VerifyLine) → IsLine (at n verify.Keyed) b l → answered (behind (at n verify.Keyed) l) (asked_after (asked.Key k) l) ls ≡ trace text None → FromMessage (concat (b ∷ ls)) k text
@@ -252,24 +254,20 @@ signature_below word bytes (inr h) k = below_256 word bytes h k
 nothing_written : (was now : Option (List ℕ)) (text : List ℕ) → Appends was now text → text ≡ [] → Appends was now []
 nothing_written was now text h e = subst (Appends was now) e h
 
-finished : (was now : Standing) → Finished BadWord (λ f. f ≡ verified) 100000 was now → IsAnswered was now
-finished was now f =
-    let h = from_header f.lines f.text (f.ends verified refl) in
+asks_this : (lines : List (List ℕ)) (bytes text : List ℕ) → AreWhole lines bytes → verified lines ≡ trace text None → IsAnswer bytes text
+asks_this lines bytes text whole e =
+    let h = from_header lines text e in
     let k = h.rest in
     let m = k.rest in
     let s = m.rest in
     let q : Question = record { key = k.key; message = m.message; signature = s.signature } in
     record {
-      text = f.bytes;
       question = q;
-      answer = f.text;
-      read = f.read;
-      used_up = f.used_up;
       asks = record {
         key_word = k.word;
         message_word = m.word;
         signature_word = s.word;
-        lines = sym f.taken.whole.joined ∙ h.line
+        lines = sym whole.joined ∙ h.line
             ∙ ap (λ (x : List ℕ). line_of (codes "fireflies" ∷ codes "1" ∷ codes "verify" ∷ []) ++ x) (k.line
             ∙ ap (λ (x : List ℕ). line_of (codes "key" ∷ k.word ∷ []) ++ x) (m.line
             ∙ ap (λ (x : List ℕ). line_of (codes "message" ∷ m.word ∷ []) ++ x) s.line));
@@ -279,13 +277,52 @@ finished was now f =
         signature = s.spells;
         signature_few = s.few;
       };
-      wrote = f.wrote;
       good = subst (λ (t : List ℕ). (t ≡ codes "signature good" ++ 10 ∷ []) ↔ Verifies q.key q.message q.signature) (sym s.answer) (answer-good q (signature_below s.word s.signature s.spells));
     }
 
-pub run-brings : (was now : Standing) (result : Result (Unit {0}) (Stop BadWord)) → Runs BadWord (λ f. f ≡ verified) 100000 was now result → Brings was now result
+abbrev Asks : Owed BadWord → Type 0
+Asks f = f ≡ verified
+
+finished : (was now : Standing) → Finished BadWord Asks text_lines was now → IsAnswered was now
+finished was now f = record {
+  text = f.bytes;
+  answer = f.text;
+  read = f.read;
+  used_up = f.used_up;
+  answers = asks_this f.lines f.bytes f.text f.taken.whole (f.ends verified refl);
+  wrote = f.wrote;
+}
+
+nothing_more : (text more : List ℕ) (count : ℕ) → text ++ more ≡ [] → count < length more → ⊥
+nothing_more text [] count none short = absurd (omega (arith, short))
+nothing_more [] (b ∷ more) count none short = cc
+nothing_more (a ∷ text) (b ∷ more) count none short = cc
+
+-- A write can fail at the end of the text alone.
+cut : (was now : Standing) (lines : List (List ℕ)) (bytes : List ℕ) (last : Option (List ℕ)) (text more : List ℕ) (count : ℕ) → AreWhole lines bytes → Consumes was.left now.left (bytes ++ bytes_of last) → IsLast last now.left → text ≡ [] → Follows BadWord Asks lines last (text ++ more) → count < length more
+    → Appends was.taken now.taken (text ++ take count more) → IsCutShort was now
+cut was now lines bytes (Some line) text more count whole read stands none follows short wrote =
+    absurd (nothing_more text more count (written_silent (lines ++ line ∷ []) (text ++ more) follows.1) short)
+cut was now lines bytes None text more count whole read stands none follows short wrote = record {
+  text = bytes;
+  answer = more;
+  count = count;
+  read = subst (Consumes was.left now.left) (append-nil bytes) read;
+  used_up = stands;
+  answers = asks_this lines bytes more whole (subst (λ (t : List ℕ). verified lines ≡ trace (t ++ more) None) none (follows verified refl));
+  short = short;
+  wrote = subst (λ (t : List ℕ). Appends was.taken now.taken (t ++ take count more)) none wrote;
+}
+
+starved : (was now : Standing) → Starved BadWord Asks text_lines was now → Appends was.taken now.taken []
+starved was now h = nothing_written was.taken now.taken h.text h.wrote (written_silent h.lines h.text h.writes)
+
+unmoved : (was now : Standing) → now ≡ was → Appends was.taken now.taken []
+unmoved was now same = subst (λ (s : Standing). Appends was.taken s.taken []) (sym same) (Appends-nil was.taken)
+
+pub run-brings : (was now : Standing) (result : Result (Unit {0}) (Stop BadWord)) → Runs BadWord Asks text_lines was now result → Brings was now result
 run-brings was now (Ok x) h = finished was now h
 run-brings was now (Err (stop.Refused line w)) h = nothing_written was.taken now.taken h.text h.wrote (refused_silent h.lines h.last h.text w h.refuses)
 run-brings was now (Err stop.ReadFault) h = nothing_written was.taken now.taken h.text h.wrote (written_silent h.lines h.text h.writes)
-run-brings was now (Err stop.WriteFault) h = tt
-run-brings was now (Err stop.OutOfMemory) h = nothing_written was.taken now.taken h.text h.wrote (written_silent h.lines h.text h.writes)
+run-brings was now (Err stop.WriteFault) h = cut was now h.lines h.bytes h.last h.text h.more h.count h.taken.whole h.read h.stands (written_silent h.lines h.text h.writes) h.follows h.short h.wrote
+run-brings was now (Err stop.OutOfMemory) h = elim h [ inl same ↦ unmoved was now same | inr wanting ↦ starved was now wanting ]

@@ -1,5 +1,5 @@
 -- The text of a question, and what a run over one brings.
-use Rattle.std.specs.Prelude.{◌≡◌, ◌↔◌, ℕ, ◌≤◌, List, [], ◌∷◌, ◌++◌, length, Result, Ok, Err, codes}
+use Rattle.std.specs.Prelude.{◌≡◌, ◌↔◌, ℕ, ◌≤◌, ◌<◌, List, [], ◌∷◌, ◌++◌, length, take, Result, Ok, Err, codes}
 use Rattle.std.specs.Io.KnownBytes.{Appends, Consumes}
 use Rattle.std.specs.List.{join_with_byte}
 use Rattle.line_text.specs.declared.bad_word.BadWord.{BadWord}
@@ -11,6 +11,7 @@ use Rattle.play.specs.declared.stop.Stop.TheVariants as stop
 use Rattle.ports.specs.Contents.{IsUsedUp}
 use Rattle.verify_text.specs.declared.question.Question.{Question}
 use Rattle.verify_text.specs.Grammar.{SpellsOrDash}
+use Rattle.verify_text.specs.Rows.{message_bytes, signature_bytes}
 
 -- a line of these words
 abbrev pub line_of : List (List ℕ) → List ℕ
@@ -29,26 +30,40 @@ pub record IsText (text : List ℕ) (q : Question) : Type 0 where
       ++ line_of (codes "end" ∷ []))))
   pub key : SpellsBytes key_word (key_bytes q.key)
   pub message : SpellsOrDash message_word q.message
-  pub message_few : length q.message ≤ 16384
+  pub message_few : length q.message ≤ message_bytes
   pub signature : SpellsOrDash signature_word q.signature
-  pub signature_few : length q.signature ≤ 10000
+  pub signature_few : length q.signature ≤ signature_bytes
 
--- The whole text was taken, it asks this question, and its answer was written: that the signature is good exactly
--- where it verifies.
+-- The text asks a question, and this is its answer: that the signature is good exactly where it verifies.
+pub record IsAnswer (text answer : List ℕ) : Type 0 where
+  pub question : Question
+  pub asks : IsText text question
+  pub good : (answer ≡ codes "signature good" ++ 10 ∷ []) ↔ Verifies question.key question.message question.signature
+
+-- The whole text was taken, and its answer was written.
 pub record IsAnswered (was now : Standing) : Type 0 where
   pub text : List ℕ
-  pub question : Question
   pub answer : List ℕ
   pub read : Consumes was.left now.left text
   pub used_up : IsUsedUp now.left
-  pub asks : IsText text question
+  pub answers : IsAnswer text answer
   pub wrote : Appends was.taken now.taken answer
-  pub good : (answer ≡ codes "signature good" ++ 10 ∷ []) ↔ Verifies question.key question.message question.signature
 
--- What a run brings: the answer; or nothing, but where a write failed.
+-- The whole text was taken, and of its answer a front was written, and not all.
+pub record IsCutShort (was now : Standing) : Type 0 where
+  pub text : List ℕ
+  pub answer : List ℕ
+  pub count : ℕ
+  pub read : Consumes was.left now.left text
+  pub used_up : IsUsedUp now.left
+  pub answers : IsAnswer text answer
+  pub short : count < length answer
+  pub wrote : Appends was.taken now.taken (take count answer)
+
+-- What a run brings: the answer; a front of it, where a write failed; or nothing.
 abbrev pub Brings : Standing → Standing → Result (Unit {0}) (Stop BadWord) → Type 0
 Brings was now (Ok _) = IsAnswered was now
 Brings was now (Err (stop.Refused line w)) = Appends was.taken now.taken []
 Brings was now (Err stop.ReadFault) = Appends was.taken now.taken []
-Brings was now (Err stop.WriteFault) = Unit {0}
+Brings was now (Err stop.WriteFault) = IsCutShort was now
 Brings was now (Err stop.OutOfMemory) = Appends was.taken now.taken []

@@ -6,3 +6,6 @@ mod input;
 mod verifier;
 
 pub use input::verify_input;
+
+#[cfg(test)]
+mod tests;

@@ -1,6 +1,7 @@
 //! What the lines of the text do: they ask a question, and its end is answered.
 
-ghost use Rattle.std.specs.Prelude.{◌≡◌, ◌-◌};
+ghost use Rattle.std.specs.Prelude.{◌≡◌, ◌-◌, ◌+◌};
+ghost use Rattle.text_trace.specs.Lines.{text_lines};
 ghost use Rattle.text_trace.specs.Trace.{Owed};
 ghost use Rattle.verifier.specs.Answered.{answered, refusal_of};
 
@@ -47,7 +48,7 @@ impl Script for Verifier {
 
     ghost owes = { λ s f. f ≡ answered s.reader s.asked };
 
-    ghost room = { λ s. 100001 - s.reader.number };
+    ghost room = { λ s. text_lines + 1 - s.reader.number };
 
     fn line(
         &mut self,

@@ -11,7 +11,7 @@ use Rattle.verify_text.specs.declared.line.VerifyLine.{VerifyLine}
 use Rattle.verify_text.specs.declared.line.VerifyLine.TheVariants as lines
 use Rattle.verify_text.specs.declared.verify.Verify.{Verify}
 use Rattle.verify_text.specs.declared.verify.Verify.TheVariants as verify
-use Rattle.verify_text.specs.Rows.{is_ended, row_for}
+use Rattle.verify_text.specs.Rows.{is_ended, message_bytes, row_for, signature_bytes}
 
 -- Every value may be reached.
 abbrev pub IsSound : Verify → Type 0
@@ -48,8 +48,8 @@ pub record AreKey (ws : List (List ℕ)) (key : PublicKey) : Type 0 where
 abbrev pub Spells : List (List ℕ) → VerifyLine → Type 0
 Spells ws lines.Header = ws ≡ codes "fireflies" ∷ codes "1" ∷ codes "verify" ∷ []
 Spells ws (lines.Key k) = AreKey ws k
-Spells ws (lines.Message m) = AreBytes 16384 (codes "message") ws m
-Spells ws (lines.Signature s) = AreBytes 10000 (codes "signature") ws s
+Spells ws (lines.Message m) = AreBytes message_bytes (codes "message") ws m
+Spells ws (lines.Signature s) = AreBytes signature_bytes (codes "signature") ws s
 Spells ws lines.End = ws ≡ codes "end" ∷ []
 
 -- These words are this line, which may stand here.

@@ -1,10 +1,10 @@
 -- What is taken as a line is one by the grammar, and what is one is taken.
-use Rattle.std.proofs.Common.{◌≡◌, ℕ, zero, suc, ◌<◌, ◌≤◌, Bool, true, false, cond, eqb, leb, List, [], ◌∷◌, length, drop, get_or, Option, Some, None, Result, Ok, Err, ◌⊎◌, inl, inr, refl, sym, ap, subst, ◌∙◌, arith, codes}
+use Rattle.std.proofs.Common.{◌≡◌, ℕ, zero, suc, ◌<◌, ◌≤◌, Bool, true, false, cond, eqb, leb, List, [], ◌∷◌, length, drop, get_or, Option, Some, None, Result, Ok, Err, inl, inr, refl, sym, ap, subst, ◌∙◌, arith, codes}
 use Rattle.std.specs.Prelude.{is_ok}
 use Rattle.std.specs.Str.{bytes_eq}
 use Rattle.std.specs.Prelude.{slice_range}
 use Rattle.std.proofs.lemmas.List.{length-drop, length-take}
-use Rattle.std.proofs.lemmas.Bool.{and_parts, cases_Bool, eqb-true, le-leb, leb-true}
+use Rattle.std.proofs.lemmas.Bool.{and_parts, eqb-true, le-leb, leb-true}
 use Rattle.std.proofs.lemmas.Slice.Eq.{bytes_eq-Decides}
 use Rattle.lms_tree.specs.declared.kind.KeyFault.{KeyFault}
 use Rattle.lms_tree.specs.declared.key.PublicKey.{PublicKey}
@@ -20,19 +20,19 @@ use Rattle.lms_tree.proofs.Keys.{key-spelled, key_in-key_bytes}
 use Rattle.line_text.specs.declared.bad_word.BadWord.{BadWord}
 use Rattle.line_text.specs.declared.bad_word.BadWord.TheVariants as bad
 use Rattle.line_text.specs.Digits.{IsDigit, SpellsBytes}
-use Rattle.line_text.specs.Fields.{Field, bad_bytes, bytes_in, hex_of, hex_or_dash_of, hex_that, hex_up_to, or_nothing}
-use Rattle.line_text.specs.Frame.{Row, behind, fields_line, first_of, first_word, header_row, is_header, row_line, second_word, word_tests}
+use Rattle.line_text.specs.Fields.{Field, bad_bytes, hex_of, hex_or_dash_of, hex_up_to, or_nothing}
+use Rattle.line_text.specs.Frame.{behind, fields_line, first_of, first_word, header_row, is_header, known_row, row_line, second_word, word_tests}
 use Rattle.line_text.proofs.DigitLemmas.{hex-spelled, spelled-hex}
 use Rattle.line_text.proofs.FieldLemmas.{fields_line-good, fields_line-ok, no_word, one_word, two_words}
-use Rattle.line_text.proofs.FrameLemmas.{or_none, word_among-text}
+use Rattle.line_text.proofs.FrameLemmas.{or_none, stood, word_among-text}
 use Rattle.verify_text.specs.declared.line.LineWord.{LineWord}
 use Rattle.verify_text.specs.declared.line.LineWord.TheVariants as words
 use Rattle.verify_text.specs.declared.line.VerifyLine.{VerifyLine}
 use Rattle.verify_text.specs.declared.line.VerifyLine.TheVariants as lines
 use Rattle.verify_text.specs.declared.verify.Verify.{Verify}
 use Rattle.verify_text.specs.declared.verify.Verify.TheVariants as verify
-use Rattle.verify_text.specs.Rows.{fields_of, is_start, key, key_or_end, known_row, line_of, line_word, line_words, may_stand, row_for, start_row, word_text}
-use Rattle.verify_text.specs.Grammar.{AreBytes, AreKey, IsSound, IsVerify, Spells, SpellsOrDash, stands_at}
+use Rattle.verify_text.specs.Rows.{fields_of, is_start, key, key_or_end, line_of, line_word, line_words, may_stand, message_bytes, row_for, row_of, signature_bytes, start_row, word_text}
+use Rattle.verify_text.specs.Grammar.{AreBytes, IsSound, IsVerify, Spells, SpellsOrDash, stands_at}
 
 -- ## Keys
 
@@ -168,8 +168,8 @@ bytes_fit most line args (Some bytes) one is good =
 
 fits : (k : LineWord) (args : List (List ℕ)) → length args ≡ length (fields_of k) → first_of (word_tests (fields_of k) args) ≡ None → Fits k args
 fits words.Key args many good = key_fits args (hex_of (first_word args)) (key_in (or_nothing (hex_of (first_word args)))) (one_word args many) refl refl (or_none _ _ good).0
-fits words.Message args many good = bytes_fit 16384 (codes "message") args (hex_or_dash_of (first_word args)) (one_word args many) refl (or_none _ _ good).0
-fits words.Signature args many good = bytes_fit 10000 (codes "signature") args (hex_or_dash_of (first_word args)) (one_word args many) refl (or_none _ _ good).0
+fits words.Message args many good = bytes_fit message_bytes (codes "message") args (hex_or_dash_of (first_word args)) (one_word args many) refl (or_none _ _ good).0
+fits words.Signature args many good = bytes_fit signature_bytes (codes "signature") args (hex_or_dash_of (first_word args)) (one_word args many) refl (or_none _ _ good).0
 fits words.End args many good = onto (codes "end") args [] (no_word args many)
 
 key_no_end : (args : List (List ℕ)) → Spells (codes "key" ∷ args) lines.End → ⊥
@@ -188,11 +188,7 @@ stands verify.Worded words.Signature args may h = refl
 stands verify.Signed words.End args may h = refl
 stands _ _ args may h = cc
 
-stood : {A : Type 0} (b : Bool) (r : Result A BadWord) (w : BadWord) (x : A) → cond b r (Err w) ≡ Ok x → (b ≡ true) × (r ≡ Ok x)
-stood true r w x e = (refl, e)
-stood false r w x e = cc
-
-below_header : (v : Verify) (o : Option LineWord) (first : List ℕ) (args : List (List ℕ)) (l : VerifyLine) → line_word first ≡ o → row_line (known_row v o) args ≡ Ok l → IsVerify v (first ∷ args) l
+below_header : (v : Verify) (o : Option LineWord) (first : List ℕ) (args : List (List ℕ)) (l : VerifyLine) → line_word first ≡ o → row_line (known_row (row_of v) o) args ≡ Ok l → IsVerify v (first ∷ args) l
 below_header v None first args l is e = cc
 below_header v (Some k) first args l is e =
     let h = stood (may_stand v k) (fields_line (fields_of k) (line_of k) args) bad.Order l e in
@@ -225,7 +221,7 @@ at_header v true first args l start is e =
     subst (IsVerify v (first ∷ args)) p.same made
 at_header v false first args l start is e = cc
 
-either : (v : Verify) (b : Bool) (first : List ℕ) (args : List (List ℕ)) (l : VerifyLine) → is_start v ≡ b → row_line (cond b (start_row (first ∷ args)) (known_row v (line_word first))) args ≡ Ok l → IsVerify v (first ∷ args) l
+either : (v : Verify) (b : Bool) (first : List ℕ) (args : List (List ℕ)) (l : VerifyLine) → is_start v ≡ b → row_line (cond b (start_row (first ∷ args)) (known_row (row_of v) (line_word first))) args ≡ Ok l → IsVerify v (first ∷ args) l
 either v true first args l start e = at_header v (is_header (codes "verify") (first ∷ args)) first args l start refl e
 either v false first args l start e = below_header v (line_word first) first args l refl e
 
@@ -273,11 +269,11 @@ at (lines.Key k) ws h =
     let g = key_good h.word k h.spells h.id h.root in
     rw h.same (one_read verify.Headed words.Key key h.word (lines.Key k) refl refl refl refl g.0 g.1)
 at (lines.Message m) ws h =
-    let is = bytes_read 16384 h.word m h.spells in
-    rw h.same (one_read verify.Keyed words.Message (hex_up_to 16384) h.word (lines.Message m) refl refl refl refl (few_good 16384 h.word m is h.few) (ap (λ o. lines.Message (or_nothing o)) is))
+    let is = bytes_read message_bytes h.word m h.spells in
+    rw h.same (one_read verify.Keyed words.Message (hex_up_to message_bytes) h.word (lines.Message m) refl refl refl refl (few_good message_bytes h.word m is h.few) (ap (λ o. lines.Message (or_nothing o)) is))
 at (lines.Signature s) ws h =
-    let is = bytes_read 10000 h.word s h.spells in
-    rw h.same (one_read verify.Worded words.Signature (hex_up_to 10000) h.word (lines.Signature s) refl refl refl refl (few_good 10000 h.word s is h.few) (ap (λ o. lines.Signature (or_nothing o)) is))
+    let is = bytes_read signature_bytes h.word s h.spells in
+    rw h.same (one_read verify.Worded words.Signature (hex_up_to signature_bytes) h.word (lines.Signature s) refl refl refl refl (few_good signature_bytes h.word s is h.few) (ap (λ o. lines.Signature (or_nothing o)) is))
 at lines.End ws h = rw h refl
 
 -- What is a line is taken, as that line.

@@ -1,13 +1,13 @@
 -- The rows of the text that asks whether a signature is good: each line word, where its line may stand, what the
 -- word behind it must be, and what line they are.
-use Rattle.std.specs.Prelude.{ℕ, Bool, true, false, is_ok, if◌then◌else◌, List, [], ◌∷◌, Option, Some, None, Result, Ok, Err, codes}
+use Rattle.std.specs.Prelude.{ℕ, Bool, true, false, is_ok, if◌then◌else◌, List, [], ◌∷◌, Option, Result, Ok, Err, codes}
 use Rattle.lms_tree.specs.declared.kind.KeyFault.{KeyFault}
 use Rattle.lms_tree.specs.declared.key.PublicKey.{PublicKey}
 use Rattle.lms_tree.specs.Lms.{key_in}
 use Rattle.line_text.specs.declared.bad_word.BadWord.{BadWord}
 use Rattle.line_text.specs.declared.bad_word.BadWord.TheVariants as bad
 use Rattle.line_text.specs.Fields.{Field, bytes_in, hex_of, hex_that, hex_up_to, or_nothing}
-use Rattle.line_text.specs.Frame.{Row, first_word, header_row, is_header, word_among}
+use Rattle.line_text.specs.Frame.{Row, first_word, header_row, is_header, known_row, word_among}
 use Rattle.verify_text.specs.declared.line.LineWord.{LineWord}
 use Rattle.verify_text.specs.declared.line.LineWord.TheVariants as words
 use Rattle.verify_text.specs.declared.line.VerifyLine.{VerifyLine}
@@ -35,10 +35,18 @@ may_stand _ _ = false
 abbrev pub key : Field
 key word = hex_that (λ bytes. is_ok (key_in bytes)) word
 
+-- how many bytes a message may have
+abbrev pub message_bytes : ℕ
+message_bytes = 16384
+
+-- how many bytes a signature may have
+abbrev pub signature_bytes : ℕ
+signature_bytes = 10000
+
 abbrev pub fields_of : LineWord → List Field
 fields_of words.Key = key ∷ []
-fields_of words.Message = hex_up_to 16384 ∷ []
-fields_of words.Signature = hex_up_to 10000 ∷ []
+fields_of words.Message = hex_up_to message_bytes ∷ []
+fields_of words.Signature = hex_up_to signature_bytes ∷ []
 fields_of words.End = []
 
 -- the line of a key; bytes that are none are refused before
@@ -65,22 +73,14 @@ line_words = words.Key ∷ words.Message ∷ words.Signature ∷ words.End ∷ [
 abbrev pub line_word : List ℕ → Option LineWord
 line_word word = word_among word_text line_words word
 
-abbrev pub word_or_bad : Option LineWord → Result LineWord BadWord
-word_or_bad None = Err bad.Word
-word_or_bad (Some word) = Ok word
-
 abbrev pub row_of : Verify → LineWord → Row VerifyLine
 row_of v word = record { stands = may_stand v word; fields = fields_of word; line = line_of word }
-
-abbrev pub known_row : Verify → Option LineWord → Result (Row VerifyLine) BadWord
-known_row v None = Err bad.Word
-known_row v (Some word) = Ok (row_of v word)
 
 abbrev pub start_row : List (List ℕ) → Result (Row VerifyLine) BadWord
 start_row ws = if is_header (codes "verify") ws then Ok (header_row lines.Header) else Err bad.Header
 
 abbrev pub row_for : Verify → List (List ℕ) → Result (Row VerifyLine) BadWord
-row_for v ws = if is_start v then start_row ws else known_row v (line_word (first_word ws))
+row_for v ws = if is_start v then start_row ws else known_row (row_of v) (line_word (first_word ws))
 
 -- Only bytes take memory.
 abbrev pub TakesMemory : VerifyLine → Type 0

@@ -2,8 +2,8 @@
 
 ghost use Rattle.std.specs.Prelude.{◌≡◌};
 ghost use Rattle.line_text.specs.Answers.{AnswersBy};
-ghost use Rattle.line_text.specs.Frame.{behind, fields_line, row_line};
-ghost use Rattle.verify_text.specs.Rows.{TakesMemory, fields_of, line_of, line_word, start_row, word_or_bad};
+ghost use Rattle.line_text.specs.Frame.{behind, fields_line, row_line, word_or_bad};
+ghost use Rattle.verify_text.specs.Rows.{TakesMemory, fields_of, line_of, line_word, start_row};
 
 use crate::line::{LineWord, VerifyLine};
 use line_text::{BadWord, LineFault, Words};

@@ -1,11 +1,10 @@
-use Rattle.std.proofs.Common.{rules, arith}
+use Rattle.std.proofs.Common.{rules, arith, inl, refl}
 use Rattle.std.proofs.lemmas.Result.{err_from_is_err_and}
-use Rattle.play.proofs.TurnLemmas.{starved-first}
-use Rattle.play.proofs.JoinLemmas.{went-none, went-join, owing-later, finished-join, stops-join}
+use Rattle.play.proofs.JoinLemmas.{went-none, went-join, owing-later, finished-join, stops-join, run-stops}
 use Rattle.play.proofs.player.play.Goals as goal
 
 pub returns-in_default-clause-runs : goal.returns-in_default-clause-runs
-returns-in_default-clause-runs g c = starved-first _ (g.P.Script.owes c.args.script.now) _ _ (g.met.P.Script.waits c.args.script.now)
+returns-in_default-clause-runs g c = inl refl
 
 pub lines-init : goal.lines-init
 lines-init g c = record {
@@ -20,7 +19,7 @@ lines-init g c = record {
 pub returns-in_err-turn-clause-runs : goal.returns-in_err-turn-clause-runs
 returns-in_err-turn-clause-runs g c =
     let p = err_from_is_err_and c.from_residual.result c.from_residual.ensures.1 in
-    rw (p.1, p.2) (stops-join _ (g.P.Script.owes c.args.script.now) (g.P.Script.owes c.lines.script) _ _ _ _ _ _ _ c.in_err-turn.field-0.0 c.lines.invariant.went c.in_err-turn.ensures.turns)
+    rw (p.1, p.2) (run-stops _ (g.P.Script.owes c.args.script.now) _ _ _ _ (stops-join _ (g.P.Script.owes c.args.script.now) (g.P.Script.owes c.lines.script) _ _ _ _ _ _ _ c.in_err-turn.field-0.0 c.lines.invariant.went c.in_err-turn.ensures.turns))
 
 pub lines-preserved : goal.lines-preserved
 lines-preserved g c =

@@ -1,4 +1,5 @@
 use Rattle.std.proofs.Common.{◌≡◌, ◌≤◌, ◌+◌, true, vec_capacity}
+use Rattle.text_trace.specs.Lines.{seen_bytes, text_lines}
 use Rattle.text_trace.specs.Trace.{Owing}
 use Rattle.play.specs.Plays.{Went, standing}
 use Rattle.play.proofs.player.play.Given as goal
@@ -9,8 +10,8 @@ invariant-lines g l = record {
   source : g.S.Source.is_open l.input ≡ true;
   sink : g.O.Sink.is_open l.out ≡ true;
   owing : Owing g.row.P-Cause.Denot (g.P.Script.owes l.script);
-  room : 65601 ≤ vec_capacity l.line;
-  number : l.number + g.P.Script.room l.script ≤ 100001;
+  room : seen_bytes ≤ vec_capacity l.line;
+  number : l.number + g.P.Script.room l.script ≤ text_lines + 1;
   went : Went g.row.P-Cause.Denot (g.P.Script.owes l.fn.script) (g.P.Script.owes l.script) 1 l.number (g.P.Script.room l.fn.script) (g.P.Script.room l.script)
       (standing (g.S.Source.left l.fn.input) (g.O.Sink.taken l.fn.out) (g.S.Source.faults l.fn.input) (g.O.Sink.faults l.fn.out))
       (standing (g.S.Source.left l.input) (g.O.Sink.taken l.out) (g.S.Source.faults l.input) (g.O.Sink.faults l.out));

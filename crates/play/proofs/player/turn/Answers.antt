@@ -2,7 +2,7 @@ use Rattle.std.proofs.Common.{ℕ, List, refl, subst, rules}
 use Rattle.std.specs.Io.KnownBytes.{Appends}
 use Rattle.std.proofs.KnownBytes.{Appends-nil}
 use Rattle.ports.specs.Contents.{TookFront}
-use Rattle.play.proofs.TurnLemmas.{went-one, finished-here, refused-line, refused-end, unread-here, unwritten-line, unwritten-end, starved-here}
+use Rattle.play.proofs.TurnLemmas.{went-one, finished-here, refused-line, refused-end, unread-here, unwritten-line, unwritten-end, starved-line, starved-end}
 use Rattle.play.proofs.player.turn.Goals as goal
 
 pub returns-in-Err-clause-turns : goal.returns-in-Err-clause-turns
@@ -25,7 +25,8 @@ returns-in-Err-Refused-clause-turns g c =
 
 pub returns-in-Err-OutOfMemory-clause-turns : goal.returns-in-Err-OutOfMemory-clause-turns
 returns-in-Err-OutOfMemory-clause-turns g c =
-    starved-here _ (g.P.Script.owes c.args.script.now) _ _ _ c.read_line.new.line.items c.in-Ok.field-0 c.in-Ok.ensures.reads (g.met.P.Script.waits c.args.script.now) (Appends-nil (g.O.Sink.taken c.args.out.now)) (record { reads = c.in-Ok.ensures.faults; writes = refl })
+    let admits = rw c.in-Err-OutOfMemory.field-0-is at c.in-Err-OutOfMemory.ensures.end in
+    starved-end _ (g.P.Script.owes c.args.script.now) _ _ _ c.read_line.new.line.items c.in-Ok.field-0 c.in-Ok.ensures.reads (search rules) admits (g.met.P.Script.waits c.args.script.now) (Appends-nil (g.O.Sink.taken c.args.out.now)) (record { reads = c.in-Ok.ensures.faults; writes = refl })
 
 pub returns-in-Ok-write_all-2-clause-turns : goal.returns-in-Ok-write_all-2-clause-turns
 returns-in-Ok-write_all-2-clause-turns g c =
@@ -47,4 +48,6 @@ returns-in-Err-Refused-line-clause-turns g c =
 
 pub returns-in-Err-OutOfMemory-line-clause-turns : goal.returns-in-Err-OutOfMemory-line-clause-turns
 returns-in-Err-OutOfMemory-line-clause-turns g c =
-    starved-here _ (g.P.Script.owes c.args.script.now) _ _ _ c.read_line.new.line.items c.in-Ok.field-0 c.in-Ok.ensures.reads (g.met.P.Script.waits c.args.script.now) (Appends-nil (g.O.Sink.taken c.args.out.now)) (record { reads = c.in-Ok.ensures.faults; writes = refl })
+    let answered = rw c.in-Err-OutOfMemory-line.field-0-is at c.in-Err-OutOfMemory-line.ensures.line in
+    let admits = rw c.deref-2.ensures.value at answered in
+    starved-line _ (g.P.Script.owes c.args.script.now) _ _ _ c.read_line.new.line.items c.in-Ok.field-0 c.in-Ok.ensures.reads admits.0 admits.1 (g.met.P.Script.waits c.args.script.now) (Appends-nil (g.O.Sink.taken c.args.out.now)) (record { reads = c.in-Ok.ensures.faults; writes = refl })

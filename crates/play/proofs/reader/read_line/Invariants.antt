@@ -1,6 +1,6 @@
 use Rattle.std.proofs.Common.{◌≡◌, ◌≤◌, ◌-◌, true, vec_capacity, vec_len}
 use Rattle.std.specs.Io.KnownBytes.{Consumes}
-use Rattle.text_trace.specs.Lines.{has_no_feed}
+use Rattle.text_trace.specs.Lines.{has_no_feed, seen_bytes}
 use Rattle.play.proofs.reader.read_line.Given as goal
 
 -- what was taken so far has no line feed
@@ -10,9 +10,9 @@ invariant-bytes g l = record {
   faults : g.S.Source.faults l.input ≡ g.S.Source.faults l.fn.input;
   front : Consumes (g.S.Source.left l.fn.input) (g.S.Source.left l.input) l.line.items;
   clear : has_no_feed l.line.items ≡ true;
-  short : vec_len l.line ≤ 65601;
-  room : 65601 ≤ vec_capacity l.line;
+  short : vec_len l.line ≤ seen_bytes;
+  room : seen_bytes ≤ vec_capacity l.line;
 }
 
 abbrev pub decreases-bytes : goal.decreases-bytes
-decreases-bytes g l = 65601 - vec_len l.line
+decreases-bytes g l = seen_bytes - vec_len l.line

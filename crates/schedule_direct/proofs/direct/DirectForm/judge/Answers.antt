@@ -1,5 +1,6 @@
-use Rattle.std.proofs.Common.{◌≡◌, true, false, Ok, sym, ◌∙◌, rules}
-use Rattle.schedule_direct.specs.Rows.{is_start, line_word, may_stand, word_or_bad}
+use Rattle.std.proofs.Common.{◌≡◌, true, false, Ok, rules}
+use Rattle.line_text.specs.Frame.{word_or_bad}
+use Rattle.schedule_direct.specs.Rows.{is_start, line_word, may_stand}
 use Rattle.schedule_direct.proofs.ReadingLemmas.{below_read}
 use Rattle.schedule_direct.proofs.direct.DirectForm.judge.Goals as goal
 

@@ -1,5 +1,6 @@
-use Rattle.std.proofs.Common.{◌≡◌, true, false, Ok, sym, ◌∙◌, rules}
-use Rattle.verify_text.specs.Rows.{is_start, line_word, may_stand, word_or_bad}
+use Rattle.std.proofs.Common.{◌≡◌, true, false, Ok, rules}
+use Rattle.line_text.specs.Frame.{word_or_bad}
+use Rattle.verify_text.specs.Rows.{is_start, line_word, may_stand}
 use Rattle.verify_text.proofs.ReadingLemmas.{below_read}
 use Rattle.verify_text.proofs.verify.VerifyForm.judge.Goals as goal
 
