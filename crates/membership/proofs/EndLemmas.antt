@@ -1,12 +1,13 @@
 -- Kept accusations that end one after another.
-use Rattle.std.proofs.Common.{◌≡◌, ℕ, zero, suc, replicate, get_or, ◌+◌, ◌<◌, ◌≤◌, Bool, true, false, cond, not, ◌&&◌, ◌||◌, eqb, List, [], ◌∷◌, map, length, Option, Some, None, refl, ap, sym, ◌∙◌, subst, arith}
+use Rattle.std.proofs.Common.{◌≡◌, ℕ, zero, suc, replicate, get_or, take, ◌+◌, ◌-◌, ◌<◌, ◌≤◌, Bool, true, false, cond, not, ◌&&◌, ◌||◌, eqb, List, [], ◌∷◌, map, length, Option, Some, None, refl, ap, sym, ◌∙◌, subst, arith}
 use Rattle.std.specs.Prelude.{nat_lt, slice_index_or, IfSome}
-use Rattle.std.specs.List.{filter, insert, prefix_len, AllByRecursion}
+use Rattle.std.specs.List.{list_any, filter, insert, prefix_len, AllByRecursion}
 use Rattle.std.specs.Option.{option_map_or}
 use Rattle.std.proofs.lemmas.Bool.{eqb-true}
 use Rattle.std.proofs.lemmas.Bool.Decides.{nat_tests}
 use Rattle.std.proofs.lemmas.List.Edits.{length-insert}
 use Rattle.std.proofs.lemmas.List.Filters.{length-filter_both}
+use Rattle.std.proofs.lemmas.List.Folds.{list_any_more}
 use Rattle.std.proofs.lemmas.List.Sums.{prefix_len-le-length}
 use Rattle.ff_ids.specs.declared.AccBody.{AccBody}
 use Rattle.ff_ids.specs.declared.NoteBody.{NoteBody}
@@ -14,7 +15,7 @@ use Rattle.ff_ids.specs.Views.{is_number, is_unanswered_by}
 use Rattle.ff_ids.specs.Steps.{comes_first}
 use Rattle.removal_timer.specs.Kept.{is_at, entry_at, IsInOrder}
 use Rattle.membership.specs.Life.{Life}
-use Rattle.membership.specs.Ends.{Entry, Ends, with_fallen, is_on, is_named, is_answered, answered_on}
+use Rattle.membership.specs.Ends.{IsAgain, AreNamed, is_of, is_of_any, Entry, Ends, with_fallen, is_on, is_named, is_answered, answered_on}
 use Rattle.membership.proofs.NumberLemmas.{filter-filter}
 
 -- ---- facts of each entry
@@ -328,6 +329,28 @@ answered_by l n p found = by_member (eqb p.0.accused n.member) refl
     by_member false t = other (entry_at n.member p.0.ring.0 l.kept) (swap_eqb n.member p.0.accused ∙ t) ∙ sym (ap (λ b. b && not (is_unanswered_by p.0 n)) t)
 
 -- of the kept, those that are named are those that are answered
-pub named-answered : (rings : ℕ) (l : Life) (n : NoteBody) (named : List (Option ℕ)) → IsInOrder rings l.kept → ((ring : ℕ) → ring < rings → slice_index_or named ring None ≡ answered_on l n ring) → AllByRecursion (λ p. is_named named p ≡ is_answered n p) l.kept
+pub named-answered : (rings : ℕ) (l : Life) (n : NoteBody) (named : List (Option ℕ)) → IsInOrder rings l.kept → AreNamed named (answered_on l n) l.kept → AllByRecursion (λ p. is_named named p ≡ is_answered n p) l.kept
 named-answered rings l n named ordered each =
-    AllBy-both (IsEntry rings) (λ p. entry_at p.0.accused p.0.ring.0 l.kept ≡ Some p) (λ p. is_named named p ≡ is_answered n p) (λ p e found. ap (λ o. is_number o p.0.accused) (each p.0.ring.0 e.ring) ∙ answered_by l n p found) l.kept (AllBy-entries rings l.kept ordered) (entry_at-itself rings l.kept ordered)
+    AllBy-both (λ p. is_named named p ≡ is_number (answered_on l n p.0.ring.0) p.0.accused) (λ p. entry_at p.0.accused p.0.ring.0 l.kept ≡ Some p) (λ p. is_named named p ≡ is_answered n p) (λ p same found. same ∙ answered_by l n p found) l.kept each (entry_at-itself rings l.kept ordered)
+
+-- what is named for each ring is named for the ring of each entry
+pub AreNamed-each : (rings : ℕ) (named : List (Option ℕ)) (of : ℕ → Option ℕ) (kept : List Entry) → IsInOrder rings kept → ((ring : ℕ) → ring < rings → slice_index_or named ring None ≡ of ring) → AreNamed named of kept
+AreNamed-each rings named of kept ordered each =
+    AllBy-then (IsEntry rings) (λ p. is_named named p ≡ is_number (of p.0.ring.0) p.0.accused) (λ p e. ap (λ o. is_number o p.0.accused) (each p.0.ring.0 e.ring)) kept (AllBy-entries rings kept ordered)
+
+-- one more accusation against the same member tells no more
+pub is_of-again : (l : Life) (due : List AccBody) (i : ℕ) (p : Entry) → IsAgain due i → i < length due → is_of_any l (take i due) p ≡ is_of_any l (take (i + 1) due) p
+is_of-again l due i p again below =
+    let d : AccBody = record { accuser = 0; accused = 0; epoch = 0; ring = record { 0 = 0 } } in
+    let test : AccBody → Bool = λ a. is_of l a.accused p in
+    let here = list_any_more test due i d below in
+    let there = list_any_more test due (i - 1) d (omega (arith, again.0)) in
+    let at : i - 1 + 1 ≡ i = omega (arith, again.0) in
+    let last : list_any test (take i due) ≡ (list_any test (take (i - 1) due) || test (get_or due (i - 1) d)) = ap (λ n. list_any test (take n due)) (sym at) ∙ there in
+    let same : test (get_or due (i - 1) d) ≡ test (get_or due i d) = ap (λ m. is_of l m p) (again.1 d) in
+    last ∙ sym (once (list_any test (take (i - 1) due)) (test (get_or due (i - 1) d))) ∙ ap (λ b. b || test (get_or due (i - 1) d)) (sym last) ∙ ap (λ b. list_any test (take i due) || b) same ∙ sym here
+  where
+    once : (a b : Bool) → ((a || b) || b) ≡ (a || b)
+    once true b = refl
+    once false true = refl
+    once false false = refl

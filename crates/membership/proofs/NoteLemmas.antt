@@ -1,6 +1,5 @@
 -- What an accepted note changes.
 use Rattle.std.proofs.Common.{◌≡◌, ◌≢◌, ℕ, ◌<◌, Bool, true, false, cond, not, ◌&&◌, eqb, List, [], ◌∷◌, map, ⊎_elim, Option, Some, None, refl, ap, sym, ◌∙◌, subst, arith}
-use Rattle.std.specs.Prelude.{slice_index_or}
 use Rattle.std.specs.List.{filter, AllByRecursion, All}
 use Rattle.std.specs.Option.{option_map_or}
 use Rattle.std.specs.Ordering.{is_lt}
@@ -18,7 +17,7 @@ use Rattle.ff_ids.specs.Steps.{Report, only_before, after_note}
 use Rattle.removal_timer.specs.Kept.{IsInOrder}
 use Rattle.membership.specs.Kept.{expired_at, is_live, is_live_at}
 use Rattle.membership.specs.Life.{Life, has_joined, live_successor, is_newcomer, with_note}
-use Rattle.membership.specs.Ends.{Entry, is_named, is_answered, answered_on, next_of}
+use Rattle.membership.specs.Ends.{AreNamed, Entry, is_named, is_answered, answered_on, next_of}
 use Rattle.membership.specs.Holds.{Holds, HoldsAt}
 use Rattle.membership.proofs.NumberLemmas.{either_bool, all_length, AtEach, AtEach-all, filter-filter, filter-range_one}
 use Rattle.membership.proofs.HoldLemmas.{HoldsEach, in_view-each, in_view-at, live_successor-each}
@@ -137,12 +136,12 @@ stands-fell after ended kept kept' fell decides h =
 abbrev pub named_on : Bool → Life → NoteBody → ℕ → Option ℕ
 named_on enters l n ring = cond enters (next_of l n.member ring) (answered_on l n ring)
 
-decides-noted : (l : Life) (s : State) (n : NoteBody) (named : List (Option ℕ)) (enters : Bool) → Holds l s → Accepts l n → has_joined l n.member ≡ true → IsInOrder (ring_count l.group.t) l.kept → enters ≡ is_newcomer l n → ((ring : ℕ) → ring < ring_count l.group.t → slice_index_or named ring None ≡ named_on enters (with_note l n) n ring) → Decides (with_accepted s n) (is_named named) l.kept
+decides-noted : (l : Life) (s : State) (n : NoteBody) (named : List (Option ℕ)) (enters : Bool) → Holds l s → Accepts l n → has_joined l n.member ≡ true → IsInOrder (ring_count l.group.t) l.kept → enters ≡ is_newcomer l n → AreNamed named (named_on enters (with_note l n) n) l.kept → Decides (with_accepted s n) (is_named named) l.kept
 decides-noted l s n named true h a joined ordered e each =
     let enters = entering l s n h a (sym e) in
     let held = HoldsEach-noted l s n h a in
-    AllBy-both (IsEntry (ring_count l.group.t)) (IsUpheld s) (λ p. stands (with_accepted s n) p.0 ≡ not (is_named named p)) (λ p entry u.
-    stands-entered s n p u enters ∙ ap (λ o. not (is_number o p.0.accused)) (sym (live_successor-each (with_note l n) (with_accepted s n) p.0.ring.0 n.member held) ∙ ap (λ b. cond b (live_successor (with_note l n) p.0.ring.0 n.member) None) (sym joined) ∙ sym (each p.0.ring.0 entry.ring))) l.kept (AllBy-entries (ring_count l.group.t) l.kept ordered) (AllBy-upheld (ring_count l.group.t) l s h ordered)
+    AllBy-both (λ p. is_named named p ≡ is_number (named_on true (with_note l n) n p.0.ring.0) p.0.accused) (IsUpheld s) (λ p. stands (with_accepted s n) p.0 ≡ not (is_named named p)) (λ p same u.
+    stands-entered s n p u enters ∙ ap (λ o. not (is_number o p.0.accused)) (sym (live_successor-each (with_note l n) (with_accepted s n) p.0.ring.0 n.member held) ∙ ap (λ b. cond b (live_successor (with_note l n) p.0.ring.0 n.member) None) (sym joined)) ∙ ap not (sym same)) l.kept each (AllBy-upheld (ring_count l.group.t) l s h ordered)
 decides-noted l s n named false h a joined ordered e each =
     AllBy-both (IsUpheld s) (λ p. is_named named p ≡ is_answered n p) (λ p. stands (with_accepted s n) p.0 ≡ not (is_named named p)) (λ p u same.
     stands-answered s n p u (newest_here s.notes n (get l.notes n.member) (h.at_number n.member).newest_note a.newer) (staying l s n h a (sym e)) ∙ ap not (sym same)) l.kept (AllBy-upheld (ring_count l.group.t) l s h ordered) (named-answered (ring_count l.group.t) l n named ordered each)
@@ -163,7 +162,7 @@ view_noted l s n false h a e =
     let same = staying l s n h a (sym e) in
     (only_before-none s (with_accepted s n) (λ k is. same k ∙ is), only_before-none (with_accepted s n) s (λ k is. sym (same k) ∙ is))
 
-pub Noted-by : (l : Life) (s : State) (n : NoteBody) (named : List (Option ℕ)) (enters : Bool) (kept : List Entry) (fell : List AccBody) → Holds l s → Accepts l n → has_joined l n.member ≡ true → IsInOrder (ring_count l.group.t) l.kept → enters ≡ is_newcomer l n → ((ring : ℕ) → ring < ring_count l.group.t → slice_index_or named ring None ≡ named_on enters (with_note l n) n ring) → Ended (is_named named) l.kept kept fell → Noted l s n enters kept fell
+pub Noted-by : (l : Life) (s : State) (n : NoteBody) (named : List (Option ℕ)) (enters : Bool) (kept : List Entry) (fell : List AccBody) → Holds l s → Accepts l n → has_joined l n.member ≡ true → IsInOrder (ring_count l.group.t) l.kept → enters ≡ is_newcomer l n → AreNamed named (named_on enters (with_note l n) n) l.kept → Ended (is_named named) l.kept kept fell → Noted l s n enters kept fell
 Noted-by l s n named enters kept fell h a joined ordered e each ended =
     let decides = decides-noted l s n named enters h a joined ordered e each in
     let held = HoldsEach-noted l s n h a in

@@ -1,6 +1,6 @@
 -- Which kept accusations a step ends.
-use Rattle.std.specs.Prelude.{◌≡◌, ℕ, Bool, ◌&&◌, ◌||◌, not, ◌==◌, if◌then◌else◌, List, Option, Some, None, map, filter, slice_index_or}
-use Rattle.std.specs.List.{list_any, insert, prefix_len}
+use Rattle.std.specs.Prelude.{◌≡◌, ℕ, ◌<◌, ◌-◌, Bool, ◌&&◌, ◌||◌, not, ◌==◌, if◌then◌else◌, List, Option, Some, None, map, filter, slice_index_or}
+use Rattle.std.specs.List.{AllByRecursion, list_any, insert, prefix_len}
 use Rattle.std.specs.Option.{option_map_or}
 use Rattle.ff_ids.specs.declared.AccBody.{AccBody}
 use Rattle.ff_ids.specs.declared.NoteBody.{NoteBody}
@@ -36,6 +36,10 @@ is_of l m p = (m == p.0.accused) || is_against_next l m p
 abbrev pub is_of_any : Life → List AccBody → Entry → Bool
 is_of_any l expired p = list_any (λ a. is_of l a.accused p) expired
 
+-- The accusation at the index is against the member of the one before it.
+abbrev pub IsAgain : List AccBody → ℕ → Type 0
+IsAgain expired n = (0 < n) × ((d : AccBody) → (slice_index_or expired (n - 1) d).accused ≡ (slice_index_or expired n d).accused)
+
 -- It is on the ring, against the member, if there is one.
 abbrev pub is_on : Option ℕ → ℕ → Entry → Bool
 is_on accused ring p = (p.0.ring.0 == ring) && is_number accused p.0.accused
@@ -43,6 +47,10 @@ is_on accused ring p = (p.0.ring.0 == ring) && is_number accused p.0.accused
 -- It is against the member that is named for its ring.
 abbrev pub is_named : List (Option ℕ) → Entry → Bool
 is_named named p = is_number (slice_index_or named p.0.ring.0 None) p.0.accused
+
+-- The list names for the ring of each entry the same of its accused as the function does.
+abbrev pub AreNamed : List (Option ℕ) → (ℕ → Option ℕ) → List Entry → Type 0
+AreNamed named of kept = AllByRecursion (λ p. is_named named p ≡ is_number (of p.0.ring.0) p.0.accused) kept
 
 -- The list with one more accusation that fell, in order of the accused, then of the ring.
 abbrev pub with_fallen : AccBody → List AccBody → List AccBody

@@ -11,7 +11,7 @@ use Rattle.ff_ids.specs.Rings.{Key, nearest_before, nearest_after}
 use Rattle.ff_ids.specs.Views.{key_at}
 use Rattle.ff_ids.specs.Faults.{Facts, note_fault_by, accusation_fault_by}
 use Rattle.monitor_rule.specs.Joined.{Joined, keys_on}
-use Rattle.removal_timer.specs.Kept.{Kept as Timed, IsInOrder, entry_at}
+use Rattle.removal_timer.specs.Kept.{Kept as Timed, IsInOrder, AreUntil, entry_at}
 use Rattle.membership.specs.Kept.{ByNumber, places_at, expired_at, is_live_at, live_members, comes_in}
 
 -- What is kept: the group, the ticks so far, by number the places, the newest note and the greatest epoch that
@@ -41,15 +41,17 @@ pub record IsSound (group : Group) (places : ByNumber (List (List ℕ))) (notes 
   pub rings : view.rings ≡ ring_count group.t
   pub viewed : view.members ≡ live_members places notes expired
 
--- What it is opened with goes for the timers too, which keep their order.
-pub record IsTimed (group : Group) (timers : Timed) : Type 0 where
+-- What it is opened with goes for the timers too, which keep their order, and in which nothing stands since later than
+-- now.
+pub record IsTimed (group : Group) (moment : ℕ) (timers : Timed) : Type 0 where
   pub rings_same : timers.rings ≡ ring_count group.t
   pub timeout_same : timers.timeout ≡ group.timeout
   pub in_order : IsInOrder (ring_count group.t) timers.entries
+  pub past : AreUntil moment timers.entries
 
-pub record IsConsistent (group : Group) (places : ByNumber (List (List ℕ))) (notes : ByNumber NoteBody) (expired : ByNumber ℕ) (view : Joined) (timers : Timed) : Type 0 where
+pub record IsConsistent (group : Group) (moment : ℕ) (places : ByNumber (List (List ℕ))) (notes : ByNumber NoteBody) (expired : ByNumber ℕ) (view : Joined) (timers : Timed) : Type 0 where
   pub sound : IsSound group places notes expired view
-  pub timed : IsTimed group timers
+  pub timed : IsTimed group moment timers
 
 -- How many members are live.
 abbrev pub live_count : Life → ℕ

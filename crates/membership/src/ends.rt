@@ -2,10 +2,11 @@
 
 ghost use Rattle.std.specs.Prelude.{◌≡◌, ℕ, ◌<◌, ◌≤◌, ◌+◌, ◌||◌, true, not, [], List, None, Some, length, if◌then◌else◌, map, filter, slice_index_or};
 ghost use Rattle.std.specs.Option.{option_map_or};
+ghost use Rattle.std.specs.Bool.{OnTrue};
 ghost use Rattle.ff_ids.specs.Masks.{ring_count};
 ghost use Rattle.ff_ids.specs.Views.{is_unanswered_by as note_leaves};
 ghost use Rattle.membership.specs.declared.report.TheConstants.{ACCUSATIONS};
-ghost use Rattle.membership.specs.Ends.{Entry, Ends, HasEnded, next_of, answered_on, is_on, is_named, is_of, is_of_any, with_fallen};
+ghost use Rattle.membership.specs.Ends.{AreNamed, Entry, Ends, HasEnded, IsAgain, next_of, answered_on, is_on, is_named, is_of, is_of_any, with_fallen};
 ghost use Rattle.removal_timer.specs.Kept.{is_at, entry_at, IsInOrder};
 
 use crate::Membership;
@@ -15,12 +16,14 @@ use ff_ids::{AccBody, MemberId, NoteBody, RingNo};
 
 impl Membership {
     /// For each ring the member, if there is one, against which a kept accusation ends after this note was
-    /// accepted: the successor of a member that entered, else the member itself where the note answers.
+    /// accepted: the successor of a member that entered, else the member itself where the note answers. Where
+    /// nothing is kept no ring is looked at.
     pub(crate) fn ended_by(&self, note: &NoteBody, enters: bool) -> [Option<MemberId>; 31]
-        ensures { (ring : ℕ) → ring < ring_count self.now.group.t → slice_index_or result ring None
-            ≡ (if enters then next_of self.now note.now.member ring else answered_on self.now note.now ring) }
+        ensures { AreNamed result (λ ring. if enters then next_of self.now note.now.member ring else answered_on self.now note.now ring) self.now.kept }
     {
-        if enters {
+        if self.timers.is_empty() {
+            [None; 31]
+        } else if enters {
             self.next_after(note.member)
         } else {
             self.answered_by(note)
@@ -115,8 +118,8 @@ impl Membership {
         self.end_named(&next, out);
     }
 
-    /// Ends what is kept against the members that the expired accusations take out, and against their successors.
-    /// Where nothing is kept no ring is looked at.
+    /// Ends what is kept against the members that the expired accusations take out, and against their successors: once
+    /// for each member. Where nothing is kept no ring is looked at.
     pub(crate) fn end_of_expired(&mut self, out: &mut Changes)
         requires room { length self.old.kept ≤ ACCUSATIONS }
         requires empty { out.old.fell ≡ [] }
@@ -130,10 +133,20 @@ impl Membership {
             return;
         }
         for index in 0..out.expired().len() {
-            let accused = out.expired()[index].accused;
-            self.end_of(accused, out);
+            if !is_again(out.expired(), index) {
+                let accused = out.expired()[index].accused;
+                self.end_of(accused, out);
+            }
         }
     }
+}
+
+/// Whether the accusation at the index is against the same member as the one before it.
+fn is_again(expired: &[AccBody], index: usize) -> bool
+    requires { index < length expired.now }
+    ensures { OnTrue result (IsAgain expired.now index) }
+{
+    0 < index && expired[index - 1].accused == expired[index].accused
 }
 
 /// Whether the note has the epoch of the accusation and enables its ring.

@@ -65,7 +65,7 @@ impl Model for Membership {
 
     ghost view = { λ m. record { group = m.group; moment = m.moment; places = m.places; notes = m.notes; expired = m.expired; kept = m.timers.entries } };
 
-    ghost invariant = { λ m. IsConsistent m.group m.places m.notes m.expired m.rings m.timers };
+    ghost invariant = { λ m. IsConsistent m.group m.moment m.places m.notes m.expired m.rings m.timers };
 }
 
 impl Membership {

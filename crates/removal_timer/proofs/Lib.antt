@@ -1,2 +1,5 @@
 pub mod KeptLemmas
-pub mod FindLemmas
+mod QueueLemmas
+mod SlotLemmas
+mod HeldLemmas
+mod SortLemmas

@@ -1,21 +1,29 @@
 //! For each member and ring the accusation that stands there, and since when: which of them have stood for
-//! the timeout. All memory is taken at opening.
+//! the timeout. All memory is taken at opening; each call costs what it touches, and not what is kept.
 #![tactic(auto)]
 
-ghost use Rattle.std.specs.Prelude.{◌≡◌, ◌+◌, ◌*◌, ◌<◌, ◌≤◌, [], ◌++◌, ◌==◌, not, IfOk, IfSome, None, Some, is_some, if◌then◌else◌, length, filter, map, vec_len, vec_capacity};
+ghost use Rattle.std.specs.Prelude.{◌≡◌, ℕ, ◌+◌, ◌*◌, ◌<◌, ◌≤◌, true, false, [], ◌++◌, ◌==◌, not, IfOk, IfSome, IsNone, None, Some, is_some, List, length, filter, map, vec_len, vec_capacity, slice_set};
 ghost use Rattle.std.specs.Bool.{OnTrue};
-ghost use Rattle.std.specs.List.{prefix_len};
+ghost use Rattle.std.specs.List.Sorted.{IsPermutation};
+ghost use Rattle.ff_ids.specs.declared.AccBody.{AccBody as Accusation};
 ghost use Rattle.ff_ids.specs.Masks.{ring_count};
 ghost use Rattle.ff_ids.specs.Steps.{is_due, with_kept};
-ghost use Rattle.removal_timer.specs.Kept.{entry_at, is_at, is_before, AreRising, AreSince};
+ghost use Rattle.removal_timer.specs.Kept.{entry_at, is_at, entries_in, slot_at, pair_number, AreQueued, AreRising, AreUntil, HasGained};
+ghost use Rattle.removal_timer.specs.Queue.{is_queued, without};
+
+mod queue;
 
 use ff_ids::{AccBody, Group, MemberId, RingNo};
 use fields::NoMemory;
+use queue::{END, Queue};
 use std::alloc::Global;
 use std::marker::Model;
 
-/// How many pairs of a member and a ring there are at most.
-const PAIRS: usize = 1024 * 31;
+/// How many rings a group has at most.
+const RINGS: u8 = 31;
+
+/// An accusation, and the tick since when it stands.
+type Entry = (AccBody, u64);
 
 /// The accusations that stand, at most one for each member and ring, each with the tick of its acceptance.
 /// Contracts see the number of rings, the timeout and the list of entries, in order of the accused, then of
@@ -24,131 +32,113 @@ const PAIRS: usize = 1024 * 31;
 pub struct Timers {
     rings: u8,
     timeout: u32,
-    /// No entry stands since before this tick.
-    oldest: u64,
-    kept: Vec<(AccBody, u64)>,
+    /// By the number of the member and the ring.
+    slots: Vec<Option<Entry>>,
+    /// The numbers of the filled slots, in order of the time since when their entries stand.
+    queue: Queue,
 }
 
 impl Model for Timers {
-    ghost use Rattle.removal_timer.specs.Kept.{Kept, IsKept};
-    ghost use Rattle.std.specs.Prelude.{vec_capacity};
+    ghost use Rattle.removal_timer.specs.Kept.{Kept, IsHeld, entries_in};
 
     ghost Value = { Kept };
 
-    ghost view = { λ x. record { rings = x.rings; timeout = x.timeout; entries = x.kept.items } };
+    ghost view = { λ x. record { rings = x.rings; timeout = x.timeout; entries = entries_in x.slots.items } };
 
-    ghost invariant = { λ x. IsKept x.rings x.oldest (vec_capacity x.kept) x.kept.items };
+    ghost invariant = { λ x. IsHeld x.rings x.slots.items x.queue };
 }
 
-fn is_at(entry: &(AccBody, u64), accused: MemberId, ring: RingNo) -> bool
-    ensures { result ≡ is_at accused ring.0 entry.now }
+/// The number of the member and the ring among all pairs of them.
+fn number_of(accused: MemberId, ring: RingNo) -> u16
+    ensures value { result ≡ pair_number accused ring.0 }
+    ensures range { ring.0 < RINGS → result < END }
 {
-    entry.0.accused == accused && entry.0.ring == ring
+    31 * accused.get() + u16::from(ring.0)
 }
 
-fn is_before(entry: &(AccBody, u64), accused: MemberId, ring: RingNo) -> bool
-    ensures { result ≡ is_before accused ring.0 entry.now }
-{
-    entry.0.accused < accused || (entry.0.accused == accused && entry.0.ring < ring)
-}
-
-fn is_due(entry: &(AccBody, u64), timeout: u32, now: u64) -> bool
+fn is_due(entry: &Entry, timeout: u32, now: u64) -> bool
     ensures { result ≡ is_due timeout now entry.now }
 {
     u64::from(timeout) <= now.saturating_sub(entry.1)
 }
 
-/// How many entries are against an earlier member, or against this one on an earlier ring, found by halving.
-fn place_of(kept: &[(AccBody, u64)], accused: MemberId, ring: RingNo) -> usize
-    requires { AreRising kept.now }
-    ensures { result ≡ prefix_len (is_before accused ring.0) kept.now }
+/// Empties the slot of this number, and gives what was in it.
+fn take_out(slots: &mut [Option<Entry>], queue: &mut Queue, number: u16) -> Option<Entry>
+    requires queued { AreQueued slots.old queue.old }
+    requires range { number < END }
+    ensures value { result ≡ slot_at slots.old number }
+    ensures emptied { slots.new ≡ slice_set slots.old number None }
+    ensures left { queue.new ≡ without number queue.old }
+    ensures queued { AreQueued slots.new queue.new }
 {
-    kept.partition_point(|entry| is_before(entry, accused, ring))
-}
-
-fn insert_in_order(kept: &mut Vec<(AccBody, u64)>, acc: AccBody, now: u64)
-    requires ordered { AreRising kept.old.items }
-    requires room { vec_len kept.old < vec_capacity kept.old }
-    ensures entries { kept.new.items ≡ with_kept (acc, now) kept.old.items }
-    ensures capacity { vec_capacity kept.old ≤ vec_capacity kept.new }
-{
-    let place = place_of(kept, acc.accused, acc.ring);
-    match kept.insert(place, (acc, now)) {
-        Ok(()) => {}
-        Err(_) => unreachable!(),
+    match slots[number as usize] {
+        Some(entry) => {
+            slots[number as usize] = None;
+            queue.remove(number);
+            Some(entry)
+        }
+        None => None,
     }
 }
 
-/// The index of the entry against the member on the ring, if there is one.
-fn index_of(kept: &[(AccBody, u64)], accused: MemberId, ring: RingNo) -> Option<usize>
-    requires { AreRising kept.now }
-    ensures range { IfSome result (λ i. i < length kept.now) }
-    ensures value { result
-        ≡ (if is_some (entry_at accused ring.0 kept.now) then Some (prefix_len (is_before accused ring.0) kept.now) else None) }
+/// Empties each slot that is filled.
+fn take_all(slots: &mut [Option<Entry>], queue: &mut Queue)
+    requires { AreQueued slots.old queue.old }
+    ensures none { entries_in slots.new ≡ [] }
+    ensures queued { AreQueued slots.new queue.new }
 {
-    let place = place_of(kept, accused, ring);
-    if place < kept.len() && is_at(&kept[place], accused, ring) {
-        Some(place)
+    while let Some(number) = queue.first() {
+        take_out(slots, queue, number);
+    }
+}
+
+/// The number of the entry that stands for the longest time, if that is due.
+fn first_due(slots: &[Option<Entry>], queue: &Queue, timeout: u32, now: u64) -> Option<u16>
+    requires { AreQueued slots.now queue.now }
+    ensures range { IfSome result (λ n. n < END) }
+    ensures filled { IfSome result (λ n. is_some (slot_at slots.now n) ≡ true) }
+    ensures due { IfSome result (λ n. IfSome (slot_at slots.now n) (λ p. is_due timeout now p ≡ true)) }
+    ensures none { IsNone result → filter (is_due timeout now) (entries_in slots.now) ≡ [] }
+{
+    let number = queue.first()?;
+    let entry = slots[number as usize]?;
+    if is_due(&entry, timeout, now) {
+        Some(number)
     } else {
         None
     }
 }
 
-fn remove_at(kept: &mut Vec<(AccBody, u64)>, accused: MemberId, ring: RingNo)
-    requires { AreRising kept.old.items }
-    ensures entries { kept.new.items ≡ filter (λ p. not (is_at accused ring.0 p)) kept.old.items }
-    ensures capacity { vec_capacity kept.new ≡ vec_capacity kept.old }
-{
-    match index_of(kept, accused, ring) {
-        Some(index) => {
-            let _ = kept.remove(index);
-        }
-        None => {}
-    }
-}
-
-fn find_at(kept: &[(AccBody, u64)], accused: MemberId, ring: RingNo) -> Option<(AccBody, u64)>
-    requires { AreRising kept.now }
-    ensures { result ≡ entry_at accused ring.0 kept.now }
-{
-    match index_of(kept, accused, ring) {
-        Some(index) => Some(kept[index]),
-        None => None,
-    }
-}
-
-fn remove_due(kept: &mut Vec<(AccBody, u64)>, timeout: u32, now: u64)
-    ensures entries { kept.new.items ≡ filter (λ p. not (is_due timeout now p)) kept.old.items }
-    ensures capacity { vec_capacity kept.new ≡ vec_capacity kept.old }
-{
-    kept.retain(|entry| !is_due(entry, timeout, now));
-}
-
-/// Appends the accusations that are due, in order.
-fn append_due(kept: &[(AccBody, u64)], timeout: u32, now: u64, out: &mut Vec<AccBody>)
-    requires { vec_len out.old + length (filter (is_due timeout now) kept.now) ≤ vec_capacity out.old }
-    ensures entries { out.new.items ≡ out.old.items ++ map (λ p. p.0) (filter (is_due timeout now) kept.now) }
+/// Takes out the entries that are due, and appends them, those first that stand for the longest time. Only these are
+/// looked at, and the one behind them.
+fn take_due(
+    slots: &mut [Option<Entry>],
+    queue: &mut Queue,
+    timeout: u32,
+    now: u64,
+    out: &mut Vec<AccBody>,
+)
+    requires queued { AreQueued slots.old queue.old }
+    requires room { vec_len out.old + length (filter (is_due timeout now) (entries_in slots.old)) ≤ vec_capacity out.old }
+    ensures taken { HasGained out.old.items out.new.items (map (λ p. p.0) (filter (is_due timeout now) (entries_in slots.old))) }
+    ensures left { entries_in slots.new ≡ filter (λ p. not (is_due timeout now p)) (entries_in slots.old) }
+    ensures queued { AreQueued slots.new queue.new }
     ensures capacity { vec_capacity out.old ≤ vec_capacity out.new }
 {
-    for entry in kept {
-        if is_due(entry, timeout, now) {
-            match out.push(entry.0) {
-                Ok(()) => {}
-                Err(_) => unreachable!(),
-            }
+    while let Some(number) = first_due(slots, queue, timeout, now) {
+        if let Some((acc, _since)) = take_out(slots, queue, number) {
+            out.push_reserved(acc);
         }
     }
 }
 
-/// Since when the oldest of the entries stands; the greatest number where there is none.
-fn oldest_of(kept: &[(AccBody, u64)]) -> u64
-    ensures { AreSince result kept.now }
+/// Puts the accusations from this index on into order of the accused, then of the ring.
+fn sort_behind(out: &mut Vec<AccBody>, from: usize)
+    requires { from ≤ vec_len out.old }
+    ensures sorted { (before gained rising : List Accusation) → out.old.items ≡ before ++ gained → length before ≡ from → AreRising rising → IsPermutation rising gained → out.new.items ≡ before ++ rising }
+    ensures capacity { vec_capacity out.old ≤ vec_capacity out.new }
 {
-    let mut oldest = u64::MAX;
-    for entry in kept {
-        oldest = oldest.min(entry.1);
-    }
-    oldest
+    out[from..].sort_unstable_by_key(|acc| number_of(acc.accused, acc.ring));
 }
 
 impl Timers {
@@ -157,54 +147,57 @@ impl Timers {
         requires { group.now.t ≤ 15 }
         ensures { IfOk result (λ x. x ≡ record { rings = ring_count group.now.t; timeout = group.now.timeout; entries = [] }) }
     {
+        let mut slots = Vec::with_capacity(alloc, END as usize)?;
+        for _number in 0..END {
+            slots.push_reserved(None);
+        }
         Ok(Timers {
             rings: 2 * group.t + 1,
             timeout: group.timeout,
-            oldest: u64::MAX,
-            kept: Vec::with_capacity(alloc, PAIRS)?,
+            slots,
+            queue: Queue::new(alloc)?,
         })
     }
 
-    /// The accusation stands from this tick on.
+    /// The accusation stands from this tick on, which isn't before that of any other.
     pub fn set(&mut self, acc: AccBody, now: u64)
         requires free { entry_at acc.accused acc.ring.0 self.old.entries ≡ None }
         requires ring { acc.ring.0 < self.old.rings }
+        requires in_time { AreUntil now self.old.entries }
         ensures { self.new ≡ record self.old { entries = with_kept (acc, now) self.old.entries } }
     {
-        let _accused = acc.accused.get();
-        insert_in_order(&mut self.kept, acc, now);
-        self.oldest = self.oldest.min(now);
+        let number = number_of(acc.accused, acc.ring);
+        self.slots[number as usize] = Some((acc, now));
+        self.queue.push(number);
     }
 
     /// What stands against the member on the ring falls, if anything does.
     pub fn clear(&mut self, accused: MemberId, ring: RingNo)
         ensures { self.new ≡ record self.old { entries = filter (λ p. not (is_at accused ring.0 p)) self.old.entries } }
     {
-        remove_at(&mut self.kept, accused, ring);
+        if ring.0 < RINGS {
+            take_out(&mut self.slots, &mut self.queue, number_of(accused, ring));
+        }
     }
 
     /// Everything falls.
     pub fn clear_all(&mut self)
         ensures { self.new ≡ record self.old { entries = [] } }
     {
-        self.kept.clear();
-        self.oldest = u64::MAX;
+        take_all(&mut self.slots, &mut self.queue);
     }
 
-    /// Takes out the accusations that have stood for the timeout, and appends them to `out`, in order. Where the
-    /// oldest hasn't, none is looked at.
+    /// Takes out the accusations that have stood for the timeout, and appends them to `out`, in order. No other is
+    /// looked at but the one that has stood for the longest time.
     pub fn due(&mut self, now: u64, out: &mut Vec<AccBody>)
         requires { vec_len out.old + length (filter (is_due self.old.timeout now) self.old.entries) ≤ vec_capacity out.old }
         ensures taken { out.new.items ≡ out.old.items ++ map (λ p. p.0) (filter (is_due self.old.timeout now) self.old.entries) }
         ensures left { self.new ≡ record self.old { entries = filter (λ p. not (is_due self.old.timeout now p)) self.old.entries } }
         ensures capacity { vec_capacity out.old ≤ vec_capacity out.new }
     {
-        if now.saturating_sub(self.oldest) < u64::from(self.timeout) {
-            return;
-        }
-        append_due(&self.kept, self.timeout, now, out);
-        remove_due(&mut self.kept, self.timeout, now);
-        self.oldest = oldest_of(&self.kept);
+        let from = out.len();
+        take_due(&mut self.slots, &mut self.queue, self.timeout, now, out);
+        sort_behind(out, from);
     }
 
     /// Whether nothing stands.
@@ -212,14 +205,18 @@ impl Timers {
         ensures value { result ≡ (length self.now.entries == 0) }
         ensures empty { OnTrue result (self.now.entries ≡ []) }
     {
-        self.kept.is_empty()
+        self.queue.first().is_none()
     }
 
     /// What stands against the member on the ring, and since when.
     pub fn standing(&self, accused: MemberId, ring: RingNo) -> Option<(AccBody, u64)>
         ensures { result ≡ entry_at accused ring.0 self.now.entries }
     {
-        find_at(&self.kept, accused, ring)
+        if ring.0 < RINGS {
+            self.slots[number_of(accused, ring) as usize]
+        } else {
+            None
+        }
     }
 }
 
@@ -266,6 +263,28 @@ mod tests {
         timers.due(8, &mut out);
         assert_eq!(rt; out.as_slice(), [accusation(7, 2)].as_slice());
         assert_eq!(rt; timers.standing(MemberId::new(7), RingNo(2)), None);
+        Ok(())
+    }
+
+    #[test]
+    fn falls_once_or_with_all(rt: HostRuntime) -> Result<(), Fail> {
+        let group = Group {
+            tag: [0; 16],
+            t: 1,
+            timeout: 3,
+            period: 1,
+            misses: 1,
+        };
+        let mut timers = Timers::open(rt.alloc(), &group)?;
+        timers.set(accusation(7, 2), 5);
+        timers.clear(MemberId::new(7), RingNo(1));
+        assert!(rt; !timers.is_empty());
+        timers.clear(MemberId::new(7), RingNo(2));
+        assert!(rt; timers.is_empty());
+        timers.clear_all();
+        timers.set(accusation(9, 0), 0);
+        timers.clear_all();
+        assert_eq!(rt; timers.standing(MemberId::new(9), RingNo(0)), None);
         Ok(())
     }
 }

@@ -1,4 +1,5 @@
 pub mod RowLemmas
+mod TailLemmas
 pub mod KeyOrder
 pub mod Top
 pub mod CountLemmas

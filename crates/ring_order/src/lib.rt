@@ -5,7 +5,7 @@
 ghost use Rattle.std.specs.Prelude.{◌≡◌, ◌<◌, ◌≤◌, ◌+◌, ◌*◌, ◌-◌, [], ◌∷◌, ◌++◌, ◌↔◌, length, map, All, IsNone, IfSome, option_map};
 ghost use Rattle.ff_ids.specs.Rings.{is_below, cyc, others, nearest_before as number_before, nearest_after as number_after};
 ghost use Rattle.ff_ids.specs.Views.{key_at};
-ghost use Rattle.ring_order.specs.Rows.{place_of_number};
+ghost use Rattle.ring_order.specs.Rows.{place_of_number, is_plain, tail_of};
 ghost use Rattle.ring_order.specs.Nearest.{key_of_pair, keys_of, nearer, nearest, nearest_so_far, comparisons_of_next, comparisons_of_all, IsNumberBefore, IsNumberAfter};
 
 mod hashed;
@@ -21,24 +21,28 @@ use steps::Steps;
 /// The places of one member, one of 32 bytes on each ring, at most 31. Contracts see the list of them.
 #[derive(Clone, Copy, Debug, PartialEq, Eq)]
 pub struct Places {
-    rows: [[u8; 32]; 31],
     count: u8,
+    /// Whether each place is the one that a number stands for: then their tails say all.
+    plain: bool,
+    /// The last four bytes of each place, as numbers.
+    tails: [u32; 31],
+    rows: [[u8; 32]; 31],
 }
 
 impl Model for Places {
     ghost use Rattle.std.specs.Prelude.{◌≡◌, ℕ, List, take};
     ghost use Rattle.std.proofs.Common.{ap};
-    ghost use Rattle.ring_order.specs.Rows.{filled};
+    ghost use Rattle.ring_order.specs.Rows.{kept_of};
 
     ghost Value = { List (List ℕ) };
 
     ghost view = { λ p. take p.count p.rows };
 
-    ghost invariant = { λ p. filled (take p.count p.rows) ≡ (p.rows, p.count) };
+    ghost invariant = { λ p. kept_of (take p.count p.rows) ≡ (p.rows, p.count, p.tails, p.plain) };
 
-    ghost inverse = { λ v. record { rows = (filled v).0; count = (filled v).1 } };
+    ghost inverse = { λ v. record { rows = (kept_of v).0; count = (kept_of v).1; tails = (kept_of v).2; plain = (kept_of v).3 } };
 
-    ghost inverse_ok = { λ p h. ap (λ q. record { rows = q.0; count = q.1 }) h };
+    ghost inverse_ok = { λ p h. ap (λ q. record { rows = q.0; count = q.1; tails = q.2; plain = q.3 }) h };
 }
 
 impl Places {
@@ -47,8 +51,10 @@ impl Places {
         ensures { result ≡ [] }
     {
         Places {
-            rows: [[0; 32]; 31],
             count: 0,
+            plain: true,
+            tails: [0; 31],
+            rows: [[0; 32]; 31],
         }
     }
 
@@ -57,7 +63,10 @@ impl Places {
         requires { length self.old < 31 }
         ensures { self.new ≡ self.old ++ place ∷ [] }
     {
-        self.rows[self.count as usize] = place;
+        let index = self.count as usize;
+        self.plain &= is_plain(&place);
+        self.tails[index] = tail_of(&place);
+        self.rows[index] = place;
         self.count += 1;
     }
 
@@ -72,6 +81,29 @@ impl Places {
         }
     }
 
+    /// Whether the first number's place on the ring comes before the second's, by their tails.
+    fn is_before(
+        &self,
+        ring: RingNo,
+        number: MemberId,
+        other: &Places,
+        other_number: MemberId,
+    ) -> bool
+        requires own { ring.0 < length self.now }
+        requires other { ring.0 < length other.now }
+        ensures { result ≡ is_below (key_at ring.0 self.now number) (key_at ring.0 other.now other_number) }
+    {
+        if self.plain && other.plain {
+            let index = ring.0 as usize;
+            return self.tails[index]
+                .cmp(&other.tails[index])
+                .then(number.cmp(&other_number))
+                .is_lt();
+        }
+        self.spot(ring, number)
+            .is_below(&other.spot(ring, other_number))
+    }
+
     /// On how many rings the member has a place.
     pub fn rings(&self) -> u8
         ensures value { result ≡ length self.now }
@@ -79,6 +111,21 @@ impl Places {
     {
         self.count
     }
+}
+
+/// The last four bytes of a place, as a number.
+fn tail_of(place: &[u8; 32]) -> u32
+    ensures { result ≡ tail_of place.now }
+{
+    u32::from_be_bytes([place[28], place[29], place[30], place[31]])
+}
+
+/// Whether the place is the one that a number stands for.
+#[tactic(auto, unfolding(crate::specs::Rows::is_plain))]
+fn is_plain(place: &[u8; 32]) -> bool
+    ensures { result ≡ is_plain place.now }
+{
+    *place == place_of(tail_of(place))
 }
 
 /// The place that a number stands for.
@@ -143,7 +190,7 @@ pub fn key_order(
     requires b_placed { ring.0 < length b_places.now }
     ensures { result ≡ is_below (key_at ring.0 a_places.now a) (key_at ring.0 b_places.now b) }
 {
-    a_places.spot(ring, a).is_below(&b_places.spot(ring, b))
+    a_places.is_before(ring, a, b_places, b)
 }
 
 /// Whether `a` comes before `b` on the ring, as `key_order`. It counts one step.

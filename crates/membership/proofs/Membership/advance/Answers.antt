@@ -6,7 +6,7 @@ use Rattle.ff_ids.specs.Masks.{ring_count}
 use Rattle.ff_ids.specs.Steps.{Report, is_due}
 use Rattle.removal_timer.specs.Kept.{Kept as Timed, IsInOrder}
 use Rattle.membership.specs.Life.{Life}
-use Rattle.removal_timer.proofs.KeptLemmas.{length-in_order, IsInOrder-filter}
+use Rattle.removal_timer.proofs.KeptLemmas.{length-in_order, IsInOrder-filter, All-filter, All-weaker}
 use Rattle.membership.proofs.Membership.advance.Goals as goal
 
 pub take_due-requires-clause-few : goal.take_due-requires-clause-few
@@ -22,6 +22,7 @@ invariant_of-self c =
         rings_same = ap (λ (t : Timed). t.rings) c.take_due.ensures.left ∙ c.self.invariant.timed.rings_same;
         timeout_same = ap (λ (t : Timed). t.timeout) c.take_due.ensures.left ∙ c.self.invariant.timed.timeout_same;
         in_order = rw c.take_due.ensures.left (IsInOrder-filter (ring_count c.self.inside.group.t) _ c.self.inside.timers.entries c.self.invariant.timed.in_order);
+        past = rw c.take_due.ensures.left (All-weaker (λ p. p.1 ≤ c.self.inside.moment) (λ p. p.1 ≤ c.self.inside.moment + 1) (λ p h. omega (arith, h)) _ (All-filter (λ p. p.1 ≤ c.self.inside.moment) _ c.self.inside.timers.entries c.self.invariant.timed.past));
       };
     }
 

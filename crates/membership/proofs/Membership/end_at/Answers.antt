@@ -1,8 +1,8 @@
-use Rattle.std.proofs.Common.{◌∙◌, ap, sym, length, arith, List, filter}
+use Rattle.std.proofs.Common.{◌≤◌, ◌∙◌, ap, sym, length, arith, List, filter}
 use Rattle.ff_ids.specs.Masks.{ring_count}
 use Rattle.ff_ids.specs.Steps.{Report}
 use Rattle.removal_timer.specs.Kept.{Kept as Timed}
-use Rattle.removal_timer.proofs.KeptLemmas.{IsInOrder-filter}
+use Rattle.removal_timer.proofs.KeptLemmas.{IsInOrder-filter, All-filter}
 use Rattle.membership.specs.Life.{Life}
 use Rattle.membership.specs.Ends.{Entry}
 use Rattle.membership.proofs.EndLemmas.{length-cleared, none_cleared, length-with_fallen}
@@ -17,6 +17,7 @@ invariant_of-self c =
         rings_same = ap (λ (t : Timed). t.rings) c.clear.ensures ∙ timed.rings_same;
         timeout_same = ap (λ (t : Timed). t.timeout) c.clear.ensures ∙ timed.timeout_same;
         in_order = rw c.clear.ensures (IsInOrder-filter (ring_count c.self.inside.group.t) _ c.self.inside.timers.entries timed.in_order);
+        past = rw c.clear.ensures (All-filter (λ p. p.1 ≤ c.self.inside.moment) _ c.self.inside.timers.entries timed.past);
       };
     }
 

@@ -1,7 +1,6 @@
-use Rattle.std.proofs.Common.{◌≡◌, ◌∙◌, ◌+◌, ◌-◌, ◌*◌, ◌^◌, ◌≤◌, ap, sym, subst, length, Some}
+use Rattle.std.proofs.Common.{◌∙◌, ◌+◌, ◌-◌, ◌*◌, ◌^◌, ◌≤◌, ap, sym, subst, length}
 use Rattle.std.specs.FinMap.{get}
-use Rattle.ff_ids.specs.Views.{Member}
-use Rattle.membership.specs.Life.{Life, live_count}
+use Rattle.membership.specs.Life.{Life}
 use Rattle.membership.specs.Holds.{Holds}
 use Rattle.membership.specs.contracts.Membership.{the_view}
 use Rattle.membership.proofs.HoldLemmas.{each_held, monitor-held, live_count-each}

@@ -14,6 +14,7 @@ invariant_of-self c =
         rings_same = ap (λ (t : Timed). t.rings) c.clear_all.ensures ∙ c.self.invariant.timed.rings_same;
         timeout_same = ap (λ (t : Timed). t.timeout) c.clear_all.ensures ∙ c.self.invariant.timed.timeout_same;
         in_order = rw c.clear_all.ensures tt;
+        past = rw c.clear_all.ensures tt;
       };
     }
 

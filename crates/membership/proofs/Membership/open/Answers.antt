@@ -11,6 +11,7 @@ invariant_of-result c =
         rings_same = ap (λ (t : Timed). t.rings) c.in_ok-timers.ensures;
         timeout_same = ap (λ (t : Timed). t.timeout) c.in_ok-timers.ensures;
         in_order = rw c.in_ok-timers.ensures tt;
+        past = rw c.in_ok-timers.ensures tt;
       };
     }
 

@@ -1,6 +1,6 @@
-use Rattle.std.proofs.Common.{◌≡◌, ◌∙◌, ◌≤◌, ap, sym, subst, Ok, Err, Some, None}
+use Rattle.std.proofs.Common.{◌∙◌, sym, subst}
 use Rattle.ff_ids.specs.Steps.{after_accusation}
-use Rattle.membership.specs.Life.{Life, accusation_fault_in}
+use Rattle.membership.specs.Life.{Life}
 use Rattle.membership.specs.Holds.{Holds}
 use Rattle.membership.proofs.HoldLemmas.{answers-fault, answers-none}
 use Rattle.membership.proofs.AccuseLemmas.{accusation_fault-held, Holds-accused}

@@ -1,9 +1,9 @@
-use Rattle.std.proofs.Common.{◌≡◌, ◌∙◌, ◌<◌, ap, sym, subst, length, arith, None, ℕ, List, [], cond, ◌∷◌, slice_index_or}
+use Rattle.std.proofs.Common.{◌∙◌, ap, sym, subst, length, arith, List, [], cond, ◌∷◌}
 use Rattle.ff_ids.specs.Masks.{ring_count}
 use Rattle.ff_ids.specs.Steps.{Report, after_note}
 use Rattle.removal_timer.proofs.KeptLemmas.{length-in_order}
 use Rattle.membership.specs.Life.{Life}
-use Rattle.membership.specs.Ends.{Entry, Ends, is_named}
+use Rattle.membership.specs.Ends.{AreNamed, Entry, Ends, is_named}
 use Rattle.membership.specs.Holds.{Holds}
 use Rattle.membership.proofs.HoldLemmas.{note_fault-held, answers-fault, answers-none}
 use Rattle.membership.proofs.SoundLemmas.{no_fault}
@@ -44,7 +44,7 @@ noted c s h =
     let n = c.args.note in
     let fine = no_fault l n (sym c.fault_of_note.ensures ∙ c.in_default.is) in
     let a : Accepts l n = record { below = c.accept-enters.ensures.range; positive = c.accept-enters.ensures.positive; newer = fine.newer } in
-    let each = subst (λ (k : Life). (ring : ℕ) → ring < ring_count k.group.t → slice_index_or c.ended_by-ended.result ring None ≡ named_on c.accept-enters.result k n ring) c.accept-enters.ensures.kept c.ended_by-ended.ensures in
+    let each = subst (λ (k : Life). AreNamed c.ended_by-ended.result (named_on c.accept-enters.result k n) k.kept) c.accept-enters.ensures.kept c.ended_by-ended.ensures in
     Noted-by l s n c.ended_by-ended.result c.accept-enters.result c.end_named.new.self.kept c.end_named.new.out.fell h a fine.joined c.accept-enters.ensures.in_order c.accept-enters.ensures.value each (ended c)
 
 pub returns-clause-step : goal.returns-clause-step

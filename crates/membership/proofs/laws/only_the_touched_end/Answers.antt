@@ -1,11 +1,11 @@
 use Rattle.std.proofs.Common.{◌≡◌, ◌+◌, ◌∙◌, ap, refl, map, Bool, true, false, not, ◌&&◌, ◌||◌}
-use Rattle.std.specs.List.{filter, AllByRecursion}
+use Rattle.std.specs.List.{filter}
 use Rattle.std.specs.Option.{option_map_or}
 use Rattle.std.proofs.lemmas.List.Elements.{recursion_from_All}
 use Rattle.ff_ids.specs.Views.{in_view, has_expired, stands, successor, is_number}
 use Rattle.ff_ids.specs.Steps.{is_due}
 use Rattle.removal_timer.proofs.KeptLemmas.{All-filter}
-use Rattle.membership.specs.Ends.{Entry, is_answered}
+use Rattle.membership.specs.Ends.{is_answered}
 use Rattle.membership.specs.Touched.{IsUpheld}
 use Rattle.membership.proofs.SoundLemmas.{by_number}
 use Rattle.membership.proofs.MonitorLemmas.{ComesIn}

@@ -1,7 +1,21 @@
-use Rattle.std.proofs.Common.{sym, subst}
-use Rattle.removal_timer.specs.Kept.{AreRising}
-use Rattle.removal_timer.proofs.FindLemmas.{AreRising-in_order}
+use Rattle.std.proofs.Common.{◌<◌, ◌≤◌, None, get_or, length, sym, ap, ◌∙◌, arith}
+use Rattle.std.proofs.lemmas.List.{get_or_default}
+use Rattle.removal_timer.specs.Kept.{Kept, entry_at}
+use Rattle.removal_timer.proofs.SlotLemmas.{entry_at-slot, nothing_at}
 use Rattle.removal_timer.proofs.Timers.standing.Goals as goal
 
-pub find_at-requires : goal.find_at-requires
-find_at-requires c = subst AreRising (sym c.deref.ensures.value) (AreRising-in_order c.self.inside.rings c.self.inside.kept.items c.self.invariant.in_order)
+pub returns-then-ring-lt-RINGS : goal.returns-then-ring-lt-RINGS
+returns-then-ring-lt-RINGS c =
+    let slots = c.self.inside.slots.items in
+    let ring : c.args.ring.0 < 31 = c.if-ring-lt-RINGS.true in
+    let queued = c.self.invariant.queued in
+    let below : c.number_of.result < length slots = omega (arith, c.number_of.ensures.range ring, queued.long) in
+    c.index.ensures ∙ get_or_default slots c.number_of.result c.index.result.now None below
+    ∙ ap (λ n. get_or slots n None) c.number_of.ensures.value ∙ sym (entry_at-slot c.args.accused c.args.ring.0 slots queued.own ring)
+    ∙ ap (λ (k : Kept). entry_at c.args.accused c.args.ring.0 k.entries) c.self.view_is
+
+pub returns-else-ring-lt-RINGS : goal.returns-else-ring-lt-RINGS
+returns-else-ring-lt-RINGS c =
+    let past : 31 ≤ c.args.ring.0 = omega (arith, c.if-ring-lt-RINGS.false) in
+    sym (nothing_at c.args.accused c.args.ring.0 c.self.inside.slots.items c.self.invariant.queued.own past).0
+    ∙ ap (λ (k : Kept). entry_at c.args.accused c.args.ring.0 k.entries) c.self.view_is

@@ -1,4 +1,4 @@
-use Rattle.std.proofs.Common.{◌≡◌, length, refl, ap, ◌∙◌, sym, arith, ◌∷◌, [], ◌++◌, zero-add}
+use Rattle.std.proofs.Common.{◌≡◌, length, ap, ◌∙◌, sym, arith, zero-add}
 use Rattle.std.proofs.lemmas.List.FromFn.{length-map-range_with_len, map-range_with_len_more}
 use Rattle.ring_order.specs.Hashed.{hashed_place}
 use Rattle.ring_order.proofs.hashed.hash_places.Goals as goal
