@@ -1,2 +1,6 @@
-pub mod Events
-pub mod Verdicts
+pub mod Texts
+pub mod Words
+pub mod Kinds
+pub mod Grammar
+pub mod Spelling
+pub mod Places

@@ -1,50 +1,19 @@
-//! The texts of events, faults and member lists, as a trace writes them. Each call adds one text to the end
-//! of a list of bytes; where memory is refused, that list is as it was.
+//! The journal of a node: what happens to it, as values and as lines of text, both ways.
 #![tactic(auto)]
 
-ghost use Rattle.std.specs.Prelude.{◌≡◌, ◌++◌, OnOk, OnErr};
-ghost use Rattle.journal.specs.Events.{event_text, members_text};
-ghost use Rattle.journal.specs.Verdicts.{verdict_words};
-
+mod digits;
 mod event;
-mod members;
-mod verdict;
+mod fault;
+mod hex_word;
+mod kinds;
+mod reading;
+mod words;
+mod writing;
 
 pub use event::{Event, What};
-use ff_ids::MemberId;
-use fields::NoMemory;
-use members::members_line;
-pub use verdict::Verdict;
-
-/// Adds `at NOW ` and what happened, without a line feed.
-pub fn write_event(event: &Event, out: &mut Vec<u8>) -> Result<(), NoMemory>
-    ensures ok { OnOk result (out.new.items ≡ out.old.items ++ event_text event.now) }
-    ensures refused { OnErr result (out.new.items ≡ out.old.items) }
-{
-    let text = format!(in *out.allocator(); "{event}")?;
-    out.extend_from_slice(text.as_bytes())?;
-    Ok(())
-}
-
-/// Adds the words of a verdict, as `accepted` or `refused older 5 31`.
-pub fn write_verdict(verdict: &Verdict, out: &mut Vec<u8>) -> Result<(), NoMemory>
-    ensures ok { OnOk result (out.new.items ≡ out.old.items ++ verdict_words verdict.now) }
-    ensures refused { OnErr result (out.new.items ≡ out.old.items) }
-{
-    let text = format!(in *out.allocator(); "{verdict}")?;
-    out.extend_from_slice(text.as_bytes())?;
-    Ok(())
-}
-
-/// Adds the numbers of the members in their order, with one space between two, or `nobody`.
-pub fn write_members(members: &[MemberId], out: &mut Vec<u8>) -> Result<(), NoMemory>
-    ensures ok { OnOk result (out.new.items ≡ out.old.items ++ members_text members.now) }
-    ensures refused { OnErr result (out.new.items ≡ out.old.items) }
-{
-    let text = members_line(*out.allocator(), members)?;
-    out.extend_from_slice(text.as_bytes())?;
-    Ok(())
-}
+pub use fault::EventFault;
+pub use reading::read_event;
+pub use writing::write_event;
 
 #[cfg(test)]
 mod tests;

@@ -1,0 +1,9 @@
+mod Rows
+pub mod WordLemmas
+pub mod HexWords
+pub mod Steps
+pub mod Rules
+pub mod Spelled
+pub mod Events
+pub mod Firm
+pub mod Firmness

@@ -1,0 +1,211 @@
+-- The rules of single words, both ways.
+use Rattle.std.proofs.Common.{◌≡◌, ℕ, ◌≤◌, ◌<◌, ◌^◌, Bool, true, false, cond, List, [], ◌∷◌, length, Option, Some, None, Result, Ok, Err, inl, inr, refl, sym, ap, subst, ◌∙◌, arith, leb-true, le-leb, lit<, eqb, length-take, length-drop, drop}
+use Rattle.std.specs.Prelude.{codes, decimal, nat_le, ◌&&◌, slice_range}
+use Rattle.std.specs.Str.{bytes_eq}
+use Rattle.std.proofs.lemmas.Bool.{and_parts, eqb-true, false_from_ne_true, false≢true}
+use Rattle.std.proofs.lemmas.Slice.Eq.{bytes_eq-Decides}
+use Rattle.hex.specs.Hex.{IsBytes, encode_lower}
+use Rattle.lms_ots.specs.declared.kind.OtsKind.{OtsKind}
+use Rattle.lms_ots.specs.declared.kind.OtsKind.TheVariants.{W1, W2, W4, W8}
+use Rattle.lms_ots.specs.Ots as ots
+use Rattle.lms_tree.specs.declared.kind.TreeKind.{TreeKind}
+use Rattle.lms_tree.specs.declared.kind.TreeKind.TheVariants.{H5, H10, H15}
+use Rattle.lms_tree.specs.Kinds.{type_number}
+use Rattle.lms_tree.specs.declared.key.PublicKey.{PublicKey}
+use Rattle.lms_tree.specs.declared.kind.KeyFault.{KeyFault}
+use Rattle.lms_tree.specs.Lms.{key_bytes, key_in, key_with, tree_of}
+use Rattle.lms_tree.proofs.Keys.{key_in-key_bytes, key-spelled}
+use Rattle.journal.specs.Texts.{answer_text, flag_text}
+use Rattle.journal.specs.Spelling.{IsKey, IsMonitor}
+use Rattle.journal.specs.Words.{bytes_of, is_literal, key_from, key_of, key_or_none, monitor_of, number, number_of, number_within, one_of, some_monitor, token_at}
+use Rattle.ff_ids.specs.Texts.{monitor_text}
+use Rattle.std.specs.List.{list_all}
+use Rattle.std.specs.Char.{is_ascii_digit}
+use Rattle.journal.proofs.WordLemmas.{digits_all, number_of-back, number_of-decimal, picked}
+use Rattle.journal.proofs.HexWords.{bytes_again, bytes_back}
+use Rattle.journal.proofs.Steps.{Exact, either_ok, exact_token, same_word}
+
+same_is : (a : List ℕ) → bytes_eq a a ≡ true
+same_is a = (bytes_eq-Decides a a).1 refl
+
+-- ---- numbers
+
+within_ok : (low high : ℕ) (o : Option ℕ) (n : ℕ) → number_within low high o ≡ Some n → (o ≡ Some n) × (low ≤ n) × (n ≤ high)
+within_ok low high (Some m) n e =
+    let p = picked (nat_le low m && nat_le m high) m n e in
+    let q = and_parts _ _ p.0 in
+    let bounds : (low ≤ m) × (m ≤ high) = (leb-true _ _ q.0, leb-true _ _ q.1) in
+    (ap Some p.1, subst (λ k. low ≤ k) p.1 bounds.0, subst (λ k. k ≤ high) p.1 bounds.1)
+within_ok low high None n e = absurd cc
+
+pub number_is : (low high : ℕ) (word : List ℕ) (n : ℕ) → number low high word ≡ Some n → (word ≡ decimal n) × ((low ≤ n) × (n ≤ high))
+number_is low high word n e =
+    let w = within_ok low high (number_of word) n e in
+    ((number_of-back word n w.0).0, (w.1, w.2))
+
+pub number_again : (low high : ℕ) → high < 2 ^ 64 → (n : ℕ) → (low ≤ n) × (n ≤ high) → number low high (decimal n) ≡ Some n
+number_again low high fits n good =
+    let is = number_of-decimal n (omega (arith, fits, good.1)) in
+    let least : nat_le low n ≡ true = le-leb _ _ good.0 in
+    let most : nat_le n high ≡ true = le-leb _ _ good.1 in
+    ap (number_within low high) is ∙ rw (least, most) refl
+
+pub exact_number : (low high : ℕ) → high < 2 ^ 64 → Exact (token_at (number low high)) (λ n. decimal n ∷ []) (λ n. (low ≤ n) × (n ≤ high))
+exact_number low high fits = exact_token (number low high) decimal (λ n. (low ≤ n) × (n ≤ high)) (number_is low high) (number_again low high fits)
+
+-- ---- words
+
+literal_is : (text word : List ℕ) (x : Unit {0}) → is_literal text word ≡ Some x → (word ≡ text) × Unit {0}
+literal_is text word x e = (same_word word text (picked (bytes_eq word text) tt x e).0, tt)
+
+literal_again : (text : List ℕ) (x : Unit {0}) → Unit {0} → is_literal text text ≡ Some x
+literal_again text x good = rw (same_is text) refl
+
+pub exact_literal : (text : List ℕ) → Exact (token_at (is_literal text)) (λ x. text ∷ []) (λ x. Unit {0})
+exact_literal text = exact_token (is_literal text) (λ x. text) (λ x. Unit {0}) (literal_is text) (literal_again text)
+
+-- which of two words it is
+pub one_is : (a b word : List ℕ) (x : Bool) → one_of a b word ≡ Some x → word ≡ cond x a b
+one_is a b word x e =
+    elim (either_ok (bytes_eq word a) true x (cond (bytes_eq word b) (Some false) None) e) [
+      | inl p ↦ same_word word a p.0 ∙ ap (λ v. cond v a b) p.1
+      | inr others ↦ let q = picked (bytes_eq word b) false x others in same_word word b q.0 ∙ ap (λ v. cond v a b) q.1
+    ]
+
+answer_again : (x : Bool) → Unit {0} → one_of (codes "counted") (codes "stray") (answer_text x) ≡ Some x
+answer_again true good = refl
+answer_again false good = refl
+
+pub exact_answer : Exact (token_at (one_of (codes "counted") (codes "stray"))) (λ x. answer_text x ∷ []) (λ x. Unit {0})
+exact_answer = exact_token (one_of (codes "counted") (codes "stray")) answer_text (λ x. Unit {0}) (λ word x e. (one_is (codes "counted") (codes "stray") word x e, tt)) answer_again
+
+flag_again : (x : Bool) → Unit {0} → one_of (codes "1") (codes "0") (flag_text x) ≡ Some x
+flag_again true good = refl
+flag_again false good = refl
+
+pub exact_flag : Exact (token_at (one_of (codes "1") (codes "0"))) (λ x. flag_text x ∷ []) (λ x. Unit {0})
+exact_flag = exact_token (one_of (codes "1") (codes "0")) flag_text (λ x. Unit {0}) (λ word x e. (one_is (codes "1") (codes "0") word x e, tt)) flag_again
+
+-- ---- bytes and keys
+
+pub exact_bytes : Exact (token_at bytes_of) (λ b. encode_lower b ∷ []) (λ b. (0 < length b) × IsBytes b)
+exact_bytes = exact_token bytes_of encode_lower (λ b. (0 < length b) × IsBytes b)
+    (λ word b e. let p = bytes_back word b e in (p.0, (p.1, p.2))) (λ b good. bytes_again b good.0 good.1)
+
+key_kept : (r : Result PublicKey KeyFault) (key : PublicKey) → key_or_none r ≡ Some key → r ≡ Ok key
+key_kept (Ok x) key e = cc
+key_kept (Err f) key e = absurd cc
+
+key_found : (o : Option (List ℕ)) (key : PublicKey) → key_from o ≡ Some key → (bytes : List ℕ) × (o ≡ Some bytes) × (key_in bytes ≡ Ok key)
+key_found (Some bytes) key e = (bytes, refl, key_kept (key_in bytes) key e)
+key_found None key e = absurd cc
+
+tree_is : (n : ℕ) (t : TreeKind) → tree_of n ≡ Some t → type_number t ≡ n
+tree_is n t e =
+    elim (either_ok (eqb n 5) H5 t _ e) [
+      | inl p ↦ ap type_number (sym p.1) ∙ sym (eqb-true n 5 p.0)
+      | inr e ↦ elim (either_ok (eqb n 6) H10 t _ e) [
+        | inl p ↦ ap type_number (sym p.1) ∙ sym (eqb-true n 6 p.0)
+        | inr e ↦ (let p = picked (eqb n 7) H15 t e in ap type_number (sym p.1) ∙ sym (eqb-true n 7 p.0))
+      ]
+    ]
+
+kind_is : (n : ℕ) (k : OtsKind) → ots.kind_of n ≡ Some k → ots.type_number k ≡ n
+kind_is n k e =
+    elim (either_ok (eqb n 1) W1 k _ e) [
+      | inl p ↦ ap ots.type_number (sym p.1) ∙ sym (eqb-true n 1 p.0)
+      | inr e ↦ elim (either_ok (eqb n 2) W2 k _ e) [
+        | inl p ↦ ap ots.type_number (sym p.1) ∙ sym (eqb-true n 2 p.0)
+        | inr e ↦ elim (either_ok (eqb n 3) W4 k _ e) [
+          | inl p ↦ ap ots.type_number (sym p.1) ∙ sym (eqb-true n 3 p.0)
+          | inr e ↦ (let p = picked (eqb n 4) W8 k e in ap ots.type_number (sym p.1) ∙ sym (eqb-true n 4 p.0))
+        ]
+      ]
+    ]
+
+-- what a key of these parts is made of
+record Parts (s : List ℕ) (tree : Option TreeKind) (kind : Option OtsKind) (key : PublicKey) : Type 0 where
+  the_tree : TreeKind
+  the_kind : OtsKind
+  is_tree : tree ≡ Some the_tree
+  is_kind : kind ≡ Some the_kind
+  same : record { tree = the_tree; ots = the_kind; id = slice_range s 8 24; root = slice_range s 24 56 } ≡ key
+
+right_is : (x y : PublicKey) (r : Result PublicKey KeyFault) → r ≡ Ok x → r ≡ Ok y → x ≡ y
+right_is x y r a b = cc
+
+parted : (s : List ℕ) (tree : Option TreeKind) (kind : Option OtsKind) (key : PublicKey) → key_with s tree kind ≡ Ok key → Parts s tree kind key
+parted s None kind key e = absurd cc
+parted s (Some t) None key e = absurd cc
+parted s (Some t) (Some k) key e = record {
+  the_tree = t;
+  the_kind = k;
+  is_tree = refl;
+  is_kind = refl;
+  same = right_is (record { tree = t; ots = k; id = slice_range s 8 24; root = slice_range s 24 56 }) key (key_with s (Some t) (Some k)) refl e;
+}
+
+unless_other : (b : Bool) (r : Result PublicKey KeyFault) (f : KeyFault) (key : PublicKey) → cond b r (Err f) ≡ Ok key → (b ≡ true) × (r ≡ Ok key)
+unless_other true r f key e = (refl, e)
+unless_other false r f key e = absurd cc
+
+key_back : (s : List ℕ) (key : PublicKey) → IsBytes s → key_in s ≡ Ok key → (s ≡ key_bytes key) × IsKey key
+unfolding key_in
+key_back s key below e =
+    let g = unless_other (eqb (length s) 56) (key_with s (tree_of (ots.number_at 0 s)) (ots.kind_of (ots.number_at 4 s))) _ key e in
+    let long : length s ≡ 56 = eqb-true (length s) 56 g.0 in
+    let p = parted s (tree_of (ots.number_at 0 s)) (ots.kind_of (ots.number_at 4 s)) key g.1 in
+    let spelled = key-spelled s long below p.the_tree (tree_is (ots.number_at 0 s) p.the_tree p.is_tree) p.the_kind (kind_is (ots.number_at 4 s) p.the_kind p.is_kind) in
+    let id : length (slice_range s 8 24) ≡ 16 = omega (arith, length-take 16 (drop 8 s), length-drop 8 s, long) in
+    let root : length (slice_range s 24 56) ≡ 32 = omega (arith, length-take 32 (drop 24 s), length-drop 24 s, long) in
+    subst (λ (k : PublicKey). (s ≡ key_bytes k) × IsKey k) p.same
+    (spelled, record { id_long = id; root_long = root; bytes = subst IsBytes spelled below })
+
+key_is : (word : List ℕ) (key : PublicKey) → key_of word ≡ Some key → (word ≡ encode_lower (key_bytes key)) × IsKey key
+key_is word key e =
+    let f = key_found (bytes_of word) key e in
+    let b = bytes_back word f.0 f.1 in
+    let k = key_back f.0 key b.2 f.2 in
+    (b.0 ∙ ap encode_lower k.0, k.1)
+
+key_again : (key : PublicKey) → IsKey key → key_of (encode_lower (key_bytes key)) ≡ Some key
+unfolding key_bytes
+key_again key good = ap key_from (bytes_again (key_bytes key) (omega arith) good.bytes) ∙ ap key_or_none (key_in-key_bytes key good.id_long good.root_long)
+
+pub exact_key : Exact (token_at key_of) (λ k. encode_lower (key_bytes k) ∷ []) IsKey
+exact_key = exact_token key_of (λ k. encode_lower (key_bytes k)) IsKey key_is key_again
+
+-- ---- monitors
+
+abbrev there : Option ℕ → Option (Option ℕ)
+there x = Some x
+
+some_same : (x y : Option ℕ) → there x ≡ there y → x ≡ y
+some_same x y e = cc
+
+numbered : (word : List ℕ) (o m : Option ℕ) → number 0 1023 word ≡ o → some_monitor o ≡ Some m → (word ≡ monitor_text m) × IsMonitor m
+numbered word (Some n) m is e =
+    let w = number_is 0 1023 word n is in
+    let some : Some n ≡ m = some_same (Some n) m e in
+    subst (λ (o : Option ℕ). (word ≡ monitor_text o) × IsMonitor o) some (w.0, omega (arith, w.1))
+numbered word None m is e = absurd cc
+
+monitor_is : (word : List ℕ) (m : Option ℕ) → monitor_of word ≡ Some m → (word ≡ monitor_text m) × IsMonitor m
+monitor_is word m e =
+    elim (either_ok (bytes_eq word (codes "none")) None m (some_monitor (number 0 1023 word)) e) [
+      | inl p ↦ subst (λ (o : Option ℕ). (word ≡ monitor_text o) × IsMonitor o) p.1 (same_word word (codes "none") p.0, tt)
+      | inr others ↦ numbered word (number 0 1023 word) m refl others
+    ]
+
+first_apart : (n : ℕ) → n < 2 ^ 64 → bytes_eq (decimal n) (codes "none") ≡ false
+first_apart n fits = false_from_ne_true _ (λ e.
+    let digits = digits_all n fits in
+    let same = same_word (decimal n) (codes "none") e in
+    false≢true (subst (λ (w : List ℕ). list_all is_ascii_digit w ≡ true) same digits))
+
+monitor_again : (m : Option ℕ) → IsMonitor m → monitor_of (monitor_text m) ≡ Some m
+monitor_again None good = refl
+monitor_again (Some n) good = rw (first_apart n (omega (arith, good))) (ap some_monitor (number_again 0 1023 (lit< tt) n (omega arith, omega (arith, good))))
+
+pub exact_monitor : Exact (token_at monitor_of) (λ m. monitor_text m ∷ []) IsMonitor
+exact_monitor = exact_token monitor_of monitor_text IsMonitor monitor_is monitor_again
