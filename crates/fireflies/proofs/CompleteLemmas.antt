@@ -1,5 +1,5 @@
 -- A text that no line refuses is run to its end, where neither side failed and memory is not refused.
-use Rattle.std.proofs.Common.{◌≡◌, ◌≢◌, ◌≤◌, ℕ, Option, Some, None, List, refl, sym, ap, ◌∙◌, inl, inr, arith}
+use Rattle.std.proofs.Common.{◌≡◌, ◌≢◌, ℕ, Option, Some, None, List, refl, sym, ap, ◌∙◌, inl, inr, arith}
 use Rattle.std.specs.Prelude.{IfSome}
 use Rattle.line_text.specs.declared.bad_word.BadWord.{BadWord}
 use Rattle.ports.specs.Count.{Rose, next_count}
@@ -8,6 +8,7 @@ use Rattle.text_trace.specs.Lines.{seen}
 use Rattle.text_trace.specs.Trace.{Owed, Trace}
 use Rattle.fireflies.specs.Ends.{Counts}
 use Rattle.fireflies.specs.Traced.{Completes, IsComplete, IsTrace, Traced}
+use Rattle.fireflies.proofs.TraceLemmas.{at-answer}
 use Rattle.fireflies.specs.declared.status.Status.{Status}
 use Rattle.fireflies.specs.declared.status.Status.TheVariants as status
 
@@ -26,4 +27,4 @@ complete-at owed (Some all) was now text status.WriteFault used counts exact = �
 complete-at owed (Some all) was now text status.OutOfMemory used counts exact = λ none read written. inr refl
 
 pub completes : (owed : Owed BadWord) (was now : Standing) (s : Status) → s ≢ status.Usage → Counts was now s → Traced owed was now s → Completes owed was now s
-completes owed was now s used counts t = complete-at owed was.left was now t.text s used counts t.exact
+completes owed was now s used counts t = complete-at owed was.left was now t.text s used counts (at-answer (IsTrace owed was.left t.text) t.failed t.cause t.line s t.says t.exact tt)

@@ -1,20 +1,20 @@
 -- What was written, beside the trace of what was taken.
-use Rattle.std.proofs.Common.{◌≡◌, ◌<◌, ◌≤◌, ℕ, length, Option, Some, None, List, [], ◌∷◌, ◌++◌, take, drop, refl, sym, subst, ◌∙◌, ap, inl, inr, arith, append-nil, append_assoc, take-append-drop, lit<, lit≤, true, ◌+◌, map, length-append}
+use Rattle.std.proofs.Common.{◌≡◌, ◌<◌, ◌≤◌, ℕ, length, Option, Some, None, List, [], ◌∷◌, ◌++◌, take, drop, refl, sym, subst, ◌∙◌, ap, inl, inr, arith, append-nil, append_assoc, take-append-drop, lit≤, Bool, true, false, ◌⊎◌, ◌+◌, map, length-append}
 use Rattle.std.specs.Prelude.{IfSome}
 use Rattle.std.specs.Io.KnownBytes.{Appends, Consumes, IsAtEnd}
-use Rattle.std.proofs.KnownBytes.{Appends-trans, Consumes-whole}
+use Rattle.std.proofs.KnownBytes.{Appends-nil, Appends-trans, Consumes-nil, Consumes-whole}
 use Rattle.std.proofs.lemmas.List.{append_cancel_left, take_all}
 use Rattle.line_text.specs.declared.bad_word.BadWord.{BadWord}
 use Rattle.ports.specs.Contents.{IsUsedUp}
-use Rattle.play.specs.Plays.{Standing, Lines, Finished, Refused, Unread, Unwritten, Starved, IsLast, IsUpToLine, bytes_of, Follows}
-use Rattle.play.specs.Reading.{IsRest}
-use Rattle.text_trace.specs.Lines.{has_no_feed, seen, AreWhole, IsFed, IsCut, IsNext}
+use Rattle.play.specs.Plays.{Standing, Lines, Starved, IsAdmitted, IsLast, bytes_of, Follows}
+use Rattle.text_trace.specs.Lines.{has_no_feed, line_bytes, seen, seen_bytes, text_lines, AreWhole, IsFed, IsNext}
 use Rattle.text_trace.specs.Trace.{Owed, Trace, Writes, Refuses, before}
+use Rattle.text_trace.proofs.TraceLemmas.{unrefused-as}
 use Rattle.text_trace.proofs.WholeLemmas.{whole-one, whole-join, rest-next, cut-next, fed-next}
 use Rattle.text_trace.proofs.LineLemmas.{lines_of-rest}
-use Rattle.fireflies.specs.Causes.{cause_line}
-use Rattle.fireflies.specs.Ends.{Cut, Ends, Is, Stands, Tells, Told, room}
-use Rattle.fireflies.specs.Traced.{EndsSilently, IsCause, IsEarly, IsNumber, IsOwed, IsTrace, SpeaksAtEnd, Traced}
+use Rattle.fireflies.specs.Causes.{Says}
+use Rattle.fireflies.specs.Ends.{Ends, Is, Stands}
+use Rattle.fireflies.specs.Traced.{AreUnrefused, EndsSilently, IsCause, IsEarly, IsFirst, IsNumber, IsOwed, IsTrace, IsUnread, IsUnrefusedText, SpeaksAtEnd, Traced}
 use Rattle.fireflies.specs.declared.status.Status.{Status}
 use Rattle.fireflies.specs.declared.status.Status.TheVariants as status
 
@@ -31,23 +31,24 @@ record Fronted (owed : Owed BadWord) (was now : Standing) (first : Status) : Typ
   text : List ℕ
   rest : List ℕ
   read : Consumes was.left now.left bytes
-  few : length (seen bytes) ≤ room + 1
+  few : length (seen bytes) ≤ text_lines + 1
   number : IsNumber bytes now.left first
   wrote : Appends was.taken now.taken text
   front : (owed (seen bytes)).output ≡ text ++ rest
   whole : IsOwed owed rest first
-  cause : IsCause (owed (seen bytes)).cause first
+  refusal : IsCause (owed (seen bytes)).cause first
   exact : IsTrace owed was.left text first
   early : IsEarly owed text first
+  unrefused : IsFirst owed bytes text now.left first
 
 -- whole lines, as they are seen
 seen-whole : (lines : List (List ℕ)) (bytes : List ℕ) → AreWhole lines bytes → seen bytes ≡ lines
 seen-whole lines bytes whole = ap seen (sym (append-nil bytes)) ∙ whole.first [] ∙ append-nil lines
 
 -- a line without its line feed, no more than is seen of one
-unfed-only : (line : List ℕ) → has_no_feed line ≡ true → 0 < length line → length line ≤ 65601 → seen line ≡ line ∷ []
+unfed-only : (line : List ℕ) → has_no_feed line ≡ true → 0 < length line → length line ≤ seen_bytes → seen line ≡ line ∷ []
 unfed-only [] clear some short = absurd (none-shorter _ some)
-unfed-only (b ∷ rest) clear some short = ap (map (take 65601)) (lines_of-rest b rest clear) ∙ ap (λ (l : List ℕ). l ∷ []) (take_all 65601 (b ∷ rest) short)
+unfed-only (b ∷ rest) clear some short = ap (map (take seen_bytes)) (lines_of-rest b rest clear) ∙ ap (λ (l : List ℕ). l ∷ []) (take_all seen_bytes (b ∷ rest) short)
 
 fed-only : (line : List ℕ) → IsFed line → seen line ≡ line ∷ []
 fed-only line fed = ap seen (sym (append-nil line)) ∙ (whole-one line fed).first []
@@ -62,6 +63,10 @@ last-only line left is =
         | inr rest ↦ unfed-only line rest.rest.clear rest.some (omega (arith, rest.rest.short))
       ]
     ]
+
+-- these bytes are no more than a line
+abbrev IsUpToLine : List ℕ → Type 0
+IsUpToLine part = ((has_no_feed part ≡ true) × (length part ≤ seen_bytes)) ⊎ IsFed part
 
 -- how many lines are seen of no more than a line
 upto-one : (part : List ℕ) → IsUpToLine part → length (seen part) ≤ 1
@@ -80,7 +85,7 @@ upto-last (Some line) left is =
       | inr other ↦ elim other [ inl cut ↦ inl (cut.clear, omega (arith, cut.long)) | inr rest ↦ inl (rest.rest.clear, omega (arith, rest.rest.short)) ]
     ]
 
-few-lines : (lines : List (List ℕ)) (bytes part : List ℕ) → Lines room lines bytes → IsUpToLine part → length (seen (bytes ++ part)) ≤ room + 1
+few-lines : (lines : List (List ℕ)) (bytes part : List ℕ) → Lines text_lines lines bytes → IsUpToLine part → length (seen (bytes ++ part)) ≤ text_lines + 1
 few-lines lines bytes part taken is =
     let all = ap length (taken.whole.first part) ∙ length-append lines (seen part) in
     omega (arith, all, upto-one part is, taken.few)
@@ -167,20 +172,20 @@ shorter owed bytes text more count is = record {
 }
 
 -- behind whole lines and a part of a line nothing is owed, where nothing is written at the end alone
-silent : (owed : Owed BadWord) (lines : List (List ℕ)) (part text : List ℕ) (writes : Writes BadWord (Is owed) lines text) → has_no_feed part ≡ true → length part ≤ 65600 → EndsSilently owed
+silent : (owed : Owed BadWord) (lines : List (List ℕ)) (part text : List ℕ) (writes : Writes BadWord (Is owed) lines text) → has_no_feed part ≡ true → length part ≤ line_bytes → EndsSilently owed
     → ((writes owed refl).later (seen part)).output ≡ []
 silent owed lines [] text writes clear short quiet =
     let goes = writes owed refl in
     let one : List (List ℕ) = (97 ∷ []) ∷ [] in
     let out : Trace BadWord → List ℕ = λ t. t.output in
-    let waits : (goes.later one).output ≡ [] = goes.owes (97 ∷ []) [] refl in
+    let waits : (goes.later one).output ≡ [] = goes.owes.silent (97 ∷ []) [] refl in
     let short : (owed lines).output ≡ text ++ (goes.later []).output = ap (λ (l : List (List ℕ)). out (owed l)) (sym (append-nil lines)) ∙ ap out (goes.same []) in
     let long : (owed (lines ++ one)).output ≡ text ++ (goes.later one).output = ap out (goes.same one) in
     append_cancel_left text _ _ (sym short ∙ sym (quiet lines (97 ∷ []) refl) ∙ long) ∙ waits
 silent owed lines (b ∷ part) text writes clear short quiet =
     let goes = writes owed refl in
     let next = rest-next (b ∷ part) clear (omega arith) short in
-    ap (λ (l : List (List ℕ)). (goes.later l).output) next.same ∙ goes.owes (b ∷ part) next.others clear
+    ap (λ (l : List (List ℕ)). (goes.later l).output) next.same ∙ goes.owes.silent (b ∷ part) next.others clear
 
 pub no-front : (front rest : List ℕ) → front ++ rest ≡ [] → front ≡ []
 no-front [] rest none = refl
@@ -194,6 +199,74 @@ nothing-early owed lines text writes late =
     let long : (owed (lines ++ one)).output ≡ text ++ (goes.later one).output = ap (λ (t : Trace BadWord). t.output) (goes.same one) in
     no-front text (goes.later one).output (sym long ∙ late lines (97 ∷ []) refl)
 
+-- whole lines and a part of a line, where a read failed
+unread : (owed : Owed BadWord) (lines : List (List ℕ)) (bytes part text : List ℕ) → AreWhole lines bytes → has_no_feed part ≡ true → Writes BadWord (Is owed) lines text → IsUnread owed (bytes ++ part) text
+unread owed lines bytes part text whole clear writes =
+    let same = sym (seen-whole lines bytes whole) in
+    record {
+      front = bytes;
+      part = part;
+      parts = refl;
+      whole = subst (λ (ls : List (List ℕ)). AreWhole ls bytes) same whole;
+      clear = clear;
+      writes = subst (λ (ls : List (List ℕ)). Writes BadWord (Is owed) ls text) same writes;
+    }
+
+-- nothing was taken or written
+unmoved : (owed : Owed BadWord) (was now : Standing) → now ≡ was → Fronted owed was now status.OutOfMemory
+unmoved owed was now same = record {
+  bytes = [];
+  text = [];
+  rest = (owed (seen [])).output;
+  read = subst (λ (n : Standing). Consumes was.left n.left []) (sym same) (Consumes-nil was.left);
+  few = lit≤ tt;
+  number = tt;
+  wrote = subst (λ (n : Standing). Appends was.taken n.taken []) (sym same) (Appends-nil was.taken);
+  front = refl;
+  whole = tt;
+  refusal = tt;
+  exact = tt;
+  early = λ late. refl;
+  unrefused = inl refl;
+}
+
+admitted : (owed : Owed BadWord) (lines : List (List ℕ)) (bytes : List ℕ) (last left : Option (List ℕ)) → AreWhole lines bytes → IsAdmitted BadWord (Is owed) lines last left → AreUnrefused owed (bytes ++ bytes_of last) ⊎ IsUnrefusedText owed (bytes ++ bytes_of last) left
+admitted owed lines bytes None left whole is =
+    let same : seen (bytes ++ []) ≡ lines = whole.first [] ∙ append-nil lines in
+    inr (record { used_up = is.0; none = rw same (is.1 owed refl) })
+admitted owed lines bytes (Some line) left whole is =
+    let both = whole-join lines (line ∷ []) bytes line whole (whole-one line is.0) in
+    let same = seen-whole (lines ++ line ∷ []) (bytes ++ line) both in
+    inl (record {
+      whole = subst (λ (ls : List (List ℕ)). AreWhole ls (bytes ++ line)) (sym same) both;
+      unrefused = unrefused-as BadWord (λ rest. owed (seen (bytes ++ line) ++ rest)) (λ rest. owed (lines ++ line ∷ rest))
+          (λ rest. ap (λ (ls : List (List ℕ)). (owed ls).cause) (ap (λ (ls : List (List ℕ)). ls ++ rest) same ∙ append_assoc lines (line ∷ []) rest))
+          (is.1 owed refl);
+    })
+
+upto-admitted : (owed : Owed BadWord) (lines : List (List ℕ)) (last left : Option (List ℕ)) → IsAdmitted BadWord (Is owed) lines last left → IsUpToLine (bytes_of last)
+upto-admitted owed lines None left is = inl (refl, lit≤ tt)
+upto-admitted owed lines (Some line) left is = inr is.0
+
+starved : (owed : Owed BadWord) (was now : Standing) → Starved BadWord (Is owed) text_lines was now → Fronted owed was now status.OutOfMemory
+starved owed was now stood =
+    let more = behind owed stood.lines stood.bytes (bytes_of stood.last) stood.text stood.taken.whole stood.writes in
+    record {
+      bytes = stood.bytes ++ bytes_of stood.last;
+      text = stood.text;
+      rest = more.rest;
+      read = stood.read;
+      few = few-lines stood.lines stood.bytes (bytes_of stood.last) stood.taken (upto-admitted owed stood.lines stood.last now.left stood.admitted);
+      number = tt;
+      wrote = stood.wrote;
+      front = more.same;
+      whole = tt;
+      refusal = tt;
+      exact = tt;
+      early = λ late. nothing-early owed stood.lines stood.text stood.writes late;
+      unrefused = inr (admitted owed stood.lines stood.bytes stood.last now.left stood.taken.whole stood.admitted);
+    }
+
 fronted : (owed : Owed BadWord) (was now : Standing) (first : Status) → Stands owed was now first → Fronted owed was now first
 fronted owed was now status.Ok stood = record {
   bytes = stood.bytes;
@@ -205,11 +278,12 @@ fronted owed was now status.Ok stood = record {
   wrote = stood.wrote;
   front = rw (seen-whole stood.lines stood.bytes stood.taken.whole) (ap (λ (t : Trace BadWord). t.output) (stood.ends owed refl) ∙ sym (append-nil stood.text));
   whole = refl;
-  cause = rw (seen-whole stood.lines stood.bytes stood.taken.whole) (ap (λ (t : Trace BadWord). t.cause) (stood.ends owed refl));
+  refusal = rw (seen-whole stood.lines stood.bytes stood.taken.whole) (ap (λ (t : Trace BadWord). t.cause) (stood.ends owed refl));
   exact =
       Consumes-whole was.left now.left stood.bytes (λ all. owed (seen all) ≡ record { output = stood.text; cause = None }) stood.read
       (at-end now.left stood.used_up) (rw (seen-whole stood.lines stood.bytes stood.taken.whole) (stood.ends owed refl));
   early = tt;
+  unrefused = tt;
 }
 fronted owed was now status.Usage stood = absurd stood
 fronted owed was now (status.BadInput line refusal) stood =
@@ -224,9 +298,10 @@ fronted owed was now (status.BadInput line refusal) stood =
       wrote = stood.wrote;
       front = ap (λ (t : Trace BadWord). t.output) trace ∙ sym (append-nil stood.text);
       whole = refl;
-      cause = ap (λ (t : Trace BadWord). t.cause) trace;
+      refusal = ap (λ (t : Trace BadWord). t.cause) trace;
       exact = refused-told owed stood.lines stood.bytes stood.text refusal stood.last was.left now.left stood.read stood.taken.whole stood.stands stood.refuses;
       early = tt;
+      unrefused = tt;
     }
 fronted owed was now status.ReadFault stood =
     let more = behind owed stood.lines stood.bytes stood.part stood.text stood.taken.whole stood.writes in
@@ -240,9 +315,10 @@ fronted owed was now status.ReadFault stood =
       wrote = stood.wrote;
       front = more.same;
       whole = λ quiet. silent owed stood.lines stood.part stood.text stood.writes stood.clear stood.short quiet;
-      cause = tt;
+      refusal = tt;
       exact = tt;
       early = λ late. nothing-early owed stood.lines stood.text stood.writes late;
+      unrefused = unread owed stood.lines stood.bytes stood.part stood.text stood.taken.whole stood.clear stood.writes;
     }
 fronted owed was now status.WriteFault stood =
     let more = shorter owed _ stood.text stood.more stood.count (follows owed stood.lines stood.bytes (stood.text ++ stood.more) stood.last stood.taken.whole stood.follows) in
@@ -256,60 +332,38 @@ fronted owed was now status.WriteFault stood =
       wrote = stood.wrote;
       front = more.same;
       whole = tt;
-      cause = tt;
+      refusal = tt;
       exact = tt;
       early = tt;
+      unrefused = tt;
     }
-fronted owed was now status.OutOfMemory stood =
-    let more = behind owed stood.lines stood.bytes stood.part stood.text stood.taken.whole stood.writes in
-    record {
-      bytes = stood.bytes ++ stood.part;
-      text = stood.text;
-      rest = more.rest;
-      read = stood.read;
-      few = few-lines stood.lines stood.bytes stood.part stood.taken stood.one;
-      number = tt;
-      wrote = stood.wrote;
-      front = more.same;
-      whole = tt;
-      cause = tt;
-      exact = tt;
-      early = λ late. nothing-early owed stood.lines stood.text stood.writes late;
-    }
-
--- What is known of the trace at the first cause is known at the answer.
-record Kept (owed : Owed BadWord) (bytes rest text : List ℕ) (before left : Option (List ℕ)) (refusal : Option BadWord) (s : Status) : Type 0 where
-  number : IsNumber bytes left s
-  whole : IsOwed owed rest s
-  cause : IsCause refusal s
-  exact : IsTrace owed before text s
-  early : IsEarly owed text s
-
--- what stands behind the line of the cause
-ended : (owed : Owed BadWord) (was between now : Standing) (first s : Status) (line : List ℕ) → now.left ≡ between.left → Appends between.taken now.taken line → (f : Fronted owed was between first) → Kept owed f.bytes f.rest f.text was.left between.left (owed (seen f.bytes)).cause s → Traced owed was now s
-ended owed was between now first s line left wrote f kept = record {
-  bytes = f.bytes;
-  text = f.text;
-  rest = f.rest;
-  line = line;
-  read = subst (λ (o : Option (List ℕ)). Consumes was.left o f.bytes) (sym left) f.read;
-  few = f.few;
-  number = subst (λ (o : Option (List ℕ)). IsNumber f.bytes o s) (sym left) kept.number;
-  wrote = Appends-trans was.taken between.taken now.taken f.text line f.wrote wrote;
-  front = f.front;
-  whole = kept.whole;
-  cause = kept.cause;
-  exact = kept.exact;
-  early = kept.early;
-}
+fronted owed was now status.OutOfMemory stood = elim stood [ inl same ↦ unmoved owed was now same | inr wanting ↦ starved owed was now wanting ]
 
 pub traced : (owed : Owed BadWord) (was now : Standing) (s : Status) → Ends owed was now s → Traced owed was now s
 traced owed was now s ends =
     let f = fronted owed was ends.between ends.first ends.stands in
-    let known : Kept owed f.bytes f.rest f.text was.left ends.between.left (owed (seen f.bytes)).cause ends.first = record { number = f.number; whole = f.whole; cause = f.cause; exact = f.exact; early = f.early } in
-    let none : Kept owed f.bytes f.rest f.text was.left ends.between.left (owed (seen f.bytes)).cause status.WriteFault = record { number = tt; whole = tt; cause = tt; exact = tt; early = tt } in
-    let P : Status → Type 0 = Kept owed f.bytes f.rest f.text was.left ends.between.left (owed (seen f.bytes)).cause in
-    elim ends.tells [
-      | inl t ↦ ended owed was ends.between now ends.first s (cause_line ends.first) t.1.left t.1.line f (subst P (sym t.0) known)
-      | inr t ↦ ended owed was ends.between now ends.first s (take t.1.front.count (cause_line ends.first)) t.1.left t.1.front.gained f (subst P (sym t.0) none)
-    ]
+    let t = ends.tells in
+    record {
+      cause = ends.first;
+      failed = t.failed;
+      bytes = f.bytes;
+      text = f.text;
+      rest = f.rest;
+      line = t.line;
+      says = t.says;
+      read = subst (λ (o : Option (List ℕ)). Consumes was.left o f.bytes) (sym t.left) f.read;
+      few = f.few;
+      number = subst (λ (o : Option (List ℕ)). IsNumber f.bytes o ends.first) (sym t.left) f.number;
+      wrote = Appends-trans was.taken ends.between.taken now.taken f.text t.line f.wrote t.wrote;
+      front = f.front;
+      whole = f.whole;
+      refusal = f.refusal;
+      exact = f.exact;
+      early = f.early;
+      first = subst (λ (o : Option (List ℕ)). IsFirst owed f.bytes f.text o ends.first) (sym t.left) f.unrefused;
+    }
+
+-- what is known of the first cause is known of the answer
+pub at-answer : (P : Status → Type 0) (failed : Bool) (first : Status) (line : List ℕ) (s : Status) → Says failed first line s → P first → P status.WriteFault → P s
+at-answer P false first line s says known none = subst P (sym says.0) known
+at-answer P true first line s says known none = subst P (sym says.0) none

@@ -1,7 +1,6 @@
 -- What `verify` upholds, from how it ended.
-use Rattle.std.proofs.Common.{◌≡◌, ℕ, Bool, true, false, List, [], ◌∷◌, ◌++◌, Option, Some, None, Result, Ok, Err, refl, sym, ap, ◌∙◌, append-nil}
+use Rattle.std.proofs.Common.{◌≡◌, ℕ, Bool, true, false, List, [], ◌∷◌, Some, Result, Ok, Err, refl, sym, ◌∙◌}
 use Rattle.line_text.specs.declared.bad_word.BadWord.{BadWord}
-use Rattle.line_text.specs.declared.bad_word.BadWord.TheVariants as bad
 use Rattle.line_text.specs.Answers.{Progress}
 use Rattle.play.specs.Plays.{Standing}
 use Rattle.text_trace.specs.Lines.{seen}
@@ -16,7 +15,7 @@ use Rattle.verify_text.specs.Rows.{is_ended}
 use Rattle.verifier.specs.Answered.{answered, answer_to, at_end, from_judged, verified}
 use Rattle.verifier.specs.Laws.{unfed-silent}
 use Rattle.fireflies.specs.Ends.{Ends}
-use Rattle.fireflies.specs.Traced.{SpeaksAtEnd, Traced}
+use Rattle.fireflies.specs.Traced.{IsCause, IsEarly, SpeaksAtEnd, Traced}
 use Rattle.fireflies.specs.Verification.{OnStopped, Verification}
 use Rattle.fireflies.proofs.TraceLemmas.{no-front, traced}
 use Rattle.fireflies.specs.declared.status.Status.{Status}
@@ -48,15 +47,15 @@ refused-silent [] p a w is = refused-end (is_ended p.form) a w is
 refused-silent (bytes ∷ lines) p a w is =
     refused-judged (judge p bytes) (λ l. answered (behind p l) (asked_after a l) lines) (λ l. refused-silent lines (behind p l) (asked_after a l)) w is
 
-silent : (was now : Standing) (s : Status) (t : Traced verified was now s) → OnStopped s (t.text ≡ [])
-silent was now status.Ok t = tt
-silent was now status.Usage t = tt
-silent was now (status.BadInput line refused) t = no-front t.text t.rest (sym t.front ∙ refused-silent (seen t.bytes) opening asked.Nothing refused t.cause)
-silent was now status.ReadFault t = t.early late
-silent was now status.WriteFault t = tt
-silent was now status.OutOfMemory t = t.early late
+silent : (was now : Standing) (s first : Status) (t : Traced verified was now s) → IsCause (verified (seen t.bytes)).cause first → IsEarly verified t.text first → OnStopped first (t.text ≡ [])
+silent was now s status.Ok t refusal early = tt
+silent was now s status.Usage t refusal early = tt
+silent was now s (status.BadInput line refused) t refusal early = no-front t.text t.rest (sym t.front ∙ refused-silent (seen t.bytes) opening asked.Nothing refused refusal)
+silent was now s status.ReadFault t refusal early = early late
+silent was now s status.WriteFault t refusal early = tt
+silent was now s status.OutOfMemory t refusal early = early late
 
 pub verification : (was now : Standing) (s : Status) → Ends verified was now s → Verification was now s
 verification was now s ends =
     let t = traced verified was now s ends in
-    record { trace = t; silent = silent was now s t }
+    record { trace = t; silent = silent was now s t.cause t t.refusal t.early }

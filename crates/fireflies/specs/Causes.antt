@@ -1,5 +1,5 @@
 -- How a run may stop, and the line that says so.
-use Rattle.std.specs.Prelude.{ℕ, List, [], ◌∷◌, ◌++◌, codes, Result, Ok, Err}
+use Rattle.std.specs.Prelude.{◌≡◌, ℕ, ◌<◌, Bool, true, false, List, [], ◌∷◌, ◌++◌, length, take, codes, Result, Ok, Err}
 use Rattle.std.specs.Fmt.{decimal}
 use Rattle.line_text.specs.Texts.{bad_word_text}
 use Rattle.line_text.specs.declared.bad_word.BadWord.{BadWord}
@@ -14,6 +14,27 @@ abbrev pub cause_line : Status → List ℕ
 cause_line (status.BadInput line word) = codes "bad " ++ decimal line ++ 32 ∷ [] ++ bad_word_text word ++ 10 ∷ []
 cause_line status.ReadFault = codes "read fault" ++ 10 ∷ []
 cause_line _ = []
+
+-- The line is a front of another one, and not all of it.
+pub record IsFront (line whole : List ℕ) : Type 0 where
+  pub count : ℕ
+  pub short : count < length whole
+  pub same : line ≡ take count whole
+
+-- What was written of a line, by whether a write of it failed.
+abbrev pub IsWritten : Bool → List ℕ → List ℕ → Type 0
+IsWritten false whole line = line ≡ whole
+IsWritten true whole line = IsFront line whole
+
+-- What a run answers, by whether the line of its first cause could be written.
+abbrev pub answer_for : Bool → Status → Status
+answer_for false first = first
+answer_for true first = status.WriteFault
+
+-- The line of the first cause was written, and the answer is that cause; or a front of the line was, and the answer is
+-- that a write failed.
+abbrev pub Says : Bool → Status → List ℕ → Status → Type 0
+Says failed first line s = (s ≡ answer_for failed first) × IsWritten failed (cause_line first) line
 
 -- The status of a run over a text that ended so.
 abbrev pub status_of : Result (Unit {0}) (Stop BadWord) → Status

@@ -1,12 +1,12 @@
 -- How a run over a text ends: what it took and wrote of it, and the line of the first cause that stopped it.
-use Rattle.std.specs.Prelude.{◌≡◌, ℕ, ◌⊎◌, List, Option}
+use Rattle.std.specs.Prelude.{◌≡◌, ◌⊎◌, ℕ, Bool, List}
 use Rattle.std.specs.Io.KnownBytes.{Appends}
 use Rattle.line_text.specs.declared.bad_word.BadWord.{BadWord}
-use Rattle.ports.specs.Contents.{TookFront}
-use Rattle.ports.specs.Count.{next_count}
+use Rattle.ports.specs.Count.{counted, next_count}
 use Rattle.play.specs.Plays.{Standing, Unfailed, Finished, Refused, Unread, Unwritten, Starved}
+use Rattle.text_trace.specs.Lines.{text_lines}
 use Rattle.text_trace.specs.Trace.{Owed}
-use Rattle.fireflies.specs.Causes.{cause_line}
+use Rattle.fireflies.specs.Causes.{Says}
 use Rattle.fireflies.specs.declared.status.Status.{Status}
 use Rattle.fireflies.specs.declared.status.Status.TheVariants as status
 
@@ -14,36 +14,24 @@ use Rattle.fireflies.specs.declared.status.Status.TheVariants as status
 abbrev pub Is : Owed BadWord → Owed BadWord → Type 0
 Is owed f = f ≡ owed
 
--- So many lines may come, and one behind them, which is refused.
-abbrev pub room : ℕ
-room = 100000
-
 -- How a run stands that owes this, before the line of the cause for which it stopped.
 abbrev pub Stands : Owed BadWord → Standing → Standing → Status → Type 0
-Stands owed was now status.Ok = Finished BadWord (Is owed) room was now
+Stands owed was now status.Ok = Finished BadWord (Is owed) text_lines was now
 Stands owed was now status.Usage = ⊥
-Stands owed was now (status.BadInput line word) = Refused BadWord (Is owed) room 1 line word was now
-Stands owed was now status.ReadFault = Unread BadWord (Is owed) room was now
-Stands owed was now status.WriteFault = Unwritten BadWord (Is owed) room was now
-Stands owed was now status.OutOfMemory = Starved BadWord (Is owed) room was now
+Stands owed was now (status.BadInput line word) = Refused BadWord (Is owed) text_lines 1 line word was now
+Stands owed was now status.ReadFault = Unread BadWord (Is owed) text_lines was now
+Stands owed was now status.WriteFault = Unwritten BadWord (Is owed) text_lines was now
+Stands owed was now status.OutOfMemory = (now ≡ was) ⊎ Starved BadWord (Is owed) text_lines was now
 
--- The line of the cause was written, and nothing else came about.
-pub record Told (first : Status) (was now : Standing) : Type 0 where
-  pub line : Appends was.taken now.taken (cause_line first)
+-- A run that stopped for the first status says so and no more, and answers this status; a write of the line may fail.
+pub record Tells (first : Status) (was now : Standing) (s : Status) : Type 0 where
+  pub failed : Bool
+  pub line : List ℕ
+  pub says : Says failed first line s
+  pub wrote : Appends was.taken now.taken line
   pub left : now.left ≡ was.left
-  pub unfailed : Unfailed was now
-
--- A front of the line of the cause was written, and then a write failed.
-pub record Cut (first : Status) (was now : Standing) : Type 0 where
-  pub front : TookFront was.taken now.taken (cause_line first)
-  pub left : now.left ≡ was.left
-  pub failed : now.write_faults ≡ next_count was.write_faults
-  pub kept : now.read_faults ≡ was.read_faults
-
--- A run that stopped for the first status answers this: the same where its line is written, and else that a write
--- failed.
-abbrev pub Tells : Status → Standing → Standing → Status → Type 0
-Tells first was now s = ((s ≡ first) × Told first was now) ⊎ ((s ≡ status.WriteFault) × Cut first was now)
+  pub reads : now.read_faults ≡ was.read_faults
+  pub writes : now.write_faults ≡ counted failed was.write_faults
 
 -- A run that owes this ends so: it stopped for a first cause, and the line of that cause is the last that is written.
 pub record Ends (owed : Owed BadWord) (was now : Standing) (s : Status) : Type 0 where

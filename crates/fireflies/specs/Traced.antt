@@ -1,13 +1,14 @@
 -- What was written, beside the trace of what was taken.
-use Rattle.std.specs.Prelude.{◌≡◌, ◌≤◌, ◌+◌, ◌⊎◌, ℕ, true, List, [], ◌∷◌, ◌++◌, length, Option, Some, None, IfSome}
+use Rattle.std.specs.Prelude.{◌≡◌, ◌≤◌, ◌+◌, ◌⊎◌, ℕ, Bool, true, List, [], ◌∷◌, ◌++◌, length, Option, Some, None, IfSome}
 use Rattle.std.specs.Io.KnownBytes.{Appends, Consumes}
 use Rattle.line_text.specs.declared.bad_word.BadWord.{BadWord}
 use Rattle.play.specs.Plays.{Standing}
-use Rattle.text_trace.specs.Lines.{has_no_feed, seen}
-use Rattle.text_trace.specs.Trace.{Owed}
+use Rattle.text_trace.specs.Lines.{AreWhole, has_no_feed, seen, text_lines}
+use Rattle.text_trace.specs.Trace.{IsUnrefused, Owed, Writes}
 use Rattle.ports.specs.Contents.{IsUsedUp}
 use Rattle.ports.specs.Count.{Rose}
-use Rattle.fireflies.specs.Ends.{room}
+use Rattle.fireflies.specs.Causes.{Says}
+use Rattle.fireflies.specs.Ends.{Is}
 use Rattle.fireflies.specs.declared.status.Status.{Status}
 use Rattle.fireflies.specs.declared.status.Status.TheVariants as status
 
@@ -52,22 +53,52 @@ IsNumber bytes left (status.BadInput line refused) = (line ≡ length (seen byte
 IsNumber bytes left status.Ok = IsUsedUp left
 IsNumber bytes left _ = Unit {0}
 
--- These bytes were taken from the source. Written was a front of their trace, and behind it the line of the cause, or a
--- front of it where a write failed.
+-- Whole lines were taken, and then a part of a line; the text is the trace of those lines, none of which is refused.
+pub record IsUnread (owed : Owed BadWord) (bytes text : List ℕ) : Type 0 where
+  pub front : List ℕ
+  pub part : List ℕ
+  pub parts : bytes ≡ front ++ part
+  pub whole : AreWhole (seen front) front
+  pub clear : has_no_feed part ≡ true
+  pub writes : Writes BadWord (Is owed) (seen front) text
+
+-- Whole lines were taken, none of which is refused.
+pub record AreUnrefused (owed : Owed BadWord) (bytes : List ℕ) : Type 0 where
+  pub whole : AreWhole (seen bytes) bytes
+  pub unrefused : IsUnrefused BadWord (λ rest. owed (seen bytes ++ rest))
+
+-- The whole of a text was taken, which isn't refused.
+pub record IsUnrefusedText (owed : Owed BadWord) (bytes : List ℕ) (left : Option (List ℕ)) : Type 0 where
+  pub used_up : IsUsedUp left
+  pub none : (owed (seen bytes)).cause ≡ None
+
+-- A fault or want of memory stands for no line that is refused: none of those that were taken whole is, nor the end of
+-- the text, where it was reached.
+abbrev pub IsFirst : Owed BadWord → List ℕ → List ℕ → Option (List ℕ) → Status → Type 0
+IsFirst owed bytes text left status.ReadFault = IsUnread owed bytes text
+IsFirst owed bytes text left status.OutOfMemory = (bytes ≡ []) ⊎ (AreUnrefused owed bytes ⊎ IsUnrefusedText owed bytes left)
+IsFirst owed bytes text left _ = Unit {0}
+
+-- These bytes were taken from the source, up to the first cause. Written was a front of their trace, and behind it the
+-- line of that cause, or a front of it where a write failed.
 pub record Traced (owed : Owed BadWord) (was now : Standing) (s : Status) : Type 0 where
+  pub cause : Status
+  pub failed : Bool
   pub bytes : List ℕ
   pub text : List ℕ
   pub rest : List ℕ
   pub line : List ℕ
+  pub says : Says failed cause line s
   pub read : Consumes was.left now.left bytes
-  pub few : length (seen bytes) ≤ room + 1
-  pub number : IsNumber bytes now.left s
+  pub few : length (seen bytes) ≤ text_lines + 1
+  pub number : IsNumber bytes now.left cause
   pub wrote : Appends was.taken now.taken (text ++ line)
   pub front : (owed (seen bytes)).output ≡ text ++ rest
-  pub whole : IsOwed owed rest s
-  pub cause : IsCause (owed (seen bytes)).cause s
-  pub exact : IsTrace owed was.left text s
-  pub early : IsEarly owed text s
+  pub whole : IsOwed owed rest cause
+  pub refusal : IsCause (owed (seen bytes)).cause cause
+  pub exact : IsTrace owed was.left text cause
+  pub early : IsEarly owed text cause
+  pub first : IsFirst owed bytes text now.left cause
 
 -- The run came to the end of the text, or was refused memory.
 abbrev pub IsComplete : Status → Type 0

@@ -1,10 +1,11 @@
 // The top call.
 
 ghost use Rattle.std.specs.Prelude.{◌≡◌, ◌≢◌, ◌↔◌, true, map, IfSome, string_bytes};
+ghost use Rattle.text_trace.specs.Lines.{text_lines};
 ghost use Rattle.play.specs.Plays.{Runs, standing, has_written};
 ghost use Rattle.line_text.specs.declared.bad_word.BadWord.{BadWord};
 ghost use Rattle.fireflies.specs.Commands.{command_of, owed_by};
-ghost use Rattle.fireflies.specs.Ends.{Counts, Ends, Is, room};
+ghost use Rattle.fireflies.specs.Ends.{Counts, Ends, Is};
 ghost use Rattle.fireflies.specs.Traced.{Completes, Traced};
 ghost use Rattle.fireflies.specs.Upheld.{Upholds};
 
@@ -28,7 +29,7 @@ fn play_text<S: Source, O: Sink>(
     requires source { S.is_open input.old ≡ true }
     requires sink { O.is_open out.old ≡ true }
     ensures sink { O.is_open out.new ≡ has_written result }
-    ensures runs { Runs BadWord (Is (owed_by command)) room
+    ensures runs { Runs BadWord (Is (owed_by command)) text_lines
         (standing (S.left input.old) (O.taken out.old) (S.faults input.old) (O.faults out.old))
         (standing (S.left input.new) (O.taken out.new) (S.faults input.new) (O.faults out.new)) result }
 {

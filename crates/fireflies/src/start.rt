@@ -30,7 +30,7 @@ fn run_words<S: Source + Drop, O: Sink>(
 }
 
 /// Runs the command of the words from the source to the sink. Where the words were not read, or there is no source,
-/// nothing is run.
+/// nothing is run, and nothing is written.
 pub(crate) fn start<S: Source + Drop, O: Sink>(
     alloc: Global,
     words: Result<Vec<String>, Status>,
@@ -40,7 +40,9 @@ pub(crate) fn start<S: Source + Drop, O: Sink>(
     requires source { IfOk input (λ from. S.is_open from ≡ true) }
     requires sink { O.is_open out.old ≡ true }
     ensures unread { IfErr words (λ status. result ≡ status) }
+    ensures unread_untouched { OnErr words (out.new ≡ out.old) }
     ensures starved { OnOk words (OnErr input (result ≡ Status.OutOfMemory)) }
+    ensures starved_untouched { OnErr input (out.new ≡ out.old) }
     ensures ran { IfOk words (λ all. IfOk input (λ from. Ran (map string_bytes all.items)
         (standing (S.left from) (O.taken out.old) (S.faults from) (O.faults out.old)) (O.taken out.new) (O.faults out.new) result)) }
 {

@@ -7,8 +7,8 @@ use Rattle.ff_ids.proofs.MaskLemmas.{range_with_len-push}
 use Rattle.std.specs.Result.{OnErr, OnOk, result_err}
 use Rattle.std.proofs.lemmas.Grind.{flat_map-append}
 use Rattle.std.proofs.lemmas.List.{append-nil}
-use Rattle.journal.specs.declared.event.Event as reported
-use Rattle.journal.specs.Events.{event_text}
+use Rattle.life_events.specs.declared.event.Event as reported
+use Rattle.life_events.specs.Events.{event_text}
 use Rattle.std.proofs.lemmas.Bool.{cond-false, cond-true}
 use Rattle.ff_ids.specs.declared.AccBody.{AccBody}
 use Rattle.ff_ids.specs.declared.Fault.{Fault}

@@ -1,17 +1,23 @@
 -- What one line does to what is owed.
-use Rattle.std.proofs.Common.{◌≡◌, ℕ, ◌+◌, ◌-◌, true, false, lt-ltb, List, [], ◌∷◌, ◌++◌, length, Option, Some, None, Result, Ok, Err, refl, ap, sym, ◌∙◌, arith, length-append}
-use Rattle.std.proofs.lemmas.List.{get_or_at}
+use Rattle.std.proofs.Common.{◌≡◌, ℕ, ◌+◌, ◌-◌, true, false, List, [], ◌∷◌, Option, Some, None, Result, Ok, Err, refl, ap, sym, subst, ◌∙◌}
+use Rattle.std.specs.Prelude.{IsOkAnd}
+use Rattle.std.specs.List.{join_with_byte}
 use Rattle.line_text.specs.declared.bad_word.BadWord.{BadWord}
 use Rattle.line_text.specs.declared.bad_word.BadWord.TheVariants as words
 use Rattle.line_text.specs.Answers.{Progress}
+use Rattle.line_text.proofs.FrameLemmas.{fed_again}
 use Rattle.schedule_direct.specs.declared.direct.Direct.{Direct}
 use Rattle.schedule_direct.specs.declared.line.DirectLine.{DirectLine}
 use Rattle.schedule_direct.specs.Grammar as grammar
-use Rattle.schedule_direct.specs.Rows.{is_ended}
+use Rattle.schedule_direct.specs.Grammar.{spelled_words}
+use Rattle.schedule_direct.specs.Rows.{TakesMemory, is_ended}
 use Rattle.text_trace.specs.Lines.{has_line_feed}
-use Rattle.text_trace.specs.Trace.{Ends, Owed, Refuses, Steps, before}
+use Rattle.text_trace.specs.Trace.{Admits, Ends, Owed, Refuses, Steps, Trace, before}
+use Rattle.text_trace.proofs.TraceLemmas.{unrefused-as}
 use Rattle.trace.specs.Answers.{Recorded, answer, told}
 use Rattle.trace.specs.Walk.{from_line, played, replayed, trace_in, walk}
+use Rattle.trace.proofs.UnfedLemmas.{played-unrefused}
+use Rattle.trace.proofs.WrittenLemmas.{spelled}
 use Rattle.replay.specs.declared.life.Life.{Life}
 use Rattle.replay.specs.Plays.{IsPlaced, Plays}
 use Rattle.replay.specs.Playing.{Owes}
@@ -49,6 +55,14 @@ line-steps p life later bytes text l judged plays told_text placed = λ f owes.
 pub line-refuses : (p : Progress Direct) (life : Option Life) (bytes : List ℕ) (w : BadWord) → grammar.judge p bytes ≡ Err w → Refuses BadWord (Owes p life) [] (Some bytes) [] w
 line-refuses p life bytes w judged = λ f owes rest. at-lines f (played p owes.recorded) (bytes ∷ rest) owes.same ∙ played-refused p owes.recorded bytes w rest judged
 
+-- memory is refused for a line that isn't
+pub line-admits : (p : Progress Direct) (life : Option Life) (bytes : List ℕ) (l : DirectLine) → grammar.judge p bytes ≡ Ok l → Admits BadWord (Owes p life) [] (Some bytes)
+line-admits p life bytes l judged = λ f owes.
+    let r = owes.recorded in
+    unrefused-as BadWord (λ rest. f (bytes ∷ rest)) (played (grammar.behind p l) (answer r l).recorded)
+    (λ rest. ap (λ (t : Trace BadWord). t.cause) (at-lines f (played p r) (bytes ∷ rest) owes.same ∙ played-taken p r bytes l rest judged))
+    (played-unrefused (grammar.behind p l) (answer r l).recorded)
+
 -- the text ends
 pub end-ends : (p : Progress Direct) (life : Option Life) → is_ended p.form ≡ true → Ends BadWord (Owes p life) [] []
 end-ends p life ended = λ f owes. at-lines f (played p owes.recorded) [] owes.same ∙ rw ended refl
@@ -60,9 +74,22 @@ end-refuses p life ended = λ f owes. at-lines f (played p owes.recorded) [] owe
 pub owes-first : (f : Owed BadWord) → f ≡ replayed → Owes grammar.opening None f
 owes-first f same = record { recorded = None; plays = tt; placed = tt; same = same }
 
--- bytes with a line feed behind them end with it
-pub fed-line : (text : List ℕ) → has_line_feed (text ++ 10 ∷ []) ≡ true
-fed-line text =
-    let many = length-append text (10 ∷ []) in
-    let last = get_or_at text 10 [] 0 (length (text ++ 10 ∷ []) - 1) (omega (arith, many)) in
-    rw (lt-ltb 0 (length (text ++ 10 ∷ [])) (omega (arith, many)), last) refl
+-- a line that is taken ends with its line feed
+pub judged-fed : (p : Progress Direct) (bytes : List ℕ) (l : DirectLine) → grammar.judge p bytes ≡ Ok l → has_line_feed bytes ≡ true
+judged-fed p bytes l judged =
+    subst (λ (b : List ℕ). has_line_feed b ≡ true) (sym (spelled p bytes l judged).bytes_are) (fed_again (join_with_byte 32 (spelled_words l)))
+
+abbrev Starves : Progress Direct → Option Life → List ℕ → Type 0
+Starves p life bytes = (has_line_feed bytes ≡ true) × Admits BadWord (Owes p life) [] (Some bytes)
+
+-- memory is refused behind reading it
+pub told-starved : (p : Progress Direct) (life : Option Life) (bytes : List ℕ) (l : DirectLine) → grammar.judge p bytes ≡ Ok l → Starves p life bytes
+told-starved p life bytes l judged = (judged-fed p bytes l judged, line-admits p life bytes l judged)
+
+starved : (p : Progress Direct) (life : Option Life) (bytes : List ℕ) (j : Result DirectLine BadWord) → grammar.judge p bytes ≡ j → IsOkAnd j TakesMemory → Starves p life bytes
+starved p life bytes (Ok l) judged takes = told-starved p life bytes l judged
+starved p life bytes (Err w) judged takes = absurd takes
+
+-- memory is refused in reading it
+pub read-starved : (p : Progress Direct) (life : Option Life) (bytes : List ℕ) → IsOkAnd (grammar.judge p bytes) TakesMemory → Starves p life bytes
+read-starved p life bytes takes = starved p life bytes (grammar.judge p bytes) refl takes

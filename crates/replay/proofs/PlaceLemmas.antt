@@ -9,6 +9,7 @@ use Rattle.schedule_direct.specs.declared.line.DirectLine.{DirectLine}
 use Rattle.schedule_direct.specs.declared.line.DirectLine.TheVariants as lines
 use Rattle.schedule_direct.specs.Grammar.{InRange, Stands, after, ticks_of}
 use Rattle.schedule_direct.specs.Rows.{tolerance}
+use Rattle.text_trace.specs.Lines.{text_lines}
 use Rattle.trace.specs.Answers.{Recorded, answer, places_at, state_of, with_event}
 use Rattle.trace.proofs.LifeLemmas.{group-with_ticks, moment-accuses, moment-joins, moment-notes, moment-with_ticks, state_of-next_life}
 use Rattle.replay.specs.declared.life.Life.{Life}
@@ -19,7 +20,7 @@ never e = absurd (false≢true e)
 
 -- ## Which lines may be run
 
-fits-body : (t ticks number : ℕ) (life : Life) (r : Recorded) (l : DirectLine) → PlaysOne life r → InBody t number ticks r → Stands (direct.Body t ticks) l → InRange t ticks l → number ≤ 100000 → FitsLife life l
+fits-body : (t ticks number : ℕ) (life : Life) (r : Recorded) (l : DirectLine) → PlaysOne life r → InBody t number ticks r → Stands (direct.Body t ticks) l → InRange t ticks l → number ≤ text_lines → FitsLife life l
 fits-body t ticks number life r lines.Header plays b stands range few = tt
 fits-body t ticks number life r (lines.Group u timeout) plays b stands range few = tt
 fits-body t ticks number life r (lines.Member m ps) plays b stands range few =
@@ -60,7 +61,7 @@ no-line lines.Life stands = never stands
 no-line lines.End stands = never stands
 
 -- a line that stands here may be run on the life that fits the place
-pub fits : (d : Direct) (number : ℕ) (life : Option Life) (r : Option Recorded) (l : DirectLine) → Plays life r → IsPlaced d number r → Stands d l → InRange (tolerance d) (ticks_of d) l → number ≤ 100000 → FitsOn life l
+pub fits : (d : Direct) (number : ℕ) (life : Option Life) (r : Option Recorded) (l : DirectLine) → Plays life r → IsPlaced d number r → Stands d l → InRange (tolerance d) (ticks_of d) l → number ≤ text_lines → FitsOn life l
 fits d number None None l plays placed stands range few = fits-first d l range
 fits d number None (Some r) l plays placed stands range few = absurd plays
 fits d number (Some life) None l plays placed stands range few = absurd plays

@@ -6,6 +6,8 @@ use Rattle.schedule_direct.specs.declared.direct.Direct.{Direct}
 use Rattle.schedule_direct.specs.declared.direct.Direct.TheVariants as direct
 use Rattle.schedule_direct.specs.declared.line.DirectLine.{DirectLine}
 use Rattle.schedule_direct.specs.declared.line.DirectLine.TheVariants as lines
+use Rattle.schedule_direct.specs.Rows.{most_ticks}
+use Rattle.text_trace.specs.Lines.{text_lines}
 use Rattle.trace.specs.Answers.{Answer, Recorded, answer_text, state_of}
 use Rattle.replay.specs.declared.life.Life.{Life}
 
@@ -47,9 +49,9 @@ IsPlaced direct.Headed number (Some r) = ⊥
 -- The line may be run on this life: its numbers are in the ranges of the group, and no count passes its type.
 abbrev pub FitsLife : Life → DirectLine → Type 0
 FitsLife life (lines.Member m ps) = (length ps ≡ ring_count life.membership.group.t) × (length ps ≤ 31)
-FitsLife life (lines.Tick n) = life.membership.moment + n ≤ 1000000
+FitsLife life (lines.Tick n) = life.membership.moment + n ≤ most_ticks
 FitsLife life (lines.Monitor ring m) = ring.0 < ring_count life.membership.group.t
-FitsLife life lines.Life = life.number ≤ 100000
+FitsLife life lines.Life = life.number ≤ text_lines
 FitsLife life _ = Unit {0}
 
 abbrev pub FitsFirst : DirectLine → Type 0

@@ -6,3 +6,6 @@ mod player;
 mod report;
 
 pub use player::replay;
+
+#[cfg(test)]
+mod tests;

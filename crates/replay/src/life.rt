@@ -1,24 +1,32 @@
 //! The life that is being recorded, and what a line brings to it. What is written behind a line goes to the
 //! end of a text, as `specs/` of the trace says.
 
-ghost use Rattle.std.specs.Prelude.{◌≡◌, ◌<◌, ◌≤◌, ◌+◌, ◌++◌, ◌∷◌, [], ℕ, List, Option, IfOk, OnOk, length, codes, filter};
+ghost use Rattle.std.specs.Prelude.{◌≡◌, ◌<◌, ◌≤◌, ◌+◌, ◌++◌, ◌∷◌, [], ℕ, true, List, Option, IfOk, OnOk, OnErr, length, codes, filter};
 ghost use Rattle.std.specs.List.{range_with_len};
-ghost use Rattle.ff_ids.specs.Faults.{note_fault};
+ghost use Rattle.ff_ids.specs.Faults.{note_fault, accusation_fault};
+ghost use Rattle.ff_ids.specs.Steps.{after_accusation};
 ghost use Rattle.ff_ids.specs.Masks.{ring_count};
-ghost use Rattle.ff_ids.specs.Views.{State, in_view, view};
-ghost use Rattle.journal.specs.Events.{members_text};
+ghost use Rattle.ff_ids.specs.Views.{State, in_view, monitor, view};
+ghost use Rattle.life_events.specs.Events.{members_text};
 ghost use Rattle.membership.specs.Holds.{Holds};
+ghost use Rattle.membership.specs.Life.{has_joined};
+ghost use Rattle.membership.specs.Reports.{Answers as FaultAnswers};
+ghost use Rattle.schedule_direct.specs.Rows.{most_ticks};
+ghost use Rattle.text_trace.specs.Lines.{text_lines};
 ghost use Rattle.trace.specs.Answers.{Recorded, answer as answer_to, answer_in, answer_text, first_life, monitor_answer, plain_group, verdict_on};
 ghost use Rattle.replay.specs.Plays.{Plays, PlaysOne, Tells, FitsLife, FitsOn};
 
 use crate::report::{add, add_report, add_verdict, add_verdict_on};
 use ff_ids::{AccBody, Fault, Group, MEMBERS, MemberId, NoteBody, RingNo};
 use fields::NoMemory;
-use journal::{Verdict, write_members};
+use life_events::{Verdict, write_members};
 use membership::{Changes, Membership};
 use ring_order::number_places;
+use ring_order::steps::Steps;
 use schedule_direct::{DirectLine, PlaceList};
 use std::alloc::Global;
+use std::marker::Brand;
+use std::sync::ledger::{Blank, Ledger};
 
 /// A life, its number from 1 on, and room for what a step reports.
 #[derive(Drop)]
@@ -40,6 +48,41 @@ fn members_in_view(alloc: Global, membership: &Membership) -> Result<Vec<MemberI
         }
     }
     Ok(members)
+}
+
+/// As `Membership::put_accusation`, its comparisons counted in a ledger of its own.
+fn put_accusation<L: Ledger>(
+    blank: Blank,
+    membership: &mut Membership,
+    accusation: AccBody,
+) -> Result<(), Fault>
+    requires name { blank.name ≡ L.name }
+    requires parts { blank.parts ≡ L.parts }
+    requires some { 0 < blank.parts }
+    ensures fault { (s : State) → Holds membership.old s → FaultAnswers (accusation_fault membership.old.group.t s accusation) result }
+    ensures step { (s : State) → Holds membership.old s → OnOk result (Holds membership.new (after_accusation s accusation)) }
+    ensures same { OnErr result (membership.new ≡ membership.old) }
+    ensures group { membership.new.group ≡ membership.old.group }
+    ensures moment { membership.new.moment ≡ membership.old.moment }
+{
+    membership.put_accusation_counted(accusation, &mut Steps::<L>::open(blank))
+}
+
+/// As `Membership::monitor`, its comparisons counted in a ledger of its own.
+fn monitor_of<L: Ledger>(
+    blank: Blank,
+    membership: &Membership,
+    ring: RingNo,
+    member: MemberId,
+) -> Option<MemberId>
+    requires name { blank.name ≡ L.name }
+    requires parts { blank.parts ≡ L.parts }
+    requires some { 0 < blank.parts }
+    requires ring { ring.0 < ring_count membership.now.group.t }
+    requires member { has_joined membership.now member ≡ true }
+    ensures { (s : State) → Holds membership.now s → result ≡ monitor s ring.0 member }
+{
+    membership.monitor_counted(ring, member, &mut Steps::<L>::open(blank))
 }
 
 impl Life {
@@ -102,7 +145,7 @@ impl Life {
     fn take_accusation(&mut self, accusation: AccBody, text: &mut Vec<u8>) -> Result<(), NoMemory>
         ensures { (r : Recorded) → PlaysOne self.old r → OnOk result (Tells (answer_in r (DirectLine.Accuse accusation)) self.new text.old.items text.new.items) }
     {
-        match self.membership.put_accusation(accusation) {
+        match put_accusation::<Brand>(Blank::new(1), &mut self.membership, accusation) {
             Ok(()) => add_verdict(text, Verdict::Accepted)?,
             Err(fault) => add_verdict(text, Verdict::Refused(fault))?,
         }
@@ -111,7 +154,7 @@ impl Life {
 
     /// So many ticks come, one after another.
     fn take_ticks(&mut self, ticks: u32, text: &mut Vec<u8>) -> Result<(), NoMemory>
-        requires { self.old.membership.moment + ticks ≤ 1000000 }
+        requires { self.old.membership.moment + ticks ≤ most_ticks }
         ensures { (r : Recorded) → PlaysOne self.old r → OnOk result (Tells (answer_in r (DirectLine.Tick ticks)) self.new text.old.items text.new.items) }
     {
         add(text, b"\n")?;
@@ -124,7 +167,7 @@ impl Life {
 
     /// Another life begins, with the same members.
     fn begin_another(&mut self, text: &mut Vec<u8>) -> Result<(), NoMemory>
-        requires { self.old.number ≤ 100000 }
+        requires { self.old.number ≤ text_lines }
         ensures { (r : Recorded) → PlaysOne self.old r → OnOk result (Tells (answer_in r DirectLine.Life) self.new text.old.items text.new.items) }
     {
         self.membership.new_life();
@@ -154,10 +197,8 @@ impl Life {
         ensures { (r : Recorded) → PlaysOne self.now r → OnOk result (Tells (answer_in r (DirectLine.Monitor ring member)) self.now text.old.items text.new.items) }
     {
         if self.membership.is_member(member) {
-            add_verdict(
-                text,
-                Verdict::Monitor(self.membership.monitor(ring, member)),
-            )?;
+            let monitor = monitor_of::<Brand>(Blank::new(1), &self.membership, ring, member);
+            add_verdict(text, Verdict::Monitor(monitor))?;
         } else {
             add_verdict(text, Verdict::Refused(Fault::UnknownMember))?;
         }

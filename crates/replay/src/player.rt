@@ -3,6 +3,7 @@
 ghost use Rattle.std.specs.Prelude.{◌≡◌, ◌-◌, ◌+◌, ◌<◌, ◌≤◌, [], true, OnOk, Option, length};
 ghost use Rattle.line_text.specs.declared.bad_word.BadWord.{BadWord};
 ghost use Rattle.play.specs.Plays.{Runs, has_written, standing};
+ghost use Rattle.text_trace.specs.Lines.{text_lines};
 ghost use Rattle.trace.specs.Answers.{Recorded, answer as answer_to, told};
 ghost use Rattle.trace.specs.Walk.{replayed};
 ghost use Rattle.replay.specs.Plays.{Plays, FitsOn};
@@ -47,7 +48,7 @@ impl Script for Player {
 
     ghost owes = { λ s f. Owes s.lines s.life f };
 
-    ghost room = { λ s. 100001 - s.lines.number };
+    ghost room = { λ s. text_lines + 1 - s.lines.number };
 
     fn line(
         &mut self,
@@ -87,7 +88,7 @@ pub fn replay<S: Source, O: Sink>(
     requires source { S.is_open input.old ≡ true }
     requires sink { O.is_open out.old ≡ true }
     ensures sink { O.is_open out.new ≡ has_written result }
-    ensures runs { Runs BadWord (λ f. f ≡ replayed) 100000
+    ensures runs { Runs BadWord (λ f. f ≡ replayed) text_lines
         (standing (S.left input.old) (O.taken out.old) (S.faults input.old) (O.faults out.old))
         (standing (S.left input.new) (O.taken out.new) (S.faults input.new) (O.faults out.new)) result }
 {

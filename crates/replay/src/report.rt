@@ -1,12 +1,12 @@
 //! What is written behind a line: a verdict, and a line for each event.
 
 ghost use Rattle.std.specs.Prelude.{◌≡◌, ◌++◌, ◌∷◌, [], OnOk, codes, map};
-ghost use Rattle.journal.specs.Verdicts.{verdict_words};
+ghost use Rattle.life_events.specs.Verdicts.{verdict_words};
 ghost use Rattle.trace.specs.Answers.{events_at, events_text, verdict_on};
 
 use ff_ids::{AccBody, Fault, MemberId};
 use fields::NoMemory;
-use journal::{Event, Verdict, What, write_event, write_verdict};
+use life_events::{Event, Verdict, What, write_event, write_verdict};
 use membership::Changes;
 
 /// Adds bytes to the text.

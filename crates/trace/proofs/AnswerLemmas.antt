@@ -12,8 +12,10 @@ use Rattle.ff_ids.specs.Lives.{IsAcceptedAt, after, opening, reports, state_at}
 use Rattle.ff_ids.specs.Steps.{Accuses, Event, Joins, Notes, Stepped, Ticks, step}
 use Rattle.ff_ids.specs.Views.{State}
 use Rattle.ff_ids.specs.Texts.{fault_text}
-use Rattle.journal.specs.declared.event.Event as reported
-use Rattle.journal.specs.declared.event.What.TheVariants as what
+use Rattle.life_events.specs.declared.event.Event as reported
+use Rattle.life_events.specs.declared.event.What.TheVariants as what
+use Rattle.life_events.specs.declared.verdict.Verdict.TheVariants as verdicts
+use Rattle.life_events.specs.Verdicts.{verdict_words}
 use Rattle.life_laws.specs.Removals.{ExpiresAt, IsNoteAcceptedAt, IsOlderThan}
 use Rattle.life_laws.proofs.AnsweredLemmas.{none_accepted, none_expires}
 use Rattle.life_laws.proofs.Lists.{In, In-append_cases, In-from_Contains, Contains-from_In, In-from_map}
@@ -21,7 +23,7 @@ use Rattle.schedule_direct.specs.declared.line.DirectLine.{DirectLine}
 use Rattle.schedule_direct.specs.declared.line.DirectLine.TheVariants as lines
 use Rattle.schedule_direct.specs.Grammar as grammar
 use Rattle.trace.specs.Answers.{Answer, Recorded, answer, answer_in, events_of, places_at, state_of, stepped, tick_events, verdict_on, with_event, with_ticks}
-use Rattle.trace.specs.Replies.{AcceptsAccusation, AcceptsNote, Expires, RuleOut, accepted}
+use Rattle.trace.specs.Replies.{AcceptsAccusation, AcceptsNote, Expires, RuleOut}
 use Rattle.trace.specs.Walk.{Taken, walk_over}
 use Rattle.trace.proofs.ReplyLemmas.{Extends, Later, all-answered, extends-ticks, goes-on-to, some-same}
 
@@ -45,6 +47,9 @@ report-place g s [] e ys = refl
 report-place g s (x ∷ xs) e ys = report-place g (step g s x).state xs e ys
 
 -- ## The verdict of acceptance
+
+abbrev accepted : Option (List ℕ)
+accepted = Some (verdict_words verdicts.Accepted)
 
 not-accepted : (fault : Fault) → Some (verdict_on (Some fault)) ≡ accepted → ⊥
 not-accepted fault same =

@@ -1,28 +1,30 @@
 -- Each whole line of what was written that gives a removal is the report of a tick of a life, and rests on an accusation;
 -- and each removal of a life is such a line.
-use Rattle.std.proofs.Common.{◌≡◌, ℕ, zero, suc, ◌+◌, ◌-◌, ◌⊎◌, inl, inr, List, [], ◌∷◌, ◌++◌, length, map, take, drop, get_or, Some, None, refl, ap, sym, ◌∙◌, subst, append_assoc, arith, length-append}
+use Rattle.std.proofs.Common.{◌≡◌, ℕ, zero, suc, ◌+◌, ◌-◌, ◌<◌, ◌⊎◌, inl, inr, true, not, eqb, append-nil, List, [], ◌∷◌, ◌++◌, length, map, take, drop, get_or, Some, None, refl, ap, sym, ◌∙◌, subst, append_assoc, arith, length-append}
 use Rattle.std.specs.Prelude.{codes, flat_map}
 use Rattle.std.specs.List.{AllByRecursion, concat, join_with_byte, slice_get}
 use Rattle.std.specs.Fmt.{decimal}
+use Rattle.std.proofs.lemmas.Bool.{and_from, and_parts}
 use Rattle.ff_ids.specs.declared.AccBody.{AccBody}
 use Rattle.ff_ids.specs.declared.Group.{Group}
 use Rattle.ff_ids.specs.Lives.{opening, reports, state_at}
 use Rattle.ff_ids.specs.Steps.{Event, Report, step}
 use Rattle.ff_ids.specs.Views.{State}
-use Rattle.journal.specs.declared.event.Event as reported
-use Rattle.journal.specs.declared.event.What.{What}
-use Rattle.journal.specs.declared.event.What.TheVariants as what
-use Rattle.journal.specs.Events.{what_text}
+use Rattle.life_events.specs.declared.event.Event as reported
+use Rattle.life_events.specs.declared.event.What.{What}
+use Rattle.life_events.specs.declared.event.What.TheVariants as what
+use Rattle.life_events.specs.Events.{what_text}
 use Rattle.life_laws.proofs.Lists.{In, In-append_cases, In-append_left, In-append_right, In-from_Contains, Contains-from_In, In-from_map}
 use Rattle.schedule_direct.specs.declared.line.DirectLine.{DirectLine}
 use Rattle.schedule_direct.specs.declared.line.DirectLine.TheVariants as lines
 use Rattle.schedule_direct.specs.Grammar as grammar
 use Rattle.schedule_direct.specs.Grammar.{spelled_words}
+use Rattle.text_trace.specs.Lines.{has_no_feed}
 use Rattle.trace.specs.Answers.{Recorded, events_of, verdict_text}
 use Rattle.trace.specs.Lives.{reported_from, reported_in}
 use Rattle.trace.specs.Walk.{Taken, events_in, lives_in, replayed, walk_over}
 use Rattle.trace.specs.Written.{IsJustified, IsLineOf, IsTold, IsWholeLine, removal_line}
-use Rattle.trace.proofs.TextLemmas.{same-fronts, unspaced-decimal}
+use Rattle.trace.proofs.TextLemmas.{ends-fed, same-fronts, unspaced-decimal}
 use Rattle.trace.proofs.UprightLemmas.{justified-walk}
 use Rattle.trace.proofs.WalkLemmas.{are-of-lives}
 use Rattle.trace.proofs.WrittenLemmas.{IsTakenLine, all-taken, event_line, front-of, output-pieces, pieces, pieces_of, told_line, whole-pieces}
@@ -166,6 +168,55 @@ justified-written ls written rest same moment m line =
           let there = justified-walk ls e.moment k.0 (Contains-from_In (events_in w) _ (subst (In (events_in w)) given event.1.0)) in
           record { life = there.0; moment = e.moment; member = k.0; recorded = there.1; spelled = sym event.1.1 ∙ ap event_line given; removal = there.2 }
     ]
+
+-- ## A line of another kind behind what is written
+
+-- a line, or a part of one without its line feed
+abbrev pub IsTail : List ℕ → Type 0
+IsTail last = (has_no_feed last ≡ true) ⊎ IsWholeLine last
+
+-- no whole line stands in front of more in a tail
+tail-alone : (last f x : List ℕ) → IsTail last → IsWholeLine f → last ≡ f ++ x → x ≡ []
+tail-alone last f x (inl clear) whole e =
+    let split : last ≡ whole.front ++ 10 ∷ x = e ∙ ap (λ (l : List ℕ). l ++ x) whole.ended ∙ append_assoc whole.front (10 ∷ []) x in
+    absurd (ends-fed whole.front x (subst (λ (l : List ℕ). has_no_feed l ≡ true) split clear))
+tail-alone last f x (inr line) whole e = sym (same-line last f [] x line whole (append-nil last ∙ e)).1
+
+first-of : (line after : List ℕ) → IsWholeLine line → get_or (line ++ after) 0 0 ≡ get_or line 0 0
+first-of [] after whole = absurd (no-line [] [] whole refl)
+first-of (b ∷ line) after whole = refl
+
+-- a whole line of whole lines and a tail is one of them, or begins as the tail
+among-tail : (ps earlier : List (List ℕ)) (line after last : List ℕ) → AllByRecursion IsWholeLine ps → AllByRecursion IsWholeLine earlier → IsWholeLine line → IsTail last → concat ps ++ last ≡ concat earlier ++ (line ++ after)
+    → In ps line ⊎ (get_or last 0 0 ≡ get_or line 0 0)
+among-tail [] [] line after last a b here tail e = inr (ap (λ (x : List ℕ). get_or x 0 0) e ∙ first-of line after here)
+among-tail [] (f ∷ earlier) line after last a b here tail e =
+    let none = tail-alone last f (concat earlier ++ (line ++ after)) tail b.0 (e ∙ append_assoc f (concat earlier) (line ++ after)) in
+    absurd (omega (arith, ap length none, length-append (concat earlier) (line ++ after), length-append line after, ap length here.ended, length-append here.front (10 ∷ [])))
+among-tail (p ∷ ps) [] line after last a b here tail e = inl (inl (same-line p line (concat ps ++ last) after a.0 here (sym (append_assoc p (concat ps) last) ∙ e)).0)
+among-tail (p ∷ ps) (f ∷ earlier) line after last a b here tail e =
+    let s = same-line p f (concat ps ++ last) (concat earlier ++ (line ++ after)) a.0 b.0 (sym (append_assoc p (concat ps) last) ∙ e ∙ append_assoc f (concat earlier) (line ++ after)) in
+    elim (among-tail ps earlier line after last a.1 b.1 here tail s.1) [ inl i ↦ inl (inr i) | inr begins ↦ inr begins ]
+
+-- behind all that is written for lines, a tail that begins otherwise than an event gives no removal
+pub justified-behind : (ls : List (List ℕ)) (last : List ℕ) → IsTail last → (get_or last 0 0 ≡ 97 → ⊥) → IsJustified ls ((replayed ls).output ++ last)
+justified-behind ls last tail other moment m line =
+    let w = walk_over ls in
+    let all = whole-pieces w.taken (all-taken ls grammar.opening None) in
+    let same : concat (pieces w.taken) ++ last ≡ concat line.earlier ++ (removal_line moment m ++ line.after) = ap (λ (x : List ℕ). x ++ last) (sym (output-pieces w.taken)) ∙ line.parts in
+    elim (among-tail (pieces w.taken) line.earlier (removal_line moment m) line.after last all line.whole line.here tail same) [
+      | inl i ↦ justified-written ls (replayed ls).output [] (sym (append-nil (replayed ls).output)) moment m
+          (subst (IsLineOf (removal_line moment m)) (sym (output-pieces w.taken)) (split (pieces w.taken) (removal_line moment m) all i))
+      | inr begins ↦ absurd (other begins)
+    ]
+
+-- a front of a line has no line feed
+pub clear-front : (front : List ℕ) (count : ℕ) → has_no_feed front ≡ true → count < length (front ++ 10 ∷ []) → has_no_feed (take count (front ++ 10 ∷ [])) ≡ true
+clear-front front zero clear short = refl
+clear-front [] (suc count) clear short = absurd (omega (arith, short))
+clear-front (b ∷ front) (suc count) clear short =
+    let parts = and_parts (not (eqb b 10)) (has_no_feed front) clear in
+    and_from (not (eqb b 10)) (has_no_feed (take count (front ++ 10 ∷ []))) parts.0 (clear-front front count parts.1 (omega (arith, short)))
 
 -- ## Each removal of a life is told
 

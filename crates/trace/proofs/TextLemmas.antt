@@ -44,6 +44,12 @@ not-space b high = rw (ne_eqb b 32 (λ e. omega (arith, high, e))) refl
 pub clear-append : (a b : List ℕ) → has_no_feed a ≡ true → has_no_feed b ≡ true → has_no_feed (a ++ b) ≡ true
 clear-append a b x y = all-append (λ b. not (eqb b 10)) a b x y
 
+-- bytes with a line feed among them are not clear
+pub ends-fed : (front more : List ℕ) → has_no_feed (front ++ 10 ∷ more) ≡ true → ⊥
+ends-fed front more clear =
+    let parts = and_parts (has_no_feed front) (has_no_feed (10 ∷ more)) (sym (list_all-append (λ b. not (eqb b 10)) front (10 ∷ more)) ∙ clear) in
+    false≢true parts.1
+
 pub clear-decimal : (n : ℕ) → has_no_feed (decimal n) ≡ true
 clear-decimal n = decimal-all (λ b. not (eqb b 10)) not-ten n
 

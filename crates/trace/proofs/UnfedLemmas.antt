@@ -1,40 +1,54 @@
 -- A line without its line feed is refused, and nothing is written for it.
-use Rattle.std.proofs.Common.{◌≡◌, ℕ, true, not, eqb, List, [], ◌∷◌, ◌++◌, Option, None, Result, Ok, Err, refl, ap, sym, ◌∙◌, subst}
+use Rattle.std.proofs.Common.{◌≡◌, ℕ, Bool, true, false, cond, List, [], ◌∷◌, ◌++◌, Option, Some, None, Result, Ok, Err, refl, ap, sym, ◌∙◌, subst}
 use Rattle.std.specs.List.{join_with_byte}
-use Rattle.std.proofs.lemmas.Bool.{and_parts, false≢true}
-use Rattle.std.proofs.lemmas.List.Folds.{list_all-append}
 use Rattle.line_text.specs.declared.bad_word.BadWord.{BadWord}
-use Rattle.line_text.specs.Answers.{Progress}
+use Rattle.line_text.specs.declared.bad_word.BadWord.TheVariants as bad
+use Rattle.line_text.specs.Answers.{Progress, next_line}
+use Rattle.line_text.proofs.FrameLemmas.{empty_fault, judge-empty}
 use Rattle.schedule_direct.specs.declared.direct.Direct.{Direct}
 use Rattle.schedule_direct.specs.declared.line.DirectLine.{DirectLine}
 use Rattle.schedule_direct.specs.Grammar as grammar
 use Rattle.schedule_direct.specs.Grammar.{spelled_words}
+use Rattle.schedule_direct.specs.Rows.{is_ended, row_for}
 use Rattle.text_trace.specs.Lines.{has_no_feed}
-use Rattle.text_trace.specs.Trace.{Owed, Waits}
+use Rattle.text_trace.specs.Trace.{IsUnrefused, Owed, Waits}
 use Rattle.text_trace.proofs.TraceLemmas.{waits-same}
 use Rattle.trace.specs.Answers.{Recorded, answer}
 use Rattle.trace.specs.Walk.{Taken, Walk, from_line, output_of, played, replayed, walk}
+use Rattle.trace.proofs.TextLemmas.{ends-fed}
 use Rattle.trace.proofs.WrittenLemmas.{spelled}
 
-ends-fed : (x : List ℕ) → has_no_feed (x ++ 10 ∷ []) ≡ true → ⊥
-ends-fed x clear =
-    let parts = and_parts (has_no_feed x) (has_no_feed (10 ∷ [])) (sym (list_all-append (λ b. not (eqb b 10)) x (10 ∷ [])) ∙ clear) in
-    false≢true parts.1
+abbrev none_bad : Option BadWord
+none_bad = None
 
 -- it is refused
 pub unfed-refused : (p : Progress Direct) (bytes : List ℕ) (l : DirectLine) → has_no_feed bytes ≡ true → grammar.judge p bytes ≡ Ok l → ⊥
 unfed-refused p bytes l clear judged =
     let s = spelled p bytes l judged in
-    ends-fed (join_with_byte 32 (spelled_words l)) (subst (λ (b : List ℕ). has_no_feed b ≡ true) s.bytes_are clear)
+    ends-fed (join_with_byte 32 (spelled_words l)) [] (subst (λ (b : List ℕ). has_no_feed b ≡ true) s.bytes_are clear)
 
 taken-none : (recorded : Option Recorded) (bytes : List ℕ) (judged : Result DirectLine BadWord) (rest : DirectLine → Walk) → ((l : DirectLine) → judged ≡ Ok l → ⊥) → (from_line recorded bytes judged rest).taken ≡ []
 taken-none recorded bytes (Ok l) rest never = absurd (never l refl)
 taken-none recorded bytes (Err w) rest never = refl
 
 -- nothing is written for it, nor for what follows it
-pub played-waits : (p : Progress Direct) (recorded : Option Recorded) → Waits BadWord (played p recorded)
-played-waits p recorded = λ line rest clear.
+played-silent : (p : Progress Direct) (recorded : Option Recorded) (line : List ℕ) (rest : List (List ℕ)) → has_no_feed line ≡ true → (played p recorded (line ∷ rest)).output ≡ []
+played-silent p recorded line rest clear =
     ap output_of (taken-none recorded line (grammar.judge p line) (λ l. walk rest (grammar.behind p l) (answer recorded l).recorded) (λ l judged. unfed-refused p line l clear judged))
+
+-- the end of a text and a line of no bytes have no cause in common
+apart : (ended : Bool) (w : BadWord) → cond ended none_bad (Some bad.End) ≡ Some w → Some (empty_fault ended) ≡ Some w → ⊥
+apart true w e f = cc
+apart false w e f = cc
+
+pub played-unrefused : (p : Progress Direct) (recorded : Option Recorded) → IsUnrefused BadWord (played p recorded)
+played-unrefused p recorded = λ w all.
+    let empty : (played p recorded ([] ∷ [])).cause ≡ Some (empty_fault (is_ended p.form)) =
+    ap (λ (j : Result DirectLine BadWord). (from_line recorded [] j (λ l. walk [] (grammar.behind p l) (answer recorded l).recorded)).cause) (judge-empty (next_line is_ended row_for p)) in
+    apart (is_ended p.form) w (all []) (sym empty ∙ all ([] ∷ []))
+
+pub played-waits : (p : Progress Direct) (recorded : Option Recorded) → Waits BadWord (played p recorded)
+played-waits p recorded = record { silent = played-silent p recorded; unrefused = played-unrefused p recorded }
 
 pub waits-as : (p : Progress Direct) (recorded : Option Recorded) (f : Owed BadWord) → f ≡ played p recorded → Waits BadWord f
 waits-as p recorded f same = waits-same BadWord f (played p recorded) same (played-waits p recorded)

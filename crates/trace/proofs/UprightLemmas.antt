@@ -11,8 +11,8 @@ use Rattle.ff_ids.specs.Faults.{accusation_fault, note_fault}
 use Rattle.ff_ids.specs.Lives.{IsRemovedAt, opening, reports, state_at}
 use Rattle.ff_ids.specs.Steps.{Accuses, Event, Joins, Notes, Stepped, Ticks, after_accusation, after_note, after_tick, joined, only_before, step, unchanged, unless_fault}
 use Rattle.ff_ids.specs.Views.{State, all_numbers, in_view, is_member}
-use Rattle.journal.specs.declared.event.Event as reported
-use Rattle.journal.specs.declared.event.What.TheVariants as what
+use Rattle.life_events.specs.declared.event.Event as reported
+use Rattle.life_events.specs.declared.event.What.TheVariants as what
 use Rattle.life_laws.proofs.JustifiedLemmas.{justified}
 use Rattle.life_laws.proofs.LifeLemmas.{state_at-next}
 use Rattle.life_laws.proofs.Lists.{In, In-append_cases, In-from_Contains, Contains-from_In, In-from_filter, In-from_map}

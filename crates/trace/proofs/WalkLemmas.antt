@@ -7,7 +7,7 @@ use Rattle.ff_ids.specs.declared.Group.{Group}
 use Rattle.ff_ids.specs.Lives.{after, opening}
 use Rattle.ff_ids.specs.Steps.{Accuses, Event, Joins, Notes, Ticks, step}
 use Rattle.ff_ids.specs.Views.{State}
-use Rattle.journal.specs.declared.event.Event as reported
+use Rattle.life_events.specs.declared.event.Event as reported
 use Rattle.line_text.specs.declared.bad_word.BadWord.{BadWord}
 use Rattle.schedule_direct.specs.declared.line.DirectLine.{DirectLine}
 use Rattle.schedule_direct.specs.declared.line.DirectLine.TheVariants as lines

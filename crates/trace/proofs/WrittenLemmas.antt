@@ -12,10 +12,10 @@ use Rattle.ff_ids.specs.Faults.{accusation_fault, note_fault}
 use Rattle.ff_ids.specs.Texts.{accusation_text, fault_text, monitor_text}
 use Rattle.ff_ids.specs.Views.{is_member, monitor, view}
 use Rattle.hex.specs.Hex.{encode_lower}
-use Rattle.journal.specs.declared.event.Event as reported
-use Rattle.journal.specs.declared.event.What.{What}
-use Rattle.journal.specs.declared.event.What.TheVariants as what
-use Rattle.journal.specs.Events.{event_text, members_text, what_text}
+use Rattle.life_events.specs.declared.event.Event as reported
+use Rattle.life_events.specs.declared.event.What.{What}
+use Rattle.life_events.specs.declared.event.What.TheVariants as what
+use Rattle.life_events.specs.Events.{event_text, members_text, what_text}
 use Rattle.line_text.specs.declared.bad_word.BadWord.{BadWord}
 use Rattle.line_text.specs.Answers.{Progress, next_line}
 use Rattle.line_text.proofs.FrameLemmas.{judge-spelled}

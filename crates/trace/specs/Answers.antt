@@ -8,11 +8,11 @@ use Rattle.ff_ids.specs.Lives.{after, opening}
 use Rattle.ff_ids.specs.Steps.{Accuses, Event, Joins, Notes, Report, Stepped, Ticks, step}
 use Rattle.ff_ids.specs.Views.{Member, State, is_member, monitor, view}
 use Rattle.ring_order.specs.Rows.{place_of_number}
-use Rattle.journal.specs.declared.event.Event as reported
-use Rattle.journal.specs.declared.event.What.TheVariants as what
-use Rattle.journal.specs.declared.verdict.Verdict.TheVariants as verdicts
-use Rattle.journal.specs.Events.{event_text, members_text}
-use Rattle.journal.specs.Verdicts.{verdict_words}
+use Rattle.life_events.specs.declared.event.Event as reported
+use Rattle.life_events.specs.declared.event.What.TheVariants as what
+use Rattle.life_events.specs.declared.verdict.Verdict.TheVariants as verdicts
+use Rattle.life_events.specs.Events.{event_text, members_text}
+use Rattle.life_events.specs.Verdicts.{verdict_words}
 use Rattle.schedule_direct.specs.declared.line.DirectLine.{DirectLine}
 use Rattle.schedule_direct.specs.declared.line.DirectLine.TheVariants as lines
 

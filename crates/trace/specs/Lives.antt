@@ -5,8 +5,8 @@ use Rattle.ff_ids.specs.declared.Group.{Group}
 use Rattle.ff_ids.specs.Lives.{RestsOn, opening, reports, state_at}
 use Rattle.ff_ids.specs.Steps.{Event, Report, step}
 use Rattle.ff_ids.specs.Views.{State}
-use Rattle.journal.specs.declared.event.Event as reported
-use Rattle.journal.specs.declared.event.What.TheVariants as what
+use Rattle.life_events.specs.declared.event.Event as reported
+use Rattle.life_events.specs.declared.event.What.TheVariants as what
 use Rattle.trace.specs.Answers.{Recorded, events_of}
 use Rattle.trace.specs.Walk.{Walk, events_in, lives_in}
 

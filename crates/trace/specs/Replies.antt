@@ -1,17 +1,16 @@
 -- What an accepted note rules out in the walk behind it.
-use Rattle.std.specs.Prelude.{◌≡◌, ℕ, ◌+◌, ◌<◌, ◌≤◌, false, List, length, Option, Some, Contains, codes, slice_get}
+use Rattle.std.specs.Prelude.{◌≡◌, ℕ, ◌+◌, ◌<◌, ◌≤◌, false, length, Some, Contains, slice_get}
 use Rattle.ff_ids.specs.declared.AccBody.{AccBody}
 use Rattle.ff_ids.specs.declared.NoteBody.{NoteBody}
 use Rattle.ff_ids.specs.Lives.{IsAcceptedAt, opening, state_at}
 use Rattle.ff_ids.specs.Views.{is_unanswered_by}
-use Rattle.journal.specs.declared.event.What.TheVariants as what
+use Rattle.life_events.specs.declared.event.What.TheVariants as what
+use Rattle.life_events.specs.declared.verdict.Verdict.TheVariants as verdicts
+use Rattle.life_events.specs.Verdicts.{verdict_words}
 use Rattle.life_laws.specs.Removals.{IsOlderThan}
 use Rattle.schedule_direct.specs.declared.line.DirectLine.TheVariants as lines
 use Rattle.trace.specs.Answers.{Recorded}
 use Rattle.trace.specs.Walk.{Taken, Walk}
-
-abbrev pub accepted : Option (List ℕ)
-accepted = Some (codes "accepted")
 
 -- The line at this place, in this life, was taken with the verdict that accepts it.
 pub record AcceptsNote (w : Walk) (place life : ℕ) (n : NoteBody) : Type 0 where
@@ -21,7 +20,7 @@ pub record AcceptsNote (w : Walk) (place life : ℕ) (n : NoteBody) : Type 0 whe
   pub during : t.before ≡ Some r
   pub number : r.life ≡ life
   pub line : t.line ≡ lines.Note n
-  pub verdict : t.answer.verdict ≡ accepted
+  pub verdict : t.answer.verdict ≡ Some (verdict_words verdicts.Accepted)
 
 pub record AcceptsAccusation (w : Walk) (place life : ℕ) (a : AccBody) : Type 0 where
   pub t : Taken
@@ -30,7 +29,7 @@ pub record AcceptsAccusation (w : Walk) (place life : ℕ) (a : AccBody) : Type 
   pub during : t.before ≡ Some r
   pub number : r.life ≡ life
   pub line : t.line ≡ lines.Accuse a
-  pub verdict : t.answer.verdict ≡ accepted
+  pub verdict : t.answer.verdict ≡ Some (verdict_words verdicts.Accepted)
 
 -- Under the line at this place, in this life, the accusation is reported as expired, at this moment.
 pub record Expires (w : Walk) (place life moment : ℕ) (a : AccBody) : Type 0 where

@@ -1,7 +1,7 @@
 -- The one walk over a recorded text. What is written, what refuses the text, and the lives that are recorded are all
 -- read off it.
 use Rattle.std.specs.Prelude.{ℕ, List, [], ◌∷◌, ◌++◌, Option, Some, None, Result, Ok, Err, flat_map, if◌then◌else◌, option_to_list}
-use Rattle.journal.specs.declared.event.Event as reported
+use Rattle.life_events.specs.declared.event.Event as reported
 use Rattle.line_text.specs.declared.bad_word.BadWord.{BadWord}
 use Rattle.line_text.specs.declared.bad_word.BadWord.TheVariants as words
 use Rattle.schedule_direct.specs.declared.line.DirectLine.{DirectLine}

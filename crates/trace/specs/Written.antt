@@ -1,8 +1,8 @@
 -- What is written for lines: its whole lines, and what those that give a removal say.
 use Rattle.std.specs.Prelude.{◌≡◌, ℕ, true, List, [], ◌∷◌, ◌++◌, Contains}
 use Rattle.std.specs.List.{AllByRecursion, concat}
-use Rattle.journal.specs.declared.event.What.TheVariants as what
-use Rattle.journal.specs.Events.{event_text}
+use Rattle.life_events.specs.declared.event.What.TheVariants as what
+use Rattle.life_events.specs.Events.{event_text}
 use Rattle.text_trace.specs.Lines.{has_no_feed}
 use Rattle.trace.specs.Answers.{Recorded}
 use Rattle.trace.specs.Lives.{IsRemoval}

@@ -1,5 +1,5 @@
 use Rattle.std.proofs.Common.{◌≡◌, ◌++◌, map, take}
-use Rattle.journal.specs.declared.event.What.TheVariants as what
+use Rattle.life_events.specs.declared.event.What.TheVariants as what
 use Rattle.trace.specs.Answers.{events_text}
 use Rattle.replay.proofs.report.add_expired.Given as goal
 

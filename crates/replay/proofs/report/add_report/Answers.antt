@@ -1,7 +1,7 @@
 use Rattle.std.proofs.Common.{map, List}
 use Rattle.std.proofs.lemmas.Result.{on_ok_weaker}
-use Rattle.journal.specs.declared.event.Event as reported
-use Rattle.journal.specs.declared.event.What.TheVariants as what
+use Rattle.life_events.specs.declared.event.Event as reported
+use Rattle.life_events.specs.declared.event.What.TheVariants as what
 use Rattle.replay.proofs.EventLemmas.{report-text}
 use Rattle.replay.proofs.report.add_report.Goals as goal
 

@@ -23,5 +23,5 @@ returns c = λ r plays.
       | in-Err+in_ok-add_verdict-in-Err w ↦ ap (λ v. v.items) w.text-is ∙ w.in_ok-add_verdict-in-Err.ensures ∙ ap (λ (a : Result (Unit {0}) Fault). old ++ codes " : " ++ verdict_on (result_err a)) (sym w.in-Err.is)
     ] in
     on_ok_weaker c.add.result
-    (λ text. tells-accused c.args.self.now r c.args.accusation c.put_accusation.result c.put_accusation.new.self old _ plays answered (put.step s plays.holds) put.same put.group (text ∙ ap (λ (t : List ℕ). t ++ 10 ∷ []) told))
+    (λ text. tells-accused c.args.self.now r c.args.accusation c.put_accusation.result c.put_accusation.new.membership old _ plays answered (put.step s plays.holds) put.same put.group (text ∙ ap (λ (t : List ℕ). t ++ 10 ∷ []) told))
     c.add.ensures
