@@ -1,4 +1,5 @@
 pub mod Fields
+pub mod KeyParts
 pub mod Records
 pub mod Rows
 pub mod Signatures

@@ -4,7 +4,7 @@ use Rattle.std.proofs.lemmas.List.{take_at, drop_at}
 use Rattle.records.specs.declared.Body.{Body}
 use Rattle.records.specs.Spelling.{IsBody, body_bytes}
 use Rattle.records.specs.Grammar.{body_at}
-use Rattle.records.specs.Signing.{signed_bytes, CheckedRecord}
+use Rattle.records.specs.Signing.{signed_bytes, CheckedRecord, IsChecked}
 use Rattle.records.proofs.Records.{body_again, one_reading}
 
 same_tail : (x y : ℕ) (xs ys : List ℕ) → x ∷ xs ≡ y ∷ ys → (x ≡ y) × (xs ≡ ys)
@@ -20,7 +20,7 @@ signed-tell tag other t u b c long other_long is_b is_c e =
     let tails = same_tail t u (body_bytes b) (body_bytes c) rest in
     (tags, tails.0, one_reading body_at (body_bytes b) (body_bytes c) [] [] b c (body_again b is_b) (body_again c is_c) (ap (λ (x : List ℕ). x ++ []) tails.1))
 
-pub serves : (c : CheckedRecord) (tag : List ℕ) (t : ℕ) → length c.tag ≡ 16 → length tag ≡ 16 → IsBody c.rec.body
+pub serves : (c : CheckedRecord) (tag : List ℕ) (t : ℕ) → IsChecked c → length tag ≡ 16
     → (signed_bytes tag t c.rec.body ≡ signed_bytes c.tag c.t c.rec.body) ↔ ((tag ≡ c.tag) × (t ≡ c.t))
-serves c tag t own_long long is =
-    (λ e. let told = signed-tell tag c.tag t c.t c.rec.body c.rec.body long own_long is is e in (told.0, told.1), λ same. ap (λ (x : List ℕ). signed_bytes x t c.rec.body) same.0 ∙ ap (λ (k : ℕ). signed_bytes c.tag k c.rec.body) same.1)
+serves c tag t is long =
+    (λ e. let told = signed-tell tag c.tag t c.t c.rec.body c.rec.body long is.tag_long is.body is.body e in (told.0, told.1), λ same. ap (λ (x : List ℕ). signed_bytes x t c.rec.body) same.0 ∙ ap (λ (k : ℕ). signed_bytes c.tag k c.rec.body) same.1)

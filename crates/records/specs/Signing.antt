@@ -1,10 +1,10 @@
 -- What a record's signature is over, and what was checked of a record.
-use Rattle.std.specs.Prelude.{ℕ, List, ◌∷◌, ◌++◌, codes}
+use Rattle.std.specs.Prelude.{◌≡◌, ℕ, List, ◌∷◌, ◌++◌, length, codes}
 use Rattle.lms_tree.specs.declared.key.PublicKey.{PublicKey}
 use Rattle.lms_tree.specs.Lms.{Verifies}
 use Rattle.records.specs.declared.Body.{Body}
 use Rattle.records.specs.declared.Record.{Record}
-use Rattle.records.specs.Spelling.{body_bytes, IsWritable}
+use Rattle.records.specs.Spelling.{body_bytes, IsBody, IsWritable}
 
 -- the bytes that a signature is over, in the group of this tag and tolerance
 unfoldable pub signed_bytes : List ℕ → ℕ → Body → List ℕ
@@ -21,7 +21,9 @@ pub record CheckedRecord : Type 0 where
   pub tag : List ℕ
   pub t : ℕ
 
--- It verifies so, and has a spelling.
+-- It verifies so, it has a spelling, and its numbers and the tag are within their ranges.
 pub record IsChecked (c : CheckedRecord) : Type 0 where
   pub signed : IsSigned c.key c.tag c.t c.rec
   pub writable : IsWritable c.rec
+  pub body : IsBody c.rec.body
+  pub tag_long : length c.tag ≡ 16

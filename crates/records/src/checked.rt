@@ -2,7 +2,7 @@
 
 ghost use Rattle.std.specs.Prelude.{◌≡◌, ◌↔◌, IsOk, IfOk, IfErr, Ok, Err};
 ghost use Rattle.lms_tree.specs.Lms.{verdict_of};
-ghost use Rattle.records.specs.Spelling.{IsWritable, HasPort};
+ghost use Rattle.records.specs.Spelling.{HasPort, IsBody};
 ghost use Rattle.records.specs.Signing.{IsSigned, IsChecked, signed_bytes};
 
 use crate::Record;
@@ -49,7 +49,7 @@ impl Checked {
 
     /// The same of a record that was signed by the key in the group. Nothing is checked.
     pub fn from_signed(group: &Group, key: &PublicKey, rec: Record) -> Checked
-        requires port { HasPort rec.body }
+        requires body { IsBody rec.body }
         requires signed { IsSigned key.now group.now.tag group.now.t rec }
         ensures { result ≡ record { rec = rec; key = key.now; tag = group.now.tag; t = group.now.t } }
     {

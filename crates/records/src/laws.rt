@@ -4,7 +4,7 @@ ghost use Rattle.std.specs.Prelude.{◌≡◌, ◌↔◌, ℕ, List, ◌++◌, l
 ghost use Rattle.records.specs.declared.Body.{Body};
 ghost use Rattle.records.specs.declared.Record.{Record};
 ghost use Rattle.records.specs.Spelling.{IsBody, IsRecord};
-ghost use Rattle.records.specs.Signing.{signed_bytes, CheckedRecord};
+ghost use Rattle.records.specs.Signing.{signed_bytes, CheckedRecord, IsChecked};
 
 /// No record's spelling begins another's. So what was written is read again, whatever follows it.
 pub fn one_spelling()
@@ -19,6 +19,6 @@ pub fn signed_bytes_tell()
 
 /// What was checked in one group is what is signed in another exactly where tag and tolerance are the same.
 pub fn checked_serves_its_group()
-    ensures { (c : CheckedRecord) (tag : List ℕ) (t : ℕ) → length c.tag ≡ 16 → length tag ≡ 16 → IsBody c.rec.body
+    ensures { (c : CheckedRecord) (tag : List ℕ) (t : ℕ) → IsChecked c → length tag ≡ 16
         → (signed_bytes tag t c.rec.body ≡ signed_bytes c.tag c.t c.rec.body) ↔ ((tag ≡ c.tag) × (t ≡ c.t)) }
 {}

@@ -1,6 +1,7 @@
 //! What a record's signature is over.
 
 ghost use Rattle.std.specs.Prelude.{◌≡◌};
+ghost use Rattle.records.specs.Spelling.{HasPort, IsBody};
 ghost use Rattle.records.specs.Signing.{signed_bytes};
 
 use crate::Body;
@@ -35,7 +36,9 @@ impl Signed {
 /// body's bytes.
 #[tactic(auto, unfolding(crate::specs::Signing::signed_bytes))]
 pub fn signed_bytes(group: &Group, body: &Body) -> Signed
-    ensures { result ≡ signed_bytes group.now.tag group.now.t body.now }
+    ensures value { result ≡ signed_bytes group.now.tag group.now.t body.now }
+    // The types keep the numbers within their ranges, but for a port of 0.
+    ensures body { HasPort body.now → IsBody body.now }
 {
     let mut bytes = ArrayVec::new();
     put(&mut bytes, b"FFSIGN");

@@ -102,49 +102,94 @@ fn records_are_read_back_and_no_cut_of_them(rt: HostRuntime) -> Result<(), Fail>
     read_back(&rt, alloc, certificate(), &[0, 1, 3, 5, 9, 13, 29, 61, 63])
 }
 
+/// What stands in front of the fault, up to its end, and the place of the fault.
+const FAULTS: [(&[u8], usize); 19] = [
+    (b"\x00", 0),
+    (b"\x04", 0),
+    // members 1,024
+    (b"\x01\x04\x00", 1),
+    (b"\x02\x04\x00", 1),
+    (b"\x03\x04\x00", 1),
+    (b"\x03\x00\x01\x04\x00", 3),
+    // epoch 0
+    (b"\x02\x00\x02\x00\x00\x00\x00\x00\x00\x00\x00", 3),
+    (b"\x03\x00\x01\x00\x02\x00\x00\x00\x00\x00\x00\x00\x00", 5),
+    // port 0; trees of type 4 and 8; one-time signatures of type 5 and 0
+    (b"\x01\x00\x02\x00\x00", 3),
+    (b"\x01\x00\x02\x4e\x22\x00\x00\x00\x04", 5),
+    (b"\x01\x00\x02\x4e\x22\x00\x00\x00\x08", 5),
+    (b"\x01\x00\x02\x4e\x22\x00\x00\x00\x05\x00\x00\x00\x05", 9),
+    (b"\x01\x00\x02\x4e\x22\x00\x00\x00\x05\x00\x00\x00\x00", 9),
+    // signatures of 0 and of 9,005 bytes, behind a note, an accusation and a certificate
+    (
+        b"\x02\x00\x02\x00\x00\x00\x00\x00\x00\x00\x01\x00\x00\x00\x07\x00\x00",
+        15,
+    ),
+    (
+        b"\x02\x00\x02\x00\x00\x00\x00\x00\x00\x00\x01\x00\x00\x00\x07\x23\x2d",
+        15,
+    ),
+    (
+        b"\x03\x00\x01\x00\x02\x00\x00\x00\x00\x00\x00\x00\x01\x00\x00\x00",
+        14,
+    ),
+    (
+        b"\x03\x00\x01\x00\x02\x00\x00\x00\x00\x00\x00\x00\x01\x00\x23\x2d",
+        14,
+    ),
+    (
+        b"\x01\x00\x02\x4e\x22\x00\x00\x00\x05\x00\x00\x00\x04iiiiiiiiiiiiiiiirrrrrrrrrrrrrrrrrrrrrrrrrrrrrrrr\x00\x00",
+        61,
+    ),
+    (
+        b"\x01\x00\x02\x4e\x22\x00\x00\x00\x05\x00\x00\x00\x04iiiiiiiiiiiiiiiirrrrrrrrrrrrrrrrrrrrrrrrrrrrrrrr\x23\x2d",
+        61,
+    ),
+];
+
+/// The bytes, with so many of these behind them.
+fn with_rest(alloc: Global, front: &[u8], rest: u8, count: usize) -> Result<Vec<u8>, Fail> {
+    let mut bytes = Vec::from_slice(alloc, front)?;
+    for _ in 0..count {
+        bytes.push(rest)?;
+    }
+    Ok(bytes)
+}
+
+// What follows the fault is not read: nothing, or bytes that are faults themselves, or may be of a record.
 #[test]
 fn a_fault_is_where_its_field_begins(rt: HostRuntime) -> Result<(), Fail> {
-    let rows = [
-        (b"\x00".as_slice(), 0),
-        (b"\x04".as_slice(), 0),
-        // members 1,024
-        (b"\x01\x04\x00".as_slice(), 1),
-        (b"\x02\x04\x00".as_slice(), 1),
-        (b"\x03\x04\x00".as_slice(), 1),
-        (b"\x03\x00\x01\x04\x00".as_slice(), 3),
-        // epoch 0
-        (
-            b"\x02\x00\x02\x00\x00\x00\x00\x00\x00\x00\x00".as_slice(),
-            3,
-        ),
-        (
-            b"\x03\x00\x01\x00\x02\x00\x00\x00\x00\x00\x00\x00\x00".as_slice(),
-            5,
-        ),
-        // signatures of 0 and of 9,005 bytes
-        (
-            b"\x02\x00\x02\x00\x00\x00\x00\x00\x00\x00\x01\x00\x00\x00\x07\x00\x00".as_slice(),
-            15,
-        ),
-        (
-            b"\x02\x00\x02\x00\x00\x00\x00\x00\x00\x00\x01\x00\x00\x00\x07\x23\x2d".as_slice(),
-            15,
-        ),
-        // port 0, a tree of type 4, a one-time signature of type 5
-        (b"\x01\x00\x02\x00\x00".as_slice(), 3),
-        (b"\x01\x00\x02\x4e\x22\x00\x00\x00\x04".as_slice(), 5),
-        (
-            b"\x01\x00\x02\x4e\x22\x00\x00\x00\x05\x00\x00\x00\x05".as_slice(),
-            9,
-        ),
-    ];
-    for (front, place) in &rows {
-        let mut bytes = Vec::from_slice(rt.alloc(), *front)?;
-        bytes.extend_from_slice(&[1; 100])?;
-        assert_eq!(rt;
-            read_record(rt.alloc(), bytes.as_slice()).err(),
-            Some(FormFault::BadForm { place: *place })
-        );
+    for (front, place) in FAULTS {
+        for (rest, count) in [(0u8, 0usize), (0, 100), (1, 100), (0xff, 10_000)] {
+            let bytes = with_rest(rt.alloc(), front, rest, count)?;
+            assert_eq!(rt;
+                read_record(rt.alloc(), bytes.as_slice()).err(),
+                Some(FormFault::BadForm { place })
+            );
+        }
     }
+    Ok(())
+}
+
+// A signature of five bytes of which four are there, and the longest there is.
+#[test]
+fn a_signature_is_as_long_as_it_says(rt: HostRuntime) -> Result<(), Fail> {
+    let short = b"\x02\x00\x02\x00\x00\x00\x00\x00\x00\x00\x01\x00\x00\x00\x07\x00\x05abcd";
+    assert_eq!(rt;
+        read_record(rt.alloc(), short).err(),
+        Some(FormFault::BadForm { place: 17 })
+    );
+    let longest = b"\x02\x00\x02\x00\x00\x00\x00\x00\x00\x00\x01\x00\x00\x00\x07\x23\x2c";
+    let bytes = with_rest(rt.alloc(), longest, 7, 9_004)?;
+    let Ok((rec, taken)) = read_record(rt.alloc(), bytes.as_slice()) else {
+        panic!(rt; "the record is read");
+    };
+    assert_eq!(rt; taken, 9_021);
+    assert_eq!(rt; rec.signature.as_slice().len(), 9_004);
+    let cut = with_rest(rt.alloc(), longest, 7, 9_003)?;
+    assert_eq!(rt;
+        read_record(rt.alloc(), cut.as_slice()).err(),
+        Some(FormFault::BadForm { place: 17 })
+    );
     Ok(())
 }

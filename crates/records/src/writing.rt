@@ -1,8 +1,8 @@
 //! Writing records.
 
-ghost use Rattle.std.specs.Prelude.{◌≡◌, ◌≤◌, ◌+◌, [], ◌++◌, length, IfOk, OnOk, OnErr};
+ghost use Rattle.std.specs.Prelude.{◌≡◌, ◌<◌, ◌≤◌, ◌+◌, [], ◌++◌, length, IfOk, OnOk, OnErr};
 ghost use Rattle.arrayvec.specs.ArrayVec.{array_vec_len};
-ghost use Rattle.records.specs.Spelling.{IsWritable, body_bytes, certificate_bytes, note_bytes, accusation_bytes, record_bytes};
+ghost use Rattle.records.specs.Spelling.{IsWritable, HasPort, IsBody, IsCertificate, IsNote, IsAccusation, body_bytes, certificate_bytes, note_bytes, accusation_bytes, record_bytes};
 
 use crate::{Body, CertBody, Record};
 use arrayvec::ArrayVec;
@@ -24,7 +24,8 @@ pub(crate) fn put<const N: usize>(out: &mut ArrayVec<u8, N>, bytes: &[u8])
 
 #[tactic(auto, unfolding(crate::specs::Spelling::certificate_bytes))]
 fn certificate_bytes(certificate: &CertBody) -> BodyBytes
-    ensures { result.items ≡ certificate_bytes certificate.now }
+    ensures value { result.items ≡ certificate_bytes certificate.now }
+    ensures body { 0 < certificate.now.port → IsCertificate certificate.now }
 {
     let mut out = ArrayVec::new();
     out.push(1);
@@ -36,7 +37,8 @@ fn certificate_bytes(certificate: &CertBody) -> BodyBytes
 
 #[tactic(auto, unfolding(crate::specs::Spelling::note_bytes))]
 fn note_bytes(note: &NoteBody) -> BodyBytes
-    ensures { result.items ≡ note_bytes note.now }
+    ensures value { result.items ≡ note_bytes note.now }
+    ensures body { IsNote note.now }
 {
     let mut out = ArrayVec::new();
     out.push(2);
@@ -48,7 +50,8 @@ fn note_bytes(note: &NoteBody) -> BodyBytes
 
 #[tactic(auto, unfolding(crate::specs::Spelling::accusation_bytes))]
 fn accusation_bytes(acc: &AccBody) -> BodyBytes
-    ensures { result.items ≡ accusation_bytes acc.now }
+    ensures value { result.items ≡ accusation_bytes acc.now }
+    ensures body { IsAccusation acc.now }
 {
     let mut out = ArrayVec::new();
     out.push(3);
@@ -63,6 +66,7 @@ fn accusation_bytes(acc: &AccBody) -> BodyBytes
 pub(crate) fn body_bytes(body: &Body) -> BodyBytes
     ensures value { result.items ≡ body_bytes body.now }
     ensures few { array_vec_len result ≤ 61 }
+    ensures body { HasPort body.now → IsBody body.now }
 {
     match body {
         Body::Certificate(certificate) => certificate_bytes(certificate),

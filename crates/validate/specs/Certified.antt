@@ -1,5 +1,5 @@
 -- Who has a certificate, and whose key signs what.
-use Rattle.std.specs.Prelude.{◌≡◌, ℕ, ◌<◌, true, Option, Some, IsSome}
+use Rattle.std.specs.Prelude.{◌≡◌, ℕ, true, Option, Some, IsSome}
 use Rattle.std.specs.Option.{option_map}
 use Rattle.std.specs.Ordering.{nat_cmp}
 use Rattle.std.specs.FinMap as map

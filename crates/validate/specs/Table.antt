@@ -1,6 +1,6 @@
 -- The ordered table of faults of signed records: what is refused without a look at the signature, then the
 -- signature, then a note of the observer itself that it doesn't know.
-use Rattle.std.specs.Prelude.{◌≡◌, ℕ, ◌==◌, if◌then◌else◌, List, Option, Some, None, Result, Ok, Err}
+use Rattle.std.specs.Prelude.{◌≡◌, ℕ, ◌==◌, if◌then◌else◌, Option, Some, None, Result, Ok, Err}
 use Rattle.std.specs.Option.{option_map}
 use Rattle.ff_ids.specs.declared.NoteBody.{NoteBody}
 use Rattle.ff_ids.specs.declared.Group.{Group}
@@ -43,6 +43,12 @@ FirstOfCertificate None c later answer = later
 -- a note of the observer itself, of which it had a newest one before
 abbrev pub own_ahead : ℕ → Option NoteBody → NoteBody → Option Fault
 own_ahead own newest_note n = if n.member == own then option_map (λ stored. faults.OwnAhead stored n) newest_note else None
+
+-- Nothing that stands before its signature refuses the record of this body.
+abbrev pub IsUnrefused : Group → Certificates → State → Body → Type 0
+IsUnrefused g certificates s (Certificate c) = certificate_of certificates c.member ≡ None
+IsUnrefused g certificates s (Note n) = note_fault g.t s n ≡ None
+IsUnrefused g certificates s (Accusation a) = accusation_fault g.t s a ≡ None
 
 -- The answer is the record's first fault, if it has one, by the certificates kept, the state and the observer's
 -- own number.

@@ -1,5 +1,5 @@
 //! Checks of signed records: the first fault of an ordered table, the signature last, or the record as checked.
-//! The code verifies a signature only where no fault stands before it, though no clause can speak of that. No check
+//! The one function that verifies signatures is given a record only where no fault stands before it. No check
 //! takes memory.
 #![tactic(auto)]
 

@@ -3,9 +3,10 @@
 ghost use Rattle.std.specs.Prelude.{◌≡◌, IfOk, None};
 ghost use Rattle.ff_ids.specs.Views.{State};
 ghost use Rattle.membership.specs.Holds.{Holds};
+ghost use Rattle.records.specs.declared.Body.TheVariants.{Certificate, Note, Accusation};
 ghost use Rattle.records.specs.Spelling.{HasPort};
 ghost use Rattle.validate.specs.Certified.{key_of, certificate_of, signing_key};
-ghost use Rattle.validate.specs.Table.{FirstFault, FirstOf, FirstOfCertificate, DecidesUnder, own_ahead, fault_in, IsCheckOf};
+ghost use Rattle.validate.specs.Table.{FirstFault, FirstOf, FirstOfCertificate, DecidesUnder, own_ahead, fault_in, IsCheckOf, IsUnrefused};
 ghost use Rattle.ff_ids.specs.Notes.{newest};
 ghost use Rattle.ff_ids.specs.Faults.{note_fault, accusation_fault};
 
@@ -15,108 +16,109 @@ use lms_tree::PublicKey;
 use membership::Membership;
 use records::{Body, CertBody, Checked, Record};
 
-/// The record as checked under the key, or `BadSignature`.
-fn check_signature(group: &Group, key: &PublicKey, rec: Record) -> Result<Checked, Fault>
-    requires { HasPort rec.body }
-    ensures checked { IfOk result (IsCheckOf group.now (Some key.now) rec) }
-    ensures fault { DecidesUnder (Some key.now) group.now rec None (fault_in result) }
-{
-    match Checked::new(group, key, rec) {
-        Ok(checked) => Ok(checked),
-        Err(_) => Err(Fault::BadSignature),
-    }
+/// What an observer knows when it checks a record.
+#[derive(Clone, Copy)]
+struct Observer<'a> {
+    group: &'a Group,
+    roster: &'a Roster,
+    membership: &'a Membership,
 }
 
-/// Why the certificate is refused by what is kept for its number.
-fn certificate_fault(roster: &Roster, cert: &CertBody) -> Option<Fault>
-    ensures { FirstOfCertificate (certificate_of roster.now cert.now.member) cert.now (result ≡ None) result }
-{
-    let kept = roster.get(cert.member)?;
-    if kept == cert {
-        return Some(Fault::Known);
+impl<'a> Observer<'a> {
+    /// The record as checked under the key, or `BadSignature`. No record comes here that is refused without a look at
+    /// its signature.
+    fn check_signature(&self, key: &PublicKey, rec: Record) -> Result<Checked, Fault>
+        requires port { HasPort rec.body }
+        requires unrefused { (s : State) → Holds self.now.membership.now s → IsUnrefused self.now.group.now self.now.roster.now s rec.body }
+        ensures checked { IfOk result (IsCheckOf self.now.group.now (Some key.now) rec) }
+        ensures fault { DecidesUnder (Some key.now) self.now.group.now rec None (fault_in result) }
+    {
+        match Checked::new(self.group, key, rec) {
+            Ok(checked) => Ok(checked),
+            Err(_) => Err(Fault::BadSignature),
+        }
     }
-    Some(Fault::OtherCertificate {
-        port: kept.port,
-        key: kept.key.write(),
-    })
-}
 
-/// The fault of a note whose signature is good: it is the observer's own, and greater than the one it had last.
-fn own_note_fault(membership: &Membership, own: MemberId, note: &NoteBody) -> Option<Fault>
-    ensures { (s : State) → Holds membership.now s → result ≡ own_ahead own (newest s.notes own) note.now }
-{
-    if note.member != own {
-        return None;
+    /// Why the certificate is refused by what is kept for its number.
+    fn certificate_fault(&self, cert: &CertBody) -> Option<Fault>
+        ensures { FirstOfCertificate (certificate_of self.now.roster.now cert.now.member) cert.now (result ≡ None) result }
+    {
+        let kept = self.roster.get(cert.member)?;
+        if kept == cert {
+            return Some(Fault::Known);
+        }
+        Some(Fault::OtherCertificate {
+            port: kept.port,
+            key: kept.key.write(),
+        })
     }
-    let stored = membership.note_of(own)?;
-    Some(Fault::OwnAhead {
-        stored,
-        seen: *note,
-    })
-}
 
-fn check_certificate(
-    group: &Group,
-    authority: &PublicKey,
-    roster: &Roster,
-    cert: &CertBody,
-    rec: Record,
-) -> Result<Checked, Fault>
-    requires { HasPort rec.body }
-    ensures checked { IfOk result (IsCheckOf group.now (Some authority.now) rec) }
-    ensures fault { FirstOfCertificate (certificate_of roster.now cert.now.member) cert.now (DecidesUnder (Some authority.now) group.now rec None (fault_in result)) (fault_in result) }
-{
-    if let Some(fault) = certificate_fault(roster, cert) {
-        return Err(fault);
+    /// The fault of a note whose signature is good: it is the observer's own, and greater than the one it had last.
+    fn own_note_fault(&self, own: MemberId, note: &NoteBody) -> Option<Fault>
+        ensures { (s : State) → Holds self.now.membership.now s → result ≡ own_ahead own (newest s.notes own) note.now }
+    {
+        if note.member != own {
+            return None;
+        }
+        let stored = self.membership.note_of(own)?;
+        Some(Fault::OwnAhead {
+            stored,
+            seen: *note,
+        })
     }
-    check_signature(group, authority, rec)
-}
 
-fn check_note(
-    group: &Group,
-    roster: &Roster,
-    membership: &Membership,
-    own: MemberId,
-    note: &NoteBody,
-    rec: Record,
-) -> Result<Checked, Fault>
-    requires group { membership.now.group ≡ group.now }
-    requires port { HasPort rec.body }
-    ensures checked { IfOk result (IsCheckOf group.now (key_of roster.now note.now.member) rec) }
-    ensures fault { (s : State) → Holds membership.now s → FirstOf (note_fault group.now.t s note.now) (DecidesUnder (key_of roster.now note.now.member) group.now rec (own_ahead own (newest s.notes own) note.now) (fault_in result)) (fault_in result) }
-{
-    if let Some(fault) = membership.note_fault(note) {
-        return Err(fault);
+    fn check_certificate(
+        &self,
+        authority: &PublicKey,
+        cert: &CertBody,
+        rec: Record,
+    ) -> Result<Checked, Fault>
+        requires body { rec.body ≡ Certificate cert.now }
+        requires port { HasPort rec.body }
+        ensures checked { IfOk result (IsCheckOf self.now.group.now (Some authority.now) rec) }
+        ensures fault { FirstOfCertificate (certificate_of self.now.roster.now cert.now.member) cert.now (DecidesUnder (Some authority.now) self.now.group.now rec None (fault_in result)) (fault_in result) }
+    {
+        if let Some(fault) = self.certificate_fault(cert) {
+            return Err(fault);
+        }
+        self.check_signature(authority, rec)
     }
-    let Some(cert) = roster.get(note.member) else {
-        return Err(Fault::UnknownMember);
-    };
-    let checked = check_signature(group, &cert.key, rec)?;
-    match own_note_fault(membership, own, note) {
-        Some(fault) => Err(fault),
-        None => Ok(checked),
-    }
-}
 
-fn check_accusation(
-    group: &Group,
-    roster: &Roster,
-    membership: &Membership,
-    acc: &AccBody,
-    rec: Record,
-) -> Result<Checked, Fault>
-    requires group { membership.now.group ≡ group.now }
-    requires port { HasPort rec.body }
-    ensures checked { IfOk result (IsCheckOf group.now (key_of roster.now acc.now.accuser) rec) }
-    ensures fault { (s : State) → Holds membership.now s → FirstOf (accusation_fault group.now.t s acc.now) (DecidesUnder (key_of roster.now acc.now.accuser) group.now rec None (fault_in result)) (fault_in result) }
-{
-    if let Some(fault) = membership.accusation_fault(acc) {
-        return Err(fault);
+    fn check_note(&self, own: MemberId, note: &NoteBody, rec: Record) -> Result<Checked, Fault>
+        requires body { rec.body ≡ Note note.now }
+        requires group { self.now.membership.now.group ≡ self.now.group.now }
+        requires port { HasPort rec.body }
+        ensures checked { IfOk result (IsCheckOf self.now.group.now (key_of self.now.roster.now note.now.member) rec) }
+        ensures fault { (s : State) → Holds self.now.membership.now s → FirstOf (note_fault self.now.group.now.t s note.now) (DecidesUnder (key_of self.now.roster.now note.now.member) self.now.group.now rec (own_ahead own (newest s.notes own) note.now) (fault_in result)) (fault_in result) }
+    {
+        if let Some(fault) = self.membership.note_fault(note) {
+            return Err(fault);
+        }
+        let Some(cert) = self.roster.get(note.member) else {
+            return Err(Fault::UnknownMember);
+        };
+        let checked = self.check_signature(&cert.key, rec)?;
+        match self.own_note_fault(own, note) {
+            Some(fault) => Err(fault),
+            None => Ok(checked),
+        }
     }
-    let Some(cert) = roster.get(acc.accuser) else {
-        return Err(Fault::UnknownMember);
-    };
-    check_signature(group, &cert.key, rec)
+
+    fn check_accusation(&self, acc: &AccBody, rec: Record) -> Result<Checked, Fault>
+        requires body { rec.body ≡ Accusation acc.now }
+        requires group { self.now.membership.now.group ≡ self.now.group.now }
+        requires port { HasPort rec.body }
+        ensures checked { IfOk result (IsCheckOf self.now.group.now (key_of self.now.roster.now acc.now.accuser) rec) }
+        ensures fault { (s : State) → Holds self.now.membership.now s → FirstOf (accusation_fault self.now.group.now.t s acc.now) (DecidesUnder (key_of self.now.roster.now acc.now.accuser) self.now.group.now rec None (fault_in result)) (fault_in result) }
+    {
+        if let Some(fault) = self.membership.accusation_fault(acc) {
+            return Err(fault);
+        }
+        let Some(cert) = self.roster.get(acc.accuser) else {
+            return Err(Fault::UnknownMember);
+        };
+        self.check_signature(&cert.key, rec)
+    }
 }
 
 /// The record as checked, or its first fault: what its kind is refused for without a look at the signature; then
@@ -135,10 +137,15 @@ pub fn check(
     ensures checked { IfOk result (IsCheckOf group.now (signing_key authority.now roster.now rec.body) rec) }
     ensures fault { (s : State) → Holds membership.now s → FirstFault group.now authority.now roster.now s own rec (fault_in result) }
 {
+    let observer = Observer {
+        group,
+        roster,
+        membership,
+    };
     let body = rec.body;
     match body {
-        Body::Certificate(cert) => check_certificate(group, authority, roster, &cert, rec),
-        Body::Note(note) => check_note(group, roster, membership, own, &note, rec),
-        Body::Accusation(acc) => check_accusation(group, roster, membership, &acc, rec),
+        Body::Certificate(cert) => observer.check_certificate(authority, &cert, rec),
+        Body::Note(note) => observer.check_note(own, &note, rec),
+        Body::Accusation(acc) => observer.check_accusation(&acc, rec),
     }
 }
