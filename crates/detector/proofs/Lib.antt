@@ -1,0 +1,5 @@
+mod Rows
+pub mod SlotLemmas
+pub mod HistoryLemmas
+pub mod WatchLemmas
+pub mod LawLemmas

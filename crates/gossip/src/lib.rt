@@ -1,0 +1,11 @@
+//! Gossip: with whom a node exchanges summaries in a round, of which page, and what the other side lacks by the
+//! summaries of both.
+#![tactic(auto)]
+
+pub use lacking::lacks;
+pub use partners::{page_of, partner};
+
+mod lacking;
+mod partners;
+#[cfg(test)]
+mod tests;

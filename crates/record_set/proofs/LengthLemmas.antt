@@ -1,0 +1,31 @@
+-- How many bytes records have.
+use Rattle.std.proofs.Common.{◌≡◌, ℕ, ◌+◌, List, ◌++◌, length, refl, arith}
+use Rattle.std.specs.Int.{w16, to_be_bytes}
+use Rattle.std.proofs.lemmas.List.{length-append}
+use Rattle.ff_ids.specs.declared.NoteBody.{NoteBody}
+use Rattle.ff_ids.specs.declared.AccBody.{AccBody}
+use Rattle.lms_tree.specs.Lms.{key_bytes}
+use Rattle.records.specs.declared.CertBody.{CertBody}
+use Rattle.records.specs.declared.Record.{Record}
+use Rattle.records.specs.Spelling.{IsCertificate, certificate_bytes, note_bytes, accusation_bytes, body_bytes, record_bytes}
+
+tail_long : (id root : List ℕ) → length id ≡ 16 → length root ≡ 32 → length (id ++ root) ≡ 48
+tail_long id root a b = omega (arith, length-append id root)
+
+pub certificate_long : (c : CertBody) → IsCertificate c → length (certificate_bytes c) ≡ 61
+unfolding certificate_bytes key_bytes
+certificate_long c h = omega (arith, tail_long c.key.id c.key.root h.id_long h.root_long)
+
+pub note_long : (n : NoteBody) → length (note_bytes n) ≡ 15
+unfolding note_bytes
+note_long n = refl
+
+pub accusation_long : (a : AccBody) → length (accusation_bytes a) ≡ 14
+unfolding accusation_bytes
+accusation_long a = refl
+
+two_long : (n : ℕ) → length (to_be_bytes w16 n) ≡ 2
+two_long n = refl
+
+pub record_long : (r : Record) → length (record_bytes r) ≡ length (body_bytes r.body) + 2 + length r.signature
+record_long r = omega (arith, length-append (body_bytes r.body) (to_be_bytes w16 (length r.signature) ++ r.signature), length-append (to_be_bytes w16 (length r.signature)) r.signature, two_long (length r.signature))

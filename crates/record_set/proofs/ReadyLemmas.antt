@@ -1,0 +1,141 @@
+-- The entries that are kept ready are those that what is held makes.
+use Rattle.std.proofs.Common.{◌≡◌, ◌≢◌, ℕ, zero, suc, ◌+◌, ◌*◌, ◌<◌, ◌≤◌, Bool, true, false, cond, List, [], ◌∷◌, ◌++◌, length, get_or, None, is_some, map, filter, refl, ap, sym, subst, ◌∙◌, arith, get_or-set_same, get_or-set_other, length-set, add-one, append_assoc, lit<, ◌⊎◌, inl, inr}
+use Rattle.std.specs.Prelude.{slice_set}
+use Rattle.std.specs.List.{range_with_len}
+use Rattle.std.specs.FinMap.{contains_key}
+use Rattle.std.proofs.lemmas.Bool.{cases_eq}
+use Rattle.std.proofs.lemmas.List.{map-append}
+use Rattle.std.proofs.lemmas.List.Elements.{filter-append}
+use Rattle.ff_ids.proofs.MaskLemmas.{range_with_len-push}
+use Rattle.ff_ids.specs.declared.summary.SummaryEntry.{SummaryEntry}
+use Rattle.ff_ids.specs.declared.summary.Summary.{Summary}
+use Rattle.ff_ids.specs.declared.summary.RecordKey.{RecordKey}
+use Rattle.ff_ids.specs.declared.summary.RecordKey.TheVariants as keys
+use Rattle.record_set.specs.Held.{held_under}
+use Rattle.record_set.specs.Pages.{bits_where, note_in, entry_with, rings_of, entry_of, certified_of, summary_of}
+use Rattle.record_set.specs.Slots.{Slot, slot_of, member_of, HasSlot, held_in, entry_in, no_entry, ready_entries, IsReady}
+use Rattle.record_set.proofs.SlotLemmas.{IsSlotted, get-held_in, get-unslotted}
+use Rattle.record_set.proofs.BitLemmas.{bits_same, bits-no}
+
+abbrev accused_in : List Slot → ℕ → ℕ → Bool
+accused_in slots m r = is_some (get_or slots (33 * m + 2 + r) None)
+
+-- ---- an entry
+
+pub entry-held : (slots : List Slot) (m : ℕ) → entry_in slots m ≡ entry_of (held_in slots) m
+unfolding rings_of
+entry-held slots m =
+    ap (λ o. entry_with m (note_in o) (bits_where (accused_in slots m) 31)) (sym (get-held_in slots (keys.Note m) tt))
+    ∙ ap (entry_with m (note_in (held_under (held_in slots) (keys.Note m))))
+    (bits_same (accused_in slots m) (λ r. contains_key (held_in slots) (keys.Accusation m (record { 0 = r }))) 31 (λ r h. ap is_some (sym (get-held_in slots (keys.Accusation m (record { 0 = r })) h))))
+
+slot_within : (k : RecordKey) → HasSlot k → (33 * member_of k ≤ slot_of k) × (slot_of k < 33 * member_of k + 33)
+slot_within (keys.Certificate m) h = (omega arith, omega arith)
+slot_within (keys.Note m) h = (omega arith, omega arith)
+slot_within (keys.Accusation m ring) h = (omega arith, omega (arith, h))
+
+-- another member's entry stays
+entry_apart : (slots : List Slot) (k : RecordKey) (o : Slot) (m : ℕ) → HasSlot k → m ≢ member_of k → entry_in (slice_set slots (slot_of k) o) m ≡ entry_in slots m
+entry_apart slots k o m h apart =
+    let at = slot_within k h in
+    let after = slice_set slots (slot_of k) o in
+    let off : (i : ℕ) → i < 33 → 33 * m + i ≢ slot_of k = λ i low e. apart (omega (arith, at.0, at.1, low, e)) in
+    ap (λ s. entry_with m (note_in s) (bits_where (accused_in after m) 31)) (get_or-set_other slots (slot_of k) (33 * m + 1) o None (off 1 (lit< tt)))
+    ∙ ap (entry_with m (note_in (get_or slots (33 * m + 1) None)))
+    (bits_same (accused_in after m) (accused_in slots m) 31 (λ r low. ap is_some (get_or-set_other slots (slot_of k) (33 * m + 2 + r) o None (λ e. off (2 + r) (omega (arith, low)) (omega (arith, e))))))
+
+-- ---- all of them
+
+-- a slot is written, and the entry of its member made anew
+pub ready-set : (slots : List Slot) (entries : List SummaryEntry) (k : RecordKey) (o : Slot) (e : SummaryEntry) → IsReady slots entries → IsSlotted k → e ≡ entry_in (slice_set slots (slot_of k) o) (member_of k) → IsReady (slice_set slots (slot_of k) o) (slice_set entries (member_of k) e)
+ready-set slots entries k o e r at made =
+    record {
+      slots_all = length-set slots (slot_of k) o ∙ r.slots_all;
+      entries_all = length-set entries (member_of k) e ∙ r.entries_all;
+      ready = λ m h. by_member m h (cases_eq m (member_of k));
+    }
+  where
+    by_member : (m : ℕ) → m < 1024 → (m ≡ member_of k) ⊎ (m ≢ member_of k) → get_or (slice_set entries (member_of k) e) m (no_entry m) ≡ entry_in (slice_set slots (slot_of k) o) m
+    by_member m h (inl same) =
+        let below : member_of k < length entries = omega (arith, at.member, r.entries_all) in
+        ap (λ (i : ℕ). get_or (slice_set entries (member_of k) e) i (no_entry m)) same ∙ get_or-set_same entries (member_of k) e (no_entry m) below
+        ∙ made ∙ ap (entry_in (slice_set slots (slot_of k) o)) (sym same)
+    by_member m h (inr apart) = get_or-set_other entries (member_of k) m e (no_entry m) apart ∙ r.ready m h ∙ sym (entry_apart slots k o m at.slot apart)
+
+-- the same, by the numbers of the slot and the member
+pub ready-put : (slots : List Slot) (entries : List SummaryEntry) (k : RecordKey) (o : Slot) (slot number : ℕ) (e : SummaryEntry) → IsReady slots entries → IsSlotted k → slot ≡ slot_of k → number ≡ member_of k → e ≡ entry_in (slice_set slots slot o) number → IsReady (slice_set slots slot o) (slice_set entries number e)
+ready-put slots entries k o slot number e r at same_slot same_number made =
+    let P : ℕ → Type 0 = λ s. e ≡ entry_in (slice_set slots s o) number → IsReady (slice_set slots s o) (slice_set entries number e) in
+    let Q : ℕ → Type 0 = λ n. e ≡ entry_in (slice_set slots (slot_of k) o) n → IsReady (slice_set slots (slot_of k) o) (slice_set entries n e) in
+    subst P (sym same_slot) (subst Q (sym same_number) (λ m. ready-set slots entries k o e r at m)) made
+
+-- nothing is held
+pub ready-none : (slots : List Slot) (entries : List SummaryEntry) → length slots ≡ 33792 → length entries ≡ 1024 → ((k : ℕ) → get_or slots k None ≡ None) → ((k : ℕ) → k < 1024 → get_or entries k (no_entry k) ≡ no_entry k) → IsReady slots entries
+ready-none slots entries all each none fresh =
+    record {
+      slots_all = all;
+      entries_all = each;
+      ready = λ m h. fresh m h ∙ sym (ap (λ s. entry_with m (note_in s) (bits_where (accused_in slots m) 31)) (none (33 * m + 1)) ∙ ap (entry_with m None) (bits-no (accused_in slots m) 31 (λ r. ap is_some (none (33 * m + 2 + r)))));
+    }
+
+-- ---- a page
+
+abbrev pub summary_with : ℕ → List SummaryEntry → Summary
+summary_with page listed = record { page = page; listed = listed }
+
+range_agree : {A : Type 0} (f g : ℕ → A) (p q : ℕ → Bool) (a n : ℕ) → ((m : ℕ) → a ≤ m → m < a + n → p m ≡ q m) → ((m : ℕ) → a ≤ m → m < a + n → f m ≡ g m) → map f (filter p (range_with_len a n)) ≡ map g (filter q (range_with_len a n))
+range_agree f g p q a zero tests values = refl
+range_agree f g p q a (suc n) tests values =
+    let others = range_agree f g p q (a + 1) n (λ m low high. tests m (omega (arith, low)) (omega (arith, high))) (λ m low high. values m (omega (arith, low)) (omega (arith, high))) in
+    ap (λ b. map f (cond b (a ∷ filter p (range_with_len (a + 1) n)) (filter p (range_with_len (a + 1) n)))) (tests a (omega arith) (omega arith))
+    ∙ one (q a) (filter p (range_with_len (a + 1) n)) (filter q (range_with_len (a + 1) n)) others (values a (omega arith) (omega arith))
+  where
+    one : (b : Bool) (ps qs : List ℕ) → map f ps ≡ map g qs → f a ≡ g a → map f (cond b (a ∷ ps) ps) ≡ map g (cond b (a ∷ qs) qs)
+    one true ps qs same here = λ i. here i ∷ same i
+    one false ps qs same here = same
+
+range_nobody : (q : ℕ → Bool) (a n : ℕ) → ((m : ℕ) → a ≤ m → q m ≡ false) → filter q (range_with_len a n) ≡ []
+range_nobody q a zero nobody = refl
+range_nobody q a (suc n) nobody =
+    ap (λ b. cond b (a ∷ filter q (range_with_len (a + 1) n)) (filter q (range_with_len (a + 1) n))) (nobody a (omega arith))
+    ∙ range_nobody q (a + 1) n (λ m low. nobody m (omega (arith, low)))
+
+-- the ready entries of a page are its summary's
+pub ready-summary : (slots : List Slot) (entries : List SummaryEntry) (page : ℕ) → IsReady slots entries → page < 32 → ready_entries slots entries (32 * page) 32 ≡ (summary_of (held_in slots) page).listed
+unfolding ready_entries certified_of
+ready-summary slots entries page r below =
+    range_agree (λ m. get_or entries m (no_entry m)) (entry_of (held_in slots)) (λ m. is_some (get_or slots (33 * m) None)) (λ m. contains_key (held_in slots) (keys.Certificate m)) (32 * page) 32
+    (λ m low high. ap is_some (sym (get-held_in slots (keys.Certificate m) tt)))
+    (λ m low high. r.ready m (omega (arith, high, below)) ∙ entry-held slots m)
+
+pub same_summary : (page number : ℕ) (listed others : List SummaryEntry) → page ≡ number → listed ≡ others → summary_with page listed ≡ summary_with number others
+same_summary page number listed others same each = λ i. summary_with (same i) (each i)
+
+-- nobody is certified behind the last page
+pub no-summary : (slots : List Slot) (page : ℕ) → length slots ≡ 33792 → 32 ≤ page → (summary_of (held_in slots) page).listed ≡ []
+unfolding certified_of
+no-summary slots page long above =
+    ap (map (entry_of (held_in slots)))
+    (range_nobody (λ m. contains_key (held_in slots) (keys.Certificate m)) (32 * page) 32 (λ m low. ap is_some (get-unslotted slots (keys.Certificate m) long (λ s. absurd (omega (arith, s.member, low, above))))))
+
+-- no entry of no members
+pub ready_entries-none : (slots : List Slot) (entries : List SummaryEntry) (first : ℕ) → ready_entries slots entries first 0 ≡ []
+unfolding ready_entries
+ready_entries-none slots entries first = refl
+
+-- one more member, which is certified or isn't
+pub entry_pushed : (slots : List Slot) (entries held before after : List SummaryEntry) (first n : ℕ) (b : Bool) → is_some (get_or slots (33 * (first + n)) None) ≡ b → before ≡ held ++ ready_entries slots entries first n → after ≡ before ++ cond b (get_or entries (first + n) (no_entry (first + n)) ∷ []) [] → after ≡ held ++ ready_entries slots entries first (n + 1)
+unfolding ready_entries
+entry_pushed slots entries held before after first n b is so_far grown =
+    let f : ℕ → SummaryEntry = λ m. get_or entries m (no_entry m) in
+    let p : ℕ → Bool = λ m. is_some (get_or slots (33 * m) None) in
+    let more : range_with_len first (n + 1) ≡ range_with_len first n ++ (first + n) ∷ [] = ap (range_with_len first) (add-one n) ∙ range_with_len-push first n in
+    let all : map f (filter p (range_with_len first (n + 1))) ≡ map f (filter p (range_with_len first n)) ++ cond b (f (first + n) ∷ []) [] =
+    ap (λ (ms : List ℕ). map f (filter p ms)) more ∙ ap (map f) (filter-append p (range_with_len first n) ((first + n) ∷ []))
+    ∙ map-append f (filter p (range_with_len first n)) (filter p ((first + n) ∷ []))
+    ∙ ap (λ (t : List SummaryEntry). map f (filter p (range_with_len first n)) ++ t) (ap (λ c. map f (cond c ((first + n) ∷ []) [])) is ∙ one b) in
+    grown ∙ ap (λ (t : List SummaryEntry). t ++ cond b (f (first + n) ∷ []) []) so_far ∙ append_assoc held (map f (filter p (range_with_len first n))) (cond b (f (first + n) ∷ []) []) ∙ ap (λ (t : List SummaryEntry). held ++ t) (sym all)
+  where
+    one : (c : Bool) → map (λ m. get_or entries m (no_entry m)) (cond c ((first + n) ∷ []) []) ≡ cond c (get_or entries (first + n) (no_entry (first + n)) ∷ []) []
+    one true = refl
+    one false = refl

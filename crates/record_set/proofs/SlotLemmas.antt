@@ -1,0 +1,193 @@
+-- The slots, and the map that they stand for.
+use Rattle.std.proofs.Common.{◌≡◌, ◌≢◌, ℕ, zero, suc, ◌+◌, ◌-◌, ◌*◌, ◌/◌, ◌%◌, ◌<◌, ◌≤◌, Bool, true, false, cond, eqb, List, [], ◌∷◌, length, get_or, Some, None, IsSome, refl, ap, sym, subst, ◌∙◌, arith, get_or-set_same, get_or-set_other, length-set, ◌⊎◌, inl, inr}
+use Rattle.std.specs.Prelude.{slice_set}
+use Rattle.std.specs.FinMap.{get, insert, remove, empty, find, same_map, get-insert, get-remove, from_entries, get-from_entries}
+use Rattle.std.proofs.lemmas.Bool.{cases_lt, true≢false}
+use Rattle.std.proofs.lemmas.Bool.Decides.{nat_tests}
+use Rattle.ff_ids.specs.declared.summary.RecordKey.{RecordKey}
+use Rattle.ff_ids.specs.declared.summary.RecordKey.TheVariants as keys
+use Rattle.records.specs.declared.Body.{Body}
+use Rattle.records.specs.declared.Body.TheVariants as bodies
+use Rattle.records.specs.Signing.{CheckedRecord}
+use Rattle.record_set.specs.Held.{key_cmp, key_of}
+use Rattle.record_set.specs.Picks.{HasRing}
+use Rattle.record_set.specs.Slots.{Slot, slot_of, member_of, HasSlot, key_of_part, key_at, taken_from, held_in}
+use Rattle.record_set.proofs.KeyLemmas.{key_cmp_total, key_cmp-IsAntisymmetric, is_key, is_key-true, is_key-same, is_key-other}
+
+-- ---- keys and slots
+
+part_0 : (m part : ℕ) → part ≡ 0 → key_of_part m part ≡ keys.Certificate m
+part_0 m part e = ap (key_of_part m) e
+
+part_1 : (m part : ℕ) → part ≡ 1 → key_of_part m part ≡ keys.Note m
+part_1 m part e = ap (key_of_part m) e
+
+part_from_2 : (m part r : ℕ) → part ≡ 2 + r → key_of_part m part ≡ keys.Accusation m (record { 0 = r })
+part_from_2 m part r e =
+    let not_0 : eqb (2 + r) 0 ≡ false = grind (arith, nat_tests) in
+    let not_1 : eqb (2 + r) 1 ≡ false = grind (arith, nat_tests) in
+    let left : 2 + r - 2 ≡ r = omega arith in
+    ap (key_of_part m) e
+    ∙ ap (λ b. cond b (keys.Certificate m) (cond (eqb (2 + r) 1) (keys.Note m) (keys.Accusation m (record { 0 = 2 + r - 2 })))) not_0
+    ∙ ap (λ b. cond b (keys.Note m) (keys.Accusation m (record { 0 = 2 + r - 2 }))) not_1
+    ∙ ap (λ (s : ℕ). keys.Accusation m (record { 0 = s })) left
+
+pub key_at-slot_of : (k : RecordKey) → HasSlot k → key_at (slot_of k) ≡ k
+key_at-slot_of (keys.Certificate m) h =
+    let whole : 33 * m / 33 ≡ m = omega arith in
+    let part : 33 * m % 33 ≡ 0 = omega arith in
+    part_0 (33 * m / 33) (33 * m % 33) part ∙ ap keys.Certificate whole
+key_at-slot_of (keys.Note m) h =
+    let whole : (33 * m + 1) / 33 ≡ m = omega arith in
+    let part : (33 * m + 1) % 33 ≡ 1 = omega arith in
+    part_1 ((33 * m + 1) / 33) ((33 * m + 1) % 33) part ∙ ap keys.Note whole
+key_at-slot_of (keys.Accusation m ring) h =
+    let whole : (33 * m + 2 + ring.0) / 33 ≡ m = omega (arith, h) in
+    let part : (33 * m + 2 + ring.0) % 33 ≡ 2 + ring.0 = omega (arith, h) in
+    part_from_2 ((33 * m + 2 + ring.0) / 33) ((33 * m + 2 + ring.0) % 33) ring.0 part ∙ ap (λ k. keys.Accusation k ring) whole
+
+-- what is known of the key of a part
+record IsPart (m part : ℕ) (k : RecordKey) : Type 0 where
+  slot : slot_of k ≡ 33 * m + part
+  member : member_of k ≡ m
+  has_slot : HasSlot k
+
+is_part : (m part : ℕ) → part < 33 → IsPart m part (key_of_part m part)
+is_part m zero h = record { slot = omega arith; member = refl; has_slot = tt }
+is_part m (suc zero) h = record { slot = omega arith; member = refl; has_slot = tt }
+is_part m (suc (suc r)) h =
+    let more : suc (suc r) ≡ 2 + r = omega arith in
+    subst (IsPart m (suc (suc r))) (sym (part_from_2 m (suc (suc r)) r more)) (record { slot = omega arith; member = refl; has_slot = omega arith })
+
+at_part : (slot : ℕ) → IsPart (slot / 33) (slot % 33) (key_at slot)
+at_part slot = is_part (slot / 33) (slot % 33) (omega arith)
+
+pub slot_of-key_at : (slot : ℕ) → slot_of (key_at slot) ≡ slot
+slot_of-key_at slot = omega (arith, (at_part slot).slot)
+
+-- There is a slot for the key.
+pub record IsSlotted (k : RecordKey) : Type 0 where
+  pub member : member_of k < 1024
+  pub slot : HasSlot k
+
+pub slotted_at : (slot : ℕ) → slot < 33792 → IsSlotted (key_at slot)
+slotted_at slot h = record { member = omega (arith, (at_part slot).member); slot = (at_part slot).has_slot }
+
+pub slot_below : (k : RecordKey) → IsSlotted k → slot_of k < 33792
+slot_below (keys.Certificate m) h = omega (arith, h.member)
+slot_below (keys.Note m) h = omega (arith, h.member)
+slot_below (keys.Accusation m ring) h = omega (arith, h.member, h.slot)
+
+-- ---- the map of the slots
+
+-- no slot from this one on is the key's
+not_found : (k : RecordKey) (slot : ℕ) (slots : List Slot) → ((a : ℕ) → slot ≤ a → a < slot + length slots → k ≢ key_at a) → find key_cmp k (taken_from slot slots) ≡ None
+not_found k slot [] none = refl
+not_found k slot (None ∷ slots) none = not_found k (slot + 1) slots (λ a low high. none a (omega (arith, low)) (omega (arith, high)))
+not_found k slot (Some c ∷ slots) none =
+    ap (λ b. cond b (Some c) (find key_cmp k (taken_from (slot + 1) slots))) (is_key-other k (key_at slot) (none slot (omega arith) (omega arith)))
+    ∙ not_found k (slot + 1) slots (λ a low high. none a (omega (arith, low)) (omega (arith, high)))
+
+not_at : (k : RecordKey) (a : ℕ) → slot_of k ≢ a → k ≢ key_at a
+not_at k a apart e = apart (ap slot_of e ∙ slot_of-key_at a)
+
+found_at : (k : RecordKey) (slot j : ℕ) (slots : List Slot) → HasSlot k → slot_of k ≡ slot + j → find key_cmp k (taken_from slot slots) ≡ get_or slots j None
+found_at k slot j [] h at = refl
+found_at k slot zero (None ∷ slots) h at = not_found k (slot + 1) slots (λ a low high. not_at k a (λ e. absurd (omega (arith, e, low, at))))
+found_at k slot zero (Some c ∷ slots) h at =
+    let here : slot_of k ≡ slot = omega arith in
+    let same : k ≡ key_at slot = sym (key_at-slot_of k h) ∙ ap key_at here in
+    ap (λ b. cond b (Some c) (find key_cmp k (taken_from (slot + 1) slots))) (ap (is_key k) (sym same) ∙ is_key-same k)
+found_at k slot (suc j) (None ∷ slots) h at = found_at k (slot + 1) j slots h (omega arith)
+found_at k slot (suc j) (Some c ∷ slots) h at =
+    ap (λ b. cond b (Some c) (find key_cmp k (taken_from (slot + 1) slots))) (is_key-other k (key_at slot) (not_at k slot (λ e. absurd (omega (arith, e, at)))))
+    ∙ found_at k (slot + 1) j slots h (omega arith)
+
+-- what is held under a key that has a slot
+pub get-held_in : (slots : List Slot) (k : RecordKey) → HasSlot k → get (held_in slots) k ≡ get_or slots (slot_of k) None
+get-held_in slots k h = get-from_entries key_cmp_total (taken_from 0 slots) k ∙ found_at k 0 (slot_of k) slots h (omega arith)
+
+-- nothing is held under any other
+pub get-unslotted : (slots : List Slot) (k : RecordKey) → length slots ≡ 33792 → (IsSlotted k → ⊥) → get (held_in slots) k ≡ None
+get-unslotted slots k long never =
+    get-from_entries key_cmp_total (taken_from 0 slots) k ∙ not_found k 0 slots (λ a low high e. never (subst IsSlotted (sym e) (slotted_at a (omega (arith, high, long)))))
+
+with_member : (k : RecordKey) → HasSlot k → IsSlotted k ⊎ (IsSlotted k → ⊥)
+with_member k h = by_number (cases_lt (member_of k) 1024)
+  where
+    by_number : (member_of k < 1024) ⊎ (1024 ≤ member_of k) → IsSlotted k ⊎ (IsSlotted k → ⊥)
+    by_number (inl below) = inl (record { member = below; slot = h })
+    by_number (inr above) = inr (λ s. absurd (omega (arith, s.member, above)))
+
+pub is_slotted : (k : RecordKey) → IsSlotted k ⊎ (IsSlotted k → ⊥)
+is_slotted (keys.Certificate m) = with_member (keys.Certificate m) tt
+is_slotted (keys.Note m) = with_member (keys.Note m) tt
+is_slotted (keys.Accusation m ring) = by_ring (cases_lt ring.0 31)
+  where
+    by_ring : (ring.0 < 31) ⊎ (31 ≤ ring.0) → IsSlotted (keys.Accusation m ring) ⊎ (IsSlotted (keys.Accusation m ring) → ⊥)
+    by_ring (inl below) = with_member (keys.Accusation m ring) below
+    by_ring (inr above) = inr (λ s. absurd (omega (arith, s.slot, above)))
+
+-- the key of what may be put
+pub slotted_body : (t : ℕ) (b : Body) → t ≤ 15 → HasRing t b → member_of (key_of b) < 1024 → IsSlotted (key_of b)
+slotted_body t (bodies.Certificate c) few ring member = record { member = member; slot = tt }
+slotted_body t (bodies.Note n) few ring member = record { member = member; slot = tt }
+slotted_body t (bodies.Accusation a) few ring member = record { member = member; slot = omega (arith, ring, few) }
+
+-- who holds something has a slot
+pub held-slotted : (slots : List Slot) (k : RecordKey) → length slots ≡ 33792 → IsSome (get (held_in slots) k) → IsSlotted k
+held-slotted slots k long some = by_slot (is_slotted k)
+  where
+    by_slot : IsSlotted k ⊎ (IsSlotted k → ⊥) → IsSlotted k
+    by_slot (inl s) = s
+    by_slot (inr never) = let none = subst IsSome (get-unslotted slots k long never) some in absurd (true≢false (sym none))
+
+-- ---- writing a slot
+
+set_slotted : (slots : List Slot) (k q : RecordKey) (o : Slot) → length slots ≡ 33792 → IsSlotted k → IsSlotted q → (b : Bool) → is_key q k ≡ b → get_or (slice_set slots (slot_of k) o) (slot_of q) None ≡ cond b o (get_or slots (slot_of q) None)
+set_slotted slots k q o long at s true same =
+    let below : slot_of k < length slots = omega (arith, slot_below k at, long) in
+    ap (λ (i : ℕ). get_or (slice_set slots (slot_of k) o) i None) (ap slot_of (is_key-true q k same)) ∙ get_or-set_same slots (slot_of k) o None below
+set_slotted slots k q o long at s false off =
+    let apart : slot_of q ≢ slot_of k = λ e. true≢false (sym (is_key-same k) ∙ ap (λ x. is_key x k) (sym (key_at-slot_of k at.slot) ∙ ap key_at (sym e) ∙ key_at-slot_of q s.slot) ∙ off) in
+    get_or-set_other slots (slot_of k) (slot_of q) o None apart
+
+set_at : (slots : List Slot) (k q : RecordKey) (o : Slot) → length slots ≡ 33792 → IsSlotted k → get (held_in (slice_set slots (slot_of k) o)) q ≡ cond (is_key q k) o (get (held_in slots) q)
+set_at slots k q o long at = by_slot (is_slotted q)
+  where
+    still : length (slice_set slots (slot_of k) o) ≡ 33792
+    still = length-set slots (slot_of k) o ∙ long
+
+    by_slot : IsSlotted q ⊎ (IsSlotted q → ⊥) → get (held_in (slice_set slots (slot_of k) o)) q ≡ cond (is_key q k) o (get (held_in slots) q)
+    by_slot (inl s) =
+        get-held_in (slice_set slots (slot_of k) o) q s.slot ∙ set_slotted slots k q o long at s (is_key q k) refl ∙ ap (cond (is_key q k) o) (sym (get-held_in slots q s.slot))
+    by_slot (inr never) =
+        let apart : is_key q k ≡ false = is_key-other q k (λ e. never (subst IsSlotted (sym e) at)) in
+        get-unslotted (slice_set slots (slot_of k) o) q still never ∙ sym (ap (λ b. cond b o (get (held_in slots) q)) apart ∙ get-unslotted slots q long never)
+
+pub held_in-put : (slots : List Slot) (k : RecordKey) (c : CheckedRecord) → length slots ≡ 33792 → IsSlotted k → held_in (slice_set slots (slot_of k) (Some c)) ≡ insert (held_in slots) k c
+held_in-put slots k c long at =
+    same_map key_cmp_total key_cmp-IsAntisymmetric _ _ (λ q. set_at slots k q (Some c) long at ∙ sym (get-insert key_cmp_total (held_in slots) k c q))
+
+pub held_in-drop : (slots : List Slot) (k : RecordKey) → length slots ≡ 33792 → IsSlotted k → held_in (slice_set slots (slot_of k) None) ≡ remove (held_in slots) k
+held_in-drop slots k long at =
+    same_map key_cmp_total key_cmp-IsAntisymmetric _ _ (λ q. set_at slots k q None long at ∙ sym (get-remove key_cmp_total (held_in slots) k q))
+
+-- nothing is dropped where there is no slot
+pub held_in-no_drop : (slots : List Slot) (k : RecordKey) → length slots ≡ 33792 → (IsSlotted k → ⊥) → held_in slots ≡ remove (held_in slots) k
+held_in-no_drop slots k long never =
+    same_map key_cmp_total key_cmp-IsAntisymmetric _ _ (λ q. by_key q (is_key q k) refl ∙ sym (get-remove key_cmp_total (held_in slots) k q))
+  where
+    by_key : (q : RecordKey) (b : Bool) → is_key q k ≡ b → get (held_in slots) q ≡ cond b None (get (held_in slots) q)
+    by_key q true same = ap (get (held_in slots)) (is_key-true q k same) ∙ get-unslotted slots k long never
+    by_key q false off = refl
+
+-- ---- no slot holds anything
+
+taken_none : (slot : ℕ) (slots : List Slot) → ((j : ℕ) → get_or slots j None ≡ None) → taken_from slot slots ≡ []
+taken_none slot [] none = refl
+taken_none slot (None ∷ slots) none = taken_none (slot + 1) slots (λ j. none (suc j))
+taken_none slot (Some c ∷ slots) none = let wrong : Some c ≡ None = none 0 in absurd (cc)
+
+pub held_in-none : (slots : List Slot) → ((j : ℕ) → get_or slots j None ≡ None) → held_in slots ≡ empty
+held_in-none slots none = ap (λ (es : List (RecordKey × CheckedRecord)). from_entries es) (taken_none 0 slots none)

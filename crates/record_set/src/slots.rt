@@ -1,0 +1,202 @@
+//! The slots in which records are kept: for each member one for its certificate, one for its note, and one for
+//! an accusation against it on each ring.
+
+ghost use Rattle.std.specs.Prelude.{◌≡◌, ℕ, ◌+◌, ◌*◌, ◌<◌, ◌≤◌, ◌++◌, length, IfOk, None, slice_index_or, is_some};
+ghost use Rattle.records.specs.Spelling.{IsBody, HasLength, body_bytes, record_bytes};
+ghost use Rattle.record_set.specs.Held.{key_of};
+ghost use Rattle.record_set.specs.Pages.{bits_where, note_in, entry_with};
+ghost use Rattle.record_set.specs.Slots.{slot_of, member_of, HasSlot, entry_in, no_entry, ready_entries};
+
+use ff_ids::{MEMBERS, Mask, MemberId, NoteBody, RecordKey, Summary, SummaryEntry};
+use records::{Body, Checked, Record};
+use std::alloc::{AllocError, Global};
+
+/// There are at most so many rings.
+pub(crate) const RINGS: u8 = 31;
+/// How many slots a member has.
+const SLOTS_EACH: usize = 33;
+/// How many slots there are.
+const SLOTS: usize = 33_792;
+
+/// The slot of the certificate of the member of this number.
+pub(crate) fn certificate_slot(number: usize) -> usize
+    requires { number < MEMBERS }
+    ensures { result ≡ 33 * number }
+{
+    SLOTS_EACH * number
+}
+
+/// The member of a key: of an accusation the accused.
+pub(crate) fn member_of(key: &RecordKey) -> MemberId
+    ensures { result ≡ member_of key.now }
+{
+    match key {
+        RecordKey::Certificate(member) | RecordKey::Note(member) => *member,
+        RecordKey::Accusation(accused, _) => *accused,
+    }
+}
+
+/// The slot of a key.
+pub(crate) fn slot_of(key: &RecordKey) -> usize
+    requires { HasSlot key.now }
+    ensures value { result ≡ slot_of key.now }
+    ensures range { result < 33792 }
+{
+    match key {
+        RecordKey::Certificate(member) => certificate_slot(member.get() as usize),
+        RecordKey::Note(member) => certificate_slot(member.get() as usize) + 1,
+        RecordKey::Accusation(accused, ring) => {
+            certificate_slot(accused.get() as usize) + 2 + ring.0 as usize
+        }
+    }
+}
+
+/// The key under which what a record says is held.
+pub(crate) fn key_of(body: &Body) -> RecordKey
+    ensures { result ≡ key_of body.now }
+{
+    match body {
+        Body::Certificate(certificate) => RecordKey::Certificate(certificate.member),
+        Body::Note(note) => RecordKey::Note(note.member),
+        Body::Accusation(acc) => RecordKey::Accusation(acc.accused, acc.ring),
+    }
+}
+
+/// How many bytes the body's spelling has.
+fn body_length(body: &Body) -> usize
+    requires { IsBody body.now }
+    ensures value { result ≡ length (body_bytes body.now) }
+    ensures few { result ≤ 61 }
+{
+    match body {
+        Body::Certificate(_) => 61,
+        Body::Note(_) => 15,
+        Body::Accusation(_) => 14,
+    }
+}
+
+/// How many bytes the record's spelling has: the body, the length of the signature in two bytes, and the signature.
+pub(crate) fn spelled_length(rec: &Record) -> usize
+    requires body { IsBody rec.now.body }
+    requires signature { HasLength rec.now.signature }
+    ensures { result ≡ length (record_bytes rec.now) }
+{
+    body_length(&rec.body) + 2 + rec.signature.as_slice().len()
+}
+
+/// Without a record in any slot.
+pub(crate) fn no_slots(alloc: Global) -> Result<Vec<Option<Checked>>, AllocError>
+    ensures all { IfOk result (λ v. length v.items ≡ 33792) }
+    ensures none { IfOk result (λ v. (k : ℕ) → slice_index_or v.items k None ≡ None) }
+{
+    let mut slots = Vec::with_capacity(alloc, SLOTS)?;
+    for _slot in 0..SLOTS {
+        slots.push_reserved(None);
+    }
+    Ok(slots)
+}
+
+/// The entry of a member of which nothing is held.
+fn no_entry(number: u16) -> SummaryEntry
+    requires { number < MEMBERS }
+    ensures { result ≡ no_entry number }
+{
+    SummaryEntry {
+        member: MemberId::new(number),
+        epoch: 0,
+        mask: Mask(0),
+        rings: 0,
+    }
+}
+
+/// The entries of all members, of none of which anything is held.
+pub(crate) fn no_entries(alloc: Global) -> Result<Vec<SummaryEntry>, AllocError>
+    ensures all { IfOk result (λ v. length v.items ≡ 1024) }
+    ensures none { IfOk result (λ v. (k : ℕ) → k < 1024 → slice_index_or v.items k (no_entry k) ≡ no_entry k) }
+{
+    let mut entries = Vec::with_capacity(alloc, MEMBERS as usize)?;
+    for number in 0..MEMBERS {
+        entries.push_reserved(no_entry(number));
+    }
+    Ok(entries)
+}
+
+/// The note in its slot.
+fn note_in(slot: &Option<Checked>) -> Option<NoteBody>
+    ensures { result ≡ note_in slot.now }
+{
+    match slot {
+        Some(kept) => match kept.rec().body {
+            Body::Note(note) => Some(note),
+            _ => None,
+        },
+        None => None,
+    }
+}
+
+/// The set of the rings whose slots, from this one on, hold an accusation.
+fn rings_in(slots: &[Option<Checked>], first: usize) -> u32
+    requires { first + 31 ≤ length slots.now }
+    ensures { result ≡ bits_where (λ r. is_some (slice_index_or slots.now (first + r) None)) 31 }
+{
+    let mut rings = 0;
+    for ring in 0..RINGS {
+        if slots[first + ring as usize].is_some() {
+            rings += 1 << ring;
+        }
+    }
+    rings
+}
+
+/// Appends the ready entries of those of `count` members, from this number on, whose certificate is held.
+pub(crate) fn push_certified(
+    slots: &[Option<Checked>],
+    entries: &[SummaryEntry],
+    first: usize,
+    count: usize,
+    out: &mut Summary,
+)
+    requires slots { length slots.now ≡ 33792 }
+    requires entries { length entries.now ≡ 1024 }
+    requires members { first + count ≤ 1024 }
+    requires room { length out.old.listed + count ≤ 32 }
+    ensures page { out.new.page ≡ out.old.page }
+    ensures listed { out.new.listed ≡ out.old.listed ++ ready_entries slots.now entries.now first count }
+{
+    for index in 0..count {
+        let number = first + index;
+        if slots[certificate_slot(number)].is_some() {
+            out.push(entries[number]);
+        }
+    }
+}
+
+/// The entry of the member, whose note and rings these are.
+fn entry_with(member: MemberId, note: Option<NoteBody>, rings: u32) -> SummaryEntry
+    ensures { result ≡ entry_with member note rings }
+{
+    let (epoch, mask) = match note {
+        Some(note) => (note.epoch.get(), note.mask),
+        None => (0, Mask(0)),
+    };
+    SummaryEntry {
+        member,
+        epoch,
+        mask,
+        rings,
+    }
+}
+
+/// What the slots hold of the member.
+pub(crate) fn fresh_entry(slots: &[Option<Checked>], member: MemberId) -> SummaryEntry
+    requires { length slots.now ≡ 33792 }
+    ensures value { result ≡ entry_in slots.now member }
+    ensures range { member < 1024 }
+{
+    let first = certificate_slot(member.get() as usize);
+    entry_with(
+        member,
+        note_in(&slots[first + 1]),
+        rings_in(slots, first + 2),
+    )
+}
