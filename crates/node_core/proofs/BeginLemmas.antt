@@ -1,0 +1,154 @@
+-- How a life begins.
+use Rattle.std.proofs.Common.{◌≡◌, ℕ, refl, ap, sym, ◌∙◌, List, [], ◌++◌}
+use Rattle.records.specs.declared.Record.{Record}
+use Rattle.records.specs.declared.Body.{Body}
+use Rattle.epoch_store.specs.declared.Stored.{Stored}
+use Rattle.node_rules.specs.Nodes.{Setting, Node, state_of, certificate_of}
+use Rattle.ff_ids.specs.declared.Group.{Group}
+use Rattle.ff_ids.specs.Lives.{opening as life_opening}
+use Rattle.membership.specs.Holds.{Holds}
+use Rattle.detector.specs.Silence.{opening}
+use Rattle.detector.specs.Kept.{StandsFor}
+use Rattle.record_set.specs.Held.{Held, key_cmp, held_under}
+use Rattle.std.specs.Ordering.{nat_cmp}
+use Rattle.validate.specs.Certified.{Certificates, certificate_of as kept_certificate}
+use Rattle.std.specs.FinMap as fin
+use Rattle.std.specs.Option.{option_map}
+use Rattle.node_core.proofs.PlayLemmas.{setting-group, setting-me, own-signed}
+use Rattle.node_rules.proofs.OwnNote.{becomes_member}
+use Rattle.node_rules.specs.Lives.{is_certificate_for}
+use Rattle.node_rules.specs.Replies.{first_mask}
+use Rattle.membership.specs.Life.{has_joined}
+use Rattle.ff_ids.specs.Views.{is_member}
+use Rattle.ff_ids.specs.declared.NoteBody.{NoteBody}
+use Rattle.std.specs.List.{list_any, AllByRecursion}
+use Rattle.lms_tree.specs.declared.key.PublicKey.{PublicKey}
+use Rattle.lms_tree.specs.declared.secret.Secret.{Secret}
+use Rattle.records.specs.declared.CertBody.{CertBody}
+use Rattle.records.specs.declared.Body.TheVariants.{Certificate, Note}
+use Rattle.signer.specs.Signing.{SignerState, stored_after, next_note}
+use Rattle.detector.specs.Kept.{Kept as Probing}
+use Rattle.node_core.specs.Rolls.{AreApart}
+use Rattle.node_core.specs.declared.roll.Roll.{Roll}
+use Rattle.node_core.specs.declared.starting.Ready.{Ready}
+use Rattle.node_core.specs.declared.starting.Parts.{Parts}
+use Rattle.node_core.specs.declared.starting.First.{First}
+use Rattle.node_core.specs.Begins.{HasOpened, IsFirst, MayBegin, kept_in, kept_by}
+use Rattle.std.proofs.Common.{◌∷◌, true}
+use Rattle.std.proofs.Common.{false, Option, None, subst}
+use Rattle.records.specs.Signing.{CheckedRecord}
+use Rattle.node_rules.specs.Calls.{Call, begun, signs, takes, lives, own_record}
+use Rattle.node_rules.specs.Starting.{blank, opened, first_note, started}
+use Rattle.node_core.specs.Told.{Tellings}
+use Rattle.node_core.specs.Signatures.{with_stored}
+use Rattle.node_core.specs.Playing.{Kept, IsNode, IsAt, setting_of}
+use Rattle.node_core.proofs.RollLemmas.{nil-end}
+use Rattle.std.proofs.Common.{length}
+
+pub started-is : (s : Setting) (seed : List ℕ) (certificates : List Record) (stored : Stored) → started s seed certificates stored ≡ signs s (first_note s stored) (opened s seed certificates stored)
+unfolding started
+started-is s seed certificates stored = refl
+
+-- what stands behind what was told before
+pub at-first : (s : Setting) (v : Kept) (c : Call) → IsNode s v c.node → c.told ≡ [] → c.sent ≡ [] → v.telling.before ≡ length v.telling.sent → IsAt s v.telling.events v.telling.sent v c
+at-first s v c is told sent before =
+    record { is = is; told = sym (ap (λ xs. v.telling.events ++ xs) told ∙ nil-end v.telling.events); sent = sym (ap (λ xs. v.telling.sent ++ xs) sent ∙ nil-end v.telling.sent); before = before }
+
+abbrev pub nothing_told : Tellings
+nothing_told = record { events = []; sent = []; before = 0; failed = false }
+
+state-blank : (s : Setting) (seed : List ℕ) (stored : Stored) → state_of s (blank s seed stored) ≡ life_opening []
+unfolding state_of
+state-blank s seed stored = refl
+
+pub none-blank : (s : Setting) (seed : List ℕ) (stored : Stored) (m : ℕ) → certificate_of (blank s seed stored) m ≡ None
+unfolding certificate_of
+none-blank s seed stored m = refl
+
+-- a life with nothing but what its store keeps
+pub at-opening : (s : Setting) (seed : List ℕ) (v : Kept) → s ≡ setting_of v.group v.me v.authority v.signer.key → Holds v.membership (life_opening []) → v.records ≡ fin.empty → v.roster ≡ fin.empty
+    → StandsFor v.detector (opening v.group seed) → v.telling ≡ nothing_told → IsAt s [] [] v (begun (blank s seed v.signer.state))
+at-opening s seed v setting holds records roster probes told =
+    record {
+      is = record {
+        setting = setting;
+        holds = subst (Holds v.membership) (sym (state-blank s seed v.signer.state)) holds;
+        stored = refl;
+        records = λ k. ap (λ (set : Held). option_map (λ x. x.rec) (held_under set k)) records ∙ ap (λ (o : Option CheckedRecord). option_map (λ x. x.rec) o) (fin.get-empty key_cmp k);
+        roster = λ m. ap (λ (r : Certificates). kept_certificate r m) roster ∙ fin.get-empty nat_cmp m ∙ sym (none-blank s seed v.signer.state m);
+        probes = subst (λ (g : Group). StandsFor v.detector (opening g seed)) (sym (setting-group s v.group v.me v.authority v.signer.key setting)) probes;
+      };
+      told = ap (λ (t : Tellings). t.events) told;
+      sent = ap (λ (t : Tellings). t.sent) told;
+      before = ap (λ (t : Tellings). t.before) told;
+    }
+
+-- it doesn't matter what was told
+pub other-told : (s : Setting) (v : Kept) (n : Node) (t : Tellings) → IsNode s v n → IsNode s (record v { telling = t }) n
+other-told s v n t is = record { setting = is.setting; holds = is.holds; stored = is.stored; records = is.records; roster = is.roster; probes = is.probes }
+
+-- ---- the first note is signed
+
+-- the signer has spent an index on the body
+stored-node : (s : Setting) (v : Kept) (c : Call) (b : Body) (signer : SignerState)
+    → IsNode s v c.node → signer.key ≡ v.signer.key → signer.state ≡ stored_after v.signer.state b → IsNode s (record v { signer = signer }) (with_stored b c).node
+unfolding state_of certificate_of
+stored-node s v c b signer n key state =
+    record {
+      setting = n.setting ∙ ap (setting_of v.group v.me v.authority) (sym key);
+      holds = n.holds;
+      stored = state ∙ ap (λ x. stored_after x b) n.stored;
+      records = n.records;
+      roster = n.roster;
+      probes = n.probes;
+    }
+
+first-is : (s : Setting) (group : Group) (me : ℕ) (authority : PublicKey) (key : Secret) (stored : Stored) → s ≡ setting_of group me authority key
+    → next_note stored me (record { 0 = first_mask group.t stored.mask.0 }) ≡ first_note s stored
+first-is s group me authority key stored setting =
+    ap (λ (m : ℕ). next_note stored m (record { 0 = first_mask group.t stored.mask.0 })) (sym (setting-me s group me authority key setting))
+    ∙ ap (λ (g : Group). next_note stored s.me (record { 0 = first_mask g.t stored.mask.0 })) (sym (setting-group s group me authority key setting))
+
+pub may-begin : (s : Setting) (seed : List ℕ) (certificates : List Record) (r : Ready) (p : Parts) (old : SignerState) (f : First) → s ≡ setting_of r.group r.me r.authority old.key
+    → HasOpened r.group seed certificates p → IsFirst old r.signer r.group.t r.me f → old.group ≡ r.group → p.roll ≡ r.roll → p.detector ≡ r.detector
+    → r.index ≡ f.index → r.note ≡ f.note → r.rec ≡ f.rec → MayBegin s seed certificates old.state r
+may-begin s seed certificates r p old f setting has first same roll detector index note rec =
+    let o = has s r.me r.authority old setting in
+    let b : Body = Note f.note in
+    let call = opened s seed certificates old.state in
+    let note-is : Note f.note ≡ Note r.note = ap (λ (n : NoteBody). Note n) (sym note) in
+    let v : Tellings → Kept = kept_in r.group r.me r.authority old p in
+    let is : (t : Tellings) → IsNode s (kept_by r t) (with_stored b call).node = λ t.
+    subst (λ (x : Roll). IsNode s (record (kept_by r t) { membership = x.membership; roster = x.roster; records = x.records }) (with_stored b call).node) roll
+    (subst (λ (d : Probing). IsNode s (record (kept_by r t) { membership = p.roll.membership; roster = p.roll.roster; records = p.roll.records; detector = d }) (with_stored b call).node) detector
+    (stored-node s (v t) call b r.signer (o.is t) first.key first.state)) in
+    record {
+      is = λ t. subst (λ (x : Body). IsNode s (kept_by r t) (with_stored x call).node) note-is (is t);
+      first = sym note-is ∙ first.note ∙ first-is s r.group r.me r.authority old.key old.state setting;
+      index = index ∙ first.index ∙ ap (λ (x : Stored). x.next) (o.is nothing_told).stored;
+      own = ap (λ (x : CheckedRecord). x.rec) (rec ∙ first.rec) ∙ own-signed s (v nothing_told) call.node b (o.is nothing_told) same ∙ ap (λ (x : Body). own_record s call.node x) note-is;
+      told_none = o.told_none;
+      sent_none = o.sent_none;
+    }
+
+certificates-all : (records : List Record) → AreApart records → AllByRecursion (λ r. (x : CertBody) × (r.body ≡ Certificate x)) records
+certificates-all [] apart = tt
+certificates-all (r ∷ records) apart = ((apart.0.cert, apart.0.body), certificates-all records apart.1)
+
+-- the node has joined its own life
+pub own-joined : (group : Group) (me : ℕ) (authority : PublicKey) (signer : SignerState) (seed : List ℕ) (certificates : List Record) (p : Parts)
+    → HasOpened group seed certificates p → AreApart certificates → list_any (λ r. is_certificate_for me r.body) certificates ≡ true → has_joined p.roll.membership me ≡ true
+own-joined group me authority signer seed certificates p has apart own =
+    let s : Setting = setting_of group me authority signer.key in
+    let o = has s me authority signer refl in
+    let who : s.me ≡ me = setting-me s group me authority signer.key refl in
+    let member = becomes_member s certificates (begun (blank s seed signer.state)) (certificates-all certificates apart) (subst (λ (m : ℕ). list_any (λ r. is_certificate_for m r.body) certificates ≡ true) (sym who) own) in
+    sym ((o.is nothing_told).holds.at_number me).member ∙ subst (λ (m : ℕ). is_member (state_of s (opened s seed certificates signer.state).node) m ≡ true) who member
+
+-- a signature sends nothing
+sent-signs : (s : Setting) (b : Body) (c : Call) → (signs s b c).sent ≡ c.sent
+unfolding signs takes lives
+sent-signs s b c = refl
+
+pub sent-started : (s : Setting) (seed : List ℕ) (certificates : List Record) (stored : Stored) → (opened s seed certificates stored).sent ≡ [] → (started s seed certificates stored).sent ≡ []
+sent-started s seed certificates stored none = ap (λ (c : Call). c.sent) (started-is s seed certificates stored) ∙ sent-signs s (first_note s stored) (opened s seed certificates stored) ∙ none

@@ -1,0 +1,231 @@
+-- Pages and what the other side lacks, by what is held.
+use Rattle.std.proofs.Common.{◌≡◌, ◌≢◌, ℕ, zero, suc, ◌+◌, ◌-◌, ◌*◌, ◌/◌, ◌<◌, ◌≤◌, Bool, true, false, not, eqb, inl, inr, List, [], ◌∷◌, ◌++◌, length, take, get_or, map, Option, Some, None, is_some, refl, ap, sym, ◌∙◌, subst, arith, All}
+use Rattle.std.specs.Prelude.{filter, filter_map, flat_map, IsSome, nat_le, ◌&&◌, ◌||◌}
+use Rattle.std.specs.List.{list_all, range_with_len}
+use Rattle.std.specs.List.Sorted.{IsStrictlyIncreasing}
+use Rattle.std.specs.Option.{option_map, option_and_then}
+use Rattle.std.specs.FinMap.{contains_key}
+use Rattle.std.proofs.lemmas.Bool.{cond_both, and_parts, cases_Bool, eqb-true}
+use Rattle.std.proofs.lemmas.Bool.Decides.{nat_tests}
+use Rattle.std.proofs.lemmas.List.FromFn.{get_or-range_with_len, length-range_with_len}
+use Rattle.std.proofs.lemmas.List.Kept.{IsStrictlyIncreasing-filter}
+use Rattle.ff_ids.specs.Summaries.{IsSummary, members_of, page_of_member}
+use Rattle.ff_ids.specs.declared.summary.SummaryEntry.{SummaryEntry}
+use Rattle.ff_ids.specs.declared.summary.Summary.{Summary}
+use Rattle.ff_ids.specs.declared.summary.RecordKey.{RecordKey}
+use Rattle.ff_ids.specs.declared.summary.RecordKey.TheVariants as keys
+use Rattle.records.specs.declared.Record.{Record}
+use Rattle.records.specs.Signing.{CheckedRecord}
+use Rattle.records.specs.Spelling.{record_bytes}
+use Rattle.gossip.specs.Differ.{differ}
+use Rattle.gossip.proofs.Within.{All-differ}
+use Rattle.record_set.specs.Held.{Held, held_under}
+use Rattle.record_set.specs.Pages.{note_of_body, note_in, entry_with, rings_of, entry_of, certified_of, summary_of}
+use Rattle.record_set.specs.Picks.{held_all, spelled, fitting as count_fitting}
+use Rattle.record_set.proofs.BitLemmas.{bits_same}
+use Rattle.record_set.proofs.ListedLemmas.{All-listed_held}
+use Rattle.node_rules.specs.Nodes.{Node, Holding}
+use Rattle.node_rules.specs.Pages.{note_held, rings_held, entry_held, has_certificate, page, fitting, lacking}
+use Rattle.std.specs.Int.{w16, to_be_bytes}
+use Rattle.datagram.specs.declared.Datagram.{Datagram}
+use Rattle.datagram.specs.declared.Datagram.TheVariants as kinds
+use Rattle.datagram.specs.Spelling.{head_bytes, datagram_bytes, IsWritable}
+use Rattle.datagram.proofs.Sizes.{summary_writable}
+use Rattle.datagram.proofs.Readings.{headed}
+use Rattle.journal.specs.declared.event.Event as journal
+use Rattle.node_rules.specs.Nodes.{Setting}
+use Rattle.node_rules.specs.Calls.{Call, sends}
+use Rattle.node_rules.specs.Deliveries.{gives}
+use Rattle.node_core.specs.Playing.{Kept, IsAt, Plays, HoldsRecords}
+use Rattle.node_core.specs.Exchanging.{noted, wanted, lacking_in, IsGiven}
+use Rattle.node_core.proofs.PlayLemmas.{filter-same, setting-me}
+
+some-rec : (o : Option CheckedRecord) → is_some (option_map (λ c. c.rec) o) ≡ is_some o
+some-rec None = refl
+some-rec (Some c) = refl
+
+note-rec : (o : Option CheckedRecord) → option_and_then (λ r. note_of_body r.body) (option_map (λ c. c.rec) o) ≡ note_in o
+note-rec None = refl
+note-rec (Some c) = refl
+
+entry-is : (set : Held) (held : Holding) (m : ℕ) → HoldsRecords set held → entry_held held m ≡ entry_of set m
+unfolding rings_of
+entry-is set held m h =
+    let note : note_held held m ≡ note_in (held_under set (keys.Note m)) = ap (λ o. option_and_then (λ r. note_of_body r.body) o) (sym (h (keys.Note m))) ∙ note-rec (held_under set (keys.Note m)) in
+    let ring : ℕ → RecordKey = λ r. keys.Accusation m (record { 0 = r }) in
+    let rings : rings_held held m ≡ rings_of set m = bits_same _ _ 31 (λ r lt. ap is_some (sym (h (ring r))) ∙ some-rec (held_under set (ring r))) in
+    ap (λ o. entry_with m o (rings_held held m)) note ∙ ap (λ x. entry_with m (note_in (held_under set (keys.Note m))) x) rings
+
+map-same : (f g : ℕ → SummaryEntry) (xs : List ℕ) → ((x : ℕ) → f x ≡ g x) → map f xs ≡ map g xs
+map-same f g [] h = refl
+map-same f g (x ∷ xs) h = rw (h x) (ap (λ ys. g x ∷ ys) (map-same f g xs h))
+
+pub page-is : (set : Held) (n : Node) (number : ℕ) → HoldsRecords set n.held → page n number ≡ summary_of set number
+unfolding page certified_of
+page-is set n number h =
+    let certified : filter (has_certificate n.held) (range_with_len (32 * number) 32) ≡ filter (λ m. contains_key set (keys.Certificate m)) (range_with_len (32 * number) 32) =
+    filter-same (has_certificate n.held) (λ m. contains_key set (keys.Certificate m)) (range_with_len (32 * number) 32) (λ m. ap is_some (sym (h (keys.Certificate m))) ∙ some-rec (held_under set (keys.Certificate m))) in
+    ap (λ xs. record { page = number; listed = map (entry_held n.held) xs }) certified
+    ∙ ap (λ es. record { page = number; listed = es }) (map-same (entry_held n.held) (entry_of set) (filter (λ m. contains_key set (keys.Certificate m)) (range_with_len (32 * number) 32)) (λ m. entry-is set n.held m h))
+
+-- ---- what is lacking
+
+one-held : (held : Holding) (set : Held) (k : RecordKey) (ks : List RecordKey) (o : Option CheckedRecord) → held_under set k ≡ o → option_map (λ c. c.rec) o ≡ held k
+    → filter_map held ks ≡ map (λ c. c.rec) (held_all set ks) → filter_map held (k ∷ ks) ≡ map (λ c. c.rec) (held_all set (k ∷ ks))
+one-held held set k ks None is h rest = rw (is, sym h) rest
+one-held held set k ks (Some c) is h rest = rw (is, sym h) (ap (λ xs. c.rec ∷ xs) rest)
+
+all-held : (held : Holding) (set : Held) (ks : List RecordKey) → HoldsRecords set held → filter_map held ks ≡ map (λ c. c.rec) (held_all set ks)
+all-held held set [] h = refl
+all-held held set (k ∷ ks) h = one-held held set k ks (held_under set k) refl (h k) (all-held held set ks h)
+
+fitting-is : (room : ℕ) (cs : List CheckedRecord) → fitting room (map (λ c. c.rec) cs) ≡ map (λ c. c.rec) (take (count_fitting room cs) cs)
+fitting-is room [] = refl
+fitting-is room (c ∷ cs) =
+    let long : ℕ = length (record_bytes c.rec) in
+    let rest = fitting-is (room - long) cs in
+    let next : 1 + count_fitting (room - long) cs ≡ suc (count_fitting (room - long) cs) = omega arith in
+    elim (cases_Bool (nat_le long room)) [
+      | inl fits ↦ rw fits (ap (λ xs. c.rec ∷ xs) rest ∙ sym (ap (λ (k : ℕ). map (λ x. x.rec) (take k (c ∷ cs))) next))
+      | inr not_fit ↦ rw not_fit refl
+    ]
+
+pub lacking-is : (set : Held) (n : Node) (theirs : Summary) → HoldsRecords set n.held → lacking n theirs ≡ lacking_in set theirs
+unfolding lacking
+lacking-is set n theirs h =
+    ap (λ (s : Summary). fitting 32760 (filter_map n.held (differ s.listed theirs.listed))) (page-is set n theirs.page h)
+    ∙ ap (fitting 32760) (all-held n.held set (differ (summary_of set theirs.page).listed theirs.listed) h)
+    ∙ fitting-is 32760 (wanted set theirs)
+
+-- ---- the keys are held
+
+pub all-wanted-held : (set : Held) (number : ℕ) (theirs : List SummaryEntry) → All (λ k. IsSome (held_under set k)) (differ (summary_of set number).listed theirs)
+all-wanted-held set number theirs =
+    All-differ (λ k. IsSome (held_under set k)) (summary_of set number).listed theirs
+    (λ k d lt. let e = All-listed_held set number k d lt in record { certificate = e.certificate; note = e.note; accusation = e.accusation })
+
+-- ---- bytes
+
+pub spelled-records : (cs : List CheckedRecord) → spelled cs ≡ flat_map record_bytes (map (λ c. c.rec) cs)
+spelled-records [] = refl
+spelled-records (c ∷ cs) = ap (λ xs. record_bytes c.rec ++ xs) (spelled-records cs)
+
+pub length-records : (cs : List CheckedRecord) → length (map (λ c. c.rec) cs) ≡ length cs
+length-records [] = refl
+length-records (c ∷ cs) = ap suc (length-records cs)
+
+pub length-front : {X : Type 0} (n : ℕ) (xs : List X) → n ≤ length xs → length (take n xs) ≡ n
+length-front zero xs h = refl
+length-front (suc n) [] h = absurd (omega (arith, h))
+length-front (suc n) (x ∷ xs) h = ap suc (length-front n xs (omega (arith, h)))
+
+-- ---- a page is a summary
+
+made-in : (set : Held) (number a n : ℕ) (q : ℕ → Bool) → ((m : ℕ) → a ≤ m → m < a + n → m / 32 ≡ number) → All (λ (e : SummaryEntry). page_of_member e.member ≡ number) (map (entry_of set) (filter q (range_with_len a n)))
+made-in set number a zero q each = λ k d h. absurd (omega arith)
+made-in set number a (suc n) q each =
+    let rest = made-in set number (a + 1) n q (λ m low high. each m (omega (arith, low)) (omega (arith, high))) in
+    cond_both (q a) (a ∷ filter q (range_with_len (a + 1) n)) (filter q (range_with_len (a + 1) n)) (λ xs. All (λ (e : SummaryEntry). page_of_member e.member ≡ number) (map (entry_of set) xs))
+    (λ it. first-all (λ (e : SummaryEntry). page_of_member e.member ≡ number) (entry_of set a) (map (entry_of set) (filter q (range_with_len (a + 1) n))) (each a (omega arith) (omega arith)) rest)
+    (λ off. rest)
+  where
+    first-all : {A : Type 0} (P : A → Type 0) (x : A) (xs : List A) → P x → All P xs → All P (x ∷ xs)
+    first-all P x xs here rest zero d h = here
+    first-all P x xs here rest (suc k) d h = rest k d (omega arith)
+
+noted-all : (es : List SummaryEntry) → list_all noted es ≡ true → All (λ (e : SummaryEntry). noted e ≡ true) es
+noted-all [] h = λ k d lt. absurd (omega arith)
+noted-all (e ∷ es) h = both (and_parts (noted e) (list_all noted es) h).0 (noted-all es (and_parts (noted e) (list_all noted es) h).1)
+  where
+    both : noted e ≡ true → All (λ (x : SummaryEntry). noted x ≡ true) es → All (λ (x : SummaryEntry). noted x ≡ true) (e ∷ es)
+    both here rest zero d h = here
+    both here rest (suc k) d h = rest k d (omega arith)
+
+bare : (e : SummaryEntry) → noted e ≡ true → e.epoch ≡ 0 → (e.mask.0 ≡ 0) × (e.rings ≡ 0)
+bare e h none =
+    let two : (eqb e.mask.0 0 && eqb e.rings 0) ≡ true = second (eqb e.epoch 0) (eqb e.mask.0 0 && eqb e.rings 0) h (eqb-from e.epoch none) in
+    let parts = and_parts (eqb e.mask.0 0) (eqb e.rings 0) two in
+    (eqb-true _ _ parts.0, eqb-true _ _ parts.1)
+  where
+    second : (x y : Bool) → (not x || y) ≡ true → x ≡ true → y ≡ true
+    second true y h e = h
+    second false y h e = cc
+
+    eqb-from : (x : ℕ) → x ≡ 0 → eqb x 0 ≡ true
+    eqb-from x e = grind (arith, nat_tests, e)
+
+range_rises : (a n : ℕ) → IsStrictlyIncreasing (range_with_len a n)
+range_rises a n k h =
+    let long = length-range_with_len a n in
+    omega (arith, get_or-range_with_len a n k 0 (omega (arith, h, long)), get_or-range_with_len a n (k + 1) 0 (omega (arith, h, long)))
+
+members_made : (held : Held) (ms : List ℕ) → members_of (map (entry_of held) ms) ≡ ms
+members_made held [] = refl
+members_made held (m ∷ ms) = ap (λ (t : List ℕ). m ∷ t) (members_made held ms)
+
+pub page-keeps : (set : Held) (number : ℕ) → number < 32 → list_all noted (summary_of set number).listed ≡ true → IsSummary (summary_of set number)
+unfolding certified_of
+page-keeps set number below notes =
+    let q : ℕ → Bool = λ m. contains_key set (keys.Certificate m) in
+    let in_page = made-in set number (32 * number) 32 q (λ m low high. omega (arith, low, high)) in
+    let noted_all = noted-all (summary_of set number).listed notes in
+    record {
+      page = below;
+      listed = λ k d lt. record { in_page = in_page k d lt; unnoted = bare (get_or (summary_of set number).listed k d) (noted_all k d lt) };
+      rising = subst IsStrictlyIncreasing (sym (members_made set (filter q (range_with_len (32 * number) 32)))) (IsStrictlyIncreasing-filter q (range_with_len (32 * number) 32) (range_rises (32 * number) 32));
+    }
+
+-- ---- the code's steps
+
+pub page-writable : (from : ℕ) (flag : Bool) (set : Held) (number : ℕ) (s : Summary) → s ≡ summary_of set number → number < 32 → list_all noted s.listed ≡ true → IsWritable (kinds.Summary from flag s)
+page-writable from flag set number s is below notes =
+    subst (λ x. IsWritable (kinds.Summary from flag x)) (sym is) (summary_writable from flag (summary_of set number) (page-keeps set number below (ap (λ x. list_all noted x.listed) (sym is) ∙ notes)))
+
+pub given-is : (from : ℕ) (set : Held) (theirs : Summary) (count : ℕ) (head picked bytes : List ℕ) → count ≡ count_fitting 32760 (wanted set theirs) → count ≢ 0 → count ≤ length (wanted set theirs)
+    → head ≡ head_bytes 4 from ++ to_be_bytes w16 count → picked ≡ spelled (take count (wanted set theirs)) → bytes ≡ head ++ picked → IsGiven from set theirs bytes
+given-is from set theirs count head picked bytes is some within headed_so spelled_so both =
+    let all : List CheckedRecord = wanted set theirs in
+    let records : List Record = map (λ c. c.rec) (take count all) in
+    let same : records ≡ lacking_in set theirs = ap (λ (k : ℕ). map (λ c. c.rec) (take k all)) is in
+    let long : length records ≡ count = length-records (take count all) ∙ length-front count all within in
+    let text : bytes ≡ datagram_bytes (kinds.Records from records) =
+    both ∙ ap (λ x. x ++ picked) (headed_so ∙ ap (λ (k : ℕ). head_bytes 4 from ++ to_be_bytes w16 k) (sym long)) ∙ ap (λ x. (head_bytes 4 from ++ to_be_bytes w16 (length records)) ++ x) (spelled_so ∙ spelled-records (take count all)) ∙ headed from records in
+    record {
+      some = λ none. some (sym long ∙ ap (λ (xs : List Record). length xs) (same ∙ none));
+      spelled = text ∙ ap (λ (xs : List Record). datagram_bytes (kinds.Records from xs)) same;
+    }
+
+pub none-is : (set : Held) (theirs : Summary) → 0 ≡ count_fitting 32760 (wanted set theirs) → lacking_in set theirs ≡ []
+none-is set theirs is = ap (λ (k : ℕ). map (λ c. c.rec) (take k (wanted set theirs))) (sym is)
+
+gives-some : (s : Setting) (to : ℕ) (records : List Record) (c : Call) → records ≢ [] → gives s to records c ≡ sends s (kinds.Records s.me records) c to
+gives-some s to [] c h = absurd (h refl)
+gives-some s to (r ∷ records) c h = refl
+
+pub given-at : (s : Setting) (es : List journal.Event) (os : List (ℕ × List ℕ)) (v v1 : Kept) (c : Call) (to : ℕ) (theirs : Summary) (bytes : List ℕ)
+    → Plays s es os v c → (v1.telling.failed ≡ false → v.telling.failed ≡ false) → IsGiven v.me v.records theirs bytes → ((d : Datagram) → bytes ≡ datagram_bytes d → Plays s es os v1 (sends s d c to))
+    → Plays s es os v1 (gives s to (lacking c.node theirs) c)
+given-at s es os v v1 c to theirs bytes p going given sent = λ fine.
+    let n = (p (going fine)).is in
+    let me : v.me ≡ s.me = sym (setting-me s v.group v.me v.authority v.signer.key n.setting) in
+    let same : lacking c.node theirs ≡ lacking_in v.records theirs = lacking-is v.records c.node theirs n.records in
+    let at = sent (kinds.Records v.me (lacking_in v.records theirs)) given.spelled fine in
+    let at2 = subst (λ m. IsAt s es os v1 (sends s (kinds.Records m (lacking_in v.records theirs)) c to)) me at in
+    subst (λ x. IsAt s es os v1 x) (sym (ap (λ xs. gives s to xs c) same ∙ gives-some s to (lacking_in v.records theirs) c given.some)) at2
+
+pub nothing-at : (s : Setting) (es : List journal.Event) (os : List (ℕ × List ℕ)) (v : Kept) (c : Call) (to : ℕ) (theirs : Summary)
+    → Plays s es os v c → lacking_in v.records theirs ≡ [] → Plays s es os v (gives s to (lacking c.node theirs) c)
+nothing-at s es os v c to theirs p none = λ fine.
+    let same = lacking-is v.records c.node theirs (p fine).is.records ∙ none in
+    subst (λ xs. IsAt s es os v (gives s to xs c)) (sym same) (p fine)
+
+pub page-at : (s : Setting) (es : List journal.Event) (os : List (ℕ × List ℕ)) (v v1 : Kept) (c : Call) (to : ℕ) (flag : Bool) (number : ℕ) (bytes : List ℕ)
+    → Plays s es os v c → (v1.telling.failed ≡ false → v.telling.failed ≡ false) → bytes ≡ datagram_bytes (kinds.Summary v.me flag (summary_of v.records number)) → ((d : Datagram) → bytes ≡ datagram_bytes d → Plays s es os v1 (sends s d c to))
+    → Plays s es os v1 (sends s (kinds.Summary s.me flag (page c.node number)) c to)
+page-at s es os v v1 c to flag number bytes p going spelled sent = λ fine.
+    let n = (p (going fine)).is in
+    let me : v.me ≡ s.me = sym (setting-me s v.group v.me v.authority v.signer.key n.setting) in
+    let same : page c.node number ≡ summary_of v.records number = page-is v.records c.node number n.records in
+    let at = sent (kinds.Summary v.me flag (summary_of v.records number)) spelled fine in
+    let at2 = subst (λ m. IsAt s es os v1 (sends s (kinds.Summary m flag (summary_of v.records number)) c to)) me at in
+    subst (λ x. IsAt s es os v1 (sends s (kinds.Summary s.me flag x) c to)) (sym same) at2

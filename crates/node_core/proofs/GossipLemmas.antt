@@ -1,0 +1,61 @@
+-- Whom a node gossips with, and of which page.
+use Rattle.std.proofs.Common.{◌≡◌, ℕ, ◌+◌, ◌%◌, ◌<◌, Bool, true, false, cond, List, [], ◌∷◌, ◌++◌, Option, Some, None, is_some, filter, length, get_or, take, refl, ap, sym, ◌∙◌}
+use Rattle.std.specs.Prelude.{unwrap_or}
+use Rattle.std.specs.List.{last_or, range_with_len}
+use Rattle.std.specs.Option.{option_or}
+use Rattle.std.proofs.lemmas.Bool.{cond_both}
+use Rattle.std.proofs.lemmas.List.{take_more}
+use Rattle.ff_ids.specs.declared.Group.{Group}
+use Rattle.ff_ids.specs.Masks.{ring_count}
+use Rattle.ff_ids.specs.Views.{all_numbers, successor}
+use Rattle.validate.specs.Certified.{certificate_of as kept_certificate}
+use Rattle.gossip.specs.Partners as gossip
+use Rattle.node_rules.specs.Nodes.{Setting, Node, state_of, certified}
+use Rattle.node_rules.specs.Pages.{partner, page_number}
+use Rattle.node_core.specs.Playing.{Kept, IsNode}
+use Rattle.node_core.proofs.TellingLemmas.{nil-right}
+use Rattle.node_core.proofs.PlayLemmas.{filter-same, filter-append, range-more, setting-group, setting-me}
+
+pub filter-more : (q : ℕ → Bool) (n : ℕ) → cond (q n) (filter q (range_with_len 0 n) ++ n ∷ []) (filter q (range_with_len 0 n)) ≡ filter q (range_with_len 0 (n + 1))
+filter-more q n =
+    let split : filter q (range_with_len 0 (n + 1)) ≡ filter q (range_with_len 0 n) ++ filter q (n ∷ []) = ap (filter q) (range-more n) ∙ filter-append q (range_with_len 0 n) (n ∷ []) in
+    cond_both (q n) (filter q (range_with_len 0 n) ++ n ∷ []) (filter q (range_with_len 0 n)) (λ x. x ≡ filter q (range_with_len 0 (n + 1)))
+    (λ it. sym (split ∙ ap (λ b. filter q (range_with_len 0 n) ++ cond b (n ∷ []) []) it))
+    (λ off. sym (split ∙ ap (λ b. filter q (range_with_len 0 n) ++ cond b (n ∷ []) []) off ∙ nil-right (filter q (range_with_len 0 n))))
+
+last-push : (o : Option ℕ) (xs : List ℕ) (x : ℕ) → last_or o (xs ++ x ∷ []) ≡ Some x
+last-push o [] x = refl
+last-push o (y ∷ xs) x = last-push (Some y) xs x
+
+pub last-more : (xs : List ℕ) (i x : ℕ) → i < length xs → x ≡ get_or xs i x → x ≡ unwrap_or (last_or None (take (i + 1) xs)) 0
+last-more xs i x within here =
+    let longer : take (i + 1) xs ≡ take i xs ++ x ∷ [] = take_more xs i x within ∙ ap (λ (y : ℕ). take i xs ++ y ∷ []) (sym here) in
+    sym (ap (λ o. unwrap_or o 0) (ap (last_or None) longer ∙ last-push None (take i xs) x))
+
+certified-is : (s : Setting) (v : Kept) (n : Node) (numbers : List ℕ) → IsNode s v n → numbers ≡ filter (λ m. is_some (kept_certificate v.roster m)) all_numbers → numbers ≡ certified n
+certified-is s v n numbers is listed = listed ∙ filter-same _ _ all_numbers (λ m. ap is_some (is.roster m))
+
+pub partner-is : (s : Setting) (v : Kept) (n : Node) (numbers : List ℕ) (round : ℕ) → IsNode s v n → numbers ≡ filter (λ m. is_some (kept_certificate v.roster m)) all_numbers
+    → option_or (successor (state_of s n) (round % ring_count v.group.t) v.me) (gossip.in_turn (gossip.others numbers v.me) round) ≡ partner s n round
+unfolding partner
+partner-is s v n numbers round is listed =
+    let g : v.group ≡ s.group = sym (setting-group s v.group v.me v.authority v.signer.key is.setting) in
+    let me : v.me ≡ s.me = sym (setting-me s v.group v.me v.authority v.signer.key is.setting) in
+    ap (λ (x : Group). option_or (successor (state_of s n) (round % ring_count x.t) v.me) (gossip.in_turn (gossip.others numbers v.me) round)) g
+    ∙ ap (λ (m : ℕ). option_or (successor (state_of s n) (round % ring_count s.group.t) m) (gossip.in_turn (gossip.others numbers m) round)) me
+    ∙ ap (λ (xs : List ℕ). option_or (successor (state_of s n) (round % ring_count s.group.t) s.me) (gossip.in_turn (gossip.others xs s.me) round)) (certified-is s v n numbers is listed)
+
+pub partner-some : (o later : Option ℕ) → is_some o ≡ true → o ≡ option_or o later
+partner-some None later h = cc
+partner-some (Some x) later h = refl
+
+pub partner-none : (o later : Option ℕ) → is_some o ≡ false → later ≡ option_or o later
+partner-none None later h = refl
+partner-none (Some x) later h = cc
+
+pub number-is : (s : Setting) (v : Kept) (n : Node) (numbers : List ℕ) (round : ℕ) → IsNode s v n → numbers ≡ filter (λ m. is_some (kept_certificate v.roster m)) all_numbers
+    → gossip.page_of round (ring_count v.group.t) (unwrap_or (last_or None numbers) 0) ≡ page_number s n round
+unfolding page_number
+number-is s v n numbers round is listed =
+    let g : v.group ≡ s.group = sym (setting-group s v.group v.me v.authority v.signer.key is.setting) in
+    ap (λ (x : Group). gossip.page_of round (ring_count x.t) (unwrap_or (last_or None numbers) 0)) g ∙ ap (λ (xs : List ℕ). gossip.page_of round (ring_count s.group.t) (unwrap_or (last_or None xs) 0)) (certified-is s v n numbers is listed)

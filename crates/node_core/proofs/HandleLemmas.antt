@@ -1,0 +1,150 @@
+-- Records that are handled, and answers.
+use Rattle.std.proofs.Common.{zero, ◌≡◌, ◌≢◌, ℕ, ◌+◌, ◌≤◌, ◌<◌, Bool, true, false, cond, eqb, List, [], ◌∷◌, ◌++◌, length, suc, Option, Some, None, refl, ap, sym, ◌∙◌, subst, arith, eq-eqb, Result, Ok, Err, ◌↔◌}
+use Rattle.std.proofs.lemmas.Bool.{false≢true}
+use Rattle.std.proofs.lemmas.Bool.Decides.{nat_tests}
+use Rattle.std.specs.Prelude.{fold, All, take, IsErr}
+use Rattle.std.specs.List.{slice_get}
+use Rattle.std.specs.Option.{option_map}
+use Rattle.ff_ids.specs.declared.AccBody.{AccBody}
+use Rattle.ff_ids.specs.declared.Mask.{Mask}
+use Rattle.ff_ids.specs.declared.Group.{Group}
+use Rattle.ff_ids.specs.declared.Fault.{Fault}
+use Rattle.ff_ids.specs.Masks.{ring_count, enables, good_mask}
+use Rattle.records.specs.declared.CertBody.{CertBody}
+use Rattle.records.specs.declared.Body.TheVariants.{Certificate, Note, Accusation}
+use Rattle.records.specs.declared.Record.{Record}
+use Rattle.epoch_store.specs.declared.Stored.{Stored}
+use Rattle.rebuttal.specs.Rebuttals.{IsEnabledByAnswer}
+use Rattle.rebuttal.proofs.Answering.{good_parts}
+use Rattle.journal.specs.declared.event.Event as journal
+use Rattle.journal.specs.declared.event.What.TheVariants as told
+use Rattle.node_rules.specs.Nodes.{Setting, Node, neighbours, certificate_of}
+use Rattle.node_rules.specs.Replies.{answering_mask}
+use Rattle.node_rules.specs.Refusals.{refusal, refusal_of}
+use Rattle.node_rules.specs.Calls.{Call, tells, takes, wants}
+use Rattle.node_rules.specs.Deliveries.{answer_to, answers, judged, handles, handles_all, hears}
+use Rattle.datagram.specs.declared.Datagram.{Datagram}
+use Rattle.datagram.specs.declared.Datagram.TheVariants as kinds
+use Rattle.node_core.specs.Hears.{RunsHearing}
+use Rattle.datagram.specs.Grammar.{GivesDatagram}
+use Rattle.records.specs.declared.fault.FormFault.{FormFault}
+use Rattle.records.specs.declared.fault.FormFault.TheVariants as forms
+use Rattle.node_rules.proofs.Masks.{answering-is}
+use Rattle.node_rules.proofs.OwnNote.{option_or-none}
+use Rattle.node_core.specs.declared.NodeFault.{NodeFault}
+use Rattle.node_core.specs.Playing.{Kept, IsNode, IsAt, Plays}
+use Rattle.node_core.specs.Neighbours.{addressees}
+use Rattle.node_core.specs.Signatures.{next_own, Runs, RunsAll}
+use Rattle.node_core.proofs.PlayLemmas.{setting-group, setting-me}
+
+pub runs-map : (P Q : Bool → Type 0) (r : Result (Unit {0}) NodeFault) → ((works : Bool) → P works → Q works) → Runs P r → Runs Q r
+runs-map P Q (Ok x) f h = f true h
+runs-map P Q (Err e) f h = f false h
+
+pub runs-all : (P : Bool → Type 0) (r : Result (Unit {0}) NodeFault) → ((works : Bool) → P works) → Runs P r
+runs-all P (Ok x) f = f true
+runs-all P (Err e) f = f false
+
+-- ---- answers
+
+pub not-against : (s : Setting) (v : Kept) (n : Node) (a : AccBody) → IsNode s v n → a.accused ≢ v.me → eqb a.accused s.me ≡ false
+not-against s v n a is apart = ap (λ m. eqb a.accused m) (setting-me s v.group v.me v.authority v.signer.key is.setting) ∙ off a.accused v.me apart
+  where
+    off : (x y : ℕ) → x ≢ y → eqb x y ≡ false
+    off x y h = grind (arith, nat_tests, h)
+
+pub answered-at : (s : Setting) (es : List journal.Event) (os : List (ℕ × List ℕ)) (v v1 : Kept) (c : Call) (a : AccBody) (mask : Mask) (works : Bool)
+    → Plays s es os v c → (v1.telling.failed ≡ false → v.telling.failed ≡ false) → a.accused ≡ v.me → good_mask v.group.t mask.0 ≡ true
+    → ((r : ℕ) → r < ring_count v.group.t → (enables mask.0 r ≡ true) ↔ IsEnabledByAnswer v.group.t v.signer.state.mask.0 a.ring.0 r)
+    → Plays s es os v1 (wants works s (next_own s c.node mask) (addressees s None) c) → Plays s es os v1 (answers works s (Accusation a) c)
+answered-at s es os v v1 c a mask works p going who good exact q = λ fine.
+    let n = (p (going fine)).is in
+    let g : v.group ≡ s.group = sym (setting-group s v.group v.me v.authority v.signer.key n.setting) in
+    let me : v.me ≡ s.me = sym (setting-me s v.group v.me v.authority v.signer.key n.setting) in
+    let value : mask.0 ≡ answering_mask s.group.t c.node.stored.mask.0 a.ring.0 =
+    answering-is v.group.t v.signer.state.mask.0 a.ring.0 mask.0 (good_parts v.group.t mask.0 good).fits exact
+    ∙ ap (λ (x : Group). answering_mask x.t v.signer.state.mask.0 a.ring.0) g ∙ ap (λ (x : Stored). answering_mask s.group.t x.mask.0 a.ring.0) n.stored in
+    let body : next_own s c.node mask ≡ answer_to s c.node.stored a = ap (λ k. Note (record { member = s.me; epoch = c.node.stored.epoch + 1; mask = record { 0 = k } })) value in
+    let same : eqb a.accused s.me ≡ true = eq-eqb a.accused s.me (who ∙ me) in
+    subst (λ b. IsAt s es os v1 (cond b (wants works s (answer_to s c.node.stored a) (neighbours s) c) c)) (sym same)
+    (subst (λ b. IsAt s es os v1 (wants works s b (neighbours s) c)) body (q fine))
+
+-- ---- records
+
+map-none : {X Y : Type 0} (f : X → Y) (o : Option X) → option_map f o ≡ None → o ≡ None
+map-none f None h = refl
+map-none f (Some x) h = cc
+
+pub free-of : (s : Setting) (n : Node) (r : Record) (x : CertBody) → refusal s n r ≡ None → r.body ≡ Certificate x → certificate_of n x.member ≡ None
+unfolding refusal
+free-of s n r x fine is =
+    let fine2 : refusal_of s n r (Certificate x) ≡ None = sym (ap (refusal_of s n r) is) ∙ fine in
+    map-none _ (certificate_of n x.member) (option_or-none _ _ fine2).0
+
+pub handles-accepts : (works : Bool) (s : Setting) (c : Call) (r : Record) → refusal s c.node r ≡ None → handles works s c r ≡ answers works s r.body (takes s r (tells s (told.Took r.body None) c))
+unfolding handles
+handles-accepts works s c r fine = ap (λ f. judged works s f r c) fine
+
+pub handles-refuses : (works : Bool) (s : Setting) (c : Call) (r : Record) (f : Fault) → refusal s c.node r ≡ Some f → handles works s c r ≡ tells s (told.Took r.body (Some f)) c
+unfolding handles
+handles-refuses works s c r f fault = ap (λ f. judged works s f r c) fault
+
+-- ---- records in turn
+
+pub fold-push : {A B : Type 0} (f : B → A → B) (b : B) (xs : List A) (x : A) → fold f b (xs ++ x ∷ []) ≡ f (fold f b xs) x
+fold-push f b [] x = refl
+fold-push f b (y ∷ xs) x = fold-push f (f b y) xs x
+
+-- a record behind these
+pub record IsFound (records done : List Record) (r : Record) : Type 0 where
+  pub found : slice_get records (length done) ≡ Some r
+  pub front : take (length done) records ≡ done
+
+pub found-at : (done rest : List Record) (r : Record) → IsFound (done ++ r ∷ rest) done r
+found-at [] rest r = record { found = refl; front = refl }
+found-at (x ∷ done) rest r = let h = found-at done rest r in record { found = h.found; front = ap (λ xs. x ∷ xs) h.front }
+
+pub all-tail : {X : Type 0} (P : X → Type 0) (x : X) (xs : List X) → All P (x ∷ xs) → All P xs
+all-tail P x xs h = λ k d lt. h (suc k) d (omega (arith, lt))
+
+pub all-head : {X : Type 0} (P : X → Type 0) (x : X) (xs : List X) → All P (x ∷ xs) → P x
+all-head P x xs h = h 0 x (omega arith)
+
+pub err-runs : (P : Call → Type 0) (s : Setting) (records : List Record) (c : Call) (answer : Result (Unit {0}) NodeFault) → IsErr answer
+    → ((i : ℕ) × (r : Record) × ((slice_get records i ≡ Some r) × P (handles false s (handles_all s (take i records) c) r))) → RunsAll P s records c answer
+err-runs P s records c (Ok x) err h = absurd (false≢true err)
+err-runs P s records c (Err e) err h = h
+
+pub no_items : {X : Type 0} (xs : List X) → length xs ≡ 0 → xs ≡ []
+no_items [] h = refl
+no_items (x ∷ xs) h = absurd (omega (arith, h))
+
+pub all-heard : (P : Call → Type 0) (s : Setting) (d : Datagram) (from : ℕ) (records items : List Record) (c : Call) (answer : Result (Unit {0}) NodeFault) → d ≡ kinds.Records from records → items ≡ records
+    → RunsAll P s items c answer → RunsHearing P s (Ok d) c answer
+all-heard P s d from records items c (Ok x) is same ran = subst (λ y. P (hears s (Ok y) c)) (sym is) (subst (λ (xs : List Record). P (handles_all s xs c)) same ran)
+all-heard P s d from records items c (Err e) is same ran =
+    record { from = from; records = items; is = ap (λ y. Ok y) (is ∙ ap (λ (xs : List Record). kinds.Records from xs) (sym same)); place = ran.0; at = ran.1; found = ran.2.0; runs = ran.2.1 }
+
+err-same : (x y : FormFault) → ◌≡◌ {A = Result Datagram FormFault} (Err x) (Err y) → x ≡ y
+err-same x y e = cc
+
+pub fault-heard : (s : Setting) (es : List journal.Event) (os : List (ℕ × List ℕ)) (v1 : Kept) (read : Result Datagram ℕ) (fault : FormFault) (c : Call) → GivesDatagram read (Err fault) → (fault ≡ forms.OutOfMemory → v1.telling.failed ≡ true)
+    → ((place : ℕ) → fault ≡ forms.BadForm place → Plays s es os v1 (tells s (told.BadForm place) c)) → Plays s es os v1 (hears s read c)
+fault-heard s es os v1 (Ok d) fault c gives memory bad = λ fine. absurd (false≢true (sym fine ∙ memory gives.0))
+fault-heard s es os v1 (Err place) fault c gives memory bad = bad place (err-same fault (forms.BadForm place) gives)
+
+ok-same : (x y : Datagram) → x ≡ y → y ≡ x
+ok-same x y e = sym e
+
+pub heard-by : (P : Call → Type 0) (s : Setting) (read : Result Datagram ℕ) (d : Datagram) (c : Call) (answer : Result (Unit {0}) NodeFault) → GivesDatagram read (Ok d) → RunsHearing P s (Ok d) c answer → RunsHearing P s read c answer
+heard-by P s (Ok x) d c answer gives ran = subst (λ y. RunsHearing P s (Ok y) c answer) gives ran
+heard-by P s (Err place) d c answer gives ran = cc
+
+pub bad-same : (x y : ℕ) → forms.BadForm x ≡ forms.BadForm y → x ≡ y
+bad-same x y e = cc
+
+pub take-all : {X : Type 0} (n : ℕ) (xs : List X) → length xs ≤ n → take n xs ≡ xs
+take-all zero [] h = refl
+take-all zero (x ∷ xs) h = absurd (omega (arith, h))
+take-all (suc n) [] h = refl
+take-all (suc n) (x ∷ xs) h = ap (λ ys. x ∷ ys) (take-all n xs (omega (arith, h)))

@@ -1,0 +1,12 @@
+pub mod TellingLemmas
+pub mod PlayLemmas
+pub mod RefusalLemmas
+pub mod HandleLemmas
+pub mod HearLemmas
+pub mod ExchangeLemmas
+pub mod RollLemmas
+pub mod BeginLemmas
+pub mod DeliverLemmas
+pub mod GossipLemmas
+pub mod AccusingLemmas
+pub mod TickLemmas

@@ -1,0 +1,53 @@
+use Rattle.std.proofs.Common.{◌≡◌, List, [], ◌∷◌, ◌++◌, All, length, subst, sym, ap, ◌∙◌, refl, append_assoc, true, false}
+use Rattle.records.specs.declared.Record.{Record}
+use Rattle.records.specs.Spelling.{HasPort}
+use Rattle.node_rules.specs.Calls.{Call}
+use Rattle.node_rules.specs.Deliveries.{handles, handles_all}
+use Rattle.node_core.specs.Playing.{Plays, IsAt}
+use Rattle.node_core.proofs.PlayLemmas.{grows-refl, grows-trans}
+use Rattle.node_core.proofs.HandleLemmas.{fold-push, IsFound, found-at, all-tail, err-runs, no_items}
+use Rattle.node_core.proofs.TellingLemmas.{nil-right}
+use Rattle.node_core.proofs.Node.handle_all.Goals as goal
+
+pub loop-rec-init : goal.loop-rec-init
+loop-rec-init g c =
+    let same : c.into_iter-rec-iterator.result.rest.items ≡ c.args.records.items = c.into_iter-rec-iterator.ensures.into_iter_gives.0 in
+    (record { done = []; split = sym same; plays = λ s es os call p. p; grows = grows-refl c.args.self.now }, refl, subst (λ (xs : List Record). All (λ r. HasPort r.body) xs) (sym same) c.requires)
+
+pub loop-rec-preserved : goal.loop-rec-preserved
+loop-rec-preserved g c =
+    let h = c.loop-rec.invariant.0 in
+    let r : Record = c.in-Some.rec in
+    let next : c.loop-rec.rec-iterator.rest.items ≡ r ∷ c.next.new.self.rest.items = c.in-Some.ensures.steps.0 in (
+      record {
+        done = h.done ++ r ∷ [];
+        split = h.split ∙ ap (λ (xs : List Record). h.done ++ xs) next ∙ sym (append_assoc h.done (r ∷ []) c.next.new.self.rest.items);
+        plays = λ s es os call p. subst (λ (x : Call). Plays s es os c.handle.new.self x) (sym (fold-push (handles true s) call h.done r)) (c.in_ok-handle.ensures.plays s es os (handles_all s h.done call) (h.plays s es os call p));
+        grows = grows-trans c.args.self.now c.loop-rec.self c.handle.new.self h.grows c.handle.ensures.grows;
+      },
+      c.in_ok-handle.ensures.faults ∙ c.loop-rec.invariant.1,
+      all-tail (λ (x : Record). HasPort x.body) r c.next.new.self.rest.items (subst (λ (xs : List Record). All (λ x. HasPort x.body) xs) next c.loop-rec.invariant.2),
+    )
+
+pub returns-in_err-handle-clause-grows : goal.returns-in_err-handle-clause-grows
+returns-in_err-handle-clause-grows g c = grows-trans c.args.self.now c.loop-rec.self c.handle.new.self c.loop-rec.invariant.0.grows c.handle.ensures.grows
+
+pub returns-in_err-handle-clause-plays : goal.returns-in_err-handle-clause-plays
+returns-in_err-handle-clause-plays g c = λ s es os call p.
+    let h = c.loop-rec.invariant.0 in
+    let r : Record = c.in-Some.rec in
+    let P : Call → Type 0 = λ x. Plays s es os c.handle.new.self x in
+    let next : c.loop-rec.rec-iterator.rest.items ≡ r ∷ c.next.new.self.rest.items = c.in-Some.ensures.steps.0 in
+    let whole : c.args.records.items ≡ h.done ++ r ∷ c.next.new.self.rest.items = h.split ∙ ap (λ (xs : List Record). h.done ++ xs) next in
+    let at = subst (λ (xs : List Record). IsFound xs h.done r) (sym whole) (found-at h.done c.next.new.self.rest.items r) in
+    let ran = c.in_err-handle.ensures.plays s es os (handles_all s h.done call) (h.plays s es os call p) in
+    let front = subst (λ (xs : List Record). P (handles false s (handles_all s xs call) r)) (sym at.front) ran in
+    err-runs P s c.args.records.items call c.from_residual.result c.from_residual.ensures.0 (length h.done, r, (at.found, front))
+
+pub returns-clause-plays : goal.returns-clause-plays
+returns-clause-plays g c = λ s es os call p fine.
+    let h = c.loop-rec.invariant.0 in
+    let long : length c.loop-rec.rec-iterator.rest.items ≡ 0 = sym c.loop-rec.rec-iterator.rest.ok.0 ∙ c.in-None.ensures.steps.0 in
+    let none : c.loop-rec.rec-iterator.rest.items ≡ [] = no_items c.loop-rec.rec-iterator.rest.items long in
+    let whole : c.args.records.items ≡ h.done = h.split ∙ ap (λ (xs : List Record). h.done ++ xs) none ∙ nil-right h.done in
+    subst (λ (xs : List Record). IsAt s es os c.loop-rec.self (handles_all s xs call)) (sym whole) (h.plays s es os call p fine)

@@ -1,0 +1,8 @@
+use Rattle.std.proofs.Common.{◌≡◌, All}
+use Rattle.records.specs.Spelling.{HasPort}
+use Rattle.node_core.specs.Handled.{Handled}
+use Rattle.node_core.proofs.Node.handle_all.Given as goal
+
+abbrev pub invariant-loop-rec : goal.invariant-loop-rec
+invariant-loop-rec g l =
+    Handled l.initial.self l.self l.fn.records.items l.rec-iterator.rest.items × (g.D.Disk.faults l.disk ≡ g.D.Disk.faults l.initial.disk) × All (λ r. HasPort r.body) l.rec-iterator.rest.items

@@ -1,0 +1,14 @@
+use Rattle.std.proofs.Common.{subst, sym}
+use Rattle.node_core.specs.Playing.{Plays}
+use Rattle.node_core.specs.contracts.Node.{the_view}
+use Rattle.node_core.specs.Told.{Adds, with_report}
+use Rattle.ff_ids.specs.Steps.{Notes}
+use Rattle.node_core.proofs.PlayLemmas.{lives-at, note-steps}
+use Rattle.node_core.proofs.Node.live_note.Goals as goal
+
+pub returns-clause-plays : goal.returns-clause-plays
+returns-clause-plays c = λ s es os call p fine.
+    let steps = note-steps c.self.inside.group c.self.inside.membership c.put_note-fault.new.self c.put_note-fault.new.out c.args.note c.put_note-fault.result c.self.invariant.membership_group
+    c.put_note-fault.ensures.fault c.put_note-fault.ensures.step c.put_note-fault.ensures.changes c.put_note-fault.ensures.same c.put_note-fault.ensures.emptied in
+    lives-at s es os (the_view c.self.inside) call (Notes c.args.note) c.put_note-fault.new.self c.report.new.records c.report.new.telling c.put_note-fault.new.out
+    (subst (λ v. Plays s es os v call) (sym c.self.view_is) p) steps c.report.ensures.records (subst (λ m. Adds (with_report m c.put_note-fault.new.out) c.self.inside.telling c.report.new.telling) c.now.ensures.moment c.report.ensures.told) fine

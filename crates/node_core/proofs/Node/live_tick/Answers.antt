@@ -1,0 +1,13 @@
+use Rattle.std.proofs.Common.{subst, sym}
+use Rattle.node_core.specs.Playing.{Plays}
+use Rattle.node_core.specs.contracts.Node.{the_view}
+use Rattle.node_core.specs.Told.{Adds, with_report}
+use Rattle.ff_ids.specs.Steps.{Ticks}
+use Rattle.node_core.proofs.PlayLemmas.{lives-at, tick-steps}
+use Rattle.node_core.proofs.Node.live_tick.Goals as goal
+
+pub returns-clause-plays : goal.returns-clause-plays
+returns-clause-plays c = λ s es os call p fine.
+    let steps = tick-steps c.self.inside.group c.self.inside.membership c.tick.new.self c.tick.new.out c.self.invariant.membership_group c.tick.ensures.step c.tick.ensures.changes in
+    lives-at s es os (the_view c.self.inside) call Ticks c.tick.new.self c.report.new.records c.report.new.telling c.tick.new.out
+    (subst (λ v. Plays s es os v call) (sym c.self.view_is) p) steps c.report.ensures.records (subst (λ m. Adds (with_report m c.tick.new.out) c.self.inside.telling c.report.new.telling) c.now.ensures.moment c.report.ensures.told) fine

@@ -1,0 +1,33 @@
+use Rattle.std.proofs.Common.{subst, sym, ◌∙◌}
+use Rattle.node_rules.specs.Calls.{lives}
+use Rattle.node_core.specs.Playing.{Plays, IsAt}
+use Rattle.node_core.specs.contracts.Node.{the_view}
+use Rattle.node_core.proofs.PlayLemmas.{certified-at, quiet-at, join-steps, places-of, still-joined}
+use Rattle.ff_ids.specs.Steps.{Joins}
+use Rattle.node_core.proofs.Node.take_certificate.Goals as goal
+
+pub invariant_of-self : goal.invariant_of-self
+invariant_of-self c =
+    let i = c.self.invariant in
+    record {
+      some = i.some;
+      few = i.few;
+      period = i.period;
+      membership_group = c.add_member-fault.ensures.group ∙ i.membership_group;
+      detector_group = i.detector_group;
+      signer_group = i.signer_group;
+      joined = still-joined c.self.inside.membership c.add_member-fault.new.self c.self.inside.me c.args.cert.member c.hash_places-places.result c.add_member-fault.result i.joined c.add_member-fault.ensures.members c.add_member-fault.ensures.same;
+      good = i.good;
+    }
+
+pub returns-clause-plays : goal.returns-clause-plays
+returns-clause-plays c = λ s es os call p free fine.
+    let v = the_view c.self.inside in
+    let p1 = subst (λ v. Plays s es os v call) (sym c.self.view_is) p in
+    let n = (p1 fine).is in
+    let places = sym (places-of s v call c.args.cert.member n ∙ sym c.hash_places-places.ensures.places) in
+    let steps = join-steps c.self.inside.group c.self.inside.membership c.add_member-fault.new.self c.args.cert.member c.hash_places-places.result c.add_member-fault.result
+    c.add_member-fault.ensures.fault c.add_member-fault.ensures.step c.add_member-fault.ensures.same in
+    let at = quiet-at s es os v call (Joins c.args.cert.member c.hash_places-places.result) c.add_member-fault.new.self p1 steps fine in
+    certified-at s es os (record v { membership = c.add_member-fault.new.self }) call c.args.rec c.args.cert c.put-2.new.self c.put.new.self c.requires.certificate c.put-2.ensures.held c.put.ensures
+    (subst (λ x. IsAt s es os (record v { membership = c.add_member-fault.new.self }) (lives s (Joins c.args.cert.member x) call)) places at)

@@ -1,0 +1,603 @@
+-- A small step of the code is that of the definitions.
+use Rattle.std.proofs.Common.{◌≡◌, ℕ, suc, ◌<◌, ◌+◌, ◌-◌, eqb, Bool, true, false, cond, List, [], ◌∷◌, ◌++◌, Option, Some, None, refl, ap, sym, ◌∙◌, subst, map, length, Result, Ok, Err, OnOk, OnErr}
+use Rattle.std.specs.Prelude.{fold, is_some, filter, filter_map, ◌||◌}
+use Rattle.std.specs.Option.{option_map, option_and_then}
+use Rattle.std.specs.Ordering.{eq_by_cmp, nat_cmp}
+use Rattle.std.specs.FinMap as fin
+use Rattle.std.proofs.lemmas.Bool.{cond_both}
+use Rattle.std.proofs.lemmas.List.{append_assoc}
+use Rattle.std.proofs.Common.{arith, eq-eqb}
+use Rattle.std.proofs.lemmas.Bool.Decides.{nat_tests}
+use Rattle.std.proofs.lemmas.Cmp.{nat_cmp_total}
+use Rattle.ff_ids.specs.declared.RingNo.{RingNo}
+use Rattle.ring_order.specs.Hashed.{hashed_places}
+use Rattle.node_core.proofs.TellingLemmas.{front-refl, front-trans, nil-right, map-append}
+use Rattle.ff_ids.specs.declared.Group.{Group}
+use Rattle.ff_ids.specs.declared.NoteBody.{NoteBody}
+use Rattle.ff_ids.specs.declared.AccBody.{AccBody}
+use Rattle.ff_ids.specs.declared.Fault.{Fault}
+use Rattle.ff_ids.specs.declared.Fault.TheVariants as faults
+use Rattle.ff_ids.specs.declared.summary.RecordKey.{RecordKey}
+use Rattle.ff_ids.specs.declared.summary.RecordKey.TheVariants as keys
+use Rattle.ff_ids.specs.Views.{State, is_member, successor, is_number, all_numbers}
+use Rattle.ff_ids.specs.Faults.{note_fault, accusation_fault, join_fault}
+use Rattle.ff_ids.specs.Steps.{Event, Joins, Notes, Accuses, Ticks, Report, Stepped, step, after_note, after_accusation, after_tick, joined, unless_fault, unchanged, nothing}
+use Rattle.membership.specs.Life.{Life, has_joined}
+use Rattle.membership.specs.Holds.{Holds}
+use Rattle.membership.specs.Reports.{Answers}
+use Rattle.lms_tree.specs.declared.key.PublicKey.{PublicKey}
+use Rattle.lms_tree.specs.declared.secret.Secret.{Secret}
+use Rattle.records.specs.declared.CertBody.{CertBody}
+use Rattle.records.specs.declared.Body.{Body}
+use Rattle.records.specs.declared.Body.TheVariants.{Certificate, Note, Accusation}
+use Rattle.records.specs.declared.Record.{Record}
+use Rattle.records.specs.Signing.{CheckedRecord}
+use Rattle.validate.specs.Certified.{Certificates, certificate_of as kept_certificate}
+use Rattle.record_set.specs.Held.{Held, key_cmp, key_of, held_under}
+use Rattle.record_set.proofs.KeyLemmas.{key_cmp_total}
+use Rattle.detector.specs.Kept.{StandsFor}
+use Rattle.journal.specs.declared.event.Event as journal
+use Rattle.node_rules.specs.Nodes.{Setting, Node, Holding, state_of, event_of, with_record, without, without_ended, key_of_accusation, certificate_in, certificate_of}
+use Rattle.node_rules.specs.Calls.{Call, tells, lives, takes, told_of, sends, sends_to_all, spends, signs, signs_and_sends, own_record, wants, stops, is_used_up}
+use Rattle.node_core.specs.Signatures.{with_stored, next_own}
+use Rattle.datagram.specs.declared.Datagram.TheVariants as kinds
+use Rattle.signer.specs.Signing.{SignerState, stored_after, signed_record, next_note, after_signing}
+use Rattle.signer.specs.declared.SignFault.{SignFault}
+use Rattle.signer.specs.declared.SignFault.TheVariants as refusals
+use Rattle.epoch_store.specs.declared.Stored.{Stored}
+use Rattle.lms_tree.specs.Kinds.{leaf_count}
+use Rattle.ff_ids.specs.declared.Mask.{Mask}
+use Rattle.lms_tree.specs.Lms.{signature_of}
+use Rattle.records.specs.Signing.{signed_bytes}
+use Rattle.datagram.specs.declared.Datagram.{Datagram}
+use Rattle.datagram.specs.Spelling.{datagram_bytes}
+use Rattle.journal.specs.declared.event.What.TheVariants as told
+use Rattle.node_rules.specs.Nodes.{neighbours, neighbours_and}
+use Rattle.node_core.specs.Neighbours.{addressees}
+use Rattle.ff_ids.specs.Masks.{ring_count}
+use Rattle.ff_ids.proofs.MaskLemmas.{range_with_len-push}
+use Rattle.std.specs.List.{list_any, range_with_len}
+use Rattle.node_rules.proofs.Small.{state_of-lives}
+use Rattle.node_rules.proofs.Vouches.{ended-certificate}
+use Rattle.node_core.specs.Told.{Tellings, Adds, with_report, with_sent}
+use Rattle.node_core.specs.Records.{without_all}
+use Rattle.node_core.specs.Playing.{Kept, HoldsRecords, setting_of, IsNode, IsAt, Plays, Grows}
+
+-- ---- what is held
+
+abbrev rec_of : Option CheckedRecord → Option Record
+rec_of o = option_map (λ c. c.rec) o
+
+cond-map : (b : Bool) (x y : Option CheckedRecord) → rec_of (cond b x y) ≡ cond b (rec_of x) (rec_of y)
+cond-map true x y = refl
+cond-map false x y = refl
+
+pub holds-remove : (set : Held) (held : Holding) (k : RecordKey) → HoldsRecords set held → HoldsRecords (fin.remove set k) (without held k)
+holds-remove set held k h = λ q. ap rec_of (fin.get-remove key_cmp_total set k q) ∙ cond-map (eq_by_cmp key_cmp q k) None (held_under set q) ∙ ap (λ x. cond (eq_by_cmp key_cmp q k) None x) (h q)
+
+pub holds-insert : (set : Held) (held : Holding) (c : CheckedRecord) → HoldsRecords set held → HoldsRecords (fin.insert set (key_of c.rec.body) c) (with_record c.rec held)
+holds-insert set held c h =
+    λ q. ap rec_of (fin.get-insert key_cmp_total set (key_of c.rec.body) c q) ∙ cond-map (eq_by_cmp key_cmp q (key_of c.rec.body)) (Some c) (held_under set q) ∙ ap (λ x. cond (eq_by_cmp key_cmp q (key_of c.rec.body)) (Some c.rec) x) (h q)
+
+pub holds-without : (set : Held) (held : Holding) (ended : List AccBody) → HoldsRecords set held → HoldsRecords (without_all set ended) (fold without held (map key_of_accusation ended))
+holds-without set held [] h = h
+holds-without set held (a ∷ ended) h = holds-without (fin.remove set (key_of_accusation a)) (without held (key_of_accusation a)) ended (holds-remove set held (key_of_accusation a) h)
+
+fold-map-append : (held : Holding) (xs ys : List AccBody) → fold without held (map key_of_accusation (xs ++ ys)) ≡ fold without (fold without held (map key_of_accusation xs)) (map key_of_accusation ys)
+fold-map-append held [] ys = refl
+fold-map-append held (x ∷ xs) ys = fold-map-append (without held (key_of_accusation x)) xs ys
+
+pub holds-ended : (set : Held) (held : Holding) (r : Report) → HoldsRecords set held → HoldsRecords (without_all (without_all set r.expired) r.fell) (without_ended r held)
+holds-ended set held r h =
+    let two = holds-without (without_all set r.expired) (fold without held (map key_of_accusation r.expired)) r.fell (holds-without set held r.expired h) in
+    λ q. two q ∙ ap (λ f. f q) (sym (fold-map-append held r.expired r.fell))
+
+-- ---- the setting
+
+pub setting-group : (s : Setting) (g : Group) (me : ℕ) (a : PublicKey) (k : Secret) → s ≡ setting_of g me a k → s.group ≡ g
+unfolding setting_of
+setting-group s g me a k e = ap (λ x. x.group) e
+
+pub setting-me : (s : Setting) (g : Group) (me : ℕ) (a : PublicKey) (k : Secret) → s ≡ setting_of g me a k → s.me ≡ me
+unfolding setting_of
+setting-me s g me a k e = ap (λ x. x.me) e
+
+-- ---- an event of the life
+
+-- What a step of the membership makes of the life, and what it reports.
+pub record Steps (g : Group) (e : Event) (life next : Life) (r : Report) : Type 0 where
+  pub holds : (st : State) → Holds life st → Holds next (step g st e).state
+  pub reports : (st : State) → Holds life st → r ≡ (step g st e).report
+
+record Unlessed (fault : Option Fault) (st : State) (next : Stepped) (life after : Life) (r : Report) : Type 0 where
+  holds : Holds after (unless_fault fault st next).state
+  reports : r ≡ (unless_fault fault st next).report
+
+unlessed : (fault : Option Fault) (answer : Result (Unit {0}) Fault) (st : State) (next : Stepped) (life after : Life) (r : Report)
+    → Answers fault answer → OnOk answer (Holds after next.state) → OnOk answer (r ≡ next.report) → OnErr answer (after ≡ life) → OnErr answer (r ≡ nothing) → Holds life st → Unlessed fault st next life after r
+unlessed None answer st next life after r is ok told same emptied h =
+    record { holds = subst (λ a. OnOk a (Holds after next.state)) is ok; reports = subst (λ a. OnOk a (r ≡ next.report)) is told }
+unlessed (Some fault) answer st next life after r is ok told same emptied h =
+    let stays : after ≡ life = subst (λ a. OnErr a (after ≡ life)) is same in
+    record { holds = subst (λ x. Holds x st) (sym stays) h; reports = subst (λ a. OnErr a (r ≡ nothing)) is emptied }
+
+pub note-steps : (g : Group) (life next : Life) (r : Report) (n : NoteBody) (answer : Result (Unit {0}) Fault) → life.group ≡ g
+    → ((st : State) → Holds life st → Answers (note_fault life.group.t st n) answer)
+    → ((st : State) → Holds life st → OnOk answer (Holds next (after_note st n).state))
+    → ((st : State) → Holds life st → OnOk answer (r ≡ (after_note st n).report))
+    → OnErr answer (next ≡ life) → OnErr answer (r ≡ nothing) → Steps g (Notes n) life next r
+note-steps g life next r n answer same is ok told stays emptied =
+    record {
+      holds = λ st h. (unlessed (note_fault g.t st n) answer st (after_note st n) life next r (faults st h) (ok st h) (told st h) stays emptied h).holds;
+      reports = λ st h. (unlessed (note_fault g.t st n) answer st (after_note st n) life next r (faults st h) (ok st h) (told st h) stays emptied h).reports;
+    }
+  where
+    faults : (st : State) → Holds life st → Answers (note_fault g.t st n) answer
+    faults st h = subst (λ (x : Group). Answers (note_fault x.t st n) answer) same (is st h)
+
+pub accusation-steps : (g : Group) (life next : Life) (a : AccBody) (answer : Result (Unit {0}) Fault) → life.group ≡ g
+    → ((st : State) → Holds life st → Answers (accusation_fault life.group.t st a) answer)
+    → ((st : State) → Holds life st → OnOk answer (Holds next (after_accusation st a)))
+    → OnErr answer (next ≡ life) → Steps g (Accuses a) life next nothing
+accusation-steps g life next a answer same is ok stays =
+    record { holds = λ st h. (all st h).holds; reports = λ st h. (all st h).reports }
+  where
+    both : (answer : Result (Unit {0}) Fault) → OnOk answer (nothing ≡ nothing)
+    both (Ok x) = refl
+    both (Err e) = tt
+
+    neither : (answer : Result (Unit {0}) Fault) → OnErr answer (nothing ≡ nothing)
+    neither (Ok x) = tt
+    neither (Err e) = refl
+
+    all : (st : State) → Holds life st → Unlessed (accusation_fault g.t st a) st (unchanged (after_accusation st a)) life next nothing
+    all st h = unlessed (accusation_fault g.t st a) answer st (unchanged (after_accusation st a)) life next nothing (subst (λ (x : Group). Answers (accusation_fault x.t st a) answer) same (is st h)) (ok st h) (both answer) stays (neither answer) h
+
+pub tick-steps : (g : Group) (life next : Life) (r : Report) → life.group ≡ g
+    → ((st : State) → Holds life st → Holds next (after_tick life.group.timeout st).state)
+    → ((st : State) → Holds life st → r ≡ (after_tick life.group.timeout st).report) → Steps g Ticks life next r
+tick-steps g life next r same ok told =
+    record {
+      holds = λ st h. subst (λ (x : Group). Holds next (after_tick x.timeout st).state) same (ok st h);
+      reports = λ st h. subst (λ (x : Group). r ≡ (after_tick x.timeout st).report) same (told st h);
+    }
+
+pub join-steps : (g : Group) (life next : Life) (m : ℕ) (places : List (List ℕ)) (answer : Result (Unit {0}) Fault)
+    → ((st : State) → Holds life st → Answers (join_fault st m) answer)
+    → ((st : State) → Holds life st → OnOk answer (Holds next (joined st m places)))
+    → OnErr answer (next ≡ life) → Steps g (Joins m places) life next nothing
+join-steps g life next m places answer is ok stays =
+    record { holds = λ st h. (all st h (is_member st m) refl).0; reports = λ st h. (all st h (is_member st m) refl).1 }
+  where
+    all : (st : State) → Holds life st → (b : Bool) → is_member st m ≡ b → Holds next (step g st (Joins m places)).state × (nothing ≡ (step g st (Joins m places)).report)
+    all st h true e =
+        let err : answer ≡ Err faults.AlreadyMember = subst (λ b. Answers (cond b (Some faults.AlreadyMember) None) answer) e (is st h) in
+        let stays2 : next ≡ life = subst (λ a. OnErr a (next ≡ life)) err stays in
+        (rw e (subst (λ x. Holds x st) (sym stays2) h), rw e refl)
+    all st h false e =
+        let fine : answer ≡ Ok tt = subst (λ b. Answers (cond b (Some faults.AlreadyMember) None) answer) e (is st h) in
+        (rw e (subst (λ a. OnOk a (Holds next (joined st m places))) fine (ok st h)), rw e refl)
+
+pub certificate-lives : (s : Setting) (e : Event) (c : Call) (m : ℕ) → certificate_of (lives s e c).node m ≡ certificate_of c.node m
+unfolding lives certificate_of
+certificate-lives s e c m = ap (λ o. option_and_then (λ r. certificate_in r.body) o) (ended-certificate (step s.group (state_of s c.node) e).report c.node.held m)
+
+held-lives : (s : Setting) (e : Event) (c : Call) (r : Report) → r ≡ (step s.group (state_of s c.node) e).report → without_ended r c.node.held ≡ (lives s e c).node.held
+unfolding lives
+held-lives s e c r is = ap (λ x. without_ended x c.node.held) is
+
+told-lives : (s : Setting) (e : Event) (c : Call) → (lives s e c).told ≡ c.told ++ told_of (step s.group (state_of s c.node) e).state.moment (step s.group (state_of s c.node) e).report
+unfolding lives
+told-lives s e c = refl
+
+sent-lives : (s : Setting) (e : Event) (c : Call) → (lives s e c).sent ≡ c.sent
+unfolding lives
+sent-lives s e c = refl
+
+kept-lives : (s : Setting) (e : Event) (c : Call) → ((lives s e c).node.stored ≡ c.node.stored) × ((lives s e c).node.probes ≡ c.node.probes)
+unfolding lives
+kept-lives s e c = (refl, refl)
+
+-- The code makes this step, with what it reports.
+pub lives-at : (s : Setting) (es : List journal.Event) (os : List (ℕ × List ℕ)) (v : Kept) (c : Call) (e : Event) (life : Life) (records : Held) (t : Tellings) (r : Report)
+    → Plays s es os v c → Steps v.group e v.membership life r → records ≡ without_all (without_all v.records r.expired) r.fell → Adds (with_report life.moment r) v.telling t
+    → t.failed ≡ false → IsAt s es os (record v { membership = life; records = records; telling = t }) (lives s e c)
+lives-at s es os v c e life records t r p steps kept told fine =
+    let on = told.going fine in
+    let h = p on.0 in
+    let n = h.is in
+    let g : s.group ≡ v.group = setting-group s v.group v.me v.authority v.signer.key n.setting in
+    let st : State = state_of s c.node in
+    let next : Holds life (step s.group st e).state = subst (λ x. Holds life (step x st e).state) (sym g) (steps.holds st n.holds) in
+    let reported : r ≡ (step s.group st e).report = steps.reports st n.holds ∙ ap (λ x. (step x st e).report) (sym g) in
+    let ended : HoldsRecords records (lives s e c).node.held =
+    subst (λ x. HoldsRecords records x) (held-lives s e c r reported) (subst (λ x. HoldsRecords x (without_ended r c.node.held)) (sym kept) (holds-ended v.records c.node.held r n.records)) in
+    let moment : life.moment ≡ (step s.group st e).state.moment = sym next.moment_same in
+    record {
+      is = record {
+        setting = n.setting;
+        holds = subst (λ x. Holds life x) (sym (state_of-lives s e c)) next;
+        stored = n.stored ∙ sym (kept-lives s e c).0;
+        records = ended;
+        roster = λ m. n.roster m ∙ sym (certificate-lives s e c m);
+        probes = subst (StandsFor v.detector) (sym (kept-lives s e c).1) n.probes;
+      };
+      told = ap (λ x. x.events) on.1 ∙ ap (λ xs. xs ++ told_of life.moment r) h.told ∙ append_assoc es c.told (told_of life.moment r)
+          ∙ ap (λ xs. es ++ (c.told ++ xs)) (ap (λ m. told_of m r) moment ∙ ap (told_of (step s.group st e).state.moment) reported) ∙ ap (λ xs. es ++ xs) (sym (told-lives s e c));
+      sent = ap (λ x. x.sent) on.1 ∙ h.sent ∙ ap (λ xs. os ++ xs) (sym (sent-lives s e c));
+      before = told.before ∙ h.before;
+    }
+
+-- ---- an accepted record
+
+-- The record takes the place of what its key held.
+abbrev pub holding : Record → Call → Call
+holding r c = record c { node = record c.node { held = with_record r c.node.held } }
+
+pub takes-is : (s : Setting) (r : Record) (b : Body) (c : Call) → r.body ≡ b → takes s r c ≡ holding r (lives s (event_of s b) c)
+unfolding takes
+takes-is s r b c is = ap (λ x. holding r (lives s (event_of s x) c)) is
+
+note_key-apart : (m n : ℕ) → eq_by_cmp key_cmp (keys.Certificate m) (keys.Note n) ≡ false
+note_key-apart m n = refl
+
+accusation_key-apart : (m n : ℕ) (ring : RingNo) → eq_by_cmp key_cmp (keys.Certificate m) (keys.Accusation n ring) ≡ false
+accusation_key-apart m n ring = refl
+
+abbrev pub IsNoCertificate : Body → Type 0
+IsNoCertificate (Certificate c) = ⊥
+IsNoCertificate (Note n) = Unit {0}
+IsNoCertificate (Accusation a) = Unit {0}
+
+other-with : (r : Record) (held : Holding) (b : Body) (m : ℕ) → r.body ≡ b → IsNoCertificate b → with_record r held (keys.Certificate m) ≡ held (keys.Certificate m)
+other-with r held (Certificate c) m is other = absurd other
+other-with r held (Note n) m is other = rw is refl
+other-with r held (Accusation a) m is other = rw is refl
+
+state-holding : (s : Setting) (r : Record) (c : Call) → state_of s (holding r c).node ≡ state_of s c.node
+unfolding state_of
+state-holding s r c = refl
+
+certificate-holding : (r : Record) (c : Call) (b : Body) (m : ℕ) → r.body ≡ b → IsNoCertificate b → certificate_of (holding r c).node m ≡ certificate_of c.node m
+unfolding certificate_of
+certificate-holding r c b m is other = ap (λ o. option_and_then (λ x. certificate_in x.body) o) (other-with r c.node.held b m is other)
+
+-- a note or an accusation is held
+pub holding-at : (s : Setting) (es : List journal.Event) (os : List (ℕ × List ℕ)) (v : Kept) (c : Call) (checked : CheckedRecord) (b : Body) (records : Held)
+    → checked.rec.body ≡ b → IsNoCertificate b → records ≡ fin.insert v.records (key_of checked.rec.body) checked → IsAt s es os v c → IsAt s es os (record v { records = records }) (holding checked.rec c)
+holding-at s es os v c checked b records is other kept h =
+    let n = h.is in
+    record {
+      is = record {
+        setting = n.setting;
+        holds = subst (Holds v.membership) (sym (state-holding s checked.rec c)) n.holds;
+        stored = n.stored;
+        records = subst (λ x. HoldsRecords x (with_record checked.rec c.node.held)) (sym kept) (holds-insert v.records c.node.held checked n.records);
+        roster = λ m. n.roster m ∙ sym (certificate-holding checked.rec c b m is other);
+        probes = n.probes;
+      };
+      told = h.told;
+      sent = h.sent;
+      before = h.before;
+    }
+
+pub takes-at : (s : Setting) (es : List journal.Event) (os : List (ℕ × List ℕ)) (v : Kept) (c : Call) (checked : CheckedRecord) (b : Body) (records : Held)
+    → checked.rec.body ≡ b → IsNoCertificate b → records ≡ fin.insert v.records (key_of checked.rec.body) checked → IsAt s es os v (lives s (event_of s b) c) → IsAt s es os (record v { records = records }) (takes s checked.rec c)
+takes-at s es os v c checked b records is other kept h =
+    subst (IsAt s es os (record v { records = records })) (sym (takes-is s checked.rec b c is)) (holding-at s es os v (lives s (event_of s b) c) checked b records is other kept h)
+
+adds-nothing : (moment : ℕ) (t : Tellings) → Adds (with_report moment nothing) t t
+adds-nothing moment t = record { going = λ ok. (ok, ap (λ xs. record t { events = xs }) (sym (nil-right t.events))); events = front-refl t.events; sent = front-refl t.sent; before = refl }
+
+-- an event that reports nothing
+pub quiet-at : (s : Setting) (es : List journal.Event) (os : List (ℕ × List ℕ)) (v : Kept) (c : Call) (e : Event) (life : Life)
+    → Plays s es os v c → Steps v.group e v.membership life nothing → v.telling.failed ≡ false → IsAt s es os (record v { membership = life }) (lives s e c)
+quiet-at s es os v c e life p steps fine = lives-at s es os v c e life v.records v.telling nothing p steps refl (adds-nothing life.moment v.telling) fine
+
+-- ---- a certificate
+
+same_number : (a b : ℕ) → eq_by_cmp key_cmp (keys.Certificate a) (keys.Certificate b) ≡ eq_by_cmp nat_cmp a b
+same_number a b = grind (arith, nat_tests)
+
+certificate-cond : (b : Bool) (r : Record) (o : Option Record) (c : CertBody) → r.body ≡ Certificate c → option_and_then (λ x. certificate_in x.body) (cond b (Some r) o) ≡ cond b (Some c) (option_and_then (λ x. certificate_in x.body) o)
+certificate-cond true r o c is = rw is refl
+certificate-cond false r o c is = refl
+
+pub certificate-held : (r : Record) (c : Call) (x : CertBody) (m : ℕ) → r.body ≡ Certificate x → certificate_of (holding r c).node m ≡ cond (eq_by_cmp nat_cmp m x.member) (Some x) (certificate_of c.node m)
+unfolding certificate_of
+certificate-held r c x m is =
+    let at : eq_by_cmp key_cmp (keys.Certificate m) (key_of r.body) ≡ eq_by_cmp nat_cmp m x.member = ap (λ b. eq_by_cmp key_cmp (keys.Certificate m) (key_of b)) is ∙ same_number m x.member in
+    ap (λ b. option_and_then (λ y. certificate_in y.body) (cond b (Some r) (c.node.held (keys.Certificate m)))) at ∙ certificate-cond (eq_by_cmp nat_cmp m x.member) r (c.node.held (keys.Certificate m)) x is
+
+pub certified-at : (s : Setting) (es : List journal.Event) (os : List (ℕ × List ℕ)) (v : Kept) (c : Call) (checked : CheckedRecord) (x : CertBody) (records : Held) (roster : Certificates)
+    → checked.rec.body ≡ Certificate x → records ≡ fin.insert v.records (key_of checked.rec.body) checked → roster ≡ fin.insert v.roster x.member x
+    → IsAt s es os v (lives s (Joins x.member (s.places x.member)) c) → IsAt s es os (record v { records = records; roster = roster }) (takes s checked.rec c)
+certified-at s es os v c checked x records roster is kept listed h =
+    let n = h.is in
+    let c1 : Call = lives s (Joins x.member (s.places x.member)) c in
+    let at : IsAt s es os (record v { records = records; roster = roster }) (holding checked.rec c1) =
+    record {
+      is = record {
+        setting = n.setting;
+        holds = subst (Holds v.membership) (sym (state-holding s checked.rec c1)) n.holds;
+        stored = n.stored;
+        records = subst (λ y. HoldsRecords y (with_record checked.rec c1.node.held)) (sym kept) (holds-insert v.records c1.node.held checked n.records);
+        roster = λ m. ap (λ y. kept_certificate y m) listed ∙ fin.get-insert nat_cmp_total v.roster x.member x m ∙ ap (λ o. cond (eq_by_cmp nat_cmp m x.member) (Some x) o) (n.roster m) ∙ sym (certificate-held checked.rec c1 x m is);
+        probes = n.probes;
+      };
+      told = h.told;
+      sent = h.sent;
+      before = h.before;
+    } in
+    subst (IsAt s es os (record v { records = records; roster = roster })) (sym (takes-is s checked.rec (Certificate x) c is)) at
+
+pub places-of : (s : Setting) (v : Kept) (c : Call) (m : ℕ) → IsNode s v c.node → s.places m ≡ hashed_places v.group.tag v.group.t m
+unfolding setting_of
+places-of s v c m n = ap (λ x. x.places m) n.setting
+
+pub still-joined : (life next : Life) (me m : ℕ) (places : List (List ℕ)) (answer : Result (Unit {0}) Fault) → has_joined life me ≡ true → OnOk answer (next.places ≡ fin.insert life.places m places) → OnErr answer (next ≡ life) → has_joined next me ≡ true
+still-joined life next me m places (Ok x) h ok err =
+    ap (λ ps. fin.contains_key ps me) ok ∙ ap is_some (fin.get-insert nat_cmp_total life.places m places me) ∙ some-cond (eq_by_cmp nat_cmp me m) places (fin.get life.places me) h
+  where
+    some-cond : (b : Bool) (x : List (List ℕ)) (o : Option (List (List ℕ))) → is_some o ≡ true → is_some (cond b (Some x) o) ≡ true
+    some-cond true x o h = refl
+    some-cond false x o h = h
+still-joined life next me m places (Err e) h ok err = ap (λ l. has_joined l me) err ∙ h
+
+-- ---- a datagram
+
+pub length-append : {X : Type 0} (xs ys : List X) → length (xs ++ ys) ≡ length xs + length ys
+length-append [] ys = omega arith
+length-append (x ∷ xs) ys = omega (arith, length-append xs ys)
+
+pub sends-at : (s : Setting) (es : List journal.Event) (os : List (ℕ × List ℕ)) (v : Kept) (c : Call) (d : Datagram) (to moment : ℕ) (bytes : List ℕ) (t : Tellings)
+    → Plays s es os v c → bytes ≡ datagram_bytes d → moment ≡ v.membership.moment → Adds (with_sent moment bytes to) v.telling t → t.failed ≡ false → IsAt s es os (record v { telling = t }) (sends s d c to)
+unfolding sends
+sends-at s es os v c d to moment bytes t p spelled now adds fine =
+    let on = adds.going fine in
+    let h = p on.0 in
+    let n = h.is in
+    let at : moment ≡ (state_of s c.node).moment = now ∙ sym n.holds.moment_same in
+    let number : length v.telling.sent - v.telling.before ≡ length c.sent =
+    omega (arith, ap (λ (xs : List (ℕ × List ℕ)). length xs) h.sent, length-append os c.sent, h.before) in
+    let event : ℕ → ℕ → List ℕ → journal.Event = λ m k b. record { moment = m; what = told.Sent k to b } in
+    let same : event moment (length v.telling.sent - v.telling.before) bytes ≡ event (state_of s c.node).moment (length c.sent) (datagram_bytes d) =
+    ap (λ m. event m (length v.telling.sent - v.telling.before) bytes) at ∙ ap (λ k. event (state_of s c.node).moment k bytes) number ∙ ap (λ b. event (state_of s c.node).moment (length c.sent) b) spelled in
+    record {
+      is = record { setting = n.setting; holds = n.holds; stored = n.stored; records = n.records; roster = n.roster; probes = n.probes };
+      told = ap (λ x. x.events) on.1 ∙ ap (λ xs. xs ++ event moment (length v.telling.sent - v.telling.before) bytes ∷ []) h.told ∙ append_assoc es c.told _ ∙ ap (λ e. es ++ (c.told ++ e ∷ [])) same;
+      sent = ap (λ x. x.sent) on.1 ∙ ap (λ xs. xs ++ (to, bytes) ∷ []) h.sent ∙ append_assoc os c.sent _ ∙ ap (λ b. os ++ (c.sent ++ (to, b) ∷ [])) spelled;
+      before = adds.before ∙ h.before;
+    }
+
+-- ---- neighbours
+
+any-one : (f : ℕ → Option ℕ) (rings : List ℕ) (m r : ℕ) (o : Option ℕ) → f r ≡ o → list_any (λ x. eqb x m) (filter_map f rings) ≡ list_any (λ o. is_number o m) (map f rings)
+    → list_any (λ x. eqb x m) (filter_map f (r ∷ rings)) ≡ list_any (λ o. is_number o m) (map f (r ∷ rings))
+any-one f rings m r None e h = rw e h
+any-one f rings m r (Some x) e h = rw e (ap (λ b. eqb x m || b) h)
+
+any-filter_map : (f : ℕ → Option ℕ) (rings : List ℕ) (m : ℕ) → list_any (λ x. eqb x m) (filter_map f rings) ≡ list_any (λ o. is_number o m) (map f rings)
+any-filter_map f [] m = refl
+any-filter_map f (r ∷ rings) m = any-one f rings m r (f r) refl (any-filter_map f rings m)
+
+pub filter-same : (p q : ℕ → Bool) (xs : List ℕ) → ((x : ℕ) → p x ≡ q x) → filter p xs ≡ filter q xs
+filter-same p q [] h = refl
+filter-same p q (x ∷ xs) h = rw (h x) (ap (λ ys. cond (q x) (x ∷ ys) ys) (filter-same p q xs h))
+
+abbrev pub listed_on : Group → ℕ → State → Option ℕ → List (Option ℕ)
+listed_on g me st also = also ∷ map (λ ring. successor st ring me) (range_with_len 0 (ring_count g.t))
+
+pub addressees-are : (s : Setting) (st : State) (also : Option ℕ) → filter (λ m. list_any (λ o. is_number o m) (listed_on s.group s.me st also)) all_numbers ≡ addressees s also st
+unfolding neighbours neighbours_and
+addressees-are s st None = filter-same _ _ all_numbers (λ m. sym (any-filter_map (λ ring. successor st ring s.me) (range_with_len 0 (ring_count s.group.t)) m))
+addressees-are s st (Some x) = filter-same _ _ all_numbers (λ m. ap (λ b. eqb x m || b) (sym (any-filter_map (λ ring. successor st ring s.me) (range_with_len 0 (ring_count s.group.t)) m)))
+
+abbrev pub wanted_of : List (Option ℕ) → ℕ → List ℕ
+wanted_of listed n = filter (λ m. list_any (λ o. is_number o m) listed) (range_with_len 0 n)
+
+pub filter-append : {X : Type 0} (p : X → Bool) (xs ys : List X) → filter p (xs ++ ys) ≡ filter p xs ++ filter p ys
+filter-append p [] ys = refl
+filter-append p (x ∷ xs) ys =
+    cond_both (p x) (x ∷ filter p (xs ++ ys)) (filter p (xs ++ ys)) (λ zs. zs ≡ cond (p x) (x ∷ filter p xs) (filter p xs) ++ filter p ys)
+    (λ it. rw it (ap (λ zs. x ∷ zs) (filter-append p xs ys)))
+    (λ off. rw off (filter-append p xs ys))
+
+fold-append : {A B : Type 0} (f : B → A → B) (b : B) (xs ys : List A) → fold f b (xs ++ ys) ≡ fold f (fold f b xs) ys
+fold-append f b [] ys = refl
+fold-append f b (x ∷ xs) ys = fold-append f (f b x) xs ys
+
+pub range-more : (n : ℕ) → range_with_len 0 (n + 1) ≡ range_with_len 0 n ++ n ∷ []
+range-more n =
+    let next : n + 1 ≡ suc n = omega arith in
+    let last : 0 + n ≡ n = omega arith in
+    ap (λ (k : ℕ). range_with_len 0 k) next ∙ range_with_len-push 0 n ∙ ap (λ (k : ℕ). range_with_len 0 n ++ k ∷ []) last
+
+pub map-more : {Y : Type 0} (f : ℕ → Y) (n : ℕ) → map f (range_with_len 0 (n + 1)) ≡ map f (range_with_len 0 n) ++ f n ∷ []
+map-more f n = ap (map f) (range-more n) ∙ map-append f (range_with_len 0 n) (n ∷ [])
+
+-- one more number
+pub sends-more : (s : Setting) (listed : List (Option ℕ)) (n : ℕ) (d : Datagram) (c : Call)
+    → cond (list_any (λ o. is_number o n) listed) (sends s d (sends_to_all s (wanted_of listed n) d c) n) (sends_to_all s (wanted_of listed n) d c) ≡ sends_to_all s (wanted_of listed (n + 1)) d c
+sends-more s listed n d c =
+    let wanted : ℕ → Bool = λ m. list_any (λ o. is_number o m) listed in
+    let longer : range_with_len 0 (n + 1) ≡ range_with_len 0 n ++ n ∷ [] = range-more n in
+    let split : wanted_of listed (n + 1) ≡ wanted_of listed n ++ filter wanted (n ∷ []) = ap (filter wanted) longer ∙ filter-append wanted (range_with_len 0 n) (n ∷ []) in
+    cond_both (wanted n) (sends s d (sends_to_all s (wanted_of listed n) d c) n) (sends_to_all s (wanted_of listed n) d c) (λ x. x ≡ sends_to_all s (wanted_of listed (n + 1)) d c)
+    (λ it. sym (ap (λ xs. sends_to_all s xs d c) (split ∙ ap (λ b. wanted_of listed n ++ cond b (n ∷ []) []) it) ∙ fold-append (sends s d) c (wanted_of listed n) (n ∷ [])))
+    (λ off. sym (ap (λ xs. sends_to_all s xs d c) (split ∙ ap (λ b. wanted_of listed n ++ cond b (n ∷ []) []) off ∙ nil-right (wanted_of listed n))))
+
+pub grows-trans : (a b c : Kept) → Grows a b → Grows b c → Grows a c
+grows-trans a b c p q =
+    record {
+      going = λ ok. p.going (q.going ok);
+      events = front-trans a.telling.events b.telling.events c.telling.events p.events q.events;
+      sent = front-trans a.telling.sent b.telling.sent c.telling.sent p.sent q.sent;
+      before = q.before ∙ p.before;
+      ended = q.ended ∙ p.ended;
+      group = q.group ∙ p.group;
+      me = q.me ∙ p.me;
+    }
+
+pub grows-refl : (a : Kept) → Grows a a
+grows-refl a = record { going = λ ok. ok; events = front-refl a.telling.events; sent = front-refl a.telling.sent; before = refl; ended = refl; group = refl; me = refl }
+
+-- the list of all that are wanted is that of the addressees
+pub all-wanted : (s : Setting) (v : Kept) (n : Node) (also : Option ℕ) (listed : List (Option ℕ)) → IsNode s v n → v.membership.group ≡ v.group
+    → ((st : State) → Holds v.membership st → listed ≡ also ∷ map (λ ring. successor st ring v.me) (range_with_len 0 (ring_count v.membership.group.t)))
+    → wanted_of listed 1024 ≡ addressees s also (state_of s n)
+unfolding all_numbers
+all-wanted s v n also listed is same h =
+    let st : State = state_of s n in
+    let g : s.group ≡ v.group = setting-group s v.group v.me v.authority v.signer.key is.setting in
+    let m : s.me ≡ v.me = setting-me s v.group v.me v.authority v.signer.key is.setting in
+    let these : listed ≡ listed_on s.group s.me st also =
+    h st is.holds ∙ ap (λ (x : Group). listed_on x v.me st also) (same ∙ sym g) ∙ ap (λ x. listed_on s.group x st also) (sym m) in
+    ap (λ xs. wanted_of xs 1024) these ∙ addressees-are s st also
+
+-- ---- signatures
+
+pub spends-is : (s : Setting) (b : Body) (c : Call) → spends s b c ≡ tells s (told.Spent c.node.stored.next b) (with_stored b c)
+unfolding state_of
+spends-is s b c = refl
+
+pub signs-is : (s : Setting) (b : Body) (c : Call) → signs s b c ≡ takes s (own_record s c.node b) (spends s b c)
+unfolding signs
+signs-is s b c = refl
+
+sends-own : (s : Setting) (b : Body) (also : Option ℕ) (c : Call) → signs_and_sends s b (addressees s also) c ≡ sends_to_all s (addressees s also (state_of s (signs s b c).node)) (kinds.Records s.me (own_record s c.node b ∷ [])) (signs s b c)
+unfolding signs_and_sends
+sends-own s b also c = refl
+
+pub passed-on : (s : Setting) (es : List journal.Event) (os : List (ℕ × List ℕ)) (c : Call) (b : Body) (also : Option ℕ) (v0 v1 v2 v3 : Kept) (index : ℕ) (r : Record) (bytes : List ℕ)
+    → Plays s es os v0 (with_stored b c) → index ≡ c.node.stored.next → r ≡ own_record s c.node b
+    → (Plays s es os v0 (with_stored b c) → Plays s es os v1 (tells s (told.Spent index b) (with_stored b c)))
+    → ((x : Call) → Plays s es os v1 x → Plays s es os v2 (takes s r x))
+    → ((x : Call) (d : Datagram) → Plays s es os v2 x → bytes ≡ datagram_bytes d → Plays s es os v3 (sends_to_all s (addressees s also (state_of s x.node)) d x))
+    → bytes ≡ datagram_bytes (kinds.Records v0.me (r ∷ [])) → (v3.telling.failed ≡ false → v0.telling.failed ≡ false)
+    → Plays s es os v3 (signs_and_sends s b (addressees s also) c)
+passed-on s es os c b also v0 v1 v2 v3 index r bytes p at own told_it taken sent spelled going = λ fine.
+    let n = (p (going fine)).is in
+    let me : v0.me ≡ s.me = sym (setting-me s v0.group v0.me v0.authority v0.signer.key n.setting) in
+    let p1 : Plays s es os v1 (spends s b c) = subst (λ x. Plays s es os v1 x) (ap (λ k. tells s (told.Spent k b) (with_stored b c)) at ∙ sym (spends-is s b c)) (told_it p) in
+    let p2 : Plays s es os v2 (signs s b c) = subst (λ x. Plays s es os v2 x) (ap (λ x. takes s x (spends s b c)) own ∙ sym (signs-is s b c)) (taken (spends s b c) p1) in
+    let d : Datagram = kinds.Records s.me (own_record s c.node b ∷ []) in
+    let spelled2 : bytes ≡ datagram_bytes d = spelled ∙ ap (λ m. datagram_bytes (kinds.Records m (r ∷ []))) me ∙ ap (λ x. datagram_bytes (kinds.Records s.me (x ∷ []))) own in
+    subst (λ x. IsAt s es os v3 x) (sym (sends-own s b also c)) (sent (signs s b c) d p2 spelled2 fine)
+
+-- the signer has spent an index on the body
+pub stored-at : (s : Setting) (es : List journal.Event) (os : List (ℕ × List ℕ)) (v : Kept) (c : Call) (b : Body) (signer : SignerState)
+    → Plays s es os v c → signer.key ≡ v.signer.key → signer.state ≡ stored_after v.signer.state b → Plays s es os (record v { signer = signer }) (with_stored b c)
+unfolding state_of certificate_of
+stored-at s es os v c b signer p key state = λ fine.
+    let h = p fine in
+    let n = h.is in
+    record {
+      is = record {
+        setting = n.setting ∙ ap (setting_of v.group v.me v.authority) (sym key);
+        holds = n.holds;
+        stored = state ∙ ap (λ x. stored_after x b) n.stored;
+        records = n.records;
+        roster = n.roster;
+        probes = n.probes;
+      };
+      told = h.told;
+      sent = h.sent;
+      before = h.before;
+    }
+
+pub own-signed : (s : Setting) (v : Kept) (n : Node) (b : Body) → IsNode s v n → v.signer.group ≡ v.group → (signed_record v.signer b).rec ≡ own_record s n b
+unfolding setting_of
+own-signed s v n b is same =
+    let rec-with : (ℕ → Body → List ℕ) → ℕ → Record = λ f k. record { body = b; signature = f k b } in
+    ap (λ (g : Group). record { body = b; signature = signature_of v.signer.key v.signer.state.next (signed_bytes g.tag g.t b) }) same
+    ∙ ap (λ k. rec-with (λ index body. signature_of v.signer.key index (signed_bytes v.group.tag v.group.t body)) k) (ap (λ x. x.next) is.stored)
+    ∙ ap (λ (x : Setting). rec-with x.signature n.stored.next) (sym is.setting)
+
+pub wants-signed : (s : Setting) (b : Body) (also : Option ℕ) (c : Call) → is_used_up s c.node ≡ false → wants true s b (addressees s also) c ≡ signs_and_sends s b (addressees s also) c
+unfolding wants
+wants-signed s b also c free = rw free refl
+
+pub wants-used_up : (s : Setting) (b : Body) (also : Option ℕ) (c : Call) → is_used_up s c.node ≡ true → wants true s b (addressees s also) c ≡ tells s (told.Exhausted c.node.stored.next) c
+unfolding wants
+wants-used_up s b also c full = rw full refl
+
+pub wants-stopped : (s : Setting) (b : Body) (also : Option ℕ) (c : Call) → is_used_up s c.node ≡ false → wants false s b (addressees s also) c ≡ stops s c
+unfolding wants
+wants-stopped s b also c free = rw free refl
+
+used-up-is : (s : Setting) (v : Kept) (n : Node) → IsNode s v n → is_used_up s n ≡ eqb v.signer.state.next (leaf_count v.signer.key.tree)
+unfolding setting_of
+used-up-is s v n is = ap (λ (x : Setting). eqb n.stored.next x.indexes) is.setting ∙ ap (λ (x : Stored). eqb x.next (leaf_count v.signer.key.tree)) (sym is.stored)
+
+pub free-below : (s : Setting) (v : Kept) (n : Node) → IsNode s v n → v.signer.state.next < leaf_count v.signer.key.tree → is_used_up s n ≡ false
+free-below s v n is lt = used-up-is s v n is ∙ apart v.signer.state.next (leaf_count v.signer.key.tree) lt
+  where
+    apart : (a b : ℕ) → a < b → eqb a b ≡ false
+    apart a b lt = grind (arith, nat_tests, lt)
+
+pub full-at : (s : Setting) (v : Kept) (n : Node) → IsNode s v n → v.signer.state.next ≡ leaf_count v.signer.key.tree → is_used_up s n ≡ true
+full-at s v n is e = used-up-is s v n is ∙ eq-eqb _ _ e
+
+-- the signer may have closed
+pub signer-at : (s : Setting) (es : List journal.Event) (os : List (ℕ × List ℕ)) (v : Kept) (c : Call) (signer : SignerState)
+    → Plays s es os v c → signer.key ≡ v.signer.key → signer.state ≡ v.signer.state → Plays s es os (record v { signer = signer }) c
+signer-at s es os v c signer p key state = λ fine.
+    let h = p fine in
+    let n = h.is in
+    record {
+      is = record {
+        setting = n.setting ∙ ap (setting_of v.group v.me v.authority) (sym key);
+        holds = n.holds;
+        stored = state ∙ n.stored;
+        records = n.records;
+        roster = n.roster;
+        probes = n.probes;
+      };
+      told = h.told;
+      sent = h.sent;
+      before = h.before;
+    }
+
+-- the disk failed in the signature
+pub stopped-at : (s : Setting) (es : List journal.Event) (os : List (ℕ × List ℕ)) (v v1 : Kept) (c : Call) (b : Body) (also : Option ℕ)
+    → Plays s es os v c → v.signer.state.next < leaf_count v.signer.key.tree → (v1.telling.failed ≡ false → v.telling.failed ≡ false) → Plays s es os v1 (tells s told.Stopped c) → Plays s es os v1 (wants false s b (addressees s also) c)
+stopped-at s es os v v1 c b also p lt going q = λ fine.
+    let h = q fine in
+    let free = free-below s v c.node (p (going fine)).is lt in
+    subst (IsAt s es os v1) (sym (wants-stopped s b also c free)) (record { is = h.is; told = h.told; sent = h.sent; before = h.before })
+
+-- the key was used up
+pub used_up-at : (s : Setting) (es : List journal.Event) (os : List (ℕ × List ℕ)) (v v1 : Kept) (c : Call) (b : Body) (also : Option ℕ) (next : ℕ)
+    → Plays s es os v c → next ≡ v.signer.state.next → next ≡ leaf_count v.signer.key.tree → (v1.telling.failed ≡ false → v.telling.failed ≡ false) → Plays s es os v1 (tells s (told.Exhausted next) c) → Plays s es os v1 (wants true s b (addressees s also) c)
+used_up-at s es os v v1 c b also next p at last going q = λ fine.
+    let n = (p (going fine)).is in
+    let full = full-at s v c.node n (sym at ∙ last) in
+    let same : next ≡ c.node.stored.next = at ∙ ap (λ (x : Stored). x.next) n.stored in
+    subst (IsAt s es os v1) (ap (λ k. tells s (told.Exhausted k) c) same ∙ sym (wants-used_up s b also c full)) (q fine)
+
+-- the signature was made
+pub signed-at : (s : Setting) (es : List journal.Event) (os : List (ℕ × List ℕ)) (v v1 : Kept) (c : Call) (b wanted : Body) (also : Option ℕ) (signer : SignerState) (r : CheckedRecord) (index : ℕ)
+    → Plays s es os v c → v.signer.group ≡ v.group → v.signer.state.next < leaf_count v.signer.key.tree → index ≡ v.signer.state.next → (IsNode s v c.node → b ≡ wanted)
+    → signer.key ≡ v.signer.key → signer.state ≡ stored_after v.signer.state b → r ≡ signed_record v.signer b → (v1.telling.failed ≡ false → v.telling.failed ≡ false)
+    → (Plays s es os (record v { signer = signer }) (with_stored b c) → index ≡ c.node.stored.next → r.rec ≡ own_record s c.node b → Plays s es os v1 (signs_and_sends s b (addressees s also) c))
+    → Plays s es os v1 (wants true s wanted (addressees s also) c)
+signed-at s es os v v1 c b wanted also signer r index p same lt at body key state signed going passes = λ fine.
+    let n = (p (going fine)).is in
+    let free = free-below s v c.node n lt in
+    let own : r.rec ≡ own_record s c.node b = ap (λ (x : CheckedRecord). x.rec) signed ∙ own-signed s v c.node b n same in
+    let next : index ≡ c.node.stored.next = at ∙ ap (λ (x : Stored). x.next) n.stored in
+    let done = passes (stored-at s es os v c b signer p key state) next own fine in
+    subst (IsAt s es os v1) (sym (wants-signed s b also c free) ∙ ap (λ x. wants true s x (addressees s also) c) (body n)) done
+
+pub next-own-is : (s : Setting) (v : Kept) (n : Node) (mask : Mask) → IsNode s v n → next_note v.signer.state v.me mask ≡ next_own s n mask
+next-own-is s v n mask is =
+    let me : v.me ≡ s.me = sym (setting-me s v.group v.me v.authority v.signer.key is.setting) in
+    ap (λ (m : ℕ). next_note v.signer.state m mask) me ∙ ap (λ (x : Stored). next_note x s.me mask) is.stored
+
+-- no refusal changes the key or what the store keeps
+pub refused-keeps : (old new : SignerState) (b : Body) (f : SignFault) → new ≡ after_signing {T = CheckedRecord} old b (Err f) → (new.key ≡ old.key) × (new.state ≡ old.state)
+refused-keeps old new b refusals.OutOfMemory e = (ap (λ x. x.key) e, ap (λ x. x.state) e)
+refused-keeps old new b refusals.Closed e = (ap (λ x. x.key) e, ap (λ x. x.state) e)
+refused-keeps old new b (refusals.Exhausted next) e = (ap (λ x. x.key) e, ap (λ x. x.state) e)
+refused-keeps old new b refusals.StoreFault e = (ap (λ x. x.key) e, ap (λ x. x.state) e)

@@ -1,0 +1,138 @@
+-- A whole tick.
+use Rattle.std.proofs.Common.{◌≡◌, ℕ, ◌-◌, Bool, true, false, inl, inr, eqb, List, refl, ap, sym, ◌∙◌, subst}
+use Rattle.std.specs.Prelude.{Result, Ok, Err, IfErr, take, ◌/◌, ◌%◌}
+use Rattle.std.specs.List.{slice_get}
+use Rattle.std.proofs.lemmas.Bool.{cases_Bool}
+use Rattle.ff_ids.specs.declared.Group.{Group}
+use Rattle.ff_ids.specs.Views.{State}
+use Rattle.ff_ids.specs.Steps.{Ticks}
+use Rattle.membership.specs.Holds.{Holds}
+use Rattle.detector.specs.Kept.{Kept as Probing, StandsFor}
+use Rattle.detector.specs.Silence.{History, silent as silent_of, pings as pings_of, ticked as probed}
+use Rattle.detector.specs.Watching.{watched}
+use Rattle.journal.specs.declared.event.Event as journal
+use Rattle.node_rules.specs.Nodes.{Setting, Node, state_of, certificate_of}
+use Rattle.node_rules.specs.Calls.{Call, begun, lives}
+use Rattle.node_rules.specs.Ticking.{accuses, accuses_all, gossips, pings_all, due_tick, is_due, watched_by, silent_at, round_of, passed, probed_at, ticked, ticked_until}
+use Rattle.node_core.specs.declared.NodeFault.{NodeFault}
+use Rattle.node_core.specs.declared.NodeFault.TheVariants as faults
+use Rattle.node_core.specs.Playing.{Kept, IsNode, IsAt, Plays}
+use Rattle.node_core.specs.Answers.{Lent, Stands}
+use Rattle.node_core.specs.Ticks.{RunsDue, RunsTick, GivesTick, seen}
+use Rattle.node_core.proofs.PlayLemmas.{setting-group, setting-me}
+use Rattle.node_core.proofs.DeliverLemmas.{gives-from}
+
+pub due-is : (s : Setting) (accused : List ℕ) (sent : List (ℕ × ℕ)) (round : ℕ) (c : Call) → due_tick s accused sent round c ≡ gossips s round (pings_all s sent (accuses_all s accused c))
+unfolding due_tick
+due-is s accused sent round c = refl
+
+pub passed-is : (s : Setting) (n : Node) → passed s n ≡ lives s Ticks (begun n)
+unfolding passed
+passed-is s n = refl
+
+-- the state after the life's tick
+abbrev pub now_of : Setting → Node → State
+now_of s n = state_of s (passed s n).node
+
+pub ticked-idle : (s : Setting) (n : Node) → is_due s (now_of s n) ≡ false → ticked s n ≡ seen s (passed s n)
+unfolding ticked probed_at
+ticked-idle s n idle = rw idle refl
+
+ticked-due : (s : Setting) (n : Node) → is_due s (now_of s n) ≡ true
+    → ticked s n ≡ due_tick s (silent_of (passed s n).node.probes (watched_by s (now_of s n))) (pings_of (passed s n).node.probes true (watched_by s (now_of s n))) (round_of s (now_of s n)) (seen s (passed s n))
+unfolding ticked probed_at
+ticked-due s n due = rw due refl
+
+silent-due : (s : Setting) (n : Node) → is_due s (now_of s n) ≡ true → silent_at s n ≡ silent_of (passed s n).node.probes (watched_by s (now_of s n))
+unfolding silent_at
+silent-due s n due = rw due refl
+
+until-is : (s : Setting) (n : Node) (accused : List ℕ) (m : ℕ) → ticked_until s n accused m ≡ accuses false s (accuses_all s accused (seen s (passed s n))) m
+unfolding ticked_until probed_at
+until-is s n accused m = refl
+
+-- What is found at a due tick.
+pub record FindsDue (s : Setting) (n : Node) (silent : List ℕ) (pings : List (ℕ × ℕ)) (round : ℕ) : Type 0 where
+  pub due : is_due s (now_of s n) ≡ true
+  pub silent_is : silent ≡ silent_of (passed s n).node.probes (watched_by s (now_of s n))
+  pub pings_is : pings ≡ pings_of (passed s n).node.probes true (watched_by s (now_of s n))
+  pub round_is : round ≡ round_of s (now_of s n)
+
+pub runs-due : (s : Setting) (es : List journal.Event) (os : List (ℕ × List ℕ)) (n : Node) (v : Kept) (silent : List ℕ) (pings : List (ℕ × ℕ)) (round : ℕ) (r : Result (Unit {0}) NodeFault)
+    → RunsDue (λ x. Plays s es os v x) s silent pings round (seen s (passed s n)) r → (v.telling.failed ≡ false → FindsDue s n silent pings round) → RunsTick (v.telling.failed ≡ false) (λ x. Plays s es os v x) s n r
+runs-due s es os n v silent pings round (Ok done) h finds = λ fine.
+    let f = finds fine in
+    let c : Call = seen s (passed s n) in
+    let same : due_tick s silent pings round c ≡ ticked s n =
+    ap (λ (xs : List ℕ). due_tick s xs pings round c) f.silent_is ∙ ap (λ (ps : List (ℕ × ℕ)). due_tick s (silent_of (passed s n).node.probes (watched_by s (now_of s n))) ps round c) f.pings_is
+    ∙ ap (λ (k : ℕ). due_tick s (silent_of (passed s n).node.probes (watched_by s (now_of s n))) (pings_of (passed s n).node.probes true (watched_by s (now_of s n))) k c) f.round_is ∙ sym (ticked-due s n f.due) in
+    subst (IsAt s es os v) same (h fine)
+runs-due s es os n v silent pings round (Err fault) h finds = (
+  h.0,
+  h.1,
+  (
+    λ fine.
+        let f = finds fine in
+        ap (λ (xs : List ℕ). slice_get xs h.0) (silent-due s n f.due ∙ sym f.silent_is) ∙ h.2.0,
+    λ fine.
+        let f = finds fine in
+        subst (IsAt s es os v) (ap (λ (xs : List ℕ). accuses false s (accuses_all s (take h.0 xs) (seen s (passed s n))) h.1) (f.silent_is ∙ sym (silent-due s n f.due)) ∙ sym (until-is s n (take h.0 (silent_at s n)) h.1)) (h.2.1 fine),
+  ),
+)
+
+-- the tick is due by the code as by the definition
+pub due-same : (s : Setting) (v : Kept) (n : Node) (now period : ℕ) → IsNode s v n → now ≡ v.membership.moment → period ≡ v.group.period → eqb (now % period) 0 ≡ is_due s (state_of s n)
+due-same s v n now period is at of =
+    let g : s.group ≡ v.group = setting-group s v.group v.me v.authority v.signer.key is.setting in
+    ap (λ (k : ℕ). eqb (k % period) 0) (at ∙ sym is.holds.moment_same) ∙ ap (λ (p : ℕ). eqb ((state_of s n).moment % p) 0) (of ∙ ap (λ (x : Group). x.period) (sym g))
+
+pub round-same : (s : Setting) (v : Kept) (n : Node) (now period : ℕ) → IsNode s v n → now ≡ v.membership.moment → period ≡ v.group.period → now / period - 1 ≡ round_of s (state_of s n)
+round-same s v n now period is at of =
+    let g : s.group ≡ v.group = setting-group s v.group v.me v.authority v.signer.key is.setting in
+    ap (λ (k : ℕ). k / period - 1) (at ∙ sym is.holds.moment_same) ∙ ap (λ (p : ℕ). (state_of s n).moment / p - 1) (of ∙ ap (λ (x : Group). x.period) (sym g))
+
+pub watched-same : (s : Setting) (v : Kept) (n : Node) → IsNode s v n → v.detector.group ≡ v.group → watched v.detector.group.t (state_of s n) v.me ≡ watched_by s (state_of s n)
+watched-same s v n is same =
+    let g : s.group ≡ v.group = setting-group s v.group v.me v.authority v.signer.key is.setting in
+    let me : s.me ≡ v.me = setting-me s v.group v.me v.authority v.signer.key is.setting in
+    ap (λ (x : Group). watched x.t (state_of s n) v.me) (same ∙ sym g) ∙ ap (λ (m : ℕ). watched s.group.t (state_of s n) m) (sym me)
+
+-- the probes have seen the tick
+pub seen-at : (s : Setting) (es : List journal.Event) (os : List (ℕ × List ℕ)) (v : Kept) (c : Call) (d : Probing) (due : Bool) → IsAt s es os v c → v.detector.group ≡ v.group → due ≡ is_due s (state_of s c.node)
+    → ((h : History) (st : State) → StandsFor v.detector h → Holds v.membership st → StandsFor d (probed h due (watched v.detector.group.t st v.me))) → IsAt s es os (record v { detector = d }) (seen s c)
+unfolding state_of certificate_of
+seen-at s es os v c d due at same is holds =
+    let n = at.is in
+    let stands = holds c.node.probes (state_of s c.node) n.probes n.holds in
+    record {
+      is = record {
+        setting = n.setting;
+        holds = n.holds;
+        stored = n.stored;
+        records = n.records;
+        roster = n.roster;
+        probes = subst (λ (b : Bool). StandsFor d (probed c.node.probes b (watched_by s (state_of s c.node)))) is (subst (λ ws. StandsFor d (probed c.node.probes due ws)) (watched-same s v c.node n same) stands);
+      };
+      told = at.told;
+      sent = at.sent;
+      before = at.before;
+    }
+
+-- ---- what is given
+
+by_answer : (s : Setting) (n : Node) (v1 v2 : Kept) (old new : Lent) (done : Result (Unit {0}) NodeFault)
+    → RunsTick (v1.telling.failed ≡ false) (λ x. Plays s old.events old.sent v1 x) s n done → IfErr done (λ e. e ≡ faults.StoreFault) → v1.telling.failed ≡ false
+    → v2 ≡ record v1 { telling = v2.telling; ended = v2.ended } → new.events ≡ v1.telling.events → new.sent ≡ v1.telling.sent → GivesTick s n v2 old new done
+by_answer s n v1 v2 old new (Ok x) ran cause fine same events sent = gives-from s v1 v2 old new (ticked s n) (ran fine) same events sent
+by_answer s n v1 v2 old new (Err e) ran cause fine same events sent =
+    subst (λ f. GivesTick s n v2 old new (Err f)) (sym cause) (ran.0, ran.1, (ran.2.0 fine, gives-from s v1 v2 old new (ticked_until s n (take ran.0 (silent_at s n)) ran.1) (ran.2.1 fine) same events sent))
+
+pub gives-by : (s : Setting) (n : Node) (v1 v2 : Kept) (old new : Lent) (done answer : Result (Unit {0}) NodeFault)
+    → RunsTick (v1.telling.failed ≡ false) (λ x. Plays s old.events old.sent v1 x) s n done → IfErr done (λ e. e ≡ faults.StoreFault)
+    → (v1.telling.failed ≡ true → answer ≡ Err faults.OutOfMemory) → (v1.telling.failed ≡ false → answer ≡ done)
+    → v2 ≡ record v1 { telling = v2.telling; ended = v2.ended } → new.events ≡ v1.telling.events → new.sent ≡ v1.telling.sent → Stands old new → GivesTick s n v2 old new answer
+gives-by s n v1 v2 old new done answer ran cause memory going same events sent stands =
+    elim (cases_Bool v1.telling.failed) [
+      | inl failed ↦ subst (λ r. GivesTick s n v2 old new r) (sym (memory failed)) stands
+      | inr fine ↦ subst (λ r. GivesTick s n v2 old new r) (sym (going fine)) (by_answer s n v1 v2 old new done ran cause fine same events sent)
+    ]

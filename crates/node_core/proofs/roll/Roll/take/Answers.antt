@@ -1,0 +1,21 @@
+use Rattle.std.proofs.Common.{subst, sym, ap, ◌∙◌}
+use Rattle.std.proofs.Common.{◌≡◌, ℕ, List}
+use Rattle.ff_ids.specs.declared.Group.{Group}
+use Rattle.ring_order.specs.Hashed.{hashed_places}
+use Rattle.ff_ids.specs.Steps.{Joins}
+use Rattle.node_rules.specs.Calls.{lives}
+use Rattle.node_core.specs.Playing.{IsAt}
+use Rattle.node_core.specs.Rolls.{with_roll}
+use Rattle.node_core.proofs.PlayLemmas.{certified-at, quiet-at, join-steps, places-of}
+use Rattle.node_core.proofs.roll.Roll.take.Goals as goal
+
+pub returns-clause-plays : goal.returns-clause-plays
+returns-clause-plays c = λ s es os kept call at group fine free.
+    let v = with_roll kept c.args.self.now in
+    let hashed : (x : Group) → List (List ℕ) = λ x. hashed_places x.tag x.t c.args.cert.member in
+    let same : kept.group ≡ c.group.result.now = group ∙ sym c.group.ensures in
+    let places1 : s.places c.args.cert.member ≡ c.hash_places-places.result = places-of s v call c.args.cert.member at.is ∙ ap hashed same ∙ sym c.hash_places-places.ensures.places in
+    let steps = join-steps v.group c.args.self.now.membership c.add_member-fault.new.self c.args.cert.member c.hash_places-places.result c.add_member-fault.result c.add_member-fault.ensures.fault c.add_member-fault.ensures.step c.add_member-fault.ensures.same in
+    let now = quiet-at s es os v call (Joins c.args.cert.member c.hash_places-places.result) c.add_member-fault.new.self (λ f. at) steps fine in
+    certified-at s es os (record v { membership = c.add_member-fault.new.self }) call c.args.rec c.args.cert c.put-2.new.self c.put.new.self c.requires.certificate c.put-2.ensures.held c.put.ensures
+    (subst (λ x. IsAt s es os (record v { membership = c.add_member-fault.new.self }) (lives s (Joins c.args.cert.member x) call)) (sym places1) now)

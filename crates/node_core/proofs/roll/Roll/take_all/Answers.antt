@@ -1,0 +1,56 @@
+use Rattle.std.proofs.Common.{rules, ◌≡◌, ◌≤◌, length, List, [], ◌∷◌, ◌++◌, refl, ap, sym, subst, ◌∙◌}
+use Rattle.std.proofs.lemmas.List.{append_assoc}
+use Rattle.records.specs.declared.CertBody.{CertBody}
+use Rattle.records.specs.declared.Body.TheVariants as bodies
+use Rattle.records.specs.Signing.{CheckedRecord}
+use Rattle.node_rules.specs.Nodes.{certificate_of}
+use Rattle.node_core.specs.Playing.{IsAt}
+use Rattle.node_core.specs.Rolls.{with_roll, AreNew, takes_all, IsCertificateFor}
+use Rattle.node_core.proofs.RollLemmas.{recs, new-push, after-push, same-certificate, nil-end, at-behind, zero-empty, no-other}
+use Rattle.node_core.proofs.roll.Roll.take_all.Goals as goal
+
+pub loop-rec-init : goal.loop-rec-init
+loop-rec-init c = record { parts = search rules; group = refl; plays = λ s es os v call later at g f new. (at, new) }
+
+pub take-requires-clause-tolerance : goal.take-requires-clause-tolerance
+take-requires-clause-tolerance c =
+    let parts : c.loop-rec.yielded ++ c.in-Some.rec ∷ c.next.new.self.rest.items ≡ c.args.certificates.items = search rules in
+    (at-behind (IsCertificateFor c.args.self.now.membership.group.t) c.loop-rec.yielded c.in-Some.rec c.next.new.self.rest.items c.args.certificates.items parts c.requires.all).tolerance ∙ ap (λ g. g.t) (sym c.loop-rec.invariant.group)
+
+pub take-requires-clause-few : goal.take-requires-clause-few
+take-requires-clause-few c = subst (λ g. g.t ≤ 15) (sym c.loop-rec.invariant.group) c.requires.few
+
+pub loop-rec-preserved-in-Certificate : goal.loop-rec-preserved-in-Certificate
+loop-rec-preserved-in-Certificate c =
+    let x = c.in-Some.rec in
+    let body : x.rec.body ≡ bodies.Certificate c.in-Certificate.cert = sym (ap (λ r. r.body) c.rec-in-loop-rec.ensures.value) ∙ c.in-Certificate.is in
+    let parts : c.loop-rec.yielded ++ x ∷ c.next.new.self.rest.items ≡ c.args.certificates.items = search rules in
+    record {
+      parts = append_assoc c.loop-rec.yielded (x ∷ []) c.next.new.self.rest.items ∙ parts;
+      group = c.take.ensures.group ∙ c.loop-rec.invariant.group;
+      plays = λ s es os v call later at g f new.
+          let before = c.loop-rec.invariant.plays s es os v call (x.rec ∷ later) at g f (new-push s c.loop-rec.yielded x later call new) in
+          let first = before.1.0 in
+          let free : certificate_of (takes_all s (recs c.loop-rec.yielded) call).node c.in-Certificate.cert.member ≡ _ = ap (λ (y : CertBody). certificate_of (takes_all s (recs c.loop-rec.yielded) call).node y.member) (same-certificate _ _ _ body first.body) ∙ first.free in
+          let after = c.take.ensures.plays s es os v _ before.0 (g ∙ sym c.loop-rec.invariant.group) f free in
+          (subst (IsAt s es os (with_roll v c.take.new.self)) (after-push s c.loop-rec.yielded x call) after, subst (λ y. AreNew s y later) (after-push s c.loop-rec.yielded x call) before.1.1);
+    }
+
+pub loop-rec-preserved : goal.loop-rec-preserved
+loop-rec-preserved c =
+    let x = c.in-Some.rec in
+    let parts : c.loop-rec.yielded ++ x ∷ c.next.new.self.rest.items ≡ c.args.certificates.items = search rules in
+    let is = at-behind (IsCertificateFor c.args.self.now.membership.group.t) c.loop-rec.yielded x c.next.new.self.rest.items c.args.certificates.items parts c.requires.all in
+    let body : c.rec-in-loop-rec.result.now.body ≡ bodies.Certificate is.cert = ap (λ r. r.body) c.rec-in-loop-rec.ensures.value ∙ is.body in
+    absurd (no-other _ is.cert body c.in-Note.is)
+
+pub returns-clause-plays : goal.returns-clause-plays
+returns-clause-plays c = λ s es os v call at g f new.
+    let long : length c.loop-rec.rec-iterator.rest.items ≡ 0 = search rules in
+    let none : c.loop-rec.rec-iterator.rest.items ≡ [] = zero-empty c.loop-rec.rec-iterator.rest.items long in
+    let all : c.loop-rec.yielded ≡ c.args.certificates.items = sym (nil-end c.loop-rec.yielded) ∙ ap (λ (xs : List CheckedRecord). c.loop-rec.yielded ++ xs) (sym none) ∙ c.loop-rec.invariant.parts in
+    let done = c.loop-rec.invariant.plays s es os v call [] at g f (subst (λ xs. AreNew s call xs) (sym (nil-end (recs c.loop-rec.yielded) ∙ ap recs all)) new) in
+    subst (λ xs. IsAt s es os (with_roll v c.loop-rec.self) (takes_all s (recs xs) call)) all done.0
+
+pub returns-clause-group : goal.returns-clause-group
+returns-clause-group c = c.loop-rec.invariant.group

@@ -1,0 +1,38 @@
+use Rattle.std.proofs.Common.{refl, ◌∙◌}
+use Rattle.node_core.specs.Rolls.{recs_of}
+use Rattle.node_core.specs.declared.starting.Ready.{Ready}
+use Rattle.node_core.proofs.BeginLemmas.{may-begin, own-joined}
+use Rattle.node_core.proofs.starting.make_ready.Goals as goal
+
+pub returns-clause-ready : goal.returns-clause-ready
+returns-clause-ready g c =
+    let k = c.requires.kit in
+    let first = c.in_ok-first.ensures.signed in
+    record {
+      some = k.some;
+      few = k.few;
+      period = k.period;
+      membership_group = c.in-Ok.ensures.groups.membership;
+      detector_group = c.in-Ok.ensures.groups.detector;
+      signer_group = first.group ∙ c.requires.signer;
+      joined = own-joined c.args.kit.group c.args.kit.me c.args.kit.authority c.args.signer c.args.kit.nonce_seed (recs_of c.args.kit.certificates.items) c.in-Ok.parts c.in-Ok.ensures.opened k.apart k.own;
+      good = first.good;
+    }
+
+pub returns-clause-begins : goal.returns-clause-begins
+returns-clause-begins g c = λ s setting.
+    let r : Ready =
+    record {
+      group = c.args.kit.group;
+      me = c.args.kit.me;
+      authority = c.args.kit.authority;
+      signer = c.sign_first.new.signer;
+      roll = c.in-Ok.parts.roll;
+      detector = c.in-Ok.parts.detector;
+      changes = c.in-Ok.parts.changes;
+      found = c.in-Ok.parts.found;
+      index = c.in_ok-first.first.index;
+      note = c.in_ok-first.first.note;
+      rec = c.in_ok-first.first.rec;
+    } in
+    may-begin s c.args.kit.nonce_seed (recs_of c.args.kit.certificates.items) r c.in-Ok.parts c.args.signer c.in_ok-first.first setting c.in-Ok.ensures.opened c.in_ok-first.ensures.signed c.requires.signer refl refl refl refl refl

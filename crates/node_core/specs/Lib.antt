@@ -1,0 +1,13 @@
+pub mod Told
+pub mod Records
+pub mod Playing
+pub mod Neighbours
+pub mod Signatures
+pub mod Formed
+pub mod Handled
+pub mod Hears
+pub mod Exchanging
+pub mod Rolls
+pub mod Begins
+pub mod Answers
+pub mod Ticks

@@ -1,0 +1,94 @@
+-- What a node keeps, and how it stands where a call so far does.
+use Rattle.std.specs.Prelude.{◌≡◌, ℕ, ◌≤◌, ◌<◌, Bool, true, false, List, ◌++◌, length}
+use Rattle.std.specs.Option.{option_map}
+use Rattle.std.specs.Result.{is_ok}
+use Rattle.ff_ids.specs.declared.Group.{Group}
+use Rattle.ff_ids.specs.declared.summary.RecordKey.{RecordKey}
+use Rattle.ff_ids.specs.Masks.{good_mask}
+use Rattle.lms_tree.specs.declared.key.PublicKey.{PublicKey}
+use Rattle.lms_tree.specs.declared.secret.Secret.{Secret}
+use Rattle.lms_tree.specs.Kinds.{leaf_count}
+use Rattle.lms_tree.specs.Lms.{signature_of, verdict_of}
+use Rattle.records.specs.Signing.{signed_bytes}
+use Rattle.ring_order.specs.Hashed.{hashed_places}
+use Rattle.membership.specs.Life.{Life, has_joined}
+use Rattle.membership.specs.Holds.{Holds}
+use Rattle.validate.specs.Certified.{Certificates, certificate_of as kept_certificate}
+use Rattle.signer.specs.Signing.{SignerState}
+use Rattle.detector.specs.Kept.{Kept as Probing, StandsFor}
+use Rattle.record_set.specs.Held.{Held, held_under}
+use Rattle.journal.specs.declared.event.Event as journal
+use Rattle.node_rules.specs.Nodes.{Setting, Node, Holding, state_of, certificate_of}
+use Rattle.node_rules.specs.Calls.{Call}
+use Rattle.node_core.specs.Told.{Tellings, IsFront}
+
+-- What a node keeps.
+pub record Kept : Type 0 where
+  pub group : Group
+  pub me : ℕ
+  pub authority : PublicKey
+  pub signer : SignerState
+  pub membership : Life
+  pub roster : Certificates
+  pub records : Held
+  pub detector : Probing
+  pub telling : Tellings
+  pub ended : Bool
+
+-- What the node is opened with: hashed places, signatures of the key in the group, and their verdicts.
+unfoldable pub setting_of : Group → ℕ → PublicKey → Secret → Setting
+setting_of group me authority key =
+    record {
+      group = group;
+      me = me;
+      authority = authority;
+      indexes = leaf_count key.tree;
+      places = hashed_places group.tag group.t;
+      verifies = λ public r. is_ok (verdict_of public (signed_bytes group.tag group.t r.body) r.signature);
+      signature = λ index body. signature_of key index (signed_bytes group.tag group.t body);
+    }
+
+-- The set holds these records.
+abbrev pub HoldsRecords : Held → Holding → Type 0
+HoldsRecords set held = (k : RecordKey) → option_map (λ c. c.rec) (held_under set k) ≡ held k
+
+-- What is kept stands for the node.
+pub record IsNode (s : Setting) (v : Kept) (n : Node) : Type 0 where
+  pub setting : s ≡ setting_of v.group v.me v.authority v.signer.key
+  pub holds : Holds v.membership (state_of s n)
+  pub stored : v.signer.state ≡ n.stored
+  pub records : HoldsRecords v.records n.held
+  pub roster : (m : ℕ) → kept_certificate v.roster m ≡ certificate_of n m
+  pub probes : StandsFor v.detector n.probes
+
+-- It is where the call so far is, after these events and datagrams of earlier calls.
+pub record IsAt (s : Setting) (es : List journal.Event) (os : List (ℕ × List ℕ)) (v : Kept) (c : Call) : Type 0 where
+  pub is : IsNode s v c.node
+  pub told : v.telling.events ≡ es ++ c.told
+  pub sent : v.telling.sent ≡ os ++ c.sent
+  pub before : v.telling.before ≡ length os
+
+-- The same, unless memory was refused.
+abbrev pub Plays : Setting → List journal.Event → List (ℕ × List ℕ) → Kept → Call → Type 0
+Plays s es os v c = v.telling.failed ≡ false → IsAt s es os v c
+
+-- What holds between calls of the parts.
+pub record IsReady (group : Group) (me : ℕ) (membership : Life) (detector : Probing) (signer : SignerState) : Type 0 where
+  pub some : 1 ≤ group.t
+  pub few : group.t ≤ 15
+  pub period : 0 < group.period
+  pub membership_group : membership.group ≡ group
+  pub detector_group : detector.group ≡ group
+  pub signer_group : signer.group ≡ group
+  pub joined : has_joined membership me ≡ true
+  pub good : good_mask group.t signer.state.mask.0 ≡ true
+
+-- The events and datagrams of the first are a front of those of the second, and the node is the same one.
+pub record Grows (old new : Kept) : Type 0 where
+  pub going : new.telling.failed ≡ false → old.telling.failed ≡ false
+  pub events : IsFront old.telling.events new.telling.events
+  pub sent : IsFront old.telling.sent new.telling.sent
+  pub before : new.telling.before ≡ old.telling.before
+  pub ended : new.ended ≡ old.ended
+  pub group : new.group ≡ old.group
+  pub me : new.me ≡ old.me

@@ -1,0 +1,30 @@
+-- What a wanted signature is, and how a call runs that may meet a failing disk.
+use Rattle.std.specs.Prelude.{◌≡◌, ℕ, ◌+◌, Bool, true, false, List, Some, Result, Ok, Err, take}
+use Rattle.std.specs.List.{slice_get}
+use Rattle.records.specs.declared.Record.{Record}
+use Rattle.node_rules.specs.Deliveries.{handles, handles_all}
+use Rattle.ff_ids.specs.declared.Mask.{Mask}
+use Rattle.records.specs.declared.Body.{Body}
+use Rattle.records.specs.declared.Body.TheVariants.{Note}
+use Rattle.signer.specs.Signing.{stored_after}
+use Rattle.node_rules.specs.Nodes.{Setting, Node}
+use Rattle.node_rules.specs.Calls.{Call}
+use Rattle.node_core.specs.declared.NodeFault.{NodeFault}
+
+-- The signer has spent an index on the body.
+abbrev pub with_stored : Body → Call → Call
+with_stored body c = record c { node = record c.node { stored = stored_after c.node.stored body } }
+
+-- The own note of the next epoch.
+abbrev pub next_own : Setting → Node → Mask → Body
+next_own s n mask = Note (record { member = s.me; epoch = n.stored.epoch + 1; mask = mask })
+
+-- The disk worked, or it failed at the signature.
+abbrev pub Runs : (Bool → Type 0) → Result (Unit {0}) NodeFault → Type 0
+Runs P (Ok done) = P true
+Runs P (Err fault) = P false
+
+-- All records are handled, or the disk failed in the answer to one, behind those before it.
+abbrev pub RunsAll : (Call → Type 0) → Setting → List Record → Call → Result (Unit {0}) NodeFault → Type 0
+RunsAll P s records c (Ok done) = P (handles_all s records c)
+RunsAll P s records c (Err fault) = (i : ℕ) × (r : Record) × ((slice_get records i ≡ Some r) × P (handles false s (handles_all s (take i records) c) r))

@@ -1,0 +1,43 @@
+-- What a call has told and sent so far.
+use Rattle.std.specs.Prelude.{◌≡◌, ℕ, ◌-◌, Bool, false, List, [], ◌∷◌, ◌++◌, length, map}
+use Rattle.ff_ids.specs.Steps.{Report}
+use Rattle.journal.specs.declared.event.Event as journal
+use Rattle.journal.specs.declared.event.What as whats
+use Rattle.journal.specs.declared.event.What.TheVariants as told
+use Rattle.node_rules.specs.Calls.{told_of}
+
+-- The events and the datagrams, how many datagrams there were before the call, and whether memory was refused.
+pub record Tellings : Type 0 where
+  pub events : List journal.Event
+  pub sent : List (ℕ × List ℕ)
+  pub before : ℕ
+  pub failed : Bool
+
+abbrev pub with_event : ℕ → whats.What → Tellings → Tellings
+with_event moment what w = record w { events = w.events ++ record { moment = moment; what = what } ∷ [] }
+
+abbrev pub with_report : ℕ → Report → Tellings → Tellings
+with_report moment r w = record w { events = w.events ++ told_of moment r }
+
+abbrev pub with_sent : ℕ → List ℕ → ℕ → Tellings → Tellings
+with_sent moment bytes to w =
+    record w {
+      events = w.events ++ record { moment = moment; what = told.Sent (length w.sent - w.before) to bytes } ∷ [];
+      sent = w.sent ++ (to, bytes) ∷ [];
+    }
+
+-- The first is a front of the second.
+pub record IsFront {X : Type 0} (front whole : List X) : Type 0 where
+  pub more : List X
+  pub is : whole ≡ front ++ more
+
+-- This is added, or memory was refused and what was there is a front.
+pub record Adds (f : Tellings → Tellings) (old new : Tellings) : Type 0 where
+  pub going : new.failed ≡ false → (old.failed ≡ false) × (new ≡ f old)
+  pub events : IsFront old.events new.events
+  pub sent : IsFront old.sent new.sent
+  pub before : new.before ≡ old.before
+
+-- An event for each of these.
+abbrev pub with_each : {X : Type 0} → ℕ → (X → whats.What) → List X → Tellings → Tellings
+with_each moment f xs w = record w { events = w.events ++ map (λ x. record { moment = moment; what = f x }) xs }

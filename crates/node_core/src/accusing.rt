@@ -1,0 +1,145 @@
+//! Accusations of the silent.
+
+ghost use Rattle.std.specs.Prelude.{◌≡◌, ℕ, ◌≤◌, ◌<◌, ◌&&◌, ◌∷◌, List, Option, Some, true, filter, take, IfErr, IfSome, is_err};
+ghost use Rattle.std.specs.List.{list_any, range_with_len, slice_get};
+ghost use Rattle.std.specs.Option.{option_map};
+ghost use Rattle.ff_ids.specs.Masks.{ring_count, enables, enabled};
+ghost use Rattle.ff_ids.specs.Views.{State, monitor, is_number};
+ghost use Rattle.membership.specs.Life.{has_joined};
+ghost use Rattle.membership.specs.Holds.{Holds};
+ghost use Rattle.membership.specs.Reports.{kept_against};
+ghost use Rattle.ports.specs.Count.{counted};
+ghost use Rattle.journal.specs.declared.event.Event as journal;
+ghost use Rattle.node_rules.specs.Nodes.{Setting};
+ghost use Rattle.node_rules.specs.Calls.{Call};
+ghost use Rattle.node_rules.specs.Ticking.{accuses, is_by as is_accused_by};
+ghost use Rattle.node_core.specs.declared.NodeFault.TheVariants as faults;
+ghost use Rattle.node_core.specs.Playing.{Plays, Grows};
+ghost use Rattle.node_core.specs.Signatures.{Runs};
+ghost use Rattle.node_core.specs.Ticks.{RunsAccusing};
+
+use crate::{Node, NodeFault};
+use ff_ids::{AccBody, MemberId, NoteBody, RingNo};
+use journal::What;
+use membership::Membership;
+use ports::Disk;
+use std::alloc::Global;
+
+/// Whether it is an accusation by this member.
+fn is_by(kept: Option<AccBody>, me: MemberId) -> bool
+    ensures { result ≡ is_accused_by me kept }
+{
+    match kept {
+        Some(acc) => acc.accuser == me,
+        None => false,
+    }
+}
+
+/// Whether an accusation by this member against another is kept.
+fn has_accused(membership: &Membership, me: MemberId, member: MemberId) -> bool
+    requires few { membership.now.group.t ≤ 15 }
+    ensures { (st : State) → Holds membership.now st
+        → result ≡ list_any (λ ring. is_accused_by me (kept_against st.kept member ring)) (range_with_len 0 (ring_count membership.now.group.t)) }
+{
+    for ring in 0..2 * membership.group().t + 1 {
+        if is_by(membership.standing(member, RingNo(ring)), me) {
+            return true;
+        }
+    }
+    false
+}
+
+/// Whether the note enables the ring, and this member is the other's monitor there.
+fn monitors_on(
+    membership: &Membership,
+    me: MemberId,
+    member: MemberId,
+    note: &NoteBody,
+    ring: RingNo,
+) -> bool
+    requires joined { has_joined membership.now member ≡ true }
+    requires ring { ring.0 < ring_count membership.now.group.t }
+    requires few { ring.0 < 32 }
+    ensures { (st : State) → Holds membership.now st → result ≡ (enables note.now.mask.0 ring.0 && is_number (monitor st ring.0 member) me) }
+{
+    note.mask.enables(ring) && membership.monitor(ring, member) == Some(me)
+}
+
+/// The lowest of the rings that the note enables on which this member is the other's monitor.
+fn ring_for(
+    membership: &Membership,
+    me: MemberId,
+    member: MemberId,
+    note: &NoteBody,
+) -> Option<RingNo>
+    requires few { membership.now.group.t ≤ 15 }
+    requires joined { has_joined membership.now member ≡ true }
+    ensures ring { (st : State) → Holds membership.now st → option_map (λ r. r.0) result
+        ≡ slice_get (filter (λ ring. is_number (monitor st ring member) me) (enabled (ring_count membership.now.group.t) note.now.mask.0)) 0 }
+    ensures below { IfSome result (λ r. r.0 < ring_count membership.now.group.t) }
+{
+    for ring in 0..2 * membership.group().t + 1 {
+        let ring = RingNo(ring);
+        if monitors_on(membership, me, member, note, ring) {
+            return Some(ring);
+        }
+    }
+    None
+}
+
+impl Node {
+    /// The silent member is accused, unless an accusation by this one against it is kept.
+    pub(crate) fn accuse<D: Disk>(
+        &mut self,
+        alloc: Global,
+        disk: &mut D,
+        member: MemberId,
+    ) -> Result<(), NodeFault>
+        ensures plays { (s : Setting) (es : List journal.Event) (os : List (ℕ × List ℕ)) (c : Call) → Plays s es os self.old c
+            → Runs (λ works. Plays s es os self.new (accuses works s c member)) result }
+        ensures grows { Grows self.old self.new }
+        ensures faults { D.faults disk.new ≡ counted (is_err result) (D.faults disk.old) }
+        ensures cause { IfErr result (λ e. e ≡ faults.StoreFault) }
+    {
+        if has_accused(&self.membership, self.me, member) {
+            return Ok(());
+        }
+        self.tell(What::Silent(member));
+        let Some(note) = self.membership.note_of(member) else {
+            return Ok(());
+        };
+        if !self.membership.is_member(member) {
+            self.telling.fail();
+            return Ok(());
+        }
+        let Some(ring) = ring_for(&self.membership, self.me, member, &note) else {
+            return Ok(());
+        };
+        let acc = AccBody {
+            accuser: self.me,
+            accused: member,
+            epoch: note.epoch,
+            ring,
+        };
+        self.want_accusation(alloc, disk, &acc)
+    }
+
+    /// The silent members are accused in turn, up to one in whose accusation the disk fails.
+    pub(crate) fn accuse_all<D: Disk>(
+        &mut self,
+        alloc: Global,
+        disk: &mut D,
+        silent: Vec<MemberId>,
+    ) -> Result<(), NodeFault>
+        ensures plays { (s : Setting) (es : List journal.Event) (os : List (ℕ × List ℕ)) (c : Call) → Plays s es os self.old c
+            → RunsAccusing (λ x. Plays s es os self.new x) s silent.items c result }
+        ensures grows { Grows self.old self.new }
+        ensures faults { D.faults disk.new ≡ counted (is_err result) (D.faults disk.old) }
+        ensures cause { IfErr result (λ e. e ≡ faults.StoreFault) }
+    {
+        for member in silent {
+            self.accuse(alloc, disk, member)?;
+        }
+        Ok(())
+    }
+}

@@ -1,0 +1,141 @@
+//! One delivery: the bytes of a datagram, whatever they are.
+
+ghost use Rattle.std.specs.Prelude.{◌≡◌, ℕ, ◌≤◌, ◌<◌, List, true, false, Ok, Err, ◌↔◌, IfErr, is_err};
+ghost use Rattle.ports.specs.Count.{counted as counts_faults, Rose};
+ghost use Rattle.journal.specs.declared.event.Event as journal;
+ghost use Rattle.datagram.specs.Grammar.{read_of};
+ghost use Rattle.datagram.specs.Spelling.{IsWritable};
+ghost use Rattle.node_rules.specs.Nodes.{Setting};
+ghost use Rattle.node_rules.specs.Calls.{Call, tells};
+ghost use Rattle.journal.specs.declared.event.What.TheVariants as told;
+ghost use Rattle.records.specs.declared.fault.FormFault.TheVariants as forms;
+ghost use Rattle.node_core.specs.declared.NodeFault.TheVariants as faults;
+ghost use Rattle.node_core.specs.Playing.{Plays, Grows, IsNode};
+ghost use Rattle.node_core.specs.Hears.{RunsHearing};
+ghost use Rattle.node_core.specs.Answers.{Delivers, Stands, IsEnded};
+ghost use Rattle.node_rules.specs.Nodes.{Node as RulesNode};
+
+use crate::telling::Telling;
+use crate::{Events, Node, NodeFault, Outbox};
+use datagram::{Datagram, read};
+use journal::What;
+use ports::Disk;
+use records::FormFault;
+use std::alloc::Global;
+
+impl Node {
+    /// What the datagram asks for.
+    fn hear<D: Disk>(
+        &mut self,
+        alloc: Global,
+        disk: &mut D,
+        datagram: Datagram,
+    ) -> Result<(), NodeFault>
+        requires { IsWritable datagram }
+        ensures plays { (s : Setting) (es : List journal.Event) (os : List (ℕ × List ℕ)) (c : Call) → Plays s es os self.old c
+            → RunsHearing (λ x. Plays s es os self.new x) s (Ok datagram) c result }
+        ensures grows { Grows self.old self.new }
+        ensures faults { D.faults disk.new ≡ counts_faults (is_err result) (D.faults disk.old) }
+        ensures cause { IfErr result (λ e. e ≡ faults.StoreFault) }
+    {
+        match datagram {
+            Datagram::Ping { from, nonce } => self.hear_ping(alloc, from, nonce),
+            Datagram::Pong { from, nonce } => self.hear_pong(from, nonce),
+            Datagram::Summary {
+                from,
+                flag,
+                summary,
+            } => self.hear_summary(alloc, from, flag, &summary),
+            Datagram::Records { records, .. } => {
+                return self.handle_all(alloc, disk, records.into_vec());
+            }
+        }
+        Ok(())
+    }
+
+    /// The bytes are no datagram, from this place on, or memory was refused.
+    fn hear_fault(&mut self, fault: FormFault)
+        ensures plays { (s : Setting) (es : List journal.Event) (os : List (ℕ × List ℕ)) (c : Call) (place : ℕ) → Plays s es os self.old c
+            → fault ≡ forms.BadForm place → Plays s es os self.new (tells s (told.BadForm place) c) }
+        ensures memory { fault ≡ forms.OutOfMemory → self.new.telling.failed ≡ true }
+        ensures grows { Grows self.old self.new }
+    {
+        match fault {
+            FormFault::BadForm { place } => self.tell(What::BadForm { place }),
+            FormFault::OutOfMemory => self.telling.fail(),
+        }
+    }
+
+    /// One delivery.
+    fn hear_bytes<D: Disk>(
+        &mut self,
+        alloc: Global,
+        disk: &mut D,
+        bytes: &[u8],
+    ) -> Result<(), NodeFault>
+        ensures plays { (s : Setting) (es : List journal.Event) (os : List (ℕ × List ℕ)) (c : Call) → Plays s es os self.old c
+            → RunsHearing (λ x. Plays s es os self.new x) s (read_of bytes.now) c result }
+        ensures grows { Grows self.old self.new }
+        ensures faults { D.faults disk.new ≡ counts_faults (is_err result) (D.faults disk.old) }
+        ensures cause { IfErr result (λ e. e ≡ faults.StoreFault) }
+    {
+        match read(alloc, bytes) {
+            Ok(datagram) => self.hear(alloc, disk, datagram),
+            Err(fault) => {
+                self.hear_fault(fault);
+                Ok(())
+            }
+        }
+    }
+
+    /// Gives back what the call told and sent, and says how it ended.
+    pub(crate) fn finish(
+        &mut self,
+        done: Result<(), NodeFault>,
+        out: &mut Outbox,
+        events: &mut Events,
+    ) -> Result<(), NodeFault>
+        ensures events { events.new ≡ self.old.telling.events }
+        ensures sent { out.new ≡ self.old.telling.sent }
+        ensures failed { self.old.telling.failed ≡ true → result ≡ Err faults.OutOfMemory }
+        ensures going { self.old.telling.failed ≡ false → result ≡ done }
+        ensures ended { self.new.ended ≡ is_err result }
+        ensures frame { self.new ≡ record self.old { telling = self.new.telling; ended = self.new.ended } }
+    {
+        let failed = self.telling.give_back(events, out);
+        let answer = if failed {
+            Err(NodeFault::OutOfMemory)
+        } else {
+            done
+        };
+        self.ended = answer.is_err();
+        answer
+    }
+
+    /// Handles the bytes of one datagram, whatever they are: appends what that tells to `events` and what it sends to
+    /// `out`. `Ended` comes exactly where an earlier call answered a fault. After a fault what was given stands, and
+    /// the node is over. The disk is the one on which the signer's store was opened.
+    pub fn deliver<D: Disk>(
+        &mut self,
+        alloc: Global,
+        disk: &mut D,
+        bytes: &[u8],
+        out: &mut Outbox,
+        events: &mut Events,
+    ) -> Result<(), NodeFault>
+        ensures step { (s : Setting) (n : RulesNode) → IsNode s self.old n → self.old.ended ≡ false
+            → Delivers s n bytes.now self.new (record { events = events.old; sent = out.old }) (record { events = events.new; sent = out.new }) result }
+        ensures over { (self.old.ended ≡ true) ↔ IsEnded result }
+        ensures ended { self.new.ended ≡ is_err result }
+        ensures still { self.old.ended ≡ true → (self.new ≡ self.old) × (disk.new ≡ disk.old) × (events.new ≡ events.old) × (out.new ≡ out.old) }
+        ensures stands { Stands (record { events = events.old; sent = out.old }) (record { events = events.new; sent = out.new }) }
+        ensures faults { IfErr result (λ e. e ≡ faults.StoreFault → Rose (D.faults disk.old) (D.faults disk.new)) }
+    {
+        if self.ended {
+            return Err(NodeFault::Ended);
+        }
+        self.telling = Telling::over(alloc, events, out);
+        let heard = self.hear_bytes(alloc, disk, bytes);
+        self.finish(heard, out, events)
+    }
+}

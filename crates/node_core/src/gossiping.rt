@@ -1,0 +1,156 @@
+//! Pings and the summary of a due tick.
+
+ghost use Rattle.std.specs.Prelude.{◌≡◌, ℕ, ◌≤◌, ◌<◌, ◌++◌, List, IfOk, OnErr, is_some, filter, length, if◌then◌else◌, ◌∷◌, [], None, unwrap_or};
+ghost use Rattle.std.specs.List.{slice_get, last_or};
+ghost use Rattle.ff_ids.specs.Views.{all_numbers};
+ghost use Rattle.journal.specs.declared.event.Event as journal;
+ghost use Rattle.validate.specs.Certified.{certificate_of};
+ghost use Rattle.gossip.specs.Partners.{others, in_turn as in_turn_of};
+ghost use Rattle.node_rules.specs.Nodes.{Setting, Node as RulesNode};
+ghost use Rattle.node_rules.specs.Pages.{partner as partner_of};
+ghost use Rattle.node_rules.specs.Calls.{Call, sends};
+ghost use Rattle.node_rules.specs.Ticking.{gossips, pings_all};
+ghost use Rattle.datagram.specs.declared.Datagram.TheVariants as kinds;
+ghost use Rattle.node_core.specs.Playing.{Plays, Grows, IsNode};
+
+use crate::Node;
+use crate::hearing::bytes_of;
+use datagram::Datagram;
+use ff_ids::{MEMBERS, MemberId, RingNo};
+use fields::NoMemory;
+use gossip::page_of;
+use std::alloc::Global;
+use validate::Roster;
+
+/// Lists the member, if it has a certificate.
+fn list_certified(
+    roster: &Roster,
+    member: MemberId,
+    listed: &mut Vec<MemberId>,
+) -> Result<(), NoMemory>
+    ensures { IfOk result (λ done. listed.new.items
+        ≡ (if is_some (certificate_of roster.now member) then listed.old.items ++ member ∷ [] else listed.old.items)) }
+{
+    if roster.get(member).is_some() {
+        listed.push(member)?;
+    }
+    Ok(())
+}
+
+/// Those with a certificate, in order of number.
+fn certified(alloc: Global, roster: &Roster) -> Result<Vec<MemberId>, NoMemory>
+    ensures { IfOk result (λ listed. listed.items ≡ filter (λ m. is_some (certificate_of roster.now m)) all_numbers) }
+{
+    let mut listed = Vec::new(alloc);
+    for number in 0..MEMBERS {
+        list_certified(roster, MemberId::new(number), &mut listed)?;
+    }
+    Ok(listed)
+}
+
+/// How many of the numbers are others than `me`.
+fn count_others(numbers: &[MemberId], me: MemberId) -> usize
+    ensures { result ≡ length (others numbers.now me) }
+{
+    numbers.iter().filter(|member| **member != me).count()
+}
+
+/// Of the numbers other than `me`, in their order, the one at this place.
+fn other_at(numbers: &[MemberId], me: MemberId, place: usize) -> Option<MemberId>
+    ensures { result ≡ slice_get (others numbers.now me) place }
+{
+    let mut left = place;
+    for member in numbers {
+        if *member == me {
+            continue;
+        }
+        if left == 0 {
+            return Some(*member);
+        }
+        left -= 1;
+    }
+    None
+}
+
+/// Of the numbers other than `me`, in their order, the one whose turn it is in this round.
+fn in_turn(numbers: &[MemberId], me: MemberId, round: u64) -> Option<MemberId>
+    ensures { result ≡ in_turn_of (others numbers.now me) round }
+{
+    let count = count_others(numbers, me);
+    if count == 0 {
+        return None;
+    }
+    other_at(numbers, me, (round % count as u64) as usize)
+}
+
+/// The last of the numbers, 0 where there is none.
+fn highest(numbers: &[MemberId]) -> MemberId
+    ensures { result ≡ unwrap_or (last_or None numbers.now) 0 }
+{
+    let mut last = MemberId::new(0);
+    for member in numbers {
+        last = *member;
+    }
+    last
+}
+
+impl Node {
+    /// A ping with this nonce goes to the member.
+    pub(crate) fn send_ping(&mut self, alloc: Global, to: MemberId, nonce: u64)
+        ensures plays { (s : Setting) (es : List journal.Event) (os : List (ℕ × List ℕ)) (c : Call) → Plays s es os self.old c
+            → Plays s es os self.new (sends s (kinds.Ping s.me nonce) c to) }
+        ensures grows { Grows self.old self.new }
+    {
+        let ping = Datagram::Ping {
+            from: self.me,
+            nonce,
+        };
+        match bytes_of(alloc, &ping) {
+            Ok(bytes) => self.send(alloc, &bytes, to),
+            Err(_) => self.telling.fail(),
+        }
+    }
+
+    /// The summary of the round's page goes to the partner of the round, if there is one.
+    pub(crate) fn gossip(&mut self, alloc: Global, round: u64)
+        ensures plays { (s : Setting) (es : List journal.Event) (os : List (ℕ × List ℕ)) (c : Call) → Plays s es os self.old c
+            → Plays s es os self.new (gossips s round c) }
+        ensures grows { Grows self.old self.new }
+    {
+        match certified(alloc, &self.roster) {
+            Ok(numbers) => self.gossip_among(alloc, round, &numbers),
+            Err(_) => self.telling.fail(),
+        }
+    }
+
+    /// The partner of the round, where these are the certified members.
+    fn partner(&self, numbers: &[MemberId], round: u64) -> Option<MemberId>
+        ensures { (s : Setting) (n : RulesNode) → IsNode s self.now n
+            → numbers.now ≡ filter (λ m. is_some (certificate_of self.now.roster m)) all_numbers → result ≡ partner_of s n round }
+    {
+        let rings = 2 * self.group.t + 1;
+        let me = self.me;
+        let next = self
+            .membership
+            .successor(RingNo((round % rings as u64) as u8), me);
+        if next.is_some() {
+            return next;
+        }
+        in_turn(numbers, me, round)
+    }
+
+    /// The same, where these are the certified members.
+    fn gossip_among(&mut self, alloc: Global, round: u64, numbers: &[MemberId])
+        ensures plays { (s : Setting) (es : List journal.Event) (os : List (ℕ × List ℕ)) (c : Call) → Plays s es os self.old c
+            → numbers.now ≡ filter (λ m. is_some (certificate_of self.old.roster m)) all_numbers
+            → Plays s es os self.new (gossips s round c) }
+        ensures grows { Grows self.old self.new }
+    {
+        let tolerance = self.group.t;
+        let page = page_of(round, 2 * tolerance + 1, highest(numbers));
+        let partner = self.partner(numbers, round);
+        if let Some(to) = partner {
+            self.send_page(alloc, to, false, page);
+        }
+    }
+}

@@ -1,0 +1,160 @@
+//! Delivered records: each is refused for its first fault, or accepted, and an accepted accusation against this node
+//! is answered at once.
+
+ghost use Rattle.std.specs.Prelude.{◌≡◌, ℕ, ◌≤◌, ◌<◌, List, true, None, Some, IfErr, IfSome, is_err, length, slice_index, All};
+ghost use Rattle.ff_ids.specs.Masks.{ring_count};
+ghost use Rattle.ports.specs.Count.{counted};
+ghost use Rattle.journal.specs.declared.event.Event as journal;
+ghost use Rattle.records.specs.declared.Body.TheVariants as bodies;
+ghost use Rattle.records.specs.Spelling.{HasPort};
+ghost use Rattle.validate.specs.Certified.{certificate_of};
+ghost use Rattle.node_rules.specs.Nodes.{Setting};
+ghost use Rattle.node_rules.specs.Refusals.{refusal};
+ghost use Rattle.node_rules.specs.Calls.{Call, takes};
+ghost use Rattle.node_rules.specs.Deliveries.{answers, handles};
+ghost use Rattle.node_core.specs.declared.NodeFault.TheVariants as faults;
+ghost use Rattle.node_core.specs.Playing.{Plays, Grows};
+ghost use Rattle.node_core.specs.Signatures.{Runs};
+ghost use Rattle.node_core.specs.Formed.{IsFormed, Sees};
+
+use crate::{Node, NodeFault};
+use ff_ids::{AccBody, MemberId};
+use journal::What;
+use ports::Disk;
+use rebuttal::answer_mask;
+use records::{Body, CertBody, Checked, Record};
+use std::alloc::Global;
+use validate::{Roster, check};
+
+/// The certificate that is kept of the member. It is as its type says.
+fn kept_of(roster: &Roster, member: MemberId) -> Option<CertBody>
+    ensures value { result ≡ certificate_of roster.now member }
+    ensures formed { IfSome result (λ x. IsFormed x) }
+{
+    roster.get(member).copied()
+}
+
+/// The same certificate. It is as its type says.
+fn see_certificate(cert: &CertBody) -> Option<CertBody>
+    ensures same { result ≡ Some cert.now }
+    ensures formed { IfSome result (λ x. IsFormed x) }
+{
+    Some(cert).copied()
+}
+
+/// What the types say of a certificate, and of the one that is kept for its number.
+fn see_body(roster: &Roster, body: &Body)
+    ensures { Sees roster.now body.now }
+{
+    match body {
+        Body::Certificate(cert) => {
+            let _kept = kept_of(roster, cert.member);
+            let _same = see_certificate(cert);
+        }
+        Body::Note(_) | Body::Accusation(_) => {}
+    }
+}
+
+/// What the type of bytes says of a signature.
+fn see_signature(signature: &[u8])
+    ensures { (k : ℕ) → slice_index signature.now k < 256 }
+{}
+
+impl Node {
+    /// Answers an accepted accusation, if it is against this node.
+    fn answer<D: Disk>(
+        &mut self,
+        alloc: Global,
+        disk: &mut D,
+        acc: &AccBody,
+    ) -> Result<(), NodeFault>
+        requires { acc.now.ring.0 < ring_count self.old.group.t }
+        ensures plays { (s : Setting) (es : List journal.Event) (os : List (ℕ × List ℕ)) (c : Call) → Plays s es os self.old c
+            → Runs (λ works. Plays s es os self.new (answers works s (bodies.Accusation acc.now) c)) result }
+        ensures grows { Grows self.old self.new }
+        ensures faults { D.faults disk.new ≡ counted (is_err result) (D.faults disk.old) }
+        ensures cause { IfErr result (λ e. e ≡ faults.StoreFault) }
+    {
+        if acc.accused != self.me {
+            return Ok(());
+        }
+        let mask = self.signer.state().mask;
+        if !mask.enables(acc.ring) {
+            self.telling.fail();
+            return Ok(());
+        }
+        let tolerance = self.group.t;
+        self.want_note(alloc, disk, answer_mask(tolerance, mask, acc.ring))
+    }
+
+    /// Accepts a record that has no fault.
+    fn accept<D: Disk>(
+        &mut self,
+        alloc: Global,
+        disk: &mut D,
+        rec: Checked,
+        body: &Body,
+    ) -> Result<(), NodeFault>
+        requires body { rec.rec.body ≡ body.now }
+        requires tolerance { rec.t ≡ self.old.group.t }
+        ensures plays { (s : Setting) (es : List journal.Event) (os : List (ℕ × List ℕ)) (c : Call) → Plays s es os self.old c
+            → refusal s c.node rec.rec ≡ None
+            → Runs (λ works. Plays s es os self.new (answers works s body.now (takes s rec.rec c))) result }
+        ensures grows { Grows self.old self.new }
+        ensures faults { D.faults disk.new ≡ counted (is_err result) (D.faults disk.old) }
+        ensures cause { IfErr result (λ e. e ≡ faults.StoreFault) }
+    {
+        match body {
+            Body::Certificate(cert) => self.take_certificate(rec, *cert),
+            Body::Note(note) => self.take_note(rec, *note),
+            Body::Accusation(acc) => {
+                if acc.ring.0 > 2 * self.group.t {
+                    self.telling.fail();
+                    return Ok(());
+                }
+                self.take_accusation(rec, *acc);
+                return self.answer(alloc, disk, acc);
+            }
+        }
+        Ok(())
+    }
+
+    /// One delivered record.
+    pub(crate) fn handle<D: Disk>(
+        &mut self,
+        alloc: Global,
+        disk: &mut D,
+        rec: Record,
+    ) -> Result<(), NodeFault>
+        requires { HasPort rec.body }
+        ensures plays { (s : Setting) (es : List journal.Event) (os : List (ℕ × List ℕ)) (c : Call) → Plays s es os self.old c
+            → Runs (λ works. Plays s es os self.new (handles works s c rec)) result }
+        ensures grows { Grows self.old self.new }
+        ensures faults { D.faults disk.new ≡ counted (is_err result) (D.faults disk.old) }
+        ensures cause { IfErr result (λ e. e ≡ faults.StoreFault) }
+    {
+        let body = rec.body;
+        see_body(&self.roster, &body);
+        see_signature(rec.signature.as_slice());
+        match check(
+            &self.group,
+            &self.authority,
+            &self.roster,
+            &self.membership,
+            self.me,
+            rec,
+        ) {
+            Ok(checked) => {
+                self.tell(What::Took { body, fault: None });
+                self.accept(alloc, disk, checked, &body)
+            }
+            Err(fault) => {
+                self.tell(What::Took {
+                    body,
+                    fault: Some(fault),
+                });
+                Ok(())
+            }
+        }
+    }
+}

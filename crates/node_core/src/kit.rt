@@ -1,0 +1,87 @@
+//! What a life of a node begins with, and what its calls add to.
+
+ghost use Rattle.std.specs.Prelude.{◌≡◌, []};
+
+use ff_ids::{Group, MemberId};
+use fields::Bytes;
+use journal::Event;
+use lms_tree::PublicKey;
+use records::Checked;
+use std::alloc::Global;
+use std::marker::Model;
+
+/// A group, a member of it and the authority's key; certificates, the member's own among them, each checked under that
+/// key; and the 32 bytes from which the nonces of the life come.
+#[derive(Drop)]
+pub struct Kit {
+    pub group: Group,
+    pub me: MemberId,
+    pub authority: PublicKey,
+    pub certificates: Vec<Checked>,
+    pub nonce_seed: [u8; 32],
+}
+
+/// The datagrams that go out, each with its addressee, the first one first. Contracts see the list.
+#[derive(Drop)]
+pub struct Outbox {
+    pub(crate) datagrams: Vec<(MemberId, Bytes)>,
+}
+
+impl Model for Outbox {
+    ghost use Rattle.std.specs.Prelude.{ℕ, List};
+
+    ghost Value = { List (ℕ × List ℕ) };
+
+    ghost view = { λ o. o.datagrams.items };
+}
+
+impl Outbox {
+    /// Nothing goes out yet.
+    pub fn new(alloc: Global) -> Outbox
+        ensures { result ≡ [] }
+    {
+        Outbox {
+            datagrams: Vec::new(alloc),
+        }
+    }
+
+    /// The datagrams, each with its addressee.
+    pub fn as_slice(&self) -> &[(MemberId, Bytes)]
+        ensures { result.now ≡ self.now }
+    {
+        self.datagrams.as_slice()
+    }
+}
+
+/// What calls have told, the first one first. Contracts see the list.
+#[derive(Drop)]
+pub struct Events {
+    pub(crate) events: Vec<Event>,
+}
+
+impl Model for Events {
+    ghost use Rattle.std.specs.Prelude.{List};
+    ghost use Rattle.journal.specs.declared.event.Event as journal;
+
+    ghost Value = { List journal.Event };
+
+    ghost view = { λ e. e.events.items };
+}
+
+impl Events {
+    /// Nothing is told yet.
+    pub fn new(alloc: Global) -> Events
+        ensures { result ≡ [] }
+    {
+        Events {
+            events: Vec::new(alloc),
+        }
+    }
+
+    /// The events.
+    pub fn as_slice(&self) -> &[Event]
+        ensures { result.now ≡ self.now }
+    {
+        self.events.as_slice()
+    }
+}

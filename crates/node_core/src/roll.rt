@@ -1,0 +1,82 @@
+//! Who is certified as a life begins.
+
+ghost use Rattle.std.specs.Prelude.{◌≡◌, ◌≤◌, ℕ, true, false, List, [], None, IfOk, map, fold, All};
+ghost use Rattle.std.specs.FinMap.{empty};
+ghost use Rattle.ff_ids.specs.Lives.{opening};
+ghost use Rattle.membership.specs.Holds.{Holds};
+ghost use Rattle.journal.specs.declared.event.Event as journal;
+ghost use Rattle.records.specs.declared.Body.TheVariants as bodies;
+ghost use Rattle.node_rules.specs.Nodes.{Setting, certificate_of};
+ghost use Rattle.node_rules.specs.Calls.{Call, takes};
+ghost use Rattle.node_core.specs.Playing.{Kept, IsAt};
+ghost use Rattle.node_core.specs.Rolls.{with_roll, IsCertificateFor, AreNew, takes_all};
+
+use ff_ids::Group;
+use fields::NoMemory;
+use membership::Membership;
+use record_set::RecordSet;
+use records::{Body, CertBody, Checked};
+use ring_order::hash_places;
+use std::alloc::Global;
+use validate::Roster;
+
+/// The members that have a certificate, the certificates, and the records that hold these.
+#[derive(Drop)]
+pub struct Roll {
+    pub membership: Membership,
+    pub roster: Roster,
+    pub records: RecordSet,
+}
+
+impl Roll {
+    /// Nobody is certified yet. The room for all is taken here.
+    pub fn open(alloc: Global, group: Group) -> Result<Roll, NoMemory>
+        requires { group.t ≤ 15 }
+        ensures group { IfOk result (λ r. r.membership.group ≡ group) }
+        ensures holds { IfOk result (λ r. Holds r.membership (opening [])) }
+        ensures roster { IfOk result (λ r. r.roster ≡ empty) }
+        ensures records { IfOk result (λ r. r.records ≡ empty) }
+    {
+        Ok(Roll {
+            membership: Membership::open(alloc, group)?,
+            roster: Roster::open(alloc)?,
+            records: RecordSet::open(alloc)?,
+        })
+    }
+
+    /// Takes the certificate of a number that has none.
+    fn take(&mut self, rec: Checked, cert: CertBody)
+        requires certificate { rec.rec.body ≡ bodies.Certificate cert }
+        requires tolerance { rec.t ≡ self.old.membership.group.t }
+        requires few { self.old.membership.group.t ≤ 15 }
+        ensures plays { (s : Setting) (es : List journal.Event) (os : List (ℕ × List ℕ)) (v : Kept) (c : Call) → IsAt s es os (with_roll v self.old) c
+            → v.group ≡ self.old.membership.group → v.telling.failed ≡ false → certificate_of c.node cert.member ≡ None
+            → IsAt s es os (with_roll v self.new) (takes s rec.rec c) }
+        ensures group { self.new.membership.group ≡ self.old.membership.group }
+    {
+        if self.roster.get(cert.member).is_some() {
+            return;
+        }
+        let places = hash_places(self.membership.group(), cert.member);
+        let _fault = self.membership.add_member(cert.member, places);
+        self.roster.put(cert);
+        self.records.put(rec);
+    }
+
+    /// Takes the certificates, in order, of numbers that have none.
+    pub fn take_all(&mut self, certificates: Vec<Checked>)
+        requires all { All (IsCertificateFor self.old.membership.group.t) certificates.items }
+        requires few { self.old.membership.group.t ≤ 15 }
+        ensures plays { (s : Setting) (es : List journal.Event) (os : List (ℕ × List ℕ)) (v : Kept) (c : Call) → IsAt s es os (with_roll v self.old) c
+            → v.group ≡ self.old.membership.group → v.telling.failed ≡ false → AreNew s c (map (λ x. x.rec) certificates.items)
+            → IsAt s es os (with_roll v self.new) (takes_all s (map (λ x. x.rec) certificates.items) c) }
+        ensures group { self.new.membership.group ≡ self.old.membership.group }
+    {
+        for rec in certificates {
+            match rec.rec().body {
+                Body::Certificate(cert) => self.take(rec, cert),
+                Body::Note(_) | Body::Accusation(_) => {}
+            }
+        }
+    }
+}

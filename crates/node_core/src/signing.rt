@@ -1,0 +1,124 @@
+//! Own signatures: each is told, accepted and sent, or it isn't made.
+
+ghost use Rattle.std.specs.Prelude.{◌≡◌, ℕ, ◌≤◌, ◌<◌, List, true, None, Some, IfErr, is_err};
+ghost use Rattle.ff_ids.specs.Masks.{ring_count, good_mask};
+ghost use Rattle.ports.specs.Count.{counted};
+ghost use Rattle.journal.specs.declared.event.Event as journal;
+ghost use Rattle.records.specs.declared.Body.TheVariants as bodies;
+ghost use Rattle.node_rules.specs.Nodes.{Setting};
+ghost use Rattle.node_rules.specs.Calls.{Call, own_record, signs_and_sends, wants};
+ghost use Rattle.node_core.specs.declared.NodeFault.TheVariants as faults;
+ghost use Rattle.node_core.specs.Playing.{Plays, Grows};
+ghost use Rattle.node_core.specs.Neighbours.{addressees};
+ghost use Rattle.node_core.specs.Signatures.{with_stored, next_own, Runs};
+
+use crate::sending::datagram_of;
+use crate::{Node, NodeFault};
+use ff_ids::{AccBody, Mask, NoteBody};
+use journal::What;
+use ports::Disk;
+use records::{Body, Checked};
+use signer::SignFault;
+use std::alloc::Global;
+
+impl Node {
+    /// The own note is told, accepted, and sent to the neighbours. The signer has spent this index on it.
+    fn pass_on_note(&mut self, alloc: Global, index: u32, rec: Checked, note: &NoteBody)
+        requires body { rec.rec.body ≡ bodies.Note note.now }
+        requires tolerance { rec.t ≡ self.old.group.t }
+        ensures plays { (s : Setting) (es : List journal.Event) (os : List (ℕ × List ℕ)) (c : Call) → Plays s es os self.old (with_stored (bodies.Note note.now) c)
+            → index ≡ c.node.stored.next → rec.rec ≡ own_record s c.node (bodies.Note note.now)
+            → Plays s es os self.new (signs_and_sends s (bodies.Note note.now) (addressees s None) c) }
+        ensures grows { Grows self.old self.new }
+    {
+        let bytes = datagram_of(alloc, self.me, rec.rec());
+        self.tell(What::Spent {
+            index,
+            body: Body::Note(*note),
+        });
+        self.take_note(rec, *note);
+        match bytes {
+            Ok(bytes) => self.send_to_neighbours(alloc, &bytes, None),
+            Err(_) => self.telling.fail(),
+        }
+    }
+
+    /// The own accusation is told, accepted, and sent to the neighbours and the accused.
+    fn pass_on_accusation(&mut self, alloc: Global, index: u32, rec: Checked, acc: &AccBody)
+        requires body { rec.rec.body ≡ bodies.Accusation acc.now }
+        requires tolerance { rec.t ≡ self.old.group.t }
+        requires ring { acc.now.ring.0 < ring_count self.old.group.t }
+        ensures plays { (s : Setting) (es : List journal.Event) (os : List (ℕ × List ℕ)) (c : Call) → Plays s es os self.old (with_stored (bodies.Accusation acc.now) c)
+            → index ≡ c.node.stored.next → rec.rec ≡ own_record s c.node (bodies.Accusation acc.now)
+            → Plays s es os self.new (signs_and_sends s (bodies.Accusation acc.now) (addressees s (Some acc.now.accused)) c) }
+        ensures grows { Grows self.old self.new }
+    {
+        let bytes = datagram_of(alloc, self.me, rec.rec());
+        self.tell(What::Spent {
+            index,
+            body: Body::Accusation(*acc),
+        });
+        self.take_accusation(rec, *acc);
+        match bytes {
+            Ok(bytes) => self.send_to_neighbours(alloc, &bytes, Some(acc.accused)),
+            Err(_) => self.telling.fail(),
+        }
+    }
+
+    /// A note of the next epoch with this mask is wanted.
+    pub(crate) fn want_note<D: Disk>(
+        &mut self,
+        alloc: Global,
+        disk: &mut D,
+        mask: Mask,
+    ) -> Result<(), NodeFault>
+        requires { good_mask self.old.group.t mask.0 ≡ true }
+        ensures plays { (s : Setting) (es : List journal.Event) (os : List (ℕ × List ℕ)) (c : Call) → Plays s es os self.old c
+            → Runs (λ works. Plays s es os self.new (wants works s (next_own s c.node mask) (addressees s None) c)) result }
+        ensures grows { Grows self.old self.new }
+        ensures faults { D.faults disk.new ≡ counted (is_err result) (D.faults disk.old) }
+        ensures cause { IfErr result (λ e. e ≡ faults.StoreFault) }
+    {
+        let index = self.signer.state().next;
+        match self.signer.sign_note(alloc, disk, self.me, mask) {
+            Ok(rec) => match rec.rec().body {
+                Body::Note(note) => self.pass_on_note(alloc, index, rec, &note),
+                Body::Certificate(_) | Body::Accusation(_) => self.telling.fail(),
+            },
+            Err(SignFault::Exhausted { .. }) => self.tell(What::Exhausted { next: index }),
+            Err(SignFault::OutOfMemory | SignFault::Closed) => self.telling.fail(),
+            Err(SignFault::StoreFault) => {
+                self.tell(What::Stopped);
+                return Err(NodeFault::StoreFault);
+            }
+        }
+        Ok(())
+    }
+
+    /// This accusation is wanted.
+    pub(crate) fn want_accusation<D: Disk>(
+        &mut self,
+        alloc: Global,
+        disk: &mut D,
+        acc: &AccBody,
+    ) -> Result<(), NodeFault>
+        requires { acc.now.ring.0 < ring_count self.old.group.t }
+        ensures plays { (s : Setting) (es : List journal.Event) (os : List (ℕ × List ℕ)) (c : Call) → Plays s es os self.old c
+            → Runs (λ works. Plays s es os self.new (wants works s (bodies.Accusation acc.now) (addressees s (Some acc.now.accused)) c)) result }
+        ensures grows { Grows self.old self.new }
+        ensures faults { D.faults disk.new ≡ counted (is_err result) (D.faults disk.old) }
+        ensures cause { IfErr result (λ e. e ≡ faults.StoreFault) }
+    {
+        let index = self.signer.state().next;
+        match self.signer.sign_accusation(alloc, disk, *acc) {
+            Ok(rec) => self.pass_on_accusation(alloc, index, rec, acc),
+            Err(SignFault::Exhausted { .. }) => self.tell(What::Exhausted { next: index }),
+            Err(SignFault::OutOfMemory | SignFault::Closed) => self.telling.fail(),
+            Err(SignFault::StoreFault) => {
+                self.tell(What::Stopped);
+                return Err(NodeFault::StoreFault);
+            }
+        }
+        Ok(())
+    }
+}

@@ -1,0 +1,302 @@
+//! How a life begins: certificates are taken, and a first note is signed and accepted. Nothing is sent.
+
+ghost use Rattle.std.specs.Prelude.{◌≡◌, ◌≤◌, ◌<◌, ◌^◌, ◌+◌, ℕ, true, false, List, [], length, IfOk, IfErr, OnErr, All, is_err};
+ghost use Rattle.std.specs.List.{list_any};
+ghost use Rattle.ff_ids.specs.Masks.{good_mask};
+ghost use Rattle.ports.specs.Count.{counted};
+ghost use Rattle.records.specs.declared.Record.{Record as Recorded};
+ghost use Rattle.records.specs.declared.Body.TheVariants as bodies;
+ghost use Rattle.epoch_store.specs.declared.Stored.{Stored};
+ghost use Rattle.node_rules.specs.Nodes.{Setting};
+ghost use Rattle.node_rules.specs.Calls.{Call, own_record, signs};
+ghost use Rattle.node_rules.specs.Replies.{first_mask as mask_at_first, all_rings as all_rings_of};
+ghost use Rattle.node_rules.specs.Starting.{started};
+ghost use Rattle.journal.specs.declared.event.Event as journal;
+ghost use Rattle.node_core.specs.Playing.{Plays, Grows, IsReady, setting_of};
+ghost use Rattle.node_core.specs.Signatures.{with_stored};
+ghost use Rattle.node_core.specs.Told.{IsFront};
+ghost use Rattle.node_core.specs.Rolls.{IsCertificateFor, AreApart, recs_of};
+ghost use Rattle.node_core.specs.Begins.{AreOf, HasOpened, MayBegin, IsFirst, IsKit, MayRefuse, Starts, is_store_fault};
+
+use crate::kit::{Events, Kit, Outbox};
+use crate::roll::Roll;
+use crate::telling::Telling;
+use crate::{Node, NodeFault};
+use detector::{Detector, Found};
+use ff_ids::{Epoch, Group, Mask, MemberId, NoteBody, good_mask};
+use fields::NoMemory;
+use journal::What;
+use lms_tree::PublicKey;
+use membership::Changes;
+use ports::Disk;
+use records::{Body, Checked};
+use signer::{SignFault, Signer};
+use std::alloc::Global;
+
+/// The mask of all rings of a group of this tolerance.
+fn all_rings(t: u8) -> Mask
+    requires { t ≤ 15 }
+    ensures { result.0 ≡ all_rings_of t }
+{
+    Mask((1 << (2 * u32::from(t) + 1)) - 1)
+}
+
+/// The mask of a life's first note: the stored one, or that of all rings where it isn't good.
+fn first_mask(group: &Group, stored: Mask) -> Mask
+    requires some { 1 ≤ group.now.t }
+    requires few { group.now.t ≤ 15 }
+    ensures value { result.0 ≡ mask_at_first group.now.t stored.0 }
+    ensures good { good_mask group.now.t result.0 ≡ true }
+{
+    if good_mask(group.t, stored) {
+        return stored;
+    }
+    all_rings(group.t)
+}
+
+/// What a life is kept in, with the certificates of its kit.
+#[derive(Drop)]
+pub struct Parts {
+    pub roll: Roll,
+    pub detector: Detector,
+    pub changes: Changes,
+    pub found: Found,
+}
+
+/// Takes the room for a life, and these certificates.
+fn open_parts(
+    alloc: Global,
+    group: &Group,
+    certificates: Vec<Checked>,
+    seed: [u8; 32],
+) -> Result<Parts, NoMemory>
+    requires few { group.now.t ≤ 15 }
+    requires misses { group.now.misses ≤ 16 }
+    requires certificates { All (IsCertificateFor group.now.t) certificates.items }
+    requires apart { AreApart (recs_of certificates.items) }
+    ensures opened { IfOk result (λ p. HasOpened group.now seed (recs_of certificates.items) p) }
+    ensures groups { IfOk result (λ p. AreOf group.now p) }
+{
+    let mut roll = Roll::open(alloc, *group)?;
+    let detector = Detector::open(alloc, group, seed)?;
+    let changes = Changes::new(alloc)?;
+    let found = Found::new(alloc)?;
+    roll.take_all(certificates);
+    Ok(Parts {
+        roll,
+        detector,
+        changes,
+        found,
+    })
+}
+
+/// The first note of a life, and the index that was spent on it.
+#[derive(Drop)]
+pub struct First {
+    pub index: u32,
+    pub note: NoteBody,
+    pub rec: Checked,
+}
+
+/// Signs the first note: of the next epoch, with the mask that the store keeps, if it is good.
+fn sign_first<D: Disk>(
+    alloc: Global,
+    signer: &mut Signer,
+    disk: &mut D,
+    group: &Group,
+    me: MemberId,
+) -> Result<First, NodeFault>
+    requires some { 1 ≤ group.now.t }
+    requires few { group.now.t ≤ 15 }
+    requires open { signer.old.closed ≡ false }
+    ensures faults { D.faults disk.new ≡ counted (is_store_fault result) (D.faults disk.old) }
+    ensures signed { IfOk result (λ f. IsFirst signer.old signer.new group.now.t me f) }
+    ensures cause { IfErr result (λ e. MayRefuse signer.old e) }
+{
+    let index = signer.state().next;
+    let mask = first_mask(group, signer.state().mask);
+    match signer.sign_note(alloc, disk, me, mask) {
+        Ok(rec) => Ok(First {
+            index,
+            note: NoteBody {
+                member: me,
+                epoch: Epoch::new(signer.state().epoch),
+                mask,
+            },
+            rec,
+        }),
+        Err(SignFault::Exhausted { next }) => Err(NodeFault::Exhausted { next }),
+        Err(SignFault::OutOfMemory | SignFault::Closed) => Err(NodeFault::OutOfMemory),
+        Err(SignFault::StoreFault) => Err(NodeFault::StoreFault),
+    }
+}
+
+/// A node whose first note is signed, and not yet accepted.
+#[derive(Drop)]
+pub struct Ready {
+    pub group: Group,
+    pub me: MemberId,
+    pub authority: PublicKey,
+    pub signer: Signer,
+    pub roll: Roll,
+    pub detector: Detector,
+    pub changes: Changes,
+    pub found: Found,
+    pub index: u32,
+    pub note: NoteBody,
+    pub rec: Checked,
+}
+
+/// Takes all room and the certificates, and signs the first note.
+fn make_ready<D: Disk>(
+    alloc: Global,
+    kit: Kit,
+    signer: Signer,
+    disk: &mut D,
+) -> Result<Ready, NodeFault>
+    requires kit { IsKit kit }
+    requires signer { signer.group ≡ kit.group }
+    requires open { signer.closed ≡ false }
+    ensures faults { D.faults disk.new ≡ counted (is_store_fault result) (D.faults disk.old) }
+    ensures ready { IfOk result (λ r. IsReady r.group r.me r.roll.membership r.detector r.signer) }
+    ensures body { IfOk result (λ r. r.rec.rec.body ≡ bodies.Note r.note) }
+    ensures tolerance { IfOk result (λ r. r.rec.t ≡ r.group.t) }
+    ensures begins { IfOk result (λ r. (s : Setting) → s ≡ setting_of kit.group kit.me kit.authority signer.key
+        → MayBegin s kit.nonce_seed (recs_of kit.certificates.items) signer.state r) }
+    ensures cause { IfErr result (λ e. MayRefuse signer e) }
+{
+    let Kit {
+        group,
+        me,
+        authority,
+        certificates,
+        nonce_seed,
+    } = kit;
+    let Ok(parts) = open_parts(alloc, &group, certificates, nonce_seed) else {
+        return Err(NodeFault::OutOfMemory);
+    };
+    let mut signer = signer;
+    let first = sign_first(alloc, &mut signer, disk, &group, me)?;
+    let Parts {
+        roll,
+        detector,
+        changes,
+        found,
+    } = parts;
+    let First { index, note, rec } = first;
+    Ok(Ready {
+        group,
+        me,
+        authority,
+        signer,
+        roll,
+        detector,
+        changes,
+        found,
+        index,
+        note,
+        rec,
+    })
+}
+
+impl Node {
+    /// The first note is told and accepted. The signer has spent this index on it.
+    fn keep_first(&mut self, index: u32, rec: Checked, note: &NoteBody)
+        requires body { rec.rec.body ≡ bodies.Note note.now }
+        requires tolerance { rec.t ≡ self.old.group.t }
+        ensures plays { (s : Setting) (es : List journal.Event) (os : List (ℕ × List ℕ)) (c : Call) → Plays s es os self.old (with_stored (bodies.Note note.now) c)
+            → index ≡ c.node.stored.next → rec.rec ≡ own_record s c.node (bodies.Note note.now)
+            → Plays s es os self.new (signs s (bodies.Note note.now) c) }
+        ensures grows { Grows self.old self.new }
+    {
+        self.tell(What::Spent {
+            index,
+            body: Body::Note(*note),
+        });
+        self.take_note(rec, *note);
+    }
+}
+
+impl Ready {
+    /// The life begins: what it tells goes behind what was told.
+    pub fn begin(self, telling: Telling) -> Node
+        requires ready { IsReady self.group self.me self.roll.membership self.detector self.signer }
+        requires body { self.rec.rec.body ≡ bodies.Note self.note }
+        requires tolerance { self.rec.t ≡ self.group.t }
+        requires before { telling.before ≡ length telling.sent }
+        ensures plays { (s : Setting) (seed : List ℕ) (certificates : List Recorded) (stored : Stored) → MayBegin s seed certificates stored self
+            → Plays s telling.events telling.sent result (started s seed certificates stored) }
+        ensures front { IsFront telling.events result.telling.events }
+        ensures going { result.ended ≡ false }
+    {
+        let Ready {
+            group,
+            me,
+            authority,
+            signer,
+            roll,
+            detector,
+            changes,
+            found,
+            index,
+            note,
+            rec,
+        } = self;
+        let Roll {
+            membership,
+            roster,
+            records,
+        } = roll;
+        let mut node = Node {
+            group,
+            me,
+            authority,
+            signer,
+            membership,
+            roster,
+            records,
+            detector,
+            changes,
+            found,
+            telling,
+            ended: false,
+        };
+        node.keep_first(index, rec, &note);
+        node
+    }
+}
+
+impl Node {
+    /// Begins a life: takes the certificates of the kit, and signs and accepts a first note, of the epoch after the
+    /// stored one, with the stored mask if it is good, else with all rings enabled. Nothing is sent.
+    ///
+    /// The signer was opened with the kit's group, and the disk is that of its store. `Exhausted` comes where the key has
+    /// no leaf left, `StoreFault` only where the disk failed; `Ended` never. A life that is refused tells nothing.
+    pub fn start<D: Disk>(
+        alloc: Global,
+        kit: Kit,
+        signer: Signer,
+        disk: &mut D,
+        events: &mut Events,
+    ) -> Result<Node, NodeFault>
+        requires kit { IsKit kit }
+        requires signer { signer.group ≡ kit.group }
+        requires open { signer.closed ≡ false }
+        ensures starts { IfOk result (λ node. (s : Setting) → s ≡ setting_of kit.group kit.me kit.authority signer.key
+            → Starts s kit.nonce_seed (recs_of kit.certificates.items) signer.state node events.old events.new) }
+        ensures going { IfOk result (λ node. node.ended ≡ false) }
+        ensures silent { OnErr result (events.new ≡ events.old) }
+        ensures cause { IfErr result (λ e. MayRefuse signer e) }
+        ensures faults { D.faults disk.new ≡ counted (is_store_fault result) (D.faults disk.old) }
+    {
+        let ready = make_ready(alloc, kit, signer, disk)?;
+        let before = events.events.len();
+        let mut out = Outbox::new(alloc);
+        let mut node = ready.begin(Telling::over(alloc, events, &mut out));
+        if node.telling.give_back(events, &mut out) {
+            events.events.truncate(before);
+            return Err(NodeFault::OutOfMemory);
+        }
+        Ok(node)
+    }
+}

@@ -1,0 +1,100 @@
+//! The small steps of a node: one event of its life, one accepted record.
+
+ghost use Rattle.std.specs.Prelude.{◌≡◌, ℕ, ◌≤◌, ◌<◌, ◌^◌, ◌-◌, List, None};
+ghost use Rattle.ff_ids.specs.Masks.{ring_count};
+ghost use Rattle.ff_ids.specs.Steps.{Notes, Accuses, Ticks, Joins};
+ghost use Rattle.journal.specs.declared.event.Event as journal;
+ghost use Rattle.records.specs.declared.Body.TheVariants as bodies;
+ghost use Rattle.node_rules.specs.Nodes.{Setting, certificate_of};
+ghost use Rattle.node_rules.specs.Calls.{Call, tells, lives, takes};
+ghost use Rattle.node_core.specs.Playing.{Kept, Plays, Grows};
+
+use crate::Node;
+use crate::parts::report;
+use ff_ids::{AccBody, NoteBody};
+use journal::What;
+use records::{CertBody, Checked};
+use ring_order::hash_places;
+
+impl Node {
+    pub(crate) fn tell(&mut self, what: What)
+        ensures plays { (s : Setting) (es : List journal.Event) (os : List (ℕ × List ℕ)) (c : Call) → Plays s es os self.old c
+            → Plays s es os self.new (tells s what c) }
+        ensures grows { Grows self.old self.new }
+    {
+        self.telling.tell(self.membership.now(), what);
+    }
+
+    /// One event of the life: the note, if it has no fault.
+    fn live_note(&mut self, note: NoteBody)
+        ensures plays { (s : Setting) (es : List journal.Event) (os : List (ℕ × List ℕ)) (c : Call) → Plays s es os self.old c
+            → Plays s es os self.new (lives s (Notes note) c) }
+        ensures grows { Grows self.old self.new }
+    {
+        let _fault = self.membership.put_note(note, &mut self.changes);
+        report(
+            &mut self.records,
+            &mut self.telling,
+            self.membership.now(),
+            &self.changes,
+        );
+    }
+
+    /// One event of the life: a tick.
+    pub(crate) fn live_tick(&mut self)
+        requires { self.old.membership.moment < 2 ^ 64 - 1 }
+        ensures plays { (s : Setting) (es : List journal.Event) (os : List (ℕ × List ℕ)) (c : Call) → Plays s es os self.old c
+            → Plays s es os self.new (lives s Ticks c) }
+        ensures grows { Grows self.old self.new }
+    {
+        self.membership.tick(&mut self.changes);
+        report(
+            &mut self.records,
+            &mut self.telling,
+            self.membership.now(),
+            &self.changes,
+        );
+    }
+
+    /// Accepts the note of this record.
+    pub(crate) fn take_note(&mut self, rec: Checked, note: NoteBody)
+        requires note { rec.rec.body ≡ bodies.Note note }
+        requires tolerance { rec.t ≡ self.old.group.t }
+        ensures plays { (s : Setting) (es : List journal.Event) (os : List (ℕ × List ℕ)) (c : Call) → Plays s es os self.old c
+            → Plays s es os self.new (takes s rec.rec c) }
+        ensures grows { Grows self.old self.new }
+    {
+        self.live_note(note);
+        self.records.put(rec);
+    }
+
+    /// Accepts the accusation of this record.
+    pub(crate) fn take_accusation(&mut self, rec: Checked, acc: AccBody)
+        requires accusation { rec.rec.body ≡ bodies.Accusation acc }
+        requires tolerance { rec.t ≡ self.old.group.t }
+        requires ring { acc.ring.0 < ring_count self.old.group.t }
+        ensures plays { (s : Setting) (es : List journal.Event) (os : List (ℕ × List ℕ)) (c : Call) → Plays s es os self.old c
+            → Plays s es os self.new (takes s rec.rec c) }
+        ensures grows { Grows self.old self.new }
+    {
+        let _fault = self.membership.put_accusation(acc);
+        self.records.put(rec);
+    }
+
+    /// Accepts the certificate of this record, of a number without one.
+    pub(crate) fn take_certificate(&mut self, rec: Checked, cert: CertBody)
+        requires certificate { rec.rec.body ≡ bodies.Certificate cert }
+        requires tolerance { rec.t ≡ self.old.group.t }
+        ensures plays { (s : Setting) (es : List journal.Event) (os : List (ℕ × List ℕ)) (c : Call) → Plays s es os self.old c
+            → certificate_of c.node cert.member ≡ None → Plays s es os self.new (takes s rec.rec c) }
+        ensures grows { Grows self.old self.new }
+    {
+        if self.roster.get(cert.member).is_some() {
+            return;
+        }
+        let places = hash_places(&self.group, cert.member);
+        let _fault = self.membership.add_member(cert.member, places);
+        self.roster.put(cert);
+        self.records.put(rec);
+    }
+}

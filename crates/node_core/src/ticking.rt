@@ -1,0 +1,130 @@
+//! One tick: that of the life, and where it is due the accusations of the silent, the pings and the summary.
+
+ghost use Rattle.std.specs.Prelude.{◌≡◌, ℕ, ◌<◌, ◌-◌, ◌^◌, List, true, false, ◌↔◌, IfOk, IfErr, is_err};
+ghost use Rattle.ports.specs.Count.{counted as counts_faults, Rose};
+ghost use Rattle.node_rules.specs.Nodes.{Node as RulesNode};
+ghost use Rattle.node_rules.specs.Calls.{begun};
+ghost use Rattle.node_core.specs.declared.NodeFault.TheVariants as faults;
+ghost use Rattle.node_core.specs.Playing.{IsNode};
+ghost use Rattle.node_core.specs.Answers.{Stands, IsEnded};
+ghost use Rattle.node_core.specs.Ticks.{RunsDue, RunsTick, GivesTick};
+ghost use Rattle.journal.specs.declared.event.Event as journal;
+ghost use Rattle.node_rules.specs.Nodes.{Setting};
+ghost use Rattle.node_rules.specs.Calls.{Call};
+ghost use Rattle.node_rules.specs.Ticking.{pings_all};
+ghost use Rattle.node_core.specs.Playing.{Plays, Grows};
+
+use crate::telling::Telling;
+use crate::{Events, Node, NodeFault, Outbox};
+use detector::Found;
+use ff_ids::MemberId;
+use fields::NoMemory;
+use ports::Disk;
+use std::alloc::Global;
+
+/// What a due tick finds: the silent, and the pings to send.
+#[derive(Drop)]
+pub struct Due {
+    pub silent: Vec<MemberId>,
+    pub pings: Vec<(MemberId, u64)>,
+}
+
+/// Copies what was found.
+fn copied(alloc: Global, found: &Found) -> Result<Due, NoMemory>
+    ensures silent { IfOk result (λ due. due.silent.items ≡ found.now.silent) }
+    ensures pings { IfOk result (λ due. due.pings.items ≡ found.now.pings) }
+{
+    Ok(Due {
+        silent: found.silent().to_vec(alloc)?,
+        pings: found.pings().to_vec(alloc)?,
+    })
+}
+
+impl Node {
+    /// The pings go out, each to a member with its nonce, in order.
+    pub(crate) fn ping_all(&mut self, alloc: Global, pings: &[(MemberId, u64)])
+        ensures plays { (s : Setting) (es : List journal.Event) (os : List (ℕ × List ℕ)) (c : Call) → Plays s es os self.old c
+            → Plays s es os self.new (pings_all s pings.now c) }
+        ensures grows { Grows self.old self.new }
+    {
+        for ping in pings {
+            let (to, nonce) = *ping;
+            self.send_ping(alloc, to, nonce);
+        }
+    }
+
+    /// What a due tick brings behind that of the life: the accusations, then the pings, then the summary.
+    fn pass_due<D: Disk>(
+        &mut self,
+        alloc: Global,
+        disk: &mut D,
+        round: u64,
+        due: Due,
+    ) -> Result<(), NodeFault>
+        ensures plays { (s : Setting) (es : List journal.Event) (os : List (ℕ × List ℕ)) (c : Call) → Plays s es os self.old c
+            → RunsDue (λ x. Plays s es os self.new x) s due.silent.items due.pings.items round c result }
+        ensures grows { Grows self.old self.new }
+        ensures faults { D.faults disk.new ≡ counts_faults (is_err result) (D.faults disk.old) }
+        ensures cause { IfErr result (λ e. e ≡ faults.StoreFault) }
+    {
+        let Due { silent, pings } = due;
+        self.accuse_all(alloc, disk, silent)?;
+        self.ping_all(alloc, &pings);
+        self.gossip(alloc, round);
+        Ok(())
+    }
+
+    /// One tick.
+    fn pass<D: Disk>(&mut self, alloc: Global, disk: &mut D) -> Result<(), NodeFault>
+        requires { self.old.membership.moment < 2 ^ 64 - 1 }
+        ensures plays { (s : Setting) (es : List journal.Event) (os : List (ℕ × List ℕ)) (n : RulesNode) → Plays s es os self.old (begun n)
+            → RunsTick (self.new.telling.failed ≡ false) (λ x. Plays s es os self.new x) s n result }
+        ensures grows { Grows self.old self.new }
+        ensures faults { D.faults disk.new ≡ counts_faults (is_err result) (D.faults disk.old) }
+        ensures cause { IfErr result (λ e. e ≡ faults.StoreFault) }
+    {
+        self.live_tick();
+        let now = self.membership.now();
+        let period = u64::from(self.group.period);
+        let is_due = now % period == 0;
+        self.detector
+            .tick(is_due, &self.membership, self.me, &mut self.found);
+        if !is_due {
+            return Ok(());
+        }
+        match copied(alloc, &self.found) {
+            Ok(due) => self.pass_due(alloc, disk, (now / period).saturating_sub(1), due),
+            Err(_) => {
+                self.telling.fail();
+                Ok(())
+            }
+        }
+    }
+
+    /// One tick: appends what it tells to `events` and what it sends to `out`. `Ended` comes exactly where an earlier
+    /// call answered a fault. After a fault what was given stands, and the node is over. The disk is the one on which
+    /// the signer's store was opened.
+    pub fn tick<D: Disk>(
+        &mut self,
+        alloc: Global,
+        disk: &mut D,
+        out: &mut Outbox,
+        events: &mut Events,
+    ) -> Result<(), NodeFault>
+        requires { self.old.membership.moment < 2 ^ 64 - 1 }
+        ensures step { (s : Setting) (n : RulesNode) → IsNode s self.old n → self.old.ended ≡ false
+            → GivesTick s n self.new (record { events = events.old; sent = out.old }) (record { events = events.new; sent = out.new }) result }
+        ensures over { (self.old.ended ≡ true) ↔ IsEnded result }
+        ensures ended { self.new.ended ≡ is_err result }
+        ensures still { self.old.ended ≡ true → (self.new ≡ self.old) × (disk.new ≡ disk.old) × (events.new ≡ events.old) × (out.new ≡ out.old) }
+        ensures stands { Stands (record { events = events.old; sent = out.old }) (record { events = events.new; sent = out.new }) }
+        ensures faults { IfErr result (λ e. e ≡ faults.StoreFault → Rose (D.faults disk.old) (D.faults disk.new)) }
+    {
+        if self.ended {
+            return Err(NodeFault::Ended);
+        }
+        self.telling = Telling::over(alloc, events, out);
+        let passed = self.pass(alloc, disk);
+        self.finish(passed, out, events)
+    }
+}

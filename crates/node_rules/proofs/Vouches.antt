@@ -1,0 +1,296 @@
+-- Each event of a life is vouched for by a record.
+use Rattle.std.proofs.Common.{◌≡◌, ℕ, Bool, true, false, cond, inl, inr, List, [], ◌∷◌, ◌++◌, Option, Some, None, refl, ap, sym, ◌∙◌, subst, map, arith, ◌⊎◌}
+use Rattle.std.specs.Prelude.{fold, option_map}
+use Rattle.std.specs.List.{AllByRecursion, list_any}
+use Rattle.std.specs.Option.{option_and_then}
+use Rattle.std.specs.Ordering.{eq_by_cmp}
+use Rattle.std.proofs.lemmas.Bool.{cases_Bool, eqb-true}
+use Rattle.std.proofs.lemmas.Bool.Decides.{nat_tests}
+use Rattle.ff_ids.specs.declared.AccBody.{AccBody}
+use Rattle.ff_ids.specs.declared.Fault.TheVariants as faults
+use Rattle.ff_ids.specs.declared.summary.RecordKey.TheVariants as keys
+use Rattle.ff_ids.specs.Steps.{Event, Joins, Notes, Accuses, Ticks, Report, step}
+use Rattle.lms_tree.specs.declared.key.PublicKey.{PublicKey}
+use Rattle.records.specs.declared.CertBody.{CertBody}
+use Rattle.records.specs.declared.Body.{Body}
+use Rattle.records.specs.declared.Body.TheVariants.{Certificate, Note, Accusation}
+use Rattle.records.specs.declared.Record.{Record}
+use Rattle.epoch_store.specs.declared.Stored.{Stored}
+use Rattle.datagram.specs.declared.Datagram.{Datagram}
+use Rattle.record_set.specs.Held.{key_cmp}
+use Rattle.detector.specs.Silence.{History}
+use Rattle.node_rules.specs.Nodes.{Setting, Node, Holding, state_of, event_of, with_record, without, without_ended, key_of_accusation, certificate_in, certificate_of, public_key_of}
+use Rattle.node_rules.specs.Refusals.{signature_fault, refusal, refusal_of}
+use Rattle.node_rules.specs.Calls.{Call, begun, lives, takes, spends, signs, sends, own_record}
+use Rattle.node_rules.specs.Deliveries.{answer_to}
+use Rattle.node_rules.specs.Starting.{blank, opened, started, first_note}
+use Rattle.node_rules.specs.Lives.{is_certificate_for, Input, call_of, after_calls}
+use Rattle.node_rules.specs.Vouching.{IsVouchedFor, IsVouched, OwnSignaturesVerify, IsCertifiedBy}
+use Rattle.node_rules.proofs.OwnNote.{option_or-none, or-second}
+use Rattle.node_rules.proofs.Keeping.{Keeps, keeps-call}
+
+-- ---- certificates that stay
+
+-- The keys of the first are those of the second.
+abbrev pub Stay : Node → Node → Type 0
+Stay n m = (k : ℕ) (key : PublicKey) → public_key_of n k ≡ Some key → public_key_of m k ≡ Some key
+
+vouched-stays : (s : Setting) (n m : Node) (e : Event) → Stay n m → IsVouched s n e → IsVouched s m e
+vouched-stays s n m (Joins number places) stay v = v
+vouched-stays s n m (Notes note) stay v = record { witness = v.witness; key = v.key; says = v.says; author_is = stay note.member v.key v.author_is; verifies = v.verifies }
+vouched-stays s n m (Accuses a) stay v = record { witness = v.witness; key = v.key; says = v.says; author_is = stay a.accuser v.key v.author_is; verifies = v.verifies }
+vouched-stays s n m Ticks stay v = tt
+
+all-stay : (s : Setting) (n m : Node) (events : List Event) → Stay n m → AllByRecursion (IsVouched s n) events → AllByRecursion (IsVouched s m) events
+all-stay s n m [] stay all = tt
+all-stay s n m (e ∷ events) stay all = (vouched-stays s n m e stay all.0, all-stay s n m events stay all.1)
+
+all-push : {X : Type 0} (P : X → Type 0) (xs : List X) (x : X) → AllByRecursion P xs → P x → AllByRecursion P (xs ++ x ∷ [])
+all-push P [] x all h = (h, tt)
+all-push P (y ∷ xs) x all h = (all.0, all-push P xs x all.1 h)
+
+-- ---- what is held
+
+fold-without : (gone : List AccBody) (held : Holding) (m : ℕ) → fold without held (map key_of_accusation gone) (keys.Certificate m) ≡ held (keys.Certificate m)
+fold-without [] held m = refl
+fold-without (a ∷ gone) held m = fold-without gone (without held (key_of_accusation a)) m
+
+pub ended-certificate : (r : Report) (held : Holding) (m : ℕ) → without_ended r held (keys.Certificate m) ≡ held (keys.Certificate m)
+ended-certificate r held m = fold-without (r.expired ++ r.fell) held m
+
+same_number : (a b : ℕ) → eq_by_cmp key_cmp (keys.Certificate a) (keys.Certificate b) ≡ true → a ≡ b
+same_number a b h = grind (arith, nat_tests, h)
+
+pub certificate-with : (r : Record) (held : Holding) (b : Body) (m : ℕ) (key : PublicKey) → r.body ≡ b
+    → ((c : CertBody) → b ≡ Certificate c → c.member ≡ m → ⊥)
+    → option_map (λ c. c.key) (option_and_then (λ x. certificate_in x.body) (held (keys.Certificate m))) ≡ Some key
+    → option_map (λ c. c.key) (option_and_then (λ x. certificate_in x.body) (with_record r held (keys.Certificate m))) ≡ Some key
+certificate-with r held (Note note) m key is free h = rw is h
+certificate-with r held (Accusation a) m key is free h = rw is h
+certificate-with r held (Certificate c) m key is free h =
+    elim (cases_Bool (eq_by_cmp key_cmp (keys.Certificate m) (keys.Certificate c.member))) [
+      | inl same ↦ absurd (free c refl (sym (same_number m c.member same)))
+      | inr apart ↦ rw (is, apart) h
+    ]
+
+-- ---- steps
+
+map-none : {X Y : Type 0} (f : X → Y) (o : Option X) → option_map f o ≡ None → o ≡ None
+map-none f None h = refl
+map-none f (Some x) h = cc
+
+none-some : {X Y : Type 0} (f : X → Y) (o : Option X) (y : Y) → o ≡ None → option_map f o ≡ Some y → ⊥
+none-some f o y none some = cc
+
+not_kept : (s : Setting) (n : Node) (r : Record) (c : CertBody) (k : ℕ) (key : PublicKey) → refusal s n r ≡ None → public_key_of n k ≡ Some key → r.body ≡ Certificate c → c.member ≡ k → ⊥
+unfolding refusal
+not_kept s n r c k key fine some is who =
+    let fine2 : refusal_of s n r (Certificate c) ≡ None = sym (ap (refusal_of s n r) is) ∙ fine in
+    let none : certificate_of n c.member ≡ None = map-none _ (certificate_of n c.member) (option_or-none _ _ fine2).0 in
+    none-some (λ x. x.key) (certificate_of n k) key (sym (ap (certificate_of n) who) ∙ none) some
+
+ended-key : (r : Report) (held : Holding) (m : ℕ) → option_map (λ c. c.key) (option_and_then (λ x. certificate_in x.body) (without_ended r held (keys.Certificate m))) ≡ option_map (λ c. c.key) (option_and_then (λ x. certificate_in x.body) (held (keys.Certificate m)))
+ended-key r held m = ap (λ o. option_map (λ c. c.key) (option_and_then (λ x. certificate_in x.body) o)) (ended-certificate r held m)
+
+stay-lives : (s : Setting) (e : Event) (c : Call) → Stay c.node (lives s e c).node
+unfolding lives certificate_of
+stay-lives s e c = λ k key h. ended-key (step s.group (state_of s c.node) e).report c.node.held k ∙ h
+
+stay-takes : (s : Setting) (r : Record) (c : Call) → ((x : CertBody) (k : ℕ) (key : PublicKey) → public_key_of c.node k ≡ Some key → r.body ≡ Certificate x → x.member ≡ k → ⊥) → Stay c.node (takes s r c).node
+unfolding takes lives certificate_of
+stay-takes s r c free = λ k key h.
+    let rep : Report = (step s.group (state_of s c.node) (event_of s r.body)).report in
+    certificate-with r (without_ended rep c.node.held) r.body k key refl (λ x is who. free x k key h is who) (ended-key rep c.node.held k ∙ h)
+
+lived-lives : (s : Setting) (e : Event) (c : Call) → (lives s e c).node.lived ≡ c.node.lived ++ e ∷ []
+unfolding lives
+lived-lives s e c = refl
+
+lived-takes : (s : Setting) (r : Record) (c : Call) → (takes s r c).node.lived ≡ c.node.lived ++ event_of s r.body ∷ []
+unfolding takes lives
+lived-takes s r c = refl
+
+signature-vouches : (s : Setting) (author : Option PublicKey) (r : Record) (b : Body) → r.body ≡ b → signature_fault s author r ≡ None → IsVouchedFor s author b
+signature-vouches s None r b is fine = cc
+signature-vouches s (Some key) r b is fine =
+    elim (cases_Bool (s.verifies key r)) [
+      | inl good ↦ record { witness = r; key = key; says = is; author_is = refl; verifies = good }
+      | inr bad ↦ absurd (some-none (sym (ap (λ (b : Bool). cond b None (Some faults.BadSignature)) bad) ∙ fine))
+    ]
+  where
+    some-none : Some faults.BadSignature ≡ None → ⊥
+    some-none e = cc
+
+pub accepted-vouched : (s : Setting) (n : Node) (r : Record) (b : Body) → r.body ≡ b → refusal s n r ≡ None → IsVouched s n (event_of s b)
+unfolding refusal
+accepted-vouched s n r (Certificate c) is fine =
+    let fine2 : refusal_of s n r (Certificate c) ≡ None = sym (ap (refusal_of s n r) is) ∙ fine in
+    (c, (refl, signature-vouches s (Some s.authority) r (Certificate c) is (option_or-none _ _ fine2).1))
+accepted-vouched s n r (Note note) is fine =
+    let fine2 : refusal_of s n r (Note note) ≡ None = sym (ap (refusal_of s n r) is) ∙ fine in
+    signature-vouches s (public_key_of n note.member) r (Note note) is (option_or-none _ _ (option_or-none _ _ fine2).1).0
+accepted-vouched s n r (Accusation a) is fine =
+    let fine2 : refusal_of s n r (Accusation a) ≡ None = sym (ap (refusal_of s n r) is) ∙ fine in
+    signature-vouches s (public_key_of n a.accuser) r (Accusation a) is (option_or-none _ _ fine2).1
+
+-- Each event is vouched for, and the own key is held.
+pub record Vouches (s : Setting) (own : PublicKey) (n : Node) : Type 0 where
+  pub events : AllByRecursion (IsVouched s n) n.lived
+  pub own_key : public_key_of n s.me ≡ Some own
+
+-- One more event, and what was held of certificates stays.
+more : (s : Setting) (own : PublicKey) (n m : Node) (e : Event) → Stay n m → m.lived ≡ n.lived ++ e ∷ [] → IsVouched s n e → Vouches s own n → Vouches s own m
+more s own n m e stay lived v h =
+    record {
+      events = subst (AllByRecursion (IsVouched s m)) (sym lived) (all-push (IsVouched s m) n.lived e (all-stay s n m n.lived stay h.events) (vouched-stays s n m e stay v));
+      own_key = stay s.me own h.own_key;
+    }
+
+vouches-takes : (s : Setting) (own : PublicKey) (r : Record) (c : Call) → refusal s c.node r ≡ None → Vouches s own c.node → Vouches s own (takes s r c).node
+vouches-takes s own r c fine h =
+    more s own c.node (takes s r c).node (event_of s r.body) (stay-takes s r c (λ x k key some is who. not_kept s c.node r x k key fine some is who)) (lived-takes s r c) (accepted-vouched s c.node r r.body refl fine) h
+
+IsOwnBody : Setting → Body → Type 0
+IsOwnBody s (Certificate c) = ⊥
+IsOwnBody s (Note note) = note.member ≡ s.me
+IsOwnBody s (Accusation a) = a.accuser ≡ s.me
+
+own-vouched : (s : Setting) (own : PublicKey) (n : Node) (index : ℕ) (b : Body) → IsOwnBody s b → OwnSignaturesVerify s own → public_key_of n s.me ≡ Some own → IsVouched s n (event_of s b)
+unfolding IsOwnBody
+own-vouched s own n index (Certificate c) mine signs h = absurd mine
+own-vouched s own n index (Note note) mine signs h =
+    record { witness = record { body = Note note; signature = s.signature index (Note note) }; key = own; says = refl; author_is = ap (public_key_of n) mine ∙ h; verifies = signs index (Note note) }
+own-vouched s own n index (Accusation a) mine signs h =
+    record { witness = record { body = Accusation a; signature = s.signature index (Accusation a) }; key = own; says = refl; author_is = ap (public_key_of n) mine ∙ h; verifies = signs index (Accusation a) }
+
+not_own_certificate : (s : Setting) (b : Body) (x : CertBody) → IsOwnBody s b → b ≡ Certificate x → ⊥
+unfolding IsOwnBody
+not_own_certificate s (Certificate c) x mine is = mine
+not_own_certificate s (Note note) x mine is = cc
+not_own_certificate s (Accusation a) x mine is = cc
+
+spent : (s : Setting) (own : PublicKey) (b : Body) (c : Call) → Vouches s own c.node → Vouches s own (spends s b c).node
+unfolding certificate_of
+spent s own b c h = record { events = h.events; own_key = h.own_key }
+
+vouches-signs : (s : Setting) (own : PublicKey) (b : Body) (c : Call) → IsOwnBody s b → OwnSignaturesVerify s own → Vouches s own c.node → Vouches s own (signs s b c).node
+unfolding signs
+vouches-signs s own b c mine sign h =
+    let c1 : Call = spends s b c in
+    let h1 : Vouches s own c1.node = spent s own b c h in
+    let r : Record = own_record s c.node b in
+    more s own c1.node (takes s r c1).node (event_of s b) (stay-takes s r c1 (λ x k key some is who. not_own_certificate s b x mine is)) (lived-takes s r c1) (own-vouched s own c1.node c.node.stored.next b mine sign h1.own_key) h1
+
+vouches-sends : (s : Setting) (own : PublicKey) (d : Datagram) (c : Call) (to : ℕ) → Vouches s own c.node → Vouches s own (sends s d c to).node
+unfolding sends
+vouches-sends s own d c to h = h
+
+vouches-ticks : (s : Setting) (own : PublicKey) (c : Call) → Vouches s own c.node → Vouches s own (lives s Ticks c).node
+vouches-ticks s own c h = more s own c.node (lives s Ticks c).node Ticks (stay-lives s Ticks c) (lived-lives s Ticks c) tt h
+
+vouches-probed : (s : Setting) (own : PublicKey) (n : Node) (p : History) → Vouches s own n → Vouches s own (record n { probes = p })
+unfolding certificate_of
+vouches-probed s own n p h = record { events = h.events; own_key = h.own_key }
+
+vouching : (s : Setting) (own : PublicKey) → OwnSignaturesVerify s own → Keeps s (λ c. Vouches s own c.node)
+unfolding IsOwnBody
+vouching s own sign =
+    record {
+      told = λ what c other h. h;
+      sent = λ d c to h. vouches-sends s own d c to h;
+      taken = λ r c fine h. vouches-takes s own r c fine h;
+      answered = λ r a c fine is me h. vouches-signs s own (answer_to s (takes s r c).node.stored a) (takes s r c) refl sign (vouches-takes s own r c fine h);
+      accused = λ a c by h. vouches-signs s own (Accusation a) c by sign h;
+      stopped = λ c h. h;
+      passed = λ c h. vouches-ticks s own c h;
+      probed = λ p c h. vouches-probed s own c.node p h;
+    }
+
+pub vouches-calls : (s : Setting) (own : PublicKey) (n : Node) (inputs : List Input) → OwnSignaturesVerify s own → Vouches s own n → Vouches s own (after_calls s n inputs)
+vouches-calls s own n [] sign h = h
+vouches-calls s own n (i ∷ inputs) sign h =
+    vouches-calls s own (call_of s n i).node inputs sign (keeps-call s (λ c. Vouches s own c.node) (vouching s own sign) n i h)
+
+-- ---- the start
+
+abbrev takes_all : Setting → List Record → Call → Call
+takes_all s records c = fold (λ c r. takes s r c) c records
+
+-- A certificate that the authority's signature vouches for.
+IsJoinVouched : Setting → Event → Type 0
+IsJoinVouched s (Joins number places) = (c : CertBody) × ((c.member ≡ number) × IsVouchedFor s (Some s.authority) (Certificate c))
+IsJoinVouched s (Notes note) = ⊥
+IsJoinVouched s (Accuses a) = ⊥
+IsJoinVouched s Ticks = ⊥
+
+join-vouched : (s : Setting) (n : Node) (e : Event) → IsJoinVouched s e → IsVouched s n e
+unfolding IsJoinVouched
+join-vouched s n (Joins number places) v = v
+join-vouched s n (Notes note) v = absurd v
+join-vouched s n (Accuses a) v = absurd v
+join-vouched s n Ticks v = tt
+
+joins-vouched : (s : Setting) (n : Node) (events : List Event) → AllByRecursion (IsJoinVouched s) events → AllByRecursion (IsVouched s n) events
+joins-vouched s n [] all = tt
+joins-vouched s n (e ∷ events) all = (join-vouched s n e all.0, joins-vouched s n events all.1)
+
+abbrev Certifies : Record → Type 0
+Certifies r = (x : CertBody) × (r.body ≡ Certificate x)
+
+kit-joins : (s : Setting) (own : PublicKey) (records : List Record) (c : Call) → AllByRecursion Certifies records → AllByRecursion (IsCertifiedBy s own) records
+    → AllByRecursion (IsJoinVouched s) c.node.lived → AllByRecursion (IsJoinVouched s) (takes_all s records c).node.lived
+unfolding IsJoinVouched
+kit-joins s own [] c all good h = h
+kit-joins s own (r ∷ records) c all good h =
+    let x : CertBody = all.0.0 in
+    let event : Event = Joins x.member (s.places x.member) in
+    let lived : (takes s r c).node.lived ≡ c.node.lived ++ event ∷ [] = lived-takes s r c ∙ ap (λ b. c.node.lived ++ event_of s b ∷ []) all.0.1 in
+    let v : IsJoinVouched s event = (x, (refl, record { witness = r; key = s.authority; says = all.0.1; author_is = refl; verifies = good.0.0 })) in
+    kit-joins s own records (takes s r c) all.1 good.1 (subst (AllByRecursion (IsJoinVouched s)) (sym lived) (all-push (IsJoinVouched s) c.node.lived event h v))
+
+key-with : (r : Record) (held : Holding) (x : CertBody) (m : ℕ) (own : PublicKey) → r.body ≡ Certificate x → (x.member ≡ m → x.key ≡ own)
+    → (x.member ≡ m) ⊎ (option_map (λ c. c.key) (option_and_then (λ y. certificate_in y.body) (held (keys.Certificate m))) ≡ Some own)
+    → option_map (λ c. c.key) (option_and_then (λ y. certificate_in y.body) (with_record r held (keys.Certificate m))) ≡ Some own
+key-with r held x m own is mine before =
+    elim (cases_Bool (eq_by_cmp key_cmp (keys.Certificate m) (keys.Certificate x.member))) [
+      | inl same ↦ rw (is, same) (ap (λ k. Some k) (mine (sym (same_number m x.member same))))
+      | inr apart ↦ elim before [
+        | inl who ↦ absurd (not_itself m x.member who apart)
+        | inr h ↦ rw (is, apart) h
+      ]
+    ]
+  where
+    not_itself : (a b : ℕ) → b ≡ a → eq_by_cmp key_cmp (keys.Certificate a) (keys.Certificate b) ≡ false → ⊥
+    not_itself a b e apart = grind (arith, nat_tests, e, apart)
+
+own-takes : (s : Setting) (own : PublicKey) (r : Record) (c : Call) (x : CertBody) → r.body ≡ Certificate x → (x.member ≡ s.me → x.key ≡ own) → (x.member ≡ s.me) ⊎ (public_key_of c.node s.me ≡ Some own) → public_key_of (takes s r c).node s.me ≡ Some own
+unfolding takes lives certificate_of
+own-takes s own r c x is mine before =
+    let rep : Report = (step s.group (state_of s c.node) (event_of s r.body)).report in
+    key-with r (without_ended rep c.node.held) x s.me own is mine (elim before [ inl who ↦ inl who | inr h ↦ inr (ended-key rep c.node.held s.me ∙ h) ])
+
+kit-keeps-own : (s : Setting) (own : PublicKey) (records : List Record) (c : Call) → AllByRecursion Certifies records → AllByRecursion (IsCertifiedBy s own) records → public_key_of c.node s.me ≡ Some own → public_key_of (takes_all s records c).node s.me ≡ Some own
+kit-keeps-own s own [] c all good h = h
+kit-keeps-own s own (r ∷ records) c all good h =
+    let x : CertBody = all.0.0 in
+    kit-keeps-own s own records (takes s r c) all.1 good.1 (own-takes s own r c x all.0.1 (good.0.1 x all.0.1) (inr h))
+
+kit-has-own : (s : Setting) (own : PublicKey) (records : List Record) (c : Call) → AllByRecursion Certifies records → AllByRecursion (IsCertifiedBy s own) records → list_any (λ r. is_certificate_for s.me r.body) records ≡ true → public_key_of (takes_all s records c).node s.me ≡ Some own
+kit-has-own s own [] c all good h = cc
+kit-has-own s own (r ∷ records) c all good h =
+    let x : CertBody = all.0.0 in
+    elim (cases_Bool (is_certificate_for s.me r.body)) [
+      | inl mine ↦
+          let who : x.member ≡ s.me = eqb-true _ _ (sym (ap (is_certificate_for s.me) all.0.1) ∙ mine) in
+          kit-keeps-own s own records (takes s r c) all.1 good.1 (own-takes s own r c x all.0.1 (good.0.1 x all.0.1) (inl who))
+      | inr others ↦ kit-has-own s own records (takes s r c) all.1 good.1 (or-second (is_certificate_for s.me r.body) _ h others)
+    ]
+
+pub vouches-started : (s : Setting) (own : PublicKey) (seed : List ℕ) (certificates : List Record) (stored : Stored) → AllByRecursion Certifies certificates → list_any (λ r. is_certificate_for s.me r.body) certificates ≡ true
+    → AllByRecursion (IsCertifiedBy s own) certificates → OwnSignaturesVerify s own → Vouches s own (started s seed certificates stored).node
+unfolding started IsOwnBody
+vouches-started s own seed certificates stored all mine good sign =
+    let c : Call = opened s seed certificates stored in
+    let joins = kit-joins s own certificates (begun (blank s seed stored)) all good tt in
+    let h : Vouches s own c.node = record { events = joins-vouched s c.node c.node.lived joins; own_key = kit-has-own s own certificates (begun (blank s seed stored)) all good mine } in
+    vouches-signs s own (first_note s stored) c refl sign h

@@ -1,0 +1,7 @@
+use Rattle.node_rules.specs.Starting.{started}
+use Rattle.node_rules.proofs.OwnNote.{own-started, own-calls}
+use Rattle.node_rules.proofs.Masks.{all_rings-good}
+use Rattle.node_rules.proofs.own_note_is_kept.Goals as goal
+
+pub returns : goal.returns
+returns c = λ s seed certificates stored inputs rings kit. own-calls s (started s seed certificates stored).node inputs rings.some (own-started s seed certificates stored (all_rings-good s.group.t) kit.all kit.own)

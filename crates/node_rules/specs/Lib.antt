@@ -1,0 +1,10 @@
+pub mod Replies
+pub mod Nodes
+pub mod Pages
+pub mod Refusals
+pub mod Calls
+pub mod Deliveries
+pub mod Ticking
+pub mod Starting
+pub mod Lives
+pub mod Vouching

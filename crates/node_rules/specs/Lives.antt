@@ -1,0 +1,116 @@
+-- A node's life: how it began, and the calls that it has answered since.
+use Rattle.std.specs.Prelude.{◌≡◌, ℕ, Bool, true, false, ◌==◌, List, [], ◌∷◌, ◌++◌, ◌≤◌, Some, None, fold, filter}
+use Rattle.std.specs.List.{list_any, AllByRecursion}
+use Rattle.ff_ids.specs.declared.Group.{Group}
+use Rattle.ff_ids.specs.declared.NoteBody.{NoteBody}
+use Rattle.ff_ids.specs.Masks.{good_mask}
+use Rattle.ff_ids.specs.Notes.{newest}
+use Rattle.ff_ids.specs.Views.{State, is_member}
+use Rattle.ff_ids.specs.declared.AccBody.{AccBody}
+use Rattle.ff_ids.specs.Faults.{note_fault}
+use Rattle.ff_ids.specs.Steps.{Event, step}
+use Rattle.ff_ids.specs.Lives.{opening, IsJustified}
+use Rattle.records.specs.declared.CertBody.{CertBody}
+use Rattle.records.specs.declared.Record.{Record}
+use Rattle.records.specs.declared.Body.{Body}
+use Rattle.records.specs.declared.Body.TheVariants.{Certificate, Accusation}
+use Rattle.epoch_store.specs.declared.Stored.{Stored}
+use Rattle.journal.specs.declared.event.Event as journal
+use Rattle.journal.specs.declared.event.What as whats
+use Rattle.journal.specs.declared.event.What.TheVariants as told
+use Rattle.node_rules.specs.Nodes.{Setting, Node, state_of}
+use Rattle.node_rules.specs.Calls.{Call, takes, told_of}
+use Rattle.node_rules.specs.Refusals.{refusal}
+use Rattle.node_rules.specs.Deliveries.{answering_note, delivered, delivered_until}
+use Rattle.node_rules.specs.Ticking.{ticked, ticked_until}
+use Rattle.node_rules.specs.Starting.{started}
+
+-- ---- calls
+
+pub data Input : Type 0 where
+  Delivers : (bytes : List ℕ) → Input
+  Ticks : Input
+
+abbrev pub call_of : Setting → Node → Input → Call
+call_of s n (Delivers bytes) = delivered s n bytes
+call_of s n Ticks = ticked s n
+
+-- What the node has come to when the calls have been answered.
+abbrev pub after_calls : Setting → Node → List Input → Node
+after_calls s n inputs = fold (λ m i. (call_of s m i).node) n inputs
+
+-- The records are certificates.
+abbrev pub AreCertificates : List Record → Type 0
+AreCertificates records = AllByRecursion (λ r. (c : CertBody) × (r.body ≡ Certificate c)) records
+
+abbrev pub is_certificate_for : ℕ → Body → Bool
+is_certificate_for m (Certificate c) = c.member == m
+is_certificate_for m other = false
+
+-- ---- what a life tells
+
+-- The event tells of the view or of accusations, as the membership reports it.
+abbrev pub is_of_life : whats.What → Bool
+is_of_life (told.Entered m) = true
+is_of_life (told.Expired a) = true
+is_of_life (told.Removed m) = true
+is_of_life (told.Fell a) = true
+is_of_life other = false
+
+-- What these events of a life tell, from this state on.
+abbrev pub told_by : Group → State → List Event → List journal.Event
+told_by g st [] = []
+told_by g st (e ∷ events) = told_of (step g st e).state.moment (step g st e).report ++ told_by g (step g st e).state events
+
+-- What a call tells of the view and of accusations is what the events tell that it adds to the life.
+pub record TellsItsLife (s : Setting) (n : Node) (c : Call) : Type 0 where
+  pub more : List Event
+  pub grew : c.node.lived ≡ n.lived ++ more
+  pub told_so : filter (λ e. is_of_life e.what) c.told ≡ told_by s.group (state_of s n) more
+
+-- ---- the node's own note
+
+-- The note that the store keeps.
+abbrev pub stored_note : Setting → Stored → NoteBody
+stored_note s kept = record { member = s.me; epoch = kept.epoch; mask = kept.mask }
+
+-- The node has joined, its newest note is the one that its store keeps, and the mask of that is good.
+pub record KeepsOwnNote (s : Setting) (n : Node) : Type 0 where
+  pub joined : is_member (state_of s n) s.me ≡ true
+  pub own : newest (state_of s n).notes s.me ≡ Some (stored_note s n.stored)
+  pub good : good_mask s.group.t n.stored.mask.0 ≡ true
+
+-- ---- laws
+
+-- The group has at least three rings, and at most 31.
+pub record HasRings (s : Setting) : Type 0 where
+  pub some : 1 ≤ s.group.t
+  pub few : s.group.t ≤ 15
+
+-- The kit has certificates, the node's own among them.
+pub record IsKit (s : Setting) (certificates : List Record) : Type 0 where
+  pub all : AreCertificates certificates
+  pub own : list_any (λ r. is_certificate_for s.me r.body) certificates ≡ true
+
+-- A life that started with these certificates and what the store keeps, and has answered these calls.
+abbrev pub life_of : Setting → List ℕ → List Record → Stored → List Input → Node
+life_of s seed certificates stored inputs = after_calls s (started s seed certificates stored).node inputs
+
+abbrev pub EachLifeIsJustified : Type 0
+EachLifeIsJustified = (s : Setting) (n : Node) → IsJustified s.group (opening []) n.lived
+
+-- Each call tells its life, also one in which the disk fails.
+abbrev pub EachCallTellsItsLife : Type 0
+EachCallTellsItsLife = (s : Setting) (n : Node) (i : Input) → TellsItsLife s n (call_of s n i)
+
+abbrev pub StoppedCallsTellTheirLife : Type 0
+StoppedCallsTellTheirLife = (s : Setting) (n : Node) → ((records : List Record) (r : Record) → TellsItsLife s n (delivered_until s n records r))
+    × ((silent : List ℕ) (m : ℕ) → TellsItsLife s n (ticked_until s n silent m))
+
+abbrev pub OwnNoteIsKept : Type 0
+OwnNoteIsKept = (s : Setting) (seed : List ℕ) (certificates : List Record) (stored : Stored) (inputs : List Input) → HasRings s → IsKit s certificates → KeepsOwnNote s (life_of s seed certificates stored inputs)
+
+-- Where an accusation against the node is accepted, the note that answers it has no fault.
+abbrev pub OwnAnswersAreAccepted : Type 0
+OwnAnswersAreAccepted = (s : Setting) (r : Record) (a : AccBody) (c : Call) → HasRings s → KeepsOwnNote s c.node → refusal s c.node r ≡ None → r.body ≡ Accusation a → a.accused ≡ s.me
+    → note_fault s.group.t (state_of s (takes s r c).node) (answering_note s (takes s r c).node.stored a) ≡ None

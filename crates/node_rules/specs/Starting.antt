@@ -1,0 +1,30 @@
+-- How a life begins.
+use Rattle.std.specs.Prelude.{ℕ, ◌+◌, Bool, not, ◌==◌, List, [], fold}
+use Rattle.records.specs.declared.Body.{Body}
+use Rattle.records.specs.declared.Body.TheVariants.{Note}
+use Rattle.records.specs.declared.Record.{Record}
+use Rattle.epoch_store.specs.declared.Stored.{Stored}
+use Rattle.node_rules.specs.Nodes.{Setting, Node, nothing_held}
+use Rattle.detector.specs.Silence.{opening}
+use Rattle.node_rules.specs.Replies.{first_mask}
+use Rattle.node_rules.specs.Calls.{Call, begun, takes, signs}
+
+-- A node with nothing but what its store keeps and the seed of its nonces.
+abbrev pub blank : Setting → List ℕ → Stored → Node
+blank s seed stored = record { lived = []; held = nothing_held; stored = stored; probes = opening s.group seed }
+
+-- It takes the certificates of its kit, in order.
+abbrev pub opened : Setting → List ℕ → List Record → Stored → Call
+opened s seed certificates stored = fold (λ c r. takes s r c) (begun (blank s seed stored)) certificates
+
+-- Its first note has the epoch after the stored one.
+abbrev pub first_note : Setting → Stored → Body
+first_note s stored = Note (record { member = s.me; epoch = stored.epoch + 1; mask = record { 0 = first_mask s.group.t stored.mask.0 } })
+
+-- A life is refused where the key is used up, and nothing is told then.
+abbrev pub may_start : Setting → Stored → Bool
+may_start s stored = not (stored.next == s.indexes)
+
+-- The first note is signed and accepted. Nothing is sent.
+unfoldable pub started : Setting → List ℕ → List Record → Stored → Call
+started s seed certificates stored = signs s (first_note s stored) (opened s seed certificates stored)

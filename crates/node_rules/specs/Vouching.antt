@@ -1,0 +1,42 @@
+-- What vouches for the events of a node's life: records that verify under the keys of their authors.
+use Rattle.std.specs.Prelude.{◌≡◌, ℕ, true, List, Option, Some}
+use Rattle.std.specs.List.{AllByRecursion}
+use Rattle.ff_ids.specs.Steps.{Event, Joins, Notes, Accuses, Ticks}
+use Rattle.lms_tree.specs.declared.key.PublicKey.{PublicKey}
+use Rattle.records.specs.declared.CertBody.{CertBody}
+use Rattle.records.specs.declared.Body.{Body}
+use Rattle.records.specs.declared.Body.TheVariants.{Certificate, Note, Accusation}
+use Rattle.records.specs.declared.Record.{Record}
+use Rattle.epoch_store.specs.declared.Stored.{Stored}
+use Rattle.node_rules.specs.Nodes.{Setting, Node, public_key_of}
+use Rattle.node_rules.specs.Lives.{HasRings, IsKit, Input, life_of}
+
+-- There is a record with this body, which verifies under the author's key.
+pub record IsVouchedFor (s : Setting) (author : Option PublicKey) (body : Body) : Type 0 where
+  pub witness : Record
+  pub key : PublicKey
+  pub says : witness.body ≡ body
+  pub author_is : author ≡ Some key
+  pub verifies : s.verifies key witness ≡ true
+
+-- A certificate is the authority's, a note its member's, and an accusation its accuser's, by the certificates that
+-- the node holds.
+abbrev pub IsVouched : Setting → Node → Event → Type 0
+IsVouched s n (Joins number places) = (c : CertBody) × ((c.member ≡ number) × IsVouchedFor s (Some s.authority) (Certificate c))
+IsVouched s n (Notes note) = IsVouchedFor s (public_key_of n note.member) (Note note)
+IsVouched s n (Accuses a) = IsVouchedFor s (public_key_of n a.accuser) (Accusation a)
+IsVouched s n Ticks = Unit {0}
+
+-- The own key, whatever is signed with it, and however often.
+abbrev pub OwnSignaturesVerify : Setting → PublicKey → Type 0
+OwnSignaturesVerify s own = (index : ℕ) (body : Body) → s.verifies own (record { body = body; signature = s.signature index body }) ≡ true
+
+-- The kit's certificates verify under the authority's key, and the node's own has this key.
+abbrev pub IsCertifiedBy : Setting → PublicKey → Record → Type 0
+IsCertifiedBy s own r = (s.verifies s.authority r ≡ true) × ((c : CertBody) → r.body ≡ Certificate c → c.member ≡ s.me → c.key ≡ own)
+
+-- Each event of each life is vouched for.
+abbrev pub LivesAreVouchedFor : Type 0
+LivesAreVouchedFor = (s : Setting) (own : PublicKey) (seed : List ℕ) (certificates : List Record) (stored : Stored) (inputs : List Input)
+    → HasRings s → IsKit s certificates → AllByRecursion (IsCertifiedBy s own) certificates → OwnSignaturesVerify s own
+    → AllByRecursion (IsVouched s (life_of s seed certificates stored inputs)) (life_of s seed certificates stored inputs).lived
