@@ -1,23 +1,24 @@
--- What a run of the words does that keeps its source to itself.
-use Rattle.std.specs.Prelude.{◌≡◌, ℕ, ◌↔◌, List, Option, None, IfSome}
-use Rattle.play.specs.Plays.{Standing, standing}
+-- What a run of the words does, from what stood before it to what stands behind it.
+use Rattle.std.specs.Prelude.{◌≡◌, ℕ, ◌↔◌, List, None, IfSome, Result, Ok, Err}
+use Rattle.play.specs.Plays.{Standing}
 use Rattle.fireflies.specs.Commands.{command_of, owed_by}
 use Rattle.fireflies.specs.Ends.{Counts, Ends}
+use Rattle.fireflies.specs.Traced.{Completes, Traced}
 use Rattle.fireflies.specs.Upheld.{Upholds}
 use Rattle.fireflies.specs.declared.status.Status.{Status}
 use Rattle.fireflies.specs.declared.status.Status.TheVariants as status
 
--- Nothing was written, and no write failed.
-pub record IsUnwritten (was : Standing) (taken : Option (List ℕ)) (write_faults : ℕ) : Type 0 where
-  pub same : taken ≡ was.taken
-  pub faults : write_faults ≡ was.write_faults
+-- P of the values before and after, where there was one.
+abbrev pub OnBoth : {X E : Type 0} → Result X E → Result X E → (X → X → Type 0) → Type 0
+OnBoth (Ok was) (Ok now) P = P was now
+OnBoth (Ok was) (Err e) P = ⊥
+OnBoth (Err e) now P = Unit {0}
 
--- The run of these words ended so, where the sink then told these bytes, and had this count of faults.
-pub record Ran (words : List (List ℕ)) (was : Standing) (taken : Option (List ℕ)) (write_faults : ℕ) (s : Status) : Type 0 where
-  pub left : Option (List ℕ)
-  pub read_faults : ℕ
+-- The run of these words ended so.
+pub record Ran (words : List (List ℕ)) (was now : Standing) (s : Status) : Type 0 where
   pub usage : (s ≡ status.Usage) ↔ (command_of words ≡ None)
-  pub unused : s ≡ status.Usage → IsUnwritten was taken write_faults
-  pub ends : IfSome (command_of words) (λ command. Ends (owed_by command) was (standing left taken read_faults write_faults) s)
-  pub upholds : IfSome (command_of words) (λ command. Upholds command was (standing left taken read_faults write_faults) s)
-  pub counts : Counts was (standing left taken read_faults write_faults) s
+  pub ends : IfSome (command_of words) (λ command. Ends (owed_by command) was now s)
+  pub traced : IfSome (command_of words) (λ command. Traced (owed_by command) was now s)
+  pub complete : IfSome (command_of words) (λ command. Completes (owed_by command) was now s)
+  pub upholds : IfSome (command_of words) (λ command. Upholds command was now s)
+  pub counts : Counts was now s

@@ -22,7 +22,7 @@ use words::words_of;
 
 fn main(rt: HostRuntime) -> ExitCode {
     let words = words_of(rt.alloc(), std::env::args(&rt));
-    let input = StdSource::new(rt.alloc(), rt.reader());
+    let mut input = StdSource::new(rt.alloc(), rt.reader());
     let mut out = StdSink::new(io::writer(&rt));
-    ExitCode::from(start(rt.alloc(), words, input, &mut out).number())
+    ExitCode::from(start(rt.alloc(), words, &mut input, &mut out).number())
 }

@@ -88,7 +88,7 @@ fn notes_have_their_first_fault(rt: HostRuntime) -> Result<(), Fail> {
 }
 
 /// Accuser, accused, epoch, ring and signer.
-const ACCUSATIONS: [(u8, u8, u8, u8, u8, &str); 45] = [
+const ACCUSATIONS: [(u8, u8, u8, u8, u8, &str); 47] = [
     // The accuser has no certificate: it accuses itself; the ring is bad; there is no note, another epoch, a member
     // out of the view, a disabled ring; another is the monitor.
     (9, 9, 1, 0, 1, "unknown-member"),
@@ -98,7 +98,9 @@ const ACCUSATIONS: [(u8, u8, u8, u8, u8, &str); 45] = [
     (9, 5, 1, 1, 1, "unknown-member"),
     (9, 2, 2, 0, 1, "unknown-member"),
     (9, 1, 1, 0, 1, "unknown-member"),
-    // The accused has none: signed by its accuser, and by another.
+    // The accused has none: on a bad ring, signed by its accuser, and by another; on a good one likewise.
+    (1, 9, 1, 3, 1, "unknown-member"),
+    (1, 9, 1, 3, 2, "unknown-member"),
     (1, 9, 1, 0, 1, "unknown-member"),
     (1, 9, 1, 0, 2, "unknown-member"),
     // Of itself, in the same order.

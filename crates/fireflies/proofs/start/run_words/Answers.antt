@@ -1,15 +1,11 @@
-use Rattle.std.proofs.Common.{ap}
 use Rattle.fireflies.proofs.start.run_words.Goals as goal
 
-pub returns : goal.returns
-returns g c = record {
-  left = _;
-  read_faults = _;
+pub returns-clause-ran : goal.returns-clause-ran
+returns-clause-ran g c = record {
   usage = c.run.ensures.usage;
-  unused = λ is.
-      let same = (c.run.ensures.untouched is).1 in
-      record { same = ap g.O.Sink.taken same; faults = ap g.O.Sink.faults same };
   ends = c.run.ensures.ends;
+  traced = c.run.ensures.traced;
+  complete = c.run.ensures.complete;
   upholds = c.run.ensures.upholds;
   counts = c.run.ensures.counts;
 }
