@@ -1,6 +1,7 @@
-//! The outside of the program: standard input as a source, standard output as a sink, and what stands in for
-//! a disk, a link and a clock while no command uses one. They tell what their reader and writer tell: over the
-//! toolchain's own standard input and output that is nothing.
+//! The outside of the program: standard input as a source, standard output as a sink, a file as a disk, a UDP socket as a
+//! link, the monotonic clock, and what stands in for these three while no command uses them. The source and the sink tell
+//! what their reader and writer tell: over the toolchain's own standard input and output that is nothing. A file, a
+//! socket and the clock tell nothing: their clauses say when a call fails and is counted, and tests move real bytes.
 #![tactic(auto)]
 
 ghost use Rattle.std.specs.Prelude.{◌≡◌, true, false, IfOk};
@@ -8,12 +9,18 @@ ghost use Rattle.std.specs.Io.Buffered.{reader_remaining};
 ghost use Rattle.ports.specs.Count.{next_count};
 
 mod absent;
+mod file_disk;
+mod real_clock;
+mod udp_link;
 
 pub use absent::{Absent, NoClock};
 use fields::NoMemory;
+pub use file_disk::FileDisk;
 use ports::{Given, Sink, Source, Taken};
+pub use real_clock::RealClock;
 use std::alloc::Global;
 use std::io::{BufReader, Read, Write};
+pub use udp_link::UdpLink;
 
 /// How many bytes a source reads at a time.
 const BUFFER: usize = 65_536;
