@@ -1,6 +1,5 @@
 -- The answer of one form, among those of several.
-use Rattle.std.proofs.Common.{◌≡◌, ℕ, List, Result, Ok, Err, refl, subst, sym}
-use Rattle.std.specs.Prelude.{IsOkAnd}
+use Rattle.std.proofs.Common.{ℕ, List, Result, Ok, Err, subst, sym}
 use Rattle.line_text.specs.declared.bad_word.BadWord.{BadWord}
 use Rattle.line_text.specs.declared.bad_word.LineFault.{LineFault}
 use Rattle.line_text.specs.declared.bad_word.LineFault.TheVariants as faults

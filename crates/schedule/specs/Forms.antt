@@ -1,12 +1,15 @@
 -- The forms of text, as one: each line and each rule is that of the form that the text has.
-use Rattle.std.specs.Prelude.{◌≡◌, ℕ, Bool, List, Option, Result}
+use Rattle.std.specs.Prelude.{ℕ, Bool, false, if◌then◌else◌, List, Option, Result, codes}
 use Rattle.line_text.specs.declared.bad_word.BadWord.{BadWord}
-use Rattle.line_text.specs.Answers.{Progress, moved, next_line}
+use Rattle.line_text.specs.Answers.{Progress, next_line}
 use Rattle.line_text.specs.Frame as frame
-use Rattle.line_text.specs.Frame.{Row, row_of_line}
+use Rattle.line_text.specs.Frame.{Row, is_header, row_of_line}
 use Rattle.schedule_direct.specs.declared.direct.Direct.TheVariants as direct_form
 use Rattle.schedule_direct.specs.Grammar as direct
 use Rattle.schedule_direct.specs.Rows as direct_rows
+use Rattle.schedule_world.specs.declared.text.WorldText.TheVariants as world_form
+use Rattle.schedule_world.specs.Grammar as world
+use Rattle.schedule_world.specs.Rows as world_rows
 use Rattle.verify_text.specs.declared.verify.Verify.TheVariants as verify_form
 use Rattle.verify_text.specs.Grammar as verify
 use Rattle.verify_text.specs.Rows as verify_rows
@@ -19,33 +22,52 @@ use Rattle.schedule.specs.declared.text.Text.TheVariants as texts
 
 -- the text of a command, of which nothing has been read
 abbrev pub form_of : Command → Text
-form_of commands.Replay = texts.Direct direct_form.Start
+form_of commands.Replay = texts.Schedule
 form_of commands.Verify = texts.Verify verify_form.Start
 
 abbrev pub IsSound : Text → Type 0
+IsSound texts.Schedule = Unit {0}
 IsSound (texts.Direct d) = direct.IsSound d
+IsSound (texts.World w) = world.IsSound w
 IsSound (texts.Verify v) = verify.IsSound v
 
 abbrev pub is_ended : Text → Bool
+is_ended texts.Schedule = false
 is_ended (texts.Direct d) = direct_rows.is_ended d
+is_ended (texts.World w) = world_rows.is_ended w
 is_ended (texts.Verify v) = verify_rows.is_ended v
 
+-- The header of a schedule is that of the world form, or else what the direct form says of it.
+abbrev pub header_row : List (List ℕ) → Result (Row Line) BadWord
+header_row ws =
+    if is_header (codes "world") ws then row_of_line lines.World (world_rows.row_for world_form.Start ws)
+    else row_of_line lines.Direct (direct_rows.row_for direct_form.Start ws)
+
 abbrev pub row_for : Text → List (List ℕ) → Result (Row Line) BadWord
+row_for texts.Schedule ws = header_row ws
 row_for (texts.Direct d) ws = row_of_line lines.Direct (direct_rows.row_for d ws)
+row_for (texts.World w) ws = row_of_line lines.World (world_rows.row_for w ws)
 row_for (texts.Verify v) ws = row_of_line lines.Verify (verify_rows.row_for v ws)
 
 -- These words are this line, which may stand here, with its numbers and bytes in range.
 abbrev pub Spells : Text → List (List ℕ) → Line → Type 0
+Spells texts.Schedule ws (lines.Direct l) = direct.IsDirect direct_form.Start ws l
+Spells texts.Schedule ws (lines.World l) = world.IsWorld world_form.Start ws l
 Spells (texts.Direct d) ws (lines.Direct l) = direct.IsDirect d ws l
+Spells (texts.World w) ws (lines.World l) = world.IsWorld w ws l
 Spells (texts.Verify v) ws (lines.Verify l) = verify.IsVerify v ws l
 Spells _ ws _ = ⊥
 
 abbrev pub TakesMemory : Line → Type 0
 TakesMemory (lines.Direct l) = direct_rows.TakesMemory l
+TakesMemory (lines.World l) = world_rows.TakesMemory l
 TakesMemory (lines.Verify l) = verify_rows.TakesMemory l
 
 abbrev pub after : Text → Line → Text
+after texts.Schedule (lines.Direct l) = texts.Direct (direct.after direct_form.Start l)
+after texts.Schedule (lines.World l) = texts.World (world.after world_form.Start l)
 after (texts.Direct d) (lines.Direct l) = texts.Direct (direct.after d l)
+after (texts.World w) (lines.World l) = texts.World (world.after w l)
 after (texts.Verify v) (lines.Verify l) = texts.Verify (verify.after v l)
 after text _ = text
 

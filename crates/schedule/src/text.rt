@@ -1,10 +1,13 @@
 //! The forms of text, as one.
 
-ghost use Rattle.std.specs.Prelude.{◌≡◌};
-ghost use Rattle.schedule.specs.Forms.{IsSound, Spells, TakesMemory, after, form_of, is_ended, row_for};
+ghost use Rattle.std.specs.Prelude.{◌≡◌, ℕ, List};
+ghost use Rattle.line_text.specs.Answers.{AnswersBy};
+ghost use Rattle.line_text.specs.Frame.{behind, row_line};
+ghost use Rattle.schedule.specs.Forms.{IsSound, Spells, TakesMemory, after, form_of, header_row, is_ended, row_for};
 
 use line_text::{Form, LineFault, Words};
 use schedule_direct::{Direct, DirectLine};
+use schedule_world::{WorldLine, WorldText};
 use std::alloc::Global;
 use verify_text::{Verify, VerifyLine};
 
@@ -22,15 +25,21 @@ pub enum Command {
 pub enum Line {
     /// A line of a schedule in the direct form.
     Direct(DirectLine),
+    /// A line of a schedule in the world form.
+    World(WorldLine),
     /// A line of a text that asks whether a signature is good.
     Verify(VerifyLine),
 }
 
 /// What has been read of a text, by its form.
-#[derive(Clone, Copy, Debug, PartialEq, Eq)]
+#[derive(Debug, Drop)]
 pub enum Text {
+    /// A schedule of which nothing has been read: its header says the form.
+    Schedule,
     /// A schedule in the direct form.
     Direct(Direct),
+    /// A schedule in the world form.
+    World(WorldText),
     /// A text that asks whether a signature is good.
     Verify(Verify),
 }
@@ -41,9 +50,40 @@ impl Text {
         ensures { result ≡ form_of command }
     {
         match command {
-            Command::Replay => Text::Direct(Direct::Start),
+            Command::Replay => Text::Schedule,
             Command::Verify => Text::Verify(Verify::Start),
         }
+    }
+}
+
+/// The header of a schedule, in one of its forms.
+fn schedule_header(alloc: Global, words: Words) -> Result<Line, LineFault>
+    ensures { AnswersBy TakesMemory (row_line (header_row words.entry) (behind words.entry)) result }
+{
+    if words.again().is_header(b"world") {
+        Ok(Line::World(WorldText::Start.judge(alloc, words)?))
+    } else {
+        Ok(Line::Direct(Direct::Start.judge(alloc, words)?))
+    }
+}
+
+/// The text of a schedule behind its header, in the header's form.
+fn schedule_text(line: &Line) -> Text
+    requires { (words : List (List ℕ)) × Spells Text.Schedule words line.now }
+    ensures { result ≡ after Text.Schedule line.now }
+{
+    match line {
+        Line::Direct(line) => {
+            let mut direct = Direct::Start;
+            direct.advance(line);
+            Text::Direct(direct)
+        }
+        Line::World(line) => {
+            let mut world = WorldText::Start;
+            world.advance(line);
+            Text::World(world)
+        }
+        Line::Verify(_) => Text::Schedule,
     }
 }
 
@@ -66,21 +106,30 @@ impl Form for Text {
 
     fn is_ended(&self) -> bool {
         match self {
+            Text::Schedule => false,
             Text::Direct(direct) => direct.is_ended(),
+            Text::World(world) => world.is_ended(),
             Text::Verify(verify) => verify.is_ended(),
         }
     }
 
     fn judge(&self, alloc: Global, words: Words) -> Result<Line, LineFault> {
         match self {
+            Text::Schedule => schedule_header(alloc, words),
             Text::Direct(direct) => Ok(Line::Direct(direct.judge(alloc, words)?)),
+            Text::World(world) => Ok(Line::World(world.judge(alloc, words)?)),
             Text::Verify(verify) => Ok(Line::Verify(verify.judge(alloc, words)?)),
         }
     }
 
     fn advance(&mut self, line: &Line) {
+        if matches!(self, Text::Schedule) {
+            *self = schedule_text(line);
+            return;
+        }
         match (self, line) {
             (Text::Direct(direct), Line::Direct(line)) => direct.advance(line),
+            (Text::World(world), Line::World(line)) => world.advance(line),
             (Text::Verify(verify), Line::Verify(line)) => verify.advance(line),
             _ => {}
         }

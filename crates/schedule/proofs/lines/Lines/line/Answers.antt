@@ -1,4 +1,4 @@
-use Rattle.std.proofs.Common.{◌≡◌, sym, subst}
+use Rattle.std.proofs.Common.{sym, subst}
 use Rattle.line_text.specs.Answers.{Progress}
 use Rattle.schedule.specs.declared.text.Text.{Text}
 use Rattle.schedule.specs.Forms.{IsLine}

@@ -1,7 +1,8 @@
-use Rattle.std.proofs.Common.{◌≡◌, Ok, Err, rules, subst, sym}
+use Rattle.std.proofs.Common.{Err, rules}
 use Rattle.line_text.specs.Frame.{behind}
 use Rattle.line_text.proofs.FrameLemmas.{row_of_line-line}
 use Rattle.schedule_direct.specs.Rows as direct
+use Rattle.schedule_world.specs.Rows as world
 use Rattle.verify_text.specs.Rows as verify
 use Rattle.schedule.specs.declared.text.Line.TheVariants as lines
 use Rattle.schedule.specs.Forms.{TakesMemory}
@@ -25,3 +26,12 @@ returns-in_ok-judge-in-Direct c =
 pub returns-in_ok-judge-in-Verify : goal.returns-in_ok-judge-in-Verify
 returns-in_ok-judge-in-Verify c =
     rw c.in-Verify.is (row_of_line-line lines.Verify (verify.row_for c.in-Verify.verify c.args.words) (behind c.args.words) c.in_ok-judge-in-Verify.field-0 c.in_ok-judge-in-Verify.ensures)
+
+pub returns-in_err-judge-in-World : goal.returns-in_err-judge-in-World
+returns-in_err-judge-in-World c =
+    let x = answers-of lines.World world.TakesMemory TakesMemory (λ l t. t) (world.row_for c.in-World.world c.args.words) (behind c.args.words) (Err c.in_err-judge-in-World.field-0.0) c.in_err-judge-in-World.ensures in
+    rw c.in-World.is (search (rules, x))
+
+pub returns-in_ok-judge-in-World : goal.returns-in_ok-judge-in-World
+returns-in_ok-judge-in-World c =
+    rw c.in-World.is (row_of_line-line lines.World (world.row_for c.in-World.world c.args.words) (behind c.args.words) c.in_ok-judge-in-World.field-0 c.in_ok-judge-in-World.ensures)

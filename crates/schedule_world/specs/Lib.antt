@@ -1,0 +1,4 @@
+pub mod Rows
+pub mod Grammar
+pub mod WordLaws
+pub mod Laws

@@ -1,0 +1,18 @@
+//! The lines of a schedule in the world form: what each may be, where it may stand, and how it is read. Only raw
+//! bytes and names take memory.
+#![tactic(auto)]
+
+mod line;
+mod named;
+mod read;
+mod roster;
+mod signing;
+mod take;
+mod text;
+
+pub use line::WorldLine;
+pub use named::Named;
+pub use text::WorldText;
+
+#[cfg(test)]
+mod tests;

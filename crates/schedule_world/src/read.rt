@@ -1,0 +1,148 @@
+//! The lines below `begin` that take no memory, read word by word.
+
+ghost use Rattle.std.specs.Prelude.{◌≡◌, ◌≤◌, []};
+ghost use Rattle.line_text.specs.Frame.{fields_line, word_or_bad};
+ghost use Rattle.schedule_world.specs.Rows.{arm_fields, deliver_fields, flow_fields, line_of, line_word, member_fields, monitor_fields, stop_fields, tick_fields};
+
+use crate::line::{LineWord, WorldLine};
+use crate::take::{take_member, take_outcome};
+use ff_ids::RingNo;
+use line_text::{BadWord, Words};
+
+/// The line word that a word is.
+pub(crate) fn line_word(word: &[u8]) -> Result<LineWord, BadWord>
+    ensures { result ≡ word_or_bad (line_word word.now) }
+{
+    if word == b"group".as_slice() {
+        Ok(LineWord::Group)
+    } else if word == b"kinds".as_slice() {
+        Ok(LineWord::Kinds)
+    } else if word == b"node".as_slice() {
+        Ok(LineWord::Node)
+    } else if word == b"liar".as_slice() {
+        Ok(LineWord::Liar)
+    } else if word == b"begin".as_slice() {
+        Ok(LineWord::Begin)
+    } else if word == b"start".as_slice() {
+        Ok(LineWord::Start)
+    } else if word == b"stop".as_slice() {
+        Ok(LineWord::Stop)
+    } else if word == b"arm".as_slice() {
+        Ok(LineWord::Arm)
+    } else if word == b"tick".as_slice() {
+        Ok(LineWord::Tick)
+    } else if word == b"deliver".as_slice() {
+        Ok(LineWord::Deliver)
+    } else if word == b"flow".as_slice() {
+        Ok(LineWord::Flow)
+    } else if word == b"raw".as_slice() {
+        Ok(LineWord::Raw)
+    } else if word == b"sign-note".as_slice() {
+        Ok(LineWord::SignNote)
+    } else if word == b"sign-accusation".as_slice() {
+        Ok(LineWord::SignAccusation)
+    } else if word == b"give".as_slice() {
+        Ok(LineWord::Give)
+    } else if word == b"give-all".as_slice() {
+        Ok(LineWord::GiveAll)
+    } else if word == b"view".as_slice() {
+        Ok(LineWord::View)
+    } else if word == b"monitor".as_slice() {
+        Ok(LineWord::Monitor)
+    } else if word == b"end".as_slice() {
+        Ok(LineWord::End)
+    } else {
+        Err(BadWord::Word)
+    }
+}
+
+pub(crate) fn start_line(args: Words) -> Result<WorldLine, BadWord>
+    ensures { result ≡ fields_line member_fields (line_of LineWord.Start) args.entry }
+{
+    let mut args = args.exactly(1)?;
+    let member = take_member(&mut args)?;
+    Ok(WorldLine::Start { member })
+}
+
+pub(crate) fn stop_line(args: Words) -> Result<WorldLine, BadWord>
+    ensures { result ≡ fields_line stop_fields (line_of LineWord.Stop) args.entry }
+{
+    let mut args = args.exactly(2)?;
+    Ok(WorldLine::Stop {
+        member: take_member(&mut args)?,
+        outcome: take_outcome(&mut args)?,
+    })
+}
+
+pub(crate) fn arm_line(args: Words) -> Result<WorldLine, BadWord>
+    ensures { result ≡ fields_line arm_fields (line_of LineWord.Arm) args.entry }
+{
+    let mut args = args.exactly(3)?;
+    Ok(WorldLine::Arm {
+        member: take_member(&mut args)?,
+        calls: args.number(0, 1_000)?,
+        outcome: take_outcome(&mut args)?,
+    })
+}
+
+/// The ticks of one line, where no more than `left` may come.
+pub(crate) fn tick_line(left: u32, args: Words) -> Result<WorldLine, BadWord>
+    ensures { result ≡ fields_line (tick_fields left) (line_of LineWord.Tick) args.entry }
+{
+    let mut args = args.exactly(2)?;
+    let member = take_member(&mut args)?;
+    let ticks = args.number(1, u64::from(left.min(10_000)))?;
+    Ok(WorldLine::Tick {
+        member,
+        ticks: ticks as u32,
+    })
+}
+
+pub(crate) fn deliver_line(args: Words) -> Result<WorldLine, BadWord>
+    ensures { result ≡ fields_line deliver_fields (line_of LineWord.Deliver) args.entry }
+{
+    let mut args = args.exactly(2)?;
+    Ok(WorldLine::Deliver {
+        datagram: args.number(0, u64::MAX)?,
+        member: take_member(&mut args)?,
+    })
+}
+
+pub(crate) fn flow_line(args: Words) -> Result<WorldLine, BadWord>
+    ensures { result ≡ fields_line flow_fields (line_of LineWord.Flow) args.entry }
+{
+    let mut args = args.exactly(1)?;
+    let most = args.number(1, 100_000)?;
+    Ok(WorldLine::Flow { most: most as u32 })
+}
+
+pub(crate) fn view_line(args: Words) -> Result<WorldLine, BadWord>
+    ensures { result ≡ fields_line member_fields (line_of LineWord.View) args.entry }
+{
+    let mut args = args.exactly(1)?;
+    let member = take_member(&mut args)?;
+    Ok(WorldLine::View { member })
+}
+
+pub(crate) fn monitor_line(t: u8, args: Words) -> Result<WorldLine, BadWord>
+    requires { t ≤ 15 }
+    ensures { result ≡ fields_line (monitor_fields t) (line_of LineWord.Monitor) args.entry }
+{
+    let mut args = args.exactly(3)?;
+    let member = take_member(&mut args)?;
+    let ring = args.number(0, 2 * u64::from(t))?;
+    let of = take_member(&mut args)?;
+    Ok(WorldLine::Monitor {
+        member,
+        ring: RingNo(ring as u8),
+        of,
+    })
+}
+
+/// A line of one word.
+pub(crate) fn lone_line(line: WorldLine, args: Words) -> Result<WorldLine, BadWord>
+    ensures { result ≡ fields_line [] (λ _. line) args.entry }
+{
+    args.exactly(0)?;
+    Ok(line)
+}

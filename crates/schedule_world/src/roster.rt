@@ -1,0 +1,68 @@
+//! The lines of the roster, which stand before `begin`.
+
+ghost use Rattle.std.specs.Prelude.{◌≡◌};
+ghost use Rattle.line_text.specs.Frame.{behind, fields_line, row_line};
+ghost use Rattle.schedule_world.specs.Rows.{group_fields, kinds_fields, line_of, newcomer_fields, start_row};
+
+use crate::line::{LineWord, WorldLine};
+use crate::take::{take_height, take_newcomer, take_width};
+use crate::text::WorldText;
+use ff_ids::Group;
+use line_text::{BadWord, Words};
+
+#[tactic(auto, using(crate::proofs::ReadingLemmas::header_read))]
+pub(crate) fn header_line(words: Words) -> Result<WorldLine, BadWord>
+    ensures { result ≡ row_line (start_row words.entry) (behind words.entry) }
+{
+    if words.is_header(b"world") {
+        Ok(WorldLine::Header)
+    } else {
+        Err(BadWord::Header)
+    }
+}
+
+pub(crate) fn group_line(args: Words) -> Result<WorldLine, BadWord>
+    ensures { result ≡ fields_line group_fields (line_of LineWord.Group) args.entry }
+{
+    let mut args = args.exactly(5)?;
+    let t = args.number(1, 15)?;
+    let timeout = args.number(1, 10_000)?;
+    let period = args.number(1, 1_000)?;
+    let misses = args.number(1, 16)?;
+    let tag = args.bytes::<16>()?;
+    Ok(WorldLine::Group {
+        group: Group {
+            tag,
+            t: t as u8,
+            timeout: timeout as u32,
+            period: period as u32,
+            misses: misses as u8,
+        },
+    })
+}
+
+pub(crate) fn kinds_line(args: Words) -> Result<WorldLine, BadWord>
+    ensures { result ≡ fields_line kinds_fields (line_of LineWord.Kinds) args.entry }
+{
+    let mut args = args.exactly(2)?;
+    Ok(WorldLine::Kinds {
+        ots: take_width(&mut args)?,
+        tree: take_height(&mut args)?,
+    })
+}
+
+pub(crate) fn node_line(text: &WorldText, args: Words) -> Result<WorldLine, BadWord>
+    ensures { result ≡ fields_line (newcomer_fields text.now) (line_of LineWord.Node) args.entry }
+{
+    let mut args = args.exactly(1)?;
+    let member = take_newcomer(text, &mut args)?;
+    Ok(WorldLine::Node { member })
+}
+
+pub(crate) fn liar_line(text: &WorldText, args: Words) -> Result<WorldLine, BadWord>
+    ensures { result ≡ fields_line (newcomer_fields text.now) (line_of LineWord.Liar) args.entry }
+{
+    let mut args = args.exactly(1)?;
+    let member = take_newcomer(text, &mut args)?;
+    Ok(WorldLine::Liar { member })
+}

@@ -1,0 +1,116 @@
+//! The words of a line, taken one by one.
+
+ghost use Rattle.std.specs.Prelude.{◌≡◌, IfOk};
+ghost use Rattle.line_text.specs.Answers.{refusal};
+ghost use Rattle.line_text.specs.Fields.{name, number_in};
+ghost use Rattle.line_text.specs.Frame.{behind, first_word};
+ghost use Rattle.schedule_world.specs.Rows.{epoch, epoch_in, epoch_or_now, height, member, newcomer, ots_in, outcome, tree_in, width};
+
+use crate::text::WorldText;
+use ff_ids::{Epoch, MemberId};
+use fields::Name;
+use line_text::{BadWord, Words};
+use lms_ots::OtsKind;
+use lms_tree::TreeKind;
+
+/// Takes the number of a member.
+pub(crate) fn take_member(words: &mut Words) -> Result<MemberId, BadWord>
+    ensures refused { member (first_word words.old) ≡ refusal result }
+    ensures value { IfOk result (λ n. n ≡ number_in (first_word words.old)) }
+    ensures moved { words.new ≡ behind words.old }
+{
+    let number = words.number(0, 1023)?;
+    Ok(MemberId::new(number as u16))
+}
+
+/// Takes the number of a member that may be named here.
+pub(crate) fn take_newcomer(text: &WorldText, words: &mut Words) -> Result<MemberId, BadWord>
+    ensures refused { newcomer text.now (first_word words.old) ≡ refusal result }
+    ensures value { IfOk result (λ n. n ≡ number_in (first_word words.old)) }
+    ensures moved { words.new ≡ behind words.old }
+{
+    let member = take_member(words)?;
+    if text.may_name(member) {
+        Ok(member)
+    } else {
+        Err(BadWord::Limit)
+    }
+}
+
+/// Takes the width of a kind of one-time signatures.
+pub(crate) fn take_width(words: &mut Words) -> Result<OtsKind, BadWord>
+    ensures refused { width (first_word words.old) ≡ refusal result }
+    ensures value { IfOk result (λ kind. kind ≡ ots_in (first_word words.old)) }
+    ensures moved { words.new ≡ behind words.old }
+{
+    match words.number(0, u64::MAX)? {
+        1 => Ok(OtsKind::W1),
+        2 => Ok(OtsKind::W2),
+        4 => Ok(OtsKind::W4),
+        8 => Ok(OtsKind::W8),
+        _ => Err(BadWord::Limit),
+    }
+}
+
+/// Takes the height of a kind of trees.
+pub(crate) fn take_height(words: &mut Words) -> Result<TreeKind, BadWord>
+    ensures refused { height (first_word words.old) ≡ refusal result }
+    ensures value { IfOk result (λ kind. kind ≡ tree_in (first_word words.old)) }
+    ensures moved { words.new ≡ behind words.old }
+{
+    match words.number(0, u64::MAX)? {
+        5 => Ok(TreeKind::H5),
+        10 => Ok(TreeKind::H10),
+        _ => Err(BadWord::Limit),
+    }
+}
+
+/// Takes an epoch.
+pub(crate) fn take_epoch(words: &mut Words) -> Result<Epoch, BadWord>
+    ensures refused { epoch (first_word words.old) ≡ refusal result }
+    ensures value { IfOk result (λ n. n ≡ number_in (first_word words.old)) }
+    ensures moved { words.new ≡ behind words.old }
+{
+    let number = words.number(1, u64::MAX)?;
+    Ok(Epoch::new(number))
+}
+
+/// Takes an epoch, or `now`, which is none.
+pub(crate) fn take_epoch_or_now(words: &mut Words) -> Result<Option<Epoch>, BadWord>
+    ensures refused { epoch_or_now (first_word words.old) ≡ refusal result }
+    ensures value { IfOk result (λ e. e ≡ epoch_in (first_word words.old)) }
+    ensures moved { words.new ≡ behind words.old }
+{
+    let (word, behind) = words.again().split();
+    if word == b"now".as_slice() {
+        *words = behind;
+        Ok(None)
+    } else {
+        let epoch = take_epoch(words)?;
+        Ok(Some(epoch))
+    }
+}
+
+/// Takes the outcome of a crash.
+pub(crate) fn take_outcome(words: &mut Words) -> Result<u16, BadWord>
+    ensures refused { outcome (first_word words.old) ≡ refusal result }
+    ensures value { IfOk result (λ n. n ≡ number_in (first_word words.old)) }
+    ensures moved { words.new ≡ behind words.old }
+{
+    let number = words.number(0, 65_535)?;
+    Ok(number as u16)
+}
+
+/// Goes past a name, for which no memory is asked.
+pub(crate) fn pass_name(words: &mut Words) -> Result<(), BadWord>
+    ensures refused { name (first_word words.old) ≡ refusal result }
+    ensures moved { words.new ≡ behind words.old }
+{
+    let (word, behind) = words.again().split();
+    *words = behind;
+    if Name::is_name(word) {
+        Ok(())
+    } else {
+        Err(BadWord::Name)
+    }
+}

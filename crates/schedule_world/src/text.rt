@@ -1,0 +1,209 @@
+//! The world form, line by line.
+
+ghost use Rattle.std.specs.Prelude.{◌≡◌, ◌+◌, ◌<◌, ◌≤◌, length};
+ghost use Rattle.line_text.specs.Answers.{AnswersBy};
+ghost use Rattle.line_text.specs.Frame.{fields_line};
+ghost use Rattle.schedule_world.specs.Rows.{TakesMemory, fields_of, is_ended, is_start, line_of, may_name, may_stand, row_for, ticks_left, tolerance};
+ghost use Rattle.schedule_world.specs.Grammar.{IsSound, IsWorld, after, named, ticks_of, ticked, with_member};
+
+use crate::line::{LineWord, WorldLine};
+use crate::named::Named;
+use crate::read::{
+    arm_line, deliver_line, flow_line, line_word, lone_line, monitor_line, start_line, stop_line,
+    tick_line, view_line,
+};
+use crate::roster::{group_line, header_line, kinds_line, liar_line, node_line};
+use crate::signing::{give_all_line, give_line, raw_line, sign_accusation_line, sign_note_line};
+use ff_ids::MemberId;
+use line_text::{BadWord, Form, LineFault, Words};
+use std::alloc::Global;
+
+/// How many ticks a schedule may have.
+const TICKS: u32 = 100_000;
+
+/// What has been read of a schedule in the world form.
+#[derive(Debug, Drop)]
+pub enum WorldText {
+    /// Nothing: the header comes next.
+    Start,
+    /// The header: the group comes next.
+    Headed,
+    /// The group, of tolerance `t`: the kinds of keys come next.
+    Grouped { t: u8 },
+    /// The kinds, and these members, of which one is a node or none.
+    Roster { t: u8, named: Named, has_node: bool },
+    /// The whole roster, and so many ticks.
+    Body { t: u8, ticks: u32 },
+    /// The line `end`.
+    Ended,
+}
+
+impl WorldText {
+    fn is_start(&self) -> bool
+        ensures { result ≡ is_start self.now }
+    {
+        matches!(self, WorldText::Start)
+    }
+
+    /// Whether a line with this word may stand here.
+    fn may_stand(&self, word: LineWord) -> bool
+        ensures { result ≡ may_stand self.now word }
+    {
+        match word {
+            LineWord::Group => matches!(self, WorldText::Headed),
+            LineWord::Kinds => matches!(self, WorldText::Grouped { .. }),
+            LineWord::Node | LineWord::Liar => matches!(self, WorldText::Roster { .. }),
+            LineWord::Begin => matches!(self, WorldText::Roster { has_node: true, .. }),
+            _ => matches!(self, WorldText::Body { .. }),
+        }
+    }
+
+    /// The tolerance of the group, below it.
+    fn tolerance(&self) -> u8
+        ensures { result ≡ tolerance self.now }
+    {
+        match self {
+            WorldText::Grouped { t } | WorldText::Roster { t, .. } | WorldText::Body { t, .. } =>
+                *t,
+            WorldText::Start | WorldText::Headed | WorldText::Ended => 0,
+        }
+    }
+
+    /// Whether the member may be named: in a roster with room for it that hasn't named it.
+    pub(crate) fn may_name(&self, member: MemberId) -> bool
+        ensures { result ≡ may_name self.now member }
+    {
+        match self {
+            WorldText::Roster { named, .. } => named.has_room() && !named.contains(member),
+            _ => false,
+        }
+    }
+
+    /// How many ticks may still come.
+    fn ticks_left(&self) -> u32
+        ensures { result ≡ ticks_left self.now }
+    {
+        match self {
+            WorldText::Body { ticks, .. } => TICKS.saturating_sub(*ticks),
+            _ => 0,
+        }
+    }
+
+    /// The line of this line word.
+    fn line_of(&self, alloc: Global, word: LineWord, args: Words) -> Result<WorldLine, LineFault>
+        requires { tolerance self.now ≤ 15 }
+        ensures { AnswersBy TakesMemory (fields_line (fields_of self.now word) (line_of word) args.entry) result }
+    {
+        match word {
+            LineWord::Group => Ok(group_line(args)?),
+            LineWord::Kinds => Ok(kinds_line(args)?),
+            LineWord::Node => Ok(node_line(self, args)?),
+            LineWord::Liar => Ok(liar_line(self, args)?),
+            LineWord::Begin => Ok(lone_line(WorldLine::Begin, args)?),
+            LineWord::Start => Ok(start_line(args)?),
+            LineWord::Stop => Ok(stop_line(args)?),
+            LineWord::Arm => Ok(arm_line(args)?),
+            LineWord::Tick => Ok(tick_line(self.ticks_left(), args)?),
+            LineWord::Deliver => Ok(deliver_line(args)?),
+            LineWord::Flow => Ok(flow_line(args)?),
+            LineWord::Raw => raw_line(alloc, args),
+            LineWord::SignNote => sign_note_line(alloc, args),
+            LineWord::SignAccusation => sign_accusation_line(alloc, args),
+            LineWord::Give => give_line(alloc, args),
+            LineWord::GiveAll => give_all_line(alloc, args),
+            LineWord::View => Ok(view_line(args)?),
+            LineWord::Monitor => Ok(monitor_line(self.tolerance(), args)?),
+            LineWord::End => Ok(lone_line(WorldLine::End, args)?),
+        }
+    }
+
+    /// Names a member, in a roster. Fewer than 32 are named.
+    fn name(&mut self, member: MemberId, is_node: bool)
+        requires { length (named self.old) < 32 }
+        ensures { self.new ≡ with_member member is_node self.old }
+    {
+        if let WorldText::Roster {
+            named,
+            has_node,
+            ..
+        } = self
+        {
+            named.push(member);
+            *has_node = *has_node || is_node;
+        }
+    }
+
+    /// Counts ticks.
+    fn count(&mut self, more: u32)
+        requires { ticks_of self.old + more ≤ 100000 }
+        ensures { self.new ≡ ticked more self.old }
+    {
+        if let WorldText::Body { ticks, .. } = self {
+            *ticks += more;
+        }
+    }
+}
+
+impl Form for WorldText {
+    ghost use Rattle.schedule_world.specs.Laws.{world-spelled, world-taken};
+
+    type Line = WorldLine;
+
+    ghost is_sound = { IsSound };
+
+    ghost is_ended = { is_ended };
+
+    ghost row_for = { row_for };
+
+    ghost spells = { IsWorld };
+
+    ghost takes_memory = { TakesMemory };
+
+    ghost after = { after };
+
+    fn is_ended(&self) -> bool {
+        matches!(self, WorldText::Ended)
+    }
+
+    fn judge(&self, alloc: Global, words: Words) -> Result<WorldLine, LineFault> {
+        if self.is_start() {
+            return Ok(header_line(words)?);
+        }
+        let (first, args) = words.split();
+        let word = line_word(first)?;
+        if self.may_stand(word) {
+            self.line_of(alloc, word, args)
+        } else {
+            Err(LineFault::Bad(BadWord::Order))
+        }
+    }
+
+    fn advance(&mut self, line: &WorldLine) {
+        match line {
+            WorldLine::Header => *self = WorldText::Headed,
+            WorldLine::Group { group } => *self = WorldText::Grouped { t: group.t },
+            WorldLine::Kinds { .. } => {
+                *self = WorldText::Roster {
+                    t: self.tolerance(),
+                    named: Named::new(),
+                    has_node: false,
+                }
+            }
+            WorldLine::Node { member } => self.name(*member, true),
+            WorldLine::Liar { member } => self.name(*member, false),
+            WorldLine::Begin => {
+                *self = WorldText::Body {
+                    t: self.tolerance(),
+                    ticks: 0,
+                }
+            }
+            WorldLine::Tick { ticks, .. } => self.count(*ticks),
+            WorldLine::End => *self = WorldText::Ended,
+            _ => {}
+        }
+    }
+
+    ghost spelled = { world-spelled };
+
+    ghost taken = { world-taken };
+}
