@@ -1,0 +1,4 @@
+pub mod Workload
+pub mod Places
+pub mod Turns
+pub mod Schedule

@@ -1,0 +1,16 @@
+//! The soak workload: a schedule in the world form, made line by line from a seed, a number of members and a number
+//! of rounds. One member in ten is a liar, which accuses a victim in each round. Contracts say which lines they are:
+//! each call gives the first of those that are left.
+#![tactic(auto)]
+
+mod draw;
+mod name;
+mod place;
+mod plan;
+mod soak;
+mod turn;
+
+pub use soak::Soak;
+
+#[cfg(test)]
+mod tests;
