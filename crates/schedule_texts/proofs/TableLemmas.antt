@@ -1,0 +1,43 @@
+-- Steps of reading by the table of a form.
+use Rattle.std.proofs.Common.{◌≡◌, ℕ, Bool, true, false, List, Option, Some, None, Result, Ok, Err, sym, subst}
+use Rattle.line_text.specs.declared.bad_word.BadWord.{BadWord}
+use Rattle.line_text.specs.declared.bad_word.LineFault.{LineFault}
+use Rattle.line_text.specs.Fields.{Field}
+use Rattle.line_text.specs.Answers.{AnswersBy}
+use Rattle.line_text.specs.Frame.{Row, behind, field_tests, fields_line, first_of, first_word, is_header, known_row, row_line, unless_bad, word_or_bad}
+use Rattle.line_text.proofs.FrameLemmas.{header-line, known-read}
+use Rattle.schedule_texts.specs.Table.{start_row, table_row}
+
+-- ## Reading
+
+pub header_read : {L : Type 0} (form : List ℕ) (words : List (List ℕ)) (line : L) → is_header form words ≡ true → Ok line ≡ row_line (start_row form line words) (behind words)
+header_read form words line h = rw h (sym (header-line form words line h))
+
+-- ## Lines of a value
+
+abbrev given : {L : Type 0} → L → Result L BadWord
+given x = Ok x
+
+bad_too : {V L : Type 0} (o : Option BadWord) (v : V) (l : L) (w : BadWord) → Err w ≡ unless_bad o (given v) → Err w ≡ unless_bad o (given l)
+bad_too None v l w e = absurd cc
+bad_too (Some x) v l w e = cc
+
+good_too : {V L : Type 0} (o : Option BadWord) (v x : V) (of : V → L) → given x ≡ unless_bad o (given v) → given (of x) ≡ unless_bad o (given (of v))
+good_too None v x of e = cc
+good_too (Some w) v x of e = absurd cc
+
+-- words that aren't a value are no line of it either
+pub line_bad : {V L : Type 0} (fields : List Field) (value : List (List ℕ) → V) (line : List (List ℕ) → L) (args : List (List ℕ)) (w : BadWord) → Err w ≡ fields_line fields value args → Err w ≡ fields_line fields line args
+line_bad fields value line args w e = bad_too (first_of (field_tests fields args)) (value args) (line args) w e
+
+pub line_good : {V L : Type 0} (fields : List Field) (value : List (List ℕ) → V) (of : V → L) (args : List (List ℕ)) (x : V) → given x ≡ fields_line fields value args → given (of x) ≡ fields_line fields (λ ws. of (value ws)) args
+line_good fields value of args x e = good_too (first_of (field_tests fields args)) (value args) x of e
+
+-- ## Lines below the header
+
+-- a line below the header that may stand here
+pub below_read : {W L : Type 0} (Takes : L → Type 0) (start : Bool) (form : List ℕ) (header : L) (line_word : List ℕ → Option W) (row : W → Row L) (words : List (List ℕ)) (first : List ℕ) (k : W) (args : List (List ℕ)) (answer : Result L LineFault)
+    → start ≡ false → first ≡ first_word words → word_or_bad (line_word first) ≡ Ok k → (row k).stands ≡ true → args ≡ behind words → AnswersBy Takes (fields_line (row k).fields (row k).line args) answer
+    → AnswersBy Takes (row_line (table_row start form header line_word row words) (behind words)) answer
+below_read Takes start form header line_word row words first k args answer below is word may same h =
+    rw below (subst (λ (w : List ℕ). AnswersBy Takes (row_line (known_row row (line_word w)) (behind words)) answer) is (known-read Takes row (line_word first) k words args answer word may same h))

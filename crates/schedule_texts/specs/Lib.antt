@@ -1,0 +1,12 @@
+pub mod Shared
+pub mod Table
+pub mod Spelling
+pub mod KindTables
+pub mod SharedLaws
+pub mod TableLaws
+pub mod SecretRows
+pub mod SecretGrammar
+pub mod SecretLaws
+pub mod RosterRows
+pub mod RosterGrammar
+pub mod RosterLaws

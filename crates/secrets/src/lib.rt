@@ -1,0 +1,93 @@
+//! What a secret of 32 bytes gives: a key, and the seed of a life's nonces; what marks a store as that of a key in a
+//! group; and the secrets of a recorded world.
+#![tactic(auto)]
+
+ghost use Rattle.std.specs.Prelude.{◌≡◌, IfOk};
+ghost use Rattle.secrets.specs.Secrets.{key_from, key_id, key_seed, nonce_seed, store_tag, world_secret};
+
+use ff_ids::Group;
+use fields::NoMemory;
+use lms_ots::OtsKind;
+use lms_tree::{PublicKey, SecretKey, TreeKind};
+use sha2::{Digest, Sha256};
+use std::alloc::Global;
+
+#[cfg(test)]
+mod tests;
+
+/// The identifier of the secret's key: the first 16 bytes of the SHA-256 of `FFLMSI` and the secret.
+#[tactic(auto, unfolding(crate::specs::Secrets::key_id))]
+fn key_id(secret: &[u8; 32]) -> [u8; 16]
+    ensures { result ≡ key_id secret.now }
+{
+    let mut hasher = Sha256::new();
+    hasher.update(b"FFLMSI");
+    hasher.update(secret);
+    let hash = hasher.finalize();
+    let mut id = [0; 16];
+    id.copy_from_slice(&hash[..16]);
+    id
+}
+
+/// The seed of the secret's key: the SHA-256 of `FFSEED` and the secret.
+#[tactic(auto, unfolding(crate::specs::Secrets::key_seed))]
+fn key_seed(secret: &[u8; 32]) -> [u8; 32]
+    ensures { result ≡ key_seed secret.now }
+{
+    let mut hasher = Sha256::new();
+    hasher.update(b"FFSEED");
+    hasher.update(secret);
+    hasher.finalize()
+}
+
+/// The key of these kinds that the secret gives. It is made anew, with no leaf spent.
+pub fn make_key(
+    alloc: Global,
+    ots: OtsKind,
+    tree: TreeKind,
+    secret: &[u8; 32],
+) -> Result<SecretKey, NoMemory>
+    ensures { IfOk result (λ key. key ≡ key_from ots tree secret.now) }
+{
+    SecretKey::make(alloc, tree, ots, key_id(secret), key_seed(secret))
+}
+
+/// The seed of a life's nonces, `next` being the index of the store as the life begins: the SHA-256 of `FFPING`, the
+/// secret and the index in four bytes.
+#[tactic(auto, unfolding(crate::specs::Secrets::nonce_seed))]
+pub fn nonce_seed(secret: &[u8; 32], next: u32) -> [u8; 32]
+    ensures { result ≡ nonce_seed secret.now next }
+{
+    let mut hasher = Sha256::new();
+    hasher.update(b"FFPING");
+    hasher.update(secret);
+    hasher.update(&next.to_be_bytes());
+    hasher.finalize()
+}
+
+/// What marks a store as that of the key in the group: the SHA-256 of `FFSTAG`, the group's tag, its tolerance in a
+/// byte and the key's 56 bytes.
+#[tactic(auto, unfolding(crate::specs::Secrets::store_tag))]
+pub fn store_tag(group: &Group, key: &PublicKey) -> [u8; 32]
+    ensures { result ≡ store_tag group.now key.now }
+{
+    let mut hasher = Sha256::new();
+    hasher.update(b"FFSTAG");
+    hasher.update(&group.tag);
+    hasher.update(&[group.t]);
+    hasher.update(&key.write());
+    hasher.finalize()
+}
+
+/// The secret of a member's number in the world of the tag; the authority has 65,535, which no member has: the
+/// SHA-256 of `FFWORLD`, the tag and the number in two bytes.
+#[tactic(auto, unfolding(crate::specs::Secrets::world_secret))]
+pub fn world_secret(tag: &[u8; 16], number: u16) -> [u8; 32]
+    ensures { result ≡ world_secret tag.now number }
+{
+    let mut hasher = Sha256::new();
+    hasher.update(b"FFWORLD");
+    hasher.update(tag);
+    hasher.update(&number.to_be_bytes());
+    hasher.finalize()
+}
