@@ -66,7 +66,7 @@ firm_page = firm_token (number 0 31) 0 (lit< tt) exact_page
 firm_64 : Firm number_64_at (λ n. decimal n ∷ []) (λ n. n < 2 ^ 64)
 firm_64 = firm_token (number 0 18446744073709551615) 0 (lit< tt) exact_64
 
-firm_literal : (text : List ℕ) → Firm (token_at (is_literal text)) (λ x. text ∷ []) (λ x. Unit {0})
+pub firm_literal : (text : List ℕ) → Firm (token_at (is_literal text)) (λ x. text ∷ []) (λ x. Unit {0})
 firm_literal text = firm_token (is_literal text) tt tt (exact_literal text)
 
 firm_monitor : Firm (token_at monitor_of) (λ m. monitor_text m ∷ []) IsMonitor
@@ -83,7 +83,7 @@ are_bytes [] h i = omega arith
 are_bytes (b ∷ rest) h zero = ltb-true b 256 (and_parts _ _ h).0
 are_bytes (b ∷ rest) h (suc i) = are_bytes rest (and_parts _ _ h).1 i
 
-one_byte : IsBytes (0 ∷ [])
+pub one_byte : IsBytes (0 ∷ [])
 one_byte = are_bytes (0 ∷ []) refl
 
 firm_bytes : Firm (token_at bytes_of) (λ b. encode_lower b ∷ []) (λ b. (0 < length b) × IsBytes b)

@@ -1,4 +1,5 @@
 mod Rows
+mod TurnRows
 pub mod WordLemmas
 pub mod HexWords
 pub mod Steps
@@ -7,3 +8,5 @@ pub mod Spelled
 pub mod Events
 pub mod Firm
 pub mod Firmness
+pub mod Failing
+pub mod Turns

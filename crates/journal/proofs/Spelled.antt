@@ -241,13 +241,13 @@ event_joined e =
 pub record Worded (words : List (List ℕ)) : Type 0 where
   pub all : list_all is_word words ≡ true
 
-no_words : Worded []
+pub no_words : Worded []
 no_words = record { all = refl }
 
-with_word : (word : List ℕ) (words : List (List ℕ)) → is_word word ≡ true → Worded words → Worded (word ∷ words)
+pub with_word : (word : List ℕ) (words : List (List ℕ)) → is_word word ≡ true → Worded words → Worded (word ∷ words)
 with_word word words one others = record { all = rw (one, others.all) refl }
 
-with_words : (a b : List (List ℕ)) → Worded a → Worded b → Worded (a ++ b)
+pub with_words : (a b : List (List ℕ)) → Worded a → Worded b → Worded (a ++ b)
 with_words a b one others = record { all = list_all-append is_word a b ∙ rw (one.all, others.all) refl }
 
 digit_printable : (c : ℕ) → is_ascii_digit c ≡ true → is_printable c ≡ true
@@ -275,10 +275,10 @@ lowers_printable (c ∷ w) h =
 word_of : (w : List ℕ) → 0 < length w → list_all is_printable w ≡ true → is_word w ≡ true
 word_of w some h = rw (ne_eqb (length w) 0 (λ e. absurd (omega (arith, some, e))), h) refl
 
-number_word : (n : ℕ) → n < 2 ^ 64 → is_word (decimal n) ≡ true
+pub number_word : (n : ℕ) → n < 2 ^ 64 → is_word (decimal n) ≡ true
 number_word n lt = word_of (decimal n) (decimal_nonempty n lt) (digits_printable (decimal n) (digits_all n lt))
 
-bytes_word : (b : List ℕ) → 0 < length b → IsBytes b → is_word (encode_lower b) ≡ true
+pub bytes_word : (b : List ℕ) → 0 < length b → IsBytes b → is_word (encode_lower b) ≡ true
 bytes_word b some h =
     let len = length-encode_with lower_digits b in
     word_of (encode_lower b) (omega (arith, len, some)) (lowers_printable (encode_lower b) (encoded_lower b h))

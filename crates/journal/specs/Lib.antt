@@ -4,3 +4,5 @@ pub mod Kinds
 pub mod Grammar
 pub mod Spelling
 pub mod Places
+pub mod Failing
+pub mod Turns

@@ -3,6 +3,7 @@
 ghost use Rattle.std.specs.Prelude.{◌≡◌, IfOk};
 ghost use Rattle.std.specs.List.{list_all};
 ghost use Rattle.journal.specs.Words.{Reads, bytes_of, is_lower_digit, is_spelled, key_of, token_at};
+ghost use Rattle.journal.specs.Turns.{bytes_or_dash, or_no_bytes};
 
 use crate::words::{Misread, Words};
 use fields::{Bytes, NoMemory};
@@ -79,6 +80,21 @@ pub fn digits<'a>(words: &mut Words<'a>) -> Result<HexWord<'a>, Misread>
     let place = words.place();
     let word = words.next().ok_or(Misread { place })?;
     HexWord::of(word).ok_or(Misread { place })
+}
+
+/// The digits of one or more bytes, or none for `-`.
+pub fn digits_or_dash<'a>(words: &mut Words<'a>) -> Result<Option<HexWord<'a>>, Misread>
+    ensures { Reads or_no_bytes result words.new (token_at bytes_or_dash words.old) }
+{
+    let place = words.place();
+    let word = words.next().ok_or(Misread { place })?;
+    if word == b"-".as_slice() {
+        return Ok(None);
+    }
+    match HexWord::of(word) {
+        Some(digits) => Ok(Some(digits)),
+        None => Err(Misread { place }),
+    }
 }
 
 fn key_of(word: &[u8]) -> Option<PublicKey>

@@ -7,12 +7,14 @@ mod fault;
 mod hex_word;
 mod kinds;
 mod reading;
+mod turn;
 mod words;
 mod writing;
 
 pub use event::{Event, What};
 pub use fault::EventFault;
 pub use reading::read_event;
+pub use turn::{Heard, Turn, read_turn, write_turn};
 pub use writing::write_event;
 
 #[cfg(test)]

@@ -1,3 +1,5 @@
+mod turns;
+
 use super::*;
 use ff_ids::{AccBody, Epoch, Fault, Mask, MemberId, NoteBody, RingNo};
 use fields::Bytes;
