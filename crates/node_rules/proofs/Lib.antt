@@ -1,8 +1,27 @@
 pub mod Rows
 mod Rounds
 pub mod Small
+pub mod Carrying
 pub mod Keeping
 pub mod Telling
 pub mod OwnNote
 pub mod Masks
 pub mod Vouches
+pub mod Accusations
+pub mod Handling
+pub mod Ticks
+pub mod Gathering
+pub mod Sendings
+pub mod Gains
+pub mod RingLemmas
+pub mod GoingOn
+mod Growth
+mod Upholding
+mod Correctness
+mod Exchanges
+mod WholePages
+mod OneExchange
+mod Walks
+mod Forms
+mod Sendable
+pub mod ExchangeRows

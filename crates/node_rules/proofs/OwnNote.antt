@@ -129,7 +129,7 @@ transported s n m h same stored =
 by_step : (s : Setting) (e : Event) (c : Call) → IsNotOwn s.me e → SameOwn s.me (state_of s c.node) (state_of s (lives s e c).node)
 by_step s e c other = subst (λ x. SameOwn s.me (state_of s c.node) x) (sym (state_of-lives s e c)) (step-same s.group s.me (state_of s c.node) e other)
 
-stored-lives : (s : Setting) (e : Event) (c : Call) → (lives s e c).node.stored ≡ c.node.stored
+pub stored-lives : (s : Setting) (e : Event) (c : Call) → (lives s e c).node.stored ≡ c.node.stored
 unfolding lives
 stored-lives s e c = refl
 
@@ -216,8 +216,8 @@ keeping s some =
       told = λ what c other h. h;
       sent = λ d c to h. own-sends s d c to h;
       taken = λ r c fine h. own-takes s r c (event-is_other s c.node r r.body h refl fine) h;
-      answered = λ r a c fine is me h. own-answers s r a c some fine is me h;
-      accused = λ a c by h. own-accuses s a c h;
+      answered = λ r a c fine is me left h. own-answers s r a c some fine is me h;
+      accused = λ a c by left h. own-accuses s a c h;
       stopped = λ c h. h;
       passed = λ c h. own-lives s Ticks c tt h;
       probed = λ p c h. with_probes s c.node p h;

@@ -19,6 +19,7 @@ use Rattle.node_rules.specs.Calls.{Call, lives, sends, takes, signs, signs_and_s
 use Rattle.node_rules.specs.Deliveries.{handles, delivered}
 use Rattle.node_rules.specs.Ticking.{accuses, passed, probed_at, due_tick, ticked}
 use Rattle.node_rules.specs.Starting.{started}
+use Rattle.node_rules.specs.Outgoing.{at_tick, to_accuse, goes_out, accusing_told}
 use Rattle.detector.specs.Silence.{nonce}
 use Rattle.ff_ids.specs.declared.summary.SummaryEntry.{SummaryEntry}
 use Rattle.node_rules.proofs.Rows.{setting, seed, certificate, new_store, acc, accused, noted}
@@ -116,3 +117,13 @@ later_ticks : (whats 3 ≡ told.Sent 0 2 (ping 3) ∷ told.Sent 1 2 (summary 1) 
     × (whats 6 ≡ told.Expired (accused 1 2 1 0) ∷ told.Removed 2 ∷ told.Sent 0 2 (datagram_bytes (kinds.Summary 1 false (record { page = 0; listed = entry 1 1 7 0 ∷ entry 2 1 7 0 ∷ [] }))) ∷ [])
 unfolding all_numbers started signs signs_and_sends wants takes lives state_of delivered handles refusal sends certificate_of neighbours neighbours_and answering_mask bits_where page partner page_number lacking accuses passed probed_at due_tick ticked read_of whole_of datagram_at head_at items_at content_at records_at counted_at record_at body_at certificate_at note_at accusation_at key_at signature_at head_bytes records_bytes note_bytes accusation_bytes summary_at entries_at entry_at entry_bytes summary_bytes certificate_bytes key_bytes
 later_ticks = (refl, refl)
+
+-- The same of the third tick, from the state after the tick alone: what is told of accusations, and what goes out.
+abbrev third : Node
+third = at_tick (setting 1) (alone 2)
+
+from_the_state : let st = state_of (setting 1) third in
+    (accusing_told (setting 1) st third.stored.next (to_accuse (setting 1) third st) ≡ told.Silent 2 ∷ told.Spent 1 (acc 1 2 1 0) ∷ [])
+    × (goes_out (setting 1) third st (alone 3) ≡ (2, accusation) ∷ (2, ping 2) ∷ (2, summary 1) ∷ [])
+unfolding all_numbers started signs signs_and_sends wants takes lives state_of delivered handles refusal sends certificate_of neighbours neighbours_and answering_mask bits_where page partner page_number lacking accuses passed probed_at due_tick ticked read_of whole_of datagram_at head_at items_at content_at records_at counted_at record_at body_at certificate_at note_at accusation_at key_at signature_at head_bytes records_bytes note_bytes accusation_bytes summary_at entries_at entry_at entry_bytes summary_bytes certificate_bytes key_bytes
+from_the_state = (refl, refl)

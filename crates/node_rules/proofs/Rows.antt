@@ -26,6 +26,9 @@ use Rattle.node_rules.specs.Refusals.{refusal}
 use Rattle.node_rules.specs.Calls.{Call, lives, sends, takes, signs, signs_and_sends, wants}
 use Rattle.node_rules.specs.Deliveries.{handles, delivered, delivered_until}
 use Rattle.node_rules.specs.Starting.{started}
+use Rattle.node_rules.specs.Answering.{records_told, answers_sent}
+use Rattle.node_rules.specs.Gaining.{gained}
+use Rattle.ff_ids.specs.Steps.{Accuses, Notes}
 
 abbrev group : Group
 group = record { tag = replicate 16 0; t = 1; timeout = 4; period = 1; misses = 2 }
@@ -146,3 +149,13 @@ used_up : ((delivered (setting 1) (delivered (setting 1) last_life.node (given (
     ≡ at0 (told.Took (acc 2 1 32 0) None) ∷ at0 (told.Exhausted 32) ∷ [])
 unfolding all_numbers started signs signs_and_sends wants takes lives state_of delivered handles refusal sends certificate_of neighbours answering_mask bits_where read_of whole_of datagram_at head_at items_at content_at records_at counted_at record_at body_at certificate_at note_at accusation_at key_at signature_at head_bytes records_bytes note_bytes accusation_bytes
 used_up = refl
+
+-- Two accusations in one datagram: the first is answered, and the second is at an epoch that the answer has ended.
+abbrev two_records : List Record
+two_records = record { body = acc 2 1 1 0; signature = 5 ∷ [] } ∷ record { body = acc 2 1 1 1; signature = 5 ∷ [] } ∷ []
+
+one_answer : (records_told (setting 1) noted.node two_records ≡ told.Took (acc 2 1 1 0) None ∷ told.Spent 1 (note 1 2 6) ∷ told.Took (acc 2 1 1 1) (Some (faults.OtherEpoch 2)) ∷ [])
+    × (answers_sent (setting 1) noted.node two_records ≡ (2, own 1 2 6) ∷ [])
+    × (gained (setting 1) noted.node two_records ≡ Accuses (accused 2 1 1 0) ∷ Notes (record { member = 1; epoch = 2; mask = record { 0 = 6 } }) ∷ [])
+unfolding all_numbers started signs signs_and_sends wants takes lives state_of delivered handles refusal sends certificate_of neighbours answering_mask bits_where read_of whole_of datagram_at head_at items_at content_at records_at counted_at record_at body_at certificate_at note_at accusation_at key_at signature_at head_bytes records_bytes note_bytes accusation_bytes
+one_answer = (refl, refl, refl)

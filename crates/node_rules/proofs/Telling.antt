@@ -120,8 +120,8 @@ telling s n =
       told = tells-other s n;
       sent = tells-sends s n;
       taken = λ r c fine h. tells-takes s n r c h;
-      answered = λ r a c fine is me h. tells-signs s n _ _ (tells-takes s n r c h);
-      accused = λ a c by h. tells-signs s n (Accusation a) c h;
+      answered = λ r a c fine is me left h. tells-signs s n _ _ (tells-takes s n r c h);
+      accused = λ a c by left h. tells-signs s n (Accusation a) c h;
       stopped = λ c h. let k = tells-other s n told.Stopped c refl h in record { more = k.more; grew = k.grew; told_so = k.told_so };
       passed = λ c h. tells-lives s n Ticks c h;
       probed = λ p c h. record { more = h.more; grew = h.grew; told_so = h.told_so };

@@ -1,5 +1,5 @@
 -- Each event of a life is vouched for by a record.
-use Rattle.std.proofs.Common.{◌≡◌, ℕ, Bool, true, false, cond, inl, inr, List, [], ◌∷◌, ◌++◌, Option, Some, None, refl, ap, sym, ◌∙◌, subst, map, arith, ◌⊎◌}
+use Rattle.std.proofs.Common.{◌≡◌, ℕ, Bool, true, false, cond, inl, inr, List, [], ◌∷◌, ◌++◌, Option, Some, None, refl, ap, sym, ◌∙◌, subst, map, arith, ◌⊎◌, ◌+◌, ◌<◌, ◌≤◌}
 use Rattle.std.specs.Prelude.{fold, option_map}
 use Rattle.std.specs.List.{AllByRecursion, list_any}
 use Rattle.std.specs.Option.{option_and_then}
@@ -21,12 +21,14 @@ use Rattle.record_set.specs.Held.{key_cmp}
 use Rattle.detector.specs.Silence.{History}
 use Rattle.node_rules.specs.Nodes.{Setting, Node, Holding, state_of, event_of, with_record, without, without_ended, key_of_accusation, certificate_in, certificate_of, public_key_of}
 use Rattle.node_rules.specs.Refusals.{signature_fault, refusal, refusal_of}
-use Rattle.node_rules.specs.Calls.{Call, begun, lives, takes, spends, signs, sends, own_record}
+use Rattle.signer.specs.Signing.{stored_after}
+use Rattle.node_rules.specs.Calls.{Call, begun, lives, takes, spends, signs, sends, own_record, is_used_up}
 use Rattle.node_rules.specs.Deliveries.{answer_to}
 use Rattle.node_rules.specs.Starting.{blank, opened, started, first_note}
 use Rattle.node_rules.specs.Lives.{is_certificate_for, Input, call_of, after_calls}
 use Rattle.node_rules.specs.Vouching.{IsVouchedFor, IsVouched, OwnSignaturesVerify, IsCertifiedBy}
-use Rattle.node_rules.proofs.OwnNote.{option_or-none, or-second}
+use Rattle.node_rules.proofs.OwnNote.{option_or-none, or-second, stored-lives}
+use Rattle.node_rules.proofs.Small.{stored-takes, stored-signs}
 use Rattle.node_rules.proofs.Keeping.{Keeps, keeps-call}
 
 -- ---- certificates that stay
@@ -137,31 +139,33 @@ accepted-vouched s n r (Accusation a) is fine =
 pub record Vouches (s : Setting) (own : PublicKey) (n : Node) : Type 0 where
   pub events : AllByRecursion (IsVouched s n) n.lived
   pub own_key : public_key_of n s.me ≡ Some own
+  pub within : n.stored.next ≤ s.indexes
 
 -- One more event, and what was held of certificates stays.
-more : (s : Setting) (own : PublicKey) (n m : Node) (e : Event) → Stay n m → m.lived ≡ n.lived ++ e ∷ [] → IsVouched s n e → Vouches s own n → Vouches s own m
-more s own n m e stay lived v h =
+more : (s : Setting) (own : PublicKey) (n m : Node) (e : Event) → Stay n m → m.lived ≡ n.lived ++ e ∷ [] → m.stored ≡ n.stored → IsVouched s n e → Vouches s own n → Vouches s own m
+more s own n m e stay lived same v h =
     record {
       events = subst (AllByRecursion (IsVouched s m)) (sym lived) (all-push (IsVouched s m) n.lived e (all-stay s n m n.lived stay h.events) (vouched-stays s n m e stay v));
       own_key = stay s.me own h.own_key;
+      within = subst (λ k. k.next ≤ s.indexes) (sym same) h.within;
     }
 
 vouches-takes : (s : Setting) (own : PublicKey) (r : Record) (c : Call) → refusal s c.node r ≡ None → Vouches s own c.node → Vouches s own (takes s r c).node
 vouches-takes s own r c fine h =
-    more s own c.node (takes s r c).node (event_of s r.body) (stay-takes s r c (λ x k key some is who. not_kept s c.node r x k key fine some is who)) (lived-takes s r c) (accepted-vouched s c.node r r.body refl fine) h
+    more s own c.node (takes s r c).node (event_of s r.body) (stay-takes s r c (λ x k key some is who. not_kept s c.node r x k key fine some is who)) (lived-takes s r c) (stored-takes s r c) (accepted-vouched s c.node r r.body refl fine) h
 
 IsOwnBody : Setting → Body → Type 0
 IsOwnBody s (Certificate c) = ⊥
 IsOwnBody s (Note note) = note.member ≡ s.me
 IsOwnBody s (Accusation a) = a.accuser ≡ s.me
 
-own-vouched : (s : Setting) (own : PublicKey) (n : Node) (index : ℕ) (b : Body) → IsOwnBody s b → OwnSignaturesVerify s own → public_key_of n s.me ≡ Some own → IsVouched s n (event_of s b)
+own-vouched : (s : Setting) (own : PublicKey) (n : Node) (index : ℕ) (b : Body) → IsOwnBody s b → OwnSignaturesVerify s own → index < s.indexes → public_key_of n s.me ≡ Some own → IsVouched s n (event_of s b)
 unfolding IsOwnBody
-own-vouched s own n index (Certificate c) mine signs h = absurd mine
-own-vouched s own n index (Note note) mine signs h =
-    record { witness = record { body = Note note; signature = s.signature index (Note note) }; key = own; says = refl; author_is = ap (public_key_of n) mine ∙ h; verifies = signs index (Note note) }
-own-vouched s own n index (Accusation a) mine signs h =
-    record { witness = record { body = Accusation a; signature = s.signature index (Accusation a) }; key = own; says = refl; author_is = ap (public_key_of n) mine ∙ h; verifies = signs index (Accusation a) }
+own-vouched s own n index (Certificate c) mine signs left h = absurd mine
+own-vouched s own n index (Note note) mine signs left h =
+    record { witness = record { body = Note note; signature = s.signature index (Note note) }; key = own; says = refl; author_is = ap (public_key_of n) mine ∙ h; verifies = signs index (Note note) left }
+own-vouched s own n index (Accusation a) mine signs left h =
+    record { witness = record { body = Accusation a; signature = s.signature index (Accusation a) }; key = own; says = refl; author_is = ap (public_key_of n) mine ∙ h; verifies = signs index (Accusation a) left }
 
 not_own_certificate : (s : Setting) (b : Body) (x : CertBody) → IsOwnBody s b → b ≡ Certificate x → ⊥
 unfolding IsOwnBody
@@ -169,28 +173,41 @@ not_own_certificate s (Certificate c) x mine is = mine
 not_own_certificate s (Note note) x mine is = cc
 not_own_certificate s (Accusation a) x mine is = cc
 
-spent : (s : Setting) (own : PublicKey) (b : Body) (c : Call) → Vouches s own c.node → Vouches s own (spends s b c).node
-unfolding certificate_of
-spent s own b c h = record { events = h.events; own_key = h.own_key }
+-- an index that is left is one of the key's
+index-left : (s : Setting) (n : Node) → is_used_up s n ≡ false → n.stored.next ≤ s.indexes → n.stored.next < s.indexes
+index-left s n left within = grind (arith, nat_tests, left, within)
 
-vouches-signs : (s : Setting) (own : PublicKey) (b : Body) (c : Call) → IsOwnBody s b → OwnSignaturesVerify s own → Vouches s own c.node → Vouches s own (signs s b c).node
+stored_after-next : (stored : Stored) (b : Body) → (stored_after stored b).next ≡ stored.next + 1
+stored_after-next stored (Certificate c) = refl
+stored_after-next stored (Note note) = refl
+stored_after-next stored (Accusation a) = refl
+
+within-spends : (s : Setting) (n : Node) (b : Body) → is_used_up s n ≡ false → n.stored.next ≤ s.indexes → (stored_after n.stored b).next ≤ s.indexes
+within-spends s n b left within = omega (arith, stored_after-next n.stored b, index-left s n left within)
+
+spent : (s : Setting) (own : PublicKey) (b : Body) (c : Call) → is_used_up s c.node ≡ false → Vouches s own c.node → Vouches s own (spends s b c).node
+unfolding certificate_of
+spent s own b c left h = record { events = h.events; own_key = h.own_key; within = within-spends s c.node b left h.within }
+
+vouches-signs : (s : Setting) (own : PublicKey) (b : Body) (c : Call) → IsOwnBody s b → OwnSignaturesVerify s own → is_used_up s c.node ≡ false → Vouches s own c.node → Vouches s own (signs s b c).node
 unfolding signs
-vouches-signs s own b c mine sign h =
+vouches-signs s own b c mine sign left h =
     let c1 : Call = spends s b c in
-    let h1 : Vouches s own c1.node = spent s own b c h in
+    let h1 : Vouches s own c1.node = spent s own b c left h in
     let r : Record = own_record s c.node b in
-    more s own c1.node (takes s r c1).node (event_of s b) (stay-takes s r c1 (λ x k key some is who. not_own_certificate s b x mine is)) (lived-takes s r c1) (own-vouched s own c1.node c.node.stored.next b mine sign h1.own_key) h1
+    let v : IsVouched s c1.node (event_of s b) = own-vouched s own c1.node c.node.stored.next b mine sign (index-left s c.node left h.within) h1.own_key in
+    more s own c1.node (takes s r c1).node (event_of s b) (stay-takes s r c1 (λ x k key some is who. not_own_certificate s b x mine is)) (lived-takes s r c1) (stored-takes s r c1) v h1
 
 vouches-sends : (s : Setting) (own : PublicKey) (d : Datagram) (c : Call) (to : ℕ) → Vouches s own c.node → Vouches s own (sends s d c to).node
 unfolding sends
 vouches-sends s own d c to h = h
 
 vouches-ticks : (s : Setting) (own : PublicKey) (c : Call) → Vouches s own c.node → Vouches s own (lives s Ticks c).node
-vouches-ticks s own c h = more s own c.node (lives s Ticks c).node Ticks (stay-lives s Ticks c) (lived-lives s Ticks c) tt h
+vouches-ticks s own c h = more s own c.node (lives s Ticks c).node Ticks (stay-lives s Ticks c) (lived-lives s Ticks c) (stored-lives s Ticks c) tt h
 
 vouches-probed : (s : Setting) (own : PublicKey) (n : Node) (p : History) → Vouches s own n → Vouches s own (record n { probes = p })
 unfolding certificate_of
-vouches-probed s own n p h = record { events = h.events; own_key = h.own_key }
+vouches-probed s own n p h = record { events = h.events; own_key = h.own_key; within = h.within }
 
 vouching : (s : Setting) (own : PublicKey) → OwnSignaturesVerify s own → Keeps s (λ c. Vouches s own c.node)
 unfolding IsOwnBody
@@ -199,8 +216,8 @@ vouching s own sign =
       told = λ what c other h. h;
       sent = λ d c to h. vouches-sends s own d c to h;
       taken = λ r c fine h. vouches-takes s own r c fine h;
-      answered = λ r a c fine is me h. vouches-signs s own (answer_to s (takes s r c).node.stored a) (takes s r c) refl sign (vouches-takes s own r c fine h);
-      accused = λ a c by h. vouches-signs s own (Accusation a) c by sign h;
+      answered = λ r a c fine is me left h. vouches-signs s own (answer_to s (takes s r c).node.stored a) (takes s r c) refl sign left (vouches-takes s own r c fine h);
+      accused = λ a c by left h. vouches-signs s own (Accusation a) c by sign left h;
       stopped = λ c h. h;
       passed = λ c h. vouches-ticks s own c h;
       probed = λ p c h. vouches-probed s own c.node p h;
@@ -286,11 +303,61 @@ kit-has-own s own (r ∷ records) c all good h =
       | inr others ↦ kit-has-own s own records (takes s r c) all.1 good.1 (or-second (is_certificate_for s.me r.body) _ h others)
     ]
 
-pub vouches-started : (s : Setting) (own : PublicKey) (seed : List ℕ) (certificates : List Record) (stored : Stored) → AllByRecursion Certifies certificates → list_any (λ r. is_certificate_for s.me r.body) certificates ≡ true
-    → AllByRecursion (IsCertifiedBy s own) certificates → OwnSignaturesVerify s own → Vouches s own (started s seed certificates stored).node
-unfolding started IsOwnBody
-vouches-started s own seed certificates stored all mine good sign =
+stored-takes_all : (s : Setting) (records : List Record) (c : Call) → (takes_all s records c).node.stored ≡ c.node.stored
+stored-takes_all s [] c = refl
+stored-takes_all s (r ∷ records) c = stored-takes_all s records (takes s r c) ∙ stored-takes s r c
+
+stored-opened : (s : Setting) (seed : List ℕ) (certificates : List Record) (stored : Stored) → (opened s seed certificates stored).node.stored ≡ stored
+stored-opened s seed certificates stored = stored-takes_all s certificates (begun (blank s seed stored))
+
+opened-within : (s : Setting) (n : Node) (stored : Stored) → n.stored ≡ stored → stored.next < s.indexes → n.stored.next ≤ s.indexes
+opened-within s n stored kept left = omega (arith, ap (λ k. k.next) kept, left)
+
+opened-left : (s : Setting) (n : Node) (stored : Stored) → n.stored ≡ stored → stored.next < s.indexes → is_used_up s n ≡ false
+opened-left s n stored kept left = grind (arith, nat_tests, ap (λ k. k.next) kept, left)
+
+-- ---- the indexes that are spent
+
+within-signs : (s : Setting) (b : Body) (c : Call) → is_used_up s c.node ≡ false → c.node.stored.next ≤ s.indexes → (signs s b c).node.stored.next ≤ s.indexes
+within-signs s b c left h = subst (λ k. k.next ≤ s.indexes) (sym (stored-signs s b c)) (within-spends s c.node b left h)
+
+within-takes : (s : Setting) (r : Record) (c : Call) → c.node.stored.next ≤ s.indexes → (takes s r c).node.stored.next ≤ s.indexes
+within-takes s r c h = subst (λ k. k.next ≤ s.indexes) (sym (stored-takes s r c)) h
+
+within-sends : (s : Setting) (d : Datagram) (c : Call) (to : ℕ) → c.node.stored.next ≤ s.indexes → (sends s d c to).node.stored.next ≤ s.indexes
+unfolding sends
+within-sends s d c to h = h
+
+staying-within : (s : Setting) → Keeps s (λ c. c.node.stored.next ≤ s.indexes)
+staying-within s =
+    record {
+      told = λ what c other h. h;
+      sent = λ d c to h. within-sends s d c to h;
+      taken = λ r c fine h. within-takes s r c h;
+      answered = λ r a c fine is me left h. within-signs s (answer_to s (takes s r c).node.stored a) (takes s r c) left (within-takes s r c h);
+      accused = λ a c by left h. within-signs s (Accusation a) c left h;
+      stopped = λ c h. h;
+      passed = λ c h. subst (λ k. k.next ≤ s.indexes) (sym (stored-lives s Ticks c)) h;
+      probed = λ p c h. h;
+    }
+
+within-calls : (s : Setting) (n : Node) (inputs : List Input) → n.stored.next ≤ s.indexes → (after_calls s n inputs).stored.next ≤ s.indexes
+within-calls s n [] h = h
+within-calls s n (i ∷ inputs) h = within-calls s (call_of s n i).node inputs (keeps-call s (λ c. c.node.stored.next ≤ s.indexes) (staying-within s) n i h)
+
+pub within-life : (s : Setting) (seed : List ℕ) (certificates : List Record) (stored : Stored) (inputs : List Input) → stored.next < s.indexes → (after_calls s (started s seed certificates stored).node inputs).stored.next ≤ s.indexes
+unfolding started
+within-life s seed certificates stored inputs left =
     let c : Call = opened s seed certificates stored in
+    let kept : c.node.stored ≡ stored = stored-opened s seed certificates stored in
+    within-calls s (signs s (first_note s stored) c).node inputs (within-signs s (first_note s stored) c (opened-left s c.node stored kept left) (opened-within s c.node stored kept left))
+
+pub vouches-started : (s : Setting) (own : PublicKey) (seed : List ℕ) (certificates : List Record) (stored : Stored) → AllByRecursion Certifies certificates → list_any (λ r. is_certificate_for s.me r.body) certificates ≡ true
+    → AllByRecursion (IsCertifiedBy s own) certificates → OwnSignaturesVerify s own → stored.next < s.indexes → Vouches s own (started s seed certificates stored).node
+unfolding started IsOwnBody
+vouches-started s own seed certificates stored all mine good sign left =
+    let c : Call = opened s seed certificates stored in
+    let kept : c.node.stored ≡ stored = stored-opened s seed certificates stored in
     let joins = kit-joins s own certificates (begun (blank s seed stored)) all good tt in
-    let h : Vouches s own c.node = record { events = joins-vouched s c.node c.node.lived joins; own_key = kit-has-own s own certificates (begun (blank s seed stored)) all good mine } in
-    vouches-signs s own (first_note s stored) c refl sign h
+    let h : Vouches s own c.node = record { events = joins-vouched s c.node c.node.lived joins; own_key = kit-has-own s own certificates (begun (blank s seed stored)) all good mine; within = opened-within s c.node stored kept left } in
+    vouches-signs s own (first_note s stored) c refl sign (opened-left s c.node stored kept left) h

@@ -8,3 +8,13 @@ pub mod Ticking
 pub mod Starting
 pub mod Lives
 pub mod Vouching
+pub mod Accusing
+pub mod Verdicts
+pub mod Answering
+pub mod Outgoing
+pub mod Known
+pub mod Stopping
+pub mod Sending
+pub mod Gaining
+pub mod OnRings
+pub mod OneExchange

@@ -1,5 +1,5 @@
 -- A node's life: how it began, and the calls that it has answered since.
-use Rattle.std.specs.Prelude.{◌≡◌, ℕ, Bool, true, false, ◌==◌, List, [], ◌∷◌, ◌++◌, ◌≤◌, Some, None, fold, filter}
+use Rattle.std.specs.Prelude.{◌≡◌, ℕ, Bool, true, false, ◌==◌, List, [], ◌∷◌, ◌++◌, ◌<◌, ◌≤◌, Some, None, fold, filter}
 use Rattle.std.specs.List.{list_any, AllByRecursion}
 use Rattle.ff_ids.specs.declared.Group.{Group}
 use Rattle.ff_ids.specs.declared.NoteBody.{NoteBody}
@@ -9,7 +9,8 @@ use Rattle.ff_ids.specs.Views.{State, is_member}
 use Rattle.ff_ids.specs.declared.AccBody.{AccBody}
 use Rattle.ff_ids.specs.Faults.{note_fault}
 use Rattle.ff_ids.specs.Steps.{Event, step}
-use Rattle.ff_ids.specs.Lives.{opening, IsJustified}
+use Rattle.ff_ids.specs.Lives.{opening, IsAcceptedAt, IsJustified}
+use Rattle.life_laws.specs.Removals.{IsNoteAcceptedAt, ExpiresAt, IsOlderThan}
 use Rattle.records.specs.declared.CertBody.{CertBody}
 use Rattle.records.specs.declared.Record.{Record}
 use Rattle.records.specs.declared.Body.{Body}
@@ -98,6 +99,11 @@ life_of s seed certificates stored inputs = after_calls s (started s seed certif
 
 abbrev pub EachLifeIsJustified : Type 0
 EachLifeIsJustified = (s : Setting) (n : Node) → IsJustified s.group (opening []) n.lived
+
+-- Once a note is accepted in a life, no accusation of an older epoch against its member is accepted in it, or expires.
+abbrev pub AnswersHoldInLives : Type 0
+AnswersHoldInLives = (s : Setting) (n : Node) (i j : ℕ) (note : NoteBody) (a : AccBody) → i < j → IsNoteAcceptedAt s.group (opening []) n.lived i note → IsOlderThan a note
+    → ¬ (IsAcceptedAt s.group (opening []) n.lived j a) × ¬ (ExpiresAt s.group (opening []) n.lived j a)
 
 -- Each call tells its life, also one in which the disk fails.
 abbrev pub EachCallTellsItsLife : Type 0

@@ -1,5 +1,5 @@
 -- What a node does at a tick.
-use Rattle.std.specs.Prelude.{ℕ, ◌-◌, ◌/◌, ◌%◌, Bool, true, false, ◌&&◌, ◌==◌, if◌then◌else◌, List, [], Option, Some, None, fold, filter}
+use Rattle.std.specs.Prelude.{ℕ, ◌-◌, ◌/◌, ◌%◌, Bool, true, false, ◌==◌, if◌then◌else◌, List, [], Option, Some, None, fold, filter}
 use Rattle.std.specs.List.{list_any, slice_get, range_with_len}
 use Rattle.std.specs.Option.{option_and_then}
 use Rattle.ff_ids.specs.declared.NoteBody.{NoteBody}

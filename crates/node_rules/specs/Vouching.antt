@@ -1,5 +1,5 @@
 -- What vouches for the events of a node's life: records that verify under the keys of their authors.
-use Rattle.std.specs.Prelude.{◌≡◌, ℕ, true, List, Option, Some}
+use Rattle.std.specs.Prelude.{◌≡◌, ℕ, ◌<◌, ◌≤◌, true, List, Option, Some}
 use Rattle.std.specs.List.{AllByRecursion}
 use Rattle.ff_ids.specs.Steps.{Event, Joins, Notes, Accuses, Ticks}
 use Rattle.lms_tree.specs.declared.key.PublicKey.{PublicKey}
@@ -27,16 +27,21 @@ IsVouched s n (Notes note) = IsVouchedFor s (public_key_of n note.member) (Note 
 IsVouched s n (Accuses a) = IsVouchedFor s (public_key_of n a.accuser) (Accusation a)
 IsVouched s n Ticks = Unit {0}
 
--- The own key, whatever is signed with it, and however often.
+-- The own key, whatever is signed with it, at each index that it has.
 abbrev pub OwnSignaturesVerify : Setting → PublicKey → Type 0
-OwnSignaturesVerify s own = (index : ℕ) (body : Body) → s.verifies own (record { body = body; signature = s.signature index body }) ≡ true
+OwnSignaturesVerify s own = (index : ℕ) (body : Body) → index < s.indexes → s.verifies own (record { body = body; signature = s.signature index body }) ≡ true
 
 -- The kit's certificates verify under the authority's key, and the node's own has this key.
 abbrev pub IsCertifiedBy : Setting → PublicKey → Record → Type 0
 IsCertifiedBy s own r = (s.verifies s.authority r ≡ true) × ((c : CertBody) → r.body ≡ Certificate c → c.member ≡ s.me → c.key ≡ own)
 
--- Each event of each life is vouched for.
+-- A life starts with an index left, and spends none that the key hasn't.
+abbrev pub NoIndexBeyondTheKey : Type 0
+NoIndexBeyondTheKey = (s : Setting) (seed : List ℕ) (certificates : List Record) (stored : Stored) (inputs : List Input)
+    → stored.next < s.indexes → (life_of s seed certificates stored inputs).stored.next ≤ s.indexes
+
+-- Each event of each life is vouched for, where the life starts with an index left.
 abbrev pub LivesAreVouchedFor : Type 0
 LivesAreVouchedFor = (s : Setting) (own : PublicKey) (seed : List ℕ) (certificates : List Record) (stored : Stored) (inputs : List Input)
-    → HasRings s → IsKit s certificates → AllByRecursion (IsCertifiedBy s own) certificates → OwnSignaturesVerify s own
+    → HasRings s → IsKit s certificates → AllByRecursion (IsCertifiedBy s own) certificates → OwnSignaturesVerify s own → stored.next < s.indexes
     → AllByRecursion (IsVouched s (life_of s seed certificates stored inputs)) (life_of s seed certificates stored inputs).lived

@@ -2,13 +2,29 @@
 //! tells and the datagrams that it sends. Each law is the contract of a function that does nothing.
 #![tactic(auto)]
 
-ghost use Rattle.node_rules.specs.Lives.{EachLifeIsJustified, EachCallTellsItsLife, StoppedCallsTellTheirLife, OwnNoteIsKept, OwnAnswersAreAccepted};
-ghost use Rattle.node_rules.specs.Vouching.{LivesAreVouchedFor};
+ghost use Rattle.node_rules.specs.Lives.{EachLifeIsJustified, AnswersHoldInLives, EachCallTellsItsLife, StoppedCallsTellTheirLife, OwnNoteIsKept, OwnAnswersAreAccepted};
+ghost use Rattle.node_rules.specs.Vouching.{LivesAreVouchedFor, NoIndexBeyondTheKey};
+ghost use Rattle.node_rules.specs.Accusing.{HasAccusedIsKept, OwnAccusationsAreAccepted, OnlyTheSilentAreAccused};
+ghost use Rattle.node_rules.specs.Verdicts.{VerdictsAreTold, StoppedVerdictsAreTold, BadFormsAreTold};
+ghost use Rattle.node_rules.specs.Answering.{AnswersAreTold, RecordsAreTold, AnswersAreSent};
+ghost use Rattle.node_rules.specs.Outgoing.{TickSends, TickTells};
+ghost use Rattle.node_rules.specs.Stopping.{StoppedDeliveryEnds, StoppedTickEnds, WholeCallsGoOn};
+ghost use Rattle.node_rules.specs.Sending.{SentIsTold, SentIsToldUntil, PingsBring, PongsBring, SummariesBring};
+ghost use Rattle.node_rules.specs.Gaining.{RecordsAreLived, TicksAreLived};
+ghost use Rattle.node_rules.specs.OnRings.{RingForIsLowest, NeighboursAreSuccessors, AccusedAreAddressed};
+ghost use Rattle.node_rules.specs.OneExchange.{WhatIsHeldIsTheLife, WhatIsHeldCanBeSent, SummariesAreAnswered, OneExchangeIsEnough, NothingLackingIsEnough};
+ghost use Rattle.node_rules.specs.Known.{OnlyKnownIsSent, OnlyKnownIsSentUntil};
 
 /// In every life of a node each member that leaves the view does so at a tick, and an accusation accepted earlier
 /// against it stood in each state between, for the timeout at least.
 pub fn each_life_is_justified()
     ensures { EachLifeIsJustified }
+{}
+
+/// Once a node has accepted a note in a life, it accepts no accusation of an older epoch against the note's member in
+/// that life, and none expires.
+pub fn answers_hold_in_lives()
+    ensures { AnswersHoldInLives }
 {}
 
 /// What a call tells of the view and of accusations is what the events tell that it adds to the life, in order; also
@@ -28,8 +44,141 @@ pub fn own_answers_are_accepted()
     ensures { OwnAnswersAreAccepted }
 {}
 
-/// Each record that a life rests on verifies: for each certificate, note and accusation among its events, own ones
-/// included, there is a record that verifies under its author's key, by the certificates that the node holds.
+/// A life that starts with an index of its key left never spends one that the key doesn't have.
+pub fn no_index_beyond_the_key()
+    ensures { NoIndexBeyondTheKey }
+{}
+
+/// Each record that a life rests on verifies, where the life starts with an index of its key left: for each
+/// certificate, note and accusation among its events, own ones included, there is a record that verifies under its
+/// author's key, by the certificates that the node holds.
 pub fn lives_are_vouched_for()
     ensures { LivesAreVouchedFor }
+{}
+
+/// In every life the node has accused a member exactly where an accusation by it against the member is kept.
+pub fn has_accused_is_kept()
+    ensures { HasAccusedIsKept }
+{}
+
+/// At a tick, for each silent member in order, after the accusations of those before it: unless one by the node
+/// against it is kept already, there is a ring for its accusation, and the accusation has no fault; where the key has
+/// an index left it is kept then.
+pub fn own_accusations_are_accepted()
+    ensures { OwnAccusationsAreAccepted }
+{}
+
+/// A node signs no accusation but at a tick, and none but of a member that is silent at it, whose monitor the node is
+/// there in its own view, on a ring that the member's newest note enables, and at the epoch of that note.
+pub fn only_the_silent_are_accused()
+    ensures { OnlyTheSilentAreAccused }
+{}
+
+/// A delivery tells one verdict on each record that was read, in order: its body and its first fault, in the node as
+/// the records before it have left it. Where the disk fails in an answer, the verdict on that record is the last.
+pub fn verdicts_are_told()
+    ensures whole { VerdictsAreTold }
+    ensures stopped { StoppedVerdictsAreTold }
+{}
+
+/// Of bytes that are no datagram exactly one event tells the place, and nothing else is told or sent, and the node
+/// stays as it was; no other delivery tells one.
+pub fn bad_forms_are_told()
+    ensures { BadFormsAreTold }
+{}
+
+/// Each accepted accusation against the node, and no other record, spends one index on the note that answers it, or
+/// is told that the key is used up, directly behind the verdict. Where records are delivered, nothing goes out but
+/// these notes, in order, each to the node's neighbours.
+pub fn answers_go_out()
+    ensures told { AnswersAreTold }
+    ensures behind { RecordsAreTold }
+    ensures sent { AnswersAreSent }
+{}
+
+/// At a due tick there go out, in order: for each silent member that the node has not accused, as long as its key has
+/// an index, one accusation, to the neighbours and to the member; the pings; the summary. At any other tick nothing
+/// does. Beside the life and the datagrams it is told that each of those is silent, and behind each the index that is
+/// spent on it, or that none is left; and nothing else.
+pub fn ticks_go_out()
+    ensures sent { TickSends }
+    ensures told { TickTells }
+{}
+
+/// Where the disk fails in an answer or in an accusation, what comes before it is told and sent as ever, nothing behind
+/// it is, and the life is over. A call in which the disk works ends no life.
+pub fn stopped_calls_end()
+    ensures delivery { StoppedDeliveryEnds }
+    ensures tick { StoppedTickEnds }
+    ensures others { WholeCallsGoOn }
+{}
+
+/// In every life each record that a call sends stands in the kit, or was accepted or signed before in the life, or is
+/// signed in that call; also in a call in which the disk fails.
+pub fn only_known_is_sent()
+    ensures whole { OnlyKnownIsSent }
+    ensures stopped { OnlyKnownIsSentUntil }
+{}
+
+/// What a call tells as sent is what it sends, in order, each with its place among the datagrams of the call; also in a
+/// call in which the disk fails.
+pub fn sent_is_told()
+    ensures whole { SentIsTold }
+    ensures stopped { SentIsToldUntil }
+{}
+
+/// Where a ping, a pong or a summary is delivered, that is told, and beside datagrams nothing else. Where the sender is
+/// another certified member, a ping brings it a pong, and a summary what it lacks and, unless the summary is an answer,
+/// the node's page. A pong brings nothing, and the probes see it.
+pub fn what_probes_and_summaries_bring()
+    ensures ping { PingsBring }
+    ensures pong { PongsBring }
+    ensures summary { SummariesBring }
+{}
+
+/// Delivered records add to the life what is accepted of them, in order, each with the note that answers it behind it.
+/// A tick adds itself and the accusations that are made at it, and the probes see it. Neither adds anything else.
+pub fn what_lives_gain()
+    ensures records { RecordsAreLived }
+    ensures tick { TicksAreLived }
+{}
+
+/// A member is accused on the lowest ring of those that its newest note enables and on which the node is its monitor.
+pub fn accused_on_the_lowest_ring()
+    ensures { RingForIsLowest }
+{}
+
+/// A node's neighbours are its successors on the rings of the group, each once, in order of number. An accusation goes
+/// to these and to the accused.
+pub fn neighbours_are_successors()
+    ensures all { NeighboursAreSuccessors }
+    ensures accused { AccusedAreAddressed }
+{}
+
+/// A correct node holds what its life has come to: the newest note of each member, each verified under the key in its
+/// member's certificate, and a certificate, verified under the authority's key, of exactly those who have joined.
+pub fn what_is_held_is_the_life()
+    ensures { WhatIsHeldIsTheLife }
+{}
+
+/// Whatever a correct node holds has a spelling, so what it gives of that is read as it was sent.
+pub fn what_is_held_can_be_sent()
+    ensures { WhatIsHeldCanBeSent }
+{}
+
+/// A summary of a certified member other than the node itself is answered first of all by the datagram of what it lacks,
+/// if it lacks anything.
+pub fn summaries_are_answered()
+    ensures { SummariesAreAnswered }
+{}
+
+/// One exchange is enough. A correct node answers a summary, which another correct node of the group made earlier in its
+/// present life, with a datagram that holds all that the summary lacks of its page, and the other is handed it. Then the
+/// other has of each member of the page a note at least as great, by epoch and then by mask, as the first had; and where
+/// nothing was lacking, it has so already. As the first made the datagram and the other is handed it, the two keep no
+/// two different certificates for one number, and the other's own note is not less than the first's note of it. Two
+/// such datagrams, one each way, give it for both.
+pub fn one_exchange_is_enough()
+    ensures handed { OneExchangeIsEnough }
+    ensures nothing { NothingLackingIsEnough }
 {}
