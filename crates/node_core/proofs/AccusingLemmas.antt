@@ -1,5 +1,5 @@
 -- The first ring of which something is so.
-use Rattle.std.proofs.Common.{◌≡◌, ℕ, suc, zero, ◌+◌, ◌-◌, ◌<◌, Bool, true, false, cond, List, [], ◌∷◌, ◌++◌, Option, Some, None, refl, ap, sym, ◌∙◌, arith}
+use Rattle.std.proofs.Common.{◌≡◌, ℕ, suc, zero, ◌+◌, ◌-◌, ◌<◌, Bool, true, false, cond, List, [], ◌∷◌, ◌++◌, Option, Some, None, refl, ap, sym, subst, inl, inr, ◌∙◌, arith}
 use Rattle.std.specs.Prelude.{filter, ◌&&◌, ◌||◌}
 use Rattle.std.specs.List.{list_any, range_with_len, slice_get}
 use Rattle.std.specs.Option.{option_map_or}
@@ -16,16 +16,18 @@ use Rattle.records.specs.declared.Body.TheVariants.{Accusation}
 use Rattle.journal.specs.declared.event.What.TheVariants as told
 use Rattle.node_rules.specs.Nodes.{Setting, Node, state_of}
 use Rattle.node_rules.specs.Calls.{Call, tells}
-use Rattle.node_rules.specs.Ticking.{is_by, has_accused, monitored_rings, ring_for as ring_of, accusation_on, wants_accusation, accuses}
+use Rattle.node_rules.specs.Ticking.{is_by, has_accused, monitored_rings, ring_for as ring_of, accusation_on, wants_accusation, accuses, accuses_all}
 use Rattle.node_core.specs.declared.NodeFault.{NodeFault}
-use Rattle.node_core.specs.Signatures.{Runs}
+use Rattle.journal.specs.declared.event.Event as journal
 use Rattle.node_core.specs.Ticks.{StopsAt, RunsAccusing}
 use Rattle.std.proofs.Common.{length}
-use Rattle.std.proofs.lemmas.Bool.{false≢true}
+use Rattle.std.proofs.lemmas.Bool.{cases_Bool, false≢true}
 use Rattle.std.specs.Prelude.{take}
 use Rattle.std.specs.Prelude.{IsErr}
-use Rattle.node_core.specs.Playing.{Kept, IsNode}
-use Rattle.node_core.proofs.PlayLemmas.{setting-group, setting-me}
+use Rattle.node_core.specs.Playing.{Kept, IsNode, Plays, Extends}
+use Rattle.node_core.proofs.PlayLemmas.{setting-group, setting-me, grows-refl}
+use Rattle.node_core.proofs.ExtendLemmas.{extends-accuses_all, extends-wants_accusation}
+use Rattle.node_core.proofs.DueLemmas.{behind-extends, from-fine}
 
 -- ---- some of them
 
@@ -169,9 +171,23 @@ body-is s st m me note ring who is =
     ap (λ (x : ℕ). Accusation (record { accuser = x; accused = m; epoch = note.epoch; ring = ring })) (sym who)
     ∙ ap (λ (e : ℕ). Accusation (record { accuser = s.me; accused = m; epoch = e; ring = ring })) (sym (ap (λ (o : Option NoteBody). option_map_or (λ n. n.epoch) o 0) is))
 
-pub runs-so : (P Q : Bool → Type 0) → ((works : Bool) → P works → Q works) → (r : Result (Unit {0}) NodeFault) → Runs P r → Runs Q r
-runs-so P Q h (Ok done) p = h true p
-runs-so P Q h (Err fault) p = h false p
+-- one that is silent, and that no ring is for
+pub wanted-if : (s : Setting) (es : List journal.Event) (os : List (ℕ × List ℕ)) (v : Kept) (c : Call) (m : ℕ) → has_accused s (state_of s c.node) m ≡ false → Plays s es os v (tells s (told.Silent m) c)
+    → (v.telling.failed ≡ false → ring_of s (state_of s c.node) m ≡ None) → Plays s es os v (accuses true s c m)
+wanted-if s es os v c m fails p none =
+    let c1 : Call = tells s (told.Silent m) c in
+    let ring : Option ℕ = ring_of s (state_of s c.node) m in
+    subst (Plays s es os v) (sym (accuses-wanted true s c m fails))
+    (from-fine s es os v v c1 (wants_accusation true s m ring c1) p (grows-refl v) (extends-wants_accusation s m ring c1) (λ h.
+    elim (cases_Bool v.telling.failed) [
+      | inl failed ↦ record { at = λ fine. absurd (false≢true (sym fine ∙ failed)); due = behind-extends es os v c1 (wants_accusation true s m ring c1) p.due (extends-wants_accusation s m ring c1) }
+      | inr fine ↦ subst (Plays s es os v) (ap (λ (o : Option ℕ). wants_accusation true s m o c1) (sym (none fine))) p
+    ]))
+
+-- the accusations behind these extend the call
+pub accuses-further : (s : Setting) (c : Call) (done rest : List ℕ) (m : ℕ) → Extends (accuses true s (accuses_all s done c) m) (accuses_all s (done ++ m ∷ rest) c)
+accuses-further s c [] rest m = extends-accuses_all s rest (accuses true s c m)
+accuses-further s c (x ∷ done) rest m = accuses-further s (accuses true s c x) done rest m
 
 -- ---- several
 
@@ -184,6 +200,6 @@ pub found-behind : (done rest : List ℕ) (m : ℕ) → IsFoundBehind (done ++ m
 found-behind [] rest m = record { found = refl; front = refl }
 found-behind (x ∷ done) rest m = let h = found-behind done rest m in record { found = h.found; front = ap (λ xs. x ∷ xs) h.front }
 
-pub err-accusing : (P : Call → Type 0) (s : Setting) (silent : List ℕ) (c : Call) (answer : Result (Unit {0}) NodeFault) → IsErr answer → StopsAt P s silent c → RunsAccusing P s silent c answer
-err-accusing P s silent c (Ok x) err h = absurd (false≢true err)
-err-accusing P s silent c (Err e) err h = h
+pub err-accusing : (P : Call → Type 0) (Q : Call → Call → Type 0) (s : Setting) (silent : List ℕ) (c : Call) (answer : Result (Unit {0}) NodeFault) → IsErr answer → StopsAt Q s silent (accuses_all s silent c) c → RunsAccusing P Q s silent c answer
+err-accusing P Q s silent c (Ok x) err h = absurd (false≢true err)
+err-accusing P Q s silent c (Err e) err h = h

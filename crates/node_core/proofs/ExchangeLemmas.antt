@@ -36,9 +36,11 @@ use Rattle.journal.specs.declared.event.Event as journal
 use Rattle.node_rules.specs.Nodes.{Setting}
 use Rattle.node_rules.specs.Calls.{Call, sends}
 use Rattle.node_rules.specs.Deliveries.{gives}
-use Rattle.node_core.specs.Playing.{Kept, IsAt, Plays, HoldsRecords}
+use Rattle.node_core.specs.Playing.{Kept, Plays, Grows, HoldsRecords}
 use Rattle.node_core.specs.Exchanging.{noted, wanted, lacking_in, IsGiven}
-use Rattle.node_core.proofs.PlayLemmas.{filter-same, setting-me}
+use Rattle.node_core.proofs.PlayLemmas.{filter-same, setting-me, grows-refl}
+use Rattle.node_core.proofs.ExtendLemmas.{extends-gives, extends-sends}
+use Rattle.node_core.proofs.DueLemmas.{from-fine}
 
 some-rec : (o : Option CheckedRecord) → is_some (option_map (λ c. c.rec) o) ≡ is_some o
 some-rec None = refl
@@ -203,29 +205,32 @@ gives-some s to [] c h = absurd (h refl)
 gives-some s to (r ∷ records) c h = refl
 
 pub given-at : (s : Setting) (es : List journal.Event) (os : List (ℕ × List ℕ)) (v v1 : Kept) (c : Call) (to : ℕ) (theirs : Summary) (bytes : List ℕ)
-    → Plays s es os v c → (v1.telling.failed ≡ false → v.telling.failed ≡ false) → IsGiven v.me v.records theirs bytes → ((d : Datagram) → bytes ≡ datagram_bytes d → Plays s es os v1 (sends s d c to))
+    → Plays s es os v c → Grows v v1 → IsGiven v.me v.records theirs bytes → ((d : Datagram) → bytes ≡ datagram_bytes d → Plays s es os v1 (sends s d c to))
     → Plays s es os v1 (gives s to (lacking c.node theirs) c)
-given-at s es os v v1 c to theirs bytes p going given sent = λ fine.
-    let n = (p (going fine)).is in
+given-at s es os v v1 c to theirs bytes p grows given sent =
+    from-fine s es os v v1 c (gives s to (lacking c.node theirs) c) p grows (extends-gives s to (lacking c.node theirs) c) (λ h.
+    let n = h.is in
     let me : v.me ≡ s.me = sym (setting-me s v.group v.me v.authority v.signer.key n.setting) in
     let same : lacking c.node theirs ≡ lacking_in v.records theirs = lacking-is v.records c.node theirs n.records in
-    let at = sent (kinds.Records v.me (lacking_in v.records theirs)) given.spelled fine in
-    let at2 = subst (λ m. IsAt s es os v1 (sends s (kinds.Records m (lacking_in v.records theirs)) c to)) me at in
-    subst (λ x. IsAt s es os v1 x) (sym (ap (λ xs. gives s to xs c) same ∙ gives-some s to (lacking_in v.records theirs) c given.some)) at2
+    let at = sent (kinds.Records v.me (lacking_in v.records theirs)) given.spelled in
+    let at2 = subst (λ m. Plays s es os v1 (sends s (kinds.Records m (lacking_in v.records theirs)) c to)) me at in
+    subst (λ x. Plays s es os v1 x) (sym (ap (λ xs. gives s to xs c) same ∙ gives-some s to (lacking_in v.records theirs) c given.some)) at2)
 
 pub nothing-at : (s : Setting) (es : List journal.Event) (os : List (ℕ × List ℕ)) (v : Kept) (c : Call) (to : ℕ) (theirs : Summary)
     → Plays s es os v c → lacking_in v.records theirs ≡ [] → Plays s es os v (gives s to (lacking c.node theirs) c)
-nothing-at s es os v c to theirs p none = λ fine.
-    let same = lacking-is v.records c.node theirs (p fine).is.records ∙ none in
-    subst (λ xs. IsAt s es os v (gives s to xs c)) (sym same) (p fine)
+nothing-at s es os v c to theirs p none =
+    from-fine s es os v v c (gives s to (lacking c.node theirs) c) p (grows-refl v) (extends-gives s to (lacking c.node theirs) c) (λ h.
+    let same = lacking-is v.records c.node theirs h.is.records ∙ none in
+    subst (λ xs. Plays s es os v (gives s to xs c)) (sym same) p)
 
 pub page-at : (s : Setting) (es : List journal.Event) (os : List (ℕ × List ℕ)) (v v1 : Kept) (c : Call) (to : ℕ) (flag : Bool) (number : ℕ) (bytes : List ℕ)
-    → Plays s es os v c → (v1.telling.failed ≡ false → v.telling.failed ≡ false) → bytes ≡ datagram_bytes (kinds.Summary v.me flag (summary_of v.records number)) → ((d : Datagram) → bytes ≡ datagram_bytes d → Plays s es os v1 (sends s d c to))
+    → Plays s es os v c → Grows v v1 → bytes ≡ datagram_bytes (kinds.Summary v.me flag (summary_of v.records number)) → ((d : Datagram) → bytes ≡ datagram_bytes d → Plays s es os v1 (sends s d c to))
     → Plays s es os v1 (sends s (kinds.Summary s.me flag (page c.node number)) c to)
-page-at s es os v v1 c to flag number bytes p going spelled sent = λ fine.
-    let n = (p (going fine)).is in
+page-at s es os v v1 c to flag number bytes p grows spelled sent =
+    from-fine s es os v v1 c (sends s (kinds.Summary s.me flag (page c.node number)) c to) p grows (extends-sends s (kinds.Summary s.me flag (page c.node number)) c to) (λ h.
+    let n = h.is in
     let me : v.me ≡ s.me = sym (setting-me s v.group v.me v.authority v.signer.key n.setting) in
     let same : page c.node number ≡ summary_of v.records number = page-is v.records c.node number n.records in
-    let at = sent (kinds.Summary v.me flag (summary_of v.records number)) spelled fine in
-    let at2 = subst (λ m. IsAt s es os v1 (sends s (kinds.Summary m flag (summary_of v.records number)) c to)) me at in
-    subst (λ x. IsAt s es os v1 (sends s (kinds.Summary s.me flag x) c to)) (sym same) at2
+    let at = sent (kinds.Summary v.me flag (summary_of v.records number)) spelled in
+    let at2 = subst (λ m. Plays s es os v1 (sends s (kinds.Summary m flag (summary_of v.records number)) c to)) me at in
+    subst (λ x. Plays s es os v1 (sends s (kinds.Summary s.me flag x) c to)) (sym same) at2)

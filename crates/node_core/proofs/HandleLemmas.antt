@@ -32,18 +32,12 @@ use Rattle.records.specs.declared.fault.FormFault.TheVariants as forms
 use Rattle.node_rules.proofs.Masks.{answering-is}
 use Rattle.node_rules.proofs.OwnNote.{option_or-none}
 use Rattle.node_core.specs.declared.NodeFault.{NodeFault}
-use Rattle.node_core.specs.Playing.{Kept, IsNode, IsAt, Plays}
+use Rattle.node_core.specs.Playing.{Kept, IsNode, Plays, Extends}
 use Rattle.node_core.specs.Neighbours.{addressees}
-use Rattle.node_core.specs.Signatures.{next_own, Runs, RunsAll}
+use Rattle.node_core.specs.Signatures.{next_own, RunsAll}
 use Rattle.node_core.proofs.PlayLemmas.{setting-group, setting-me}
-
-pub runs-map : (P Q : Bool → Type 0) (r : Result (Unit {0}) NodeFault) → ((works : Bool) → P works → Q works) → Runs P r → Runs Q r
-runs-map P Q (Ok x) f h = f true h
-runs-map P Q (Err e) f h = f false h
-
-pub runs-all : (P : Bool → Type 0) (r : Result (Unit {0}) NodeFault) → ((works : Bool) → P works) → Runs P r
-runs-all P (Ok x) f = f true
-runs-all P (Err e) f = f false
+use Rattle.node_core.proofs.ExtendLemmas.{extends-handles_all, extends-hears}
+use Rattle.node_core.proofs.DueLemmas.{plays-refused}
 
 -- ---- answers
 
@@ -53,12 +47,12 @@ not-against s v n a is apart = ap (λ m. eqb a.accused m) (setting-me s v.group 
     off : (x y : ℕ) → x ≢ y → eqb x y ≡ false
     off x y h = grind (arith, nat_tests, h)
 
-pub answered-at : (s : Setting) (es : List journal.Event) (os : List (ℕ × List ℕ)) (v v1 : Kept) (c : Call) (a : AccBody) (mask : Mask) (works : Bool)
-    → Plays s es os v c → (v1.telling.failed ≡ false → v.telling.failed ≡ false) → a.accused ≡ v.me → good_mask v.group.t mask.0 ≡ true
+-- the answer to an accusation against this node, as it is wanted
+pub answers-is : (s : Setting) (v : Kept) (c : Call) (a : AccBody) (mask : Mask) (works : Bool)
+    → IsNode s v c.node → a.accused ≡ v.me → good_mask v.group.t mask.0 ≡ true
     → ((r : ℕ) → r < ring_count v.group.t → (enables mask.0 r ≡ true) ↔ IsEnabledByAnswer v.group.t v.signer.state.mask.0 a.ring.0 r)
-    → Plays s es os v1 (wants works s (next_own s c.node mask) (addressees s None) c) → Plays s es os v1 (answers works s (Accusation a) c)
-answered-at s es os v v1 c a mask works p going who good exact q = λ fine.
-    let n = (p (going fine)).is in
+    → wants works s (next_own s c.node mask) (addressees s None) c ≡ answers works s (Accusation a) c
+answers-is s v c a mask works n who good exact =
     let g : v.group ≡ s.group = sym (setting-group s v.group v.me v.authority v.signer.key n.setting) in
     let me : v.me ≡ s.me = sym (setting-me s v.group v.me v.authority v.signer.key n.setting) in
     let value : mask.0 ≡ answering_mask s.group.t c.node.stored.mask.0 a.ring.0 =
@@ -66,8 +60,7 @@ answered-at s es os v v1 c a mask works p going who good exact q = λ fine.
     ∙ ap (λ (x : Group). answering_mask x.t v.signer.state.mask.0 a.ring.0) g ∙ ap (λ (x : Stored). answering_mask s.group.t x.mask.0 a.ring.0) n.stored in
     let body : next_own s c.node mask ≡ answer_to s c.node.stored a = ap (λ k. Note (record { member = s.me; epoch = c.node.stored.epoch + 1; mask = record { 0 = k } })) value in
     let same : eqb a.accused s.me ≡ true = eq-eqb a.accused s.me (who ∙ me) in
-    subst (λ b. IsAt s es os v1 (cond b (wants works s (answer_to s c.node.stored a) (neighbours s) c) c)) (sym same)
-    (subst (λ b. IsAt s es os v1 (wants works s b (neighbours s) c)) body (q fine))
+    ap (λ b. wants works s b (neighbours s) c) body ∙ sym (ap (λ b. cond b (wants works s (answer_to s c.node.stored a) (neighbours s) c) c) same)
 
 -- ---- records
 
@@ -110,35 +103,49 @@ all-tail P x xs h = λ k d lt. h (suc k) d (omega (arith, lt))
 pub all-head : {X : Type 0} (P : X → Type 0) (x : X) (xs : List X) → All P (x ∷ xs) → P x
 all-head P x xs h = h 0 x (omega arith)
 
-pub err-runs : (P : Call → Type 0) (s : Setting) (records : List Record) (c : Call) (answer : Result (Unit {0}) NodeFault) → IsErr answer
-    → ((i : ℕ) × (r : Record) × ((slice_get records i ≡ Some r) × P (handles false s (handles_all s (take i records) c) r))) → RunsAll P s records c answer
-err-runs P s records c (Ok x) err h = absurd (false≢true err)
-err-runs P s records c (Err e) err h = h
+pub err-runs : (P : Call → Type 0) (Q : Call → Call → Type 0) (s : Setting) (records : List Record) (c : Call) (answer : Result (Unit {0}) NodeFault) → IsErr answer
+    → ((i : ℕ) × (r : Record) × ((slice_get records i ≡ Some r) × Q (handles_all s records c) (handles false s (handles_all s (take i records) c) r))) → RunsAll P Q s records c answer
+err-runs P Q s records c (Ok x) err h = absurd (false≢true err)
+err-runs P Q s records c (Err e) err h = h
+
+-- the records behind these extend the call
+pub handles-further : (s : Setting) (c : Call) (done rest : List Record) (r : Record) → Extends (handles true s (handles_all s done c) r) (handles_all s (done ++ r ∷ rest) c)
+handles-further s c [] rest r = extends-handles_all s rest (handles true s c r)
+handles-further s c (x ∷ done) rest r = handles-further s (handles true s c x) done rest r
 
 pub no_items : {X : Type 0} (xs : List X) → length xs ≡ 0 → xs ≡ []
 no_items [] h = refl
 no_items (x ∷ xs) h = absurd (omega (arith, h))
 
-pub all-heard : (P : Call → Type 0) (s : Setting) (d : Datagram) (from : ℕ) (records items : List Record) (c : Call) (answer : Result (Unit {0}) NodeFault) → d ≡ kinds.Records from records → items ≡ records
-    → RunsAll P s items c answer → RunsHearing P s (Ok d) c answer
-all-heard P s d from records items c (Ok x) is same ran = subst (λ y. P (hears s (Ok y) c)) (sym is) (subst (λ (xs : List Record). P (handles_all s xs c)) same ran)
-all-heard P s d from records items c (Err e) is same ran =
-    record { from = from; records = items; is = ap (λ y. Ok y) (is ∙ ap (λ (xs : List Record). kinds.Records from xs) (sym same)); place = ran.0; at = ran.1; found = ran.2.0; runs = ran.2.1 }
+pub all-heard : (P : Call → Type 0) (Q : Call → Call → Type 0) (s : Setting) (d : Datagram) (from : ℕ) (records items : List Record) (c : Call) (answer : Result (Unit {0}) NodeFault) → d ≡ kinds.Records from records → items ≡ records
+    → RunsAll P Q s items c answer → RunsHearing P Q s (Ok d) c answer
+all-heard P Q s d from records items c (Ok x) is same ran = subst (λ y. P (hears s (Ok y) c)) (sym is) (subst (λ (xs : List Record). P (handles_all s xs c)) same ran)
+all-heard P Q s d from records items c (Err e) is same ran =
+    let mine : d ≡ kinds.Records from items = is ∙ ap (λ (xs : List Record). kinds.Records from xs) (sym same) in
+    record {
+      from = from;
+      records = items;
+      is = ap (λ y. Ok y) mine;
+      place = ran.0;
+      at = ran.1;
+      found = ran.2.0;
+      runs = subst (λ (y : Datagram). Q (hears s (Ok y) c) (handles false s (handles_all s (take ran.0 items) c) ran.1)) (sym mine) ran.2.1;
+    }
 
 err-same : (x y : FormFault) → ◌≡◌ {A = Result Datagram FormFault} (Err x) (Err y) → x ≡ y
 err-same x y e = cc
 
-pub fault-heard : (s : Setting) (es : List journal.Event) (os : List (ℕ × List ℕ)) (v1 : Kept) (read : Result Datagram ℕ) (fault : FormFault) (c : Call) → GivesDatagram read (Err fault) → (fault ≡ forms.OutOfMemory → v1.telling.failed ≡ true)
+pub fault-heard : (s : Setting) (es : List journal.Event) (os : List (ℕ × List ℕ)) (v v1 : Kept) (read : Result Datagram ℕ) (fault : FormFault) (c : Call) → GivesDatagram read (Err fault) → Plays s es os v c → (fault ≡ forms.OutOfMemory → v1.telling ≡ record v.telling { failed = true })
     → ((place : ℕ) → fault ≡ forms.BadForm place → Plays s es os v1 (tells s (told.BadForm place) c)) → Plays s es os v1 (hears s read c)
-fault-heard s es os v1 (Ok d) fault c gives memory bad = λ fine. absurd (false≢true (sym fine ∙ memory gives.0))
-fault-heard s es os v1 (Err place) fault c gives memory bad = bad place (err-same fault (forms.BadForm place) gives)
+fault-heard s es os v v1 (Ok d) fault c gives p memory bad = plays-refused s es os v v1 c (hears s (Ok d) c) (memory gives.0) p (extends-hears s (Ok d) c)
+fault-heard s es os v v1 (Err place) fault c gives p memory bad = bad place (err-same fault (forms.BadForm place) gives)
 
 ok-same : (x y : Datagram) → x ≡ y → y ≡ x
 ok-same x y e = sym e
 
-pub heard-by : (P : Call → Type 0) (s : Setting) (read : Result Datagram ℕ) (d : Datagram) (c : Call) (answer : Result (Unit {0}) NodeFault) → GivesDatagram read (Ok d) → RunsHearing P s (Ok d) c answer → RunsHearing P s read c answer
-heard-by P s (Ok x) d c answer gives ran = subst (λ y. RunsHearing P s (Ok y) c answer) gives ran
-heard-by P s (Err place) d c answer gives ran = cc
+pub heard-by : (P : Call → Type 0) (Q : Call → Call → Type 0) (s : Setting) (read : Result Datagram ℕ) (d : Datagram) (c : Call) (answer : Result (Unit {0}) NodeFault) → GivesDatagram read (Ok d) → RunsHearing P Q s (Ok d) c answer → RunsHearing P Q s read c answer
+heard-by P Q s (Ok x) d c answer gives ran = subst (λ y. RunsHearing P Q s (Ok y) c answer) gives ran
+heard-by P Q s (Err place) d c answer gives ran = cc
 
 pub bad-same : (x y : ℕ) → forms.BadForm x ≡ forms.BadForm y → x ≡ y
 bad-same x y e = cc

@@ -13,10 +13,12 @@ use Rattle.journal.specs.declared.event.What.TheVariants as told
 use Rattle.node_rules.specs.Nodes.{Setting, Node, state_of, certificate_of, is_certified}
 use Rattle.node_rules.specs.Calls.{Call, tells, sends}
 use Rattle.node_rules.specs.Deliveries.{is_other, ponged_by}
-use Rattle.node_core.specs.Playing.{Kept, IsNode, IsAt, Plays}
+use Rattle.node_core.specs.Playing.{Kept, IsNode, Plays, Grows}
 use Rattle.node_core.proofs.PlayLemmas.{setting-me}
+use Rattle.node_core.proofs.ExtendLemmas.{extends-sends}
+use Rattle.node_core.proofs.DueLemmas.{from-fine}
 
-some-copied : {X : Type 0} (o : Option (Bor X)) → is_some o ≡ is_some (option_copied o)
+pub some-copied : {X : Type 0} (o : Option (Bor X)) → is_some o ≡ is_some (option_copied o)
 some-copied None = refl
 some-copied (Some x) = refl
 
@@ -39,10 +41,10 @@ other-else s v n m is same =
 
 -- a datagram of the node itself
 pub own-datagram : (s : Setting) (es : List journal.Event) (os : List (ℕ × List ℕ)) (v v1 : Kept) (c : Call) (to : ℕ) (d : ℕ → Datagram)
-    → Plays s es os v c → (v1.telling.failed ≡ false → v.telling.failed ≡ false) → Plays s es os v1 (sends s (d v.me) c to) → Plays s es os v1 (sends s (d s.me) c to)
-own-datagram s es os v v1 c to d p going q = λ fine.
-    let n = (p (going fine)).is in
-    subst (λ m. IsAt s es os v1 (sends s (d m) c to)) (sym (setting-me s v.group v.me v.authority v.signer.key n.setting)) (q fine)
+    → Plays s es os v c → Grows v v1 → Plays s es os v1 (sends s (d v.me) c to) → Plays s es os v1 (sends s (d s.me) c to)
+own-datagram s es os v v1 c to d p grows q =
+    from-fine s es os v v1 c (sends s (d s.me) c to) p grows (extends-sends s (d s.me) c to) (λ h.
+    subst (λ m. Plays s es os v1 (sends s (d m) c to)) (sym (setting-me s v.group v.me v.authority v.signer.key h.is.setting)) q)
 
 -- the probes have changed
 abbrev pub with_probes : History → Call → Call
@@ -51,15 +53,22 @@ with_probes h c = record c { node = record c.node { probes = h } }
 pub probed-at : (s : Setting) (es : List journal.Event) (os : List (ℕ × List ℕ)) (v : Kept) (c : Call) (d : Probing) (h : History)
     → Plays s es os v c → ((is : IsNode s v c.node) → StandsFor d h) → Plays s es os (record v { detector = d }) (with_probes h c)
 unfolding state_of certificate_of
-probed-at s es os v c d h p stands = λ fine.
-    let at = p fine in
-    let n = at.is in
-    record {
-      is = record { setting = n.setting; holds = n.holds; stored = n.stored; records = n.records; roster = n.roster; probes = stands n };
-      told = at.told;
-      sent = at.sent;
-      before = at.before;
-    }
+probed-at s es os v c d h p stands = record {
+  at = λ fine.
+      let at = p.at fine in
+      let n = at.is in
+      record {
+        is = record { setting = n.setting; holds = n.holds; stored = n.stored; records = n.records; roster = n.roster; probes = stands n };
+        told = at.told;
+        sent = at.sent;
+        before = at.before;
+      };
+  due = record { told = p.due.told; sent = p.due.sent };
+}
+
+-- whatever the probes were
+pub grows-probed : (a b : Kept) (d : Probing) → Grows (record a { detector = d }) b → Grows a b
+grows-probed a b d h = record { going = h.going; stuck = h.stuck; events = h.events; sent = h.sent; before = h.before; ended = h.ended; group = h.group; me = h.me }
 
 pub ponged-is : (s : Setting) (from nonce : ℕ) (c : Call) → ponged_by s from nonce c ≡ tells s (told.Pong from nonce (counts c.node.probes from nonce)) (with_probes (ponged c.node.probes from nonce) c)
 unfolding state_of

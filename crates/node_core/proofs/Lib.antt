@@ -1,11 +1,16 @@
 pub mod TellingLemmas
+pub mod ExtendLemmas
+pub mod DueLemmas
 pub mod PlayLemmas
+pub mod SpendLemmas
 pub mod RefusalLemmas
 pub mod HandleLemmas
 pub mod HearLemmas
 pub mod ExchangeLemmas
 pub mod RollLemmas
+pub mod CertificateLemmas
 pub mod BeginLemmas
+pub mod OwnKeyLemmas
 pub mod DeliverLemmas
 pub mod GossipLemmas
 pub mod AccusingLemmas

@@ -4,9 +4,9 @@ use Rattle.std.specs.Prelude.{fold, is_some, filter, filter_map, ◌||◌}
 use Rattle.std.specs.Option.{option_map, option_and_then}
 use Rattle.std.specs.Ordering.{eq_by_cmp, nat_cmp}
 use Rattle.std.specs.FinMap as fin
-use Rattle.std.proofs.lemmas.Bool.{cond_both}
+use Rattle.std.proofs.lemmas.Bool.{cond_both, cases_Bool}
 use Rattle.std.proofs.lemmas.List.{append_assoc}
-use Rattle.std.proofs.Common.{arith, eq-eqb}
+use Rattle.std.proofs.Common.{arith, eq-eqb, inl, inr}
 use Rattle.std.proofs.lemmas.Bool.Decides.{nat_tests}
 use Rattle.std.proofs.lemmas.Cmp.{nat_cmp_total}
 use Rattle.ff_ids.specs.declared.RingNo.{RingNo}
@@ -51,6 +51,7 @@ use Rattle.lms_tree.specs.Lms.{signature_of}
 use Rattle.records.specs.Signing.{signed_bytes}
 use Rattle.datagram.specs.declared.Datagram.{Datagram}
 use Rattle.datagram.specs.Spelling.{datagram_bytes}
+use Rattle.journal.specs.declared.event.What as whats
 use Rattle.journal.specs.declared.event.What.TheVariants as told
 use Rattle.node_rules.specs.Nodes.{neighbours, neighbours_and}
 use Rattle.node_core.specs.Neighbours.{addressees}
@@ -59,9 +60,11 @@ use Rattle.ff_ids.proofs.MaskLemmas.{range_with_len-push}
 use Rattle.std.specs.List.{list_any, range_with_len}
 use Rattle.node_rules.proofs.Small.{state_of-lives}
 use Rattle.node_rules.proofs.Vouches.{ended-certificate}
-use Rattle.node_core.specs.Told.{Tellings, Adds, with_report, with_sent}
+use Rattle.node_core.specs.Told.{Tellings, Adds, with_event, with_report, with_sent}
 use Rattle.node_core.specs.Records.{without_all}
-use Rattle.node_core.specs.Playing.{Kept, HoldsRecords, setting_of, IsNode, IsAt, Plays, Grows}
+use Rattle.node_core.specs.Playing.{Kept, HoldsRecords, setting_of, IsNode, IsAt, IsBehind, Plays, Stops, Extends, Grows}
+use Rattle.node_core.proofs.ExtendLemmas.{extends-tells, extends-lives, extends-takes, extends-sends, extends-sends_to_all, extends-signs_and_sends, extends-wants}
+use Rattle.node_core.proofs.DueLemmas.{behind-extends, behind-same, behind-due, from-fine, plays-refused}
 
 -- ---- what is held
 
@@ -198,9 +201,22 @@ kept-lives : (s : Setting) (e : Event) (c : Call) → ((lives s e c).node.stored
 unfolding lives
 kept-lives s e c = (refl, refl)
 
+-- What a step reports is what the call tells of it.
+lives-told : (s : Setting) (es : List journal.Event) (os : List (ℕ × List ℕ)) (v : Kept) (c : Call) (e : Event) (life : Life) (r : Report)
+    → IsAt s es os v c → Steps v.group e v.membership life r → v.telling.events ++ told_of life.moment r ≡ es ++ (lives s e c).told
+lives-told s es os v c e life r h steps =
+    let n = h.is in
+    let g : s.group ≡ v.group = setting-group s v.group v.me v.authority v.signer.key n.setting in
+    let st : State = state_of s c.node in
+    let next : Holds life (step s.group st e).state = subst (λ x. Holds life (step x st e).state) (sym g) (steps.holds st n.holds) in
+    let reported : r ≡ (step s.group st e).report = steps.reports st n.holds ∙ ap (λ x. (step x st e).report) (sym g) in
+    let moment : life.moment ≡ (step s.group st e).state.moment = sym next.moment_same in
+    ap (λ xs. xs ++ told_of life.moment r) h.told ∙ append_assoc es c.told (told_of life.moment r)
+    ∙ ap (λ xs. es ++ (c.told ++ xs)) (ap (λ m. told_of m r) moment ∙ ap (told_of (step s.group st e).state.moment) reported) ∙ ap (λ xs. es ++ xs) (sym (told-lives s e c))
+
 -- The code makes this step, with what it reports.
 pub lives-at : (s : Setting) (es : List journal.Event) (os : List (ℕ × List ℕ)) (v : Kept) (c : Call) (e : Event) (life : Life) (records : Held) (t : Tellings) (r : Report)
-    → Plays s es os v c → Steps v.group e v.membership life r → records ≡ without_all (without_all v.records r.expired) r.fell → Adds (with_report life.moment r) v.telling t
+    → (v.telling.failed ≡ false → IsAt s es os v c) → Steps v.group e v.membership life r → records ≡ without_all (without_all v.records r.expired) r.fell → Adds (with_report life.moment r) v.telling t
     → t.failed ≡ false → IsAt s es os (record v { membership = life; records = records; telling = t }) (lives s e c)
 lives-at s es os v c e life records t r p steps kept told fine =
     let on = told.going fine in
@@ -212,7 +228,6 @@ lives-at s es os v c e life records t r p steps kept told fine =
     let reported : r ≡ (step s.group st e).report = steps.reports st n.holds ∙ ap (λ x. (step x st e).report) (sym g) in
     let ended : HoldsRecords records (lives s e c).node.held =
     subst (λ x. HoldsRecords records x) (held-lives s e c r reported) (subst (λ x. HoldsRecords x (without_ended r c.node.held)) (sym kept) (holds-ended v.records c.node.held r n.records)) in
-    let moment : life.moment ≡ (step s.group st e).state.moment = sym next.moment_same in
     record {
       is = record {
         setting = n.setting;
@@ -222,10 +237,46 @@ lives-at s es os v c e life records t r p steps kept told fine =
         roster = λ m. n.roster m ∙ sym (certificate-lives s e c m);
         probes = subst (StandsFor v.detector) (sym (kept-lives s e c).1) n.probes;
       };
-      told = ap (λ x. x.events) on.1 ∙ ap (λ xs. xs ++ told_of life.moment r) h.told ∙ append_assoc es c.told (told_of life.moment r)
-          ∙ ap (λ xs. es ++ (c.told ++ xs)) (ap (λ m. told_of m r) moment ∙ ap (told_of (step s.group st e).state.moment) reported) ∙ ap (λ xs. es ++ xs) (sym (told-lives s e c));
+      told = ap (λ x. x.events) on.1 ∙ lives-told s es os v c e life r h steps;
       sent = ap (λ x. x.sent) on.1 ∙ h.sent ∙ ap (λ xs. os ++ xs) (sym (sent-lives s e c));
       before = told.before ∙ h.before;
+    }
+
+pub lives-plays : (s : Setting) (es : List journal.Event) (os : List (ℕ × List ℕ)) (v : Kept) (c : Call) (e : Event) (life : Life) (records : Held) (t : Tellings) (r : Report)
+    → Plays s es os v c → Steps v.group e v.membership life r → records ≡ without_all (without_all v.records r.expired) r.fell → Adds (with_report life.moment r) v.telling t
+    → Plays s es os (record v { membership = life; records = records; telling = t }) (lives s e c)
+lives-plays s es os v c e life records t r p steps kept told =
+    let w : Kept = record v { membership = life; records = records; telling = t } in
+    record {
+      at = λ fine. lives-at s es os v c e life records t r p.at steps kept told fine;
+      due = elim (cases_Bool v.telling.failed) [
+        | inl failed ↦ behind-extends es os w c (lives s e c) (behind-same es os v w c (ap (λ (x : Tellings). x.events) (told.stuck failed)) (ap (λ (x : Tellings). x.sent) (told.stuck failed)) p.due) (extends-lives s e c)
+        | inr fine ↦ behind-due es os w (lives s e c) (with_report life.moment r) v.telling told (lives-told s es os v c e life r (p.at fine) steps) ((p.at fine).sent ∙ ap (λ xs. os ++ xs) (sym (sent-lives s e c)))
+      ];
+    }
+
+-- an event that the node tells
+pub tells-plays : (s : Setting) (es : List journal.Event) (os : List (ℕ × List ℕ)) (v : Kept) (c : Call) (what : whats.What) (moment : ℕ) (t : Tellings)
+    → Plays s es os v c → moment ≡ v.membership.moment → Adds (with_event moment what) v.telling t → Plays s es os (record v { telling = t }) (tells s what c)
+tells-plays s es os v c what moment t p now adds =
+    let w : Kept = record v { telling = t } in
+    let event : ℕ → journal.Event = λ m. record { moment = m; what = what } in
+    let is = λ (h : IsAt s es os v c). ap (λ xs. xs ++ event moment ∷ []) h.told ∙ append_assoc es c.told (event moment ∷ []) ∙ ap (λ m. es ++ (c.told ++ event m ∷ [])) (now ∙ sym h.is.holds.moment_same) in
+    record {
+      at = λ fine.
+          let on = adds.going fine in
+          let h = p.at on.0 in
+          let n = h.is in
+          record {
+            is = record { setting = n.setting; holds = n.holds; stored = n.stored; records = n.records; roster = n.roster; probes = n.probes };
+            told = ap (λ (x : Tellings). x.events) on.1 ∙ is h;
+            sent = ap (λ (x : Tellings). x.sent) on.1 ∙ h.sent;
+            before = adds.before ∙ h.before;
+          };
+      due = elim (cases_Bool v.telling.failed) [
+        | inl failed ↦ behind-extends es os w c (tells s what c) (behind-same es os v w c (ap (λ (x : Tellings). x.events) (adds.stuck failed)) (ap (λ (x : Tellings). x.sent) (adds.stuck failed)) p.due) (extends-tells s what c)
+        | inr fine ↦ behind-due es os w (tells s what c) (with_event moment what) v.telling adds (is (p.at fine)) (p.at fine).sent
+      ];
     }
 
 -- ---- an accepted record
@@ -286,12 +337,36 @@ pub takes-at : (s : Setting) (es : List journal.Event) (os : List (ℕ × List �
 takes-at s es os v c checked b records is other kept h =
     subst (IsAt s es os (record v { records = records })) (sym (takes-is s checked.rec b c is)) (holding-at s es os v (lives s (event_of s b) c) checked b records is other kept h)
 
+-- a note is held
+pub takes-plays : (s : Setting) (es : List journal.Event) (os : List (ℕ × List ℕ)) (v : Kept) (c : Call) (checked : CheckedRecord) (b : Body) (records : Held)
+    → checked.rec.body ≡ b → IsNoCertificate b → records ≡ fin.insert v.records (key_of checked.rec.body) checked → Plays s es os v (lives s (event_of s b) c) → Plays s es os (record v { records = records }) (takes s checked.rec c)
+takes-plays s es os v c checked b records is other kept p = record {
+  at = λ fine. takes-at s es os v c checked b records is other kept (p.at fine);
+  due = subst (IsBehind es os (record v { records = records })) (sym (takes-is s checked.rec b c is)) (record { told = p.due.told; sent = p.due.sent });
+}
+
+-- a record is accepted, which tells nothing
+pub takes-quietly : (s : Setting) (es : List journal.Event) (os : List (ℕ × List ℕ)) (v w : Kept) (c : Call) (r : Record) → w.telling ≡ v.telling → Plays s es os v c → (v.telling.failed ≡ false → IsAt s es os w (takes s r c)) → Plays s es os w (takes s r c)
+takes-quietly s es os v w c r same p at = record {
+  at = λ fine. at (sym (ap (λ (t : Tellings). t.failed) same) ∙ fine);
+  due = behind-extends es os w c (takes s r c) (behind-same es os v w c (ap (λ (t : Tellings). t.events) same) (ap (λ (t : Tellings). t.sent) same) p.due) (extends-takes s r c);
+}
+
 adds-nothing : (moment : ℕ) (t : Tellings) → Adds (with_report moment nothing) t t
-adds-nothing moment t = record { going = λ ok. (ok, ap (λ xs. record t { events = xs }) (sym (nil-right t.events))); events = front-refl t.events; sent = front-refl t.sent; before = refl }
+adds-nothing moment t =
+    record {
+      going = λ ok. (ok, ap (λ xs. record t { events = xs }) (sym (nil-right t.events)));
+      stuck = λ failed. refl;
+      events = front-refl t.events;
+      sent = front-refl t.sent;
+      events_due = record { more = []; is = refl };
+      sent_due = front-refl t.sent;
+      before = refl;
+    }
 
 -- an event that reports nothing
 pub quiet-at : (s : Setting) (es : List journal.Event) (os : List (ℕ × List ℕ)) (v : Kept) (c : Call) (e : Event) (life : Life)
-    → Plays s es os v c → Steps v.group e v.membership life nothing → v.telling.failed ≡ false → IsAt s es os (record v { membership = life }) (lives s e c)
+    → (v.telling.failed ≡ false → IsAt s es os v c) → Steps v.group e v.membership life nothing → v.telling.failed ≡ false → IsAt s es os (record v { membership = life }) (lives s e c)
 quiet-at s es os v c e life p steps fine = lives-at s es os v c e life v.records v.telling nothing p steps refl (adds-nothing life.moment v.telling) fine
 
 -- ---- a certificate
@@ -350,12 +425,15 @@ pub length-append : {X : Type 0} (xs ys : List X) → length (xs ++ ys) ≡ leng
 length-append [] ys = omega arith
 length-append (x ∷ xs) ys = omega (arith, length-append xs ys)
 
-pub sends-at : (s : Setting) (es : List journal.Event) (os : List (ℕ × List ℕ)) (v : Kept) (c : Call) (d : Datagram) (to moment : ℕ) (bytes : List ℕ) (t : Tellings)
-    → Plays s es os v c → bytes ≡ datagram_bytes d → moment ≡ v.membership.moment → Adds (with_sent moment bytes to) v.telling t → t.failed ≡ false → IsAt s es os (record v { telling = t }) (sends s d c to)
+-- What is due is what the call tells and sends.
+record IsSent (s : Setting) (es : List journal.Event) (os : List (ℕ × List ℕ)) (c d : Call) (t : Tellings) : Type 0 where
+  told : t.events ≡ es ++ d.told
+  sent : t.sent ≡ os ++ d.sent
+
+is-sent : (s : Setting) (es : List journal.Event) (os : List (ℕ × List ℕ)) (v : Kept) (c : Call) (d : Datagram) (to moment : ℕ) (bytes : List ℕ)
+    → IsAt s es os v c → bytes ≡ datagram_bytes d → moment ≡ v.membership.moment → IsSent s es os c (sends s d c to) (with_sent moment bytes to v.telling)
 unfolding sends
-sends-at s es os v c d to moment bytes t p spelled now adds fine =
-    let on = adds.going fine in
-    let h = p on.0 in
+is-sent s es os v c d to moment bytes h spelled now =
     let n = h.is in
     let at : moment ≡ (state_of s c.node).moment = now ∙ sym n.holds.moment_same in
     let number : length v.telling.sent - v.telling.before ≡ length c.sent =
@@ -364,10 +442,37 @@ sends-at s es os v c d to moment bytes t p spelled now adds fine =
     let same : event moment (length v.telling.sent - v.telling.before) bytes ≡ event (state_of s c.node).moment (length c.sent) (datagram_bytes d) =
     ap (λ m. event m (length v.telling.sent - v.telling.before) bytes) at ∙ ap (λ k. event (state_of s c.node).moment k bytes) number ∙ ap (λ b. event (state_of s c.node).moment (length c.sent) b) spelled in
     record {
-      is = record { setting = n.setting; holds = n.holds; stored = n.stored; records = n.records; roster = n.roster; probes = n.probes };
-      told = ap (λ x. x.events) on.1 ∙ ap (λ xs. xs ++ event moment (length v.telling.sent - v.telling.before) bytes ∷ []) h.told ∙ append_assoc es c.told _ ∙ ap (λ e. es ++ (c.told ++ e ∷ [])) same;
-      sent = ap (λ x. x.sent) on.1 ∙ ap (λ xs. xs ++ (to, bytes) ∷ []) h.sent ∙ append_assoc os c.sent _ ∙ ap (λ b. os ++ (c.sent ++ (to, b) ∷ [])) spelled;
-      before = adds.before ∙ h.before;
+      told = ap (λ xs. xs ++ event moment (length v.telling.sent - v.telling.before) bytes ∷ []) h.told ∙ append_assoc es c.told _ ∙ ap (λ e. es ++ (c.told ++ e ∷ [])) same;
+      sent = ap (λ xs. xs ++ (to, bytes) ∷ []) h.sent ∙ append_assoc os c.sent _ ∙ ap (λ b. os ++ (c.sent ++ (to, b) ∷ [])) spelled;
+    }
+
+node-sends : (s : Setting) (d : Datagram) (c : Call) (to : ℕ) → (sends s d c to).node ≡ c.node
+unfolding sends
+node-sends s d c to = refl
+
+pub sends-plays : (s : Setting) (es : List journal.Event) (os : List (ℕ × List ℕ)) (v : Kept) (c : Call) (d : Datagram) (to moment : ℕ) (bytes : List ℕ) (t : Tellings)
+    → Plays s es os v c → bytes ≡ datagram_bytes d → moment ≡ v.membership.moment → Adds (with_sent moment bytes to) v.telling t → Plays s es os (record v { telling = t }) (sends s d c to)
+sends-plays s es os v c d to moment bytes t p spelled now adds =
+    let w : Kept = record v { telling = t } in
+    record {
+      at = λ fine.
+          let on = adds.going fine in
+          let h = p.at on.0 in
+          let n = h.is in
+          let due = is-sent s es os v c d to moment bytes h spelled now in
+          let is : IsNode s w c.node = record { setting = n.setting; holds = n.holds; stored = n.stored; records = n.records; roster = n.roster; probes = n.probes } in
+          record {
+            is = subst (IsNode s w) (sym (node-sends s d c to)) is;
+            told = ap (λ (x : Tellings). x.events) on.1 ∙ due.told;
+            sent = ap (λ (x : Tellings). x.sent) on.1 ∙ due.sent;
+            before = adds.before ∙ h.before;
+          };
+      due = elim (cases_Bool v.telling.failed) [
+        | inl failed ↦ behind-extends es os w c (sends s d c to) (behind-same es os v w c (ap (λ (x : Tellings). x.events) (adds.stuck failed)) (ap (λ (x : Tellings). x.sent) (adds.stuck failed)) p.due) (extends-sends s d c to)
+        | inr fine ↦
+            let due = is-sent s es os v c d to moment bytes (p.at fine) spelled now in
+            behind-due es os w (sends s d c to) (with_sent moment bytes to) v.telling adds due.told due.sent
+      ];
     }
 
 -- ---- neighbours
@@ -431,6 +536,7 @@ pub grows-trans : (a b c : Kept) → Grows a b → Grows b c → Grows a c
 grows-trans a b c p q =
     record {
       going = λ ok. p.going (q.going ok);
+      stuck = λ failed. let same = p.stuck failed in q.stuck (ap (λ (t : Tellings). t.failed) same ∙ failed) ∙ same;
       events = front-trans a.telling.events b.telling.events c.telling.events p.events q.events;
       sent = front-trans a.telling.sent b.telling.sent c.telling.sent p.sent q.sent;
       before = q.before ∙ p.before;
@@ -439,8 +545,12 @@ grows-trans a b c p q =
       me = q.me ∙ p.me;
     }
 
+-- whatever the signer was
+pub grows-signer : (a b : Kept) (signer : SignerState) → Grows (record a { signer = signer }) b → Grows a b
+grows-signer a b signer h = record { going = h.going; stuck = h.stuck; events = h.events; sent = h.sent; before = h.before; ended = h.ended; group = h.group; me = h.me }
+
 pub grows-refl : (a : Kept) → Grows a a
-grows-refl a = record { going = λ ok. ok; events = front-refl a.telling.events; sent = front-refl a.telling.sent; before = refl; ended = refl; group = refl; me = refl }
+grows-refl a = record { going = λ ok. ok; stuck = λ failed. refl; events = front-refl a.telling.events; sent = front-refl a.telling.sent; before = refl; ended = refl; group = refl; me = refl }
 
 -- the list of all that are wanted is that of the addressees
 pub all-wanted : (s : Setting) (v : Kept) (n : Node) (also : Option ℕ) (listed : List (Option ℕ)) → IsNode s v n → v.membership.group ≡ v.group
@@ -469,42 +579,62 @@ sends-own : (s : Setting) (b : Body) (also : Option ℕ) (c : Call) → signs_an
 unfolding signs_and_sends
 sends-own s b also c = refl
 
-pub passed-on : (s : Setting) (es : List journal.Event) (os : List (ℕ × List ℕ)) (c : Call) (b : Body) (also : Option ℕ) (v0 v1 v2 v3 : Kept) (index : ℕ) (r : Record) (bytes : List ℕ)
-    → Plays s es os v0 (with_stored b c) → index ≡ c.node.stored.next → r ≡ own_record s c.node b
-    → (Plays s es os v0 (with_stored b c) → Plays s es os v1 (tells s (told.Spent index b) (with_stored b c)))
-    → ((x : Call) → Plays s es os v1 x → Plays s es os v2 (takes s r x))
+with-stored : (b : Body) (c d : Call) → Extends c d → Extends (with_stored b c) d
+with-stored b c d h = record { told = h.told; sent = h.sent }
+
+-- the own record is told and accepted
+pub kept-plays : (s : Setting) (es : List journal.Event) (os : List (ℕ × List ℕ)) (c : Call) (b : Body) (v1 v2 : Kept) (index : ℕ) (r : Record)
+    → index ≡ c.node.stored.next → r ≡ own_record s c.node b → Plays s es os v1 (tells s (told.Spent index b) (with_stored b c))
+    → ((x : Call) → Plays s es os v1 x → Plays s es os v2 (takes s r x)) → Plays s es os v2 (signs s b c)
+kept-plays s es os c b v1 v2 index r at own p taken =
+    let p1 : Plays s es os v1 (spends s b c) = subst (λ x. Plays s es os v1 x) (ap (λ k. tells s (told.Spent k b) (with_stored b c)) at ∙ sym (spends-is s b c)) p in
+    subst (λ x. Plays s es os v2 x) (ap (λ x. takes s x (spends s b c)) own ∙ sym (signs-is s b c)) (taken (spends s b c) p1)
+
+-- and sent
+pub passed-on : (s : Setting) (es : List journal.Event) (os : List (ℕ × List ℕ)) (c : Call) (b : Body) (also : Option ℕ) (v0 v2 v3 : Kept) (r : Record) (bytes : List ℕ)
+    → Plays s es os v0 (with_stored b c) → Grows v0 v3 → r ≡ own_record s c.node b → Plays s es os v2 (signs s b c)
     → ((x : Call) (d : Datagram) → Plays s es os v2 x → bytes ≡ datagram_bytes d → Plays s es os v3 (sends_to_all s (addressees s also (state_of s x.node)) d x))
-    → bytes ≡ datagram_bytes (kinds.Records v0.me (r ∷ [])) → (v3.telling.failed ≡ false → v0.telling.failed ≡ false)
-    → Plays s es os v3 (signs_and_sends s b (addressees s also) c)
-passed-on s es os c b also v0 v1 v2 v3 index r bytes p at own told_it taken sent spelled going = λ fine.
-    let n = (p (going fine)).is in
+    → bytes ≡ datagram_bytes (kinds.Records v0.me (r ∷ [])) → Plays s es os v3 (signs_and_sends s b (addressees s also) c)
+passed-on s es os c b also v0 v2 v3 r bytes p grows own p2 sent spelled =
+    from-fine s es os v0 v3 (with_stored b c) (signs_and_sends s b (addressees s also) c) p grows (with-stored b c (signs_and_sends s b (addressees s also) c) (extends-signs_and_sends s b (addressees s also) c)) (λ h.
+    let n = h.is in
     let me : v0.me ≡ s.me = sym (setting-me s v0.group v0.me v0.authority v0.signer.key n.setting) in
-    let p1 : Plays s es os v1 (spends s b c) = subst (λ x. Plays s es os v1 x) (ap (λ k. tells s (told.Spent k b) (with_stored b c)) at ∙ sym (spends-is s b c)) (told_it p) in
-    let p2 : Plays s es os v2 (signs s b c) = subst (λ x. Plays s es os v2 x) (ap (λ x. takes s x (spends s b c)) own ∙ sym (signs-is s b c)) (taken (spends s b c) p1) in
     let d : Datagram = kinds.Records s.me (own_record s c.node b ∷ []) in
     let spelled2 : bytes ≡ datagram_bytes d = spelled ∙ ap (λ m. datagram_bytes (kinds.Records m (r ∷ []))) me ∙ ap (λ x. datagram_bytes (kinds.Records s.me (x ∷ []))) own in
-    subst (λ x. IsAt s es os v3 x) (sym (sends-own s b also c)) (sent (signs s b c) d p2 spelled2 fine)
+    subst (λ x. Plays s es os v3 x) (sym (sends-own s b also c)) (sent (signs s b c) d p2 spelled2))
+
+-- its bytes were refused memory
+pub passed-on-refused : (s : Setting) (es : List journal.Event) (os : List (ℕ × List ℕ)) (c : Call) (b : Body) (also : Option ℕ) (v2 v3 : Kept)
+    → Plays s es os v2 (signs s b c) → v3.telling ≡ record v2.telling { failed = true } → Plays s es os v3 (signs_and_sends s b (addressees s also) c)
+passed-on-refused s es os c b also v2 v3 p same =
+    let c1 : Call = signs s b c in
+    let to : List ℕ = addressees s also (state_of s c1.node) in
+    let d : Datagram = kinds.Records s.me (own_record s c.node b ∷ []) in
+    subst (λ x. Plays s es os v3 x) (sym (sends-own s b also c)) (plays-refused s es os v2 v3 c1 (sends_to_all s to d c1) same p (extends-sends_to_all s to d c1))
 
 -- the signer has spent an index on the body
 pub stored-at : (s : Setting) (es : List journal.Event) (os : List (ℕ × List ℕ)) (v : Kept) (c : Call) (b : Body) (signer : SignerState)
     → Plays s es os v c → signer.key ≡ v.signer.key → signer.state ≡ stored_after v.signer.state b → Plays s es os (record v { signer = signer }) (with_stored b c)
 unfolding state_of certificate_of
-stored-at s es os v c b signer p key state = λ fine.
-    let h = p fine in
-    let n = h.is in
-    record {
-      is = record {
-        setting = n.setting ∙ ap (setting_of v.group v.me v.authority) (sym key);
-        holds = n.holds;
-        stored = state ∙ ap (λ x. stored_after x b) n.stored;
-        records = n.records;
-        roster = n.roster;
-        probes = n.probes;
+stored-at s es os v c b signer p key state = record {
+  at = λ fine.
+      let h = p.at fine in
+      let n = h.is in
+      record {
+        is = record {
+          setting = n.setting ∙ ap (setting_of v.group v.me v.authority) (sym key);
+          holds = n.holds;
+          stored = state ∙ ap (λ x. stored_after x b) n.stored;
+          records = n.records;
+          roster = n.roster;
+          probes = n.probes;
+        };
+        told = h.told;
+        sent = h.sent;
+        before = h.before;
       };
-      told = h.told;
-      sent = h.sent;
-      before = h.before;
-    }
+  due = record { told = p.due.told; sent = p.due.sent };
+}
 
 pub own-signed : (s : Setting) (v : Kept) (n : Node) (b : Body) → IsNode s v n → v.signer.group ≡ v.group → (signed_record v.signer b).rec ≡ own_record s n b
 unfolding setting_of
@@ -542,53 +672,69 @@ full-at s v n is e = used-up-is s v n is ∙ eq-eqb _ _ e
 -- the signer may have closed
 pub signer-at : (s : Setting) (es : List journal.Event) (os : List (ℕ × List ℕ)) (v : Kept) (c : Call) (signer : SignerState)
     → Plays s es os v c → signer.key ≡ v.signer.key → signer.state ≡ v.signer.state → Plays s es os (record v { signer = signer }) c
-signer-at s es os v c signer p key state = λ fine.
-    let h = p fine in
-    let n = h.is in
-    record {
-      is = record {
-        setting = n.setting ∙ ap (setting_of v.group v.me v.authority) (sym key);
-        holds = n.holds;
-        stored = state ∙ n.stored;
-        records = n.records;
-        roster = n.roster;
-        probes = n.probes;
+signer-at s es os v c signer p key state = record {
+  at = λ fine.
+      let h = p.at fine in
+      let n = h.is in
+      record {
+        is = record {
+          setting = n.setting ∙ ap (setting_of v.group v.me v.authority) (sym key);
+          holds = n.holds;
+          stored = state ∙ n.stored;
+          records = n.records;
+          roster = n.roster;
+          probes = n.probes;
+        };
+        told = h.told;
+        sent = h.sent;
+        before = h.before;
       };
-      told = h.told;
-      sent = h.sent;
-      before = h.before;
-    }
+  due = record { told = p.due.told; sent = p.due.sent };
+}
 
 -- the disk failed in the signature
 pub stopped-at : (s : Setting) (es : List journal.Event) (os : List (ℕ × List ℕ)) (v v1 : Kept) (c : Call) (b : Body) (also : Option ℕ)
-    → Plays s es os v c → v.signer.state.next < leaf_count v.signer.key.tree → (v1.telling.failed ≡ false → v.telling.failed ≡ false) → Plays s es os v1 (tells s told.Stopped c) → Plays s es os v1 (wants false s b (addressees s also) c)
-stopped-at s es os v v1 c b also p lt going q = λ fine.
-    let h = q fine in
-    let free = free-below s v c.node (p (going fine)).is lt in
-    subst (IsAt s es os v1) (sym (wants-stopped s b also c free)) (record { is = h.is; told = h.told; sent = h.sent; before = h.before })
+    → Plays s es os v c → v.signer.state.next < leaf_count v.signer.key.tree → Grows v v1 → (v1.telling.failed ≡ true → v1.telling ≡ record v.telling { failed = true }) → Plays s es os v1 (tells s told.Stopped c)
+    → Stops s es os v1 (wants true s b (addressees s also) c) (wants false s b (addressees s also) c)
+stopped-at s es os v v1 c b also p lt grows refused q =
+    let stopped = λ (fine : v1.telling.failed ≡ false). wants-stopped s b also c (free-below s v c.node (p.at (grows.going fine)).is lt) in
+    record {
+      at = λ fine. let h = q.at fine in subst (IsAt s es os v1) (sym (stopped fine)) (record { is = h.is; told = h.told; sent = h.sent; before = h.before });
+      ended = λ fine. ap (λ (x : Call). x.ended) (stopped fine);
+      due = λ failed.
+          let same = refused failed in
+          behind-extends es os v1 c (wants true s b (addressees s also) c) (behind-same es os v v1 c (ap (λ (x : Tellings). x.events) same) (ap (λ (x : Tellings). x.sent) same) p.due) (extends-wants s b (addressees s also) c);
+    }
 
 -- the key was used up
 pub used_up-at : (s : Setting) (es : List journal.Event) (os : List (ℕ × List ℕ)) (v v1 : Kept) (c : Call) (b : Body) (also : Option ℕ) (next : ℕ)
-    → Plays s es os v c → next ≡ v.signer.state.next → next ≡ leaf_count v.signer.key.tree → (v1.telling.failed ≡ false → v.telling.failed ≡ false) → Plays s es os v1 (tells s (told.Exhausted next) c) → Plays s es os v1 (wants true s b (addressees s also) c)
-used_up-at s es os v v1 c b also next p at last going q = λ fine.
-    let n = (p (going fine)).is in
+    → Plays s es os v c → next ≡ v.signer.state.next → next ≡ leaf_count v.signer.key.tree → Grows v v1 → Plays s es os v1 (tells s (told.Exhausted next) c) → Plays s es os v1 (wants true s b (addressees s also) c)
+used_up-at s es os v v1 c b also next p at last grows q =
+    from-fine s es os v v1 c (wants true s b (addressees s also) c) p grows (extends-wants s b (addressees s also) c) (λ h.
+    let n = h.is in
     let full = full-at s v c.node n (sym at ∙ last) in
     let same : next ≡ c.node.stored.next = at ∙ ap (λ (x : Stored). x.next) n.stored in
-    subst (IsAt s es os v1) (ap (λ k. tells s (told.Exhausted k) c) same ∙ sym (wants-used_up s b also c full)) (q fine)
+    subst (Plays s es os v1) (ap (λ k. tells s (told.Exhausted k) c) same ∙ sym (wants-used_up s b also c full)) q)
 
 -- the signature was made
 pub signed-at : (s : Setting) (es : List journal.Event) (os : List (ℕ × List ℕ)) (v v1 : Kept) (c : Call) (b wanted : Body) (also : Option ℕ) (signer : SignerState) (r : CheckedRecord) (index : ℕ)
     → Plays s es os v c → v.signer.group ≡ v.group → v.signer.state.next < leaf_count v.signer.key.tree → index ≡ v.signer.state.next → (IsNode s v c.node → b ≡ wanted)
-    → signer.key ≡ v.signer.key → signer.state ≡ stored_after v.signer.state b → r ≡ signed_record v.signer b → (v1.telling.failed ≡ false → v.telling.failed ≡ false)
+    → signer.key ≡ v.signer.key → signer.state ≡ stored_after v.signer.state b → r ≡ signed_record v.signer b → Grows (record v { signer = signer }) v1
     → (Plays s es os (record v { signer = signer }) (with_stored b c) → index ≡ c.node.stored.next → r.rec ≡ own_record s c.node b → Plays s es os v1 (signs_and_sends s b (addressees s also) c))
     → Plays s es os v1 (wants true s wanted (addressees s also) c)
-signed-at s es os v v1 c b wanted also signer r index p same lt at body key state signed going passes = λ fine.
-    let n = (p (going fine)).is in
+signed-at s es os v v1 c b wanted also signer r index p same lt at body key state signed grows passes =
+    from-fine s es os v v1 c (wants true s wanted (addressees s also) c) p (grows-signer v v1 signer grows) (extends-wants s wanted (addressees s also) c) (λ h.
+    let n = h.is in
     let free = free-below s v c.node n lt in
     let own : r.rec ≡ own_record s c.node b = ap (λ (x : CheckedRecord). x.rec) signed ∙ own-signed s v c.node b n same in
     let next : index ≡ c.node.stored.next = at ∙ ap (λ (x : Stored). x.next) n.stored in
-    let done = passes (stored-at s es os v c b signer p key state) next own fine in
-    subst (IsAt s es os v1) (sym (wants-signed s b also c free) ∙ ap (λ x. wants true s x (addressees s also) c) (body n)) done
+    let done = passes (stored-at s es os v c b signer p key state) next own in
+    subst (Plays s es os v1) (sym (wants-signed s b also c free) ∙ ap (λ x. wants true s x (addressees s also) c) (body n)) done)
+
+-- no signature was made, for want of memory
+pub wants-refused : (s : Setting) (es : List journal.Event) (os : List (ℕ × List ℕ)) (v v1 : Kept) (c : Call) (b : Body) (also : Option ℕ)
+    → Plays s es os v c → v1.telling ≡ record v.telling { failed = true } → Plays s es os v1 (wants true s b (addressees s also) c)
+wants-refused s es os v v1 c b also p same = plays-refused s es os v v1 c (wants true s b (addressees s also) c) same p (extends-wants s b (addressees s also) c)
 
 pub next-own-is : (s : Setting) (v : Kept) (n : Node) (mask : Mask) → IsNode s v n → next_note v.signer.state v.me mask ≡ next_own s n mask
 next-own-is s v n mask is =

@@ -1,5 +1,6 @@
 -- What is added one after the other.
-use Rattle.std.proofs.Common.{◌≡◌, ℕ, ◌+◌, ◌<◌, length, take, get_or, List, [], ◌∷◌, ◌++◌, map, refl, ap, sym, ◌∙◌}
+use Rattle.std.proofs.Common.{◌≡◌, ℕ, ◌+◌, ◌<◌, inl, inr, length, take, get_or, List, [], ◌∷◌, ◌++◌, map, refl, ap, sym, ◌∙◌, subst}
+use Rattle.std.proofs.lemmas.Bool.{cases_Bool}
 use Rattle.std.proofs.lemmas.List.{append_assoc, take_more}
 use Rattle.ff_ids.specs.Steps.{Report}
 use Rattle.journal.specs.declared.event.Event as journal
@@ -17,20 +18,63 @@ nil-right (x ∷ xs) = ap (λ ys. x ∷ ys) (nil-right xs)
 pub front-refl : {X : Type 0} (xs : List X) → IsFront xs xs
 front-refl xs = record { more = []; is = sym (nil-right xs) }
 
+pub front-after : {X : Type 0} (before xs ys : List X) → IsFront xs ys → IsFront (before ++ xs) (before ++ ys)
+front-after before xs ys h = record { more = h.more; is = ap (λ z. before ++ z) h.is ∙ sym (append_assoc before xs h.more) }
+
+tail-same : {X : Type 0} (x : X) (xs ys : List X) → x ∷ xs ≡ x ∷ ys → xs ≡ ys
+tail-same x xs ys e = cc
+
+-- what stands behind the same list is the same
+pub append-cancel : {X : Type 0} (front xs ys : List X) → front ++ xs ≡ front ++ ys → xs ≡ ys
+append-cancel [] xs ys e = e
+append-cancel (x ∷ front) xs ys e = append-cancel front xs ys (tail-same x (front ++ xs) (front ++ ys) e)
+
+-- and so is what is a front there
+pub front-behind : {X : Type 0} (before xs ys now : List X) → now ≡ before ++ xs → IsFront now (before ++ ys) → IsFront xs ys
+front-behind before xs ys now is h = record { more = h.more; is = append-cancel before ys (xs ++ h.more) (h.is ∙ ap (λ z. z ++ h.more) is ∙ append_assoc before xs h.more) }
+
+-- what only appends
+pub record Appends (g : Tellings → Tellings) : Type 0 where
+  pub events : (w : Tellings) → IsFront w.events (g w).events
+  pub sent : (w : Tellings) → IsFront w.sent (g w).sent
+
+pub event-appends : (moment : ℕ) (what : whats.What) → Appends (with_event moment what)
+event-appends moment what = record { events = λ w. record { more = record { moment = moment; what = what } ∷ []; is = refl }; sent = λ w. front-refl w.sent }
+
+pub each-appends : {X : Type 0} (moment : ℕ) (f : X → whats.What) (xs : List X) → Appends (with_each moment f xs)
+each-appends moment f xs = record { events = λ w. record { more = map (λ x. record { moment = moment; what = f x }) xs; is = refl }; sent = λ w. front-refl w.sent }
+
 -- one addition and then another
-pub adds-trans : (f g : Tellings → Tellings) (a b c : Tellings) → Adds f a b → Adds g b c → Adds (λ w. g (f w)) a c
-adds-trans f g a b c p q =
+pub adds-trans : (f g : Tellings → Tellings) (a b c : Tellings) → Appends g → Adds f a b → Adds g b c → Adds (λ w. g (f w)) a c
+adds-trans f g a b c further p q =
     record {
       going = λ ok. let r = q.going ok in let l = p.going r.0 in (l.0, r.1 ∙ ap g l.1);
+      stuck = λ failed. let same = p.stuck failed in q.stuck (ap (λ t. t.failed) same ∙ failed) ∙ same;
       events = front-trans a.events b.events c.events p.events q.events;
       sent = front-trans a.sent b.sent c.sent p.sent q.sent;
+      events_due = elim (cases_Bool b.failed) [
+        | inl failed ↦ subst (λ (t : Tellings). IsFront t.events (g (f a)).events) (sym (q.stuck failed)) (front-trans b.events (f a).events (g (f a)).events p.events_due (further.events (f a)))
+        | inr fine ↦ subst (λ (t : Tellings). IsFront c.events (g t).events) (p.going fine).1 q.events_due
+      ];
+      sent_due = elim (cases_Bool b.failed) [
+        | inl failed ↦ subst (λ (t : Tellings). IsFront t.sent (g (f a)).sent) (sym (q.stuck failed)) (front-trans b.sent (f a).sent (g (f a)).sent p.sent_due (further.sent (f a)))
+        | inr fine ↦ subst (λ (t : Tellings). IsFront c.sent (g t).sent) (p.going fine).1 q.sent_due
+      ];
       before = q.before ∙ p.before;
     }
 
 -- what adds the same
 pub adds-same : (f g : Tellings → Tellings) (a b : Tellings) → f a ≡ g a → Adds f a b → Adds g a b
 adds-same f g a b same p =
-    record { going = λ ok. let l = p.going ok in (l.0, l.1 ∙ same); events = p.events; sent = p.sent; before = p.before }
+    record {
+      going = λ ok. let l = p.going ok in (l.0, l.1 ∙ same);
+      stuck = p.stuck;
+      events = p.events;
+      sent = p.sent;
+      events_due = subst (λ (t : Tellings). IsFront b.events t.events) same p.events_due;
+      sent_due = subst (λ (t : Tellings). IsFront b.sent t.sent) same p.sent_due;
+      before = p.before;
+    }
 
 pub map-append : {X Y : Type 0} (f : X → Y) (xs ys : List X) → map f (xs ++ ys) ≡ map f xs ++ map f ys
 map-append f [] ys = refl
@@ -47,7 +91,7 @@ pub each-more : {X : Type 0} (moment : ℕ) (f : X → whats.What) (xs : List X)
 each-more moment f xs i x old a b within here so_far next =
     let longer : take (i + 1) xs ≡ take i xs ++ x ∷ [] = take_more xs i x within ∙ ap (λ y. take i xs ++ y ∷ []) (sym here) in
     adds-same (λ w. with_event moment (f x) (with_each moment f (take i xs) w)) (with_each moment f (take (i + 1) xs)) old b
-    (each-push moment f (take i xs) x old ∙ ap (λ ys. with_each moment f ys old) (sym longer)) (adds-trans (with_each moment f (take i xs)) (with_event moment (f x)) old a b so_far next)
+    (each-push moment f (take i xs) x old ∙ ap (λ ys. with_each moment f ys old) (sym longer)) (adds-trans (with_each moment f (take i xs)) (with_event moment (f x)) old a b (event-appends moment (f x)) so_far next)
 
 map-map : {X Y Z : Type 0} (f : X → Y) (g : Y → Z) (xs : List X) → map g (map f xs) ≡ map (λ x. g (f x)) xs
 map-map f g [] = refl
@@ -74,7 +118,7 @@ report-each moment r w =
 pub changes-told : (moment : ℕ) (r : Report) (t0 t1 t2 t3 t4 : Tellings) → Adds (with_each moment kinds.Expired r.expired) t0 t1 → Adds (with_each moment kinds.Removed r.removed) t1 t2
     → Adds (with_each moment kinds.Entered r.entered) t2 t3 → Adds (with_each moment kinds.Fell r.fell) t3 t4 → Adds (with_report moment r) t0 t4
 changes-told moment r t0 t1 t2 t3 t4 a b d e =
-    let ab = adds-trans _ _ t0 t1 t2 a b in
-    let abd = adds-trans _ _ t0 t2 t3 ab d in
-    let all = adds-trans _ _ t0 t3 t4 abd e in
+    let ab = adds-trans _ _ t0 t1 t2 (each-appends moment kinds.Removed r.removed) a b in
+    let abd = adds-trans _ _ t0 t2 t3 (each-appends moment kinds.Entered r.entered) ab d in
+    let all = adds-trans _ _ t0 t3 t4 (each-appends moment kinds.Fell r.fell) abd e in
     adds-same _ (with_report moment r) t0 t4 (report-each moment r t0) all

@@ -1,8 +1,8 @@
 -- A whole tick.
 use Rattle.std.proofs.Common.{◌≡◌, ℕ, ◌-◌, Bool, true, false, inl, inr, eqb, List, refl, ap, sym, ◌∙◌, subst}
-use Rattle.std.specs.Prelude.{Result, Ok, Err, IfErr, take, ◌/◌, ◌%◌}
+use Rattle.std.specs.Prelude.{Result, Ok, Err, IsErr, IfErr, take, ◌/◌, ◌%◌}
 use Rattle.std.specs.List.{slice_get}
-use Rattle.std.proofs.lemmas.Bool.{cases_Bool}
+use Rattle.std.proofs.lemmas.Bool.{cases_Bool, false≢true}
 use Rattle.ff_ids.specs.declared.Group.{Group}
 use Rattle.ff_ids.specs.Views.{State}
 use Rattle.ff_ids.specs.Steps.{Ticks}
@@ -16,11 +16,14 @@ use Rattle.node_rules.specs.Calls.{Call, begun, lives}
 use Rattle.node_rules.specs.Ticking.{accuses, accuses_all, gossips, pings_all, due_tick, is_due, watched_by, silent_at, round_of, passed, probed_at, ticked, ticked_until}
 use Rattle.node_core.specs.declared.NodeFault.{NodeFault}
 use Rattle.node_core.specs.declared.NodeFault.TheVariants as faults
-use Rattle.node_core.specs.Playing.{Kept, IsNode, IsAt, Plays}
+use Rattle.node_core.specs.Playing.{Kept, IsNode, IsAt, IsBehind, Plays, Stops, Extends, Grows}
 use Rattle.node_core.specs.Answers.{Lent, Stands}
-use Rattle.node_core.specs.Ticks.{RunsDue, RunsTick, GivesTick, seen}
+use Rattle.node_core.specs.Told.{Tellings}
+use Rattle.node_core.specs.Ticks.{StopsAt, RunsDue, RunsTick, GivesTick, seen}
 use Rattle.node_core.proofs.PlayLemmas.{setting-group, setting-me}
-use Rattle.node_core.proofs.DeliverLemmas.{gives-from}
+use Rattle.node_core.proofs.DeliverLemmas.{gives-from, front-given}
+use Rattle.node_core.proofs.ExtendLemmas.{extends-same, extends-trans, extends-pings_all, extends-gossips, extends-due}
+use Rattle.node_core.proofs.DueLemmas.{behind-extends, behind-same}
 
 pub due-is : (s : Setting) (accused : List ℕ) (sent : List (ℕ × ℕ)) (round : ℕ) (c : Call) → due_tick s accused sent round c ≡ gossips s round (pings_all s sent (accuses_all s accused c))
 unfolding due_tick
@@ -58,27 +61,87 @@ pub record FindsDue (s : Setting) (n : Node) (silent : List ℕ) (pings : List (
   pub pings_is : pings ≡ pings_of (passed s n).node.probes true (watched_by s (now_of s n))
   pub round_is : round ≡ round_of s (now_of s n)
 
-pub runs-due : (s : Setting) (es : List journal.Event) (os : List (ℕ × List ℕ)) (n : Node) (v : Kept) (silent : List ℕ) (pings : List (ℕ × ℕ)) (round : ℕ) (r : Result (Unit {0}) NodeFault)
-    → RunsDue (λ x. Plays s es os v x) s silent pings round (seen s (passed s n)) r → (v.telling.failed ≡ false → FindsDue s n silent pings round) → RunsTick (v.telling.failed ≡ false) (λ x. Plays s es os v x) s n r
-runs-due s es os n v silent pings round (Ok done) h finds = λ fine.
-    let f = finds fine in
+due-found : (s : Setting) (n : Node) (silent : List ℕ) (pings : List (ℕ × ℕ)) (round : ℕ) → FindsDue s n silent pings round → due_tick s silent pings round (seen s (passed s n)) ≡ ticked s n
+due-found s n silent pings round f =
     let c : Call = seen s (passed s n) in
-    let same : due_tick s silent pings round c ≡ ticked s n =
     ap (λ (xs : List ℕ). due_tick s xs pings round c) f.silent_is ∙ ap (λ (ps : List (ℕ × ℕ)). due_tick s (silent_of (passed s n).node.probes (watched_by s (now_of s n))) ps round c) f.pings_is
-    ∙ ap (λ (k : ℕ). due_tick s (silent_of (passed s n).node.probes (watched_by s (now_of s n))) (pings_of (passed s n).node.probes true (watched_by s (now_of s n))) k c) f.round_is ∙ sym (ticked-due s n f.due) in
-    subst (IsAt s es os v) same (h fine)
-runs-due s es os n v silent pings round (Err fault) h finds = (
+    ∙ ap (λ (k : ℕ). due_tick s (silent_of (passed s n).node.probes (watched_by s (now_of s n))) (pings_of (passed s n).node.probes true (watched_by s (now_of s n))) k c) f.round_is ∙ sym (ticked-due s n f.due)
+
+-- the disk failed in an accusation
+pub err-due : (s : Setting) (es : List journal.Event) (os : List (ℕ × List ℕ)) (v : Kept) (silent : List ℕ) (pings : List (ℕ × ℕ)) (round : ℕ) (c : Call) (answer : Result (Unit {0}) NodeFault) → IsErr answer
+    → StopsAt (Stops s es os v) s silent (accuses_all s silent c) c → RunsDue (Plays s es os v) (Stops s es os v) s silent pings round c answer
+err-due s es os v silent pings round c (Ok x) err h = absurd (false≢true err)
+err-due s es os v silent pings round c (Err e) err h =
+    let ran = h.2.1 in
+    let c1 : Call = accuses_all s silent c in
+    let further : Extends c1 (due_tick s silent pings round c) = subst (Extends c1) (sym (due-is s silent pings round c))
+    (extends-trans c1 (pings_all s pings c1) (gossips s round (pings_all s pings c1)) (extends-pings_all s pings c1) (extends-gossips s round (pings_all s pings c1))) in
+    (h.0, h.1, (h.2.0, record { at = ran.at; ended = ran.ended; due = λ failed. behind-extends es os v c1 (due_tick s silent pings round c) (ran.due failed) further }))
+
+-- behind the tick of the life, a tick only adds
+pub ticked-due-or-not : (s : Setting) (n : Node) → Extends (seen s (passed s n)) (ticked s n)
+ticked-due-or-not s n =
+    let c : Call = seen s (passed s n) in
+    elim (cases_Bool (is_due s (now_of s n))) [
+      | inl due ↦
+          let silent : List ℕ = silent_of (passed s n).node.probes (watched_by s (now_of s n)) in
+          let pings : List (ℕ × ℕ) = pings_of (passed s n).node.probes true (watched_by s (now_of s n)) in
+          subst (Extends c) (sym (ticked-due s n due)) (extends-due s silent pings (round_of s (now_of s n)) c)
+      | inr idle ↦ subst (Extends c) (sym (ticked-idle s n idle)) (extends-same c)
+    ]
+
+-- the tick of the life was made, and memory was refused there or behind it
+pub tick-refused : (s : Setting) (es : List journal.Event) (os : List (ℕ × List ℕ)) (n : Node) (v w : Kept) → w.telling.events ≡ v.telling.events → w.telling.sent ≡ v.telling.sent → Plays s es os v (passed s n) → IsBehind es os w (ticked s n)
+tick-refused s es os n v w events sent p =
+    let c : Call = seen s (passed s n) in
+    behind-extends es os w c (ticked s n) (behind-same es os v w c events sent (record { told = p.due.told; sent = p.due.sent })) (ticked-due-or-not s n)
+
+due-ran : (s : Setting) (es : List journal.Event) (os : List (ℕ × List ℕ)) (n : Node) (v : Kept) (silent : List ℕ) (pings : List (ℕ × ℕ)) (round : ℕ) (r : Result (Unit {0}) NodeFault)
+    → RunsDue (Plays s es os v) (Stops s es os v) s silent pings round (seen s (passed s n)) r → FindsDue s n silent pings round → RunsTick (v.telling.failed ≡ false) (Plays s es os v) (Stops s es os v) s n r
+due-ran s es os n v silent pings round (Ok done) h f = subst (Plays s es os v) (due-found s n silent pings round f) h
+due-ran s es os n v silent pings round (Err fault) h f = (
   h.0,
   h.1,
   (
-    λ fine.
-        let f = finds fine in
-        ap (λ (xs : List ℕ). slice_get xs h.0) (silent-due s n f.due ∙ sym f.silent_is) ∙ h.2.0,
-    λ fine.
-        let f = finds fine in
-        subst (IsAt s es os v) (ap (λ (xs : List ℕ). accuses false s (accuses_all s (take h.0 xs) (seen s (passed s n))) h.1) (f.silent_is ∙ sym (silent-due s n f.due)) ∙ sym (until-is s n (take h.0 (silent_at s n)) h.1)) (h.2.1 fine),
+    λ fine. ap (λ (xs : List ℕ). slice_get xs h.0) (silent-due s n f.due ∙ sym f.silent_is) ∙ h.2.0,
+    subst (λ x. Stops s es os v x (ticked_until s n (take h.0 (silent_at s n)) h.1)) (due-found s n silent pings round f)
+        (subst (λ x. Stops s es os v (due_tick s silent pings round (seen s (passed s n))) x)
+        (ap (λ (xs : List ℕ). accuses false s (accuses_all s (take h.0 xs) (seen s (passed s n))) h.1) (f.silent_is ∙ sym (silent-due s n f.due)) ∙ sym (until-is s n (take h.0 (silent_at s n)) h.1)) h.2.1),
   ),
 )
+
+due-stuck : (s : Setting) (es : List journal.Event) (os : List (ℕ × List ℕ)) (n : Node) (v0 v : Kept) (silent : List ℕ) (pings : List (ℕ × ℕ)) (round : ℕ) (r : Result (Unit {0}) NodeFault)
+    → RunsDue (Plays s es os v) (Stops s es os v) s silent pings round (seen s (passed s n)) r → v0.telling.failed ≡ true → Grows v0 v → Plays s es os v0 (passed s n) → RunsTick (v.telling.failed ≡ false) (Plays s es os v) (Stops s es os v) s n r
+due-stuck s es os n v0 v silent pings round (Ok done) h failed grows p =
+    let same = grows.stuck failed in
+    record {
+      at = λ fine. absurd (false≢true (sym (grows.going fine) ∙ failed));
+      due = tick-refused s es os n v0 v (ap (λ (t : Tellings). t.events) same) (ap (λ (t : Tellings). t.sent) same) p;
+    }
+due-stuck s es os n v0 v silent pings round (Err fault) h failed grows p =
+    let same = grows.stuck failed in
+    let never = λ (fine : v.telling.failed ≡ false). false≢true (sym (grows.going fine) ∙ failed) in (
+      h.0,
+      h.1,
+      (
+        λ fine. absurd (never fine),
+        record {
+          at = λ fine. absurd (never fine);
+          ended = λ fine. absurd (never fine);
+          due = λ again. tick-refused s es os n v0 v (ap (λ (t : Tellings). t.events) same) (ap (λ (t : Tellings). t.sent) same) p;
+        },
+      ),
+    )
+
+-- what a due tick brings, where it is due and was found
+pub runs-due : (s : Setting) (es : List journal.Event) (os : List (ℕ × List ℕ)) (n : Node) (v0 v : Kept) (silent : List ℕ) (pings : List (ℕ × ℕ)) (round : ℕ) (r : Result (Unit {0}) NodeFault)
+    → RunsDue (Plays s es os v) (Stops s es os v) s silent pings round (seen s (passed s n)) r → Grows v0 v → Plays s es os v0 (passed s n) → (IsAt s es os v0 (passed s n) → FindsDue s n silent pings round)
+    → RunsTick (v.telling.failed ≡ false) (Plays s es os v) (Stops s es os v) s n r
+runs-due s es os n v0 v silent pings round r h grows p finds =
+    elim (cases_Bool v0.telling.failed) [
+      | inl failed ↦ due-stuck s es os n v0 v silent pings round r h failed grows p
+      | inr fine ↦ due-ran s es os n v silent pings round r h (finds (p.at fine))
+    ]
 
 -- the tick is due by the code as by the definition
 pub due-same : (s : Setting) (v : Kept) (n : Node) (now period : ℕ) → IsNode s v n → now ≡ v.membership.moment → period ≡ v.group.period → eqb (now % period) 0 ≡ is_due s (state_of s n)
@@ -121,18 +184,30 @@ seen-at s es os v c d due at same is holds =
 -- ---- what is given
 
 by_answer : (s : Setting) (n : Node) (v1 v2 : Kept) (old new : Lent) (done : Result (Unit {0}) NodeFault)
-    → RunsTick (v1.telling.failed ≡ false) (λ x. Plays s old.events old.sent v1 x) s n done → IfErr done (λ e. e ≡ faults.StoreFault) → v1.telling.failed ≡ false
+    → RunsTick (v1.telling.failed ≡ false) (Plays s old.events old.sent v1) (Stops s old.events old.sent v1) s n done → IfErr done (λ e. e ≡ faults.StoreFault) → v1.telling.failed ≡ false
     → v2 ≡ record v1 { telling = v2.telling; ended = v2.ended } → new.events ≡ v1.telling.events → new.sent ≡ v1.telling.sent → GivesTick s n v2 old new done
-by_answer s n v1 v2 old new (Ok x) ran cause fine same events sent = gives-from s v1 v2 old new (ticked s n) (ran fine) same events sent
+by_answer s n v1 v2 old new (Ok x) ran cause fine same events sent = gives-from s v1 v2 old new (ticked s n) (ran.at fine) same events sent
 by_answer s n v1 v2 old new (Err e) ran cause fine same events sent =
-    subst (λ f. GivesTick s n v2 old new (Err f)) (sym cause) (ran.0, ran.1, (ran.2.0 fine, gives-from s v1 v2 old new (ticked_until s n (take ran.0 (silent_at s n)) ran.1) (ran.2.1 fine) same events sent))
+    let stopped = ran.2.1 in
+    subst (λ f. GivesTick s n v2 old new (Err f)) (sym cause)
+    (record {
+      place = ran.0;
+      at = ran.1;
+      found = ran.2.0 fine;
+      ended = stopped.ended fine;
+      gives = gives-from s v1 v2 old new (ticked_until s n (take ran.0 (silent_at s n)) ran.1) (stopped.at fine) same events sent;
+    })
+
+due-of : (s : Setting) (n : Node) (v1 : Kept) (es : List journal.Event) (os : List (ℕ × List ℕ)) (done : Result (Unit {0}) NodeFault) → RunsTick (v1.telling.failed ≡ false) (Plays s es os v1) (Stops s es os v1) s n done → v1.telling.failed ≡ true → IsBehind es os v1 (ticked s n)
+due-of s n v1 es os (Ok x) ran failed = ran.due
+due-of s n v1 es os (Err e) ran failed = ran.2.1.due failed
 
 pub gives-by : (s : Setting) (n : Node) (v1 v2 : Kept) (old new : Lent) (done answer : Result (Unit {0}) NodeFault)
-    → RunsTick (v1.telling.failed ≡ false) (λ x. Plays s old.events old.sent v1 x) s n done → IfErr done (λ e. e ≡ faults.StoreFault)
+    → RunsTick (v1.telling.failed ≡ false) (Plays s old.events old.sent v1) (Stops s old.events old.sent v1) s n done → IfErr done (λ e. e ≡ faults.StoreFault)
     → (v1.telling.failed ≡ true → answer ≡ Err faults.OutOfMemory) → (v1.telling.failed ≡ false → answer ≡ done)
     → v2 ≡ record v1 { telling = v2.telling; ended = v2.ended } → new.events ≡ v1.telling.events → new.sent ≡ v1.telling.sent → Stands old new → GivesTick s n v2 old new answer
 gives-by s n v1 v2 old new done answer ran cause memory going same events sent stands =
     elim (cases_Bool v1.telling.failed) [
-      | inl failed ↦ subst (λ r. GivesTick s n v2 old new r) (sym (memory failed)) stands
+      | inl failed ↦ subst (λ r. GivesTick s n v2 old new r) (sym (memory failed)) (front-given v1 old new (ticked s n) (due-of s n v1 old.events old.sent done ran failed) events sent stands)
       | inr fine ↦ subst (λ r. GivesTick s n v2 old new r) (sym (going fine)) (by_answer s n v1 v2 old new done ran cause fine same events sent)
     ]

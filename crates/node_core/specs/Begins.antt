@@ -1,20 +1,26 @@
 -- A node whose first note is signed, and not yet accepted.
-use Rattle.std.specs.Prelude.{◌≡◌, ℕ, ◌<◌, ◌≤◌, All, Bool, true, false, List, [], ◌++◌, Result, Ok, Err}
-use Rattle.records.specs.declared.Body.TheVariants.{Note}
+use Rattle.std.specs.Prelude.{◌≡◌, ℕ, ◌<◌, ◌≤◌, All, Bool, true, false, not, nat_eq, List, [], ◌∷◌, ◌++◌, Result, Ok, Err}
+use Rattle.records.specs.declared.Body.TheVariants.{Note, Certificate}
 use Rattle.records.specs.declared.Record.{Record}
+use Rattle.records.specs.declared.Body.{Body}
 use Rattle.epoch_store.specs.declared.Stored.{Stored}
 use Rattle.node_rules.specs.Nodes.{Setting}
 use Rattle.node_rules.specs.Calls.{own_record}
 use Rattle.node_rules.specs.Starting.{opened, first_note, started}
-use Rattle.std.specs.List.{list_any}
-use Rattle.node_rules.specs.Lives.{is_certificate_for}
-use Rattle.node_core.specs.Rolls.{IsCertificateFor, AreApart, recs_of}
+use Rattle.std.specs.List.{list_any, AllByRecursion}
+use Rattle.node_rules.specs.Lives.{is_certificate_for, HasRings}
+use Rattle.node_rules.specs.Lives as lives
+use Rattle.node_rules.specs.Vouching.{IsCertifiedBy, OwnSignaturesVerify}
+use Rattle.records.specs.Signing.{CheckedRecord, IsChecked}
+use Rattle.records.specs.declared.CertBody.{CertBody}
+use Rattle.node_core.specs.Rolls.{AreApart, recs_of}
 use Rattle.node_core.specs.declared.kit.Kit.{Kit}
 use Rattle.node_core.specs.declared.starting.Ready.{Ready}
 use Rattle.node_core.specs.declared.starting.Parts.{Parts}
 use Rattle.ff_ids.specs.declared.Group.{Group}
 use Rattle.lms_tree.specs.declared.key.PublicKey.{PublicKey}
 use Rattle.signer.specs.Signing.{SignerState, stored_after, next_note, signed_record}
+use Rattle.signer.specs.Lives.{Spent}
 use Rattle.lms_tree.specs.Kinds.{leaf_count}
 use Rattle.ff_ids.specs.Masks.{good_mask}
 use Rattle.node_rules.specs.Replies.{first_mask}
@@ -96,6 +102,11 @@ pub record IsFirst (old new : SignerState) (t me : ℕ) (f : First) : Type 0 whe
   pub group : new.group ≡ old.group
   pub good : good_mask t new.state.mask.0 ≡ true
 
+-- What is spent on it.
+abbrev pub spent_first : Result First NodeFault → List Spent
+spent_first (Ok f) = record { index = f.index; body = Note f.note } ∷ []
+spent_first (Err fault) = []
+
 -- Why a life may be refused: the key is used up, or the disk failed.
 abbrev pub MayRefuse : SignerState → NodeFault → Type 0
 MayRefuse s faults.StoreFault = s.state.next < leaf_count s.key.tree
@@ -112,16 +123,55 @@ is_store_fault (Err faults.Ended) = false
 
 -- ---- the kit
 
--- The group's numbers are in their ranges, and the certificates, no two of one number, were checked for it; one of them
--- is the node's own.
-pub record IsKit (kit : Kit) : Type 0 where
-  pub some : 1 ≤ kit.group.t
-  pub few : kit.group.t ≤ 15
-  pub period : 0 < kit.group.period
-  pub misses : kit.group.misses ≤ 16
-  pub certificates : All (IsCertificateFor kit.group.t) kit.certificates.items
-  pub apart : AreApart (recs_of kit.certificates.items)
-  pub own : list_any (λ r. is_certificate_for kit.me r.body) (recs_of kit.certificates.items) ≡ true
+-- It was checked in the group, under this key.
+pub record IsCheckedIn (group : Group) (authority : PublicKey) (x : CheckedRecord) : Type 0 where
+  pub under : x.key ≡ authority
+  pub tag : x.tag ≡ group.tag
+  pub tolerance : x.t ≡ group.t
+
+-- A certificate of another member.
+abbrev pub is_of_other : ℕ → Body → Bool
+is_of_other m (Certificate c) = not (nat_eq c.member m)
+is_of_other m other = false
+
+-- If it is the member's certificate, it has this key.
+abbrev pub HasKey : ℕ → PublicKey → Record → Type 0
+HasKey me own r = (c : CertBody) → r.body ≡ Certificate c → c.member ≡ me → c.key ≡ own
+
+-- The numbers of a group of which a node may be a member.
+pub record IsGroup (group : Group) : Type 0 where
+  pub some : 1 ≤ group.t
+  pub few : group.t ≤ 15
+  pub waits : 1 ≤ group.timeout
+  pub ends : group.timeout ≤ 10000
+  pub period : 0 < group.period
+  pub often : group.period ≤ 1000
+  pub missed : 1 ≤ group.misses
+  pub misses : group.misses ≤ 16
+
+-- All are certificates, no two of one number; the member's own is among them, and has this key. That their signatures
+-- verify is what their type says.
+pub record AreCertificatesOf (me : ℕ) (own : PublicKey) (certificates : List CheckedRecord) : Type 0 where
+  pub apart : AreApart (recs_of certificates)
+  pub among : list_any (λ r. is_certificate_for me r.body) (recs_of certificates) ≡ true
+  pub keys : AllByRecursion (HasKey me own) (recs_of certificates)
+  pub verify : AllByRecursion IsChecked certificates
+
+-- The group's numbers are in their ranges, and the certificates were checked in it under the authority's key. No two are
+-- of one number, and the node's own is among them, with this key.
+pub record IsKit (kit : Kit) (own : PublicKey) : Type 0 where
+  pub group : IsGroup kit.group
+  pub checked : All (IsCheckedIn kit.group kit.authority) kit.certificates.items
+  pub certificates : AreCertificatesOf kit.me own kit.certificates.items
+
+-- The node's life rests on nothing but certificates that verify under the authority's key, its own with this key, and on
+-- signatures that verify under this key. It begins with an index left.
+pub record IsVouchable (s : Setting) (own : PublicKey) (certificates : List Record) (stored : Stored) : Type 0 where
+  pub rings : HasRings s
+  pub kit : lives.IsKit s certificates
+  pub certified : AllByRecursion (IsCertifiedBy s own) certificates
+  pub signatures : OwnSignaturesVerify s own
+  pub left : stored.next < s.indexes
 
 -- ---- the life
 

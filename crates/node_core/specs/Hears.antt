@@ -9,15 +9,15 @@ use Rattle.node_rules.specs.Calls.{Call}
 use Rattle.node_rules.specs.Deliveries.{handles, handles_all, hears}
 use Rattle.node_core.specs.declared.NodeFault.{NodeFault}
 
-pub record StopsAt (P : Call → Type 0) (s : Setting) (heard : Result Datagram ℕ) (c : Call) : Type 0 where
+pub record StopsAt (Q : Call → Call → Type 0) (s : Setting) (heard : Result Datagram ℕ) (c : Call) : Type 0 where
   pub from : ℕ
   pub records : List Record
   pub is : heard ≡ Ok (kinds.Records from records)
   pub place : ℕ
   pub at : Record
   pub found : slice_get records place ≡ Some at
-  pub runs : P (handles false s (handles_all s (take place records) c) at)
+  pub runs : Q (hears s heard c) (handles false s (handles_all s (take place records) c) at)
 
-abbrev pub RunsHearing : (Call → Type 0) → Setting → Result Datagram ℕ → Call → Result (Unit {0}) NodeFault → Type 0
-RunsHearing P s heard c (Ok done) = P (hears s heard c)
-RunsHearing P s heard c (Err fault) = StopsAt P s heard c
+abbrev pub RunsHearing : (Call → Type 0) → (Call → Call → Type 0) → Setting → Result Datagram ℕ → Call → Result (Unit {0}) NodeFault → Type 0
+RunsHearing P Q s heard c (Ok done) = P (hears s heard c)
+RunsHearing P Q s heard c (Err fault) = StopsAt Q s heard c

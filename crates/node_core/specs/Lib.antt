@@ -2,6 +2,7 @@ pub mod Told
 pub mod Records
 pub mod Playing
 pub mod Neighbours
+pub mod Spending
 pub mod Signatures
 pub mod Formed
 pub mod Handled

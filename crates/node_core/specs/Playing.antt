@@ -1,5 +1,5 @@
 -- What a node keeps, and how it stands where a call so far does.
-use Rattle.std.specs.Prelude.{◌≡◌, ℕ, ◌≤◌, ◌<◌, Bool, true, false, List, ◌++◌, length}
+use Rattle.std.specs.Prelude.{◌≡◌, ℕ, ◌≤◌, ◌<◌, Bool, false, true, List, ◌++◌, length}
 use Rattle.std.specs.Option.{option_map}
 use Rattle.std.specs.Result.{is_ok}
 use Rattle.ff_ids.specs.declared.Group.{Group}
@@ -68,9 +68,27 @@ pub record IsAt (s : Setting) (es : List journal.Event) (os : List (ℕ × List 
   pub sent : v.telling.sent ≡ os ++ c.sent
   pub before : v.telling.before ≡ length os
 
--- The same, unless memory was refused.
-abbrev pub Plays : Setting → List journal.Event → List (ℕ × List ℕ) → Kept → Call → Type 0
-Plays s es os v c = v.telling.failed ≡ false → IsAt s es os v c
+-- The events and datagrams are a front of those of the call so far, behind those of earlier calls.
+pub record IsBehind (es : List journal.Event) (os : List (ℕ × List ℕ)) (v : Kept) (c : Call) : Type 0 where
+  pub told : IsFront v.telling.events (es ++ c.told)
+  pub sent : IsFront v.telling.sent (os ++ c.sent)
+
+-- It is where the call so far is; where memory was refused, the events and datagrams are a front of those of the call.
+pub record Plays (s : Setting) (es : List journal.Event) (os : List (ℕ × List ℕ)) (v : Kept) (c : Call) : Type 0 where
+  pub at : v.telling.failed ≡ false → IsAt s es os v c
+  pub due : IsBehind es os v c
+
+-- The disk failed, and it is where the call is that ended there; where memory was refused, the events and datagrams are a
+-- front of those of the whole call.
+pub record Stops (s : Setting) (es : List journal.Event) (os : List (ℕ × List ℕ)) (v : Kept) (whole stopped : Call) : Type 0 where
+  pub at : v.telling.failed ≡ false → IsAt s es os v stopped
+  pub ended : v.telling.failed ≡ false → stopped.ended ≡ true
+  pub due : v.telling.failed ≡ true → IsBehind es os v whole
+
+-- What the first call has told and sent is a front of what the second has.
+pub record Extends (c d : Call) : Type 0 where
+  pub told : IsFront c.told d.told
+  pub sent : IsFront c.sent d.sent
 
 -- What holds between calls of the parts.
 pub record IsReady (group : Group) (me : ℕ) (membership : Life) (detector : Probing) (signer : SignerState) : Type 0 where
@@ -83,9 +101,11 @@ pub record IsReady (group : Group) (me : ℕ) (membership : Life) (detector : Pr
   pub joined : has_joined membership me ≡ true
   pub good : good_mask group.t signer.state.mask.0 ≡ true
 
--- The events and datagrams of the first are a front of those of the second, and the node is the same one.
+-- The events and datagrams of the first are a front of those of the second, and the node is the same one. Where memory was
+-- refused before, nothing is added.
 pub record Grows (old new : Kept) : Type 0 where
   pub going : new.telling.failed ≡ false → old.telling.failed ≡ false
+  pub stuck : old.telling.failed ≡ true → new.telling ≡ old.telling
   pub events : IsFront old.telling.events new.telling.events
   pub sent : IsFront old.telling.sent new.telling.sent
   pub before : new.telling.before ≡ old.telling.before

@@ -19,12 +19,13 @@ with_stored body c = record c { node = record c.node { stored = stored_after c.n
 abbrev pub next_own : Setting → Node → Mask → Body
 next_own s n mask = Note (record { member = s.me; epoch = n.stored.epoch + 1; mask = mask })
 
--- The disk worked, or it failed at the signature.
-abbrev pub Runs : (Bool → Type 0) → Result (Unit {0}) NodeFault → Type 0
-Runs P (Ok done) = P true
-Runs P (Err fault) = P false
+-- The disk worked and the call is this one, or it failed at the signature, and of this whole call that one is left.
+abbrev pub Runs : (Call → Type 0) → (Call → Call → Type 0) → (Bool → Call) → Result (Unit {0}) NodeFault → Type 0
+Runs P Q call (Ok done) = P (call true)
+Runs P Q call (Err fault) = Q (call true) (call false)
 
 -- All records are handled, or the disk failed in the answer to one, behind those before it.
-abbrev pub RunsAll : (Call → Type 0) → Setting → List Record → Call → Result (Unit {0}) NodeFault → Type 0
-RunsAll P s records c (Ok done) = P (handles_all s records c)
-RunsAll P s records c (Err fault) = (i : ℕ) × (r : Record) × ((slice_get records i ≡ Some r) × P (handles false s (handles_all s (take i records) c) r))
+abbrev pub RunsAll : (Call → Type 0) → (Call → Call → Type 0) → Setting → List Record → Call → Result (Unit {0}) NodeFault → Type 0
+RunsAll P Q s records c (Ok done) = P (handles_all s records c)
+RunsAll P Q s records c (Err fault) =
+    (i : ℕ) × (r : Record) × ((slice_get records i ≡ Some r) × Q (handles_all s records c) (handles false s (handles_all s (take i records) c) r))

@@ -1,5 +1,5 @@
 -- What a call has told and sent so far.
-use Rattle.std.specs.Prelude.{◌≡◌, ℕ, ◌-◌, Bool, false, List, [], ◌∷◌, ◌++◌, length, map}
+use Rattle.std.specs.Prelude.{◌≡◌, ℕ, ◌-◌, Bool, false, true, List, [], ◌∷◌, ◌++◌, length, map}
 use Rattle.ff_ids.specs.Steps.{Report}
 use Rattle.journal.specs.declared.event.Event as journal
 use Rattle.journal.specs.declared.event.What as whats
@@ -31,11 +31,14 @@ pub record IsFront {X : Type 0} (front whole : List X) : Type 0 where
   pub more : List X
   pub is : whole ≡ front ++ more
 
--- This is added, or memory was refused and what was there is a front.
+-- This is added, or memory was refused and a front of it is. Where memory was refused before, nothing is.
 pub record Adds (f : Tellings → Tellings) (old new : Tellings) : Type 0 where
   pub going : new.failed ≡ false → (old.failed ≡ false) × (new ≡ f old)
+  pub stuck : old.failed ≡ true → new ≡ old
   pub events : IsFront old.events new.events
   pub sent : IsFront old.sent new.sent
+  pub events_due : IsFront new.events (f old).events
+  pub sent_due : IsFront new.sent (f old).sent
   pub before : new.before ≡ old.before
 
 -- An event for each of these.

@@ -14,7 +14,8 @@ ghost use Rattle.node_rules.specs.Nodes.{Setting};
 ghost use Rattle.node_rules.specs.Calls.{Call};
 ghost use Rattle.node_rules.specs.Ticking.{accuses, is_by as is_accused_by};
 ghost use Rattle.node_core.specs.declared.NodeFault.TheVariants as faults;
-ghost use Rattle.node_core.specs.Playing.{Plays, Grows};
+ghost use Rattle.node_core.specs.Playing.{Plays, Stops, Grows};
+ghost use Rattle.node_core.specs.Spending.{Spends};
 ghost use Rattle.node_core.specs.Signatures.{Runs};
 ghost use Rattle.node_core.specs.Ticks.{RunsAccusing};
 
@@ -96,8 +97,9 @@ impl Node {
         member: MemberId,
     ) -> Result<(), NodeFault>
         ensures plays { (s : Setting) (es : List journal.Event) (os : List (ℕ × List ℕ)) (c : Call) → Plays s es os self.old c
-            → Runs (λ works. Plays s es os self.new (accuses works s c member)) result }
+            → Runs (Plays s es os self.new) (Stops s es os self.new) (λ works. accuses works s c member) result }
         ensures grows { Grows self.old self.new }
+        ensures spends { Spends self.old self.new (D.moments disk.old) (D.moments disk.new) }
         ensures faults { D.faults disk.new ≡ counted (is_err result) (D.faults disk.old) }
         ensures cause { IfErr result (λ e. e ≡ faults.StoreFault) }
     {
@@ -132,8 +134,9 @@ impl Node {
         silent: Vec<MemberId>,
     ) -> Result<(), NodeFault>
         ensures plays { (s : Setting) (es : List journal.Event) (os : List (ℕ × List ℕ)) (c : Call) → Plays s es os self.old c
-            → RunsAccusing (λ x. Plays s es os self.new x) s silent.items c result }
+            → RunsAccusing (Plays s es os self.new) (Stops s es os self.new) s silent.items c result }
         ensures grows { Grows self.old self.new }
+        ensures spends { Spends self.old self.new (D.moments disk.old) (D.moments disk.new) }
         ensures faults { D.faults disk.new ≡ counted (is_err result) (D.faults disk.old) }
         ensures cause { IfErr result (λ e. e ≡ faults.StoreFault) }
     {

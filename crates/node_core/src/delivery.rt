@@ -1,6 +1,6 @@
 //! One delivery: the bytes of a datagram, whatever they are.
 
-ghost use Rattle.std.specs.Prelude.{◌≡◌, ℕ, ◌≤◌, ◌<◌, List, true, false, Ok, Err, ◌↔◌, IfErr, is_err};
+ghost use Rattle.std.specs.Prelude.{◌≡◌, ℕ, ◌≤◌, ◌<◌, List, true, false, Ok, Err, ◌↔◌, OnOk, IfErr, is_err};
 ghost use Rattle.ports.specs.Count.{counted as counts_faults, Rose};
 ghost use Rattle.journal.specs.declared.event.Event as journal;
 ghost use Rattle.datagram.specs.Grammar.{read_of};
@@ -10,7 +10,8 @@ ghost use Rattle.node_rules.specs.Calls.{Call, tells};
 ghost use Rattle.journal.specs.declared.event.What.TheVariants as told;
 ghost use Rattle.records.specs.declared.fault.FormFault.TheVariants as forms;
 ghost use Rattle.node_core.specs.declared.NodeFault.TheVariants as faults;
-ghost use Rattle.node_core.specs.Playing.{Plays, Grows, IsNode};
+ghost use Rattle.node_core.specs.Playing.{Plays, Stops, Grows, IsNode};
+ghost use Rattle.node_core.specs.Spending.{SignsNothing, Spends, SpendsIn};
 ghost use Rattle.node_core.specs.Hears.{RunsHearing};
 ghost use Rattle.node_core.specs.Answers.{Delivers, Stands, IsEnded};
 ghost use Rattle.node_rules.specs.Nodes.{Node as RulesNode};
@@ -33,8 +34,9 @@ impl Node {
     ) -> Result<(), NodeFault>
         requires { IsWritable datagram }
         ensures plays { (s : Setting) (es : List journal.Event) (os : List (ℕ × List ℕ)) (c : Call) → Plays s es os self.old c
-            → RunsHearing (λ x. Plays s es os self.new x) s (Ok datagram) c result }
+            → RunsHearing (Plays s es os self.new) (Stops s es os self.new) s (Ok datagram) c result }
         ensures grows { Grows self.old self.new }
+        ensures spends { Spends self.old self.new (D.moments disk.old) (D.moments disk.new) }
         ensures faults { D.faults disk.new ≡ counts_faults (is_err result) (D.faults disk.old) }
         ensures cause { IfErr result (λ e. e ≡ faults.StoreFault) }
     {
@@ -57,8 +59,9 @@ impl Node {
     fn hear_fault(&mut self, fault: FormFault)
         ensures plays { (s : Setting) (es : List journal.Event) (os : List (ℕ × List ℕ)) (c : Call) (place : ℕ) → Plays s es os self.old c
             → fault ≡ forms.BadForm place → Plays s es os self.new (tells s (told.BadForm place) c) }
-        ensures memory { fault ≡ forms.OutOfMemory → self.new.telling.failed ≡ true }
+        ensures memory { fault ≡ forms.OutOfMemory → self.new.telling ≡ record self.old.telling { failed = true } }
         ensures grows { Grows self.old self.new }
+        ensures quiet { SignsNothing self.old self.new }
     {
         match fault {
             FormFault::BadForm { place } => self.tell(What::BadForm { place }),
@@ -74,8 +77,9 @@ impl Node {
         bytes: &[u8],
     ) -> Result<(), NodeFault>
         ensures plays { (s : Setting) (es : List journal.Event) (os : List (ℕ × List ℕ)) (c : Call) → Plays s es os self.old c
-            → RunsHearing (λ x. Plays s es os self.new x) s (read_of bytes.now) c result }
+            → RunsHearing (Plays s es os self.new) (Stops s es os self.new) s (read_of bytes.now) c result }
         ensures grows { Grows self.old self.new }
+        ensures spends { Spends self.old self.new (D.moments disk.old) (D.moments disk.new) }
         ensures faults { D.faults disk.new ≡ counts_faults (is_err result) (D.faults disk.old) }
         ensures cause { IfErr result (λ e. e ≡ faults.StoreFault) }
     {
@@ -113,8 +117,11 @@ impl Node {
     }
 
     /// Handles the bytes of one datagram, whatever they are: appends what that tells to `events` and what it sends to
-    /// `out`. `Ended` comes exactly where an earlier call answered a fault. After a fault what was given stands, and
-    /// the node is over. The disk is the one on which the signer's store was opened.
+    /// `out`. After `StoreFault` these are those of the call that the disk ended, in the answer to one of its records;
+    /// after `OutOfMemory` a front of those of the whole call. `Ended` comes exactly where an earlier call answered a
+    /// fault, and nothing is added. After a fault what was given stands, and the node is over. Each index that the call
+    /// spends is told, in order; where memory was refused, those of a front. The disk is the one on which the signer's
+    /// store was opened.
     pub fn deliver<D: Disk>(
         &mut self,
         alloc: Global,
@@ -129,7 +136,9 @@ impl Node {
         ensures ended { self.new.ended ≡ is_err result }
         ensures still { self.old.ended ≡ true → (self.new ≡ self.old) × (disk.new ≡ disk.old) × (events.new ≡ events.old) × (out.new ≡ out.old) }
         ensures stands { Stands (record { events = events.old; sent = out.old }) (record { events = events.new; sent = out.new }) }
+        ensures spends { SpendsIn result self.old.signer self.new.signer (D.moments disk.old) (D.moments disk.new) events.old events.new }
         ensures faults { IfErr result (λ e. e ≡ faults.StoreFault → Rose (D.faults disk.old) (D.faults disk.new)) }
+        ensures calm { OnOk result (D.faults disk.new ≡ D.faults disk.old) }
     {
         if self.ended {
             return Err(NodeFault::Ended);

@@ -12,6 +12,7 @@ ghost use Rattle.node_rules.specs.Calls.{Call, sends};
 ghost use Rattle.node_rules.specs.Ticking.{gossips, pings_all};
 ghost use Rattle.datagram.specs.declared.Datagram.TheVariants as kinds;
 ghost use Rattle.node_core.specs.Playing.{Plays, Grows, IsNode};
+ghost use Rattle.node_core.specs.Spending.{SignsNothing};
 
 use crate::Node;
 use crate::hearing::bytes_of;
@@ -100,6 +101,7 @@ impl Node {
         ensures plays { (s : Setting) (es : List journal.Event) (os : List (ℕ × List ℕ)) (c : Call) → Plays s es os self.old c
             → Plays s es os self.new (sends s (kinds.Ping s.me nonce) c to) }
         ensures grows { Grows self.old self.new }
+        ensures quiet { SignsNothing self.old self.new }
     {
         let ping = Datagram::Ping {
             from: self.me,
@@ -116,6 +118,7 @@ impl Node {
         ensures plays { (s : Setting) (es : List journal.Event) (os : List (ℕ × List ℕ)) (c : Call) → Plays s es os self.old c
             → Plays s es os self.new (gossips s round c) }
         ensures grows { Grows self.old self.new }
+        ensures quiet { SignsNothing self.old self.new }
     {
         match certified(alloc, &self.roster) {
             Ok(numbers) => self.gossip_among(alloc, round, &numbers),
@@ -145,6 +148,7 @@ impl Node {
             → numbers.now ≡ filter (λ m. is_some (certificate_of self.old.roster m)) all_numbers
             → Plays s es os self.new (gossips s round c) }
         ensures grows { Grows self.old self.new }
+        ensures quiet { SignsNothing self.old self.new }
     {
         let tolerance = self.group.t;
         let page = page_of(round, 2 * tolerance + 1, highest(numbers));

@@ -13,7 +13,8 @@ ghost use Rattle.node_rules.specs.Refusals.{refusal};
 ghost use Rattle.node_rules.specs.Calls.{Call, takes};
 ghost use Rattle.node_rules.specs.Deliveries.{answers, handles};
 ghost use Rattle.node_core.specs.declared.NodeFault.TheVariants as faults;
-ghost use Rattle.node_core.specs.Playing.{Plays, Grows};
+ghost use Rattle.node_core.specs.Playing.{Plays, Stops, Grows};
+ghost use Rattle.node_core.specs.Spending.{Spends};
 ghost use Rattle.node_core.specs.Signatures.{Runs};
 ghost use Rattle.node_core.specs.Formed.{IsFormed, Sees};
 
@@ -70,8 +71,9 @@ impl Node {
     ) -> Result<(), NodeFault>
         requires { acc.now.ring.0 < ring_count self.old.group.t }
         ensures plays { (s : Setting) (es : List journal.Event) (os : List (ℕ × List ℕ)) (c : Call) → Plays s es os self.old c
-            → Runs (λ works. Plays s es os self.new (answers works s (bodies.Accusation acc.now) c)) result }
+            → Runs (Plays s es os self.new) (Stops s es os self.new) (λ works. answers works s (bodies.Accusation acc.now) c) result }
         ensures grows { Grows self.old self.new }
+        ensures spends { Spends self.old self.new (D.moments disk.old) (D.moments disk.new) }
         ensures faults { D.faults disk.new ≡ counted (is_err result) (D.faults disk.old) }
         ensures cause { IfErr result (λ e. e ≡ faults.StoreFault) }
     {
@@ -99,8 +101,9 @@ impl Node {
         requires tolerance { rec.t ≡ self.old.group.t }
         ensures plays { (s : Setting) (es : List journal.Event) (os : List (ℕ × List ℕ)) (c : Call) → Plays s es os self.old c
             → refusal s c.node rec.rec ≡ None
-            → Runs (λ works. Plays s es os self.new (answers works s body.now (takes s rec.rec c))) result }
+            → Runs (Plays s es os self.new) (Stops s es os self.new) (λ works. answers works s body.now (takes s rec.rec c)) result }
         ensures grows { Grows self.old self.new }
+        ensures spends { Spends self.old self.new (D.moments disk.old) (D.moments disk.new) }
         ensures faults { D.faults disk.new ≡ counted (is_err result) (D.faults disk.old) }
         ensures cause { IfErr result (λ e. e ≡ faults.StoreFault) }
     {
@@ -128,8 +131,9 @@ impl Node {
     ) -> Result<(), NodeFault>
         requires { HasPort rec.body }
         ensures plays { (s : Setting) (es : List journal.Event) (os : List (ℕ × List ℕ)) (c : Call) → Plays s es os self.old c
-            → Runs (λ works. Plays s es os self.new (handles works s c rec)) result }
+            → Runs (Plays s es os self.new) (Stops s es os self.new) (λ works. handles works s c rec) result }
         ensures grows { Grows self.old self.new }
+        ensures spends { Spends self.old self.new (D.moments disk.old) (D.moments disk.new) }
         ensures faults { D.faults disk.new ≡ counted (is_err result) (D.faults disk.old) }
         ensures cause { IfErr result (λ e. e ≡ faults.StoreFault) }
     {

@@ -11,7 +11,8 @@ ghost use Rattle.datagram.specs.declared.Datagram.TheVariants as kinds;
 ghost use Rattle.node_rules.specs.Deliveries.{is_other, pinged, ponged_by, exchanges, gives, replies};
 ghost use Rattle.node_rules.specs.Pages.{page as page_of, lacking};
 ghost use Rattle.node_core.specs.declared.NodeFault.TheVariants as faults;
-ghost use Rattle.node_core.specs.Playing.{Plays, Grows, IsNode};
+ghost use Rattle.node_core.specs.Playing.{Plays, Stops, Grows, IsNode};
+ghost use Rattle.node_core.specs.Spending.{SignsNothing, Spends};
 ghost use Rattle.node_core.specs.Signatures.{RunsAll};
 
 use crate::exchange::{lacking_bytes, page_bytes};
@@ -44,8 +45,9 @@ impl Node {
     ) -> Result<(), NodeFault>
         requires { All (λ r. HasPort r.body) records.items }
         ensures plays { (s : Setting) (es : List journal.Event) (os : List (ℕ × List ℕ)) (c : Call) → Plays s es os self.old c
-            → RunsAll (λ x. Plays s es os self.new x) s records.items c result }
+            → RunsAll (Plays s es os self.new) (Stops s es os self.new) s records.items c result }
         ensures grows { Grows self.old self.new }
+        ensures spends { Spends self.old self.new (D.moments disk.old) (D.moments disk.new) }
         ensures faults { D.faults disk.new ≡ counts_faults (is_err result) (D.faults disk.old) }
         ensures cause { IfErr result (λ e. e ≡ faults.StoreFault) }
     {
@@ -67,6 +69,7 @@ impl Node {
         ensures plays { (s : Setting) (es : List journal.Event) (os : List (ℕ × List ℕ)) (c : Call) → Plays s es os self.old c
             → Plays s es os self.new (sends s (kinds.Pong s.me nonce) c to) }
         ensures grows { Grows self.old self.new }
+        ensures quiet { SignsNothing self.old self.new }
     {
         let pong = Datagram::Pong {
             from: self.me,
@@ -83,6 +86,7 @@ impl Node {
         ensures plays { (s : Setting) (es : List journal.Event) (os : List (ℕ × List ℕ)) (c : Call) → Plays s es os self.old c
             → Plays s es os self.new (pinged s from nonce c) }
         ensures grows { Grows self.old self.new }
+        ensures quiet { SignsNothing self.old self.new }
     {
         let answers = self.is_other(from);
         self.tell(What::Ping { from, nonce });
@@ -96,6 +100,7 @@ impl Node {
         ensures plays { (s : Setting) (es : List journal.Event) (os : List (ℕ × List ℕ)) (c : Call) → Plays s es os self.old c
             → Plays s es os self.new (ponged_by s from nonce c) }
         ensures grows { Grows self.old self.new }
+        ensures quiet { SignsNothing self.old self.new }
     {
         let counted = self.detector.pong(from, nonce);
         self.tell(What::Pong {
@@ -119,6 +124,7 @@ impl Node {
         ensures plays { (s : Setting) (es : List journal.Event) (os : List (ℕ × List ℕ)) (c : Call) → Plays s es os self.old c
             → Plays s es os self.new (exchanges s from flag theirs.now c) }
         ensures grows { Grows self.old self.new }
+        ensures quiet { SignsNothing self.old self.new }
     {
         let answers = self.is_other(from);
         self.tell(What::Summary {
@@ -137,6 +143,7 @@ impl Node {
         ensures plays { (s : Setting) (es : List journal.Event) (os : List (ℕ × List ℕ)) (c : Call) → Plays s es os self.old c
             → Plays s es os self.new (gives s to (lacking c.node theirs.now) c) }
         ensures grows { Grows self.old self.new }
+        ensures quiet { SignsNothing self.old self.new }
     {
         match lacking_bytes(alloc, &self.records, self.me, theirs) {
             Ok(Some(bytes)) => self.send(alloc, &bytes, to),
@@ -150,6 +157,7 @@ impl Node {
         ensures plays { (s : Setting) (es : List journal.Event) (os : List (ℕ × List ℕ)) (c : Call) → Plays s es os self.old c
             → Plays s es os self.new (replies s to flag page c) }
         ensures grows { Grows self.old self.new }
+        ensures quiet { SignsNothing self.old self.new }
     {
         if !flag {
             self.send_page(alloc, to, true, page);
@@ -161,6 +169,7 @@ impl Node {
         ensures plays { (s : Setting) (es : List journal.Event) (os : List (ℕ × List ℕ)) (c : Call) → Plays s es os self.old c
             → Plays s es os self.new (sends s (kinds.Summary s.me flag (page_of c.node page)) c to) }
         ensures grows { Grows self.old self.new }
+        ensures quiet { SignsNothing self.old self.new }
     {
         match page_bytes(alloc, &self.records, self.me, flag, page) {
             Ok(bytes) => self.send(alloc, &bytes, to),

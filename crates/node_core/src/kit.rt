@@ -1,7 +1,9 @@
 //! What a life of a node begins with, and what its calls add to.
 
-ghost use Rattle.std.specs.Prelude.{◌≡◌, []};
+ghost use Rattle.std.specs.Prelude.{◌≡◌, ◌↔◌, [], All, true};
+ghost use Rattle.node_core.specs.Begins.{IsCheckedIn, IsGroup, IsKit};
 
+use crate::certificates::are_certificates_of;
 use ff_ids::{Group, MemberId};
 use fields::Bytes;
 use journal::Event;
@@ -19,6 +21,29 @@ pub struct Kit {
     pub authority: PublicKey,
     pub certificates: Vec<Checked>,
     pub nonce_seed: [u8; 32],
+}
+
+/// Whether the numbers are those of a group: t from 1 to 15, a timeout of 1 to 10,000 ticks, a period of 1 to 1,000, and
+/// 1 to 16 misses.
+fn is_group(group: &Group) -> bool
+    ensures { (result ≡ true) ↔ IsGroup group.now }
+{
+    (1..=15).contains(&group.t)
+        && (1..=10_000).contains(&group.timeout)
+        && (1..=1_000).contains(&group.period)
+        && (1..=16).contains(&group.misses)
+}
+
+impl Kit {
+    /// Whether a life of the key `own` may begin with the kit, whose certificates were each checked in its group under
+    /// the authority's key: the group's numbers are in their ranges, no two certificates are of one member, and the
+    /// member's own is among them, with that key.
+    pub fn is_sound(&self, own: &PublicKey) -> bool
+        requires { All (IsCheckedIn self.now.group self.now.authority) self.now.certificates.items }
+        ensures { (result ≡ true) ↔ IsKit self.now own.now }
+    {
+        is_group(&self.group) && are_certificates_of(self.me, own, &self.certificates)
+    }
 }
 
 /// The datagrams that go out, each with its addressee, the first one first. Contracts see the list.

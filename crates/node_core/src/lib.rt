@@ -9,6 +9,7 @@ ghost use Rattle.journal.specs.declared.event.Event as journal;
 ghost use Rattle.node_core.specs.Playing.{Kept, Plays};
 
 mod accusing;
+mod certificates;
 mod delivery;
 mod exchange;
 mod gossiping;

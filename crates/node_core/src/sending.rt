@@ -14,6 +14,7 @@ ghost use Rattle.datagram.specs.Spelling.{datagram_bytes};
 ghost use Rattle.node_rules.specs.Nodes.{Setting, state_of};
 ghost use Rattle.node_rules.specs.Calls.{Call, sends, sends_to_all};
 ghost use Rattle.node_core.specs.Playing.{Plays, Grows};
+ghost use Rattle.node_core.specs.Spending.{SignsNothing};
 ghost use Rattle.node_core.specs.Neighbours.{addressees};
 
 use crate::Node;
@@ -73,6 +74,7 @@ impl Node {
         ensures plays { (s : Setting) (es : List journal.Event) (os : List (ℕ × List ℕ)) (c : Call) (d : Sending) → Plays s es os self.old c
             → bytes.now ≡ datagram_bytes d → Plays s es os self.new (sends s d c to) }
         ensures grows { Grows self.old self.new }
+        ensures quiet { SignsNothing self.old self.new }
         ensures frame { self.new ≡ record self.old { telling = self.new.telling } }
     {
         self.telling.send(alloc, self.membership.now(), bytes, to);
@@ -89,6 +91,7 @@ impl Node {
         ensures plays { (s : Setting) (es : List journal.Event) (os : List (ℕ × List ℕ)) (c : Call) (d : Sending) → Plays s es os self.old c
             → bytes.now ≡ datagram_bytes d → Plays s es os self.new (if list_any (λ o. is_number o to) listed.now then sends s d c to else c) }
         ensures grows { Grows self.old self.new }
+        ensures quiet { SignsNothing self.old self.new }
         ensures frame { self.new ≡ record self.old { telling = self.new.telling } }
     {
         if is_listed(listed, to) {
@@ -101,6 +104,7 @@ impl Node {
         ensures plays { (s : Setting) (es : List journal.Event) (os : List (ℕ × List ℕ)) (c : Call) (d : Sending) → Plays s es os self.old c
             → bytes.now ≡ datagram_bytes d → Plays s es os self.new (sends_to_all s (addressees s also (state_of s c.node)) d c) }
         ensures grows { Grows self.old self.new }
+        ensures quiet { SignsNothing self.old self.new }
     {
         let listed = list_successors(&self.membership, self.me, also);
         for number in 0..MEMBERS {

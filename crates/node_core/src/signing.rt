@@ -8,7 +8,8 @@ ghost use Rattle.records.specs.declared.Body.TheVariants as bodies;
 ghost use Rattle.node_rules.specs.Nodes.{Setting};
 ghost use Rattle.node_rules.specs.Calls.{Call, own_record, signs_and_sends, wants};
 ghost use Rattle.node_core.specs.declared.NodeFault.TheVariants as faults;
-ghost use Rattle.node_core.specs.Playing.{Plays, Grows};
+ghost use Rattle.node_core.specs.Playing.{Plays, Stops, Grows};
+ghost use Rattle.node_core.specs.Spending.{Spends, TellsSpent};
 ghost use Rattle.node_core.specs.Neighbours.{addressees};
 ghost use Rattle.node_core.specs.Signatures.{with_stored, next_own, Runs};
 
@@ -30,12 +31,10 @@ impl Node {
             → index ≡ c.node.stored.next → rec.rec ≡ own_record s c.node (bodies.Note note.now)
             → Plays s es os self.new (signs_and_sends s (bodies.Note note.now) (addressees s None) c) }
         ensures grows { Grows self.old self.new }
+        ensures spent { TellsSpent index (bodies.Note note.now) self.old self.new }
     {
         let bytes = datagram_of(alloc, self.me, rec.rec());
-        self.tell(What::Spent {
-            index,
-            body: Body::Note(*note),
-        });
+        self.tell_spent(index, Body::Note(*note));
         self.take_note(rec, *note);
         match bytes {
             Ok(bytes) => self.send_to_neighbours(alloc, &bytes, None),
@@ -52,12 +51,10 @@ impl Node {
             → index ≡ c.node.stored.next → rec.rec ≡ own_record s c.node (bodies.Accusation acc.now)
             → Plays s es os self.new (signs_and_sends s (bodies.Accusation acc.now) (addressees s (Some acc.now.accused)) c) }
         ensures grows { Grows self.old self.new }
+        ensures spent { TellsSpent index (bodies.Accusation acc.now) self.old self.new }
     {
         let bytes = datagram_of(alloc, self.me, rec.rec());
-        self.tell(What::Spent {
-            index,
-            body: Body::Accusation(*acc),
-        });
+        self.tell_spent(index, Body::Accusation(*acc));
         self.take_accusation(rec, *acc);
         match bytes {
             Ok(bytes) => self.send_to_neighbours(alloc, &bytes, Some(acc.accused)),
@@ -74,8 +71,9 @@ impl Node {
     ) -> Result<(), NodeFault>
         requires { good_mask self.old.group.t mask.0 ≡ true }
         ensures plays { (s : Setting) (es : List journal.Event) (os : List (ℕ × List ℕ)) (c : Call) → Plays s es os self.old c
-            → Runs (λ works. Plays s es os self.new (wants works s (next_own s c.node mask) (addressees s None) c)) result }
+            → Runs (Plays s es os self.new) (Stops s es os self.new) (λ works. wants works s (next_own s c.node mask) (addressees s None) c) result }
         ensures grows { Grows self.old self.new }
+        ensures spends { Spends self.old self.new (D.moments disk.old) (D.moments disk.new) }
         ensures faults { D.faults disk.new ≡ counted (is_err result) (D.faults disk.old) }
         ensures cause { IfErr result (λ e. e ≡ faults.StoreFault) }
     {
@@ -104,8 +102,9 @@ impl Node {
     ) -> Result<(), NodeFault>
         requires { acc.now.ring.0 < ring_count self.old.group.t }
         ensures plays { (s : Setting) (es : List journal.Event) (os : List (ℕ × List ℕ)) (c : Call) → Plays s es os self.old c
-            → Runs (λ works. Plays s es os self.new (wants works s (bodies.Accusation acc.now) (addressees s (Some acc.now.accused)) c)) result }
+            → Runs (Plays s es os self.new) (Stops s es os self.new) (λ works. wants works s (bodies.Accusation acc.now) (addressees s (Some acc.now.accused)) c) result }
         ensures grows { Grows self.old self.new }
+        ensures spends { Spends self.old self.new (D.moments disk.old) (D.moments disk.new) }
         ensures faults { D.faults disk.new ≡ counted (is_err result) (D.faults disk.old) }
         ensures cause { IfErr result (λ e. e ≡ faults.StoreFault) }
     {

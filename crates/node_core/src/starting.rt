@@ -1,9 +1,11 @@
 //! How a life begins: certificates are taken, and a first note is signed and accepted. Nothing is sent.
 
-ghost use Rattle.std.specs.Prelude.{◌≡◌, ◌≤◌, ◌<◌, ◌^◌, ◌+◌, ℕ, true, false, List, [], length, IfOk, IfErr, OnErr, All, is_err};
+ghost use Rattle.std.specs.Prelude.{◌≡◌, ◌≤◌, ◌<◌, ◌^◌, ◌+◌, ℕ, true, false, List, [], ◌∷◌, length, IfOk, IfErr, OnErr, All, is_err};
 ghost use Rattle.std.specs.List.{list_any};
 ghost use Rattle.ff_ids.specs.Masks.{good_mask};
 ghost use Rattle.ports.specs.Count.{counted};
+ghost use Rattle.lms_tree.specs.Kinds.{leaf_count};
+ghost use Rattle.lms_tree.specs.Lms.{public_of};
 ghost use Rattle.records.specs.declared.Record.{Record as Recorded};
 ghost use Rattle.records.specs.declared.Body.TheVariants as bodies;
 ghost use Rattle.epoch_store.specs.declared.Stored.{Stored};
@@ -14,9 +16,10 @@ ghost use Rattle.node_rules.specs.Starting.{started};
 ghost use Rattle.journal.specs.declared.event.Event as journal;
 ghost use Rattle.node_core.specs.Playing.{Plays, Grows, IsReady, setting_of};
 ghost use Rattle.node_core.specs.Signatures.{with_stored};
+ghost use Rattle.node_core.specs.Spending.{LivesOn, TellsOf, TellsSpent, SpendsUntold, StartSpends};
 ghost use Rattle.node_core.specs.Told.{IsFront};
 ghost use Rattle.node_core.specs.Rolls.{IsCertificateFor, AreApart, recs_of};
-ghost use Rattle.node_core.specs.Begins.{AreOf, HasOpened, MayBegin, IsFirst, IsKit, MayRefuse, Starts, is_store_fault};
+ghost use Rattle.node_core.specs.Begins.{AreOf, HasOpened, MayBegin, IsFirst, IsKit, IsVouchable, MayRefuse, Starts, is_store_fault, spent_first};
 
 use crate::kit::{Events, Kit, Outbox};
 use crate::roll::Roll;
@@ -25,7 +28,6 @@ use crate::{Node, NodeFault};
 use detector::{Detector, Found};
 use ff_ids::{Epoch, Group, Mask, MemberId, NoteBody, good_mask};
 use fields::NoMemory;
-use journal::What;
 use lms_tree::PublicKey;
 use membership::Changes;
 use ports::Disk;
@@ -112,6 +114,7 @@ fn sign_first<D: Disk>(
     ensures faults { D.faults disk.new ≡ counted (is_store_fault result) (D.faults disk.old) }
     ensures signed { IfOk result (λ f. IsFirst signer.old signer.new group.now.t me f) }
     ensures cause { IfErr result (λ e. MayRefuse signer.old e) }
+    ensures key { LivesOn (spent_first result) signer.old signer.new (D.moments disk.old) (D.moments disk.new) }
 {
     let index = signer.state().next;
     let mask = first_mask(group, signer.state().mask);
@@ -154,7 +157,7 @@ fn make_ready<D: Disk>(
     signer: Signer,
     disk: &mut D,
 ) -> Result<Ready, NodeFault>
-    requires kit { IsKit kit }
+    requires kit { IsKit kit (public_of signer.key) }
     requires signer { signer.group ≡ kit.group }
     requires open { signer.closed ≡ false }
     ensures faults { D.faults disk.new ≡ counted (is_store_fault result) (D.faults disk.old) }
@@ -164,6 +167,9 @@ fn make_ready<D: Disk>(
     ensures begins { IfOk result (λ r. (s : Setting) → s ≡ setting_of kit.group kit.me kit.authority signer.key
         → MayBegin s kit.nonce_seed (recs_of kit.certificates.items) signer.state r) }
     ensures cause { IfErr result (λ e. MayRefuse signer e) }
+    ensures free { IfOk result (λ r. signer.state.next < leaf_count signer.key.tree) }
+    ensures key { IfOk result (λ r. LivesOn (record { index = r.index; body = bodies.Note r.note } ∷ []) signer r.signer (D.moments disk.old) (D.moments disk.new)) }
+    ensures untold { IfErr result (λ e. SpendsUntold e signer (D.moments disk.old) (D.moments disk.new)) }
 {
     let Kit {
         group,
@@ -208,11 +214,9 @@ impl Node {
             → index ≡ c.node.stored.next → rec.rec ≡ own_record s c.node (bodies.Note note.now)
             → Plays s es os self.new (signs s (bodies.Note note.now) c) }
         ensures grows { Grows self.old self.new }
+        ensures spent { TellsSpent index (bodies.Note note.now) self.old self.new }
     {
-        self.tell(What::Spent {
-            index,
-            body: Body::Note(*note),
-        });
+        self.tell_spent(index, Body::Note(*note));
         self.take_note(rec, *note);
     }
 }
@@ -228,6 +232,8 @@ impl Ready {
             → Plays s telling.events telling.sent result (started s seed certificates stored) }
         ensures front { IsFront telling.events result.telling.events }
         ensures going { result.ended ≡ false }
+        ensures signer { result.signer ≡ self.signer }
+        ensures spent { TellsOf (record { index = self.index; body = bodies.Note self.note } ∷ []) telling.events result.telling.events result.telling.failed }
     {
         let Ready {
             group,
@@ -270,8 +276,9 @@ impl Node {
     /// Begins a life: takes the certificates of the kit, and signs and accepts a first note, of the epoch after the
     /// stored one, with the stored mask if it is good, else with all rings enabled. Nothing is sent.
     ///
-    /// The signer was opened with the kit's group, and the disk is that of its store. `Exhausted` comes where the key has
-    /// no leaf left, `StoreFault` only where the disk failed; `Ended` never. A life that is refused tells nothing.
+    /// The kit is sound for the signer's key, the signer was opened with the kit's group, and the disk is that of its
+    /// store. `Exhausted` comes where the key has no leaf left, `StoreFault` only where the disk failed; `Ended` never. A
+    /// life that is refused tells nothing, and has spent no index, but perhaps one where memory was refused.
     pub fn start<D: Disk>(
         alloc: Global,
         kit: Kit,
@@ -279,15 +286,18 @@ impl Node {
         disk: &mut D,
         events: &mut Events,
     ) -> Result<Node, NodeFault>
-        requires kit { IsKit kit }
+        requires kit { IsKit kit (public_of signer.key) }
         requires signer { signer.group ≡ kit.group }
         requires open { signer.closed ≡ false }
         ensures starts { IfOk result (λ node. (s : Setting) → s ≡ setting_of kit.group kit.me kit.authority signer.key
             → Starts s kit.nonce_seed (recs_of kit.certificates.items) signer.state node events.old events.new) }
+        ensures vouchable { IfOk result (λ node. (s : Setting) → s ≡ setting_of kit.group kit.me kit.authority signer.key
+            → IsVouchable s (public_of signer.key) (recs_of kit.certificates.items) signer.state) }
         ensures going { IfOk result (λ node. node.ended ≡ false) }
         ensures silent { OnErr result (events.new ≡ events.old) }
         ensures cause { IfErr result (λ e. MayRefuse signer e) }
         ensures faults { D.faults disk.new ≡ counted (is_store_fault result) (D.faults disk.old) }
+        ensures spends { StartSpends signer (D.moments disk.old) (D.moments disk.new) events.old events.new result }
     {
         let ready = make_ready(alloc, kit, signer, disk)?;
         let before = events.events.len();

@@ -1,28 +1,45 @@
 //! The small steps of a node: one event of its life, one accepted record.
 
-ghost use Rattle.std.specs.Prelude.{◌≡◌, ℕ, ◌≤◌, ◌<◌, ◌^◌, ◌-◌, List, None};
+ghost use Rattle.std.specs.Prelude.{◌≡◌, ℕ, ◌≤◌, ◌<◌, ◌^◌, ◌-◌, true, List, [], None};
 ghost use Rattle.ff_ids.specs.Masks.{ring_count};
 ghost use Rattle.ff_ids.specs.Steps.{Notes, Accuses, Ticks, Joins};
 ghost use Rattle.journal.specs.declared.event.Event as journal;
+ghost use Rattle.journal.specs.declared.event.What.TheVariants as told;
 ghost use Rattle.records.specs.declared.Body.TheVariants as bodies;
 ghost use Rattle.node_rules.specs.Nodes.{Setting, certificate_of};
 ghost use Rattle.node_rules.specs.Calls.{Call, tells, lives, takes};
 ghost use Rattle.node_core.specs.Playing.{Kept, Plays, Grows};
+ghost use Rattle.node_core.specs.Spending.{spent_by, SignsNothing, TellsSpent};
 
 use crate::Node;
 use crate::parts::report;
 use ff_ids::{AccBody, NoteBody};
 use journal::What;
-use records::{CertBody, Checked};
+use records::{Body, CertBody, Checked};
 use ring_order::hash_places;
 
 impl Node {
+    /// Tells this, which is no signature.
     pub(crate) fn tell(&mut self, what: What)
+        requires { spent_by what ≡ [] }
         ensures plays { (s : Setting) (es : List journal.Event) (os : List (ℕ × List ℕ)) (c : Call) → Plays s es os self.old c
             → Plays s es os self.new (tells s what c) }
         ensures grows { Grows self.old self.new }
+        ensures quiet { SignsNothing self.old self.new }
+        ensures refused { self.new.telling.failed ≡ true → self.new.telling ≡ record self.old.telling { failed = true } }
     {
         self.telling.tell(self.membership.now(), what);
+    }
+
+    /// Tells that the index was spent on the body.
+    pub(crate) fn tell_spent(&mut self, index: u32, body: Body)
+        ensures plays { (s : Setting) (es : List journal.Event) (os : List (ℕ × List ℕ)) (c : Call) → Plays s es os self.old c
+            → Plays s es os self.new (tells s (told.Spent index body) c) }
+        ensures grows { Grows self.old self.new }
+        ensures spent { TellsSpent index body self.old self.new }
+    {
+        self.telling
+            .tell(self.membership.now(), What::Spent { index, body });
     }
 
     /// One event of the life: the note, if it has no fault.
@@ -30,6 +47,7 @@ impl Node {
         ensures plays { (s : Setting) (es : List journal.Event) (os : List (ℕ × List ℕ)) (c : Call) → Plays s es os self.old c
             → Plays s es os self.new (lives s (Notes note) c) }
         ensures grows { Grows self.old self.new }
+        ensures quiet { SignsNothing self.old self.new }
     {
         let _fault = self.membership.put_note(note, &mut self.changes);
         report(
@@ -46,6 +64,7 @@ impl Node {
         ensures plays { (s : Setting) (es : List journal.Event) (os : List (ℕ × List ℕ)) (c : Call) → Plays s es os self.old c
             → Plays s es os self.new (lives s Ticks c) }
         ensures grows { Grows self.old self.new }
+        ensures quiet { SignsNothing self.old self.new }
     {
         self.membership.tick(&mut self.changes);
         report(
@@ -63,6 +82,7 @@ impl Node {
         ensures plays { (s : Setting) (es : List journal.Event) (os : List (ℕ × List ℕ)) (c : Call) → Plays s es os self.old c
             → Plays s es os self.new (takes s rec.rec c) }
         ensures grows { Grows self.old self.new }
+        ensures quiet { SignsNothing self.old self.new }
     {
         self.live_note(note);
         self.records.put(rec);
@@ -76,6 +96,7 @@ impl Node {
         ensures plays { (s : Setting) (es : List journal.Event) (os : List (ℕ × List ℕ)) (c : Call) → Plays s es os self.old c
             → Plays s es os self.new (takes s rec.rec c) }
         ensures grows { Grows self.old self.new }
+        ensures quiet { SignsNothing self.old self.new }
     {
         let _fault = self.membership.put_accusation(acc);
         self.records.put(rec);
@@ -88,6 +109,7 @@ impl Node {
         ensures plays { (s : Setting) (es : List journal.Event) (os : List (ℕ × List ℕ)) (c : Call) → Plays s es os self.old c
             → certificate_of c.node cert.member ≡ None → Plays s es os self.new (takes s rec.rec c) }
         ensures grows { Grows self.old self.new }
+        ensures quiet { SignsNothing self.old self.new }
     {
         if self.roster.get(cert.member).is_some() {
             return;

@@ -63,7 +63,8 @@ impl Telling {
 
     /// Adds the event.
     pub fn tell(&mut self, moment: u64, what: What)
-        ensures { Adds (with_event moment what) self.old self.new }
+        ensures adds { Adds (with_event moment what) self.old self.new }
+        ensures refused { self.new.failed ≡ true → self.new ≡ record self.old { failed = true } }
     {
         if self.failed {
             return;
@@ -126,6 +127,8 @@ impl Telling {
         ensures sent { OnOk result (self.new ≡ with_sent moment bytes.now to self.old) }
         ensures events { IsFront self.old.events self.new.events }
         ensures front { IsFront self.old.sent self.new.sent }
+        ensures events_due { IsFront self.new.events (with_sent moment bytes.now to self.old).events }
+        ensures sent_due { IsFront self.new.sent (with_sent moment bytes.now to self.old).sent }
         ensures before { self.new.before ≡ self.old.before }
         ensures failed { self.new.failed ≡ self.old.failed }
     {

@@ -1,18 +1,19 @@
 //! One tick: that of the life, and where it is due the accusations of the silent, the pings and the summary.
 
-ghost use Rattle.std.specs.Prelude.{◌≡◌, ℕ, ◌<◌, ◌-◌, ◌^◌, List, true, false, ◌↔◌, IfOk, IfErr, is_err};
+ghost use Rattle.std.specs.Prelude.{◌≡◌, ℕ, ◌<◌, ◌-◌, ◌^◌, List, true, false, ◌↔◌, IfOk, OnOk, IfErr, is_err};
 ghost use Rattle.ports.specs.Count.{counted as counts_faults, Rose};
 ghost use Rattle.node_rules.specs.Nodes.{Node as RulesNode};
 ghost use Rattle.node_rules.specs.Calls.{begun};
 ghost use Rattle.node_core.specs.declared.NodeFault.TheVariants as faults;
 ghost use Rattle.node_core.specs.Playing.{IsNode};
+ghost use Rattle.node_core.specs.Spending.{SignsNothing, Spends, SpendsIn};
 ghost use Rattle.node_core.specs.Answers.{Stands, IsEnded};
 ghost use Rattle.node_core.specs.Ticks.{RunsDue, RunsTick, GivesTick};
 ghost use Rattle.journal.specs.declared.event.Event as journal;
 ghost use Rattle.node_rules.specs.Nodes.{Setting};
 ghost use Rattle.node_rules.specs.Calls.{Call};
 ghost use Rattle.node_rules.specs.Ticking.{pings_all};
-ghost use Rattle.node_core.specs.Playing.{Plays, Grows};
+ghost use Rattle.node_core.specs.Playing.{Plays, Stops, Grows};
 
 use crate::telling::Telling;
 use crate::{Events, Node, NodeFault, Outbox};
@@ -46,6 +47,7 @@ impl Node {
         ensures plays { (s : Setting) (es : List journal.Event) (os : List (ℕ × List ℕ)) (c : Call) → Plays s es os self.old c
             → Plays s es os self.new (pings_all s pings.now c) }
         ensures grows { Grows self.old self.new }
+        ensures quiet { SignsNothing self.old self.new }
     {
         for ping in pings {
             let (to, nonce) = *ping;
@@ -62,8 +64,9 @@ impl Node {
         due: Due,
     ) -> Result<(), NodeFault>
         ensures plays { (s : Setting) (es : List journal.Event) (os : List (ℕ × List ℕ)) (c : Call) → Plays s es os self.old c
-            → RunsDue (λ x. Plays s es os self.new x) s due.silent.items due.pings.items round c result }
+            → RunsDue (Plays s es os self.new) (Stops s es os self.new) s due.silent.items due.pings.items round c result }
         ensures grows { Grows self.old self.new }
+        ensures spends { Spends self.old self.new (D.moments disk.old) (D.moments disk.new) }
         ensures faults { D.faults disk.new ≡ counts_faults (is_err result) (D.faults disk.old) }
         ensures cause { IfErr result (λ e. e ≡ faults.StoreFault) }
     {
@@ -78,8 +81,9 @@ impl Node {
     fn pass<D: Disk>(&mut self, alloc: Global, disk: &mut D) -> Result<(), NodeFault>
         requires { self.old.membership.moment < 2 ^ 64 - 1 }
         ensures plays { (s : Setting) (es : List journal.Event) (os : List (ℕ × List ℕ)) (n : RulesNode) → Plays s es os self.old (begun n)
-            → RunsTick (self.new.telling.failed ≡ false) (λ x. Plays s es os self.new x) s n result }
+            → RunsTick (self.new.telling.failed ≡ false) (Plays s es os self.new) (Stops s es os self.new) s n result }
         ensures grows { Grows self.old self.new }
+        ensures spends { Spends self.old self.new (D.moments disk.old) (D.moments disk.new) }
         ensures faults { D.faults disk.new ≡ counts_faults (is_err result) (D.faults disk.old) }
         ensures cause { IfErr result (λ e. e ≡ faults.StoreFault) }
     {
@@ -101,9 +105,11 @@ impl Node {
         }
     }
 
-    /// One tick: appends what it tells to `events` and what it sends to `out`. `Ended` comes exactly where an earlier
-    /// call answered a fault. After a fault what was given stands, and the node is over. The disk is the one on which
-    /// the signer's store was opened.
+    /// One tick: appends what it tells to `events` and what it sends to `out`. After `StoreFault` these are those of the
+    /// call that the disk ended, in the accusation of a silent member; after `OutOfMemory` a front of those of the whole
+    /// call. `Ended` comes exactly where an earlier call answered a fault, and nothing is added. After a fault what was
+    /// given stands, and the node is over. Each index that the call spends is told, in order; where memory was refused,
+    /// those of a front. The disk is the one on which the signer's store was opened.
     pub fn tick<D: Disk>(
         &mut self,
         alloc: Global,
@@ -118,7 +124,9 @@ impl Node {
         ensures ended { self.new.ended ≡ is_err result }
         ensures still { self.old.ended ≡ true → (self.new ≡ self.old) × (disk.new ≡ disk.old) × (events.new ≡ events.old) × (out.new ≡ out.old) }
         ensures stands { Stands (record { events = events.old; sent = out.old }) (record { events = events.new; sent = out.new }) }
+        ensures spends { SpendsIn result self.old.signer self.new.signer (D.moments disk.old) (D.moments disk.new) events.old events.new }
         ensures faults { IfErr result (λ e. e ≡ faults.StoreFault → Rose (D.faults disk.old) (D.faults disk.new)) }
+        ensures calm { OnOk result (D.faults disk.new ≡ D.faults disk.old) }
     {
         if self.ended {
             return Err(NodeFault::Ended);

@@ -1,25 +1,48 @@
 use Rattle.std.proofs.Common.{◌≡◌, true, subst, sym, ◌∙◌, rules}
 use Rattle.records.specs.declared.Body.{Body}
 use Rattle.records.specs.declared.Body.TheVariants as bodies
-use Rattle.node_rules.specs.Calls.{takes}
+use Rattle.node_rules.specs.Calls.{Call, takes}
 use Rattle.node_rules.specs.Deliveries.{answers}
-use Rattle.node_core.specs.Playing.{Plays, IsAt}
-use Rattle.node_core.specs.Signatures.{Runs}
+use Rattle.node_core.specs.Playing.{Kept, Plays}
+use Rattle.node_core.proofs.DueLemmas.{Ran, plays-refused}
 use Rattle.node_core.proofs.HandleLemmas.{free-of}
+use Rattle.node_core.proofs.SpendLemmas.{refused-none, spends-none, spends-after}
+use Rattle.std.proofs.Common.{refl}
+use Rattle.node_core.specs.contracts.Node.{the_view}
+use Rattle.node_core.proofs.ExtendLemmas.{extends-trans, extends-takes, extends-answers}
 use Rattle.node_core.proofs.Node.accept.Goals as goal
 
 pub returns-in-Certificate-clause-plays : goal.returns-in-Certificate-clause-plays
-returns-in-Certificate-clause-plays g c = λ s es os call p accepted fine.
+returns-in-Certificate-clause-plays g c = λ s es os call p accepted.
     let is : c.args.body.now ≡ bodies.Certificate c.in-Certificate.cert = search rules in
     let free = free-of s call.node c.args.rec.rec c.in-Certificate.cert accepted (c.requires.body ∙ is) in
-    subst (λ b. IsAt s es os c.take_certificate.new.self (answers true s b (takes s c.args.rec.rec call))) (sym is) (c.take_certificate.ensures.plays s es os call p free fine)
+    subst (λ b. Plays s es os c.take_certificate.new.self (answers true s b (takes s c.args.rec.rec call))) (sym is) (c.take_certificate.ensures.plays s es os call p free)
 
 pub returns-in-Note-clause-plays : goal.returns-in-Note-clause-plays
-returns-in-Note-clause-plays g c = λ s es os call p accepted fine.
+returns-in-Note-clause-plays g c = λ s es os call p accepted.
     let is : c.args.body.now ≡ bodies.Note c.in-Note.note = search rules in
-    subst (λ b. IsAt s es os c.take_note.new.self (answers true s b (takes s c.args.rec.rec call))) (sym is) (c.take_note.ensures.plays s es os call p fine)
+    subst (λ b. Plays s es os c.take_note.new.self (answers true s b (takes s c.args.rec.rec call))) (sym is) (c.take_note.ensures.plays s es os call p)
 
 pub returns-in-Accusation-clause-plays : goal.returns-in-Accusation-clause-plays
 returns-in-Accusation-clause-plays g c = λ s es os call p accepted.
     let is : c.args.body.now ≡ bodies.Accusation c.in-Accusation.acc = search rules in
-    subst (λ (b : Body). Runs (λ works. Plays s es os c.answer.new.self (answers works s b (takes s c.args.rec.rec call))) c.answer.result) (sym is) (c.answer.ensures.plays s es os (takes s c.args.rec.rec call) (c.take_accusation.ensures.plays s es os call p))
+    subst (λ (b : Body). Ran s es os c.answer.new.self (λ works. answers works s b (takes s c.args.rec.rec call)) c.answer.result) (sym is) (c.answer.ensures.plays s es os (takes s c.args.rec.rec call) (c.take_accusation.ensures.plays s es os call p))
+
+pub returns-in-Certificate-clause-spends : goal.returns-in-Certificate-clause-spends
+returns-in-Certificate-clause-spends g c = spends-none c.args.self.now c.take_certificate.new.self _ c.take_certificate.ensures.quiet
+
+pub returns-in-Note-clause-spends : goal.returns-in-Note-clause-spends
+returns-in-Note-clause-spends g c = spends-none c.args.self.now c.take_note.new.self _ c.take_note.ensures.quiet
+
+pub returns-in-Accusation-clause-spends : goal.returns-in-Accusation-clause-spends
+returns-in-Accusation-clause-spends g c = spends-after c.args.self.now c.take_accusation.new.self c.answer.new.self _ _ c.take_accusation.ensures.quiet c.answer.ensures.spends
+
+pub returns-then-acc-self-clause-spends : goal.returns-then-acc-self-clause-spends
+returns-then-acc-self-clause-spends g c = spends-none c.args.self.now _ _ (refused-none (the_view c.self.inside) c.args.self.now _ c.self.view_is refl c.fail.ensures)
+
+pub returns-then-acc-self-clause-plays : goal.returns-then-acc-self-clause-plays
+returns-then-acc-self-clause-plays g c = λ s es os call p accepted.
+    let v : Kept = the_view c.self.inside in
+    let c1 : Call = takes s c.args.rec.rec call in
+    let c2 : Call = answers true s c.args.body.now c1 in
+    plays-refused s es os v _ call c2 c.fail.ensures (subst (λ v. Plays s es os v call) (sym c.self.view_is) p) (extends-trans call c1 c2 (extends-takes s c.args.rec.rec call) (extends-answers s c.args.body.now c1))

@@ -1,4 +1,4 @@
-use Rattle.std.proofs.Common.{rules, ◌≡◌, ℕ, true, false, Option, Some, None, ap, sym, subst, ◌∙◌}
+use Rattle.std.proofs.Common.{rules, refl, ◌≡◌, ℕ, Bool, true, false, Option, Some, None, ap, sym, subst, ◌∙◌}
 use Rattle.std.specs.Option.{option_map}
 use Rattle.ff_ids.specs.declared.RingNo.{RingNo}
 use Rattle.ff_ids.specs.Notes.{newest}
@@ -10,50 +10,54 @@ use Rattle.node_rules.specs.Nodes.{state_of}
 use Rattle.node_rules.specs.Calls.{Call, tells, wants}
 use Rattle.node_rules.specs.Ticking.{has_accused, ring_for as ring_of, accuses, wants_accusation}
 use Rattle.node_core.specs.Neighbours.{addressees}
-use Rattle.node_core.specs.Playing.{Kept, Plays, IsAt}
+use Rattle.node_core.specs.Playing.{Kept, IsNode, Plays}
 use Rattle.node_core.specs.contracts.Node.{the_view}
-use Rattle.node_core.proofs.PlayLemmas.{setting-me}
-use Rattle.node_core.proofs.AccusingLemmas.{accused-same, accuses-kept, accuses-wanted, no-note, ring-of_note, rings-same, body-is, runs-so}
+use Rattle.node_core.proofs.PlayLemmas.{setting-me, grows-refl, grows-trans}
+use Rattle.node_core.proofs.ExtendLemmas.{extends-accuses, extends-wants_accusation}
+use Rattle.node_core.proofs.DueLemmas.{from-fine, runs-from-fine, runs-same, plays-refused, grows-refused}
+use Rattle.node_core.proofs.AccusingLemmas.{accused-same, accuses-kept, accuses-wanted, no-note, ring-of_note, rings-same, body-is, wanted-if}
+use Rattle.node_core.proofs.SpendLemmas.{nothing-same, nothing-trans, refused-none, spends-none, spends-after}
 use Rattle.node_core.proofs.Node.accuse.Goals as goal
 
 pub returns-then-has_accused-clause-plays : goal.returns-then-has_accused-clause-plays
-returns-then-has_accused-clause-plays g c = λ s es os call p fine.
+returns-then-has_accused-clause-plays g c = λ s es os call p.
     let v : Kept = the_view c.self.inside in
-    let is = (subst (λ v. Plays s es os v call) (sym c.self.view_is) p (ap (λ v. v.telling.failed) c.self.view_is ∙ fine)).is in
+    from-fine s es os c.args.self.now c.args.self.now call (accuses true s call c.args.member) p (grows-refl c.args.self.now) (extends-accuses s call c.args.member) (λ h.
+    let is = subst (λ v. IsNode s v call.node) (sym c.self.view_is) h.is in
     let kept : has_accused s (state_of s call.node) c.args.member ≡ true = sym (accused-same s v call.node c.args.member is c.self.invariant.membership_group) ∙ sym (c.has_accused.ensures (state_of s call.node) is.holds) ∙ c.if-has_accused.true in
-    subst (IsAt s es os c.args.self.now) (sym (accuses-kept s call c.args.member kept)) (p fine)
+    subst (Plays s es os c.args.self.now) (sym (accuses-kept s call c.args.member kept)) p)
 
 pub returns-in_default-clause-plays : goal.returns-in_default-clause-plays
-returns-in_default-clause-plays g c = λ s es os call p fine.
+returns-in_default-clause-plays g c = λ s es os call p.
     let v : Kept = the_view c.self.inside in
-    let first = subst (λ v. Plays s es os v call) (sym c.self.view_is) p (ap (λ v. v.telling.failed) c.self.view_is ∙ c.tell.ensures.grows.going fine) in
-    let fails : has_accused s (state_of s call.node) c.args.member ≡ false = sym (accused-same s v call.node c.args.member first.is c.self.invariant.membership_group) ∙ sym (c.has_accused.ensures (state_of s call.node) first.is.holds) ∙ c.if-has_accused.false in
-    let at = c.tell.ensures.plays s es os call p fine in
-    let now = (subst (λ v. Plays s es os v (tells s (told.Silent c.args.member) call)) (sym c.self-2.view_is) (λ f. at) (ap (λ v. v.telling.failed) c.self-2.view_is ∙ fine)).is in
+    let m : ℕ = c.args.member in
+    let c1 : Call = tells s (told.Silent m) call in
+    let at = c.tell.ensures.plays s es os call p in
+    from-fine s es os c.args.self.now c.tell.new.self call (accuses true s call m) p c.tell.ensures.grows (extends-accuses s call m) (λ h.
+    let is = subst (λ v. IsNode s v call.node) (sym c.self.view_is) h.is in
+    let fails : has_accused s (state_of s call.node) m ≡ false = sym (accused-same s v call.node m is c.self.invariant.membership_group) ∙ sym (c.has_accused.ensures (state_of s call.node) is.holds) ∙ c.if-has_accused.false in
+    wanted-if s es os c.tell.new.self call m fails at (λ told_fine.
+    let now = subst (λ v. IsNode s v c1.node) (sym c.self-2.view_is) (at.at told_fine).is in
     let none : c.note_of.result ≡ None = search rules in
-    let noted : newest (state_of s call.node).notes c.args.member ≡ None = sym (c.note_of.ensures.value (state_of s call.node) now.holds) ∙ none in
-    let same : accuses true s call c.args.member ≡ tells s (told.Silent c.args.member) call =
-    accuses-wanted true s call c.args.member fails ∙ ap (λ (o : Option ℕ). wants_accusation true s c.args.member o (tells s (told.Silent c.args.member) call)) (no-note s (state_of s call.node) c.args.member noted) in
-    subst (IsAt s es os c.tell.new.self) (sym same) at
+    no-note s (state_of s call.node) m (sym (c.note_of.ensures.value (state_of s call.node) now.holds) ∙ none)))
 
 pub returns-in_default-ring_for-clause-plays : goal.returns-in_default-ring_for-clause-plays
-returns-in_default-ring_for-clause-plays g c = λ s es os call p fine.
+returns-in_default-ring_for-clause-plays g c = λ s es os call p.
     let v : Kept = the_view c.self.inside in
     let v2 : Kept = the_view c.self-2.inside in
     let m : ℕ = c.args.member in
     let st : State = state_of s call.node in
     let c1 : Call = tells s (told.Silent m) call in
-    let first = subst (λ v. Plays s es os v call) (sym c.self.view_is) p (ap (λ v. v.telling.failed) c.self.view_is ∙ c.tell.ensures.grows.going fine) in
-    let fails : has_accused s st m ≡ false = sym (accused-same s v call.node m first.is c.self.invariant.membership_group) ∙ sym (c.has_accused.ensures st first.is.holds) ∙ c.if-has_accused.false in
-    let at = c.tell.ensures.plays s es os call p fine in
-    let now = (subst (λ v. Plays s es os v c1) (sym c.self-2.view_is) (λ f. at) (ap (λ v. v.telling.failed) c.self-2.view_is ∙ fine)).is in
+    let at = c.tell.ensures.plays s es os call p in
+    from-fine s es os c.args.self.now c.tell.new.self call (accuses true s call m) p c.tell.ensures.grows (extends-accuses s call m) (λ h.
+    let is = subst (λ v. IsNode s v call.node) (sym c.self.view_is) h.is in
+    let fails : has_accused s st m ≡ false = sym (accused-same s v call.node m is c.self.invariant.membership_group) ∙ sym (c.has_accused.ensures st is.holds) ∙ c.if-has_accused.false in
+    wanted-if s es os c.tell.new.self call m fails at (λ told_fine.
+    let now = subst (λ v. IsNode s v c1.node) (sym c.self-2.view_is) (at.at told_fine).is in
     let some : c.note_of.result ≡ Some c.in-Some.note = search rules in
     let none : c.ring_for.result ≡ None = search rules in
     let noted : newest st.notes m ≡ Some c.in-Some.note = sym (c.note_of.ensures.value st now.holds) ∙ some in
-    let ring : ring_of s st m ≡ None =
-    ring-of_note s st m c.in-Some.note noted ∙ sym (rings-same s v2 c1.node m c.in-Some.note now c.self-2.invariant.membership_group) ∙ sym (c.ring_for.ensures.ring st now.holds) ∙ ap (λ (o : Option RingNo). option_map (λ r. r.0) o) none in
-    let same : accuses true s call m ≡ c1 = accuses-wanted true s call m fails ∙ ap (λ (o : Option ℕ). wants_accusation true s m o c1) ring in
-    subst (IsAt s es os c.tell.new.self) (sym same) at
+    ring-of_note s st m c.in-Some.note noted ∙ sym (rings-same s v2 c1.node m c.in-Some.note now c.self-2.invariant.membership_group) ∙ sym (c.ring_for.ensures.ring st now.holds) ∙ ap (λ (o : Option RingNo). option_map (λ r. r.0) o) none))
 
 pub returns-clause-plays : goal.returns-clause-plays
 returns-clause-plays g c = λ s es os call p.
@@ -63,20 +67,53 @@ returns-clause-plays g c = λ s es os call p.
     let st : State = state_of s call.node in
     let c1 : Call = tells s (told.Silent m) call in
     let body : Body = Accusation (record { accuser = c.self-2.inside.me; accused = m; epoch = c.in-Some.note.epoch; ring = c.in-Some-ring_for.ring }) in
-    runs-so (λ works. Plays s es os c.want_accusation.new.self (wants works s body (addressees s (Some m)) c1)) (λ works. Plays s es os c.want_accusation.new.self (accuses works s call m))
-    (λ works q fine.
-    let told_fine = c.want_accusation.ensures.grows.going fine in
-    let first = subst (λ v. Plays s es os v call) (sym c.self.view_is) p (ap (λ v. v.telling.failed) c.self.view_is ∙ c.tell.ensures.grows.going told_fine) in
-    let fails : has_accused s st m ≡ false = sym (accused-same s v call.node m first.is c.self.invariant.membership_group) ∙ sym (c.has_accused.ensures st first.is.holds) ∙ c.if-has_accused.false in
-    let at = c.tell.ensures.plays s es os call p told_fine in
-    let now = (subst (λ v. Plays s es os v c1) (sym c.self-2.view_is) (λ f. at) (ap (λ v. v.telling.failed) c.self-2.view_is ∙ told_fine)).is in
+    let accused : Bool → Call = λ works. accuses works s call m in
+    let at = c.tell.ensures.plays s es os call p in
+    let grows = grows-trans c.args.self.now c.tell.new.self c.want_accusation.new.self c.tell.ensures.grows c.want_accusation.ensures.grows in
+    runs-from-fine s es os c.args.self.now c.want_accusation.new.self call accused c.want_accusation.result p grows (extends-accuses s call m) (λ h.
+    let is = subst (λ v. IsNode s v call.node) (sym c.self.view_is) h.is in
+    let fails : has_accused s st m ≡ false = sym (accused-same s v call.node m is c.self.invariant.membership_group) ∙ sym (c.has_accused.ensures st is.holds) ∙ c.if-has_accused.false in
+    let wanted : Bool → Call = λ works. wants_accusation works s m (ring_of s st m) c1 in
+    runs-same s es os c.want_accusation.new.self wanted accused c.want_accusation.result (λ works. sym (accuses-wanted works s call m fails))
+    (runs-from-fine s es os c.tell.new.self c.want_accusation.new.self c1 wanted c.want_accusation.result at c.want_accusation.ensures.grows (extends-wants_accusation s m (ring_of s st m) c1) (λ h1.
+    let now = subst (λ v. IsNode s v c1.node) (sym c.self-2.view_is) h1.is in
     let some : c.note_of.result ≡ Some c.in-Some.note = search rules in
     let one : c.ring_for.result ≡ Some c.in-Some-ring_for.ring = search rules in
     let noted : newest st.notes m ≡ Some c.in-Some.note = sym (c.note_of.ensures.value st now.holds) ∙ some in
     let ring : ring_of s st m ≡ Some c.in-Some-ring_for.ring.0 =
     ring-of_note s st m c.in-Some.note noted ∙ sym (rings-same s v2 c1.node m c.in-Some.note now c.self-2.invariant.membership_group) ∙ sym (c.ring_for.ensures.ring st now.holds) ∙ ap (λ (o : Option RingNo). option_map (λ r. r.0) o) one in
     let who = setting-me s v2.group v2.me v2.authority v2.signer.key now.setting in
-    let same : accuses works s call m ≡ wants works s body (addressees s (Some m)) c1 =
-    accuses-wanted works s call m fails ∙ ap (λ (o : Option ℕ). wants_accusation works s m o c1) ring ∙ ap (λ (b : Body). wants works s b (addressees s (Some m)) c1) (sym (body-is s st m v2.me c.in-Some.note c.in-Some-ring_for.ring who noted)) in
-    subst (IsAt s es os c.want_accusation.new.self) (sym same) (q fine))
-    c.want_accusation.result (c.want_accusation.ensures.plays s es os c1 (c.tell.ensures.plays s es os call p))
+    runs-same s es os c.want_accusation.new.self (λ works. wants works s body (addressees s (Some m)) c1) wanted c.want_accusation.result
+    (λ works. sym (ap (λ (o : Option ℕ). wants_accusation works s m o c1) ring ∙ ap (λ (b : Body). wants works s b (addressees s (Some m)) c1) (sym (body-is s st m v2.me c.in-Some.note c.in-Some-ring_for.ring who noted))))
+    (c.want_accusation.ensures.plays s es os c1 at))))
+
+pub returns-then-has_accused-clause-spends : goal.returns-then-has_accused-clause-spends
+returns-then-has_accused-clause-spends g c = spends-none c.args.self.now c.args.self.now _ (nothing-same c.args.self.now)
+
+pub returns-in_default-clause-spends : goal.returns-in_default-clause-spends
+returns-in_default-clause-spends g c = spends-none c.args.self.now c.tell.new.self _ c.tell.ensures.quiet
+
+pub returns-in_default-ring_for-clause-spends : goal.returns-in_default-ring_for-clause-spends
+returns-in_default-ring_for-clause-spends g c = spends-none c.args.self.now c.tell.new.self _ c.tell.ensures.quiet
+
+pub returns-clause-spends : goal.returns-clause-spends
+returns-clause-spends g c = spends-after c.args.self.now c.tell.new.self c.want_accusation.new.self _ _ c.tell.ensures.quiet c.want_accusation.ensures.spends
+
+pub returns-then-not-is_member-clause-spends : goal.returns-then-not-is_member-clause-spends
+returns-then-not-is_member-clause-spends g c =
+    spends-none c.args.self.now _ _ (nothing-trans c.args.self.now c.tell.new.self _ c.tell.ensures.quiet (refused-none (the_view c.self-2.inside) c.tell.new.self _ c.self-2.view_is refl c.fail.ensures))
+
+pub returns-then-not-is_member-clause-plays : goal.returns-then-not-is_member-clause-plays
+returns-then-not-is_member-clause-plays g c = λ s es os call p.
+    let v : Kept = the_view c.self.inside in
+    let m : ℕ = c.args.member in
+    let st : State = state_of s call.node in
+    let c1 : Call = tells s (told.Silent m) call in
+    let w : Kept = record (the_view c.self-2.inside) { telling = c.fail.new.self } in
+    let same : w.telling ≡ record c.tell.new.self.telling { failed = true } = c.fail.ensures ∙ ap (λ (v : Kept). record v.telling { failed = true }) c.self-2.view_is in
+    let refusing = grows-refused c.tell.new.self w same (ap (λ (v : Kept). v.ended) c.self-2.view_is) (ap (λ (v : Kept). v.group) c.self-2.view_is) (ap (λ (v : Kept). v.me) c.self-2.view_is) in
+    from-fine s es os c.args.self.now w call (accuses true s call m) p (grows-trans c.args.self.now c.tell.new.self w c.tell.ensures.grows refusing) (extends-accuses s call m) (λ h.
+    let is = subst (λ v. IsNode s v call.node) (sym c.self.view_is) h.is in
+    let fails : has_accused s st m ≡ false = sym (accused-same s v call.node m is c.self.invariant.membership_group) ∙ sym (c.has_accused.ensures st is.holds) ∙ c.if-has_accused.false in
+    subst (Plays s es os w) (sym (accuses-wanted true s call m fails))
+    (plays-refused s es os c.tell.new.self w c1 (wants_accusation true s m (ring_of s st m) c1) same (c.tell.ensures.plays s es os call p) (extends-wants_accusation s m (ring_of s st m) c1)))

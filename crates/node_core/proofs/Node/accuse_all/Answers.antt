@@ -1,17 +1,19 @@
 use Rattle.std.proofs.Common.{◌≡◌, ℕ, List, [], ◌∷◌, ◌++◌, length, subst, sym, ap, ◌∙◌, refl, append_assoc, true, false}
 use Rattle.node_rules.specs.Calls.{Call}
 use Rattle.node_rules.specs.Ticking.{accuses, accuses_all}
-use Rattle.node_core.specs.Playing.{Plays, IsAt}
+use Rattle.node_core.specs.Playing.{Plays, Stops, Extends}
 use Rattle.node_core.proofs.PlayLemmas.{grows-refl, grows-trans}
 use Rattle.node_core.proofs.HandleLemmas.{fold-push, no_items}
-use Rattle.node_core.proofs.AccusingLemmas.{IsFoundBehind, found-behind, err-accusing}
+use Rattle.node_core.proofs.AccusingLemmas.{IsFoundBehind, found-behind, accuses-further, err-accusing}
+use Rattle.node_core.proofs.DueLemmas.{behind-extends}
 use Rattle.node_core.proofs.TellingLemmas.{nil-right}
+use Rattle.node_core.proofs.SpendLemmas.{nothing-same, spends-none, spends-trans}
 use Rattle.node_core.proofs.Node.accuse_all.Goals as goal
 
 pub loop-member-init : goal.loop-member-init
 loop-member-init g c =
     let same : c.into_iter-member-iterator.result.rest.items ≡ c.args.silent.items = c.into_iter-member-iterator.ensures.into_iter_gives.0 in
-    (record { done = []; split = sym same; plays = λ s es os call p. p; grows = grows-refl c.args.self.now }, refl)
+    (record { done = []; split = sym same; plays = λ s es os call p. p; grows = grows-refl c.args.self.now; spends = spends-none c.args.self.now c.args.self.now _ (nothing-same c.args.self.now) }, refl)
 
 pub loop-member-preserved : goal.loop-member-preserved
 loop-member-preserved g c =
@@ -23,6 +25,7 @@ loop-member-preserved g c =
         split = h.split ∙ ap (λ (xs : List ℕ). h.done ++ xs) next ∙ sym (append_assoc h.done (r ∷ []) c.next.new.self.rest.items);
         plays = λ s es os call p. subst (λ (x : Call). Plays s es os c.accuse.new.self x) (sym (fold-push (accuses true s) call h.done r)) (c.in_ok-accuse.ensures.plays s es os (accuses_all s h.done call) (h.plays s es os call p));
         grows = grows-trans c.args.self.now c.loop-member.self c.accuse.new.self h.grows c.accuse.ensures.grows;
+        spends = spends-trans c.args.self.now c.loop-member.self c.accuse.new.self _ _ _ h.spends c.accuse.ensures.grows c.accuse.ensures.spends;
       },
       c.in_ok-accuse.ensures.faults ∙ c.loop-member.invariant.1,
     )
@@ -34,18 +37,32 @@ pub returns-in_err-accuse-clause-plays : goal.returns-in_err-accuse-clause-plays
 returns-in_err-accuse-clause-plays g c = λ s es os call p.
     let h = c.loop-member.invariant.0 in
     let r : ℕ = c.in-Some.member in
-    let P : Call → Type 0 = λ x. Plays s es os c.accuse.new.self x in
+    let P : Call → Type 0 = Plays s es os c.accuse.new.self in
+    let Q : Call → Call → Type 0 = Stops s es os c.accuse.new.self in
     let next : c.loop-member.member-iterator.rest.items ≡ r ∷ c.next.new.self.rest.items = c.in-Some.ensures.steps.0 in
     let whole : c.args.silent.items ≡ h.done ++ r ∷ c.next.new.self.rest.items = h.split ∙ ap (λ (xs : List ℕ). h.done ++ xs) next in
     let at = subst (λ (xs : List ℕ). IsFoundBehind xs h.done r) (sym whole) (found-behind h.done c.next.new.self.rest.items r) in
     let ran = c.in_err-accuse.ensures.plays s es os (accuses_all s h.done call) (h.plays s es os call p) in
-    let front = subst (λ (xs : List ℕ). P (accuses false s (accuses_all s xs call) r)) (sym at.front) ran in
-    err-accusing P s c.args.silent.items call c.from_residual.result c.from_residual.ensures.0 (length h.done, r, (at.found, front))
+    let further = subst (λ (xs : List ℕ). Extends (accuses true s (accuses_all s h.done call) r) (accuses_all s xs call)) (sym whole) (accuses-further s call h.done c.next.new.self.rest.items r) in
+    let stopped : Q (accuses_all s c.args.silent.items call) (accuses false s (accuses_all s h.done call) r) = record {
+      at = ran.at;
+      ended = ran.ended;
+      due = λ failed. behind-extends es os c.accuse.new.self (accuses true s (accuses_all s h.done call) r) (accuses_all s c.args.silent.items call) (ran.due failed) further;
+    } in
+    let front = subst (λ (xs : List ℕ). Q (accuses_all s c.args.silent.items call) (accuses false s (accuses_all s xs call) r)) (sym at.front) stopped in
+    err-accusing P Q s c.args.silent.items call c.from_residual.result c.from_residual.ensures.0 (length h.done, r, (at.found, front))
 
 pub returns-clause-plays : goal.returns-clause-plays
-returns-clause-plays g c = λ s es os call p fine.
+returns-clause-plays g c = λ s es os call p.
     let h = c.loop-member.invariant.0 in
     let long : length c.loop-member.member-iterator.rest.items ≡ 0 = sym c.loop-member.member-iterator.rest.ok.0 ∙ c.in-None.ensures.steps.0 in
     let none : c.loop-member.member-iterator.rest.items ≡ [] = no_items c.loop-member.member-iterator.rest.items long in
     let whole : c.args.silent.items ≡ h.done = h.split ∙ ap (λ (xs : List ℕ). h.done ++ xs) none ∙ nil-right h.done in
-    subst (λ (xs : List ℕ). IsAt s es os c.loop-member.self (accuses_all s xs call)) (sym whole) (h.plays s es os call p fine)
+    subst (λ (xs : List ℕ). Plays s es os c.loop-member.self (accuses_all s xs call)) (sym whole) (h.plays s es os call p)
+
+pub returns-in_err-accuse-clause-spends : goal.returns-in_err-accuse-clause-spends
+returns-in_err-accuse-clause-spends g c =
+    spends-trans c.args.self.now c.loop-member.self c.accuse.new.self _ _ _ c.loop-member.invariant.0.spends c.accuse.ensures.grows c.accuse.ensures.spends
+
+pub returns-clause-spends : goal.returns-clause-spends
+returns-clause-spends g c = c.loop-member.invariant.0.spends

@@ -1,34 +1,55 @@
-use Rattle.std.proofs.Common.{◌≡◌, ◌≢◌, ℕ, true, cond, None, subst, sym, ap, ◌∙◌}
+use Rattle.std.proofs.Common.{◌≡◌, ◌≢◌, ℕ, Bool, true, cond, None, subst, sym}
 use Rattle.records.specs.declared.Body.TheVariants as bodies
 use Rattle.node_rules.specs.Nodes.{neighbours}
-use Rattle.node_rules.specs.Calls.{wants}
+use Rattle.node_rules.specs.Calls.{Call, wants}
 use Rattle.node_rules.specs.Deliveries.{answer_to, answers}
-use Rattle.node_core.specs.Playing.{Kept, Plays, IsAt}
+use Rattle.node_core.specs.Playing.{Kept, IsNode, Plays}
 use Rattle.node_core.specs.Signatures.{next_own}
 use Rattle.node_core.specs.Neighbours.{addressees}
 use Rattle.node_core.specs.contracts.Node.{the_view}
-use Rattle.node_core.proofs.HandleLemmas.{runs-map, not-against, answered-at}
+use Rattle.node_core.proofs.HandleLemmas.{not-against, answers-is}
+use Rattle.node_core.proofs.PlayLemmas.{grows-refl}
+use Rattle.node_core.proofs.ExtendLemmas.{extends-answers}
+use Rattle.node_core.proofs.DueLemmas.{from-fine, runs-from-fine, runs-same, plays-refused}
 use Rattle.std.proofs.Common.{◌<◌, ◌↔◌, arith}
 use Rattle.std.proofs.lemmas.Bool.Decides.{nat_tests}
 use Rattle.epoch_store.specs.declared.Stored.{Stored}
 use Rattle.ff_ids.specs.Masks.{ring_count, enables}
 use Rattle.rebuttal.specs.Rebuttals.{IsEnabledByAnswer}
+use Rattle.std.proofs.Common.{refl}
+use Rattle.node_core.proofs.SpendLemmas.{nothing-same, refused-none, spends-none}
+use Rattle.records.specs.declared.Body.{Body}
 use Rattle.node_core.proofs.Node.answer.Goals as goal
 
 pub returns-then-ne-clause-plays : goal.returns-then-ne-clause-plays
-returns-then-ne-clause-plays g c = λ s es os call p fine.
+returns-then-ne-clause-plays g c = λ s es os call p.
     let v : Kept = the_view c.self.inside in
-    let p0 = subst (λ v. Plays s es os v call) (sym c.self.view_is) p in
-    let n = (p0 (ap (λ v. v.telling.failed) c.self.view_is ∙ fine)).is in
-    let apart : c.args.acc.now.accused ≢ c.self.inside.me = λ e. absurd (grind (arith, nat_tests, c.ne.ensures, c.if-ne.true, e)) in
-    subst (λ b. IsAt s es os c.args.self.now (cond b (wants true s (answer_to s call.node.stored c.args.acc.now) (neighbours s) call) call)) (sym (not-against s v call.node c.args.acc.now n apart)) (p fine)
+    let a = c.args.acc.now in
+    from-fine s es os c.args.self.now c.args.self.now call (answers true s (bodies.Accusation a) call) p (grows-refl c.args.self.now) (extends-answers s (bodies.Accusation a) call) (λ h.
+    let n = subst (λ v. IsNode s v call.node) (sym c.self.view_is) h.is in
+    let apart : a.accused ≢ c.self.inside.me = λ e. absurd (grind (arith, nat_tests, c.ne.ensures, c.if-ne.true, e)) in
+    subst (λ b. Plays s es os c.args.self.now (cond b (wants true s (answer_to s call.node.stored a) (neighbours s) call) call)) (sym (not-against s v call.node a n apart)) p)
 
 pub returns-clause-plays : goal.returns-clause-plays
 returns-clause-plays g c = λ s es os call p.
     let v : Kept = the_view c.self.inside in
-    let p0 = subst (λ v. Plays s es os v call) (sym c.self.view_is) p in
     let who : c.args.acc.now.accused ≡ c.self.inside.me = grind (arith, nat_tests, c.ne.ensures, c.if-ne.false) in
     let exact = subst (λ (x : Stored). (r : ℕ) → r < ring_count c.self.inside.group.t → (enables c.answer_mask.result.0 r ≡ true) ↔ IsEnabledByAnswer c.self.inside.group.t x.mask.0 c.args.acc.now.ring.0 r) c.state.ensures c.answer_mask.ensures.exact in
-    runs-map (λ works. Plays s es os c.want_note.new.self (wants works s (next_own s call.node c.answer_mask.result) (addressees s None) call)) (λ works. Plays s es os c.want_note.new.self (answers works s (bodies.Accusation c.args.acc.now) call)) c.want_note.result
-    (λ works q. answered-at s es os v c.want_note.new.self call c.args.acc.now c.answer_mask.result works p0 (λ f. ap (λ v. v.telling.failed) c.self.view_is ∙ c.want_note.ensures.grows.going f) who c.answer_mask.ensures.good exact q)
-    (c.want_note.ensures.plays s es os call p)
+    let a = c.args.acc.now in
+    let answered : Bool → Call = λ works. answers works s (bodies.Accusation a) call in
+    runs-from-fine s es os c.args.self.now c.want_note.new.self call answered c.want_note.result p c.want_note.ensures.grows (extends-answers s (bodies.Accusation a) call) (λ h.
+    let n = subst (λ v. IsNode s v call.node) (sym c.self.view_is) h.is in
+    runs-same s es os c.want_note.new.self (λ works. wants works s (next_own s call.node c.answer_mask.result) (addressees s None) call) answered c.want_note.result
+    (λ works. answers-is s v call a c.answer_mask.result works n who c.answer_mask.ensures.good exact) (c.want_note.ensures.plays s es os call p))
+
+pub returns-then-ne-clause-spends : goal.returns-then-ne-clause-spends
+returns-then-ne-clause-spends g c = spends-none c.args.self.now c.args.self.now _ (nothing-same c.args.self.now)
+
+pub returns-then-not-enables-clause-spends : goal.returns-then-not-enables-clause-spends
+returns-then-not-enables-clause-spends g c = spends-none c.args.self.now _ _ (refused-none (the_view c.self.inside) c.args.self.now _ c.self.view_is refl c.fail.ensures)
+
+pub returns-then-not-enables-clause-plays : goal.returns-then-not-enables-clause-plays
+returns-then-not-enables-clause-plays g c = λ s es os call p.
+    let v : Kept = the_view c.self.inside in
+    let b : Body = bodies.Accusation c.args.acc.now in
+    plays-refused s es os v _ call (answers true s b call) c.fail.ensures (subst (λ v. Plays s es os v call) (sym c.self.view_is) p) (extends-answers s b call)

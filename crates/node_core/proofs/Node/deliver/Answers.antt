@@ -4,9 +4,13 @@ use Rattle.node_rules.specs.Calls.{begun}
 use Rattle.node_core.specs.Told.{Tellings}
 use Rattle.node_core.specs.Playing.{Kept, IsNode, Plays}
 use Rattle.node_core.specs.Answers.{Lent, Stands}
+use Rattle.std.proofs.Common.{refl, Err}
+use Rattle.node_core.specs.declared.NodeFault.TheVariants as faults
 use Rattle.node_core.specs.contracts.Node.{the_view}
 use Rattle.node_core.proofs.TellingLemmas.{nil-right}
-use Rattle.node_core.proofs.DeliverLemmas.{delivers-by}
+use Rattle.node_core.proofs.DeliverLemmas.{calm-by, delivers-by}
+use Rattle.node_core.proofs.SpendLemmas.{call-spends, idle-spends}
+use Rattle.node_core.proofs.DueLemmas.{plays-at}
 use Rattle.node_core.proofs.Node.deliver.Goals as goal
 
 pub returns-clause-step : goal.returns-clause-step
@@ -16,12 +20,12 @@ returns-clause-step g c = λ s n is0 going.
     let os : List (ℕ × List ℕ) = c.args.out.now in
     let is = subst (λ v. IsNode s v n) (sym c.self.view_is) is0 in
     let over : c.over.result ≡ record { events = es; sent = os; before = length os; failed = false } = c.over.ensures in
-    let p : Plays s es os (record v { telling = c.over.result }) (begun n) = λ fine. record {
+    let p : Plays s es os (record v { telling = c.over.result }) (begun n) = plays-at s es os (record v { telling = c.over.result }) (begun n) (record {
       is = record { setting = is.setting; holds = is.holds; stored = is.stored; records = is.records; roster = is.roster; probes = is.probes };
       told = ap (λ (t : Tellings). t.events) over ∙ sym (nil-right es);
       sent = ap (λ (t : Tellings). t.sent) over ∙ sym (nil-right os);
       before = ap (λ (t : Tellings). t.before) over;
-    } in
+    }) in
     let ran = c.hear_bytes-heard.ensures.plays s es os (begun n) p in
     let grows = c.hear_bytes-heard.ensures.grows in
     let old : Lent = record { events = es; sent = os } in
@@ -31,3 +35,16 @@ returns-clause-step g c = λ s n is0 going.
       sent = record { more = grows.sent.more; is = c.finish.ensures.sent ∙ grows.sent.is ∙ ap (λ (t : Tellings). t.sent ++ grows.sent.more) over };
     } in
     delivers-by s n c.args.bytes.now c.hear_bytes-heard.new.self c.finish.new.self old new c.hear_bytes-heard.result c.finish.result ran c.hear_bytes-heard.ensures.cause c.finish.ensures.failed c.finish.ensures.going c.finish.ensures.frame c.finish.ensures.events c.finish.ensures.sent stands
+
+pub returns-clause-spends : goal.returns-clause-spends
+returns-clause-spends g c =
+    let v0 : Kept = record (the_view c.self.inside) { telling = c.over.result } in
+    let from = ap (λ (t : Tellings). t.events) c.over.ensures in
+    let h = c.hear_bytes-heard.ensures in
+    call-spends c.args.self.now v0 c.hear_bytes-heard.new.self c.finish.new.self _ _ c.hear_bytes-heard.result c.finish.result c.args.events.now c.finish.new.events (ap (λ (w : Kept). w.signer) c.self.view_is) from h.spends h.grows h.cause c.finish.ensures.failed c.finish.ensures.going c.finish.ensures.frame c.finish.ensures.events
+
+pub returns-then-self-clause-spends : goal.returns-then-self-clause-spends
+returns-then-self-clause-spends g c = idle-spends (Err faults.Ended) c.args.self.now.signer c.args.self.now.signer _ _ c.args.events.now c.args.events.now refl refl refl refl
+
+pub returns-clause-calm : goal.returns-clause-calm
+returns-clause-calm g c = calm-by c.hear_bytes-heard.result c.finish.result c.hear_bytes-heard.new.self.telling.failed _ _ c.hear_bytes-heard.ensures.faults c.finish.ensures.failed c.finish.ensures.going

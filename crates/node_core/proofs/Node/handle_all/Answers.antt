@@ -3,16 +3,18 @@ use Rattle.records.specs.declared.Record.{Record}
 use Rattle.records.specs.Spelling.{HasPort}
 use Rattle.node_rules.specs.Calls.{Call}
 use Rattle.node_rules.specs.Deliveries.{handles, handles_all}
-use Rattle.node_core.specs.Playing.{Plays, IsAt}
+use Rattle.node_core.specs.Playing.{Plays, Stops, Extends}
 use Rattle.node_core.proofs.PlayLemmas.{grows-refl, grows-trans}
-use Rattle.node_core.proofs.HandleLemmas.{fold-push, IsFound, found-at, all-tail, err-runs, no_items}
+use Rattle.node_core.proofs.HandleLemmas.{fold-push, IsFound, found-at, all-tail, err-runs, handles-further, no_items}
+use Rattle.node_core.proofs.DueLemmas.{behind-extends}
 use Rattle.node_core.proofs.TellingLemmas.{nil-right}
+use Rattle.node_core.proofs.SpendLemmas.{nothing-same, spends-none, spends-trans}
 use Rattle.node_core.proofs.Node.handle_all.Goals as goal
 
 pub loop-rec-init : goal.loop-rec-init
 loop-rec-init g c =
     let same : c.into_iter-rec-iterator.result.rest.items ≡ c.args.records.items = c.into_iter-rec-iterator.ensures.into_iter_gives.0 in
-    (record { done = []; split = sym same; plays = λ s es os call p. p; grows = grows-refl c.args.self.now }, refl, subst (λ (xs : List Record). All (λ r. HasPort r.body) xs) (sym same) c.requires)
+    (record { done = []; split = sym same; plays = λ s es os call p. p; grows = grows-refl c.args.self.now; spends = spends-none c.args.self.now c.args.self.now _ (nothing-same c.args.self.now) }, refl, subst (λ (xs : List Record). All (λ r. HasPort r.body) xs) (sym same) c.requires)
 
 pub loop-rec-preserved : goal.loop-rec-preserved
 loop-rec-preserved g c =
@@ -24,6 +26,7 @@ loop-rec-preserved g c =
         split = h.split ∙ ap (λ (xs : List Record). h.done ++ xs) next ∙ sym (append_assoc h.done (r ∷ []) c.next.new.self.rest.items);
         plays = λ s es os call p. subst (λ (x : Call). Plays s es os c.handle.new.self x) (sym (fold-push (handles true s) call h.done r)) (c.in_ok-handle.ensures.plays s es os (handles_all s h.done call) (h.plays s es os call p));
         grows = grows-trans c.args.self.now c.loop-rec.self c.handle.new.self h.grows c.handle.ensures.grows;
+        spends = spends-trans c.args.self.now c.loop-rec.self c.handle.new.self _ _ _ h.spends c.handle.ensures.grows c.handle.ensures.spends;
       },
       c.in_ok-handle.ensures.faults ∙ c.loop-rec.invariant.1,
       all-tail (λ (x : Record). HasPort x.body) r c.next.new.self.rest.items (subst (λ (xs : List Record). All (λ x. HasPort x.body) xs) next c.loop-rec.invariant.2),
@@ -36,18 +39,32 @@ pub returns-in_err-handle-clause-plays : goal.returns-in_err-handle-clause-plays
 returns-in_err-handle-clause-plays g c = λ s es os call p.
     let h = c.loop-rec.invariant.0 in
     let r : Record = c.in-Some.rec in
-    let P : Call → Type 0 = λ x. Plays s es os c.handle.new.self x in
+    let P : Call → Type 0 = Plays s es os c.handle.new.self in
+    let Q : Call → Call → Type 0 = Stops s es os c.handle.new.self in
     let next : c.loop-rec.rec-iterator.rest.items ≡ r ∷ c.next.new.self.rest.items = c.in-Some.ensures.steps.0 in
     let whole : c.args.records.items ≡ h.done ++ r ∷ c.next.new.self.rest.items = h.split ∙ ap (λ (xs : List Record). h.done ++ xs) next in
     let at = subst (λ (xs : List Record). IsFound xs h.done r) (sym whole) (found-at h.done c.next.new.self.rest.items r) in
     let ran = c.in_err-handle.ensures.plays s es os (handles_all s h.done call) (h.plays s es os call p) in
-    let front = subst (λ (xs : List Record). P (handles false s (handles_all s xs call) r)) (sym at.front) ran in
-    err-runs P s c.args.records.items call c.from_residual.result c.from_residual.ensures.0 (length h.done, r, (at.found, front))
+    let further = subst (λ (xs : List Record). Extends (handles true s (handles_all s h.done call) r) (handles_all s xs call)) (sym whole) (handles-further s call h.done c.next.new.self.rest.items r) in
+    let stopped : Q (handles_all s c.args.records.items call) (handles false s (handles_all s h.done call) r) = record {
+      at = ran.at;
+      ended = ran.ended;
+      due = λ failed. behind-extends es os c.handle.new.self (handles true s (handles_all s h.done call) r) (handles_all s c.args.records.items call) (ran.due failed) further;
+    } in
+    let front = subst (λ (xs : List Record). Q (handles_all s c.args.records.items call) (handles false s (handles_all s xs call) r)) (sym at.front) stopped in
+    err-runs P Q s c.args.records.items call c.from_residual.result c.from_residual.ensures.0 (length h.done, r, (at.found, front))
 
 pub returns-clause-plays : goal.returns-clause-plays
-returns-clause-plays g c = λ s es os call p fine.
+returns-clause-plays g c = λ s es os call p.
     let h = c.loop-rec.invariant.0 in
     let long : length c.loop-rec.rec-iterator.rest.items ≡ 0 = sym c.loop-rec.rec-iterator.rest.ok.0 ∙ c.in-None.ensures.steps.0 in
     let none : c.loop-rec.rec-iterator.rest.items ≡ [] = no_items c.loop-rec.rec-iterator.rest.items long in
     let whole : c.args.records.items ≡ h.done = h.split ∙ ap (λ (xs : List Record). h.done ++ xs) none ∙ nil-right h.done in
-    subst (λ (xs : List Record). IsAt s es os c.loop-rec.self (handles_all s xs call)) (sym whole) (h.plays s es os call p fine)
+    subst (λ (xs : List Record). Plays s es os c.loop-rec.self (handles_all s xs call)) (sym whole) (h.plays s es os call p)
+
+pub returns-in_err-handle-clause-spends : goal.returns-in_err-handle-clause-spends
+returns-in_err-handle-clause-spends g c =
+    spends-trans c.args.self.now c.loop-rec.self c.handle.new.self _ _ _ c.loop-rec.invariant.0.spends c.handle.ensures.grows c.handle.ensures.spends
+
+pub returns-clause-spends : goal.returns-clause-spends
+returns-clause-spends g c = c.loop-rec.invariant.0.spends

@@ -1,12 +1,16 @@
-use Rattle.node_core.specs.Playing.{Plays}
+use Rattle.node_core.specs.Playing.{Plays, Stops}
 use Rattle.node_core.proofs.HandleLemmas.{fault-heard, heard-by}
 use Rattle.datagram.specs.Grammar.{read_of}
+use Rattle.node_core.proofs.SpendLemmas.{spends-none}
 use Rattle.node_core.proofs.Node.hear_bytes.Goals as goal
 
 pub returns-in-Err-clause-plays : goal.returns-in-Err-clause-plays
 returns-in-Err-clause-plays g c = λ s es os call p.
-    fault-heard s es os c.hear_fault.new.self (read_of c.args.bytes.now) c.in-Err.fault call c.in-Err.ensures.exact c.hear_fault.ensures.memory (λ place is. c.hear_fault.ensures.plays s es os call place p is)
+    fault-heard s es os c.args.self.now c.hear_fault.new.self (read_of c.args.bytes.now) c.in-Err.fault call c.in-Err.ensures.exact p c.hear_fault.ensures.memory (λ place is. c.hear_fault.ensures.plays s es os call place p is)
 
 pub returns-in-Ok-clause-plays : goal.returns-in-Ok-clause-plays
 returns-in-Ok-clause-plays g c = λ s es os call p.
-    heard-by (λ x. Plays s es os c.hear.new.self x) s (read_of c.args.bytes.now) c.in-Ok.datagram call c.hear.result c.in-Ok.ensures.exact (c.hear.ensures.plays s es os call p)
+    heard-by (Plays s es os c.hear.new.self) (Stops s es os c.hear.new.self) s (read_of c.args.bytes.now) c.in-Ok.datagram call c.hear.result c.in-Ok.ensures.exact (c.hear.ensures.plays s es os call p)
+
+pub returns-in-Err-clause-spends : goal.returns-in-Err-clause-spends
+returns-in-Err-clause-spends g c = spends-none c.args.self.now c.hear_fault.new.self _ c.hear_fault.ensures.quiet

@@ -3,12 +3,22 @@ use Rattle.node_core.specs.Playing.{Plays}
 use Rattle.node_core.specs.contracts.Node.{the_view}
 use Rattle.node_core.specs.Told.{Adds, with_report}
 use Rattle.ff_ids.specs.Steps.{Notes}
-use Rattle.node_core.proofs.PlayLemmas.{lives-at, note-steps}
+use Rattle.node_core.proofs.PlayLemmas.{lives-plays, note-steps}
+use Rattle.std.proofs.Common.{ap, ◌∙◌}
+use Rattle.node_core.specs.Playing.{Kept}
+use Rattle.node_core.specs.Spending.{spent_told}
+use Rattle.node_core.proofs.SpendLemmas.{changes-none}
 use Rattle.node_core.proofs.Node.live_note.Goals as goal
 
 pub returns-clause-plays : goal.returns-clause-plays
-returns-clause-plays c = λ s es os call p fine.
+returns-clause-plays c = λ s es os call p.
     let steps = note-steps c.self.inside.group c.self.inside.membership c.put_note-fault.new.self c.put_note-fault.new.out c.args.note c.put_note-fault.result c.self.invariant.membership_group
     c.put_note-fault.ensures.fault c.put_note-fault.ensures.step c.put_note-fault.ensures.changes c.put_note-fault.ensures.same c.put_note-fault.ensures.emptied in
-    lives-at s es os (the_view c.self.inside) call (Notes c.args.note) c.put_note-fault.new.self c.report.new.records c.report.new.telling c.put_note-fault.new.out
-    (subst (λ v. Plays s es os v call) (sym c.self.view_is) p) steps c.report.ensures.records (subst (λ m. Adds (with_report m c.put_note-fault.new.out) c.self.inside.telling c.report.new.telling) c.now.ensures.moment c.report.ensures.told) fine
+    lives-plays s es os (the_view c.self.inside) call (Notes c.args.note) c.put_note-fault.new.self c.report.new.records c.report.new.telling c.put_note-fault.new.out
+    (subst (λ v. Plays s es os v call) (sym c.self.view_is) p) steps c.report.ensures.records (subst (λ m. Adds (with_report m c.put_note-fault.new.out) c.self.inside.telling c.report.new.telling) c.now.ensures.moment c.report.ensures.told)
+
+pub returns-clause-quiet : goal.returns-clause-quiet
+returns-clause-quiet c = record {
+  signer = ap (λ (v : Kept). v.signer) c.self.view_is;
+  told_none = changes-none c.now.result c.put_note-fault.new.out c.self.inside.telling c.report.new.telling c.report.ensures.told ∙ ap (λ (v : Kept). spent_told v.telling.events) c.self.view_is;
+}

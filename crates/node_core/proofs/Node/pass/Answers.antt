@@ -7,18 +7,30 @@ use Rattle.detector.specs.Silence.{silent as silent_of, pings as pings_of}
 use Rattle.node_core.specs.Playing.{Kept, IsAt, Plays}
 use Rattle.node_core.specs.contracts.Node.{the_view}
 use Rattle.node_core.specs.Ticks.{seen}
-use Rattle.node_core.proofs.TickLemmas.{passed-is, ticked-idle, due-same, round-same, watched-same, seen-at, runs-due}
+use Rattle.node_core.proofs.TickLemmas.{passed-is, ticked-idle, due-same, round-same, watched-same, seen-at, runs-due, tick-refused}
+use Rattle.std.proofs.lemmas.Bool.{false≢true}
+use Rattle.std.proofs.Common.{refl}
+use Rattle.node_core.specs.Told.{Tellings}
+use Rattle.node_core.proofs.HearLemmas.{grows-probed}
+use Rattle.node_core.specs.Spending.{SignsNothing, spent_told}
+use Rattle.node_core.proofs.SpendLemmas.{spends-none, spends-after}
 use Rattle.node_core.proofs.Node.pass.Goals as goal
 
 pub returns-then-not-is_due-clause-plays : goal.returns-then-not-is_due-clause-plays
-returns-then-not-is_due-clause-plays g c = λ s es os n p fine.
+returns-then-not-is_due-clause-plays g c = λ s es os n p.
     let v : Kept = the_view c.self.inside in
+    let v2 : Kept = record v { detector = c.tick.new.self } in
     let c1 : Call = passed s n in
     let lived : Plays s es os c.live_tick.new.self c1 = subst (λ x. Plays s es os c.live_tick.new.self x) (sym (passed-is s n)) (c.live_tick.ensures.plays s es os (begun n) p) in
-    let at = subst (λ v. Plays s es os v c1) (sym c.self.view_is) lived fine in
-    let same = due-same s v c1.node c.now-now.result c.from-period.result at.is c.now-now.ensures.moment c.from-period.ensures in
-    let idle : is_due s (state_of s c1.node) ≡ false = sym same ∙ search rules in
-    subst (IsAt s es os (record v { detector = c.tick.new.self })) (sym (ticked-idle s n idle)) (seen-at s es os v c1 c.tick.new.self (eqb (c.now-now.result % c.from-period.result) 0) at c.self.invariant.detector_group same c.tick.ensures.holds)
+    let at : Plays s es os v c1 = subst (λ v. Plays s es os v c1) (sym c.self.view_is) lived in
+    record {
+      at = λ fine.
+          let h = at.at fine in
+          let same = due-same s v c1.node c.now-now.result c.from-period.result h.is c.now-now.ensures.moment c.from-period.ensures in
+          let idle : is_due s (state_of s c1.node) ≡ false = sym same ∙ search rules in
+          subst (IsAt s es os v2) (sym (ticked-idle s n idle)) (seen-at s es os v c1 c.tick.new.self (eqb (c.now-now.result % c.from-period.result) 0) h c.self.invariant.detector_group same c.tick.ensures.holds);
+      due = tick-refused s es os n v v2 refl refl at;
+    }
 
 pub returns-in-Ok-clause-plays : goal.returns-in-Ok-clause-plays
 returns-in-Ok-clause-plays g c = λ s es os n p.
@@ -28,16 +40,55 @@ returns-in-Ok-clause-plays g c = λ s es os n p.
     let b : Bool = eqb (c.now-now.result % c.from-period.result) 0 in
     let lived : Plays s es os c.live_tick.new.self c1 = subst (λ x. Plays s es os c.live_tick.new.self x) (sym (passed-is s n)) (c.live_tick.ensures.plays s es os (begun n) p) in
     let at : Plays s es os v c1 = subst (λ v. Plays s es os v c1) (sym c.self.view_is) lived in
-    let same : v.telling.failed ≡ false → b ≡ is_due s (state_of s c1.node) = λ fine. due-same s v c1.node c.now-now.result c.from-period.result (at fine).is c.now-now.ensures.moment c.from-period.ensures in
+    let same : IsAt s es os v c1 → b ≡ is_due s (state_of s c1.node) = λ h. due-same s v c1.node c.now-now.result c.from-period.result h.is c.now-now.ensures.moment c.from-period.ensures in
     let is : b ≡ true = search rules in
-    let saw : Plays s es os v2 (seen s c1) = λ fine. seen-at s es os v c1 c.tick.new.self b (at fine) c.self.invariant.detector_group (same fine) c.tick.ensures.holds in
-    runs-due s es os n c.pass_due.new.self c.in-Ok.due.silent.items c.in-Ok.due.pings.items c.saturating_sub.result c.pass_due.result (c.pass_due.ensures.plays s es os (seen s c1) saw) (λ fine.
-    let before : v.telling.failed ≡ false = c.pass_due.ensures.grows.going fine in
-    let n1 = (at before).is in
+    let saw : Plays s es os v2 (seen s c1) = record {
+      at = λ fine. seen-at s es os v c1 c.tick.new.self b (at.at fine) c.self.invariant.detector_group (same (at.at fine)) c.tick.ensures.holds;
+      due = record { told = at.due.told; sent = at.due.sent };
+    } in
+    runs-due s es os n v c.pass_due.new.self c.in-Ok.due.silent.items c.in-Ok.due.pings.items c.saturating_sub.result c.pass_due.result (c.pass_due.ensures.plays s es os (seen s c1) saw) (grows-probed v c.pass_due.new.self c.tick.new.self c.pass_due.ensures.grows) at (λ h.
+    let n1 = h.is in
     let watching = watched-same s v c1.node n1 c.self.invariant.detector_group in
     record {
-      due = sym (same before) ∙ is;
+      due = sym (same h) ∙ is;
       silent_is = c.in-Ok.ensures.silent ∙ c.tick.ensures.silent c1.node.probes (state_of s c1.node) n1.probes n1.holds ∙ ap (λ ws. silent_of c1.node.probes ws) watching;
       pings_is = c.in-Ok.ensures.pings ∙ c.tick.ensures.pings c1.node.probes (state_of s c1.node) n1.probes n1.holds ∙ ap (λ ws. pings_of c1.node.probes b ws) watching ∙ ap (λ (x : Bool). pings_of c1.node.probes x (watched_by s (state_of s c1.node))) is;
       round_is = search rules ∙ round-same s v c1.node c.now-now.result c.from-period.result n1 c.now-now.ensures.moment c.from-period.ensures;
+    })
+
+pub returns-in-Err-clause-plays : goal.returns-in-Err-clause-plays
+returns-in-Err-clause-plays g c = λ s es os n p.
+    let v : Kept = the_view c.self.inside in
+    let c1 : Call = passed s n in
+    let lived : Plays s es os c.live_tick.new.self c1 = subst (λ x. Plays s es os c.live_tick.new.self x) (sym (passed-is s n)) (c.live_tick.ensures.plays s es os (begun n) p) in
+    let at : Plays s es os v c1 = subst (λ v. Plays s es os v c1) (sym c.self.view_is) lived in
+    record {
+      at = λ fine. absurd (false≢true (sym fine ∙ ap (λ (t : Tellings). t.failed) c.fail.ensures));
+      due = tick-refused s es os n v _ (ap (λ (t : Tellings). t.events) c.fail.ensures) (ap (λ (t : Tellings). t.sent) c.fail.ensures) at;
+    }
+
+pub returns-then-not-is_due-clause-spends : goal.returns-then-not-is_due-clause-spends
+returns-then-not-is_due-clause-spends g c =
+    let quiet = c.live_tick.ensures.quiet in
+    spends-none c.args.self.now _ _ (record {
+      signer = ap (λ (v : Kept). v.signer) c.self.view_is ∙ quiet.signer;
+      told_none = ap (λ (v : Kept). spent_told v.telling.events) c.self.view_is ∙ quiet.told_none;
+    })
+
+pub returns-in-Ok-clause-spends : goal.returns-in-Ok-clause-spends
+returns-in-Ok-clause-spends g c =
+    let v2 : Kept = record (the_view c.self.inside) { detector = c.tick.new.self } in
+    let quiet = c.live_tick.ensures.quiet in
+    let none : SignsNothing c.args.self.now v2 = record {
+      signer = ap (λ (v : Kept). v.signer) c.self.view_is ∙ quiet.signer;
+      told_none = ap (λ (v : Kept). spent_told v.telling.events) c.self.view_is ∙ quiet.told_none;
+    } in
+    spends-after c.args.self.now v2 c.pass_due.new.self _ _ none c.pass_due.ensures.spends
+
+pub returns-in-Err-clause-spends : goal.returns-in-Err-clause-spends
+returns-in-Err-clause-spends g c =
+    let quiet = c.live_tick.ensures.quiet in
+    spends-none c.args.self.now _ _ (record {
+      signer = ap (λ (v : Kept). v.signer) c.self.view_is ∙ quiet.signer;
+      told_none = ap (λ t. spent_told t.events) c.fail.ensures ∙ ap (λ (v : Kept). spent_told v.telling.events) c.self.view_is ∙ quiet.told_none;
     })

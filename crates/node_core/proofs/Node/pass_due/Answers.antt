@@ -1,15 +1,25 @@
 use Rattle.std.proofs.Common.{ℕ, List, ap, sym, subst, ◌∙◌}
 use Rattle.node_rules.specs.Calls.{Call}
 use Rattle.node_rules.specs.Ticking.{accuses_all, pings_all, gossips}
-use Rattle.node_core.specs.Playing.{IsAt}
-use Rattle.node_core.proofs.TickLemmas.{due-is}
+use Rattle.node_core.specs.Playing.{Plays}
+use Rattle.node_core.proofs.TickLemmas.{due-is, err-due}
+use Rattle.node_core.proofs.SpendLemmas.{nothing-trans, spends-before}
 use Rattle.node_core.proofs.Node.pass_due.Goals as goal
 
 pub returns-clause-plays : goal.returns-clause-plays
-returns-clause-plays g c = λ s es os call p fine.
+returns-clause-plays g c = λ s es os call p.
     let silent : List ℕ = c.args.due.silent.items in
     let pings : List (ℕ × ℕ) = c.args.due.pings.items in
     let c1 : Call = accuses_all s silent call in
     let pinged = c.ping_all.ensures.plays s es os c1 (c.in_ok-accuse_all.ensures.plays s es os call p) in
-    let done = c.gossip.ensures.plays s es os (pings_all s c.deref.result.now c1) pinged fine in
-    subst (IsAt s es os c.gossip.new.self) (ap (λ (ps : List (ℕ × ℕ)). gossips s c.args.round (pings_all s ps c1)) c.deref.ensures.value ∙ sym (due-is s silent pings c.args.round call)) done
+    let done = c.gossip.ensures.plays s es os (pings_all s c.deref.result.now c1) pinged in
+    subst (Plays s es os c.gossip.new.self) (ap (λ (ps : List (ℕ × ℕ)). gossips s c.args.round (pings_all s ps c1)) c.deref.ensures.value ∙ sym (due-is s silent pings c.args.round call)) done
+
+pub returns-clause-spends : goal.returns-clause-spends
+returns-clause-spends g c =
+    spends-before c.args.self.now c.accuse_all.new.self c.gossip.new.self _ _ c.in_ok-accuse_all.ensures.spends (nothing-trans c.accuse_all.new.self c.ping_all.new.self c.gossip.new.self c.ping_all.ensures.quiet c.gossip.ensures.quiet)
+    (λ fine. c.ping_all.ensures.grows.going (c.gossip.ensures.grows.going fine))
+
+pub returns-in_err-accuse_all-clause-plays : goal.returns-in_err-accuse_all-clause-plays
+returns-in_err-accuse_all-clause-plays g c = λ s es os call p.
+    err-due s es os c.accuse_all.new.self c.args.due.silent.items c.args.due.pings.items c.args.round call c.from_residual.result c.from_residual.ensures.0 (c.in_err-accuse_all.ensures.plays s es os call p)

@@ -3,9 +3,10 @@ use Rattle.std.proofs.lemmas.List.{take_more}
 use Rattle.node_rules.specs.Calls.{Call, sends}
 use Rattle.node_rules.specs.Ticking.{pings_all}
 use Rattle.datagram.specs.declared.Datagram.TheVariants as kinds
-use Rattle.node_core.specs.Playing.{Plays, IsAt}
+use Rattle.node_core.specs.Playing.{Plays}
 use Rattle.node_core.proofs.PlayLemmas.{grows-trans}
 use Rattle.node_core.proofs.HandleLemmas.{fold-push, take-all}
+use Rattle.node_core.proofs.SpendLemmas.{nothing-trans}
 use Rattle.node_core.proofs.Node.ping_all.Goals as goal
 
 pub loop-ping-preserved : goal.loop-ping-preserved
@@ -19,9 +20,10 @@ loop-ping-preserved c = (
       ap (λ (ps : List (ℕ × ℕ)). pings_all s ps call) longer ∙ fold-push (λ (c : Call) (q : ℕ × ℕ). sends s (kinds.Ping s.me q.1) c q.0) call (take i sent) x in
       subst (λ (y : Call). Plays s es os c.send_ping.new.self y) (sym more) (c.send_ping.ensures.plays s es os (pings_all s (take i sent) call) (c.loop-ping.invariant.0 s es os call p)),
   grows-trans c.args.self.now c.loop-ping.self c.send_ping.new.self c.loop-ping.invariant.1 c.send_ping.ensures.grows,
+  nothing-trans c.args.self.now c.loop-ping.self c.send_ping.new.self c.loop-ping.invariant.2 c.send_ping.ensures.quiet,
 )
 
 pub returns-clause-plays : goal.returns-clause-plays
-returns-clause-plays c = λ s es os call p fine.
+returns-clause-plays c = λ s es os call p.
     let whole : take c.loop-ping.ping-index c.args.pings.now ≡ c.args.pings.now = take-all c.loop-ping.ping-index c.args.pings.now (omega (arith, c.loop-ping-test.false)) in
-    subst (λ (ps : List (ℕ × ℕ)). IsAt s es os c.loop-ping.self (pings_all s ps call)) whole (c.loop-ping.invariant.0 s es os call p fine)
+    subst (λ (ps : List (ℕ × ℕ)). Plays s es os c.loop-ping.self (pings_all s ps call)) whole (c.loop-ping.invariant.0 s es os call p)

@@ -1,12 +1,23 @@
-use Rattle.std.proofs.Common.{subst, sym, ap, ◌∙◌}
-use Rattle.node_core.specs.Playing.{Kept, Plays}
+use Rattle.std.proofs.Common.{subst, sym, ◌∙◌}
+use Rattle.node_core.specs.Playing.{Kept, Plays, Grows}
 use Rattle.node_core.specs.contracts.Node.{the_view}
 use Rattle.node_core.proofs.ExchangeLemmas.{page-at}
+use Rattle.datagram.specs.declared.Datagram.{Datagram}
+use Rattle.datagram.specs.declared.Datagram.TheVariants as kinds
+use Rattle.node_rules.specs.Pages.{page}
+use Rattle.node_rules.specs.Calls.{sends}
+use Rattle.node_core.proofs.ExtendLemmas.{extends-sends}
+use Rattle.node_core.proofs.DueLemmas.{plays-refused}
 use Rattle.node_core.proofs.Node.send_page.Goals as goal
 
 pub returns-in-Ok-clause-plays : goal.returns-in-Ok-clause-plays
 returns-in-Ok-clause-plays c = λ s es os call p.
     let v : Kept = the_view c.self.inside in
     let p0 = subst (λ v. Plays s es os v call) (sym c.self.view_is) p in
-    page-at s es os v c.send.new.self call c.args.to c.args.flag c.args.page c.in-Ok.bytes.items p0 (λ f. ap (λ v. v.telling.failed) c.self.view_is ∙ c.send.ensures.grows.going f) c.in-Ok.ensures
+    page-at s es os v c.send.new.self call c.args.to c.args.flag c.args.page c.in-Ok.bytes.items p0 (subst (λ (w : Kept). Grows w c.send.new.self) (sym c.self.view_is) c.send.ensures.grows) c.in-Ok.ensures
     (λ d e. c.send.ensures.plays s es os call d p (c.deref.ensures.value ∙ e))
+
+pub returns-in-Err-clause-plays : goal.returns-in-Err-clause-plays
+returns-in-Err-clause-plays c = λ s es os call p.
+    let d : Datagram = kinds.Summary s.me c.args.flag (page call.node c.args.page) in
+    plays-refused s es os (the_view c.self.inside) _ call (sends s d call c.args.to) c.fail.ensures (subst (λ v. Plays s es os v call) (sym c.self.view_is) p) (extends-sends s d call c.args.to)

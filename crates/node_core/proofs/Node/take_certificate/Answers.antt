@@ -1,9 +1,14 @@
-use Rattle.std.proofs.Common.{subst, sym, ◌∙◌}
+use Rattle.std.proofs.Common.{refl, subst, sym, ◌∙◌}
 use Rattle.node_rules.specs.Calls.{lives}
-use Rattle.node_core.specs.Playing.{Plays, IsAt}
+use Rattle.node_core.specs.Playing.{Kept, Plays, IsAt}
 use Rattle.node_core.specs.contracts.Node.{the_view}
-use Rattle.node_core.proofs.PlayLemmas.{certified-at, quiet-at, join-steps, places-of, still-joined}
+use Rattle.node_core.proofs.PlayLemmas.{certified-at, takes-quietly, quiet-at, join-steps, places-of, still-joined}
 use Rattle.ff_ids.specs.Steps.{Joins}
+use Rattle.std.proofs.Common.{◌≡◌, false, ap}
+use Rattle.std.specs.Prelude.{is_some}
+use Rattle.std.proofs.lemmas.Bool.{false≢true}
+use Rattle.node_core.specs.Playing.{IsNode}
+use Rattle.node_core.proofs.HearLemmas.{some-copied}
 use Rattle.node_core.proofs.Node.take_certificate.Goals as goal
 
 pub invariant_of-self : goal.invariant_of-self
@@ -21,13 +26,21 @@ invariant_of-self c =
     }
 
 pub returns-clause-plays : goal.returns-clause-plays
-returns-clause-plays c = λ s es os call p free fine.
-    let v = the_view c.self.inside in
+returns-clause-plays c = λ s es os call p free.
+    let v : Kept = the_view c.self.inside in
     let p1 = subst (λ v. Plays s es os v call) (sym c.self.view_is) p in
-    let n = (p1 fine).is in
+    takes-quietly s es os v _ call c.args.rec.rec refl p1 (λ fine.
+    let n = (p1.at fine).is in
     let places = sym (places-of s v call c.args.cert.member n ∙ sym c.hash_places-places.ensures.places) in
     let steps = join-steps c.self.inside.group c.self.inside.membership c.add_member-fault.new.self c.args.cert.member c.hash_places-places.result c.add_member-fault.result
     c.add_member-fault.ensures.fault c.add_member-fault.ensures.step c.add_member-fault.ensures.same in
-    let at = quiet-at s es os v call (Joins c.args.cert.member c.hash_places-places.result) c.add_member-fault.new.self p1 steps fine in
+    let at = quiet-at s es os v call (Joins c.args.cert.member c.hash_places-places.result) c.add_member-fault.new.self p1.at steps fine in
     certified-at s es os (record v { membership = c.add_member-fault.new.self }) call c.args.rec c.args.cert c.put-2.new.self c.put.new.self c.requires.certificate c.put-2.ensures.held c.put.ensures
-    (subst (λ x. IsAt s es os (record v { membership = c.add_member-fault.new.self }) (lives s (Joins c.args.cert.member x) call)) places at)
+    (subst (λ x. IsAt s es os (record v { membership = c.add_member-fault.new.self }) (lives s (Joins c.args.cert.member x) call)) places at))
+
+pub returns-then-is_some-clause-plays : goal.returns-then-is_some-clause-plays
+returns-then-is_some-clause-plays c = λ s es os call p free.
+    takes-quietly s es os c.args.self.now c.args.self.now call c.args.rec.rec refl p (λ fine.
+    let n = subst (λ v. IsNode s v call.node) (sym c.self.view_is) (p.at fine).is in
+    let none : is_some c.get.result ≡ false = some-copied c.get.result ∙ ap is_some (c.get.ensures ∙ n.roster c.args.cert.member ∙ free) in
+    absurd (false≢true (sym none ∙ sym c.is_some.ensures ∙ c.if-is_some.true)))

@@ -1,5 +1,5 @@
 use Rattle.std.proofs.Common.{Some, subst, sym, ap, ◌∙◌, refl}
-use Rattle.std.specs.Prelude.{Err}
+use Rattle.std.specs.Prelude.{Ok, Err}
 use Rattle.signer.specs.declared.SignFault.{SignFault}
 use Rattle.signer.specs.Signing.{AnswersBy}
 use Rattle.records.specs.Signing.{CheckedRecord}
@@ -7,7 +7,8 @@ use Rattle.records.specs.declared.Body.{Body}
 use Rattle.records.specs.declared.Body.TheVariants as bodies
 use Rattle.node_core.specs.Playing.{Plays, Kept}
 use Rattle.node_core.specs.contracts.Node.{the_view}
-use Rattle.node_core.proofs.PlayLemmas.{signer-at, stopped-at, used_up-at, signed-at, refused-keeps}
+use Rattle.node_core.proofs.PlayLemmas.{signer-at, stopped-at, used_up-at, signed-at, grows-signer, wants-refused, refused-keeps}
+use Rattle.node_core.proofs.SpendLemmas.{lives-signed, signed-spends, unsigned-spends, refused-none}
 use Rattle.node_core.proofs.Node.want_accusation.Goals as goal
 
 pub returns-in-Err-StoreFault-clause-plays : goal.returns-in-Err-StoreFault-clause-plays
@@ -17,7 +18,7 @@ returns-in-Err-StoreFault-clause-plays g c = λ s es os call p.
     let kept = refused-keeps c.self.inside.signer c.sign_accusation.new.self (bodies.Accusation c.args.acc.now) c.in-Err-StoreFault.field-0 c.in-Err-StoreFault.ensures.after in
     let answered = subst (λ (f : SignFault). AnswersBy {T = CheckedRecord} c.self.inside.signer (Err f)) c.in-Err-StoreFault.field-0-is c.in-Err-StoreFault.ensures.answers in
     let closed = signer-at s es os v call c.sign_accusation.new.self p0 kept.0 kept.1 in
-    stopped-at s es os v c.tell-in-Err-StoreFault.new.self call _ (Some c.args.acc.now.accused) p0 answered.1 c.tell-in-Err-StoreFault.ensures.grows.going (c.tell-in-Err-StoreFault.ensures.plays s es os call closed)
+    stopped-at s es os v c.tell-in-Err-StoreFault.new.self call _ (Some c.args.acc.now.accused) p0 answered.1 (grows-signer v c.tell-in-Err-StoreFault.new.self c.sign_accusation.new.self c.tell-in-Err-StoreFault.ensures.grows) c.tell-in-Err-StoreFault.ensures.refused (c.tell-in-Err-StoreFault.ensures.plays s es os call closed)
 
 pub returns-in-Ok-clause-plays : goal.returns-in-Ok-clause-plays
 returns-in-Ok-clause-plays g c = λ s es os call p.
@@ -25,7 +26,7 @@ returns-in-Ok-clause-plays g c = λ s es os call p.
     let b : Body = bodies.Accusation c.args.acc.now in
     let p0 = subst (λ v. Plays s es os v call) (sym c.self.view_is) p in
     signed-at s es os v c.pass_on_accusation.new.self call b b (Some c.args.acc.now.accused) c.sign_accusation.new.self c.in-Ok.rec c.state-index.result.next p0 c.self.invariant.signer_group c.in-Ok.ensures.answers.1 (ap (λ x. x.next) c.state-index.ensures) (λ n. refl)
-    (ap (λ x. x.key) c.in-Ok.ensures.after) (ap (λ x. x.state) c.in-Ok.ensures.after) c.in-Ok.ensures.signed c.pass_on_accusation.ensures.grows.going
+    (ap (λ x. x.key) c.in-Ok.ensures.after) (ap (λ x. x.state) c.in-Ok.ensures.after) c.in-Ok.ensures.signed c.pass_on_accusation.ensures.grows
     (λ q e own. c.pass_on_accusation.ensures.plays s es os call q e own)
 
 pub returns-in-Err-Exhausted-clause-plays : goal.returns-in-Err-Exhausted-clause-plays
@@ -35,4 +36,36 @@ returns-in-Err-Exhausted-clause-plays g c = λ s es os call p.
     let kept = refused-keeps c.self.inside.signer c.sign_accusation.new.self (bodies.Accusation c.args.acc.now) c.in-Err-Exhausted.field-0 c.in-Err-Exhausted.ensures.after in
     let answered = subst (λ (f : SignFault). AnswersBy {T = CheckedRecord} c.self.inside.signer (Err f)) c.in-Err-Exhausted.field-0-is c.in-Err-Exhausted.ensures.answers in
     let same = signer-at s es os v call c.sign_accusation.new.self p0 kept.0 kept.1 in
-    used_up-at s es os v c.tell.new.self call _ (Some c.args.acc.now.accused) c.state-index.result.next p0 (ap (λ x. x.next) c.state-index.ensures) (ap (λ x. x.next) c.state-index.ensures ∙ sym answered.1 ∙ answered.2) c.tell.ensures.grows.going (c.tell.ensures.plays s es os call same)
+    used_up-at s es os v c.tell.new.self call _ (Some c.args.acc.now.accused) c.state-index.result.next p0 (ap (λ x. x.next) c.state-index.ensures) (ap (λ x. x.next) c.state-index.ensures ∙ sym answered.1 ∙ answered.2) (grows-signer v c.tell.new.self c.sign_accusation.new.self c.tell.ensures.grows) (c.tell.ensures.plays s es os call same)
+
+pub returns-in-Ok-clause-spends : goal.returns-in-Ok-clause-spends
+returns-in-Ok-clause-spends g c =
+    let v : Kept = the_view c.self.inside in
+    let b : Body = bodies.Accusation c.args.acc.now in
+    let lives = lives-signed c.self.inside.signer c.sign_accusation.new.self b (Ok c.in-Ok.rec) _ _ _ _ _ _ c.in-Ok.ensures in
+    signed-spends v c.args.self.now c.pass_on_accusation.new.self c.sign_accusation.new.self _ _ c.state-index.result.next (bodies.Accusation c.args.acc.now) b c.self.view_is (ap (λ x. x.next) c.state-index.ensures) refl lives c.pass_on_accusation.ensures.spent
+
+pub returns-in-Err-StoreFault-clause-spends : goal.returns-in-Err-StoreFault-clause-spends
+returns-in-Err-StoreFault-clause-spends g c =
+    let b : Body = bodies.Accusation c.args.acc.now in
+    let lives = lives-signed c.self.inside.signer c.sign_accusation.new.self b (Err c.in-Err-StoreFault.field-0) _ _ _ _ _ _ c.in-Err-StoreFault.ensures in
+    unsigned-spends (the_view c.self.inside) c.args.self.now c.tell-in-Err-StoreFault.new.self c.sign_accusation.new.self _ _ c.self.view_is lives c.tell-in-Err-StoreFault.ensures.quiet
+
+pub returns-in-Err-Exhausted-clause-spends : goal.returns-in-Err-Exhausted-clause-spends
+returns-in-Err-Exhausted-clause-spends g c =
+    let b : Body = bodies.Accusation c.args.acc.now in
+    let lives = lives-signed c.self.inside.signer c.sign_accusation.new.self b (Err c.in-Err-Exhausted.field-0) _ _ _ _ _ _ c.in-Err-Exhausted.ensures in
+    unsigned-spends (the_view c.self.inside) c.args.self.now c.tell.new.self c.sign_accusation.new.self _ _ c.self.view_is lives c.tell.ensures.quiet
+
+pub returns-in-Err-OutOfMemory-clause-spends : goal.returns-in-Err-OutOfMemory-clause-spends
+returns-in-Err-OutOfMemory-clause-spends g c =
+    let v : Kept = the_view c.self.inside in
+    let b : Body = bodies.Accusation c.args.acc.now in
+    let lives = lives-signed c.self.inside.signer c.sign_accusation.new.self b (Err c.in-Err-OutOfMemory.field-0) _ _ _ _ _ _ c.in-Err-OutOfMemory.ensures in
+    let v1 : Kept = record v { signer = c.sign_accusation.new.self } in
+    unsigned-spends v c.args.self.now _ c.sign_accusation.new.self _ _ c.self.view_is lives (refused-none v1 v1 _ refl refl c.fail.ensures)
+
+pub returns-in-Err-OutOfMemory-clause-plays : goal.returns-in-Err-OutOfMemory-clause-plays
+returns-in-Err-OutOfMemory-clause-plays g c = λ s es os call p.
+    let v : Kept = the_view c.self.inside in
+    wants-refused s es os v _ call _ (Some c.args.acc.now.accused) (subst (λ v. Plays s es os v call) (sym c.self.view_is) p) c.fail.ensures

@@ -1,5 +1,5 @@
-use Rattle.std.proofs.Common.{◌≡◌, None, subst, sym, ap, ◌∙◌, rules}
-use Rattle.std.specs.Prelude.{Err}
+use Rattle.std.proofs.Common.{◌≡◌, None, subst, sym, ap, ◌∙◌, refl, rules}
+use Rattle.std.specs.Prelude.{Ok, Err}
 use Rattle.signer.specs.declared.SignFault.{SignFault}
 use Rattle.signer.specs.Signing.{AnswersBy}
 use Rattle.records.specs.Signing.{CheckedRecord}
@@ -11,8 +11,9 @@ use Rattle.signer.specs.Signing.{next_note}
 use Rattle.node_core.specs.Signatures.{with_stored}
 use Rattle.node_core.specs.Playing.{Plays, Kept}
 use Rattle.node_core.specs.contracts.Node.{the_view}
-use Rattle.node_core.proofs.PlayLemmas.{signer-at, stopped-at, used_up-at, signed-at, next-own-is, refused-keeps}
+use Rattle.node_core.proofs.PlayLemmas.{signer-at, stopped-at, used_up-at, signed-at, grows-signer, wants-refused, next-own-is, refused-keeps}
 use Rattle.node_core.specs.Signatures.{next_own}
+use Rattle.node_core.proofs.SpendLemmas.{lives-signed, signed-spends, unsigned-spends, refused-none}
 use Rattle.node_core.proofs.Node.want_note.Goals as goal
 
 pub returns-in-Err-StoreFault-clause-plays : goal.returns-in-Err-StoreFault-clause-plays
@@ -22,7 +23,7 @@ returns-in-Err-StoreFault-clause-plays g c = λ s es os call p.
     let kept = refused-keeps c.self.inside.signer c.sign_note.new.self (next_note c.self.inside.signer.state c.self.inside.me c.args.mask) c.in-Err-StoreFault.field-0 c.in-Err-StoreFault.ensures.after in
     let answered = subst (λ (f : SignFault). AnswersBy {T = CheckedRecord} c.self.inside.signer (Err f)) c.in-Err-StoreFault.field-0-is c.in-Err-StoreFault.ensures.answers in
     let closed = signer-at s es os v call c.sign_note.new.self p0 kept.0 kept.1 in
-    stopped-at s es os v c.tell-in-Err-StoreFault.new.self call _ None p0 answered.1 c.tell-in-Err-StoreFault.ensures.grows.going (c.tell-in-Err-StoreFault.ensures.plays s es os call closed)
+    stopped-at s es os v c.tell-in-Err-StoreFault.new.self call _ None p0 answered.1 (grows-signer v c.tell-in-Err-StoreFault.new.self c.sign_note.new.self c.tell-in-Err-StoreFault.ensures.grows) c.tell-in-Err-StoreFault.ensures.refused (c.tell-in-Err-StoreFault.ensures.plays s es os call closed)
 
 pub returns-in-Note-clause-plays : goal.returns-in-Note-clause-plays
 returns-in-Note-clause-plays g c = λ s es os call p.
@@ -30,7 +31,7 @@ returns-in-Note-clause-plays g c = λ s es os call p.
     let b : Body = next_note c.self.inside.signer.state c.self.inside.me c.args.mask in
     let p0 = subst (λ v. Plays s es os v call) (sym c.self.view_is) p in
     signed-at s es os v c.pass_on_note.new.self call b (next_own s call.node c.args.mask) None c.sign_note.new.self c.in-Ok.rec c.state-index.result.next p0 c.self.invariant.signer_group c.in-Ok.ensures.answers.1 (ap (λ x. x.next) c.state-index.ensures) (λ n. next-own-is s v call.node c.args.mask n)
-    (ap (λ x. x.key) c.in-Ok.ensures.after) (ap (λ x. x.state) c.in-Ok.ensures.after) c.in-Ok.ensures.signed c.pass_on_note.ensures.grows.going
+    (ap (λ x. x.key) c.in-Ok.ensures.after) (ap (λ x. x.state) c.in-Ok.ensures.after) c.in-Ok.ensures.signed c.pass_on_note.ensures.grows
     (λ q e own.
     let note-is : bodies.Note c.in-Note.note ≡ b = search rules in
     subst (λ (x : Body). Plays s es os c.pass_on_note.new.self (signs_and_sends s x (addressees s None) call)) note-is
@@ -43,4 +44,37 @@ returns-in-Err-Exhausted-clause-plays g c = λ s es os call p.
     let kept = refused-keeps c.self.inside.signer c.sign_note.new.self (next_note c.self.inside.signer.state c.self.inside.me c.args.mask) c.in-Err-Exhausted.field-0 c.in-Err-Exhausted.ensures.after in
     let answered = subst (λ (f : SignFault). AnswersBy {T = CheckedRecord} c.self.inside.signer (Err f)) c.in-Err-Exhausted.field-0-is c.in-Err-Exhausted.ensures.answers in
     let same = signer-at s es os v call c.sign_note.new.self p0 kept.0 kept.1 in
-    used_up-at s es os v c.tell.new.self call _ None c.state-index.result.next p0 (ap (λ x. x.next) c.state-index.ensures) (ap (λ x. x.next) c.state-index.ensures ∙ sym answered.1 ∙ answered.2) c.tell.ensures.grows.going (c.tell.ensures.plays s es os call same)
+    used_up-at s es os v c.tell.new.self call _ None c.state-index.result.next p0 (ap (λ x. x.next) c.state-index.ensures) (ap (λ x. x.next) c.state-index.ensures ∙ sym answered.1 ∙ answered.2) (grows-signer v c.tell.new.self c.sign_note.new.self c.tell.ensures.grows) (c.tell.ensures.plays s es os call same)
+
+pub returns-in-Note-clause-spends : goal.returns-in-Note-clause-spends
+returns-in-Note-clause-spends g c =
+    let v : Kept = the_view c.self.inside in
+    let b : Body = next_note c.self.inside.signer.state c.self.inside.me c.args.mask in
+    let note-is : bodies.Note c.in-Note.note ≡ b = search rules in
+    let lives = lives-signed c.self.inside.signer c.sign_note.new.self b (Ok c.in-Ok.rec) _ _ _ _ _ _ c.in-Ok.ensures in
+    signed-spends v c.args.self.now c.pass_on_note.new.self c.sign_note.new.self _ _ c.state-index.result.next (bodies.Note c.in-Note.note) b c.self.view_is (ap (λ x. x.next) c.state-index.ensures) note-is lives c.pass_on_note.ensures.spent
+
+pub returns-in-Err-StoreFault-clause-spends : goal.returns-in-Err-StoreFault-clause-spends
+returns-in-Err-StoreFault-clause-spends g c =
+    let b : Body = next_note c.self.inside.signer.state c.self.inside.me c.args.mask in
+    let lives = lives-signed c.self.inside.signer c.sign_note.new.self b (Err c.in-Err-StoreFault.field-0) _ _ _ _ _ _ c.in-Err-StoreFault.ensures in
+    unsigned-spends (the_view c.self.inside) c.args.self.now c.tell-in-Err-StoreFault.new.self c.sign_note.new.self _ _ c.self.view_is lives c.tell-in-Err-StoreFault.ensures.quiet
+
+pub returns-in-Err-Exhausted-clause-spends : goal.returns-in-Err-Exhausted-clause-spends
+returns-in-Err-Exhausted-clause-spends g c =
+    let b : Body = next_note c.self.inside.signer.state c.self.inside.me c.args.mask in
+    let lives = lives-signed c.self.inside.signer c.sign_note.new.self b (Err c.in-Err-Exhausted.field-0) _ _ _ _ _ _ c.in-Err-Exhausted.ensures in
+    unsigned-spends (the_view c.self.inside) c.args.self.now c.tell.new.self c.sign_note.new.self _ _ c.self.view_is lives c.tell.ensures.quiet
+
+pub returns-in-Err-OutOfMemory-clause-spends : goal.returns-in-Err-OutOfMemory-clause-spends
+returns-in-Err-OutOfMemory-clause-spends g c =
+    let v : Kept = the_view c.self.inside in
+    let b : Body = next_note c.self.inside.signer.state c.self.inside.me c.args.mask in
+    let lives = lives-signed c.self.inside.signer c.sign_note.new.self b (Err c.in-Err-OutOfMemory.field-0) _ _ _ _ _ _ c.in-Err-OutOfMemory.ensures in
+    let v1 : Kept = record v { signer = c.sign_note.new.self } in
+    unsigned-spends v c.args.self.now _ c.sign_note.new.self _ _ c.self.view_is lives (refused-none v1 v1 _ refl refl c.fail-in-Err-OutOfMemory.ensures)
+
+pub returns-in-Err-OutOfMemory-clause-plays : goal.returns-in-Err-OutOfMemory-clause-plays
+returns-in-Err-OutOfMemory-clause-plays g c = λ s es os call p.
+    let v : Kept = the_view c.self.inside in
+    wants-refused s es os v _ call _ None (subst (λ v. Plays s es os v call) (sym c.self.view_is) p) c.fail-in-Err-OutOfMemory.ensures

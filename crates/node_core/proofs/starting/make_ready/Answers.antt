@@ -2,6 +2,9 @@ use Rattle.std.proofs.Common.{refl, ◌∙◌}
 use Rattle.node_core.specs.Rolls.{recs_of}
 use Rattle.node_core.specs.declared.starting.Ready.{Ready}
 use Rattle.node_core.proofs.BeginLemmas.{may-begin, own-joined}
+use Rattle.node_core.specs.declared.NodeFault.TheVariants as faults
+use Rattle.node_core.proofs.SpendLemmas.{lives-same, unsigned-untold}
+use Rattle.node_core.proofs.CertificateLemmas.{for-tolerance}
 use Rattle.node_core.proofs.starting.make_ready.Goals as goal
 
 pub returns-clause-ready : goal.returns-clause-ready
@@ -9,13 +12,13 @@ returns-clause-ready g c =
     let k = c.requires.kit in
     let first = c.in_ok-first.ensures.signed in
     record {
-      some = k.some;
-      few = k.few;
-      period = k.period;
+      some = k.group.some;
+      few = k.group.few;
+      period = k.group.period;
       membership_group = c.in-Ok.ensures.groups.membership;
       detector_group = c.in-Ok.ensures.groups.detector;
       signer_group = first.group ∙ c.requires.signer;
-      joined = own-joined c.args.kit.group c.args.kit.me c.args.kit.authority c.args.signer c.args.kit.nonce_seed (recs_of c.args.kit.certificates.items) c.in-Ok.parts c.in-Ok.ensures.opened k.apart k.own;
+      joined = own-joined c.args.kit.group c.args.kit.me c.args.kit.authority c.args.signer c.args.kit.nonce_seed (recs_of c.args.kit.certificates.items) c.in-Ok.parts c.in-Ok.ensures.opened k.certificates.apart k.certificates.among;
       good = first.good;
     }
 
@@ -36,3 +39,10 @@ returns-clause-begins g c = λ s setting.
       rec = c.in_ok-first.first.rec;
     } in
     may-begin s c.args.kit.nonce_seed (recs_of c.args.kit.certificates.items) r c.in-Ok.parts c.args.signer c.in_ok-first.first setting c.in-Ok.ensures.opened c.in_ok-first.ensures.signed c.requires.signer refl refl refl refl refl
+
+pub returns-in_default-clause-untold : goal.returns-in_default-clause-untold
+returns-in_default-clause-untold g c = unsigned-untold faults.OutOfMemory c.args.signer c.args.signer _ _ (lives-same c.args.signer c.args.signer _ refl)
+
+pub open_parts-requires-clause-certificates : goal.open_parts-requires-clause-certificates
+open_parts-requires-clause-certificates g c =
+    let kit = c.requires.kit in for-tolerance c.args.kit.group c.args.kit.authority c.args.kit.certificates.items kit.checked kit.certificates.apart

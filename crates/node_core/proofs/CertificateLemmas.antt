@@ -1,0 +1,133 @@
+-- Certificates that a life may begin with.
+use Rattle.std.proofs.Common.{◌≡◌, ◌<◌, ◌≤◌, ℕ, Bool, true, false, List, [], ◌∷◌, length, get_or, refl, ap, sym, subst, ◌∙◌, zero, suc, arith}
+use Rattle.std.specs.Prelude.{All, not, nat_eq, ◌||◌}
+use Rattle.std.proofs.lemmas.Bool.{and_parts, and_from}
+use Rattle.std.specs.List.{AllByRecursion, list_any, list_all}
+use Rattle.std.specs.Result.{is_ok}
+use Rattle.ff_ids.specs.declared.Group.{Group}
+use Rattle.lms_tree.specs.declared.key.PublicKey.{PublicKey}
+use Rattle.lms_tree.specs.declared.secret.Secret.{Secret}
+use Rattle.lms_tree.specs.Lms.{Verifies, verdict_of, public_of}
+use Rattle.records.specs.declared.CertBody.{CertBody}
+use Rattle.records.specs.declared.Body.{Body}
+use Rattle.records.specs.declared.Body.TheVariants.{Certificate, Note, Accusation}
+use Rattle.records.specs.declared.Record.{Record}
+use Rattle.records.specs.Signing.{CheckedRecord, IsChecked, signed_bytes}
+use Rattle.node_rules.specs.Nodes.{Setting}
+use Rattle.node_rules.specs.Lives.{AreCertificates, is_certificate_for}
+use Rattle.node_rules.specs.Vouching.{IsCertifiedBy, OwnSignaturesVerify}
+use Rattle.lms_tree.specs.Kinds.{leaf_count}
+use Rattle.signer.specs.Signing.{SignerState}
+use Rattle.node_core.proofs.OwnKeyLemmas.{own-verify}
+use Rattle.node_core.specs.declared.kit.Kit.{Kit}
+use Rattle.node_core.specs.Playing.{setting_of}
+use Rattle.node_core.specs.Rolls.{IsCertificateFor, IsOfOther, IsApart, AreApart, recs_of}
+use Rattle.node_core.specs.Begins.{IsCheckedIn, is_of_other, HasKey, IsKit, IsVouchable}
+use Rattle.node_core.proofs.RollLemmas.{same-certificate}
+use Rattle.node_core.proofs.PlayLemmas.{setting-group, setting-me}
+use Rattle.node_core.proofs.RefusalLemmas.{good-verdict}
+
+head-of : (P : CheckedRecord → Type 0) (x : CheckedRecord) (xs : List CheckedRecord) → All P (x ∷ xs) → P x
+head-of P x xs all = all 0 x (omega arith)
+
+tail-of : (P : CheckedRecord → Type 0) (x : CheckedRecord) (xs : List CheckedRecord) → All P (x ∷ xs) → All P xs
+tail-of P x xs all = λ k d lt. all (suc k) d (omega (arith, lt))
+
+cons-all : (P : CheckedRecord → Type 0) (x : CheckedRecord) (xs : List CheckedRecord) → P x → All P xs → All P (x ∷ xs)
+cons-all P x xs first rest = λ k d lt. at k d lt
+  where
+    at : (k : ℕ) (d : CheckedRecord) → k < length (x ∷ xs) → P (get_or (x ∷ xs) k d)
+    at zero d lt = first
+    at (suc k) d lt = rest k d (omega (arith, lt))
+
+-- certificates that were checked in a group are certificates for its tolerance
+pub for-tolerance : (group : Group) (authority : PublicKey) (xs : List CheckedRecord) → All (IsCheckedIn group authority) xs → AreApart (recs_of xs) → All (IsCertificateFor group.t) xs
+for-tolerance group authority [] checked apart = λ k d lt. absurd (omega (arith, lt))
+for-tolerance group authority (x ∷ xs) checked apart =
+    cons-all (IsCertificateFor group.t) x xs (record { cert = apart.0.cert; body = apart.0.body; tolerance = (head-of (IsCheckedIn group authority) x xs checked).tolerance })
+    (for-tolerance group authority xs (tail-of (IsCheckedIn group authority) x xs checked) apart.1)
+
+setting-authority : (s : Setting) (g : Group) (me : ℕ) (a : PublicKey) (k : Secret) → s ≡ setting_of g me a k → s.authority ≡ a
+unfolding setting_of
+setting-authority s g me a k e = ap (λ x. x.authority) e
+
+setting-verifies : (s : Setting) (g : Group) (me : ℕ) (a : PublicKey) (k : Secret) (key : PublicKey) (r : Record) → s ≡ setting_of g me a k → s.verifies key r ≡ is_ok (verdict_of key (signed_bytes g.tag g.t r.body) r.signature)
+unfolding setting_of
+setting-verifies s g me a k key r e = ap (λ x. x.verifies key r) e
+
+setting-indexes : (s : Setting) (g : Group) (me : ℕ) (a : PublicKey) (k : Secret) → s ≡ setting_of g me a k → s.indexes ≡ leaf_count k.tree
+unfolding setting_of
+setting-indexes s g me a k e = ap (λ x. x.indexes) e
+
+-- what was checked under the authority's key verifies under it
+verifies-checked : (s : Setting) (g : Group) (me : ℕ) (a : PublicKey) (k : Secret) (x : CheckedRecord) → s ≡ setting_of g me a k → IsCheckedIn g a x → IsChecked x → s.verifies s.authority x.rec ≡ true
+verifies-checked s g me a k x e in_group good =
+    let signed : Verifies a (signed_bytes g.tag g.t x.rec.body) x.rec.signature =
+    subst (λ key. Verifies key (signed_bytes g.tag g.t x.rec.body) x.rec.signature) in_group.under
+    (subst (λ tag. Verifies x.key (signed_bytes tag g.t x.rec.body) x.rec.signature) in_group.tag
+    (subst (λ t. Verifies x.key (signed_bytes x.tag t x.rec.body) x.rec.signature) in_group.tolerance good.signed)) in
+    ap (λ key. s.verifies key x.rec) (setting-authority s g me a k e) ∙ setting-verifies s g me a k a x.rec e ∙ good-verdict a (signed_bytes g.tag g.t x.rec.body) x.rec.signature signed
+
+all-certified : (s : Setting) (own : PublicKey) (g : Group) (me : ℕ) (a : PublicKey) (k : Secret) (xs : List CheckedRecord) → s ≡ setting_of g me a k → All (IsCheckedIn g a) xs → AllByRecursion IsChecked xs
+    → AllByRecursion (HasKey me own) (recs_of xs) → AllByRecursion (IsCertifiedBy s own) (recs_of xs)
+all-certified s own g me a k [] e checked good keys = tt
+all-certified s own g me a k (x ∷ xs) e checked good keys = (
+  (verifies-checked s g me a k x e (head-of (IsCheckedIn g a) x xs checked) good.0, λ c is who. keys.0 c is (who ∙ setting-me s g me a k e)),
+  all-certified s own g me a k xs e (tail-of (IsCheckedIn g a) x xs checked) good.1 keys.1,
+)
+
+pub apart-certificates : (records : List Record) → AreApart records → AreCertificates records
+apart-certificates [] apart = tt
+apart-certificates (r ∷ records) apart = ((apart.0.cert, apart.0.body), apart-certificates records apart.1)
+
+-- what a sound kit gives the theorem on records that vouch for a life
+pub vouchable : (s : Setting) (kit : Kit) (signer : SignerState) → s ≡ setting_of kit.group kit.me kit.authority signer.key → IsKit kit (public_of signer.key) → signer.state.next < leaf_count signer.key.tree
+    → IsVouchable s (public_of signer.key) (recs_of kit.certificates.items) signer.state
+vouchable s kit signer e k left =
+    let key : Secret = signer.key in
+    let group : s.group ≡ kit.group = setting-group s kit.group kit.me kit.authority key e in
+    let me : s.me ≡ kit.me = setting-me s kit.group kit.me kit.authority key e in
+    record {
+      rings = record { some = subst (λ (g : Group). 1 ≤ g.t) (sym group) k.group.some; few = subst (λ (g : Group). g.t ≤ 15) (sym group) k.group.few };
+      kit = record {
+        all = apart-certificates (recs_of kit.certificates.items) k.certificates.apart;
+        own = subst (λ (m : ℕ). list_any (λ r. is_certificate_for m r.body) (recs_of kit.certificates.items) ≡ true) (sym me) k.certificates.among;
+      };
+      certified = all-certified s (public_of key) kit.group kit.me kit.authority key kit.certificates.items e k.checked k.certificates.verify k.certificates.keys;
+      signatures = subst (λ (x : Setting). OwnSignaturesVerify x (public_of key)) (sym e) (own-verify kit.group kit.me kit.authority key);
+      left = subst (λ (n : ℕ). signer.state.next < n) (sym (setting-indexes s kit.group kit.me kit.authority key e)) left;
+    }
+
+-- ---- whether certificates are apart
+
+not-true : (b : Bool) → not b ≡ true → b ≡ false
+not-true true h = cc
+not-true false h = refl
+
+other-is : (m : ℕ) (r : Record) (b : Body) → r.body ≡ b → is_of_other m b ≡ true → IsOfOther m r
+other-is m r (Certificate c) is h = record { cert = c; body = is; other = not-true (nat_eq c.member m) h }
+other-is m r (Note n) is h = cc
+other-is m r (Accusation a) is h = cc
+
+is-other : (m : ℕ) (r : Record) → IsOfOther m r → is_of_other m r.body ≡ true
+is-other m r o = ap (is_of_other m) o.body ∙ ap not o.other
+
+others-all : (m : ℕ) (xs : List CheckedRecord) → list_all (λ x. is_of_other m x.rec.body) xs ≡ true → AllByRecursion (IsOfOther m) (recs_of xs)
+others-all m [] h = tt
+others-all m (x ∷ xs) h = let parts = and_parts (is_of_other m x.rec.body) _ h in (other-is m x.rec x.rec.body refl parts.0, others-all m xs parts.1)
+
+all-others : (m : ℕ) (xs : List CheckedRecord) → AllByRecursion (IsOfOther m) (recs_of xs) → list_all (λ x. is_of_other m x.rec.body) xs ≡ true
+all-others m [] all = refl
+all-others m (x ∷ xs) all = and_from (is_of_other m x.rec.body) _ (is-other m x.rec all.0) (all-others m xs all.1)
+
+pub apart-is : (r : Record) (cert : CertBody) (behind : List CheckedRecord) → r.body ≡ Certificate cert → list_all (λ x. is_of_other cert.member x.rec.body) behind ≡ true → IsApart r (recs_of behind)
+apart-is r cert behind is h = record { cert = cert; body = is; others = others-all cert.member behind h }
+
+pub is-apart : (r : Record) (cert : CertBody) (behind : List CheckedRecord) → r.body ≡ Certificate cert → IsApart r (recs_of behind) → list_all (λ x. is_of_other cert.member x.rec.body) behind ≡ true
+is-apart r cert behind is apart =
+    let same : apart.cert ≡ cert = same-certificate r.body apart.cert cert apart.body is in
+    all-others cert.member behind (subst (λ (c : CertBody). AllByRecursion (IsOfOther c.member) (recs_of behind)) same apart.others)
+
+pub among-recs : (m : ℕ) (xs : List CheckedRecord) → list_any (λ x. is_certificate_for m x.rec.body) xs ≡ list_any (λ r. is_certificate_for m r.body) (recs_of xs)
+among-recs m [] = refl
+among-recs m (x ∷ xs) = ap (λ b. is_certificate_for m x.rec.body || b) (among-recs m xs)

@@ -1,0 +1,310 @@
+-- What is told of signatures, and what becomes of the key.
+use Rattle.std.proofs.Common.{◌≡◌, ℕ, Bool, true, false, inl, inr, Option, List, [], ◌∷◌, ◌++◌, map, refl, ap, sym, ◌∙◌, subst, append_assoc, Result, Ok, Err}
+use Rattle.std.specs.Prelude.{IfErr}
+use Rattle.std.proofs.lemmas.Bool.{cases_Bool}
+use Rattle.ports.specs.Disk.{Moment}
+use Rattle.ports.specs.DiskCalls.{DiskCall}
+use Rattle.ports.proofs.SinceLemmas.{Since-same, Since-trans, Since-weaken}
+use Rattle.ff_ids.specs.Steps.{Report}
+use Rattle.records.specs.declared.Body.{Body}
+use Rattle.records.specs.Signing.{CheckedRecord}
+use Rattle.signer.specs.declared.SignFault.{SignFault}
+use Rattle.signer.specs.Signing.{SignerState}
+use Rattle.signer.specs.Lives.{Spent, IsLiving, EndsLives, spent_in}
+use Rattle.signer.specs.Signs.{Signs}
+use Rattle.journal.specs.declared.event.Event as journal
+use Rattle.journal.specs.declared.event.What as whats
+use Rattle.journal.specs.declared.event.What.TheVariants as told
+use Rattle.node_rules.specs.Calls.{told_of}
+use Rattle.node_core.specs.declared.NodeFault.{NodeFault}
+use Rattle.node_core.specs.declared.NodeFault.TheVariants as faults
+use Rattle.node_core.specs.Told.{Tellings, Adds, IsFront, with_event, with_report, with_sent}
+use Rattle.node_core.specs.Playing.{Kept, Grows}
+use Rattle.node_core.specs.Spending.{spent_by, spent_told, EndsWithin, LivesOn, SignsNothing, TellsOf, TellsSpent, Spends, TellsSo, SpendsIn, SpendsUntold, StartSpends}
+use Rattle.node_core.proofs.TellingLemmas.{nil-right, front-trans, front-after, append-cancel, map-append}
+
+-- ---- what events tell of
+
+pub told-append : (xs ys : List journal.Event) → spent_told (xs ++ ys) ≡ spent_told xs ++ spent_told ys
+told-append [] ys = refl
+told-append (e ∷ xs) ys = ap (λ (l : List Spent). spent_by e.what ++ l) (told-append xs ys) ∙ sym (append_assoc (spent_by e.what) (spent_told xs) (spent_told ys))
+
+pub front-told : (xs ys : List journal.Event) → IsFront xs ys → IsFront (spent_told xs) (spent_told ys)
+front-told xs ys h = record { more = spent_told h.more; is = ap spent_told h.is ∙ told-append xs h.more }
+
+left-none : (xs ys : List Spent) → [] ≡ xs ++ ys → xs ≡ []
+left-none [] ys e = refl
+left-none (x ∷ xs) ys e = cc
+
+-- what adds a front of events that tell of no signature
+pub told-none : (old new due : List journal.Event) → IsFront old new → IsFront new (old ++ due) → spent_told due ≡ [] → spent_told new ≡ spent_told old
+told-none old new due a b none =
+    let split : due ≡ a.more ++ b.more = append-cancel old due (a.more ++ b.more) (b.is ∙ ap (λ (z : List journal.Event). z ++ b.more) a.is ∙ append_assoc old a.more b.more) in
+    let empty : spent_told a.more ≡ [] = left-none (spent_told a.more) (spent_told b.more) (sym none ∙ ap spent_told split ∙ told-append a.more b.more) in
+    ap spent_told a.is ∙ told-append old a.more ∙ ap (λ (z : List Spent). spent_told old ++ z) empty ∙ nil-right (spent_told old)
+
+event-told : (moment : ℕ) (what : whats.What) → spent_told (record { moment = moment; what = what } ∷ []) ≡ spent_by what
+event-told moment what = nil-right (spent_by what)
+
+map-none : {X : Type 0} (moment : ℕ) (f : X → whats.What) (xs : List X) → ((x : X) → spent_by (f x) ≡ []) → spent_told (map (λ what. record { moment = moment; what = what }) (map f xs)) ≡ []
+map-none moment f [] none = refl
+map-none moment f (x ∷ xs) none = ap (λ (z : List Spent). z ++ spent_told (map (λ what. record { moment = moment; what = what }) (map f xs))) (none x) ∙ map-none moment f xs none
+
+both-none : (moment : ℕ) (xs ys : List whats.What) → spent_told (map (λ what. record { moment = moment; what = what }) xs) ≡ [] → spent_told (map (λ what. record { moment = moment; what = what }) ys) ≡ []
+    → spent_told (map (λ what. record { moment = moment; what = what }) (xs ++ ys)) ≡ []
+both-none moment xs ys a b =
+    let ev : whats.What → journal.Event = λ what. record { moment = moment; what = what } in
+    ap spent_told (map-append ev xs ys) ∙ told-append (map ev xs) (map ev ys) ∙ ap (λ (z : List Spent). z ++ spent_told (map ev ys)) a ∙ b
+
+-- no report tells of a signature
+pub report-none : (moment : ℕ) (r : Report) → spent_told (told_of moment r) ≡ []
+report-none moment r =
+    let expired = map told.Expired r.expired in
+    let removed = map told.Removed r.removed in
+    let entered = map told.Entered r.entered in
+    both-none moment (expired ++ removed ++ entered) (map told.Fell r.fell)
+    (both-none moment (expired ++ removed) entered
+    (both-none moment expired removed (map-none moment told.Expired r.expired (λ x. refl)) (map-none moment told.Removed r.removed (λ x. refl)))
+    (map-none moment told.Entered r.entered (λ x. refl)))
+    (map-none moment told.Fell r.fell (λ x. refl))
+
+pub event-none : (moment : ℕ) (what : whats.What) (a b : Tellings) → Adds (with_event moment what) a b → spent_by what ≡ [] → spent_told b.events ≡ spent_told a.events
+event-none moment what a b adds none = told-none a.events b.events (record { moment = moment; what = what } ∷ []) adds.events adds.events_due (event-told moment what ∙ none)
+
+pub changes-none : (moment : ℕ) (r : Report) (a b : Tellings) → Adds (with_report moment r) a b → spent_told b.events ≡ spent_told a.events
+changes-none moment r a b adds = told-none a.events b.events (told_of moment r) adds.events adds.events_due (report-none moment r)
+
+pub sent-none : (moment : ℕ) (bytes : List ℕ) (to : ℕ) (a b : Tellings) → Adds (with_sent moment bytes to) a b → spent_told b.events ≡ spent_told a.events
+sent-none moment bytes to a b adds = told-none a.events b.events _ adds.events adds.events_due refl
+
+pub event-spent : (moment index : ℕ) (body : Body) (a b : Tellings) → Adds (with_event moment (told.Spent index body)) a b → TellsOf (record { index = index; body = body } ∷ []) a.events b.events b.failed
+event-spent moment index body a b adds =
+    let due : journal.Event = record { moment = moment; what = told.Spent index body } in
+    let whole = told-append a.events (due ∷ []) in
+    record {
+      all = λ fine. ap (λ (t : Tellings). spent_told t.events) (adds.going fine).1 ∙ whole;
+      front = subst (λ (z : List Spent). IsFront (spent_told b.events) z) whole (front-told b.events (a.events ++ due ∷ []) adds.events_due);
+    }
+
+-- ---- steps
+
+pub nothing-trans : (a b c : Kept) → SignsNothing a b → SignsNothing b c → SignsNothing a c
+nothing-trans a b c p q = record { signer = q.signer ∙ p.signer; told_none = q.told_none ∙ p.told_none }
+
+pub spent-then : (index : ℕ) (body : Body) (a b c : Kept) → TellsSpent index body a b → SignsNothing b c → (c.telling.failed ≡ false → b.telling.failed ≡ false) → TellsSpent index body a c
+spent-then index body a b c p q going = record {
+  signer = q.signer ∙ p.signer;
+  tells = record {
+    all = λ fine. q.told_none ∙ p.tells.all (going fine);
+    front = subst (λ (z : List Spent). IsFront z (spent_told a.telling.events ++ record { index = index; body = body } ∷ [])) (sym q.told_none) p.tells.front;
+  };
+}
+
+front-wider : (done more later : List Spent) → IsFront done more → IsFront done (more ++ later)
+front-wider done more later h = front-trans done more (more ++ later) h (record { more = later; is = refl })
+
+-- nothing is spent, and nothing becomes of the disk
+pub lives-same : (s later : SignerState) (moments : List Moment) → later ≡ s → LivesOn [] s later moments moments
+lives-same s later moments same = record {
+  lives = λ tag before spent living. subst (λ (z : List Spent). IsLiving tag before z later moments) (sym (nil-right spent)) (subst (λ (x : SignerState). IsLiving tag before spent x moments) (sym same) living);
+  any_moment = λ tag before spent living. Since-same (EndsWithin tag before spent []) moments;
+}
+
+pub lives-trans : (first second : List Spent) (a b c : SignerState) (x y z : List Moment) → LivesOn first a b x y → LivesOn second b c y z → LivesOn (first ++ second) a c x z
+lives-trans first second a b c x y z p q = record {
+  lives = λ tag before spent living. subst (λ (w : List Spent). IsLiving tag before w c z) (append_assoc spent first second) (q.lives tag before (spent ++ first) (p.lives tag before spent living));
+  any_moment = λ tag before spent living.
+      Since-trans (EndsWithin tag before spent (first ++ second)) x y z
+      (Since-weaken (EndsWithin tag before spent first) (EndsWithin tag before spent (first ++ second)) x y
+      (λ m h. record { done = h.done; front = front-wider h.done first second h.front; ends = h.ends }) (p.any_moment tag before spent living))
+      (Since-weaken (EndsWithin tag before (spent ++ first) second) (EndsWithin tag before spent (first ++ second)) y z
+      (λ m h. record {
+        done = first ++ h.done;
+        front = front-after first h.done second h.front;
+        ends = subst (λ (w : List Spent). EndsLives tag before w m) (append_assoc spent first h.done) h.ends;
+      }) (q.any_moment tag before (spent ++ first) (p.lives tag before spent living)));
+}
+
+-- one signature, or none
+pub lives-signed : (s later : SignerState) (body : Body) (result : Result CheckedRecord SignFault) (failures failures_now : ℕ) (made made_now : Option (List DiskCall)) (older newer : List Moment)
+    → Signs s later body result failures failures_now made made_now older newer → LivesOn (spent_in s body result) s later older newer
+lives-signed s later body result failures failures_now made made_now older newer h = record {
+  lives = h.lives;
+  any_moment = λ tag before spent living. Since-weaken (EndsLives tag before spent) (EndsWithin tag before spent (spent_in s body result)) older newer
+      (λ m ends. record { done = []; front = record { more = spent_in s body result; is = refl }; ends = subst (λ (w : List Spent). EndsLives tag before w m) (sym (nil-right spent)) ends })
+      (h.any_life tag before spent living);
+}
+
+-- a step that signs nothing, beside the disk
+pub spends-none : (a b : Kept) (moments : List Moment) → SignsNothing a b → Spends a b moments moments
+spends-none a b moments h = record {
+  spent = [];
+  tells = record {
+    all = λ fine. h.told_none ∙ sym (nil-right (spent_told a.telling.events));
+    front = record { more = []; is = refl ∙ ap (λ (z : List Spent). z ++ []) (sym h.told_none) };
+  };
+  key = lives-same a.signer b.signer moments h.signer;
+}
+
+pub spends-after : (a b c : Kept) (x y : List Moment) → SignsNothing a b → Spends b c x y → Spends a c x y
+spends-after a b c x y p q = record {
+  spent = q.spent;
+  tells = record {
+    all = λ fine. q.tells.all fine ∙ ap (λ (z : List Spent). z ++ q.spent) p.told_none;
+    front = subst (λ (z : List Spent). IsFront (spent_told c.telling.events) (z ++ q.spent)) p.told_none q.tells.front;
+  };
+  key = subst (λ (s : SignerState). LivesOn q.spent s c.signer x y) p.signer q.key;
+}
+
+pub spends-before : (a b c : Kept) (x y : List Moment) → Spends a b x y → SignsNothing b c → (c.telling.failed ≡ false → b.telling.failed ≡ false) → Spends a c x y
+spends-before a b c x y p q going = record {
+  spent = p.spent;
+  tells = record {
+    all = λ fine. q.told_none ∙ p.tells.all (going fine);
+    front = subst (λ (z : List Spent). IsFront z (spent_told a.telling.events ++ p.spent)) (sym q.told_none) p.tells.front;
+  };
+  key = subst (λ (s : SignerState). LivesOn p.spent a.signer s x y) (sym q.signer) p.key;
+}
+
+pub spends-trans : (a b c : Kept) (x y z : List Moment) → Spends a b x y → Grows b c → Spends b c y z → Spends a c x z
+spends-trans a b c x y z p grows q = record {
+  spent = p.spent ++ q.spent;
+  tells = record {
+    all = λ fine. q.tells.all fine ∙ ap (λ (w : List Spent). w ++ q.spent) (p.tells.all (grows.going fine)) ∙ append_assoc (spent_told a.telling.events) p.spent q.spent;
+    front = elim (cases_Bool b.telling.failed) [
+      | inl failed ↦
+          let same : spent_told c.telling.events ≡ spent_told b.telling.events = ap (λ (t : Tellings). spent_told t.events) (grows.stuck failed) in
+          let wider : IsFront (spent_told a.telling.events ++ p.spent) (spent_told a.telling.events ++ (p.spent ++ q.spent)) = record { more = q.spent; is = sym (append_assoc (spent_told a.telling.events) p.spent q.spent) } in
+          subst (λ (w : List Spent). IsFront w (spent_told a.telling.events ++ (p.spent ++ q.spent))) (sym same) (front-trans (spent_told b.telling.events) (spent_told a.telling.events ++ p.spent) (spent_told a.telling.events ++ (p.spent ++ q.spent)) p.tells.front wider)
+      | inr fine ↦
+          let whole : spent_told b.telling.events ++ q.spent ≡ spent_told a.telling.events ++ (p.spent ++ q.spent) = ap (λ (w : List Spent). w ++ q.spent) (p.tells.all fine) ∙ append_assoc (spent_told a.telling.events) p.spent q.spent in
+          subst (λ (w : List Spent). IsFront (spent_told c.telling.events) w) whole q.tells.front
+    ];
+  };
+  key = lives-trans p.spent q.spent a.signer b.signer c.signer x y z p.key q.key;
+}
+
+-- what a signer's call does to a node's signer, and what the node tells of it
+pub spends-signed : (a b c : Kept) (x y : List Moment) (spent : List Spent) → b.telling ≡ a.telling → LivesOn spent a.signer b.signer x y → c.signer ≡ b.signer → TellsOf spent b.telling.events c.telling.events c.telling.failed → Spends a c x y
+spends-signed a b c x y spent same lives signer tells = record {
+  spent = spent;
+  tells = subst (λ (t : Tellings). TellsOf spent t.events c.telling.events c.telling.failed) same tells;
+  key = subst (λ (s : SignerState). LivesOn spent a.signer s x y) (sym signer) lives;
+}
+
+pub nothing-same : (a : Kept) → SignsNothing a a
+nothing-same a = record { signer = refl; told_none = refl }
+
+-- the signature was made, and is told
+pub signed-spends : (v w v1 : Kept) (later : SignerState) (x y : List Moment) (index : ℕ) (said body : Body) → v ≡ w → index ≡ v.signer.state.next → said ≡ body
+    → LivesOn (record { index = v.signer.state.next; body = body } ∷ []) v.signer later x y → TellsSpent index said (record v { signer = later }) v1 → Spends w v1 x y
+signed-spends v w v1 later x y index said body view at is lives h =
+    subst (λ (a : Kept). Spends a v1 x y) view (
+    let one : ℕ → Body → List Spent = λ k b. record { index = k; body = b } ∷ [] in
+    let same : one index said ≡ one v.signer.state.next body = ap (λ (k : ℕ). one k said) at ∙ ap (λ (b : Body). one v.signer.state.next b) is in
+    record {
+      spent = one v.signer.state.next body;
+      tells = subst (λ (spent : List Spent). TellsOf spent v.telling.events v1.telling.events v1.telling.failed) same (record { all = h.tells.all; front = h.tells.front });
+      key = subst (λ (s : SignerState). LivesOn (one v.signer.state.next body) v.signer s x y) (sym h.signer) lives;
+    })
+
+-- no signature was made
+pub unsigned-spends : (v w v1 : Kept) (later : SignerState) (x y : List Moment) → v ≡ w → LivesOn [] v.signer later x y → SignsNothing (record v { signer = later }) v1 → Spends w v1 x y
+unsigned-spends v w v1 later x y view lives h =
+    subst (λ (a : Kept). Spends a v1 x y) view
+    (record {
+      spent = [];
+      tells = record {
+        all = λ fine. h.told_none ∙ sym (nil-right (spent_told v.telling.events));
+        front = record { more = []; is = ap (λ (z : List Spent). z ++ []) (sym h.told_none) };
+      };
+      key = subst (λ (s : SignerState). LivesOn [] v.signer s x y) (sym h.signer) lives;
+    })
+
+-- memory was refused
+pub refused-none : (v w v1 : Kept) → v ≡ w → v1.signer ≡ v.signer → v1.telling ≡ record v.telling { failed = true } → SignsNothing w v1
+refused-none v w v1 view signer telling =
+    subst (λ (a : Kept). SignsNothing a v1) view (record { signer = signer; told_none = ap (λ (t : Tellings). spent_told t.events) telling })
+
+-- ---- a call
+
+pub tells-so : {T : Type 0} (result : Result T NodeFault) (failed : Bool) (before after added : List journal.Event) (spent : List Spent) → after ≡ before ++ added → TellsOf spent before after failed
+    → (failed ≡ true → IsFront (spent_told added) spent → TellsSo result spent (spent_told added)) → (failed ≡ false → spent_told added ≡ spent → TellsSo result spent (spent_told added)) → TellsSo result spent (spent_told added)
+tells-so result failed before after added spent is tells whenever fine =
+    let whole : spent_told after ≡ spent_told before ++ spent_told added = ap spent_told is ∙ told-append before added in
+    elim (cases_Bool failed) [
+      | inl refused ↦
+          let h = tells.front in
+          whenever refused (record { more = h.more; is = append-cancel (spent_told before) spent (spent_told added ++ h.more) (h.is ∙ ap (λ (z : List Spent). z ++ h.more) whole ∙ append_assoc (spent_told before) (spent_told added) h.more) })
+      | inr ok ↦ fine ok (append-cancel (spent_told before) (spent_told added) spent (sym whole ∙ tells.all ok))
+    ]
+
+tells-done : (result : Result (Unit {0}) NodeFault) (spent said : List Spent) → IfErr result (λ e. e ≡ faults.StoreFault) → said ≡ spent → TellsSo result spent said
+tells-done (Ok x) spent said cause same = same
+tells-done (Err e) spent said cause same = subst (λ (f : NodeFault). TellsSo {T = Unit {0}} (Err f) spent said) (sym cause) same
+
+pub call-spends : (w : Kept) (v0 v1 v2 : Kept) (x y : List Moment) (done answer : Result (Unit {0}) NodeFault) (before after : List journal.Event) → v0.signer ≡ w.signer → v0.telling.events ≡ before → Spends v0 v1 x y → Grows v0 v1
+    → IfErr done (λ e. e ≡ faults.StoreFault) → (v1.telling.failed ≡ true → answer ≡ Err faults.OutOfMemory) → (v1.telling.failed ≡ false → answer ≡ done)
+    → v2 ≡ record v1 { telling = v2.telling; ended = v2.ended } → after ≡ v1.telling.events → SpendsIn answer w.signer v2.signer x y before after
+call-spends w v0 v1 v2 x y done answer before after view from spends grows cause memory going frame given =
+    let added : List journal.Event = grows.events.more in
+    let tells : TellsOf spends.spent before v1.telling.events v1.telling.failed = subst (λ (es : List journal.Event). TellsOf spends.spent es v1.telling.events v1.telling.failed) from spends.tells in
+    let is : v1.telling.events ≡ before ++ added = grows.events.is ∙ ap (λ (es : List journal.Event). es ++ added) from in
+    record {
+      spent = spends.spent;
+      added = added;
+      after_is = given ∙ is;
+      tells = tells-so answer v1.telling.failed before v1.telling.events added spends.spent is tells
+          (λ failed front. subst (λ (r : Result (Unit {0}) NodeFault). TellsSo r spends.spent (spent_told added)) (sym (memory failed)) front)
+          (λ fine same. subst (λ (r : Result (Unit {0}) NodeFault). TellsSo r spends.spent (spent_told added)) (sym (going fine)) (tells-done done spends.spent (spent_told added) cause same));
+      key = subst (λ (s : SignerState). LivesOn spends.spent s v2.signer x y) view (subst (λ (s : SignerState). LivesOn spends.spent v0.signer s x y) (sym (ap (λ (v : Kept). v.signer) frame)) spends.key);
+    }
+
+-- what a call's own events tell of, where they are what was added
+pub spent-of_call : {T : Type 0} (result : Result T NodeFault) (s later : SignerState) (x y : List Moment) (before after told : List journal.Event) (h : SpendsIn result s later x y before after) → after ≡ before ++ told → TellsSo result h.spent (spent_told told)
+spent-of_call result s later x y before after told h given =
+    subst (λ (es : List journal.Event). TellsSo result h.spent (spent_told es)) (append-cancel before h.added told (sym h.after_is ∙ given)) h.tells
+
+-- a call that does nothing
+pub idle-spends : {T : Type 0} (result : Result T NodeFault) (s later : SignerState) (x y : List Moment) (before after : List journal.Event) → TellsSo result [] [] → later ≡ s → y ≡ x → after ≡ before → SpendsIn result s later x y before after
+idle-spends result s later x y before after tells signer moments same = record {
+  spent = [];
+  added = [];
+  after_is = same ∙ sym (nil-right before);
+  tells = tells;
+  key = subst (λ (z : List Moment). LivesOn [] s later x z) (sym moments) (lives-same s later x signer);
+}
+
+-- ---- the start of a life
+
+-- the first note is told, and the life goes on with its key
+pub start-spends : (s signer : SignerState) (node : Kept) (x y : List Moment) (spent : List Spent) (over before told_by after : List journal.Event) (failed : Bool)
+    → LivesOn spent s signer x y → node.signer ≡ signer → over ≡ before → TellsOf spent over told_by failed → failed ≡ false → IsFront over told_by → after ≡ told_by → StartSpends s x y before after (Ok node)
+start-spends s signer node x y spent over before told_by after failed lives same from tells fine front given = record {
+  spent = spent;
+  added = front.more;
+  after_is = given ∙ front.is ∙ ap (λ (es : List journal.Event). es ++ front.more) from;
+  tells = append-cancel (spent_told over) (spent_told front.more) spent (sym (told-append over front.more) ∙ sym (ap spent_told front.is) ∙ tells.all fine);
+  key = subst (λ (x1 : SignerState). LivesOn spent s x1 x y) (sym same) lives;
+}
+
+none-untold : (fault : NodeFault) → TellsSo {T = Unit {0}} (Err fault) [] []
+none-untold faults.StoreFault = refl
+none-untold faults.OutOfMemory = record { more = []; is = refl }
+none-untold (faults.Exhausted next) = refl
+none-untold faults.Ended = refl
+
+-- nothing was signed
+pub unsigned-untold : (fault : NodeFault) (s later : SignerState) (x y : List Moment) → LivesOn [] s later x y → SpendsUntold fault s x y
+unsigned-untold fault s later x y lives = record { later = later; spent = []; tells = none-untold fault; key = lives }
+
+-- memory was refused behind the signature
+pub signed-untold : (s later : SignerState) (x y : List Moment) (spent : List Spent) → LivesOn spent s later x y → SpendsUntold faults.OutOfMemory s x y
+signed-untold s later x y spent lives = record { later = later; spent = spent; tells = record { more = spent; is = refl }; key = lives }
+
+-- the first note, by its index
+pub first-lives : (s later : SignerState) (x y : List Moment) (index : ℕ) (said body : Body) → index ≡ s.state.next → said ≡ body → LivesOn (record { index = s.state.next; body = body } ∷ []) s later x y → LivesOn (record { index = index; body = said } ∷ []) s later x y
+first-lives s later x y index said body at is lives =
+    let one : ℕ → Body → List Spent = λ k b. record { index = k; body = b } ∷ [] in
+    let same : one index said ≡ one s.state.next body = ap (λ (k : ℕ). one k said) at ∙ ap (λ (b : Body). one s.state.next b) is in
+    subst (λ (spent : List Spent). LivesOn spent s later x y) (sym same) lives
