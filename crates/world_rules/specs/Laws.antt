@@ -1,0 +1,85 @@
+-- What holds in each world that lines lead to, none of which is forged.
+use Rattle.std.specs.Prelude.{◌≡◌, ◌⊎◌, ℕ, ◌≤◌, Bool, true, false, ◌&&◌, ◌==◌, List, [], ◌++◌, Some, Ok, filter, flat_map, map, take}
+use Rattle.std.specs.List.{AllByRecursion, slice_get}
+use Rattle.ff_ids.specs.Lives.{opening, IsJustified}
+use Rattle.records.specs.declared.Record.{Record}
+use Rattle.signer.specs.Lives.{IsOnce}
+use Rattle.datagram.specs.declared.Datagram.TheVariants as kinds
+use Rattle.datagram.specs.Grammar.{read_of}
+use Rattle.node_rules.specs.Nodes as node
+use Rattle.node_rules.specs.Calls.{Call}
+use Rattle.node_rules.specs.Deliveries.{delivered, delivered_until}
+use Rattle.node_rules.specs.Ticking.{silent_at, ticked, ticked_until}
+use Rattle.node_rules.specs.Lives.{Input, Delivers, Ticks, is_of_life, told_by}
+use Rattle.world_rules.specs.Lines.{WorldLine}
+use Rattle.world_rules.specs.Settings.{Setting, is_node, is_liar}
+use Rattle.world_rules.specs.Disks.{Disk}
+use Rattle.world_rules.specs.Calls.{called_on}
+use Rattle.world_rules.specs.Worlds.{World, begun_world, lives_of, spent_of}
+use Rattle.world_rules.specs.Steps.{Answer, Told, step}
+
+-- Lines, none of which is forged, lead to the world, and these events were told on the way.
+pub data Reached (s : Setting) : World → List Told → Type 0 where
+  opens_so : Reached s (begun_world s) []
+  goes : (w : World) (told : List Told) (line : WorldLine) (a : Answer) → Reached s w told → step s w line ≡ Ok a → Reached s a.world (told ++ a.told)
+
+-- The group has at least three rings, and at most 31, and nobody is both a node and a liar.
+pub record IsSetting (s : Setting) : Type 0 where
+  pub some : 1 ≤ s.group.t
+  pub few : s.group.t ≤ 15
+  pub apart : (m : ℕ) → is_node s m ≡ true → is_liar s m ≡ false
+
+-- ---- how far a call comes
+
+-- The disk stopped in the answer to a record of the datagram: what came before is the definition's, and the life is over.
+pub record StopsAnswering (s : node.Setting) (n : node.Node) (bytes : List ℕ) (c : Call) : Type 0 where
+  pub from : ℕ
+  pub records : List Record
+  pub read : read_of bytes ≡ Ok (kinds.Records from records)
+  pub place : ℕ
+  pub at : Record
+  pub found : slice_get records place ≡ Some at
+  pub is : c ≡ delivered_until s n (take place records) at
+  pub over : c.ended ≡ true
+
+-- The disk stopped in the accusation of a silent member.
+pub record StopsAccusing (s : node.Setting) (n : node.Node) (c : Call) : Type 0 where
+  pub place : ℕ
+  pub at : ℕ
+  pub found : slice_get (silent_at s n) place ≡ Some at
+  pub is : c ≡ ticked_until s n (take place (silent_at s n)) at
+  pub over : c.ended ≡ true
+
+-- The call was answered whole.
+pub record IsWhole (c whole : Call) : Type 0 where
+  pub is : c ≡ whole
+  pub going : c.ended ≡ false
+
+-- A call over a disk is the node's call, whole or as far as the disk let it come.
+abbrev pub ComesSoFar : node.Setting → node.Node → Input → Call → Type 0
+ComesSoFar s n (Delivers bytes) c = IsWhole c (delivered s n bytes) ⊎ StopsAnswering s n bytes c
+ComesSoFar s n Ticks c = IsWhole c (ticked s n) ⊎ StopsAccusing s n c
+
+abbrev pub CallsComeSoFar : Type 0
+CallsComeSoFar = (s : node.Setting) (n : node.Node) (i : Input) (d : Disk) → ComesSoFar s n i (called_on s n i d).call
+
+-- ---- lives
+
+-- The event tells of the view of this node, or of an accusation there.
+abbrev pub tells_life : ℕ → Told → Bool
+tells_life m t = (t.who == m) && is_of_life t.event.what
+
+-- What was told of the views of a node is what its lives tell, one after another; and each removal in a life rests on an
+-- accusation that stood for the timeout, by the node's monitor of the member.
+pub record TellsLives (s : Setting) (w : World) (told : List Told) (m : ℕ) : Type 0 where
+  pub told_so : map (λ t. t.event) (filter (tells_life m) told) ≡ flat_map (λ life. told_by s.group (opening []) life.node.lived) (lives_of w m)
+  pub justified : AllByRecursion (λ life. IsJustified s.group (opening []) life.node.lived) (lives_of w m)
+
+abbrev pub EachRemovalIsJustified : Type 0
+EachRemovalIsJustified = (s : Setting) (w : World) (told : List Told) (m : ℕ) → Reached s w told → TellsLives s w told m
+
+-- ---- what is spent
+
+-- Over all lives of a node the indexes that its key spends rise, and so do the epochs of its notes.
+abbrev pub NodesSpendOnce : Type 0
+NodesSpendOnce = (s : Setting) (w : World) (told : List Told) (m : ℕ) → IsSetting s → Reached s w told → is_node s m ≡ true → IsOnce (spent_of w (Some m))

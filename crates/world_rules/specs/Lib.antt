@@ -1,0 +1,13 @@
+pub mod Lines
+pub mod Settings
+pub mod Keys
+pub mod Disks
+pub mod Calls
+pub mod Worlds
+pub mod Forgeries
+pub mod Verdicts
+pub mod Refusals
+pub mod Steps
+pub mod Walk
+pub mod Counts
+pub mod Laws
