@@ -34,8 +34,8 @@ fn other_at(numbers: &[MemberId], me: MemberId, place: usize) -> Option<MemberId
     None
 }
 
-/// Of the numbers other than `me`, in their order, the one whose turn it is in this round.
-fn in_turn(numbers: &[MemberId], me: MemberId, round: u64) -> Option<MemberId>
+/// Of the numbers other than `me`, in their order, the one whose turn it is in this round; none where there is no other.
+pub fn in_turn(numbers: &[MemberId], me: MemberId, round: u64) -> Option<MemberId>
     ensures { result ≡ in_turn (others numbers.now me) round }
 {
     let count = count_others(numbers, me);

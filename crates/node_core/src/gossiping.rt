@@ -5,7 +5,6 @@ ghost use Rattle.std.specs.List.{slice_get, last_or};
 ghost use Rattle.ff_ids.specs.Views.{all_numbers};
 ghost use Rattle.journal.specs.declared.event.Event as journal;
 ghost use Rattle.validate.specs.Certified.{certificate_of};
-ghost use Rattle.gossip.specs.Partners.{others, in_turn as in_turn_of};
 ghost use Rattle.node_rules.specs.Nodes.{Setting, Node as RulesNode};
 ghost use Rattle.node_rules.specs.Pages.{partner as partner_of};
 ghost use Rattle.node_rules.specs.Calls.{Call, sends};
@@ -19,7 +18,7 @@ use crate::hearing::bytes_of;
 use datagram::Datagram;
 use ff_ids::{MEMBERS, MemberId, RingNo};
 use fields::NoMemory;
-use gossip::page_of;
+use gossip::{in_turn, page_of};
 use std::alloc::Global;
 use validate::Roster;
 
@@ -47,41 +46,6 @@ fn certified(alloc: Global, roster: &Roster) -> Result<Vec<MemberId>, NoMemory>
         list_certified(roster, MemberId::new(number), &mut listed)?;
     }
     Ok(listed)
-}
-
-/// How many of the numbers are others than `me`.
-fn count_others(numbers: &[MemberId], me: MemberId) -> usize
-    ensures { result ≡ length (others numbers.now me) }
-{
-    numbers.iter().filter(|member| **member != me).count()
-}
-
-/// Of the numbers other than `me`, in their order, the one at this place.
-fn other_at(numbers: &[MemberId], me: MemberId, place: usize) -> Option<MemberId>
-    ensures { result ≡ slice_get (others numbers.now me) place }
-{
-    let mut left = place;
-    for member in numbers {
-        if *member == me {
-            continue;
-        }
-        if left == 0 {
-            return Some(*member);
-        }
-        left -= 1;
-    }
-    None
-}
-
-/// Of the numbers other than `me`, in their order, the one whose turn it is in this round.
-fn in_turn(numbers: &[MemberId], me: MemberId, round: u64) -> Option<MemberId>
-    ensures { result ≡ in_turn_of (others numbers.now me) round }
-{
-    let count = count_others(numbers, me);
-    if count == 0 {
-        return None;
-    }
-    other_at(numbers, me, (round % count as u64) as usize)
 }
 
 /// The last of the numbers, 0 where there is none.
