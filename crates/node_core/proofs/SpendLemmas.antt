@@ -1,6 +1,6 @@
 -- What is told of signatures, and what becomes of the key.
 use Rattle.std.proofs.Common.{◌≡◌, ℕ, Bool, true, false, inl, inr, Option, List, [], ◌∷◌, ◌++◌, map, refl, ap, sym, ◌∙◌, subst, append_assoc, Result, Ok, Err}
-use Rattle.std.specs.Prelude.{IfErr}
+use Rattle.std.specs.Prelude.{IfErr, OnOk}
 use Rattle.std.proofs.lemmas.Bool.{cases_Bool}
 use Rattle.ports.specs.Disk.{Moment}
 use Rattle.ports.specs.DiskCalls.{DiskCall}
@@ -308,3 +308,18 @@ first-lives s later x y index said body at is lives =
     let one : ℕ → Body → List Spent = λ k b. record { index = k; body = b } ∷ [] in
     let same : one index said ≡ one s.state.next body = ap (λ (k : ℕ). one k said) at ∙ ap (λ (b : Body). one s.state.next b) is in
     subst (λ (spent : List Spent). LivesOn spent s later x y) (sym same) lives
+
+-- ---- the signer is open as before
+
+-- where the answer is Ok it is so behind what leaves it
+pub open-further : {T : Type 0} (result : Result T NodeFault) (a b c : Bool) → OnOk result (c ≡ b) → b ≡ a → OnOk result (c ≡ a)
+open-further (Ok x) a b c h e = h ∙ e
+open-further (Err fault) a b c h e = record {}
+
+-- a call that is answered was done
+pub open-by : (done answer : Result (Unit {0}) NodeFault) (failed a b c : Bool) → OnOk done (b ≡ a) → c ≡ b → (failed ≡ true → answer ≡ Err faults.OutOfMemory) → (failed ≡ false → answer ≡ done) → OnOk answer (c ≡ a)
+open-by done answer failed a b c h same memory going =
+    elim (cases_Bool failed) [
+      | inl is ↦ subst (λ (r : Result (Unit {0}) NodeFault). OnOk r (c ≡ a)) (sym (memory is)) (record {})
+      | inr fine ↦ subst (λ (r : Result (Unit {0}) NodeFault). OnOk r (c ≡ a)) (sym (going fine)) (subst (λ (x : Bool). OnOk done (x ≡ a)) (sym same) h)
+    ]

@@ -100,6 +100,7 @@ pub record IsFirst (old new : SignerState) (t me : ℕ) (f : First) : Type 0 whe
   pub key : new.key ≡ old.key
   pub state : new.state ≡ stored_after old.state (Note f.note)
   pub group : new.group ≡ old.group
+  pub closed : new.closed ≡ old.closed
   pub good : good_mask t new.state.mask.0 ≡ true
 
 -- What is spent on it.

@@ -16,3 +16,4 @@ pub record Handled (old now : Kept) (older newer : List Moment) (records rest : 
   pub plays : (s : Setting) (es : List journal.Event) (os : List (ℕ × List ℕ)) (c : Call) → Plays s es os old c → Plays s es os now (handles_all s done c)
   pub grows : Grows old now
   pub spends : Spends old now older newer
+  pub closed : now.signer.closed ≡ old.signer.closed

@@ -28,6 +28,7 @@ pub record Accused (old now : Kept) (older newer : List Moment) (silent rest : L
   pub plays : (s : Setting) (es : List journal.Event) (os : List (ℕ × List ℕ)) (c : Call) → Plays s es os old c → Plays s es os now (accuses_all s done c)
   pub grows : Grows old now
   pub spends : Spends old now older newer
+  pub closed : now.signer.closed ≡ old.signer.closed
 
 -- What a due tick brings behind the tick of the life, or the disk failed in an accusation.
 abbrev pub RunsDue : (Call → Type 0) → (Call → Call → Type 0) → Setting → List ℕ → List (ℕ × ℕ) → ℕ → Call → Result (Unit {0}) NodeFault → Type 0

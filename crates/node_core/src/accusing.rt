@@ -1,6 +1,6 @@
 //! Accusations of the silent.
 
-ghost use Rattle.std.specs.Prelude.{◌≡◌, ℕ, ◌≤◌, ◌<◌, ◌&&◌, ◌∷◌, List, Option, Some, true, filter, take, IfErr, IfSome, is_err};
+ghost use Rattle.std.specs.Prelude.{◌≡◌, ℕ, ◌≤◌, ◌<◌, ◌&&◌, ◌∷◌, List, Option, Some, true, filter, take, IfErr, IfSome, is_err, OnOk};
 ghost use Rattle.std.specs.List.{list_any, range_with_len, slice_get};
 ghost use Rattle.std.specs.Option.{option_map};
 ghost use Rattle.ff_ids.specs.Masks.{ring_count, enables, enabled};
@@ -100,6 +100,7 @@ impl Node {
             → Runs (Plays s es os self.new) (Stops s es os self.new) (λ works. accuses works s c member) result }
         ensures grows { Grows self.old self.new }
         ensures spends { Spends self.old self.new (D.moments disk.old) (D.moments disk.new) }
+        ensures closed { OnOk result (self.new.signer.closed ≡ self.old.signer.closed) }
         ensures faults { D.faults disk.new ≡ counted (is_err result) (D.faults disk.old) }
         ensures cause { IfErr result (λ e. e ≡ faults.StoreFault) }
     {
@@ -137,6 +138,7 @@ impl Node {
             → RunsAccusing (Plays s es os self.new) (Stops s es os self.new) s silent.items c result }
         ensures grows { Grows self.old self.new }
         ensures spends { Spends self.old self.new (D.moments disk.old) (D.moments disk.new) }
+        ensures closed { OnOk result (self.new.signer.closed ≡ self.old.signer.closed) }
         ensures faults { D.faults disk.new ≡ counted (is_err result) (D.faults disk.old) }
         ensures cause { IfErr result (λ e. e ≡ faults.StoreFault) }
     {

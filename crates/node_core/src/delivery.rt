@@ -37,6 +37,7 @@ impl Node {
             → RunsHearing (Plays s es os self.new) (Stops s es os self.new) s (Ok datagram) c result }
         ensures grows { Grows self.old self.new }
         ensures spends { Spends self.old self.new (D.moments disk.old) (D.moments disk.new) }
+        ensures closed { OnOk result (self.new.signer.closed ≡ self.old.signer.closed) }
         ensures faults { D.faults disk.new ≡ counts_faults (is_err result) (D.faults disk.old) }
         ensures cause { IfErr result (λ e. e ≡ faults.StoreFault) }
     {
@@ -80,6 +81,7 @@ impl Node {
             → RunsHearing (Plays s es os self.new) (Stops s es os self.new) s (read_of bytes.now) c result }
         ensures grows { Grows self.old self.new }
         ensures spends { Spends self.old self.new (D.moments disk.old) (D.moments disk.new) }
+        ensures closed { OnOk result (self.new.signer.closed ≡ self.old.signer.closed) }
         ensures faults { D.faults disk.new ≡ counts_faults (is_err result) (D.faults disk.old) }
         ensures cause { IfErr result (λ e. e ≡ faults.StoreFault) }
     {
@@ -137,6 +139,7 @@ impl Node {
         ensures still { self.old.ended ≡ true → (self.new ≡ self.old) × (disk.new ≡ disk.old) × (events.new ≡ events.old) × (out.new ≡ out.old) }
         ensures stands { Stands (record { events = events.old; sent = out.old }) (record { events = events.new; sent = out.new }) }
         ensures spends { SpendsIn result self.old.signer self.new.signer (D.moments disk.old) (D.moments disk.new) events.old events.new }
+        ensures closed { OnOk result (self.new.signer.closed ≡ self.old.signer.closed) }
         ensures faults { IfErr result (λ e. e ≡ faults.StoreFault → Rose (D.faults disk.old) (D.faults disk.new)) }
         ensures calm { OnOk result (D.faults disk.new ≡ D.faults disk.old) }
     {

@@ -1,7 +1,7 @@
 //! Delivered records: each is refused for its first fault, or accepted, and an accepted accusation against this node
 //! is answered at once.
 
-ghost use Rattle.std.specs.Prelude.{◌≡◌, ℕ, ◌≤◌, ◌<◌, List, true, None, Some, IfErr, IfSome, is_err, length, slice_index, All};
+ghost use Rattle.std.specs.Prelude.{◌≡◌, ℕ, ◌≤◌, ◌<◌, List, true, None, Some, IfErr, IfSome, is_err, length, slice_index, All, OnOk};
 ghost use Rattle.ff_ids.specs.Masks.{ring_count};
 ghost use Rattle.ports.specs.Count.{counted};
 ghost use Rattle.journal.specs.declared.event.Event as journal;
@@ -74,6 +74,7 @@ impl Node {
             → Runs (Plays s es os self.new) (Stops s es os self.new) (λ works. answers works s (bodies.Accusation acc.now) c) result }
         ensures grows { Grows self.old self.new }
         ensures spends { Spends self.old self.new (D.moments disk.old) (D.moments disk.new) }
+        ensures closed { OnOk result (self.new.signer.closed ≡ self.old.signer.closed) }
         ensures faults { D.faults disk.new ≡ counted (is_err result) (D.faults disk.old) }
         ensures cause { IfErr result (λ e. e ≡ faults.StoreFault) }
     {
@@ -104,6 +105,7 @@ impl Node {
             → Runs (Plays s es os self.new) (Stops s es os self.new) (λ works. answers works s body.now (takes s rec.rec c)) result }
         ensures grows { Grows self.old self.new }
         ensures spends { Spends self.old self.new (D.moments disk.old) (D.moments disk.new) }
+        ensures closed { OnOk result (self.new.signer.closed ≡ self.old.signer.closed) }
         ensures faults { D.faults disk.new ≡ counted (is_err result) (D.faults disk.old) }
         ensures cause { IfErr result (λ e. e ≡ faults.StoreFault) }
     {
@@ -134,6 +136,7 @@ impl Node {
             → Runs (Plays s es os self.new) (Stops s es os self.new) (λ works. handles works s c rec) result }
         ensures grows { Grows self.old self.new }
         ensures spends { Spends self.old self.new (D.moments disk.old) (D.moments disk.new) }
+        ensures closed { OnOk result (self.new.signer.closed ≡ self.old.signer.closed) }
         ensures faults { D.faults disk.new ≡ counted (is_err result) (D.faults disk.old) }
         ensures cause { IfErr result (λ e. e ≡ faults.StoreFault) }
     {

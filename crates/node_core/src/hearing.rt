@@ -1,6 +1,6 @@
 //! What is heard: records, pings and pongs.
 
-ghost use Rattle.std.specs.Prelude.{◌≡◌, ℕ, ◌≤◌, ◌<◌, ◌++◌, ◌∷◌, List, IfOk, IfErr, is_err, All};
+ghost use Rattle.std.specs.Prelude.{◌≡◌, ℕ, ◌≤◌, ◌<◌, ◌++◌, ◌∷◌, List, IfOk, IfErr, is_err, All, OnOk};
 ghost use Rattle.ports.specs.Count.{counted as counts_faults};
 ghost use Rattle.journal.specs.declared.event.Event as journal;
 ghost use Rattle.records.specs.Spelling.{HasPort};
@@ -48,6 +48,7 @@ impl Node {
             → RunsAll (Plays s es os self.new) (Stops s es os self.new) s records.items c result }
         ensures grows { Grows self.old self.new }
         ensures spends { Spends self.old self.new (D.moments disk.old) (D.moments disk.new) }
+        ensures closed { OnOk result (self.new.signer.closed ≡ self.old.signer.closed) }
         ensures faults { D.faults disk.new ≡ counts_faults (is_err result) (D.faults disk.old) }
         ensures cause { IfErr result (λ e. e ≡ faults.StoreFault) }
     {

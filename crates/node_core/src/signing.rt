@@ -1,6 +1,6 @@
 //! Own signatures: each is told, accepted and sent, or it isn't made.
 
-ghost use Rattle.std.specs.Prelude.{◌≡◌, ℕ, ◌≤◌, ◌<◌, List, true, None, Some, IfErr, is_err};
+ghost use Rattle.std.specs.Prelude.{◌≡◌, ℕ, ◌≤◌, ◌<◌, List, true, None, Some, IfErr, is_err, OnOk};
 ghost use Rattle.ff_ids.specs.Masks.{ring_count, good_mask};
 ghost use Rattle.ports.specs.Count.{counted};
 ghost use Rattle.journal.specs.declared.event.Event as journal;
@@ -74,6 +74,7 @@ impl Node {
             → Runs (Plays s es os self.new) (Stops s es os self.new) (λ works. wants works s (next_own s c.node mask) (addressees s None) c) result }
         ensures grows { Grows self.old self.new }
         ensures spends { Spends self.old self.new (D.moments disk.old) (D.moments disk.new) }
+        ensures closed { OnOk result (self.new.signer.closed ≡ self.old.signer.closed) }
         ensures faults { D.faults disk.new ≡ counted (is_err result) (D.faults disk.old) }
         ensures cause { IfErr result (λ e. e ≡ faults.StoreFault) }
     {
@@ -105,6 +106,7 @@ impl Node {
             → Runs (Plays s es os self.new) (Stops s es os self.new) (λ works. wants works s (bodies.Accusation acc.now) (addressees s (Some acc.now.accused)) c) result }
         ensures grows { Grows self.old self.new }
         ensures spends { Spends self.old self.new (D.moments disk.old) (D.moments disk.new) }
+        ensures closed { OnOk result (self.new.signer.closed ≡ self.old.signer.closed) }
         ensures faults { D.faults disk.new ≡ counted (is_err result) (D.faults disk.old) }
         ensures cause { IfErr result (λ e. e ≡ faults.StoreFault) }
     {

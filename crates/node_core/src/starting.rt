@@ -168,6 +168,7 @@ fn make_ready<D: Disk>(
         → MayBegin s kit.nonce_seed (recs_of kit.certificates.items) signer.state r) }
     ensures cause { IfErr result (λ e. MayRefuse signer e) }
     ensures free { IfOk result (λ r. signer.state.next < leaf_count signer.key.tree) }
+    ensures closed { IfOk result (λ r. r.signer.closed ≡ false) }
     ensures key { IfOk result (λ r. LivesOn (record { index = r.index; body = bodies.Note r.note } ∷ []) signer r.signer (D.moments disk.old) (D.moments disk.new)) }
     ensures untold { IfErr result (λ e. SpendsUntold e signer (D.moments disk.old) (D.moments disk.new)) }
 {
@@ -294,6 +295,7 @@ impl Node {
         ensures vouchable { IfOk result (λ node. (s : Setting) → s ≡ setting_of kit.group kit.me kit.authority signer.key
             → IsVouchable s (public_of signer.key) (recs_of kit.certificates.items) signer.state) }
         ensures going { IfOk result (λ node. node.ended ≡ false) }
+        ensures closed { IfOk result (λ node. node.signer.closed ≡ false) }
         ensures silent { OnErr result (events.new ≡ events.old) }
         ensures cause { IfErr result (λ e. MayRefuse signer e) }
         ensures faults { D.faults disk.new ≡ counted (is_store_fault result) (D.faults disk.old) }

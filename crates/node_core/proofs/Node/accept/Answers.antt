@@ -1,4 +1,4 @@
-use Rattle.std.proofs.Common.{◌≡◌, true, subst, sym, ◌∙◌, rules}
+use Rattle.std.proofs.Common.{◌≡◌, true, ap, subst, sym, ◌∙◌, rules}
 use Rattle.records.specs.declared.Body.{Body}
 use Rattle.records.specs.declared.Body.TheVariants as bodies
 use Rattle.node_rules.specs.Calls.{Call, takes}
@@ -6,10 +6,11 @@ use Rattle.node_rules.specs.Deliveries.{answers}
 use Rattle.node_core.specs.Playing.{Kept, Plays}
 use Rattle.node_core.proofs.DueLemmas.{Ran, plays-refused}
 use Rattle.node_core.proofs.HandleLemmas.{free-of}
-use Rattle.node_core.proofs.SpendLemmas.{refused-none, spends-none, spends-after}
+use Rattle.node_core.proofs.SpendLemmas.{open-further, refused-none, spends-none, spends-after}
 use Rattle.std.proofs.Common.{refl}
 use Rattle.node_core.specs.contracts.Node.{the_view}
 use Rattle.node_core.proofs.ExtendLemmas.{extends-trans, extends-takes, extends-answers}
+use Rattle.signer.specs.Signing.{SignerState}
 use Rattle.node_core.proofs.Node.accept.Goals as goal
 
 pub returns-in-Certificate-clause-plays : goal.returns-in-Certificate-clause-plays
@@ -46,3 +47,6 @@ returns-then-acc-self-clause-plays g c = λ s es os call p accepted.
     let c1 : Call = takes s c.args.rec.rec call in
     let c2 : Call = answers true s c.args.body.now c1 in
     plays-refused s es os v _ call c2 c.fail.ensures (subst (λ v. Plays s es os v call) (sym c.self.view_is) p) (extends-trans call c1 c2 (extends-takes s c.args.rec.rec call) (extends-answers s c.args.body.now c1))
+
+pub returns-in-Accusation-clause-closed : goal.returns-in-Accusation-clause-closed
+returns-in-Accusation-clause-closed g c = open-further c.answer.result _ _ _ c.answer.ensures.closed (ap (λ (s : SignerState). s.closed) c.take_accusation.ensures.quiet.signer)

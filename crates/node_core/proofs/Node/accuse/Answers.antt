@@ -16,7 +16,8 @@ use Rattle.node_core.proofs.PlayLemmas.{setting-me, grows-refl, grows-trans}
 use Rattle.node_core.proofs.ExtendLemmas.{extends-accuses, extends-wants_accusation}
 use Rattle.node_core.proofs.DueLemmas.{from-fine, runs-from-fine, runs-same, plays-refused, grows-refused}
 use Rattle.node_core.proofs.AccusingLemmas.{accused-same, accuses-kept, accuses-wanted, no-note, ring-of_note, rings-same, body-is, wanted-if}
-use Rattle.node_core.proofs.SpendLemmas.{nothing-same, nothing-trans, refused-none, spends-none, spends-after}
+use Rattle.node_core.proofs.SpendLemmas.{open-further, nothing-same, nothing-trans, refused-none, spends-none, spends-after}
+use Rattle.signer.specs.Signing.{SignerState}
 use Rattle.node_core.proofs.Node.accuse.Goals as goal
 
 pub returns-then-has_accused-clause-plays : goal.returns-then-has_accused-clause-plays
@@ -117,3 +118,6 @@ returns-then-not-is_member-clause-plays g c = λ s es os call p.
     let fails : has_accused s st m ≡ false = sym (accused-same s v call.node m is c.self.invariant.membership_group) ∙ sym (c.has_accused.ensures st is.holds) ∙ c.if-has_accused.false in
     subst (Plays s es os w) (sym (accuses-wanted true s call m fails))
     (plays-refused s es os c.tell.new.self w c1 (wants_accusation true s m (ring_of s st m) c1) same (c.tell.ensures.plays s es os call p) (extends-wants_accusation s m (ring_of s st m) c1)))
+
+pub returns-clause-closed : goal.returns-clause-closed
+returns-clause-closed g c = open-further c.want_accusation.result _ _ _ c.want_accusation.ensures.closed (ap (λ (s : SignerState). s.closed) c.tell.ensures.quiet.signer)

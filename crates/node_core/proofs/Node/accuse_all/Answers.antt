@@ -13,7 +13,7 @@ use Rattle.node_core.proofs.Node.accuse_all.Goals as goal
 pub loop-member-init : goal.loop-member-init
 loop-member-init g c =
     let same : c.into_iter-member-iterator.result.rest.items ≡ c.args.silent.items = c.into_iter-member-iterator.ensures.into_iter_gives.0 in
-    (record { done = []; split = sym same; plays = λ s es os call p. p; grows = grows-refl c.args.self.now; spends = spends-none c.args.self.now c.args.self.now _ (nothing-same c.args.self.now) }, refl)
+    (record { done = []; split = sym same; plays = λ s es os call p. p; grows = grows-refl c.args.self.now; spends = spends-none c.args.self.now c.args.self.now _ (nothing-same c.args.self.now); closed = refl }, refl)
 
 pub loop-member-preserved : goal.loop-member-preserved
 loop-member-preserved g c =
@@ -26,6 +26,7 @@ loop-member-preserved g c =
         plays = λ s es os call p. subst (λ (x : Call). Plays s es os c.accuse.new.self x) (sym (fold-push (accuses true s) call h.done r)) (c.in_ok-accuse.ensures.plays s es os (accuses_all s h.done call) (h.plays s es os call p));
         grows = grows-trans c.args.self.now c.loop-member.self c.accuse.new.self h.grows c.accuse.ensures.grows;
         spends = spends-trans c.args.self.now c.loop-member.self c.accuse.new.self _ _ _ h.spends c.accuse.ensures.grows c.accuse.ensures.spends;
+        closed = c.in_ok-accuse.ensures.closed ∙ h.closed;
       },
       c.in_ok-accuse.ensures.faults ∙ c.loop-member.invariant.1,
     )
@@ -66,3 +67,6 @@ returns-in_err-accuse-clause-spends g c =
 
 pub returns-clause-spends : goal.returns-clause-spends
 returns-clause-spends g c = c.loop-member.invariant.0.spends
+
+pub returns-clause-closed : goal.returns-clause-closed
+returns-clause-closed g c = c.loop-member.invariant.0.closed

@@ -1,4 +1,4 @@
-use Rattle.std.proofs.Common.{◌≡◌, ℕ, List, ◌++◌, subst, sym, ap, ◌∙◌, length, false}
+use Rattle.std.proofs.Common.{◌≡◌, ℕ, Bool, List, ◌++◌, subst, sym, ap, ◌∙◌, length, false}
 use Rattle.journal.specs.declared.event.Event as journal
 use Rattle.node_rules.specs.Calls.{begun}
 use Rattle.node_core.specs.Told.{Tellings}
@@ -9,7 +9,7 @@ use Rattle.node_core.specs.declared.NodeFault.TheVariants as faults
 use Rattle.node_core.specs.contracts.Node.{the_view}
 use Rattle.node_core.proofs.TellingLemmas.{nil-right}
 use Rattle.node_core.proofs.DeliverLemmas.{calm-by, delivers-by}
-use Rattle.node_core.proofs.SpendLemmas.{call-spends, idle-spends}
+use Rattle.node_core.proofs.SpendLemmas.{open-by, open-further, call-spends, idle-spends}
 use Rattle.node_core.proofs.DueLemmas.{plays-at}
 use Rattle.node_core.proofs.Node.deliver.Goals as goal
 
@@ -48,3 +48,9 @@ returns-then-self-clause-spends g c = idle-spends (Err faults.Ended) c.args.self
 
 pub returns-clause-calm : goal.returns-clause-calm
 returns-clause-calm g c = calm-by c.hear_bytes-heard.result c.finish.result c.hear_bytes-heard.new.self.telling.failed _ _ c.hear_bytes-heard.ensures.faults c.finish.ensures.failed c.finish.ensures.going
+
+pub returns-clause-closed : goal.returns-clause-closed
+returns-clause-closed g c =
+    let closed : Kept → Bool = λ v. v.signer.closed in
+    open-by c.hear_bytes-heard.result c.finish.result c.hear_bytes-heard.new.self.telling.failed c.args.self.now.signer.closed c.hear_bytes-heard.new.self.signer.closed c.finish.new.self.signer.closed
+    (open-further c.hear_bytes-heard.result _ _ _ c.hear_bytes-heard.ensures.closed (ap closed c.self.view_is)) (ap closed c.finish.ensures.frame) c.finish.ensures.failed c.finish.ensures.going

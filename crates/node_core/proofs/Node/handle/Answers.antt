@@ -13,7 +13,8 @@ use Rattle.node_core.proofs.ExtendLemmas.{extends-handles}
 use Rattle.node_core.proofs.DueLemmas.{from-fine, runs-from-fine, runs-same}
 use Rattle.node_core.proofs.RefusalLemmas.{refusal-is}
 use Rattle.std.proofs.Common.{◌<◌, get_or}
-use Rattle.node_core.proofs.SpendLemmas.{spends-none, spends-after}
+use Rattle.node_core.proofs.SpendLemmas.{open-further, spends-none, spends-after}
+use Rattle.signer.specs.Signing.{SignerState}
 use Rattle.node_core.proofs.Node.handle.Goals as goal
 
 pub returns-in-Err-clause-plays : goal.returns-in-Err-clause-plays
@@ -43,3 +44,6 @@ returns-in-Err-clause-spends g c = spends-none c.args.self.now c.tell-in-Err.new
 
 pub returns-in-Ok-clause-spends : goal.returns-in-Ok-clause-spends
 returns-in-Ok-clause-spends g c = spends-after c.args.self.now c.tell.new.self c.accept.new.self _ _ c.tell.ensures.quiet c.accept.ensures.spends
+
+pub returns-in-Ok-clause-closed : goal.returns-in-Ok-clause-closed
+returns-in-Ok-clause-closed g c = open-further c.accept.result _ _ _ c.accept.ensures.closed (ap (λ (s : SignerState). s.closed) c.tell.ensures.quiet.signer)

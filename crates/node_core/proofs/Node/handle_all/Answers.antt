@@ -14,7 +14,7 @@ use Rattle.node_core.proofs.Node.handle_all.Goals as goal
 pub loop-rec-init : goal.loop-rec-init
 loop-rec-init g c =
     let same : c.into_iter-rec-iterator.result.rest.items ≡ c.args.records.items = c.into_iter-rec-iterator.ensures.into_iter_gives.0 in
-    (record { done = []; split = sym same; plays = λ s es os call p. p; grows = grows-refl c.args.self.now; spends = spends-none c.args.self.now c.args.self.now _ (nothing-same c.args.self.now) }, refl, subst (λ (xs : List Record). All (λ r. HasPort r.body) xs) (sym same) c.requires)
+    (record { done = []; split = sym same; plays = λ s es os call p. p; grows = grows-refl c.args.self.now; spends = spends-none c.args.self.now c.args.self.now _ (nothing-same c.args.self.now); closed = refl }, refl, subst (λ (xs : List Record). All (λ r. HasPort r.body) xs) (sym same) c.requires)
 
 pub loop-rec-preserved : goal.loop-rec-preserved
 loop-rec-preserved g c =
@@ -27,6 +27,7 @@ loop-rec-preserved g c =
         plays = λ s es os call p. subst (λ (x : Call). Plays s es os c.handle.new.self x) (sym (fold-push (handles true s) call h.done r)) (c.in_ok-handle.ensures.plays s es os (handles_all s h.done call) (h.plays s es os call p));
         grows = grows-trans c.args.self.now c.loop-rec.self c.handle.new.self h.grows c.handle.ensures.grows;
         spends = spends-trans c.args.self.now c.loop-rec.self c.handle.new.self _ _ _ h.spends c.handle.ensures.grows c.handle.ensures.spends;
+        closed = c.in_ok-handle.ensures.closed ∙ h.closed;
       },
       c.in_ok-handle.ensures.faults ∙ c.loop-rec.invariant.1,
       all-tail (λ (x : Record). HasPort x.body) r c.next.new.self.rest.items (subst (λ (xs : List Record). All (λ x. HasPort x.body) xs) next c.loop-rec.invariant.2),
@@ -68,3 +69,6 @@ returns-in_err-handle-clause-spends g c =
 
 pub returns-clause-spends : goal.returns-clause-spends
 returns-clause-spends g c = c.loop-rec.invariant.0.spends
+
+pub returns-clause-closed : goal.returns-clause-closed
+returns-clause-closed g c = c.loop-rec.invariant.0.closed

@@ -13,7 +13,8 @@ use Rattle.std.proofs.Common.{refl}
 use Rattle.node_core.specs.Told.{Tellings}
 use Rattle.node_core.proofs.HearLemmas.{grows-probed}
 use Rattle.node_core.specs.Spending.{SignsNothing, spent_told}
-use Rattle.node_core.proofs.SpendLemmas.{spends-none, spends-after}
+use Rattle.node_core.proofs.SpendLemmas.{open-further, spends-none, spends-after}
+use Rattle.signer.specs.Signing.{SignerState}
 use Rattle.node_core.proofs.Node.pass.Goals as goal
 
 pub returns-then-not-is_due-clause-plays : goal.returns-then-not-is_due-clause-plays
@@ -92,3 +93,13 @@ returns-in-Err-clause-spends g c =
       signer = ap (λ (v : Kept). v.signer) c.self.view_is ∙ quiet.signer;
       told_none = ap (λ t. spent_told t.events) c.fail.ensures ∙ ap (λ (v : Kept). spent_told v.telling.events) c.self.view_is ∙ quiet.told_none;
     })
+
+pub returns-in-Ok-clause-closed : goal.returns-in-Ok-clause-closed
+returns-in-Ok-clause-closed g c =
+    open-further c.pass_due.result _ _ _ c.pass_due.ensures.closed (ap (λ (v : Kept). v.signer.closed) c.self.view_is ∙ ap (λ (s : SignerState). s.closed) c.live_tick.ensures.quiet.signer)
+
+pub returns-then-not-is_due-clause-closed : goal.returns-then-not-is_due-clause-closed
+returns-then-not-is_due-clause-closed g c = ap (λ (v : Kept). v.signer.closed) c.self.view_is ∙ ap (λ (s : SignerState). s.closed) c.live_tick.ensures.quiet.signer
+
+pub returns-in-Err-clause-closed : goal.returns-in-Err-clause-closed
+returns-in-Err-clause-closed g c = ap (λ (v : Kept). v.signer.closed) c.self.view_is ∙ ap (λ (s : SignerState). s.closed) c.live_tick.ensures.quiet.signer

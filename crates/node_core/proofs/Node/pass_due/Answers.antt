@@ -1,9 +1,10 @@
-use Rattle.std.proofs.Common.{ℕ, List, ap, sym, subst, ◌∙◌}
+use Rattle.std.proofs.Common.{ℕ, Bool, List, ap, sym, subst, ◌∙◌}
 use Rattle.node_rules.specs.Calls.{Call}
 use Rattle.node_rules.specs.Ticking.{accuses_all, pings_all, gossips}
 use Rattle.node_core.specs.Playing.{Plays}
 use Rattle.node_core.proofs.TickLemmas.{due-is, err-due}
 use Rattle.node_core.proofs.SpendLemmas.{nothing-trans, spends-before}
+use Rattle.signer.specs.Signing.{SignerState}
 use Rattle.node_core.proofs.Node.pass_due.Goals as goal
 
 pub returns-clause-plays : goal.returns-clause-plays
@@ -23,3 +24,8 @@ returns-clause-spends g c =
 pub returns-in_err-accuse_all-clause-plays : goal.returns-in_err-accuse_all-clause-plays
 returns-in_err-accuse_all-clause-plays g c = λ s es os call p.
     err-due s es os c.accuse_all.new.self c.args.due.silent.items c.args.due.pings.items c.args.round call c.from_residual.result c.from_residual.ensures.0 (c.in_err-accuse_all.ensures.plays s es os call p)
+
+pub returns-clause-closed : goal.returns-clause-closed
+returns-clause-closed g c =
+    let closed : SignerState → Bool = λ s. s.closed in
+    ap closed c.gossip.ensures.quiet.signer ∙ ap closed c.ping_all.ensures.quiet.signer ∙ c.in_ok-accuse_all.ensures.closed

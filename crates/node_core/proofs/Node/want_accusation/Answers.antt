@@ -1,7 +1,7 @@
-use Rattle.std.proofs.Common.{Some, subst, sym, ap, ◌∙◌, refl}
+use Rattle.std.proofs.Common.{Bool, ◌≡◌, Some, subst, sym, ap, ◌∙◌, refl}
 use Rattle.std.specs.Prelude.{Ok, Err}
 use Rattle.signer.specs.declared.SignFault.{SignFault}
-use Rattle.signer.specs.Signing.{AnswersBy}
+use Rattle.signer.specs.Signing.{AnswersBy, SignerState, after_signing}
 use Rattle.records.specs.Signing.{CheckedRecord}
 use Rattle.records.specs.declared.Body.{Body}
 use Rattle.records.specs.declared.Body.TheVariants as bodies
@@ -69,3 +69,14 @@ pub returns-in-Err-OutOfMemory-clause-plays : goal.returns-in-Err-OutOfMemory-cl
 returns-in-Err-OutOfMemory-clause-plays g c = λ s es os call p.
     let v : Kept = the_view c.self.inside in
     wants-refused s es os v _ call _ (Some c.args.acc.now.accused) (subst (λ v. Plays s es os v call) (sym c.self.view_is) p) c.fail.ensures
+
+pub returns-in-Ok-clause-closed : goal.returns-in-Ok-clause-closed
+returns-in-Ok-clause-closed g c =
+    let closed : SignerState → Bool = λ s. s.closed in
+    ap closed c.pass_on_accusation.ensures.spent.signer ∙ ap closed c.in-Ok.ensures.after ∙ ap (λ (v : Kept). v.signer.closed) c.self.view_is
+
+pub returns-in-Err-Exhausted-clause-closed : goal.returns-in-Err-Exhausted-clause-closed
+returns-in-Err-Exhausted-clause-closed g c =
+    let closed : SignerState → Bool = λ s. s.closed in
+    let same : c.sign_accusation.new.self ≡ c.self.inside.signer = subst (λ (f : SignFault). c.sign_accusation.new.self ≡ after_signing {T = CheckedRecord} c.self.inside.signer (bodies.Accusation c.args.acc.now) (Err f)) c.in-Err-Exhausted.field-0-is c.in-Err-Exhausted.ensures.after in
+    ap closed c.tell.ensures.quiet.signer ∙ ap closed same ∙ ap (λ (v : Kept). v.signer.closed) c.self.view_is

@@ -1,7 +1,7 @@
-use Rattle.std.proofs.Common.{◌≡◌, None, subst, sym, ap, ◌∙◌, refl, rules}
+use Rattle.std.proofs.Common.{Bool, ◌≡◌, None, subst, sym, ap, ◌∙◌, refl, rules}
 use Rattle.std.specs.Prelude.{Ok, Err}
 use Rattle.signer.specs.declared.SignFault.{SignFault}
-use Rattle.signer.specs.Signing.{AnswersBy}
+use Rattle.signer.specs.Signing.{AnswersBy, SignerState, after_signing}
 use Rattle.records.specs.Signing.{CheckedRecord}
 use Rattle.node_rules.specs.Calls.{signs_and_sends, own_record}
 use Rattle.node_core.specs.Neighbours.{addressees}
@@ -78,3 +78,14 @@ pub returns-in-Err-OutOfMemory-clause-plays : goal.returns-in-Err-OutOfMemory-cl
 returns-in-Err-OutOfMemory-clause-plays g c = λ s es os call p.
     let v : Kept = the_view c.self.inside in
     wants-refused s es os v _ call _ None (subst (λ v. Plays s es os v call) (sym c.self.view_is) p) c.fail-in-Err-OutOfMemory.ensures
+
+pub returns-in-Note-clause-closed : goal.returns-in-Note-clause-closed
+returns-in-Note-clause-closed g c =
+    let closed : SignerState → Bool = λ s. s.closed in
+    ap closed c.pass_on_note.ensures.spent.signer ∙ ap closed c.in-Ok.ensures.after ∙ ap (λ (v : Kept). v.signer.closed) c.self.view_is
+
+pub returns-in-Err-Exhausted-clause-closed : goal.returns-in-Err-Exhausted-clause-closed
+returns-in-Err-Exhausted-clause-closed g c =
+    let closed : SignerState → Bool = λ s. s.closed in
+    let same : c.sign_note.new.self ≡ c.self.inside.signer = subst (λ (f : SignFault). c.sign_note.new.self ≡ after_signing {T = CheckedRecord} c.self.inside.signer (next_note c.self.inside.signer.state c.self.inside.me c.args.mask) (Err f)) c.in-Err-Exhausted.field-0-is c.in-Err-Exhausted.ensures.after in
+    ap closed c.tell.ensures.quiet.signer ∙ ap closed same ∙ ap (λ (v : Kept). v.signer.closed) c.self.view_is
