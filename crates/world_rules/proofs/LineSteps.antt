@@ -13,8 +13,8 @@ use Rattle.journal.specs.declared.event.What.TheVariants as happened
 use Rattle.node_rules.specs.Nodes as node
 use Rattle.node_rules.specs.Calls.{Call}
 use Rattle.node_rules.specs.Lives.{Input, Delivers, Ticks}
-use Rattle.world_rules.specs.Lines as lines
-use Rattle.world_rules.specs.Lines.{WorldLine}
+use Rattle.schedule_world.specs.declared.line.WorldLine.TheVariants as lines
+use Rattle.schedule_world.specs.declared.line.WorldLine.{WorldLine}
 use Rattle.world_rules.specs.Settings.{Setting, is_node, is_liar, setting_of}
 use Rattle.world_rules.specs.Disks.{Disk, after_calls, after_put, lets_pass, opening_calls, put_passes, stopped, stopped_in_put}
 use Rattle.world_rules.specs.Calls.{OnDisk, called_on}

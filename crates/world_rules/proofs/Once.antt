@@ -23,7 +23,7 @@ use Rattle.world_rules.specs.Disks.{Disk}
 use Rattle.world_rules.specs.Calls.{OnDisk, called_on}
 use Rattle.world_rules.specs.Worlds.{Life, Station, World, begun_world, spent_if_by, spent_of, with_station}
 use Rattle.world_rules.specs.Steps.{Course, Told, first_call, first_life, life_over, signed_if_spent, signed_in, station_after, with_disk, with_input}
-use Rattle.world_rules.specs.Laws.{IsSetting, NodesSpendOnce, Reached}
+use Rattle.world_rules.specs.Laws.{IsSetting, NodesSpendOnce}
 use Rattle.world_rules.proofs.CallSteps.{SpendsNothing, SpendsOne, MayFollow, nothing-same, nothing-then, nothing-takes, one-signs, one-behind}
 use Rattle.world_rules.proofs.OnDisks.{IsKept, Sound, chosen, other, next-after, sound-called}
 use Rattle.world_rules.proofs.LineSteps.{Keeps, keeps-reached}

@@ -23,8 +23,7 @@ use Rattle.world_rules.specs.Worlds.{World, begun_world}
 use Rattle.world_rules.specs.Forgeries.{forgery}
 use Rattle.world_rules.specs.Refusals.{why_not}
 use Rattle.world_rules.specs.Steps.{calls, hands, starts, starts_in_vain, step}
-use Rattle.world_rules.specs.Lines as lines
-use Rattle.world_rules.specs.Lines.{WorldLine}
+use Rattle.schedule_world.specs.declared.line.WorldLine.TheVariants as lines
 use Rattle.world_rules.specs.Verdicts as verdicts
 use Rattle.world_rules.proofs.Rows.{answers, note, plays, refused, says, setting, tells}
 

@@ -34,8 +34,8 @@ use Rattle.world_rules.specs.Worlds.{World, begun_world}
 use Rattle.world_rules.specs.Forgeries.{Forgery, forgery}
 use Rattle.world_rules.specs.Refusals.{why_not}
 use Rattle.world_rules.specs.Steps.{Answer, Told, calls, hands, starts, starts_in_vain, step}
-use Rattle.world_rules.specs.Lines as lines
-use Rattle.world_rules.specs.Lines.{WorldLine}
+use Rattle.schedule_world.specs.declared.line.WorldLine.TheVariants as lines
+use Rattle.schedule_world.specs.declared.line.WorldLine.{WorldLine}
 use Rattle.world_rules.specs.Verdicts as verdicts
 use Rattle.world_rules.specs.Verdicts.{Verdict}
 

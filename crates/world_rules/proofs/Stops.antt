@@ -24,8 +24,8 @@ use Rattle.world_rules.specs.Worlds.{World, begun_world}
 use Rattle.world_rules.specs.Forgeries.{forgery}
 use Rattle.world_rules.specs.Refusals.{why_not}
 use Rattle.world_rules.specs.Steps.{calls, hands, starts, starts_in_vain, step}
-use Rattle.world_rules.specs.Lines as lines
-use Rattle.world_rules.specs.Lines.{WorldLine}
+use Rattle.schedule_world.specs.declared.line.WorldLine.TheVariants as lines
+use Rattle.schedule_world.specs.declared.line.WorldLine.{WorldLine}
 use Rattle.world_rules.specs.Verdicts as verdicts
 use Rattle.world_rules.proofs.Rows.{Says, acc, answers, before_b, brings, note, one, plays, refused, says, setting, tells}
 

@@ -1,4 +1,3 @@
-pub mod Lines
 pub mod Settings
 pub mod Keys
 pub mod Disks

@@ -4,8 +4,8 @@ use Rattle.std.specs.Option.{option_map_or}
 use Rattle.records.specs.declared.Body.{Body}
 use Rattle.records.specs.declared.Body.TheVariants.{Note}
 use Rattle.node_rules.specs.Nodes.{is_certified}
-use Rattle.world_rules.specs.Lines as lines
-use Rattle.world_rules.specs.Lines.{WorldLine}
+use Rattle.schedule_world.specs.declared.line.WorldLine.TheVariants as lines
+use Rattle.schedule_world.specs.declared.line.WorldLine.{WorldLine}
 use Rattle.world_rules.specs.Settings.{Setting, is_node, is_liar}
 use Rattle.world_rules.specs.Worlds.{World, is_running, named_so, next_of_liar, spent_of}
 use Rattle.world_rules.specs.Verdicts as why

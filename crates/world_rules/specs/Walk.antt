@@ -10,8 +10,8 @@ use Rattle.signer.specs.Lives.{Spent}
 use Rattle.journal.specs.Texts.{body_text, event_text}
 use Rattle.line_text.specs.declared.bad_word.BadWord.{BadWord}
 use Rattle.text_trace.specs.Trace.{Owed, Trace}
-use Rattle.world_rules.specs.Lines as lines
-use Rattle.world_rules.specs.Lines.{WorldLine}
+use Rattle.schedule_world.specs.declared.line.WorldLine.TheVariants as lines
+use Rattle.schedule_world.specs.declared.line.WorldLine.{WorldLine}
 use Rattle.world_rules.specs.Settings.{Owner, Setting}
 use Rattle.world_rules.specs.Keys.{setting_for}
 use Rattle.world_rules.specs.Worlds.{Life, World, begun_world, lives_of, spent_of}
