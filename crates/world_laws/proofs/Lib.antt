@@ -1,0 +1,9 @@
+mod Handing
+mod Rosters
+mod Signed
+mod Rightly
+mod InCalls
+mod Stopped
+mod InWorlds
+mod Reaching
+mod Lawful

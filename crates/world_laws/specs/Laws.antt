@@ -1,0 +1,101 @@
+-- What no liar brings about, in each world that lines lead to, none of which is forged.
+use Rattle.std.specs.Prelude.{◌≡◌, ℕ, ◌<◌, ◌≤◌, Bool, true, false, List, [], length, Contains, Some, None}
+use Rattle.std.specs.List.{AllByRecursion}
+use Rattle.ff_ids.specs.declared.AccBody.{AccBody}
+use Rattle.ff_ids.specs.declared.Fault.TheVariants as faults
+use Rattle.ff_ids.specs.Steps.{Event, Accuses}
+use Rattle.ff_ids.specs.Lives.{opening, IsRemovedAt, RestsOn}
+use Rattle.records.specs.declared.Body.{Body}
+use Rattle.records.specs.declared.Body.TheVariants.{Accusation}
+use Rattle.journal.specs.declared.event.What as whats
+use Rattle.journal.specs.declared.event.What.TheVariants as happened
+use Rattle.node_rules.specs.Nodes.{public_key_of}
+use Rattle.node_rules.specs.Vouching.{IsVouchedFor}
+use Rattle.world_rules.specs.Settings.{Owner, Setting, is_node, members, record_of, setting_of}
+use Rattle.world_rules.specs.Worlds.{Life, World, lives_of}
+use Rattle.world_rules.specs.Steps.{Told}
+use Rattle.world_rules.specs.Laws.{IsSetting, Reached}
+use Rattle.world_laws.specs.Signing.{KeepsRoster, HasSpentOn, HasEnabled, SignedAtTick, WasSigned}
+
+-- ---- certificates
+
+-- In every life a node keeps the authority's certificates of the members, and no others.
+abbrev pub RostersAreKept : Type 0
+RostersAreKept = (s : Setting) (w : World) (told : List Told) (who : ℕ) → IsSetting s → Reached s w told → AllByRecursion (λ life. KeepsRoster s life.node) (lives_of w who)
+
+-- ---- own notes
+
+-- A note of the node itself is refused that it doesn't know.
+abbrev pub is_own_ahead : whats.What → Bool
+is_own_ahead (happened.Took body (Some (faults.OwnAhead stored seen))) = true
+is_own_ahead what = false
+
+abbrev pub OwnAheadNeverComes : Type 0
+OwnAheadNeverComes = (s : Setting) (w : World) (told : List Told) → IsSetting s → Reached s w told → AllByRecursion (λ t. is_own_ahead t.event.what ≡ false) told
+
+-- ---- removals
+
+-- The removal of the member at place j of the life rests on an accusation; and the member itself had signed the note of
+-- that accusation's epoch, with that accusation's ring enabled.
+pub record RestsOnOwnNote (s : Setting) (w : World) (events : List Event) (j m : ℕ) : Type 0 where
+  pub place : ℕ
+  pub accusation : AccBody
+  pub rests : RestsOn s.group (opening []) events j m place accusation
+  pub had_signed : HasEnabled w accusation
+
+-- So does each removal of a node in the life.
+abbrev pub RemovesRightly : Setting → World → Life → Type 0
+RemovesRightly s w life = (j m : ℕ) → j < length life.node.lived → IsRemovedAt s.group (opening []) life.node.lived j m → is_node s m ≡ true → RestsOnOwnNote s w life.node.lived j m
+
+abbrev pub TheRemovedHadSigned : Type 0
+TheRemovedHadSigned = (s : Setting) (w : World) (told : List Told) (who : ℕ) → IsSetting s → Reached s w told → AllByRecursion (RemovesRightly s w) (lives_of w who)
+
+-- ---- accusations
+
+-- Each accusation that a node's key has signed names the node as its accuser, and was signed at a tick of one of its
+-- lives at which the accused was silent.
+abbrev pub NodesAccuseTheSilent : Type 0
+NodesAccuseTheSilent = (s : Setting) (w : World) (told : List Told) (m index : ℕ) (a : AccBody) → IsSetting s → Reached s w told → is_node s m ≡ true
+    → HasSpentOn w (Some m) index (Accusation a) → (a.accuser ≡ m) × SignedAtTick s w index a
+
+-- An accusation of a node's comes of its own signature.
+abbrev pub IsOfItsAccuser : Setting → World → AccBody → Type 0
+IsOfItsAccuser s w a = is_node s a.accuser ≡ true → WasSigned s w a
+
+abbrev pub AccusesRightly : Setting → World → Event → Type 0
+AccusesRightly s w (Accuses a) = IsOfItsAccuser s w a
+AccusesRightly s w event = Unit {0}
+
+abbrev pub AcceptsRightly : Setting → World → whats.What → Type 0
+AcceptsRightly s w (happened.Took (Accusation a) None) = IsOfItsAccuser s w a
+AcceptsRightly s w what = Unit {0}
+
+-- Each accusation of a node's that is accepted in any life, own ones included, was so signed; also where only its
+-- acceptance is told.
+abbrev pub AcceptedAccusationsWereSigned : Type 0
+AcceptedAccusationsWereSigned = (s : Setting) (w : World) (told : List Told) → IsSetting s → Reached s w told
+    → ((who : ℕ) → AllByRecursion (λ life. AllByRecursion (AccusesRightly s w) life.node.lived) (lives_of w who)) × AllByRecursion (λ t. AcceptsRightly s w t.event.what) told
+
+-- ---- removals that are told
+
+-- Each key has enough indexes for what the authority signs, and what is signed with a key at one of its indexes verifies
+-- under it.
+pub record SignaturesVerify (s : Setting) : Type 0 where
+  pub enough : length (members s) ≤ s.indexes
+  pub verify : (who : Owner) (index : ℕ) (body : Body) → index < s.indexes → s.verifies (s.key who) (record_of s (record { who = who; index = index; body = body })) ≡ true
+
+-- In one of the node's lives the member is removed, and that rests on an accusation, of which a record verifies under
+-- the key of the accuser's certificate, as the node keeps it.
+pub record RestsOnVerified (s : Setting) (w : World) (who m : ℕ) : Type 0 where
+  pub life : Life
+  pub lived : Contains (lives_of w who) life
+  pub place : ℕ
+  pub within : place < length life.node.lived
+  pub removed : IsRemovedAt s.group (opening []) life.node.lived place m
+  pub accepted : ℕ
+  pub accusation : AccBody
+  pub rests : RestsOn s.group (opening []) life.node.lived place m accepted accusation
+  pub verified : IsVouchedFor (setting_of s who) (public_key_of life.node accusation.accuser) (Accusation accusation)
+
+abbrev pub RemovalsAreVerified : Type 0
+RemovalsAreVerified = (s : Setting) (w : World) (told : List Told) (t : Told) (m : ℕ) → IsSetting s → SignaturesVerify s → Reached s w told → Contains told t → t.event.what ≡ happened.Removed m → RestsOnVerified s w t.who m

@@ -1,0 +1,73 @@
+-- What the members of a world have signed: which notes, and at which ticks their accusations.
+use Rattle.std.specs.Prelude.{◌≡◌, ℕ, true, ◌==◌, if◌then◌else◌, List, ◌∷◌, ◌++◌, Contains, Option, Some, None}
+use Rattle.std.specs.List.{list_any}
+use Rattle.ff_ids.specs.declared.NoteBody.{NoteBody}
+use Rattle.ff_ids.specs.declared.AccBody.{AccBody}
+use Rattle.ff_ids.specs.Masks.{enables}
+use Rattle.records.specs.declared.CertBody.{CertBody}
+use Rattle.records.specs.declared.Body.{Body}
+use Rattle.records.specs.declared.Body.TheVariants.{Note, Accusation}
+use Rattle.epoch_store.specs.declared.Stored.{Stored}
+use Rattle.journal.specs.declared.event.What.TheVariants as told
+use Rattle.node_rules.specs.Nodes as node
+use Rattle.node_rules.specs.Calls.{Call}
+use Rattle.node_rules.specs.Lives.{Input, Ticks, life_of}
+use Rattle.node_rules.specs.Accusing.{AccusesTheSilent}
+use Rattle.world_rules.specs.Settings.{Owner, Setting, certificate, certificates, members, setting_of}
+use Rattle.world_rules.specs.Disks.{Disk}
+use Rattle.world_rules.specs.Calls.{called_on}
+use Rattle.world_rules.specs.Worlds.{Life, World, lives_of, spent_of}
+
+-- ---- certificates
+
+-- The authority's certificate of the number, if it is a member's.
+abbrev pub certificate_for : Setting → ℕ → Option CertBody
+certificate_for s k = if list_any (λ m. m == k) (members s) then Some (certificate s k) else None
+
+-- The node keeps the certificates of the authority, and no others.
+abbrev pub KeepsRoster : Setting → node.Node → Type 0
+KeepsRoster s n = (k : ℕ) → node.certificate_of n k ≡ certificate_for s k
+
+-- ---- notes
+
+-- The key has spent an index on this body.
+abbrev pub HasSpentOn : World → Owner → ℕ → Body → Type 0
+HasSpentOn w who index body = Contains (spent_of w who) (record { index = index; body = body })
+
+-- The accused has signed a note of its own, of the accusation's epoch, which enables the accusation's ring.
+pub record HasEnabled (w : World) (a : AccBody) : Type 0 where
+  pub note : NoteBody
+  pub index : ℕ
+  pub spent : HasSpentOn w (Some a.accused) index (Note note)
+  pub own : note.member ≡ a.accused
+  pub epoch : note.epoch ≡ a.epoch
+  pub enabled : enables note.mask.0 a.ring.0 ≡ true
+
+-- ---- accusations
+
+-- What a node has come to that found this in its store, and has answered these calls.
+abbrev pub node_after : Setting → ℕ → Stored → List Input → node.Node
+node_after s m found inputs = life_of (setting_of s m) (s.nonces m found.next) (certificates s) found inputs
+
+-- The call tells that this index was spent on the body.
+abbrev pub TellsSpent : Call → ℕ → Body → Type 0
+TellsSpent c index body = (moment : ℕ) × Contains c.told (record { moment = moment; what = told.Spent index body })
+
+-- The accuser has signed the accusation with this index, at a tick of one of its lives. As it came to that tick the
+-- accused was silent, and the accuser was its monitor on the ring in its own view, by the newest note that it had of it,
+-- whose epoch the accusation has and which enables the ring.
+pub record SignedAtTick (s : Setting) (w : World) (index : ℕ) (a : AccBody) : Type 0 where
+  pub life : Life
+  pub lived : Contains (lives_of w a.accuser) life
+  pub before : List Input
+  pub behind : List Input
+  pub at_tick : life.inputs ≡ before ++ Ticks ∷ behind
+  pub disk : Disk
+  pub signed : TellsSpent (called_on (setting_of s a.accuser) (node_after s a.accuser life.found before) Ticks disk).call index (Accusation a)
+  pub silent : AccusesTheSilent (setting_of s a.accuser) (node_after s a.accuser life.found before) a
+
+-- The accuser's key has spent an index on the accusation, at such a tick.
+pub record WasSigned (s : Setting) (w : World) (a : AccBody) : Type 0 where
+  pub index : ℕ
+  pub spent : HasSpentOn w (Some a.accuser) index (Accusation a)
+  pub at_tick : SignedAtTick s w index a

@@ -1,0 +1,29 @@
+//! What no liar brings about in a world of nodes, as theorems alone: which notes and accusations a correct member has
+//! signed that is removed, or by which a member is accused. Each law is the contract of a function that does nothing.
+#![tactic(auto)]
+
+ghost use Rattle.world_laws.specs.Laws.{RostersAreKept, OwnAheadNeverComes, TheRemovedHadSigned, NodesAccuseTheSilent, AcceptedAccusationsWereSigned};
+
+/// In every life a node keeps the authority's certificates of the members, and no others.
+pub fn rosters_are_kept()
+    ensures { RostersAreKept }
+{}
+
+/// No node is ever handed a note of its own that it doesn't know.
+pub fn own_ahead_never_comes()
+    ensures { OwnAheadNeverComes }
+{}
+
+/// A node that is removed from any node's view had itself signed the note of the epoch of the accusation on which the
+/// removal rests, with that accusation's ring enabled.
+pub fn the_removed_had_signed()
+    ensures { TheRemovedHadSigned }
+{}
+
+/// A node signs no accusation but at a tick of one of its lives at which the accused is silent there, and it is the
+/// accused's monitor in its own view, on a ring that the newest note enables that it has of the accused, and at the
+/// epoch of that note. Each accepted accusation of a node's was signed so, whoever accepts it.
+pub fn accusations_are_of_the_silent()
+    ensures signed { NodesAccuseTheSilent }
+    ensures accepted { AcceptedAccusationsWereSigned }
+{}
