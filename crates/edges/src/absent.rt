@@ -32,6 +32,8 @@ impl Disk for Absent {
 
     ghost calls = { λ _. None };
 
+    ghost state = { λ _. None };
+
     fn open(&mut self, _name: &str) -> Opened
         ensures answer { result ≡ Opened.Failed }
         ensures counted { self.new.faults ≡ next_count self.old.faults }

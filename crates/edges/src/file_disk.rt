@@ -129,6 +129,8 @@ impl<'a, R: Files<File = File>> Disk for FileDisk<'a, R> {
 
     ghost calls = { λ _. None };
 
+    ghost state = { λ _. None };
+
     /// The folder is opened before the file is made.
     fn open(&mut self, name: &str) -> Opened
         ensures faults { self.new.faults ≡ counted (open_failed result) self.old.faults }

@@ -11,10 +11,12 @@ ghost use Rattle.std.specs.Result.{is_err};
 ghost use Rattle.ports.specs.Count.{counted};
 ghost use Rattle.ports.specs.Disk.{Moment, Since, Fails, stays, torn_at, written};
 ghost use Rattle.ports.specs.DiskCalls.{ToOpen, ToRead, ToSync, ToWrite, with_call};
+ghost use Rattle.ports.specs.DiskSteps.{came_to, runs_on};
 ghost use Rattle.epoch_store.specs.declared.StoreError.TheVariants.{Fault};
 ghost use Rattle.epoch_store.specs.Store.{IsEntry, Follows, IsSettled, LeavesEither, LeavesState, first_entry, made};
 ghost use Rattle.epoch_store.specs.Calls.{StoreState, is_fault, SettlesAs, same, OnRead, OpensAs, IsNotTaken, MakesWhereEmpty, OnRefusal, IsOpened, ReadsHead, ReadsGate, FindsGate, ReadsEntries, HoldsStore};
 ghost use Rattle.epoch_store.specs.Asked.{put_calls, open_calls, Makes, MakesStore, ReadsGates, RefusedInHead, RefusedAtGate};
+ghost use Rattle.epoch_store.specs.Followed.{OpensFile, MakesFrom, ReadsGatesFrom};
 
 mod entry;
 
@@ -71,6 +73,7 @@ impl From<Failed> for StoreError {
 fn write_synced<D: Disk>(disk: &mut D, place: u64, bytes: &[u8]) -> Result<(), Failed>
     ensures faults { D.faults disk.new ≡ counted (is_err result) (D.faults disk.old) }
     ensures calls { Makes result (ToSync ∷ ToWrite place bytes.now ∷ []) (D.calls disk.old) (D.calls disk.new) }
+    ensures follows { came_to (D.state disk.new) (is_err result) ≡ runs_on (ToSync ∷ ToWrite place bytes.now ∷ []) (D.state disk.old) }
     ensures tears { Fails (torn_at place (length bytes.now)) (D.moments disk.old) (D.moments disk.new) }
     ensures stores { OnOk result (SettlesAs (written place bytes.now) (D.moments disk.old) (D.moments disk.new)) }
 {
@@ -82,6 +85,7 @@ fn write_synced<D: Disk>(disk: &mut D, place: u64, bytes: &[u8]) -> Result<(), F
 fn open_file<D: Disk>(disk: &mut D, name: &str) -> Result<(), StoreError>
     ensures faults { D.faults disk.new ≡ counted (is_fault result) (D.faults disk.old) }
     ensures called { D.calls disk.new ≡ with_call (ToOpen name.now) (D.calls disk.old) }
+    ensures follows { OpensFile name.now (D.state disk.old) (D.state disk.new) result }
     ensures opens { IsOpened (D.moments disk.old) (D.moments disk.new) result }
 {
     match disk.open(name) {
@@ -121,6 +125,7 @@ pub fn make<D: Disk>(disk: &mut D, name: &str, tag: &[u8; 32], mask: Mask) -> Re
     requires { mask.0 < 2 ^ 31 }
     ensures faults { D.faults disk.new ≡ counted (is_fault result) (D.faults disk.old) }
     ensures calls { MakesStore name.now tag.now (first_entry mask) result (D.calls disk.old) (D.calls disk.new) }
+    ensures follows { MakesFrom name.now tag.now (first_entry mask) result (D.state disk.old) (D.state disk.new) }
     ensures taken { MakesWhereEmpty (D.moments disk.old) result }
     ensures made { OnOk result (SettlesAs (λ _. made tag.now (first_entry mask)) (D.moments disk.old) (D.moments disk.new)) }
     ensures store { OnOk result (IsSettled tag.now (first_entry mask) 57 (D.moments disk.new)) }
@@ -146,6 +151,7 @@ pub fn make<D: Disk>(disk: &mut D, name: &str, tag: &[u8; 32], mask: Mask) -> Re
 fn read_head<D: Disk>(disk: &mut D, tag: &[u8; 32]) -> Result<(), StoreError>
     ensures faults { D.faults disk.new ≡ counted (is_fault result) (D.faults disk.old) }
     ensures called { D.calls disk.new ≡ with_call (ToRead 0 40) (D.calls disk.old) }
+    ensures follows { came_to (D.state disk.new) (is_fault result) ≡ runs_on (ToRead 0 40 ∷ []) (D.state disk.old) }
     ensures near { RefusedInHead result }
     ensures reads { ReadsHead tag.now (D.moments disk.old) result }
     ensures not_taken { IsNotTaken result }
@@ -162,6 +168,7 @@ fn read_gate<D: Disk>(disk: &mut D, before: Option<Stored>, gate: u64) -> Result
     requires { gate < 2 ^ 32 }
     ensures faults { D.faults disk.new ≡ counted (is_fault result) (D.faults disk.old) }
     ensures called { D.calls disk.new ≡ with_call (ToRead gate 17) (D.calls disk.old) }
+    ensures follows { came_to (D.state disk.new) (is_fault result) ≡ runs_on (ToRead gate 17 ∷ []) (D.state disk.old) }
     ensures near { RefusedAtGate gate result }
     ensures reads { ReadsGate before gate (D.moments disk.old) result }
     ensures found { FindsGate before result }
@@ -183,6 +190,7 @@ fn read_gate<D: Disk>(disk: &mut D, before: Option<Stored>, gate: u64) -> Result
 fn read_entries<D: Disk>(disk: &mut D) -> Result<Store, StoreError>
     ensures faults { D.faults disk.new ≡ counted (is_fault result) (D.faults disk.old) }
     ensures calls { ReadsGates [] result (D.calls disk.old) (D.calls disk.new) }
+    ensures follows { ReadsGatesFrom [] (D.moments disk.old) result (D.state disk.old) (D.state disk.new) }
     ensures reads { ReadsEntries (D.moments disk.old) result }
     ensures not_taken { IsNotTaken result }
     ensures runs { IfOk result (λ store. store.failed ≡ false) }
@@ -213,6 +221,7 @@ fn read_entries<D: Disk>(disk: &mut D) -> Result<Store, StoreError>
 fn read_store<D: Disk>(disk: &mut D, tag: &[u8; 32]) -> Result<Store, StoreError>
     ensures faults { D.faults disk.new ≡ counted (is_fault result) (D.faults disk.old) }
     ensures calls { ReadsGates (ToRead 0 40 ∷ []) result (D.calls disk.old) (D.calls disk.new) }
+    ensures follows { ReadsGatesFrom (ToRead 0 40 ∷ []) (D.moments disk.old) result (D.state disk.old) (D.state disk.new) }
     ensures reads { OpensAs tag.now (D.moments disk.old) result }
     ensures not_taken { IsNotTaken result }
     ensures runs { IfOk result (λ store. store.failed ≡ false) }
@@ -255,6 +264,7 @@ impl Store {
     pub fn open<D: Disk>(disk: &mut D, name: &str, tag: &[u8; 32]) -> Result<Store, StoreError>
         ensures faults { D.faults disk.new ≡ counted (is_fault result) (D.faults disk.old) }
         ensures calls { ReadsGates (open_calls name.now) result (D.calls disk.old) (D.calls disk.new) }
+        ensures follows { ReadsGatesFrom (open_calls name.now) (D.moments disk.old) result (D.state disk.old) (D.state disk.new) }
         ensures reads { OpensAs tag.now (D.moments disk.old) result }
         ensures not_taken { IsNotTaken result }
         ensures runs { IfOk result (λ store. store.failed ≡ false) }
@@ -287,6 +297,7 @@ impl Store {
         requires follows { Follows self.old.state next }
         ensures faults { D.faults disk.new ≡ counted (is_err result) (D.faults disk.old) }
         ensures calls { Makes result (put_calls self.old.gate next) (D.calls disk.old) (D.calls disk.new) }
+        ensures follows { came_to (D.state disk.new) (is_err result) ≡ runs_on (put_calls self.old.gate next) (D.state disk.old) }
         ensures fault { IfErr result (λ e. e ≡ Fault) }
         ensures put { OnOk result (self.new ≡ record {
           state = next;

@@ -4,3 +4,4 @@ pub mod MomentLemmas
 pub mod ByteLemmas
 pub mod TurnLemmas
 pub mod SinceLemmas
+pub mod RunLemmas

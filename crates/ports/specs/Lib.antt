@@ -7,6 +7,7 @@ pub mod Memory
 pub mod DiskCalls
 pub mod Disk
 pub mod MemoryDisk
+pub mod DiskSteps
 pub mod DiskLaws
 pub mod Link
 pub mod MemoryLink

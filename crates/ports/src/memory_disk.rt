@@ -540,6 +540,8 @@ impl Disk for MemoryDisk {
 
     ghost calls = { λ _. None };
 
+    ghost state = { λ disk. Some disk };
+
     ghost image_left = { λ disk. moments_leave disk.start disk.log };
 
     fn open(&mut self, _name: &str) -> Opened
