@@ -85,7 +85,7 @@ ended Fault gate older newer read refused = some_read (gate + 17) older newer re
 ended (Taken len) gate older newer read refused = absurd refused
 ended (Broken place byte) gate older newer read refused = ended_at gate place older newer read refused.0 refused.1
 ended (OtherKey place byte) gate older newer read refused = absurd refused
-ended OutOfMemory gate older newer read refused = some_read (gate + 17) older newer read
+ended OutOfMemory gate older newer read refused = absurd refused
 
 -- gates that were read after some calls, which came after others
 with_earlier : (gates : ℕ) (first earlier : List DiskCall) (older middle : Option (List DiskCall)) → middle ≡ with_calls earlier older → with_calls (gate_reads gates ++ first) middle ≡ with_calls (gate_reads gates ++ (first ++ earlier)) older
@@ -123,4 +123,4 @@ head_only Fault older newer refused is = record { gates = 0; made = record { lef
 head_only (Taken len) older newer refused is = record { gates = 0; made = record { left_out = 0; made = is } }
 head_only (Broken place byte) older newer refused is = record { gates = 0; reaches = refused; no_further = omega arith; made = is }
 head_only (OtherKey place byte) older newer refused is = record { gates = 0; reaches = refused; no_further = omega arith; made = is }
-head_only OutOfMemory older newer refused is = record { gates = 0; made = record { left_out = 0; made = is } }
+head_only OutOfMemory older newer refused is = absurd refused

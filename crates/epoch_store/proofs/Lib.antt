@@ -6,3 +6,5 @@ pub mod OnceLemmas
 pub mod OpenLemmas
 pub mod FoundLemmas
 pub mod CallLemmas
+pub mod FollowLemmas
+pub mod ReachLemmas

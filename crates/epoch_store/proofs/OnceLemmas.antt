@@ -41,7 +41,7 @@ cut_entry : (bytes : List ℕ) (e : Stored) → IsCut bytes → IsOpenEntry byte
 cut_entry bytes e cut entry = let size : length bytes ≡ 17 = ap length entry.begins in omega (arith, cut.short)
 
 -- one thing stands at a gate
-stands_once : (before : Option Stored) (bytes : List ℕ) (a b : Result Gate ℕ) → Stands before bytes a → Stands before bytes b → a ≡ b
+pub stands_once : (before : Option Stored) (bytes : List ℕ) (a b : Result Gate ℕ) → Stands before bytes a → Stands before bytes b → a ≡ b
 stands_once before bytes (Ok (Shut s)) (Ok (Shut t)) x y = let same : s ≡ t = cc (x.1, y.1) in ap (λ (z : Stored). Ok (Shut z)) same
 stands_once before bytes (Ok (Shut s)) (Ok (Entry e)) x y = absurd (closed_open bytes (spelled e) x.0 y.0.begins)
 stands_once before bytes (Ok (Shut s)) (Err at) x (inl y) = cc (x.1, y.1)

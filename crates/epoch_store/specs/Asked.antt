@@ -67,7 +67,7 @@ RefusedInHead (Err Fault) = Unit {0}
 RefusedInHead (Err (Taken len)) = Unit {0}
 RefusedInHead (Err (Broken place byte)) = place < 40
 RefusedInHead (Err (OtherKey place byte)) = place < 40
-RefusedInHead (Err OutOfMemory) = Unit {0}
+RefusedInHead (Err OutOfMemory) = ⊥
 
 -- a gate is refused at a place within it or the entry behind it
 abbrev pub RefusedAtGate : {T : Type 0} → ℕ → Result T StoreError → Type 0
@@ -76,4 +76,4 @@ RefusedAtGate gate (Err Fault) = Unit {0}
 RefusedAtGate gate (Err (Taken len)) = ⊥
 RefusedAtGate gate (Err (Broken place byte)) = (gate ≤ place) × (place < gate + 17)
 RefusedAtGate gate (Err (OtherKey place byte)) = ⊥
-RefusedAtGate gate (Err OutOfMemory) = Unit {0}
+RefusedAtGate gate (Err OutOfMemory) = ⊥

@@ -2,3 +2,4 @@ pub mod Store
 pub mod Reading
 pub mod Calls
 pub mod Asked
+pub mod Followed

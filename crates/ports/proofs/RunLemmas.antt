@@ -1,8 +1,8 @@
 -- How calls of a disk whose state is told join, call after call.
-use Rattle.std.proofs.Common.{◌≡◌, ℕ, Bool, true, false, Option, None, Some, List, [], ◌∷◌, ◌++◌, refl, sym, ap, ◌∙◌}
+use Rattle.std.proofs.Common.{◌≡◌, Bool, true, false, Option, None, Some, List, [], ◌∷◌, ◌++◌, refl, sym, ap, ◌∙◌}
 use Rattle.ports.specs.DiskCalls.{DiskCall}
 use Rattle.ports.specs.MemoryDisk.{DiskState}
-use Rattle.ports.specs.DiskSteps.{Came, makes, runs, runs_on, came_to}
+use Rattle.ports.specs.DiskSteps.{makes, runs, runs_on, came_to}
 
 runs_later : (later earlier : List DiskCall) (a b : DiskState) → runs earlier a ≡ record { disk = b; failed = false } → runs (later ++ earlier) a ≡ runs later b
 runs_later [] earlier a b is = is

@@ -1,5 +1,5 @@
 -- A disk whose state is told: what each call makes of it, and which calls fail.
-use Rattle.std.specs.Prelude.{◌≡◌, ℕ, Bool, true, false, ◌&&◌, not, if◌then◌else◌, Option, None, Some, List, [], ◌∷◌, length}
+use Rattle.std.specs.Prelude.{◌≡◌, Bool, true, false, ◌&&◌, not, if◌then◌else◌, Option, None, Some, List, [], ◌∷◌, length}
 use Rattle.ports.specs.declared.Opened.{Opened}
 use Rattle.ports.specs.declared.Opened.TheVariants as opened
 use Rattle.ports.specs.DiskCalls.{DiskCall, ToOpen, ToMeasure, ToRead, ToWrite, ToSync}

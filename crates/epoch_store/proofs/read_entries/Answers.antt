@@ -1,7 +1,8 @@
 use Rattle.std.proofs.Common.{◌∙◌}
 use Rattle.epoch_store.proofs.ReadLemmas.{ends_shut, ends_broken, goes_on, placed_next}
-use Rattle.std.proofs.Common.{arith}
+use Rattle.std.proofs.Common.{arith, rules}
 use Rattle.epoch_store.proofs.CallLemmas.{read_one, ended, ended_at}
+use Rattle.epoch_store.proofs.FollowLemmas.{reaches_first, reaches_further, passed_none, pass_one, passed_to, refused_at}
 use Rattle.epoch_store.proofs.read_entries.Goals as goal
 
 pub returns-in-Ok-Shut-clause-reads : goal.returns-in-Ok-Shut-clause-reads
@@ -19,6 +20,8 @@ loop-state-preserved g c =
           goes_on (g.D.Disk.moments c.args.disk.now) c.loop-state.before c.loop-state.gate c.in-Ok-Entry.entry c.loop-state.invariant.so_far
           (rw (c.in-Ok-Entry.field-0-is, c.loop-state.invariant.told) at c.in-Ok-Entry.ensures.reads);
       place = placed_next c.loop-state.before c.loop-state.gate c.in-Ok-Entry.entry c.loop-state.invariant.place found.0 found.1;
+      reached = reaches_further (g.D.Disk.moments c.args.disk.now) c.loop-state.before c.loop-state.gate c.in-Ok-Entry.entry c.loop-state.invariant.reached (rw (c.in-Ok-Entry.field-0-is, c.loop-state.invariant.told) at c.in-Ok-Entry.ensures.reads);
+      follows = pass_one c.loop-state.gate _ _ _ c.loop-state.invariant.follows c.in-Ok-Entry.ensures.follows;
       calls = read_one c.loop-state.gate _ _ _ c.loop-state.invariant.calls c.in-Ok-Entry.ensures.called;
     }
 
@@ -33,3 +36,22 @@ returns-in-Ok-Shut-clause-calls g c =
 pub returns-in-Err-clause-calls : goal.returns-in-Err-clause-calls
 returns-in-Err-clause-calls g c =
     ended c.in-Err.error c.loop-state.gate _ _ (read_one c.loop-state.gate _ _ _ c.loop-state.invariant.calls c.in-Err.ensures.called) c.in-Err.ensures.near
+
+pub loop-state-init : goal.loop-state-init
+loop-state-init g c = record {
+  told = search rules;
+  faults = search rules;
+  so_far = search rules;
+  place = search rules;
+  reached = reaches_first (g.D.Disk.moments c.args.disk.now);
+  follows = passed_none (g.D.Disk.state c.args.disk.now);
+  calls = search rules;
+}
+
+pub returns-in-Ok-Shut-clause-follows : goal.returns-in-Ok-Shut-clause-follows
+returns-in-Ok-Shut-clause-follows g c =
+    passed_to c.loop-state.gate c.loop-state.gate _ _ (pass_one c.loop-state.gate _ _ _ c.loop-state.invariant.follows c.in-Ok-Shut.ensures.follows) (omega arith) (omega arith)
+
+pub returns-in-Err-clause-follows : goal.returns-in-Err-clause-follows
+returns-in-Err-clause-follows g c =
+    refused_at c.in-Err.error (g.D.Disk.moments c.args.disk.now) c.loop-state.before c.loop-state.gate _ _ _ c.loop-state.invariant.reached c.loop-state.invariant.follows c.in-Err.ensures.near c.in-Err.ensures.follows

@@ -1,6 +1,7 @@
 use Rattle.std.proofs.Common.{◌≡◌}
 use Rattle.epoch_store.proofs.ReadLemmas.{Continues, IsPlaced, left_of}
 use Rattle.epoch_store.proofs.CallLemmas.{HasRead}
+use Rattle.epoch_store.proofs.FollowLemmas.{HasPassed, ReachesIn}
 use Rattle.epoch_store.proofs.read_entries.Given as goal
 
 abbrev pub invariant-loop-state : goal.invariant-loop-state
@@ -9,6 +10,8 @@ invariant-loop-state g l = record {
   faults : g.D.Disk.faults l.disk ≡ g.D.Disk.faults l.initial.disk;
   so_far : Continues (g.D.Disk.moments l.initial.disk) l.before l.gate;
   place : IsPlaced l.before l.gate;
+  reached : ReachesIn (g.D.Disk.moments l.initial.disk) l.before l.gate;
+  follows : HasPassed l.gate (g.D.Disk.state l.initial.disk) (g.D.Disk.state l.disk);
   calls : HasRead l.gate (g.D.Disk.calls l.initial.disk) (g.D.Disk.calls l.disk);
 }
 

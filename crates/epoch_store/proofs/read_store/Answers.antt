@@ -4,6 +4,7 @@ use Rattle.ports.proofs.SinceLemmas.{Fails-trans}
 use Rattle.std.proofs.Common.{[], ◌∷◌}
 use Rattle.ports.specs.DiskCalls.{ToRead}
 use Rattle.epoch_store.proofs.CallLemmas.{read_after, head_only}
+use Rattle.epoch_store.proofs.FollowLemmas.{gates_after, head_refused_on}
 use Rattle.epoch_store.proofs.read_store.Goals as goal
 
 pub returns-in-Ok-clause-reads : goal.returns-in-Ok-clause-reads
@@ -28,3 +29,12 @@ returns-in-Ok-clause-calls g c =
 
 pub returns-in-Err-clause-calls : goal.returns-in-Err-clause-calls
 returns-in-Err-clause-calls g c = head_only c.in-Err.error _ _ c.in-Err.ensures.near c.in-Err.ensures.called
+
+pub returns-in-Ok-clause-follows : goal.returns-in-Ok-clause-follows
+returns-in-Ok-clause-follows g c =
+    gates_after [] (ToRead 0 40 ∷ []) (g.D.Disk.moments c.args.disk.now) c.read_entries.result (g.D.Disk.state c.args.disk.now) (g.D.Disk.state c.read_head.new.disk) (g.D.Disk.state c.read_entries.new.disk)
+    c.in-Ok.ensures.follows (rw c.in-Ok.ensures.same at c.read_entries.ensures.follows)
+
+pub returns-in-Err-clause-follows : goal.returns-in-Err-clause-follows
+returns-in-Err-clause-follows g c =
+    head_refused_on c.in-Err.error (g.D.Disk.moments c.args.disk.now) _ _ c.in-Err.ensures.near c.in-Err.ensures.follows

@@ -6,6 +6,9 @@ use Rattle.std.proofs.Common.{◌∷◌, [], ◌+◌, ℕ, List, subst}
 use Rattle.std.proofs.lemmas.Result.{err_from_is_err_and}
 use Rattle.ports.specs.DiskCalls.{ToSync, ToWrite, AsFarAs}
 use Rattle.epoch_store.proofs.CallLemmas.{further, joined}
+use Rattle.std.proofs.Common.{true, false}
+use Rattle.ports.specs.DiskSteps.{came_to, runs_on}
+use Rattle.ports.proofs.RunLemmas.{then_runs}
 use Rattle.epoch_store.proofs.Store.put.Goals as goal
 
 pub returns-in_err-write_synced-clause-any_moment : goal.returns-in_err-write_synced-clause-any_moment
@@ -69,3 +72,24 @@ returns-in_err-write_synced-2-clause-calls g c =
     let P : List ℕ → Type 0 = λ bytes. AsFarAs (ToSync ∷ ToWrite c.args.self.now.gate (1 ∷ []) ∷ ToSync ∷ ToWrite (c.args.self.now.gate + 1) bytes ∷ []) older newer in
     rw p.1 (subst P c.entry_bytes.ensures
     (joined (ToSync ∷ ToWrite c.args.self.now.gate (1 ∷ []) ∷ []) (ToSync ∷ ToWrite (c.args.self.now.gate + 1) c.entry_bytes.result ∷ []) older middle newer (rw gate at c.in_ok-write_synced.ensures.calls) (rw gate at c.in_err-write_synced-2.ensures.calls)))
+
+pub returns-in_err-write_synced-2-clause-follows : goal.returns-in_err-write_synced-2-clause-follows
+returns-in_err-write_synced-2-clause-follows g c =
+    let p = err_from_is_err_and c.from_residual-in_err-write_synced-2.result c.from_residual-in_err-write_synced-2.ensures.1 in
+    let gate : c.self.inside.gate ≡ c.args.self.now.gate = ap (λ (s : StoreState). s.gate) c.self.view_is in
+    let older = g.D.Disk.state c.args.disk.now in
+    let middle = g.D.Disk.state c.write_synced.new.disk in
+    let newer = g.D.Disk.state c.write_synced-2.new.disk in
+    let P : List ℕ → Type 0 = λ bytes. came_to newer true ≡ runs_on (ToSync ∷ ToWrite c.args.self.now.gate (1 ∷ []) ∷ ToSync ∷ ToWrite (c.args.self.now.gate + 1) bytes ∷ []) older in
+    rw p.1 (subst P c.entry_bytes.ensures
+    (then_runs (ToSync ∷ ToWrite c.args.self.now.gate (1 ∷ []) ∷ []) (ToSync ∷ ToWrite (c.args.self.now.gate + 1) c.entry_bytes.result ∷ []) older middle newer true (rw gate at c.in_ok-write_synced.ensures.follows) (rw gate at c.in_err-write_synced-2.ensures.follows)))
+
+pub returns-clause-follows : goal.returns-clause-follows
+returns-clause-follows g c =
+    let gate : c.self.inside.gate ≡ c.args.self.now.gate = ap (λ (s : StoreState). s.gate) c.self.view_is in
+    let older = g.D.Disk.state c.args.disk.now in
+    let middle = g.D.Disk.state c.write_synced.new.disk in
+    let newer = g.D.Disk.state c.write_synced-2.new.disk in
+    let P : List ℕ → Type 0 = λ bytes. came_to newer false ≡ runs_on (ToSync ∷ ToWrite c.args.self.now.gate (1 ∷ []) ∷ ToSync ∷ ToWrite (c.args.self.now.gate + 1) bytes ∷ []) older in
+    subst P c.entry_bytes.ensures
+    (then_runs (ToSync ∷ ToWrite c.args.self.now.gate (1 ∷ []) ∷ []) (ToSync ∷ ToWrite (c.args.self.now.gate + 1) c.entry_bytes.result ∷ []) older middle newer false (rw gate at c.in_ok-write_synced.ensures.follows) (rw gate at c.in_ok-write_synced-2.ensures.follows))

@@ -1,0 +1,68 @@
+-- What each call of a store makes of a disk whose state is told, and which calls fail.
+use Rattle.std.specs.Prelude.{◌≡◌, ℕ, ◌+◌, ◌-◌, ◌*◌, ◌<◌, ◌≤◌, max, true, false, Option, None, Some, List, [], ◌∷◌, ◌++◌, Result, Ok, Err}
+use Rattle.ports.specs.Disk.{Moment}
+use Rattle.ports.specs.DiskCalls.{DiskCall, ToOpen, ToMeasure}
+use Rattle.ports.specs.MemoryDisk.{DiskState}
+use Rattle.ports.specs.DiskSteps.{came_to, runs_on}
+use Rattle.epoch_store.specs.declared.Stored.{Stored}
+use Rattle.epoch_store.specs.declared.StoreError.{StoreError}
+use Rattle.epoch_store.specs.declared.StoreError.TheVariants.{Fault, Taken, Broken, OtherKey, OutOfMemory}
+use Rattle.epoch_store.specs.declared.entry.Gate.TheVariants.{Entry}
+use Rattle.epoch_store.specs.Calls.{StoreState}
+use Rattle.epoch_store.specs.Reading.{Stands, window}
+use Rattle.epoch_store.specs.Asked.{make_calls, gate_reads}
+
+-- the file was opened or not; memory is refused only where the state isn't told
+abbrev pub OpensFile : List ℕ → Option DiskState → Option DiskState → Result Unit StoreError → Type 0
+OpensFile name older newer (Ok value) = came_to newer false ≡ runs_on (ToOpen name ∷ []) older
+OpensFile name older newer (Err Fault) = came_to newer true ≡ runs_on (ToOpen name ∷ []) older
+OpensFile name older newer (Err (Taken len)) = ⊥
+OpensFile name older newer (Err (Broken place byte)) = ⊥
+OpensFile name older newer (Err (OtherKey place byte)) = ⊥
+OpensFile name older newer (Err OutOfMemory) = older ≡ None
+
+-- a store was made, or one of the calls failed; a file that is taken was opened and measured, and no more
+abbrev pub MakesFrom : List ℕ → List ℕ → Stored → Result Unit StoreError → Option DiskState → Option DiskState → Type 0
+MakesFrom name tag first (Ok value) older newer = came_to newer false ≡ runs_on (make_calls name tag first) older
+MakesFrom name tag first (Err Fault) older newer = came_to newer true ≡ runs_on (make_calls name tag first) older
+MakesFrom name tag first (Err (Taken len)) older newer = came_to newer false ≡ runs_on (ToMeasure ∷ ToOpen name ∷ []) older
+MakesFrom name tag first (Err (Broken place byte)) older newer = Unit {0}
+MakesFrom name tag first (Err (OtherKey place byte)) older newer = Unit {0}
+MakesFrom name tag first (Err OutOfMemory) older newer = older ≡ None
+
+-- ---- the gates
+
+-- reading from the first gate on comes to this one, behind this entry
+pub data Reaches (image : List ℕ) : Option Stored → ℕ → Type 0 where
+  begins : Reaches image None 40
+  passes : (before : Option Stored) (gate : ℕ) (e : Stored) → Reaches image before gate → Stands before (window image gate) (Ok (Entry e)) → Reaches image (Some e) (gate + 17)
+
+-- reading passes so many gates, where the file is told
+abbrev pub PassesGates : List Moment → ℕ → Type 0
+PassesGates [] gates = Unit {0}
+PassesGates (now ∷ past) gates = (before : Option Stored) × Reaches now.image before (40 + 17 * gates)
+
+-- after some calls, each gate was read up to the one that stands at this place or shortly before it, and no
+-- gate behind it; none, if the place is within the head
+pub record ReadsOnTo (first : List DiskCall) (place : ℕ) (older newer : Option DiskState) : Type 0 where
+  pub gates : ℕ
+  pub reaches : place < 40 + 17 * gates
+  pub no_further : 40 + 17 * gates ≤ max 40 (place + 17)
+  pub came : came_to newer false ≡ runs_on (gate_reads gates ++ first) older
+
+-- one of the calls failed: of those before, or the last one of so many reads of gates; reading passes the gates before
+-- that one
+pub record FailsReading (first : List DiskCall) (moments : List Moment) (older newer : Option DiskState) : Type 0 where
+  pub gates : ℕ
+  pub passes : PassesGates moments (gates - 1)
+  pub came : came_to newer true ≡ runs_on (gate_reads gates ++ first) older
+
+-- after some calls, the gates are read: up to the closed one, to the place where the file is refused, or up to a call
+-- that fails; memory is refused only where the state isn't told
+abbrev pub ReadsGatesFrom : List DiskCall → List Moment → Result StoreState StoreError → Option DiskState → Option DiskState → Type 0
+ReadsGatesFrom first moments (Ok store) older newer = ReadsOnTo first store.gate older newer
+ReadsGatesFrom first moments (Err Fault) older newer = FailsReading first moments older newer
+ReadsGatesFrom first moments (Err (Taken len)) older newer = Unit {0}
+ReadsGatesFrom first moments (Err (Broken place byte)) older newer = ReadsOnTo first place older newer
+ReadsGatesFrom first moments (Err (OtherKey place byte)) older newer = ReadsOnTo first place older newer
+ReadsGatesFrom first moments (Err OutOfMemory) older newer = older ≡ None
