@@ -1,8 +1,10 @@
 -- What a call that signs does: to the signer, to its disk, and to what its key has spent.
-use Rattle.std.specs.Prelude.{◌≡◌, ℕ, Option, List, ◌++◌, Result, Ok, Err, OnOk, IfOk}
+use Rattle.std.specs.Prelude.{◌≡◌, ℕ, true, false, Option, List, ◌++◌, Result, Ok, Err, OnOk, IfOk}
 use Rattle.ports.specs.Count.{counted}
 use Rattle.ports.specs.Disk.{Moment, Since}
 use Rattle.ports.specs.DiskCalls.{DiskCall, with_calls, AsFarAs}
+use Rattle.ports.specs.MemoryDisk.{DiskState}
+use Rattle.ports.specs.DiskSteps.{came_to, runs_on}
 use Rattle.records.specs.declared.Body.{Body}
 use Rattle.records.specs.Signing.{CheckedRecord}
 use Rattle.epoch_store.specs.Store.{IsSettled, LeavesEither, LeavesState}
@@ -20,15 +22,24 @@ MakesCalls (Err Closed) all older newer = newer ≡ older
 MakesCalls (Err (Exhausted next)) all older newer = newer ≡ older
 MakesCalls (Err StoreFault) all older newer = AsFarAs all older newer
 
--- the body was signed, or the answer says why not. Of the disk: its failures, the calls that were made of it and
--- its moments, each before and after
+-- where the state of the disk is told: all of the calls pass, or one fails; or nothing was tried
+abbrev pub MakesFrom : {T : Type 0} → Result T SignFault → List DiskCall → Option DiskState → Option DiskState → Type 0
+MakesFrom (Ok value) all older newer = came_to newer false ≡ runs_on all older
+MakesFrom (Err OutOfMemory) all older newer = newer ≡ older
+MakesFrom (Err Closed) all older newer = newer ≡ older
+MakesFrom (Err (Exhausted next)) all older newer = newer ≡ older
+MakesFrom (Err StoreFault) all older newer = came_to newer true ≡ runs_on all older
+
+-- the body was signed, or the answer says why not. Of the disk: its failures, the calls that were made of it, its
+-- moments and its state, each before and after
 pub record Signs (s later : SignerState) (body : Body) (result : Result CheckedRecord SignFault)
-    (failures failures_now : ℕ) (made made_now : Option (List DiskCall)) (older newer : List Moment) : Type 0 where
+    (failures failures_now : ℕ) (made made_now : Option (List DiskCall)) (older newer : List Moment) (disk disk_now : Option DiskState) : Type 0 where
   pub faults : failures_now ≡ counted (is_store_fault result) failures
   pub answers : AnswersBy s result
   pub signed : IfOk result (λ rec. rec ≡ signed_record s body)
   pub after : later ≡ after_signing s body result
   pub calls : MakesCalls result (put_calls s.gate (stored_after s.state body)) made made_now
+  pub follows : MakesFrom result (put_calls s.gate (stored_after s.state body)) disk disk_now
   pub same : OnIdle result (newer ≡ older)
   pub any_moment : (tag : List ℕ) → IsSettled tag s.state s.gate older → Since (LeavesEither tag s.state (stored_after s.state body)) older newer
   pub settled : OnOk result ((tag : List ℕ) → IsSettled tag s.state s.gate older → IsSettled tag later.state later.gate newer)

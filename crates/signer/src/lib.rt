@@ -14,7 +14,7 @@ ghost use Rattle.epoch_store.specs.Asked.{put_calls};
 ghost use Rattle.signer.specs.declared.SignFault.TheVariants.{OutOfMemory};
 ghost use Rattle.signer.specs.Signing.{SignerState, stored_after as stored_after_it, MayComeNext, next_note, AnswersBy, is_store_fault, after_signing, signed_by, signed_record, OnIdle};
 ghost use Rattle.signer.specs.Lives.{Spent, IsLiving, EndsNow};
-ghost use Rattle.signer.specs.Signs.{Signs, MakesCalls};
+ghost use Rattle.signer.specs.Signs.{Signs, MakesCalls, MakesFrom};
 
 pub mod laws;
 
@@ -158,7 +158,7 @@ impl Signer {
     ) -> Result<Checked, SignFault>
         requires { mask.0 < 2 ^ 31 }
         ensures { Signs self.old self.new (next_note self.old.state member mask) result (D.faults disk.old) (D.faults disk.new)
-            (D.calls disk.old) (D.calls disk.new) (D.moments disk.old) (D.moments disk.new) }
+            (D.calls disk.old) (D.calls disk.new) (D.moments disk.old) (D.moments disk.new) (D.state disk.old) (D.state disk.new) }
     {
         let epoch = Epoch::new(self.store.state().epoch + 1);
         self.sign(
@@ -180,7 +180,7 @@ impl Signer {
         acc: AccBody,
     ) -> Result<Checked, SignFault>
         ensures { Signs self.old self.new (Accusation acc) result (D.faults disk.old) (D.faults disk.new)
-            (D.calls disk.old) (D.calls disk.new) (D.moments disk.old) (D.moments disk.new) }
+            (D.calls disk.old) (D.calls disk.new) (D.moments disk.old) (D.moments disk.new) (D.state disk.old) (D.state disk.new) }
     {
         self.sign(alloc, disk, Body::Accusation(acc))
     }
@@ -194,7 +194,7 @@ impl Signer {
     ) -> Result<Checked, SignFault>
         requires { 0 < cert.port }
         ensures { Signs self.old self.new (Certificate cert) result (D.faults disk.old) (D.faults disk.new)
-            (D.calls disk.old) (D.calls disk.new) (D.moments disk.old) (D.moments disk.new) }
+            (D.calls disk.old) (D.calls disk.new) (D.moments disk.old) (D.moments disk.new) (D.state disk.old) (D.state disk.new) }
     {
         self.sign(alloc, disk, Body::Certificate(cert))
     }
@@ -209,7 +209,7 @@ impl Signer {
         requires port { HasPort body }
         requires next { MayComeNext self.old.state body }
         ensures { Signs self.old self.new body result (D.faults disk.old) (D.faults disk.new)
-            (D.calls disk.old) (D.calls disk.new) (D.moments disk.old) (D.moments disk.new) }
+            (D.calls disk.old) (D.calls disk.new) (D.moments disk.old) (D.moments disk.new) (D.state disk.old) (D.state disk.new) }
     {
         self.sign_body(alloc, disk, body)
     }
@@ -229,6 +229,7 @@ impl Signer {
         ensures signed { IfOk result (λ rec. rec ≡ signed_record self.old body) }
         ensures after { self.new ≡ after_signing self.old body result }
         ensures calls { MakesCalls result (put_calls self.old.gate (stored_after_it self.old.state body)) (D.calls disk.old) (D.calls disk.new) }
+        ensures follows { MakesFrom result (put_calls self.old.gate (stored_after_it self.old.state body)) (D.state disk.old) (D.state disk.new) }
         ensures same { OnIdle result (D.moments disk.new ≡ D.moments disk.old) }
         ensures any_moment { (tag : List ℕ) → IsSettled tag self.old.state self.old.gate (D.moments disk.old)
             → Since (LeavesEither tag self.old.state (stored_after_it self.old.state body)) (D.moments disk.old) (D.moments disk.new) }

@@ -12,6 +12,7 @@ returns g c =
       signed = done.signed;
       after = done.after;
       calls = done.calls;
+      follows = done.follows;
       same = done.same;
       any_moment = done.any_moment;
       settled = done.settled;
