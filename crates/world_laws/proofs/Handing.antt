@@ -153,7 +153,7 @@ hands-wants_accusation s Given P k works m None c h = h
 hands-wants_accusation s Given P k works m (Some ring) c h =
     hands-wants s Given P k works (accusation_on s (state_of s c.node) m ring) (neighbours_and s m) c h (λ left. k.accused _ c refl left h)
 
-hands-accuses : (s : Setting) (Given : Record → Type 0) (P : Call → Type 0) → Hands s Given P → (works : Bool) (c : Call) (m : ℕ) → P c → P (accuses works s c m)
+pub hands-accuses : (s : Setting) (Given : Record → Type 0) (P : Call → Type 0) → Hands s Given P → (works : Bool) (c : Call) (m : ℕ) → P c → P (accuses works s c m)
 unfolding accuses
 hands-accuses s Given P k works c m h =
     let c1 : Call = tells s (happened.Silent m) c in

@@ -309,7 +309,7 @@ pub record InLife (s : Setting) (w : World) (m : ℕ) (n : Node) : Type 0 where
   pub within : HasNotesWithin m w.signed n.stored
   pub lived : (e : Event) → In n.lived e → ComesSigned s m w.signed [] e
 
-handed : (s : Setting) (w : World) (i : Input) → IsFree s w i → IsHanded (IsGenuine s w) i
+pub handed : (s : Setting) (w : World) (i : Input) → IsFree s w i → IsHanded (IsGenuine s w) i
 handed s w (Delivers bytes) free = genuine s w bytes free
 handed s w Ticks free = tt
 

@@ -9,7 +9,7 @@ use Rattle.ff_ids.specs.Notes.{newest}
 use Rattle.ff_ids.specs.Views.{State, is_member}
 use Rattle.ff_ids.specs.Faults.{facts_of, note_fault, accusation_fault}
 use Rattle.ff_ids.specs.Steps.{Event, Joins, Notes, Accuses, Ticks, Stepped, joined, unchanged, after_note, after_accusation, unless_fault, step}
-use Rattle.ff_ids.specs.Lives.{opening, after, state_at}
+use Rattle.ff_ids.specs.Lives.{opening, RestsOn, after, state_at}
 use Rattle.ff_ids.proofs.FaultLemmas.{passes}
 use Rattle.life_laws.proofs.Lists.{In, All-from_In, Contains-from_In, In-from_Contains}
 use Rattle.life_laws.proofs.NoteLemmas.{newest-fits}
@@ -20,8 +20,8 @@ use Rattle.journal.specs.declared.event.What.TheVariants as happened
 use Rattle.world_rules.specs.Settings.{Setting, is_node}
 use Rattle.world_rules.specs.Worlds.{Life, World, lives_of}
 use Rattle.world_rules.specs.Steps.{Told}
-use Rattle.world_laws.specs.Signing.{HasEnabled, SignedAtTick, WasSigned}
-use Rattle.world_laws.specs.Laws.{RostersAreKept, OwnAheadNeverComes, RemovesRightly, TheRemovedHadSigned, NodesAccuseTheSilent, AccusesRightly, AcceptsRightly, AcceptedAccusationsWereSigned}
+use Rattle.world_laws.specs.Signing.{SignedAtTick, WasSigned}
+use Rattle.world_laws.specs.Laws.{RostersAreKept, OwnAheadNeverComes, RestsOnOwnNote, RemovesRightly, TheRemovedHadSigned, NodesAccuseTheSilent, AccusesRightly, AcceptsRightly, AcceptedAccusationsWereSigned}
 use Rattle.world_laws.proofs.Handing.{In-taken}
 use Rattle.world_laws.proofs.Signed.{SignedIn, spent-in, spent-from}
 use Rattle.world_laws.proofs.InCalls.{AcceptsSigned, ComesSigned}
@@ -78,34 +78,35 @@ newest-came g events place m note e =
 signed-before : (m : ℕ) (s : Setting) (w : World) (n : NoteBody) → ComesSigned s m w.signed [] (Notes n) → is_node s n.member ≡ true → SignedIn w.signed (Some n.member) (Note n)
 signed-before m s w n h is = elim (h is) [ inl before ↦ before | inr now ↦ absurd now.1.among ]
 
-had-enabled : (s : Setting) (w : World) (events : List Event) (place : ℕ) (a : AccBody) (who : ℕ) → ((e : Event) → In events e → ComesSigned s who w.signed [] e) → is_node s a.accused ≡ true
-    → accusation_fault s.group.t (state_at s.group (opening []) events place) a ≡ None → HasEnabled w a
-had-enabled s w events place a who lived is fine =
+rests-on : (s : Setting) (w : World) (events : List Event) (j m who place : ℕ) (a : AccBody) → ((e : Event) → In events e → ComesSigned s who w.signed [] e) → is_node s m ≡ true → RestsOn s.group (opening []) events j m place a
+    → RestsOnOwnNote s w events j m
+rests-on s w events j m who place a lived is rests =
     let st : State = state_at s.group (opening []) events place in
-    let p = passes s.group.t (facts_of st a) a fine in
+    let p = passes s.group.t (facts_of st a) a rests.accepted.no_fault in
     let came = newest-came s.group events place a.accused p.note p.newest in
     let answers = and_parts _ _ p.unanswered in
-    let signed : SignedIn w.signed (Some p.note.member) (Note p.note) = signed-before who s w p.note (lived (Notes p.note) came.0) (ap (is_node s) came.1 ∙ is) in
+    let signed : SignedIn w.signed (Some p.note.member) (Note p.note) = signed-before who s w p.note (lived (Notes p.note) came.0) (ap (is_node s) (came.1 ∙ rests.against) ∙ is) in
     record {
-      note = p.note;
-      index = signed.index;
-      spent = Contains-from_In _ _ (spent-in w (Some a.accused) signed.index (Note p.note) (eq-eqb a.accused a.accused refl)
-          (subst (λ z. In w.signed (record { who = Some z; index = signed.index; body = Note p.note })) came.1 signed.among));
-      own = came.1;
-      epoch = eqb-true _ _ answers.0;
-      enabled = answers.1;
+      place = place;
+      accusation = a;
+      rests = rests;
+      had_signed = record {
+        note = p.note;
+        index = signed.index;
+        spent = Contains-from_In _ _ (spent-in w (Some a.accused) signed.index (Note p.note) (eq-eqb a.accused a.accused refl)
+            (subst (λ z. In w.signed (record { who = Some z; index = signed.index; body = Note p.note })) came.1 signed.among));
+        own = came.1;
+        epoch = eqb-true _ _ answers.0;
+        enabled = answers.1;
+      };
+      is_newest = subst (λ z. newest st.notes z ≡ Some p.note) rests.against p.newest;
     }
 
 removes : (s : Setting) (w : World) (told : List Told) (who : ℕ) → Holds s w told → (life : Life) → In (lives_of w who) life → RemovesRightly s w life
 removes s w told who h life i =
     λ j m within removed is.
     let rests = justified s.group [] life.node.lived j m within removed in
-    record {
-      place = rests.0;
-      accusation = rests.1;
-      rests = rests.2;
-      had_signed = had-enabled s w life.node.lived rests.0 rests.1 who ((h.stations who).lived life i) (ap (is_node s) rests.2.against ∙ is) rests.2.accepted.no_fault;
-    }
+    rests-on s w life.node.lived j m who rests.0 rests.1 ((h.stations who).lived life i) is rests.2
 
 pub removed-signed : TheRemovedHadSigned
 removed-signed s w told who fits reached = All-from_In _ (lives_of w who) (removes s w told who (reached-holds s w told fits reached))

@@ -6,4 +6,7 @@ mod InCalls
 mod Stopped
 mod InWorlds
 mod Reaching
+mod Bounded
 mod Lawful
+mod Verified
+mod Removing

@@ -27,7 +27,7 @@ use Rattle.world_rules.specs.Steps.{Course, Told, comes, first_call, first_life,
 use Rattle.world_rules.specs.Laws.{ComesSoFar, IsSetting, Reached}
 use Rattle.world_rules.proofs.OnDisks.{chosen, other}
 use Rattle.world_rules.proofs.SoFar.{so_far}
-use Rattle.world_rules.proofs.LineSteps.{IsFree, Keeps, begins_life, keeps-reached}
+use Rattle.world_rules.proofs.LineSteps.{IsFree, HasIndexLeft, Keeps, begins_life, keeps-reached}
 use Rattle.world_rules.proofs.Once.{Stands, at-station, one-started, stands-kept, stands-first}
 use Rattle.world_laws.specs.Signing.{KeepsRoster, TellsSpent, node_after}
 use Rattle.world_laws.proofs.Rosters.{kit-all, kit-own, roster-started}
@@ -60,7 +60,7 @@ quietly s w v told same notes stations grows h =
     }
 
 -- The node's place in the world is another, and the others are as they were.
-placed : (s : Setting) (m : ℕ) (station : Station) (w : World) (signed : List Signed) → Fits s signed m station → ((k : ℕ) → Fits s signed k (w.stations k)) → (k : ℕ) → Fits s signed k ((with_station m station w).stations k)
+pub placed : (s : Setting) (m : ℕ) (station : Station) (w : World) (signed : List Signed) → Fits s signed m station → ((k : ℕ) → Fits s signed k (w.stations k)) → (k : ℕ) → Fits s signed k ((with_station m station w).stations k)
 placed s m station w signed here others k = at-station k m station w (Fits s signed k) (λ e. subst (λ z. Fits s signed z station) e here) (λ apart. others k)
 
 there : (m : ℕ) (station : Station) (w : World) → ((life : Life) → In (lives_at (w.stations m)) life → IsThere station life) → (k : ℕ) (life : Life) → In (lives_of w k) life → IsThere ((with_station m station w).stations k) life
@@ -80,16 +80,16 @@ on-disk s m d w told notes h =
 
 -- ---- a life ends
 
-current-in : (station : Station) (life : Life) → station.current ≡ Some life → In (lives_at station) life
+pub current-in : (station : Station) (life : Life) → station.current ≡ Some life → In (lives_at station) life
 current-in station life running = In-append_right station.past (option_to_list station.current) life (subst (λ o. In (option_to_list o) life) (sym running) (inl refl))
 
-lives-running : (station : Station) (life : Life) → station.current ≡ Some life → lives_at station ≡ station.past ++ life ∷ []
+pub lives-running : (station : Station) (life : Life) → station.current ≡ Some life → lives_at station ≡ station.past ++ life ∷ []
 lives-running station life running = ap (λ o. station.past ++ option_to_list o) running
 
-lives-idle : (station : Station) → station.current ≡ None → lives_at station ≡ station.past
+pub lives-idle : (station : Station) → station.current ≡ None → lives_at station ≡ station.past
 lives-idle station idle = ap (λ o. station.past ++ option_to_list o) idle ∙ nil-right station.past
 
-lives-over : (station : Station) (life : Life) → station.current ≡ Some life → lives_at (life_over station (Some life)) ≡ lives_at station
+pub lives-over : (station : Station) (life : Life) → station.current ≡ Some life → lives_at (life_over station (Some life)) ≡ lives_at station
 lives-over station life running = nil-right (station.past ++ life ∷ []) ∙ sym (lives-running station life running)
 
 over-fits : (s : Setting) (signed : List Signed) (m : ℕ) (station : Station) (life : Life) → station.current ≡ Some life → Fits s signed m station → Fits s signed m (life_over station (Some life))
@@ -146,7 +146,7 @@ not-nobody m events x i none = none-some x.who m none (told-as m events x i).who
 
 -- ---- a running node is called
 
-in-life : (s : Setting) (w : World) (told : List Told) (m : ℕ) (life : Life) → (w.stations m).current ≡ Some life → Holds s w told → InLife s w m life.node
+pub in-life : (s : Setting) (w : World) (told : List Told) (m : ℕ) (life : Life) → (w.stations m).current ≡ Some life → Holds s w told → InLife s w m life.node
 in-life s w told m life running h =
     let fits = h.stations m in
     let i : In (lives_at (w.stations m)) life = current-in (w.stations m) life running in
@@ -167,16 +167,16 @@ after-itself station life d =
     let here : In (station.past ++ life ∷ []) life = In-append_right station.past (life ∷ []) life (inl refl) in
     cond_both {A = Station} d.call.ended _ _ (λ st. In (lives_at st) life) (λ over. In-append_left (station.past ++ life ∷ []) [] life here) (λ going. here)
 
-in-last : (past : List Life) (life x : Life) → In (past ++ life ∷ []) x → In past x ⊎ (life ≡ x)
+pub in-last : (past : List Life) (life x : Life) → In (past ++ life ∷ []) x → In past x ⊎ (life ≡ x)
 in-last past life x i = elim (In-append_cases past (life ∷ []) x i) [ inl old ↦ inl old | inr (inl is) ↦ inr is | inr (inr none) ↦ absurd none ]
 
-after-lives : (station : Station) (life : Life) (d : OnDisk) (x : Life) → In (lives_at (station_after station life d)) x → In station.past x ⊎ (life ≡ x)
+pub after-lives : (station : Station) (life : Life) (d : OnDisk) (x : Life) → In (lives_at (station_after station life d)) x → In station.past x ⊎ (life ≡ x)
 after-lives station life d x =
     cond_both {A = Station} d.call.ended _ _ (λ st. In (lives_at st) x → In station.past x ⊎ (life ≡ x))
     (λ over i. in-last station.past life x (subst (λ xs. In xs x) (nil-right (station.past ++ life ∷ [])) i))
     (λ going i. in-last station.past life x i)
 
-after-current : (station : Station) (life : Life) (d : OnDisk) (x : Life) → (station_after station life d).current ≡ Some x → (d.call.ended ≡ false) × (life ≡ x)
+pub after-current : (station : Station) (life : Life) (d : OnDisk) (x : Life) → (station_after station life d).current ≡ Some x → (d.call.ended ≡ false) × (life ≡ x)
 after-current station life d x e =
     elim (cases_Bool d.call.ended) [
       | inl over ↦ none-some (station_after station life d).current x (ap (λ (st : Station). st.current) (chosen d.call.ended _ _ over)) e
@@ -316,9 +316,9 @@ first-accuses s m k index kept a i =
     never (inl e) = no-note (ap (λ (x : Signed). x.body) e)
     never (inr none) = absurd none
 
-holds-began : (s : Setting) → IsSetting s → (m : ℕ) (d : Disk) (c : Course) → is_node s m ≡ true → (c.world.stations m).current ≡ None → d.state ≡ (first_call s m (c.world.stations m).disk.state).node.stored → Holds s c.world c.told
+holds-began : (s : Setting) → IsSetting s → (m : ℕ) (d : Disk) (c : Course) → is_node s m ≡ true → (c.world.stations m).current ≡ None → HasIndexLeft s (c.world.stations m) → d.state ≡ (first_call s m (c.world.stations m).disk.state).node.stored → Holds s c.world c.told
     → Holds s (begins_life s m d c).world (begins_life s m d c).told
-holds-began s fits m d c is idle same h =
+holds-began s fits m d c is idle left same h =
     let w : World = c.world in
     let station : Station = w.stations m in
     let kept : Stored = station.disk.state in
@@ -328,7 +328,7 @@ holds-began s fits m d c is idle same h =
     let made : List Signed = signed_in m call.told in
     let g : InCall s w m call = started-in_call s w m kept (λ index note j. (h.notes m is).holds index note (spent-in w (Some m) index (Note note) (eq-eqb m m refl) j)) in
     step s w (begins_life s m d c).world c.told (told_in m (length w.sent) call.told) made refl (not-nobody m call.told)
-    (λ k it. (stands-kept NotesWithin notes-rise s k fits it).began m d c is idle same (h.notes k it))
+    (λ k it. (stands-kept NotesWithin notes-rise s k fits it).began m d c is idle left same (h.notes k it))
     (placed s m after w (w.signed ++ made) (began-fits s w.signed m d station w fits is refl idle (h.stations m) g) (λ k. fits-more s w.signed made k (w.stations k) (h.stations k)))
     (told-right s w.signed made m (length w.sent) call.told g.told)
     (there m after w (began-there station life d idle))
@@ -375,8 +375,8 @@ pub holds-kept : (s : Setting) → IsSetting s → Keeps s (Holds s)
 holds-kept s fits =
     record {
       called = λ m i life c running free h. holds-called s fits m i life c running free h;
-      began = λ m d c is idle same h. holds-began s fits m d c is idle same h;
-      tried = λ m d w told idle left h. on-disk s m d w told (λ k it. (stands-kept NotesWithin notes-rise s k fits it).tried m d w told idle left (h.notes k it)) h;
+      began = λ m d c is idle left same h. holds-began s fits m d c is idle left same h;
+      tried = λ m d w told idle free left h. on-disk s m d w told (λ k it. (stands-kept NotesWithin notes-rise s k fits it).tried m d w told idle free left (h.notes k it)) h;
       disked = λ m d w told same h. on-disk s m d w told (λ k it. (stands-kept NotesWithin notes-rise s k fits it).disked m d w told same (h.notes k it)) h;
       ended = λ m life w told running h. over s m life w told running (λ k it. (stands-kept NotesWithin notes-rise s k fits it).ended m life w told running (h.notes k it)) h;
       got = λ m moment number w told h. holds-got s fits m moment number w told h;
@@ -400,7 +400,7 @@ no-accusation s m index a i = let r = authority-of s _ i in never r.0 r.1.1
     never : (k : ℕ) → Accusation a ≡ Certificate (certificate s k) → ⊥
     never k e = cc
 
-holds-first : (s : Setting) → Holds s (begun_world s) []
+pub holds-first : (s : Setting) → Holds s (begun_world s) []
 unfolding begun_world
 holds-first s =
     record {

@@ -83,7 +83,7 @@ pub node-listed : (s : Setting) (m : ℕ) → IsSetting s → is_node s m ≡ tr
 unfolding nodes
 node-listed s m fits is = In-filter (λ k. list_any (λ x. eqb x k) s.correct) all_numbers m (node-numbered s m fits is) is
 
-member-listed : (s : Setting) (m : ℕ) → IsSetting s → is_node s m ≡ true → In (members s) m
+pub member-listed : (s : Setting) (m : ℕ) → IsSetting s → is_node s m ≡ true → In (members s) m
 unfolding members
 member-listed s m fits is =
     In-filter (λ k. list_any (λ x. eqb x k) (s.correct ++ s.liars)) all_numbers m (node-numbered s m fits is)

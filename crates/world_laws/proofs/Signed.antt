@@ -138,7 +138,7 @@ signed-by signed who body it some =
           (subst (λ o. In signed (record { who = o; index = x.index; body = x.body })) owner r.1.0);
     }
 
-in-mapped : {X Y : Type 0} (f : X → Y) (xs : List X) (x : X) → In xs x → In (map f xs) (f x)
+pub in-mapped : {X Y : Type 0} (f : X → Y) (xs : List X) (x : X) → In xs x → In (map f xs) (f x)
 in-mapped f [] x i = absurd i
 in-mapped f (y ∷ ys) x (inl e) = inl (ap f e)
 in-mapped f (y ∷ ys) x (inr i) = inr (in-mapped f ys x i)

@@ -1,17 +1,18 @@
 -- What no liar brings about, in each world that lines lead to, none of which is forged.
-use Rattle.std.specs.Prelude.{◌≡◌, ℕ, ◌<◌, ◌≤◌, Bool, true, false, List, [], length, Contains, Some, None}
+use Rattle.std.specs.Prelude.{◌≡◌, ℕ, ◌<◌, Bool, true, false, List, [], length, Contains, Some, None}
 use Rattle.std.specs.List.{AllByRecursion}
 use Rattle.ff_ids.specs.declared.AccBody.{AccBody}
 use Rattle.ff_ids.specs.declared.Fault.TheVariants as faults
 use Rattle.ff_ids.specs.Steps.{Event, Accuses}
-use Rattle.ff_ids.specs.Lives.{opening, IsRemovedAt, RestsOn}
+use Rattle.ff_ids.specs.Notes.{newest}
+use Rattle.ff_ids.specs.Lives.{opening, state_at, IsRemovedAt, RestsOn}
 use Rattle.records.specs.declared.Body.{Body}
 use Rattle.records.specs.declared.Body.TheVariants.{Accusation}
 use Rattle.journal.specs.declared.event.What as whats
 use Rattle.journal.specs.declared.event.What.TheVariants as happened
 use Rattle.node_rules.specs.Nodes.{public_key_of}
 use Rattle.node_rules.specs.Vouching.{IsVouchedFor}
-use Rattle.world_rules.specs.Settings.{Owner, Setting, is_node, members, record_of, setting_of}
+use Rattle.world_rules.specs.Settings.{Owner, Setting, is_node, record_of, setting_of}
 use Rattle.world_rules.specs.Worlds.{Life, World, lives_of}
 use Rattle.world_rules.specs.Steps.{Told}
 use Rattle.world_rules.specs.Laws.{IsSetting, Reached}
@@ -35,13 +36,14 @@ OwnAheadNeverComes = (s : Setting) (w : World) (told : List Told) → IsSetting 
 
 -- ---- removals
 
--- The removal of the member at place j of the life rests on an accusation; and the member itself had signed the note of
--- that accusation's epoch, with that accusation's ring enabled.
+-- The removal of the member at place j of the life rests on an accusation. The note that was the member's newest there as
+-- that was accepted, the member itself had signed, of that accusation's epoch and with that accusation's ring enabled.
 pub record RestsOnOwnNote (s : Setting) (w : World) (events : List Event) (j m : ℕ) : Type 0 where
   pub place : ℕ
   pub accusation : AccBody
   pub rests : RestsOn s.group (opening []) events j m place accusation
   pub had_signed : HasEnabled w accusation
+  pub is_newest : newest (state_at s.group (opening []) events place).notes m ≡ Some had_signed.note
 
 -- So does each removal of a node in the life.
 abbrev pub RemovesRightly : Setting → World → Life → Type 0
@@ -78,11 +80,9 @@ AcceptedAccusationsWereSigned = (s : Setting) (w : World) (told : List Told) →
 
 -- ---- removals that are told
 
--- Each key has enough indexes for what the authority signs, and what is signed with a key at one of its indexes verifies
--- under it.
-pub record SignaturesVerify (s : Setting) : Type 0 where
-  pub enough : length (members s) ≤ s.indexes
-  pub verify : (who : Owner) (index : ℕ) (body : Body) → index < s.indexes → s.verifies (s.key who) (record_of s (record { who = who; index = index; body = body })) ≡ true
+-- What is signed with a key at one of its indexes verifies under it.
+abbrev pub SignaturesVerify : Setting → Type 0
+SignaturesVerify s = (who : Owner) (index : ℕ) (body : Body) → index < s.indexes → s.verifies (s.key who) (record_of s (record { who = who; index = index; body = body })) ≡ true
 
 -- In one of the node's lives the member is removed, and that rests on an accusation, of which a record verifies under
 -- the key of the accuser's certificate, as the node keeps it.

@@ -1,5 +1,5 @@
 -- What each line keeps that each of its small steps keeps.
-use Rattle.std.proofs.Common.{◌≡◌, ◌⊎◌, ℕ, ◌+◌, zero, suc, Bool, true, false, not, List, [], ◌∷◌, ◌++◌, Option, Some, None, inl, inr, refl, ap, sym, subst, length}
+use Rattle.std.proofs.Common.{◌≡◌, ◌⊎◌, ℕ, ◌+◌, zero, suc, Bool, true, false, not, eqb, List, [], ◌∷◌, ◌++◌, Option, Some, None, inl, inr, refl, ap, sym, subst, length}
 use Rattle.std.specs.Prelude.{Result, Ok, Err, is_some}
 use Rattle.std.specs.List.{slice_get}
 use Rattle.std.proofs.lemmas.Bool.{cond_both}
@@ -39,13 +39,17 @@ begins_life s m d c =
     let call = first_call s m station.disk.state in
     in_station m (record { disk = d; past = station.past; current = Some (first_life station.disk.state call) }) (with_call m call c)
 
+-- The key of the node has an index left, by its store.
+abbrev pub HasIndexLeft : Setting → Station → Type 0
+HasIndexLeft s station = eqb station.disk.state.next s.indexes ≡ false
+
 -- Each small step of a line keeps it.
 pub record Keeps (s : Setting) (J : World → List Told → Type 0) : Type 0 where
   pub called : (m : ℕ) (i : Input) (life : Life) (c : Course) → (c.world.stations m).current ≡ Some life → IsFree s c.world i → J c.world c.told
       → let d = comes m (c.world.stations m) life i (called_on (setting_of s m) life.node i (c.world.stations m).disk) c in J d.world d.told
-  pub began : (m : ℕ) (d : Disk) (c : Course) → is_node s m ≡ true → (c.world.stations m).current ≡ None → d.state ≡ (first_call s m (c.world.stations m).disk.state).node.stored → J c.world c.told
+  pub began : (m : ℕ) (d : Disk) (c : Course) → is_node s m ≡ true → (c.world.stations m).current ≡ None → HasIndexLeft s (c.world.stations m) → d.state ≡ (first_call s m (c.world.stations m).disk.state).node.stored → J c.world c.told
       → J (begins_life s m d c).world (begins_life s m d c).told
-  pub tried : (m : ℕ) (d : Disk) (w : World) (told : List Told) → (w.stations m).current ≡ None → (d.state ≡ (w.stations m).disk.state) ⊎ (d.state ≡ (first_call s m (w.stations m).disk.state).node.stored) → J w told
+  pub tried : (m : ℕ) (d : Disk) (w : World) (told : List Told) → (w.stations m).current ≡ None → HasIndexLeft s (w.stations m) → (d.state ≡ (w.stations m).disk.state) ⊎ (d.state ≡ (first_call s m (w.stations m).disk.state).node.stored) → J w told
       → J (with_station m (with_disk (w.stations m) d) w) told
   pub disked : (m : ℕ) (d : Disk) (w : World) (told : List Told) → d.state ≡ (w.stations m).disk.state → J w told → J (with_station m (with_disk (w.stations m) d) w) told
   pub ended : (m : ℕ) (life : Life) (w : World) (told : List Told) → (w.stations m).current ≡ Some life → J w told → J (with_station m (life_over (w.stations m) (Some life)) w) told
@@ -143,15 +147,15 @@ keeps-answered J base (Ok c) h = h
 
 -- ---- starts
 
-keeps-begins : (s : Setting) (J : World → List Told → Type 0) (k : Keeps s J) (base : List Told) (m : ℕ) (d : Disk) (w : World) → is_node s m ≡ true → (w.stations m).current ≡ None → d.state ≡ (w.stations m).disk.state → J w base
+keeps-begins : (s : Setting) (J : World → List Told → Type 0) (k : Keeps s J) (base : List Told) (m : ℕ) (d : Disk) (w : World) → is_node s m ≡ true → (w.stations m).current ≡ None → HasIndexLeft s (w.stations m) → d.state ≡ (w.stations m).disk.state → J w base
     → OnAnswer J base (Ok (begins s m (with_disk (w.stations m) d) (first_call s m (w.stations m).disk.state) w))
-keeps-begins s J k base m d w is idle same h =
+keeps-begins s J k base m d w is idle left same h =
     let station : Station = w.stations m in
     let call : Call = first_call s m station.disk.state in
     cond_both {A = Answer} (put_passes d) _ _ (λ a. J a.world (base ++ a.told))
     (λ yes. subst (λ (kept : Stored). J (in_station m (record { disk = after_put call.node.stored d; past = station.past; current = Some (first_life kept call) }) (with_call m call (begun w))).world (base ++ told_in m (length w.sent) call.told)) (sym same)
-    (k.began m (after_put call.node.stored d) (record { world = w; told = base }) is idle refl h))
-    (λ no. quietly J base _ (k.tried m (stopped_in_put call.node.stored d) w base idle
+    (k.began m (after_put call.node.stored d) (record { world = w; told = base }) is idle left refl h))
+    (λ no. quietly J base _ (k.tried m (stopped_in_put call.node.stored d) w base idle left
     (left-state d call.node.stored (λ z. (z ≡ station.disk.state) ⊎ (z ≡ call.node.stored)) (inl same) (inr refl)) h))
 
 keeps-opens : (s : Setting) (J : World → List Told → Type 0) (k : Keeps s J) (base : List Told) (m : ℕ) (rest : Station → Answer) (w : World) → J w base
@@ -162,12 +166,12 @@ keeps-opens s J k base m rest w h then_ =
     cond_both {A = Answer} (lets_pass station.disk.armed (opening_calls station.disk)) _ _ (λ a. J a.world (base ++ a.told)) (λ yes. then_)
     (λ no. quietly J base _ (k.disked m (stopped station.disk) w base refl h))
 
-keeps-starts : (s : Setting) (J : World → List Told → Type 0) (k : Keeps s J) (base : List Told) (m : ℕ) (w : World) → is_node s m ≡ true → (w.stations m).current ≡ None → J w base → OnAnswer J base (Ok (starts s m w))
+keeps-starts : (s : Setting) (J : World → List Told → Type 0) (k : Keeps s J) (base : List Told) (m : ℕ) (w : World) → is_node s m ≡ true → (w.stations m).current ≡ None → HasIndexLeft s (w.stations m) → J w base → OnAnswer J base (Ok (starts s m w))
 unfolding starts
-keeps-starts s J k base m w is idle h =
+keeps-starts s J k base m w is idle left h =
     let station : Station = w.stations m in
     keeps-opens s J k base m (λ opened. begins s m opened (first_call s m station.disk.state) w) w h
-    (keeps-begins s J k base m (after_calls (opening_calls station.disk) station.disk) w is idle refl h)
+    (keeps-begins s J k base m (after_calls (opening_calls station.disk) station.disk) w is idle left refl h)
 
 keeps-starts_in_vain : (s : Setting) (J : World → List Told → Type 0) (k : Keeps s J) (base : List Told) (m first : ℕ) (w : World) → J w base → OnAnswer J base (Ok (starts_in_vain m first w))
 unfolding starts_in_vain
@@ -210,6 +214,10 @@ pub start-idle : (s : Setting) (w : World) (m : ℕ) → why_not s w (lines.Star
 unfolding why_not row_at
 start-idle s w m e = none-current (w.stations m).current (none-row (table s w (lines.Start m)) 4 e)
 
+pub start-left : (s : Setting) (w : World) (m : ℕ) → why_not s w (lines.Start m) ≡ None → HasIndexLeft s (w.stations m)
+unfolding why_not row_at
+start-left s w m e = none-row (table s w (lines.Start m)) 7 e
+
 note-liar : (s : Setting) (w : World) (key : ℕ) (note : NoteBody) (name : List ℕ) → why_not s w (lines.SignNote key note name) ≡ None → is_liar s key ≡ true
 unfolding why_not row_at
 note-liar s w key note name e = not-not (is_liar s key) (none-row (table s w (lines.SignNote key note name)) 1 e)
@@ -233,7 +241,7 @@ keeps-of_life s J base m None ask w h = quietly J base w h
 keeps-of_life s J base m (Some life) ask w h = quietly J base w h
 
 keeps-does : (s : Setting) (J : World → List Told → Type 0) (k : Keeps s J) (base : List Told) (w : World) (line : WorldLine) → why_not s w line ≡ None → J w base → OnAnswer J base (does s w line)
-keeps-does s J k base w (lines.Start m) can h = keeps-starts s J k base m w (start-node s w m can) (start-idle s w m can) h
+keeps-does s J k base w (lines.Start m) can h = keeps-starts s J k base m w (start-node s w m can) (start-idle s w m can) (start-left s w m can) h
 keeps-does s J k base w (lines.Stop m outcome) can h = quietly J base _ (keeps-stops s J k base m w (w.stations m).current refl h)
 keeps-does s J k base w (lines.Arm m n outcome) can h = quietly J base _ (k.disked m (record (w.stations m).disk { armed = Some (record { calls = n; outcome = outcome }) }) w base refl h)
 keeps-does s J k base w (lines.Tick m n) can h = keeps-ticks s J k base m n (begun w) (quietly J base w h)

@@ -283,12 +283,12 @@ stands-kept P rises s m fits is =
           fine-at P m k _ c.world _
           (λ e. subst (λ (z : ℕ). Stands P z c.world c.told → Fine P (station_after (c.world.stations k) (with_input life i d.call.node) d) (filter_map (spent_if_by (Some z)) (c.world.signed ++ signed_in k d.call.told))) e (called-own P rises s k i life c running) h)
           (λ apart. subst (Fine P (c.world.stations m)) (sym (foreign-call m k c.world.signed d.call.told apart)) h);
-      began = λ k d c it idle same h.
+      began = λ k d c it idle free same h.
           let call : Call = first_call s k (c.world.stations k).disk.state in
           fine-at P m k _ c.world _
           (λ e. subst (λ (z : ℕ). Stands P z c.world c.told → Fine P (record { disk = d; past = (c.world.stations k).past; current = Some (first_life (c.world.stations k).disk.state call) }) (filter_map (spent_if_by (Some z)) (c.world.signed ++ signed_in k call.told))) e (began-own P rises s k d c same) h)
           (λ apart. subst (Fine P (c.world.stations m)) (sym (foreign-call m k c.world.signed call.told apart)) h);
-      tried = λ k d w told idle left h.
+      tried = λ k d w told idle free left h.
           fine-at P m k _ w _ (λ e. subst (λ (z : ℕ). Stands P z w told → Fine P (with_disk (w.stations k) d) (spent_of w (Some z))) e (tried-own P rises s k d w told idle left) h) (λ apart. h);
       disked = λ k d w told same h.
           fine-at P m k _ w _ (λ e. subst (λ (z : ℕ). Stands P z w told → Fine P (with_disk (w.stations k) d) (spent_of w (Some z))) e (disked-own P k d w told same) h) (λ apart. h);

@@ -220,7 +220,7 @@ stands-kept s m =
           (λ e. subst (λ (z : ℕ). Stands s z c.world c.told → Tells s after (told_for z (c.told ++ told_in k before d.call.told))) e
           (λ own. told_for-append k c.told (told_in k before d.call.told) ∙ ap (λ xs. told_for k c.told ++ xs) (told_for-own k before d.call.told) ∙ tells-called s k i life station (told_for k c.told) running own) h)
           (λ apart. news-other s m k before c.world c.told d.call.told apart h);
-      began = λ k d c it idle same h.
+      began = λ k d c it idle free same h.
           let station : Station = c.world.stations k in
           let call : Call = first_call s k station.disk.state in
           let after : Station = record { disk = d; past = station.past; current = Some (first_life station.disk.state call) } in
@@ -229,7 +229,7 @@ stands-kept s m =
           (λ e. subst (λ (z : ℕ). Stands s z c.world c.told → Tells s after (told_for z (c.told ++ told_in k before call.told))) e
           (λ own. told_for-append k c.told (told_in k before call.told) ∙ ap (λ xs. told_for k c.told ++ xs) (told_for-own k before call.told) ∙ tells-began s k d station (told_for k c.told) idle own) h)
           (λ apart. news-other s m k before c.world c.told call.told apart h);
-      tried = λ k d w told idle left h. at-station m k _ w (λ x. Tells s x (told_for m told)) (λ e. subst (λ (z : ℕ). Stands s z w told → Tells s (with_disk (w.stations k) d) (told_for z told)) e (λ own. own) h) (λ apart. h);
+      tried = λ k d w told idle free left h. at-station m k _ w (λ x. Tells s x (told_for m told)) (λ e. subst (λ (z : ℕ). Stands s z w told → Tells s (with_disk (w.stations k) d) (told_for z told)) e (λ own. own) h) (λ apart. h);
       disked = λ k d w told same h. at-station m k _ w (λ x. Tells s x (told_for m told)) (λ e. subst (λ (z : ℕ). Stands s z w told → Tells s (with_disk (w.stations k) d) (told_for z told)) e (λ own. own) h) (λ apart. h);
       ended = λ k life w told running h.
           let station : Station = w.stations k in
