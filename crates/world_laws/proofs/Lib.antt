@@ -10,3 +10,4 @@ mod Bounded
 mod Lawful
 mod Verified
 mod Removing
+mod Keyed

@@ -2,10 +2,13 @@
 use Rattle.std.specs.Prelude.{◌≡◌, ℕ, ◌<◌, Bool, true, false, List, [], length, Contains, Some, None}
 use Rattle.std.specs.List.{AllByRecursion}
 use Rattle.ff_ids.specs.declared.AccBody.{AccBody}
+use Rattle.ff_ids.specs.declared.Group.{Group}
 use Rattle.ff_ids.specs.declared.Fault.TheVariants as faults
 use Rattle.ff_ids.specs.Steps.{Event, Accuses}
 use Rattle.ff_ids.specs.Notes.{newest}
 use Rattle.ff_ids.specs.Lives.{opening, state_at, IsRemovedAt, RestsOn}
+use Rattle.lms_ots.specs.declared.OtsKind.{OtsKind}
+use Rattle.lms_tree.specs.declared.TreeKind.{TreeKind}
 use Rattle.records.specs.declared.Body.{Body}
 use Rattle.records.specs.declared.Body.TheVariants.{Accusation}
 use Rattle.journal.specs.declared.event.What as whats
@@ -13,6 +16,7 @@ use Rattle.journal.specs.declared.event.What.TheVariants as happened
 use Rattle.node_rules.specs.Nodes.{public_key_of}
 use Rattle.node_rules.specs.Vouching.{IsVouchedFor}
 use Rattle.world_rules.specs.Settings.{Owner, Setting, is_node, record_of, setting_of}
+use Rattle.world_rules.specs.Keys.{setting_for}
 use Rattle.world_rules.specs.Worlds.{Life, World, lives_of}
 use Rattle.world_rules.specs.Steps.{Told}
 use Rattle.world_rules.specs.Laws.{IsSetting, Reached}
@@ -83,6 +87,10 @@ AcceptedAccusationsWereSigned = (s : Setting) (w : World) (told : List Told) →
 -- What is signed with a key at one of its indexes verifies under it.
 abbrev pub SignaturesVerify : Setting → Type 0
 SignaturesVerify s = (who : Owner) (index : ℕ) (body : Body) → index < s.indexes → s.verifies (s.key who) (record_of s (record { who = who; index = index; body = body })) ≡ true
+
+-- That holds of the keys that a world is opened with.
+abbrev pub KeysVerify : Type 0
+KeysVerify = (g : Group) (ots : OtsKind) (tree : TreeKind) (correct liars : List ℕ) → SignaturesVerify (setting_for g ots tree correct liars)
 
 -- In one of the node's lives the member is removed, and that rests on an accusation, of which a record verifies under
 -- the key of the accuser's certificate, as the node keeps it.

@@ -2,7 +2,7 @@
 //! signed that is removed, or by which a member is accused. Each law is the contract of a function that does nothing.
 #![tactic(auto)]
 
-ghost use Rattle.world_laws.specs.Laws.{RostersAreKept, OwnAheadNeverComes, TheRemovedHadSigned, NodesAccuseTheSilent, AcceptedAccusationsWereSigned, RemovalsAreVerified};
+ghost use Rattle.world_laws.specs.Laws.{RostersAreKept, OwnAheadNeverComes, TheRemovedHadSigned, NodesAccuseTheSilent, AcceptedAccusationsWereSigned, KeysVerify, RemovalsAreVerified};
 
 /// In every life a node keeps the authority's certificates of the members, and no others.
 pub fn rosters_are_kept()
@@ -26,6 +26,11 @@ pub fn the_removed_had_signed()
 pub fn accusations_are_of_the_silent()
     ensures signed { NodesAccuseTheSilent }
     ensures accepted { AcceptedAccusationsWereSigned }
+{}
+
+/// What is signed at an index of a world's key verifies under that key.
+pub fn keys_verify()
+    ensures { KeysVerify }
 {}
 
 /// Each removal that a world tells of a node is one in a life of the node, and rests on an accusation that was accepted
