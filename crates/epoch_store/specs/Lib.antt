@@ -3,3 +3,4 @@ pub mod Reading
 pub mod Calls
 pub mod Asked
 pub mod Followed
+pub mod Placed

@@ -11,6 +11,7 @@ use Rattle.signer.proofs.LivesLemmas.{spent_once}
 use Rattle.signer.proofs.LivingLemmas.{nothing_spent}
 use Rattle.ports.specs.DiskLaws.{now_leaves}
 use Rattle.ports.specs.DiskCalls.{DiskCall}
+use Rattle.ports.specs.MemoryDisk.{DiskState}
 use Rattle.ports.specs.MemoryDisk.{now_of, moments_of}
 use Rattle.ports.specs.declared.memory_disk.Change.{Change}
 use Rattle.ff_ids.specs.declared.Group.{Group}
@@ -47,7 +48,7 @@ plays_on h before (Some rec) signer later older newer records plays goes =
     }
 
 -- what a signer hands out, it has spent
-pub signs_on : (h : Holder) (before : List ℕ) (spent : List Spent) (s later : SignerState) (body : Body) (rec : CheckedRecord) (failures failures_now : ℕ) (made made_now : Option (List DiskCall)) (older newer : List Moment) → Signs s later body (Ok rec) failures failures_now made made_now older newer → Stands h before spent (Some s) older → HandsOut h before spent (Some rec) (Some later) newer
+pub signs_on : (h : Holder) (before : List ℕ) (spent : List Spent) (s later : SignerState) (body : Body) (rec : CheckedRecord) (failures failures_now : ℕ) (made made_now : Option (List DiskCall)) (older newer : List Moment) {disk disk_now : Option DiskState} → Signs s later body (Ok rec) failures failures_now made made_now older newer disk disk_now → Stands h before spent (Some s) older → HandsOut h before spent (Some rec) (Some later) newer
 signs_on h before spent s later body rec failures failures_now made made_now older newer signs stands =
     let key : later.key ≡ key_of h = ap (λ (z : SignerState). z.key) signs.after ∙ stands.1 in
     let group : later.group ≡ h.group = ap (λ (z : SignerState). z.group) signs.after ∙ stands.2 in

@@ -4,6 +4,7 @@ use Rattle.std.specs.Prelude.{IfErr, OnOk}
 use Rattle.std.proofs.lemmas.Bool.{cases_Bool}
 use Rattle.ports.specs.Disk.{Moment}
 use Rattle.ports.specs.DiskCalls.{DiskCall}
+use Rattle.ports.specs.MemoryDisk.{DiskState}
 use Rattle.ports.proofs.SinceLemmas.{Since-same, Since-trans, Since-weaken}
 use Rattle.ff_ids.specs.Steps.{Report}
 use Rattle.records.specs.declared.Body.{Body}
@@ -126,8 +127,8 @@ lives-trans first second a b c x y z p q = record {
 }
 
 -- one signature, or none
-pub lives-signed : (s later : SignerState) (body : Body) (result : Result CheckedRecord SignFault) (failures failures_now : ℕ) (made made_now : Option (List DiskCall)) (older newer : List Moment)
-    → Signs s later body result failures failures_now made made_now older newer → LivesOn (spent_in s body result) s later older newer
+pub lives-signed : (s later : SignerState) (body : Body) (result : Result CheckedRecord SignFault) (failures failures_now : ℕ) (made made_now : Option (List DiskCall)) (older newer : List Moment) {disk disk_now : Option DiskState}
+    → Signs s later body result failures failures_now made made_now older newer disk disk_now → LivesOn (spent_in s body result) s later older newer
 lives-signed s later body result failures failures_now made made_now older newer h = record {
   lives = h.lives;
   any_moment = λ tag before spent living. Since-weaken (EndsLives tag before spent) (EndsWithin tag before spent (spent_in s body result)) older newer

@@ -18,3 +18,4 @@ pub mod Sending
 pub mod Gaining
 pub mod OnRings
 pub mod OneExchange
+pub mod OnDisks
