@@ -8,7 +8,7 @@ use Rattle.text_trace.proofs.TraceLemmas.{steps-none, steps-join, ends-join, ref
 use Rattle.text_trace.proofs.WholeLemmas.{whole-none, whole-join}
 use Rattle.play.specs.declared.stop.Stop.{Stop}
 use Rattle.play.specs.declared.stop.Stop.TheVariants as stop
-use Rattle.play.specs.Plays.{Standing, Unfailed, Lines, Went, Finished, Refused, Unread, Unwritten, Starved, Stops, StopsRun, Follows, IsAdmitted, bytes_of}
+use Rattle.play.specs.Plays.{Standing, Unfailed, Lines, Came, Went, Finished, Refused, Unread, Unwritten, Starved, Stops, StopsRun, Follows, IsAdmitted, bytes_of}
 
 -- something is still owed
 pub owing-later : (C : Type 0) (A B : Owed C → Type 0) (first next room later : ℕ) (was now : Standing) → Owing C A → Went C A B first next room later was now → Owing C B
@@ -161,3 +161,25 @@ run-stops C A room was now (stop.Refused line cause) stops = stops
 run-stops C A room was now stop.ReadFault stops = stops
 run-stops C A room was now stop.WriteFault stops = stops
 run-stops C A room was now stop.OutOfMemory stops = inr stops
+
+-- no line was taken yet, and nothing learned
+pub came-none : (Reaches : List (List ℕ) → Type 0) (room : ℕ) (left : Option (List ℕ)) → Reaches [] → Came Reaches room room left left
+came-none Reaches room left none = record {
+  lines = [];
+  bytes = [];
+  whole = whole-none;
+  few = omega arith;
+  read = Consumes-nil left;
+  reaches = none;
+}
+
+-- what was learned of some lines, and then of others
+pub came-join : (P Q R : List (List ℕ) → Type 0) (room some later : ℕ) (was then now : Option (List ℕ)) → ((lines others : List (List ℕ)) → P lines → Q others → R (lines ++ others)) → Came P room some was then → Came Q some later then now → Came R room later was now
+came-join P Q R room some later was then now on a b = record {
+  lines = a.lines ++ b.lines;
+  bytes = a.bytes ++ b.bytes;
+  whole = whole-join a.lines b.lines a.bytes b.bytes a.whole b.whole;
+  few = omega (arith, a.few, b.few, length-append a.lines b.lines);
+  read = Consumes-trans was then now a.bytes b.bytes a.read b.read;
+  reaches = on a.lines b.lines a.reaches b.reaches;
+}

@@ -4,13 +4,13 @@ use Rattle.std.specs.Io.KnownBytes.{Appends, Consumes}
 use Rattle.ports.specs.Contents.{IsUsedUp, TookFront}
 use Rattle.ports.specs.Count.{next_count}
 use Rattle.text_trace.specs.Lines.{has_line_feed, IsFed}
-use Rattle.text_trace.specs.Trace.{Owed, Steps, Waits, Writes, Ends, Refuses, Admits}
+use Rattle.text_trace.specs.Trace.{Owed, Trace, Steps, Waits, Writes, Ends, Refuses, Admits}
 use Rattle.text_trace.proofs.TraceLemmas.{steps-none, steps-weaker}
 use Rattle.text_trace.proofs.WholeLemmas.{whole-none, whole-one, feed_apart}
 use Rattle.play.specs.declared.reader.Ending.{Ending}
 use Rattle.play.specs.declared.reader.Ending.TheVariants as ending
 use Rattle.play.specs.Reading.{EndsBy, Reads, ReadsPart}
-use Rattle.play.specs.Plays.{Standing, Unfailed, Lines, Went, Finished, Refused, Unread, Unwritten, Starved, IsLast}
+use Rattle.play.specs.Plays.{Standing, Unfailed, Lines, Came, Went, Finished, Refused, Unread, Unwritten, Starved, IsLast}
 
 no-bytes : (line : List ℕ) → length line ≡ 0 → line ≡ []
 no-bytes [] e = refl
@@ -189,3 +189,29 @@ starved-end C A room was now line by read none admits waits same unfailed = reco
   writes = writes-none C A waits;
   unfailed = unfailed;
 }
+
+-- a line was taken, and something learned of it
+pub came-one : (Reaches : List (List ℕ) → Type 0) (room later : ℕ) (before after : Option (List ℕ)) (line : List ℕ) (by : Ending) → Reads before after line by → has_line_feed line ≡ true → later < room → Reaches (line ∷ []) → Came Reaches room later before after
+came-one Reaches room later before after line by read fed less one = record {
+  lines = line ∷ [];
+  bytes = line;
+  whole = whole-one line (is-fed by line after read.ends fed);
+  few = omega arith;
+  read = read.front;
+  reaches = one;
+}
+
+-- no line was left, and nothing learned
+pub came-end : (Reaches : List (List ℕ) → Type 0) (room : ℕ) (before after : Option (List ℕ)) (line : List ℕ) (by : Ending) → Reads before after line by → length line ≡ 0 → Reaches [] → Came Reaches room room before after
+came-end Reaches room before after line by read none same = record {
+  lines = [];
+  bytes = [];
+  whole = whole-none;
+  few = omega arith;
+  read = nothing-read before after line read.front none;
+  reaches = same;
+}
+
+-- an end that was taken isn't refused
+pub ended-here : (C : Type 0) (A : Owed C → Type 0) (text : List ℕ) → Ends C A [] text → Admits C A [] None
+ended-here C A text ends = λ f owes. ap (λ (t : Trace C). t.cause) (ends f owes)

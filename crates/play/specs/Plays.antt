@@ -45,6 +45,15 @@ pub record Went (C : Type 0) (A B : Owed C → Type 0) (first next room later : 
   pub steps : Steps C A B lines text
   pub unfailed : Unfailed was now
 
+-- Lines were taken of which this holds; so many could come before, and so many after.
+pub record Came (Reaches : List (List ℕ) → Type 0) (room later : ℕ) (before after : Option (List ℕ)) : Type 0 where
+  pub lines : List (List ℕ)
+  pub bytes : List ℕ
+  pub whole : AreWhole lines bytes
+  pub few : later + length lines ≤ room
+  pub read : Consumes before after bytes
+  pub reaches : Reaches lines
+
 -- The whole text was taken, and its trace was written.
 pub record Finished (C : Type 0) (A : Owed C → Type 0) (room : ℕ) (was now : Standing) : Type 0 where
   pub lines : List (List ℕ)

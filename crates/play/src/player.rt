@@ -1,9 +1,9 @@
 //! The loop.
 
-ghost use Rattle.std.specs.Prelude.{◌≡◌, ◌≤◌, ◌+◌, [], true, vec_capacity};
+ghost use Rattle.std.specs.Prelude.{◌≡◌, ◌≤◌, ◌+◌, [], true, false, vec_capacity, None, Ok, OnOk};
 ghost use Rattle.text_trace.specs.Lines.{seen_bytes, text_lines};
-ghost use Rattle.text_trace.specs.Trace.{Owing};
-ghost use Rattle.play.specs.Plays.{Runs, Turns, has_written, standing};
+ghost use Rattle.text_trace.specs.Trace.{Admits, Owing};
+ghost use Rattle.play.specs.Plays.{Came, Runs, Turns, has_written, standing};
 
 use crate::reader::read_line;
 use crate::script::{Refusal, Script};
@@ -30,6 +30,8 @@ fn turn<P: Script, S: Source, O: Sink>(
     ensures room { seen_bytes ≤ vec_capacity line.new }
     ensures source { result ≡ Ok true → S.is_open input.new ≡ true }
     ensures sink { O.is_open out.new ≡ has_written result }
+    ensures came { OnOk result (Came (λ lines. P.reaches script.old lines script.new) (P.room script.old) (P.room script.new) (S.left input.old) (S.left input.new)) }
+    ensures ended { result ≡ Ok false → Admits P.Cause (P.owes script.new) [] None }
     ensures turns { Turns P.Cause (P.owes script.old) (P.owes script.new) number (P.room script.old) (P.room script.new)
         (standing (S.left input.old) (O.taken out.old) (S.faults input.old) (O.faults out.old))
         (standing (S.left input.new) (O.taken out.new) (S.faults input.new) (O.faults out.new)) result }
@@ -80,6 +82,9 @@ pub fn play<P: Script, S: Source, O: Sink>(
     requires owing { Owing P.Cause (P.owes script.old) }
     requires few { P.room script.old ≤ text_lines }
     ensures sink { O.is_open out.new ≡ has_written result }
+    // Where the text is at its end, what the script has learned of its lines.
+    ensures came { OnOk result (Came (λ lines. P.reaches script.old lines script.new) (P.room script.old) (P.room script.new) (S.left input.old) (S.left input.new)) }
+    ensures ended { OnOk result (Admits P.Cause (P.owes script.new) [] None) }
     ensures runs { Runs P.Cause (P.owes script.old) (P.room script.old)
         (standing (S.left input.old) (O.taken out.old) (S.faults input.old) (O.faults out.old))
         (standing (S.left input.new) (O.taken out.new) (S.faults input.new) (O.faults out.new)) result }

@@ -1,6 +1,6 @@
 //! What a line of a text does.
 
-ghost use Rattle.std.specs.Prelude.{◌≡◌, ◌<◌, ℕ, [], OnOk};
+ghost use Rattle.std.specs.Prelude.{◌≡◌, ◌<◌, ℕ, List, [], ◌∷◌, ◌++◌, OnOk};
 ghost use Rattle.text_trace.specs.Trace.{Owed, Owing, Waits};
 
 use std::alloc::Global;
@@ -27,6 +27,9 @@ pub trait Script {
     /// How many lines may still come.
     ghost room: { Self → ℕ };
 
+    /// What the script is behind lines that were taken, beside what it was before them: what it has learned of them.
+    ghost reaches: { Self → List (List ℕ) → Self → Type 0 };
+
     /// Takes a line, and puts what is written for it into the text, which is empty. The line has its line feed;
     /// or the input ends inside it, and it has some bytes; or it is the first 65,601 bytes of a line that has more
     /// than 65,600 before its line feed. Only a line with its line feed is taken. Memory is refused for no line that
@@ -40,6 +43,7 @@ pub trait Script {
         requires empty { text.old.items ≡ [] }
         requires owing { Owing Self.Cause (owes self.old) }
         ensures room { OnOk result (room self.new < room self.old) }
+        ensures reaches { OnOk result (reaches self.old (bytes.now ∷ []) self.new) }
         ensures line { AnswersLine Self.Cause (owes self.old) (owes self.new) bytes.now text.new.items result };
 
     /// Ends the text, and puts what is written at its end into the text, which is empty. Memory is refused for no
@@ -52,4 +56,10 @@ pub trait Script {
     /// Nothing is written for a line without its line feed, nor for what follows it; and between two lines the text
     /// isn't refused yet.
     ghost waits: { (s : Self) (f : Owed Self.Cause) → owes s f → Waits Self.Cause f };
+
+    /// With no line nothing is learned.
+    ghost reaches_itself: { (s : Self) → reaches s [] s };
+
+    /// What is learned of lines is kept over those behind them.
+    ghost reaches_on: { (s then later : Self) (lines others : List (List ℕ)) → reaches s lines then → reaches then others later → reaches s (lines ++ others) later };
 }

@@ -21,6 +21,8 @@ impl Script for Copier {
 
     ghost room = { λ s. s.room };
 
+    ghost reaches = { λ _ _ _. Unit {0} };
+
     fn line(
         &mut self,
         _alloc: Global,
@@ -51,6 +53,10 @@ impl Script for Copier {
     }
 
     ghost waits = { λ s f same. waits s.room f same };
+
+    ghost reaches_itself = { λ _. tt };
+
+    ghost reaches_on = { λ _ _ _ _ _ _ _. tt };
 }
 
 /// A source of the text that fails at the calls with these numbers.

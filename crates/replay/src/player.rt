@@ -50,6 +50,8 @@ impl Script for Player {
 
     ghost room = { λ s. text_lines + 1 - s.lines.number };
 
+    ghost reaches = { λ _ _ _. Unit {0} };
+
     fn line(
         &mut self,
         alloc: Global,
@@ -76,6 +78,10 @@ impl Script for Player {
     }
 
     ghost waits = { λ s f owes. owes_waits s.lines s.life f owes };
+
+    ghost reaches_itself = { λ _. tt };
+
+    ghost reaches_on = { λ _ _ _ _ _ _ _. tt };
 }
 
 /// Plays the text that the source gives, from its header on, and writes its trace: of each line before the next is

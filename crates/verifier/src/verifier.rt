@@ -50,6 +50,8 @@ impl Script for Verifier {
 
     ghost room = { λ s. text_lines + 1 - s.reader.number };
 
+    ghost reaches = { λ _ _ _. Unit {0} };
+
     fn line(
         &mut self,
         alloc: Global,
@@ -80,4 +82,8 @@ impl Script for Verifier {
     }
 
     ghost waits = { λ s f e. answered-waits s.reader s.asked f e };
+
+    ghost reaches_itself = { λ _. tt };
+
+    ghost reaches_on = { λ _ _ _ _ _ _ _. tt };
 }

@@ -2,7 +2,7 @@ use Rattle.std.proofs.Common.{ℕ, List, refl, subst, rules}
 use Rattle.std.specs.Io.KnownBytes.{Appends}
 use Rattle.std.proofs.KnownBytes.{Appends-nil}
 use Rattle.ports.specs.Contents.{TookFront}
-use Rattle.play.proofs.TurnLemmas.{went-one, finished-here, refused-line, refused-end, unread-here, unwritten-line, unwritten-end, starved-line, starved-end}
+use Rattle.play.proofs.TurnLemmas.{came-one, came-end, ended-here, went-one, finished-here, refused-line, refused-end, unread-here, unwritten-line, unwritten-end, starved-line, starved-end}
 use Rattle.play.proofs.player.turn.Goals as goal
 
 pub returns-in-Err-clause-turns : goal.returns-in-Err-clause-turns
@@ -51,3 +51,16 @@ returns-in-Err-OutOfMemory-line-clause-turns g c =
     let answered = rw c.in-Err-OutOfMemory-line.field-0-is at c.in-Err-OutOfMemory-line.ensures.line in
     let admits = rw c.deref-2.ensures.value at answered in
     starved-line _ (g.P.Script.owes c.args.script.now) _ _ _ c.read_line.new.line.items c.in-Ok.field-0 c.in-Ok.ensures.reads admits.0 admits.1 (g.met.P.Script.waits c.args.script.now) (Appends-nil (g.O.Sink.taken c.args.out.now)) (record { reads = c.in-Ok.ensures.faults; writes = refl })
+
+pub returns-in-Ok-write_all-clause-came : goal.returns-in-Ok-write_all-clause-came
+returns-in-Ok-write_all-clause-came g c =
+    came-end _ _ _ _ c.read_line.new.line.items c.in-Ok.field-0 c.in-Ok.ensures.reads (search rules) (g.met.P.Script.reaches_itself c.args.script.now)
+
+pub returns-in-Ok-write_all-clause-ended : goal.returns-in-Ok-write_all-clause-ended
+returns-in-Ok-write_all-clause-ended g c = λ _. ended-here _ (g.P.Script.owes c.args.script.now) c.end.new.text.items c.in-Ok-end.ensures.end
+
+pub returns-in-Ok-write_all-2-clause-came : goal.returns-in-Ok-write_all-2-clause-came
+returns-in-Ok-write_all-2-clause-came g c =
+    let answered = rw c.deref-2.ensures.value at c.in-Ok-line.ensures.line in
+    let reached = rw c.deref-2.ensures.value at c.in-Ok-line.ensures.reaches in
+    came-one _ _ _ _ _ c.read_line.new.line.items c.in-Ok.field-0 c.in-Ok.ensures.reads answered.0 c.in-Ok-line.ensures.room reached

@@ -1,0 +1,5 @@
+pub mod Halts
+pub mod Settings
+pub mod Texts
+pub mod OfDisk
+pub mod Telling

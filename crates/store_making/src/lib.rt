@@ -1,0 +1,9 @@
+//! Makes the store of a key: reads the text of its secret whole, makes the key and its store, and writes the key's public half.
+#![tactic(auto)]
+
+mod making;
+
+pub use making::make_store;
+
+#[cfg(test)]
+mod tests;
