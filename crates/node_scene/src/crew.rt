@@ -129,6 +129,28 @@ impl Crew {
         })
     }
 
+    /// The member begins its first life, with this key and a new store on the disk.
+    pub fn begin(
+        &self,
+        alloc: Global,
+        me: MemberId,
+        key: Key,
+        disk: &mut MemoryDisk,
+        events: &mut Events,
+    ) -> Result<Node, SceneFault>
+        ensures going { IfOk result (λ node. node.ended ≡ false) }
+    {
+        let kit = self.kit(alloc, me)?;
+        if !kit.is_sound(&key.public()) {
+            return Err(SceneFault::Kit);
+        }
+        let signer = open_signer(self.group, key, disk)?;
+        match Node::start(alloc, kit, signer, disk, events) {
+            Ok(node) => Ok(node),
+            Err(fault) => Err(SceneFault::Node(fault)),
+        }
+    }
+
     /// The member's first life, with this key and a new store on the disk.
     pub fn start(
         &self,
@@ -137,13 +159,8 @@ impl Crew {
         key: Key,
         mut disk: MemoryDisk,
     ) -> Result<Player, SceneFault> {
-        let kit = self.kit(alloc, me)?;
-        if !kit.is_sound(&key.public()) {
-            return Err(SceneFault::Kit);
-        }
-        let signer = open_signer(self.group, key, &mut disk)?;
         let mut events = Events::new(alloc);
-        let node = Node::start(alloc, kit, signer, &mut disk, &mut events)?;
+        let node = self.begin(alloc, me, key, &mut disk, &mut events)?;
         Ok(Player::new(alloc, node, disk, events))
     }
 }

@@ -1,0 +1,240 @@
+-- How one call of the node is served.
+use Rattle.std.proofs.Common.{◌≡◌, ◌<◌, ◌≤◌, arith, ℕ, inl, inr, true, false, List, [], ◌∷◌, ◌++◌, Option, Some, None, Result, Ok, Err, IsOk, refl, sym, ap, ◌∙◌, subst, take, cond}
+use Rattle.std.proofs.lemmas.Bool.{false≢true}
+use Rattle.std.specs.Result.{is_err}
+use Rattle.std.specs.Prelude.{Bool, IfErr, OnOk, nat_lt}
+use Rattle.std.proofs.lemmas.Bool.Decides.{nat_tests}
+use Rattle.journal.specs.declared.event.Event as journal
+use Rattle.ports.specs.Disk.{Moment}
+use Rattle.ports.specs.Link.{LinkState}
+use Rattle.signer.specs.Lives.{Spent}
+use Rattle.signer.specs.Signing.{SignerState}
+use Rattle.node_core.specs.Spending.{LivesOn, SpendsIn, spent_told}
+use Rattle.node_core.proofs.SpendLemmas.{lives-same, lives-trans}
+use Rattle.node_core.specs.declared.NodeFault.{NodeFault}
+use Rattle.node_core.specs.declared.NodeFault.TheVariants as node
+use Rattle.node_core.specs.Playing.{Kept, IsNode}
+use Rattle.node_core.specs.Answers.{Lent}
+use Rattle.node_core.specs.Answers as core
+use Rattle.node_core.specs.Ticks.{GivesTick}
+use Rattle.node_rules.specs.Nodes.{Setting, state_of}
+use Rattle.node_rules.specs.Calls.{Call}
+use Rattle.node_rules.specs.Deliveries.{delivered_until}
+use Rattle.node_rules.specs.Ticking.{silent_at, ticked_until}
+use Rattle.node_rules.specs.Lives.{Input, Delivers, Ticks, call_of}
+use Rattle.node_loop.specs.declared.fault.ServeFault.{ServeFault}
+use Rattle.node_loop.specs.declared.fault.ServeFault.TheVariants as faults
+use Rattle.node_loop.specs.Turns.{Act, Calls}
+use Rattle.node_loop.specs.Courses.{Course, acted, called, gives, may_tick, moves, served, tells_all}
+use Rattle.node_loop.specs.Writing.{Answers, Before, Extends, GoesOn, IsAt, IsBeyond, IsWithin, Settles, Standing, Tells, standing}
+use Rattle.node_loop.specs.Serving.{BreaksOff, IsCut, IsStarved, IsStopped, Serves, StandsStopped}
+use Rattle.node_loop.proofs.CourseLemmas.{Grows, grows-refl, served-cons, served-nil}
+use Rattle.node_loop.proofs.TellLemmas.{at-within, beyond}
+use Rattle.node_loop.proofs.ServeLemmas.{breaks-off}
+
+-- ---- numbers
+
+below-lt : (m k : ℕ) → m < k → nat_lt m k ≡ true
+below-lt m k lt = grind (arith, nat_tests)
+
+above-lt : (m k : ℕ) → k ≤ m → nat_lt m k ≡ false
+above-lt m k le = grind (arith, nat_tests)
+
+-- ---- the key
+
+pub goes-same : (s : SignerState) (moments : List Moment) → GoesOn s s moments moments
+goes-same s moments = record { spent = []; key = lives-same s s moments refl }
+
+pub goes-trans : (a b c : SignerState) (x y z : List Moment) → GoesOn a b x y → GoesOn b c y z → GoesOn a c x z
+goes-trans a b c x y z p q = record { spent = p.spent ++ q.spent; key = lives-trans p.spent q.spent a b c x y z p.key q.key }
+
+pub goes-by : (done : Result (Unit {0}) NodeFault) (s later : SignerState) (older newer : List Moment) (events told : List journal.Event) → SpendsIn done s later older newer events told → GoesOn s later older newer
+goes-by done s later older newer events told h = record { spent = h.spent; key = h.key }
+
+-- ---- what is answered
+
+pub answered : (done : Result (Unit {0}) NodeFault) (answer : Result (Unit {0}) ServeFault) (P : Type 0) → Answers done answer → OnOk done P → OnOk answer P
+answered (Ok x) (Ok y) P answers p = p
+answered (Err fault) (Ok y) P answers p = absurd (false≢true answers)
+answered done (Err e) P answers p = record {}
+
+pub goes-on : (done : Result (Unit {0}) NodeFault) (answer : Result (Unit {0}) ServeFault) (ended : Bool) → Answers done answer → ended ≡ is_err done → OnOk answer (ended ≡ false)
+goes-on (Ok x) (Ok y) ended answers is = is
+goes-on (Err fault) (Ok y) ended answers is = absurd (false≢true answers)
+goes-on done (Err e) ended answers is = record {}
+
+pub stopped-by : (done : Result (Unit {0}) NodeFault) (answer : Result (Unit {0}) ServeFault) (P : Type 0) → Answers done answer → IfErr done (λ e. e ≡ node.StoreFault → P) → IfErr answer (λ e. e ≡ faults.StoreFault → P)
+stopped-by done (Ok y) P answers p = record {}
+stopped-by done (Err faults.StoreFault) P answers p = λ same. subst (λ (r : Result (Unit {0}) NodeFault). IfErr r (λ e. e ≡ node.StoreFault → P)) answers p refl
+stopped-by done (Err faults.WriteFault) P answers p = λ same. cc
+stopped-by done (Err faults.OutOfMemory) P answers p = λ same. cc
+
+-- the fault of a call
+pub answers-fault : (fault : NodeFault) (e : ServeFault) → (e ≡ faults.StoreFault → fault ≡ node.StoreFault) → Answers (Err fault) (Err e)
+answers-fault fault faults.StoreFault same = ap Err (same refl)
+answers-fault fault faults.WriteFault same = tt
+answers-fault fault faults.OutOfMemory same = tt
+
+-- what was told broke off
+pub answers-untold : (done : Result (Unit {0}) NodeFault) (e : ServeFault) → (e ≡ faults.StoreFault → ⊥) → Answers done (Err e)
+answers-untold done faults.StoreFault other = absurd (other refl)
+answers-untold done faults.WriteFault other = tt
+answers-untold done faults.OutOfMemory other = tt
+
+-- all was told, whatever the answer
+pub settles-at : (s : Setting) (before : Before) (w : Standing) (r : Course) (answer : Result (Unit {0}) ServeFault) → IsAt s before w r → Settles s before w r answer
+settles-at s before w r (Ok x) at = at
+settles-at s before w r (Err faults.StoreFault) at = at
+settles-at s before w r (Err faults.WriteFault) at = at-within s before w r at
+settles-at s before w r (Err faults.OutOfMemory) at = at-within s before w r at
+
+pub settles-untold : (s : Setting) (before : Before) (w : Standing) (r : Course) (e : ServeFault) → Tells s before w r (Err e) → Settles s before w r (Err e)
+settles-untold s before w r faults.StoreFault h = absurd h
+settles-untold s before w r faults.WriteFault h = h
+settles-untold s before w r faults.OutOfMemory h = h
+
+-- ---- what a call comes to
+
+-- what the call told is what its signatures are
+pub told-spent : (events told : List journal.Event) (spent : List Spent) (s later : SignerState) (older newer : List Moment) → events ≡ told → spent_told events ≡ spent → LivesOn spent s later older newer → LivesOn (spent_told told) s later older newer
+told-spent events told spent s later older newer e so lives = subst (λ (xs : List Spent). LivesOn xs s later older newer) (sym so ∙ ap spent_told e) lives
+
+-- the node stands where the call does
+pub moved : (s : Setting) (before : Before) (v0 v : Kept) (link : Option LinkState) (taken : Option (List ℕ)) (older newer : List Moment) (sent : ℕ) (r : Course) (c : Call)
+    → IsAt s before (standing v0 link taken older sent) r → IsNode s v c.node → LivesOn (spent_told c.told) v0.signer v.signer older newer
+    → IsAt s before (standing v link taken newer sent) (moves c r)
+moved s before v0 v link taken older newer sent r c at is lives = record {
+  node = is;
+  link = at.link;
+  text = at.text;
+  sent = at.sent;
+  key = lives-trans r.spent (spent_told c.told) before.signer v0.signer v.signer before.moments older newer at.key lives;
+}
+
+pub gives-is : (c : Call) (r : Course) → gives c r ≡ tells_all c.told (moves c r)
+unfolding gives
+gives-is c r = refl
+
+served-one : (s : Setting) (act : Act) (r : Course) → served s (act ∷ []) r ≡ acted s r act
+served-one s act r = served-cons s act [] r ∙ served-nil s (acted s r act)
+
+-- what a call told was told
+pub told-so : (s : Setting) (before : Before) (w : Standing) (r : Course) (c : Call) (events : List journal.Event) (answer : Result (Unit {0}) ServeFault)
+    → events ≡ c.told → Settles s before w (tells_all events (moves c r)) answer → Settles s before w (gives c r) answer
+told-so s before w r c events answer e h =
+    let r1 : Course = moves c r in
+    subst (λ x. Settles s before w x answer) (ap (λ es. tells_all es r1) e ∙ sym (gives-is c r)) h
+
+-- the whole call
+pub whole-call : (s : Setting) (before : Before) (w : Standing) (r : Course) (input : Input) (c : Call) (x : Unit {0}) (answer : Result (Unit {0}) ServeFault)
+    → acted s r (Calls input) ≡ gives c r → Answers (Ok x) answer → Settles s before w (gives c r) answer → Serves s before (Calls input ∷ []) r w answer
+whole-call s before w r input c x (Ok y) is answers h = subst (λ z. IsAt s before w z) (sym (served-one s (Calls input) r ∙ is)) h
+whole-call s before w r input c x (Err faults.StoreFault) is answers h = cc
+whole-call s before w r input c x (Err faults.WriteFault) is answers h =
+    inl (breaks-off s before (Calls input ∷ []) r (gives c r) w h (subst (λ z. Grows (gives c r) z) (sym (served-one s (Calls input) r ∙ is)) (grows-refl (gives c r))))
+whole-call s before w r input c x (Err faults.OutOfMemory) is answers h =
+    inl (breaks-off s before (Calls input ∷ []) r (gives c r) w h (subst (λ z. Grows (gives c r) z) (sym (served-one s (Calls input) r ∙ is)) (grows-refl (gives c r))))
+
+stopped-one : (s : Setting) (r : Course) (input : Input) (c : Call) → IsCut s r.node input c → IsStopped s (Calls input ∷ []) r (gives c r)
+stopped-one s r input c cut = record {
+  done = [];
+  input = input;
+  later = [];
+  call = c;
+  split = refl;
+  cut = subst (λ (z : Course). IsCut s z.node input c) (sym (served-nil s r)) cut;
+  is = ap (gives c) (sym (served-nil s r));
+}
+
+-- the call up to where the disk failed
+pub cut-call : (s : Setting) (before : Before) (w : Standing) (r : Course) (input : Input) (c : Call) (answer : Result (Unit {0}) ServeFault)
+    → IsCut s r.node input c → Answers (Err node.StoreFault) answer → Settles s before w (gives c r) answer → Serves s before (Calls input ∷ []) r w answer
+cut-call s before w r input c (Ok y) cut answers h = absurd (false≢true answers)
+cut-call s before w r input c (Err faults.StoreFault) cut answers h = record { whole = gives c r; stopped = stopped-one s r input c cut; at = h }
+cut-call s before w r input c (Err faults.WriteFault) cut answers h = inl (record { whole = gives c r; is = inr (stopped-one s r input c cut); within = h })
+cut-call s before w r input c (Err faults.OutOfMemory) cut answers h = inl (record { whole = gives c r; is = inr (stopped-one s r input c cut); within = h })
+
+starved-one : (s : Setting) (before : Before) (w : Standing) (r : Course) (input : Input) → w.node.ended ≡ true → IsBeyond before w r → IsStarved s before (Calls input ∷ []) r w
+starved-one s before w r input over far = record {
+  done = [];
+  input = input;
+  later = [];
+  split = refl;
+  over = over;
+  beyond = subst (λ z. IsBeyond before w z) (sym (served-nil s r)) far;
+}
+
+-- a call for which memory was refused
+pub starved-call : (s : Setting) (before : Before) (w : Standing) (r : Course) (input : Input) (answer : Result (Unit {0}) ServeFault)
+    → w.node.ended ≡ true → Answers (Err node.OutOfMemory) answer → IsBeyond before w r → Serves s before (Calls input ∷ []) r w answer
+starved-call s before w r input (Ok y) over answers far = absurd (false≢true answers)
+starved-call s before w r input (Err faults.StoreFault) over answers far = cc
+starved-call s before w r input (Err faults.WriteFault) over answers far = inr (starved-one s before w r input over far)
+starved-call s before w r input (Err faults.OutOfMemory) over answers far = inr (starved-one s before w r input over far)
+
+-- ---- the calls
+
+abbrev pub lent : List journal.Event → List (ℕ × List ℕ) → Lent
+lent events sent = record { events = events; sent = sent }
+
+-- with nothing lent before
+pub lent-none : (P : Lent → Type 0) (es : List journal.Event) (os : List (ℕ × List ℕ)) → es ≡ [] → os ≡ [] → P (lent es os) → P (lent [] [])
+lent-none P es os no_events no_sent h = subst (λ (xs : List journal.Event). P (lent xs [])) no_events (subst (λ (xs : List (ℕ × List ℕ)). P (lent es xs)) no_sent h)
+
+pub serves-delivery : (s : Setting) (before : Before) (v0 v : Kept) (link later : Option LinkState) (taken after : Option (List ℕ)) (older newer : List Moment) (sent sent1 : ℕ) (r : Course) (bytes : List ℕ)
+    (events : List journal.Event) (out : List (ℕ × List ℕ)) (done : Result (Unit {0}) NodeFault) (answer : Result (Unit {0}) ServeFault)
+    → IsAt s before (standing v0 link taken older sent) r → core.Delivers s r.node bytes v (lent [] []) (lent events out) done → v.ended ≡ is_err done → SpendsIn done v0.signer v.signer older newer [] events
+    → Answers done answer → Extends taken after link later
+    → ((r1 : Course) → IsAt s before (standing v link taken newer sent) r1 → Settles s before (standing v later after newer sent1) (tells_all events r1) answer)
+    → Serves s before (Calls (Delivers bytes) ∷ []) r (standing v later after newer sent1) answer
+serves-delivery s before v0 v link later taken after older newer sent sent1 r bytes events out (Ok x) answer at d over spends answers more settles =
+    let c = call_of s r.node (Delivers bytes) in
+    let lives = told-spent events c.told spends.spent v0.signer v.signer older newer d.told (ap spent_told spends.after_is ∙ spends.tells) spends.key in
+    whole-call s before (standing v later after newer sent1) r (Delivers bytes) c x answer refl answers
+    (told-so s before (standing v later after newer sent1) r c events answer d.told (settles (moves c r) (moved s before v0 v link taken older newer sent r c at d.is lives)))
+serves-delivery s before v0 v link later taken after older newer sent sent1 r bytes events out (Err node.StoreFault) answer at d over spends answers more settles =
+    let c = delivered_until s r.node (take d.place d.records) d.at in
+    let lives = told-spent events c.told spends.spent v0.signer v.signer older newer d.gives.told (ap spent_told spends.after_is ∙ spends.tells) spends.key in
+    cut-call s before (standing v later after newer sent1) r (Delivers bytes) c answer (record { from = d.from; records = d.records; read = d.read; place = d.place; at = d.at; found = d.found; is = refl; ended = d.ended }) answers
+    (told-so s before (standing v later after newer sent1) r c events answer d.gives.told (settles (moves c r) (moved s before v0 v link taken older newer sent r c at d.gives.is lives)))
+serves-delivery s before v0 v link later taken after older newer sent sent1 r bytes events out (Err node.OutOfMemory) answer at d over spends answers more settles =
+    starved-call s before (standing v later after newer sent1) r (Delivers bytes) answer over answers (beyond s before v0 v link later taken after older newer sent sent1 r spends.spent at more spends.key)
+serves-delivery s before v0 v link later taken after older newer sent sent1 r bytes events out (Err (node.Exhausted next)) answer at d over spends answers more settles = absurd d
+serves-delivery s before v0 v link later taken after older newer sent sent1 r bytes events out (Err node.Ended) answer at d over spends answers more settles = absurd d
+
+tick-acted : (s : Setting) (r : Course) → may_tick s r.node ≡ true → acted s r (Calls Ticks) ≡ gives (call_of s r.node Ticks) r
+tick-acted s r may = ap (λ b. cond b (gives (call_of s r.node Ticks) r) r) may
+
+pub serves-tick : (s : Setting) (before : Before) (v0 v : Kept) (link later : Option LinkState) (taken after : Option (List ℕ)) (older newer : List Moment) (sent sent1 : ℕ) (r : Course)
+    (events : List journal.Event) (out : List (ℕ × List ℕ)) (done : Result (Unit {0}) NodeFault) (answer : Result (Unit {0}) ServeFault)
+    → IsAt s before (standing v0 link taken older sent) r → may_tick s r.node ≡ true → GivesTick s r.node v (lent [] []) (lent events out) done → v.ended ≡ is_err done → SpendsIn done v0.signer v.signer older newer [] events
+    → Answers done answer → Extends taken after link later
+    → ((r1 : Course) → IsAt s before (standing v link taken newer sent) r1 → Settles s before (standing v later after newer sent1) (tells_all events r1) answer)
+    → Serves s before (Calls Ticks ∷ []) r (standing v later after newer sent1) answer
+serves-tick s before v0 v link later taken after older newer sent sent1 r events out (Ok x) answer at may d over spends answers more settles =
+    let c = call_of s r.node Ticks in
+    let lives = told-spent events c.told spends.spent v0.signer v.signer older newer d.told (ap spent_told spends.after_is ∙ spends.tells) spends.key in
+    whole-call s before (standing v later after newer sent1) r Ticks c x answer (tick-acted s r may) answers
+    (told-so s before (standing v later after newer sent1) r c events answer d.told (settles (moves c r) (moved s before v0 v link taken older newer sent r c at d.is lives)))
+serves-tick s before v0 v link later taken after older newer sent sent1 r events out (Err node.StoreFault) answer at may d over spends answers more settles =
+    let c = ticked_until s r.node (take d.place (silent_at s r.node)) d.at in
+    let lives = told-spent events c.told spends.spent v0.signer v.signer older newer d.gives.told (ap spent_told spends.after_is ∙ spends.tells) spends.key in
+    cut-call s before (standing v later after newer sent1) r Ticks c answer (record { place = d.place; member = d.at; found = d.found; is = refl; ended = d.ended }) answers
+    (told-so s before (standing v later after newer sent1) r c events answer d.gives.told (settles (moves c r) (moved s before v0 v link taken older newer sent r c at d.gives.is lives)))
+serves-tick s before v0 v link later taken after older newer sent sent1 r events out (Err node.OutOfMemory) answer at may d over spends answers more settles =
+    starved-call s before (standing v later after newer sent1) r Ticks answer over answers (beyond s before v0 v link later taken after older newer sent sent1 r spends.spent at more spends.key)
+serves-tick s before v0 v link later taken after older newer sent sent1 r events out (Err (node.Exhausted next)) answer at may d over spends answers more settles = absurd d
+serves-tick s before v0 v link later taken after older newer sent sent1 r events out (Err node.Ended) answer at may d over spends answers more settles = absurd d
+
+-- whether a tick can be counted
+pub may-count : (s : Setting) (before : Before) (w : Standing) (r : Course) → IsAt s before w r → w.node.membership.moment < 18446744073709551615 → may_tick s r.node ≡ true
+may-count s before w r at lt = let same = at.node.holds.moment_same in below-lt (state_of s r.node).moment 18446744073709551615 (omega (arith, same, lt))
+
+pub may-not : (s : Setting) (before : Before) (w : Standing) (r : Course) → IsAt s before w r → 18446744073709551615 ≤ w.node.membership.moment → may_tick s r.node ≡ false
+may-not s before w r at le = let same = at.node.holds.moment_same in above-lt (state_of s r.node).moment 18446744073709551615 (omega (arith, same, le))
+
+-- a tick that can't be counted is none
+pub no-tick : (s : Setting) (before : Before) (w : Standing) (r : Course) → may_tick s r.node ≡ false → IsAt s before w r → Serves s before (Calls Ticks ∷ []) r w (Ok tt)
+no-tick s before w r not at =
+    let is : acted s r (Calls Ticks) ≡ r = ap (λ b. cond b (gives (call_of s r.node Ticks) r) r) not in
+    subst (λ z. IsAt s before w z) (sym (served-one s (Calls Ticks) r ∙ is)) at

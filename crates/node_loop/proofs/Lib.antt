@@ -1,0 +1,8 @@
+pub mod CourseLemmas
+pub mod LinkLemmas
+pub mod TellLemmas
+pub mod SendLemmas
+pub mod ServeLemmas
+pub mod CallLemmas
+pub mod TurnLemmas
+mod Rows

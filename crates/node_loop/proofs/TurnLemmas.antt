@@ -1,0 +1,277 @@
+-- How a turn is served, and the turns one after another.
+use Rattle.std.proofs.Common.{◌≡◌, ℕ, zero, suc, ◌+◌, ◌-◌, ◌<◌, ◌≤◌, ◌⊎◌, inl, inr, Bool, true, false, List, [], ◌∷◌, ◌++◌, Option, Some, None, Result, Ok, Err, length, take, drop, min, replicate, refl, sym, ap, ◌∙◌, subst, append_assoc, append-nil, arith}
+use Rattle.std.specs.Prelude.{OnOk}
+use Rattle.ports.specs.Disk.{Moment}
+use Rattle.ports.specs.Link.{LinkState, next_of, received_from}
+use Rattle.ports.specs.Clock.{next_reading, ReadsClock}
+use Rattle.fields.specs.declared.NoMemory.{NoMemory}
+use Rattle.node_core.specs.Playing.{Kept, IsNode}
+use Rattle.node_core.proofs.SpendLemmas.{lives-same}
+use Rattle.ports.specs.declared.link.LinkAnswer.{LinkAnswer}
+use Rattle.std.proofs.KnownBytes.{Appends-nil}
+use Rattle.node_rules.specs.Nodes.{Setting, Node as RulesNode}
+use Rattle.node_rules.specs.Lives.{Delivers, Ticks}
+use Rattle.node_loop.specs.declared.fault.ServeFault.{ServeFault}
+use Rattle.node_loop.specs.declared.fault.ServeFault.TheVariants as faults
+use Rattle.journal.specs.declared.turn.Heard.{Heard}
+use Rattle.journal.specs.declared.turn.Heard.TheVariants as heard
+use Rattle.journal.specs.declared.turn.Turn.{Turn}
+use Rattle.journal.specs.Turns.{turn_text}
+use Rattle.node_loop.specs.Turns.{Act, Receives, Writes, Calls, Outlook, after_turn, life_acts, delivery_of, heard_of, ticks_in, ticks_of, ticks_owed, turn_acts, turn_in, turns_from}
+use Rattle.node_loop.specs.Courses.{Course, acted, served, served_from, with_feed, writes}
+use Rattle.node_loop.specs.Writing.{Before, Hears, IsAt, IsWithin, Standing, Tells, before_all, standing}
+use Rattle.node_loop.specs.Serving.{Sees, Serves}
+use Rattle.node_loop.proofs.CourseLemmas.{Grows, coming-turn, front-refl, grows-refl, grows-served, grows-trans, grows-writes, served-append, served-cons, served-nil}
+use Rattle.node_loop.proofs.TellLemmas.{at-within, within-grows}
+use Rattle.node_loop.proofs.ServeLemmas.{breaks-off, serves-last, serves-within}
+
+-- ---- ticks
+
+pub ticks-more : (done left : ℕ) → ticks_of done ++ ticks_of left ≡ ticks_of (done + left)
+ticks-more zero left = let e : left ≡ 0 + left = omega arith in ap ticks_of e
+ticks-more (suc done) left =
+    let e : suc (done + left) ≡ suc done + left = omega arith in
+    ap (λ xs. Calls Ticks ∷ xs) (ticks-more done left) ∙ ap ticks_of e
+
+-- one more tick
+pub ticks-one : (done : ℕ) → ticks_of done ++ Calls Ticks ∷ [] ≡ ticks_of (done + 1)
+ticks-one done = ticks-more done 1
+
+pub ticks-split : (done all : ℕ) → done < all → ticks_of done ++ ((Calls Ticks ∷ []) ++ ticks_of (all - (done + 1))) ≡ ticks_of all
+ticks-split done all lt =
+    let rest : ℕ = all - (done + 1) in
+    let e : done + (1 + rest) ≡ all = omega (arith, lt) in
+    ap (λ xs. ticks_of done ++ xs) (ticks-more 1 rest) ∙ ticks-more done (1 + rest) ∙ ap ticks_of e
+
+pub ticked-none : (s : Setting) (before : Before) (w : Standing) (r : Course) → IsAt s before w r → IsAt s before w (served s (ticks_of 0) r)
+ticked-none s before w r at = subst (λ x. IsAt s before w x) (sym (served-nil s r)) at
+
+pub ticked-on : (s : Setting) (before : Before) (w : Standing) (r : Course) (done : ℕ) → IsAt s before w (served s (Calls Ticks ∷ []) (served s (ticks_of done) r)) → IsAt s before w (served s (ticks_of (done + 1)) r)
+ticked-on s before w r done at =
+    subst (λ x. IsAt s before w x) (sym (served-append s (ticks_of done) (Calls Ticks ∷ []) r) ∙ ap (λ acts. served s acts r) (ticks-one done)) at
+
+-- a tick ended among them
+pub tick-ended : (s : Setting) (before : Before) (w : Standing) (r : Course) (done all : ℕ) (e : ServeFault) → done < all → Serves s before (Calls Ticks ∷ []) (served s (ticks_of done) r) w (Err e) → Serves s before (ticks_of all) r w (Err e)
+tick-ended s before w r done all e lt h =
+    subst (λ acts. Serves s before acts r w (Err e)) (ticks-split done all lt) (serves-within s before (ticks_of done) (Calls Ticks ∷ []) (ticks_of (all - (done + 1))) r w e h)
+
+-- ---- the parts of a turn
+
+-- what was heard
+pub at-heard : (s : Setting) (before : Before) (v : Kept) (link after : Option LinkState) (taken : Option (List ℕ)) (moments : List Moment) (sent : ℕ) (r : Course) (came : Heard)
+    → IsAt s before (standing v link taken moments sent) r → Hears link after (Ok came) → IsAt s before (standing v after taken moments sent) (acted s r Receives)
+at-heard s before v link after taken moments sent r came at h =
+    let P : Option LinkState → Type 0 = λ o. Hears o after (Ok came) in
+    record { node = at.node; link = (subst P at.link h).1; text = at.text; sent = at.sent; key = at.key }
+
+pub heard-is : (s : Setting) (before : Before) (v : Kept) (link after : Option LinkState) (taken : Option (List ℕ)) (moments : List Moment) (sent : ℕ) (r : Course) (came : Heard)
+    → IsAt s before (standing v link taken moments sent) r → Hears link after (Ok came) → came ≡ heard_of (next_of r.link.coming)
+heard-is s before v link after taken moments sent r came at h =
+    let P : Option LinkState → Type 0 = λ o. Hears o after (Ok came) in (subst P at.link h).0
+
+pub within-unheard : (s : Setting) (before : Before) (v : Kept) (link after : Option LinkState) (taken : Option (List ℕ)) (moments : List Moment) (sent : ℕ) (r : Course) (e : NoMemory)
+    → IsAt s before (standing v link taken moments sent) r → Hears link after (Err e) → IsWithin before (standing v after taken moments sent) r
+within-unheard s before v link after taken moments sent r e at h =
+    let P : Option LinkState → Type 0 = λ o. Hears o after (Err e) in
+    record {
+      text = r.text;
+      front = front-refl r.text;
+      written = at.text;
+      link = received_from r.link;
+      told = subst P at.link h;
+      given = front-refl r.link.given;
+      spent = r.spent;
+      made = front-refl r.spent;
+      key = at.key;
+    }
+
+served-line : (s : Setting) (turn : Turn) (r : Course)
+    → served s (turn_acts turn) r ≡ served s (delivery_of turn.heard ++ ticks_of turn.ticks) (writes (with_feed (turn_text turn)) (acted s r Receives))
+served-line s turn r =
+    let rest = delivery_of turn.heard ++ ticks_of turn.ticks in
+    served-cons s Receives (Writes (turn_text turn) ∷ rest) r ∙ served-cons s (Writes (turn_text turn)) rest (acted s r Receives)
+
+grows-line : (s : Setting) (turn : Turn) (r : Course) → Grows (writes (with_feed (turn_text turn)) (acted s r Receives)) (served s (turn_acts turn) r)
+grows-line s turn r =
+    let r2 = writes (with_feed (turn_text turn)) (acted s r Receives) in
+    subst (λ x. Grows r2 x) (sym (served-line s turn r)) (grows-served s (delivery_of turn.heard ++ ticks_of turn.ticks) r2)
+
+-- nothing came, and nothing is delivered
+pub nothing-delivered : (came : Heard) → (came ≡ heard.Nothing) ⊎ (came ≡ heard.Failed) → delivery_of came ≡ []
+nothing-delivered came (inl is) = ap delivery_of is
+nothing-delivered came (inr is) = ap delivery_of is
+
+pub undelivered : (s : Setting) (before : Before) (w : Standing) (r : Course) (came : Heard) → (came ≡ heard.Nothing) ⊎ (came ≡ heard.Failed) → IsAt s before w r → IsAt s before w (served s (delivery_of came) r)
+undelivered s before w r came nothing at = subst (λ x. IsAt s before w x) (sym (ap (λ acts. served s acts r) (nothing-delivered came nothing) ∙ served-nil s r)) at
+
+-- the turn that was made is the one that was due
+pub turn-due : (s : Setting) (before : Before) (r : Course) (w : Standing) (made due : Turn) (answer : Result (Unit {0}) ServeFault) → made ≡ due → Serves s before (turn_acts made) r w answer → Serves s before (turn_acts due) r w answer
+turn-due s before r w made due answer is h = subst (λ (t : Turn). Serves s before (turn_acts t) r w answer) is h
+
+-- memory was refused for what was heard
+pub unheard-turn : (s : Setting) (before : Before) (w : Standing) (r : Course) (acts : List Act) → IsWithin before w r → Serves s before acts r w (Err faults.OutOfMemory)
+unheard-turn s before w r acts h = inl (breaks-off s before acts r r w h (grows-served s acts r))
+
+-- the turn's line broke off
+pub unwritten-turn : (s : Setting) (before : Before) (w : Standing) (r : Course) (turn : Turn) (e : ServeFault)
+    → Tells s before w (writes (with_feed (turn_text turn)) (acted s r Receives)) (Err e) → Serves s before (turn_acts turn) r w (Err e)
+unwritten-turn s before w r turn faults.StoreFault h = absurd h
+unwritten-turn s before w r turn faults.WriteFault h = inl (breaks-off s before (turn_acts turn) r _ w h (grows-line s turn r))
+unwritten-turn s before w r turn faults.OutOfMemory h = inl (breaks-off s before (turn_acts turn) r _ w h (grows-line s turn r))
+
+abbrev begun_acts : Turn → List Act
+begun_acts turn = Receives ∷ Writes (turn_text turn) ∷ []
+
+served-begun : (s : Setting) (turn : Turn) (r : Course) → served s (begun_acts turn) r ≡ writes (with_feed (turn_text turn)) (acted s r Receives)
+served-begun s turn r =
+    served-cons s Receives (Writes (turn_text turn) ∷ []) r ∙ served-cons s (Writes (turn_text turn)) [] (acted s r Receives)
+    ∙ served-nil s (writes (with_feed (turn_text turn)) (acted s r Receives))
+
+-- the delivery ended the turn
+pub undelivered-turn : (s : Setting) (before : Before) (w : Standing) (r : Course) (turn : Turn) (e : ServeFault)
+    → Serves s before (delivery_of turn.heard) (writes (with_feed (turn_text turn)) (acted s r Receives)) w (Err e) → Serves s before (turn_acts turn) r w (Err e)
+undelivered-turn s before w r turn e h =
+    serves-within s before (begun_acts turn) (delivery_of turn.heard) (ticks_of turn.ticks) r w e
+    (subst (λ x. Serves s before (delivery_of turn.heard) x w (Err e)) (sym (served-begun s turn r)) h)
+
+-- the ticks of the turn
+pub ticked-turn : (s : Setting) (before : Before) (w : Standing) (r : Course) (turn : Turn) (answer : Result (Unit {0}) ServeFault)
+    → Serves s before (ticks_of turn.ticks) (served s (delivery_of turn.heard) (writes (with_feed (turn_text turn)) (acted s r Receives))) w answer
+    → Serves s before (turn_acts turn) r w answer
+ticked-turn s before w r turn answer h =
+    let first = begun_acts turn ++ delivery_of turn.heard in
+    let is : served s first r ≡ served s (delivery_of turn.heard) (writes (with_feed (turn_text turn)) (acted s r Receives)) =
+    served-append s (begun_acts turn) (delivery_of turn.heard) r ∙ ap (served s (delivery_of turn.heard)) (served-begun s turn r) in
+    serves-last s before first (ticks_of turn.ticks) r w answer
+    (subst (λ x. Serves s before (ticks_of turn.ticks) x w answer) (sym is) h)
+
+-- ---- the turns
+
+-- the clock was read
+pub read-next : (o : Outlook) (r : Course) (reading : ℕ) (readings after : Option (List ℕ)) (made result : ℕ) → Sees o r reading readings made → ReadsClock reading readings after result
+    → (result ≡ next_reading o.reading o.readings) × (after ≡ Some (drop 1 o.readings))
+read-next o r reading readings after made result sees h =
+    let P : Option (List ℕ) → Type 0 = λ x. ReadsClock reading x after result in
+    let taken = subst P sees.readings h in
+    (taken.read ∙ ap (λ k. next_reading k o.readings) sees.reading, taken.left)
+
+-- the outlook behind a turn
+pub sees-after : (s : Setting) (millis base number : ℕ) (o : Outlook) (r : Course) (reading : ℕ) (readings : Option (List ℕ)) (made now : ℕ) (later : Option (List ℕ)) (made1 : ℕ)
+    → Sees o r reading readings made → now ≡ next_reading o.reading o.readings → later ≡ Some (drop 1 o.readings) → made1 ≡ made + (turn_in millis base number o).ticks
+    → Sees (after_turn millis base o) (served s (turn_acts (turn_in millis base number o)) r) now later made1
+sees-after s millis base number o r reading readings made now later made1 sees is left more = record {
+  heard = coming-turn s (turn_in millis base number o) r ∙ ap (drop 1) sees.heard;
+  reading = is;
+  readings = left;
+  made = more ∙ ap (λ k. k + (turn_in millis base number o).ticks) sees.made;
+}
+
+-- what was heard and how many ticks are made is the turn that is due
+pub seen-turn : (millis base number : ℕ) (o : Outlook) (r : Course) (reading : ℕ) (readings later : Option (List ℕ)) (made now ticks : ℕ) (came : Heard)
+    → Sees o r reading readings made → ReadsClock reading readings later now → came ≡ heard_of (next_of r.link.coming) → ticks ≡ ticks_owed millis base made now
+    → record { number = number; heard = came; ticks = ticks } ≡ turn_in millis base number o
+seen-turn millis base number o r reading readings later made now ticks came sees read is owed =
+    let heard_is : came ≡ heard_of (next_of o.heard) = is ∙ ap (λ answers. heard_of (next_of answers)) sees.heard in
+    let ticks_is : ticks ≡ ticks_in millis base o =
+    owed ∙ ap (λ k. ticks_owed millis base k now) sees.made ∙ ap (λ k. ticks_owed millis base o.made k) (read-next o r reading readings later made now sees read).0 in
+    let with_heard : Heard → Turn = λ h. record { number = number; heard = h; ticks = ticks } in
+    let with_ticks : ℕ → Turn = λ k. record { number = number; heard = heard_of (next_of o.heard); ticks = k } in
+    ap with_heard heard_is ∙ ap with_ticks ticks_is
+
+pub on-any : (answer : Result (Unit {0}) ServeFault) (P : Type 0) → P → OnOk answer P
+on-any (Ok x) P p = p
+on-any (Err e) P p = record {}
+
+-- some turns were made, and the rest is to come
+pub record Turned (s : Setting) (before : Before) (millis base all done : ℕ) (o : Outlook) (start : Course) (w : Standing) (reading : ℕ) (readings : Option (List ℕ)) (made : ℕ) : Type 0 where
+  pub acts : List Act
+  pub outlook : Outlook
+  pub split : turns_from millis base all 1 o ≡ acts ++ turns_from millis base (all - done) (done + 1) outlook
+  pub at : IsAt s before w (served s acts start)
+  pub sees : Sees outlook (served s acts start) reading readings made
+
+turns-none : (millis base all : ℕ) (o : Outlook) → turns_from millis base all 1 o ≡ turns_from millis base (all - 0) (0 + 1) o
+turns-none millis base all o = let e : all ≡ all - 0 = omega arith in ap (λ k. turns_from millis base k 1 o) e
+
+pub turned-first : (s : Setting) (before : Before) (millis base all : ℕ) (o : Outlook) (start : Course) (w : Standing) (reading : ℕ) (readings : Option (List ℕ)) (made : ℕ)
+    → IsAt s before w start → Sees o start reading readings made → Turned s before millis base all 0 o start w reading readings made
+turned-first s before millis base all o start w reading readings made at sees = record {
+  acts = [];
+  outlook = o;
+  split = turns-none millis base all o;
+  at = subst (λ r. IsAt s before w r) (sym (served-nil s start)) at;
+  sees = subst (λ r. Sees o r reading readings made) (sym (served-nil s start)) sees;
+}
+
+turns-step : (millis base all done : ℕ) (o : Outlook) → done < all
+    → turns_from millis base (all - done) (done + 1) o ≡ turn_acts (turn_in millis base (done + 1) o) ++ turns_from millis base (all - (done + 1)) (done + 1 + 1) (after_turn millis base o)
+turns-step millis base all done o lt =
+    let e : all - done ≡ suc (all - (done + 1)) = omega (arith, lt) in
+    ap (λ k. turns_from millis base k (done + 1) o) e
+
+split-step : (s : Setting) (before : Before) (millis base all done : ℕ) (o : Outlook) (start : Course) (w : Standing) (reading : ℕ) (readings : Option (List ℕ)) (made : ℕ)
+    → done < all → (t : Turned s before millis base all done o start w reading readings made)
+    → turns_from millis base all 1 o ≡ t.acts ++ (turn_acts (turn_in millis base (done + 1) t.outlook) ++ turns_from millis base (all - (done + 1)) (done + 1 + 1) (after_turn millis base t.outlook))
+split-step s before millis base all done o start w reading readings made lt t = t.split ∙ ap (λ xs. t.acts ++ xs) (turns-step millis base all done t.outlook lt)
+
+pub turned-next : (s : Setting) (before : Before) (millis base all done : ℕ) (o : Outlook) (start : Course) (w w1 : Standing) (reading now : ℕ) (readings later : Option (List ℕ)) (made made1 : ℕ)
+    → done < all → (t : Turned s before millis base all done o start w reading readings made)
+    → IsAt s before w1 (served s (turn_acts (turn_in millis base (done + 1) t.outlook)) (served s t.acts start))
+    → Sees (after_turn millis base t.outlook) (served s (turn_acts (turn_in millis base (done + 1) t.outlook)) (served s t.acts start)) now later made1
+    → Turned s before millis base all (done + 1) o start w1 now later made1
+turned-next s before millis base all done o start w w1 reading now readings later made made1 lt t at sees =
+    let acts = turn_acts (turn_in millis base (done + 1) t.outlook) in
+    let is : served s acts (served s t.acts start) ≡ served s (t.acts ++ acts) start = sym (served-append s t.acts acts start) in
+    record {
+      acts = t.acts ++ acts;
+      outlook = after_turn millis base t.outlook;
+      split = split-step s before millis base all done o start w reading readings made lt t ∙ sym (append_assoc t.acts acts (turns_from millis base (all - (done + 1)) (done + 1 + 1) (after_turn millis base t.outlook)));
+      at = subst (λ r. IsAt s before w1 r) is at;
+      sees = subst (λ r. Sees (after_turn millis base t.outlook) r now later made1) is sees;
+    }
+
+pub turned-ends : (s : Setting) (before : Before) (millis base all done : ℕ) (o : Outlook) (start : Course) (w w1 : Standing) (reading : ℕ) (readings : Option (List ℕ)) (made : ℕ) (e : ServeFault)
+    → done < all → (t : Turned s before millis base all done o start w reading readings made)
+    → Serves s before (turn_acts (turn_in millis base (done + 1) t.outlook)) (served s t.acts start) w1 (Err e)
+    → Serves s before (turns_from millis base all 1 o) start w1 (Err e)
+turned-ends s before millis base all done o start w w1 reading readings made e lt t h =
+    let acts = turn_acts (turn_in millis base (done + 1) t.outlook) in
+    let rest = turns_from millis base (all - (done + 1)) (done + 1 + 1) (after_turn millis base t.outlook) in
+    let P : List Act → Type 0 = λ xs. Serves s before xs start w1 (Err e) in
+    subst P (sym (split-step s before millis base all done o start w reading readings made lt t)) (serves-within s before t.acts acts rest start w1 e h)
+
+pub turned-last : (s : Setting) (before : Before) (millis base all : ℕ) (o : Outlook) (start : Course) (w : Standing) (reading : ℕ) (readings : Option (List ℕ)) (made : ℕ)
+    → Turned s before millis base all all o start w reading readings made → IsAt s before w (served s (turns_from millis base all 1 o) start)
+turned-last s before millis base all o start w reading readings made t =
+    let e : all - all ≡ 0 = omega arith in
+    let whole : turns_from millis base all 1 o ≡ t.acts =
+    t.split ∙ ap (λ k. t.acts ++ turns_from millis base k (all + 1) t.outlook) e ∙ append-nil t.acts in
+    subst (λ xs. IsAt s before w (served s xs start)) (sym whole) t.at
+
+-- ---- the life
+
+pub begins-at : (s : Setting) (v : Kept) (n : RulesNode) (link : Option LinkState) (taken : Option (List ℕ)) (moments : List Moment) (told : LinkState) → IsNode s v n → link ≡ Some told
+    → IsAt s (before_all taken v.signer moments) (standing v link taken moments 0) (served_from n told)
+begins-at s v n link taken moments told is tells = record { node = is; link = tells; text = Appends-nil taken; sent = refl; key = lives-same v.signer v.signer moments refl }
+
+-- as the base was read
+abbrev pub first_outlook : List LinkAnswer → ℕ → List ℕ → Outlook
+first_outlook coming base readings = record { heard = coming; reading = base; readings = drop 1 readings; made = 0 }
+
+pub base-read : (last : ℕ) (coming later : Option (List ℕ)) (readings : List ℕ) (base : ℕ) → coming ≡ Some readings → ReadsClock last coming later base → (base ≡ next_reading last readings) × (later ≡ Some (drop 1 readings))
+base-read last coming later readings base is h =
+    let P : Option (List ℕ) → Type 0 = λ x. ReadsClock last x later base in
+    let taken = subst P is h in (taken.read, taken.left)
+
+pub begins-seeing : (n : RulesNode) (told : LinkState) (reading base : ℕ) (later : Option (List ℕ)) (readings : List ℕ) → reading ≡ base → later ≡ Some (drop 1 readings)
+    → Sees (first_outlook told.coming base readings) (served_from n told) reading later 0
+begins-seeing n told reading base later readings is left = record { heard = refl; reading = is; readings = left; made = refl }
+
+pub life-is : (millis turns last base : ℕ) (coming : List LinkAnswer) (readings : List ℕ) → base ≡ next_reading last readings
+    → turns_from millis base turns 1 (first_outlook coming base readings) ≡ life_acts millis turns coming last readings
+unfolding life_acts
+life-is millis turns last base coming readings is = ap (λ b. turns_from millis b turns 1 (first_outlook coming b readings)) is
+
+-- what holds of the pace that is kept holds of the one that was asked for
+pub at-pace : (P : ℕ → ℕ → Type 0) (m m1 b b1 : ℕ) → m ≡ m1 → b ≡ b1 → P m b → P m1 b1
+at-pace P m m1 b b1 millis base h = subst (λ x. P m1 x) base (subst (λ x. P x b) millis h)

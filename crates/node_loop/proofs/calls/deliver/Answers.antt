@@ -1,0 +1,21 @@
+use Rattle.std.proofs.Common.{◌≡◌, ℕ, List, [], subst, ap, arith}
+use Rattle.journal.specs.declared.event.Event as journal
+use Rattle.node_core.specs.Answers as core
+use Rattle.node_core.specs.Answers.{Lent}
+use Rattle.node_core.specs.Playing.{Kept}
+use Rattle.node_core.specs.Spending.{SpendsIn}
+use Rattle.node_loop.proofs.CallLemmas.{lent, lent-none, serves-delivery}
+use Rattle.node_loop.proofs.calls.deliver.Goals as goal
+
+pub returns-clause-serves : goal.returns-clause-serves
+returns-clause-serves g c = λ s before r at.
+    let v : Kept = c.deliver-done.new.self in
+    let events : List journal.Event = c.deliver-done.new.events in
+    let out : List (ℕ × List ℕ) = c.deliver-done.new.out in
+    let done = c.deliver-done.result in
+    let older = g.D.Disk.moments c.args.disk.now in
+    let newer = g.D.Disk.moments c.deliver-done.new.disk in
+    let step = lent-none (λ (l : Lent). core.Delivers s r.node c.args.bytes.now v l (lent events out) done) c.new-events.result c.new-outbox.result c.new-events.ensures c.new-outbox.ensures (c.deliver-done.ensures.step s r.node at.node c.requires.going) in
+    let spends = subst (λ (es : List journal.Event). SpendsIn done c.args.node.now.signer v.signer older newer es events) c.new-events.ensures c.deliver-done.ensures.spends in
+    serves-delivery s before c.args.node.now v (g.L.Link.contents c.args.link.now) (g.L.Link.contents c.settle.new.link) (g.O.Sink.taken c.args.out.now) (g.O.Sink.taken c.settle.new.out) older newer c.args.sent.now c.settle.new.sent r c.args.bytes.now
+    events out done c.settle.result at step c.deliver-done.ensures.ended spends c.settle.ensures.answers c.settle.ensures.extends (λ r1 at1. c.settle.ensures.settles s before newer r1 at1)

@@ -1,0 +1,12 @@
+use Rattle.std.proofs.Common.{List, Err, subst}
+use Rattle.journal.specs.declared.event.Event as journal
+use Rattle.node_loop.specs.Courses.{tells_all}
+use Rattle.node_loop.specs.Writing.{IsAt, Standing, standing}
+use Rattle.node_loop.proofs.CallLemmas.{settles-at}
+use Rattle.node_loop.proofs.calls.settle.Goals as goal
+
+pub returns-in-Err-clause-settles : goal.returns-in-Err-clause-settles
+returns-in-Err-clause-settles g c = λ s before moments r at.
+    let w : Standing = standing c.args.node.now (g.L.Link.contents c.tell_all.new.link) (g.O.Sink.taken c.tell_all.new.out) moments c.tell_all.new.sent in
+    settles-at s before w (tells_all c.args.events.now r) (Err c.fault_of.result)
+    (subst (λ (es : List journal.Event). IsAt s before w (tells_all es r)) c.as_slice.ensures (c.in_ok-tell_all.ensures.tells s before moments r at))

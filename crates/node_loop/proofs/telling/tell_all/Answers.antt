@@ -1,0 +1,47 @@
+use Rattle.std.proofs.Common.{◌≡◌, ◌+◌, List, [], ◌∷◌, ◌++◌, Err, take, drop, subst, sym, ap, ◌∙◌, arith, append_assoc, take-append-drop}
+use Rattle.std.proofs.lemmas.List.{take_more}
+use Rattle.journal.specs.declared.event.Event as journal
+use Rattle.node_core.proofs.HandleLemmas.{take-all}
+use Rattle.node_loop.specs.declared.fault.ServeFault.{ServeFault}
+use Rattle.node_loop.specs.Courses.{tells_all}
+use Rattle.node_loop.specs.Writing.{IsAt, Standing, Tells, standing}
+use Rattle.node_loop.proofs.TellLemmas.{extends-trans}
+use Rattle.node_loop.proofs.SendLemmas.{told-next, told-part, thrown}
+use Rattle.node_loop.proofs.telling.tell_all.Goals as goal
+
+pub loop-event-preserved : goal.loop-event-preserved
+loop-event-preserved g c =
+    let h = c.loop-event.invariant in
+    let events : List journal.Event = c.args.events.now in
+    let i = c.loop-event.event-index in
+    let e : journal.Event = c.event-item.result in
+    let longer : take (i + 1) events ≡ take i events ++ e ∷ [] = take_more events i e c.loop-event-test.true ∙ ap (λ (y : journal.Event). take i events ++ y ∷ []) (sym c.event-item.is) in
+    record {
+      writable = c.in_ok-tell.ensures.going;
+      calm = c.in_ok-tell.ensures.faults ∙ h.calm;
+      told = told-next c.args.node.now (take i events) (take (i + 1) events) e _ _ _ _ _ _ _ _ _ h.told longer c.in_ok-tell.ensures.tells c.in_ok-tell.ensures.extends;
+    }
+
+pub returns-in_err-tell-clause-tells : goal.returns-in_err-tell-clause-tells
+returns-in_err-tell-clause-tells g c = λ s before moments r at.
+    let h = c.loop-event.invariant in
+    let events : List journal.Event = c.args.events.now in
+    let i = c.loop-event.event-index in
+    let x : journal.Event = c.event-item.result in
+    let e : ServeFault = c.in_err-tell.field-0.0 in
+    let longer : take (i + 1) events ≡ take i events ++ x ∷ [] = take_more events i x c.loop-event-test.true ∙ ap (λ (y : journal.Event). take i events ++ y ∷ []) (sym c.event-item.is) in
+    let split : events ≡ take i events ++ (x ∷ drop (i + 1) events) =
+    sym (take-append-drop (i + 1) events) ∙ ap (λ (xs : List journal.Event). xs ++ drop (i + 1) events) longer ∙ append_assoc (take i events) (x ∷ []) (drop (i + 1) events) in
+    let w : Standing = standing c.args.node.now (g.L.Link.contents c.tell.new.link) (g.O.Sink.taken c.tell.new.out) moments c.tell.new.sent in
+    subst (λ y. Tells s before w (tells_all events r) y) (sym (thrown c.from_residual.result e c.from_residual.ensures.1))
+    (told-part s before w (take i events) events (drop (i + 1) events) x r e split (c.in_err-tell.ensures.tells s before moments (tells_all (take i events) r) (h.told.tells s before moments r at)))
+
+pub returns-in_err-tell-clause-extends : goal.returns-in_err-tell-clause-extends
+returns-in_err-tell-clause-extends g c = extends-trans _ _ _ _ _ _ c.loop-event.invariant.told.extends c.in_err-tell.ensures.extends
+
+pub returns-clause-tells : goal.returns-clause-tells
+returns-clause-tells g c = λ s before moments r at.
+    let events : List journal.Event = c.args.events.now in
+    let whole : take c.loop-event.event-index events ≡ events = take-all c.loop-event.event-index events (omega (arith, c.loop-event-test.false)) in
+    let w : Standing = standing c.args.node.now (g.L.Link.contents c.loop-event.link) (g.O.Sink.taken c.loop-event.out) moments c.loop-event.sent in
+    subst (λ (es : List journal.Event). IsAt s before w (tells_all es r)) whole (c.loop-event.invariant.told.tells s before moments r at)

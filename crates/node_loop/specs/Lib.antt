@@ -1,0 +1,4 @@
+pub mod Turns
+pub mod Courses
+pub mod Writing
+pub mod Serving

@@ -1,0 +1,90 @@
+-- How a life is served, by the answer.
+use Rattle.std.specs.Prelude.{◌≡◌, ℕ, ◌⊎◌, true, List, [], ◌∷◌, ◌++◌, Option, Some, Result, Ok, Err, take}
+use Rattle.std.specs.List.{slice_get}
+use Rattle.records.specs.declared.Record.{Record}
+use Rattle.datagram.specs.declared.Datagram.TheVariants as kinds
+use Rattle.datagram.specs.Grammar.{read_of}
+use Rattle.node_rules.specs.Nodes.{Setting, Node}
+use Rattle.node_rules.specs.Calls.{Call}
+use Rattle.node_rules.specs.Deliveries.{delivered_until}
+use Rattle.node_rules.specs.Ticking.{silent_at, ticked_until}
+use Rattle.node_rules.specs.Lives.{Input, Delivers, Ticks}
+use Rattle.node_loop.specs.declared.fault.ServeFault.{ServeFault}
+use Rattle.node_loop.specs.declared.fault.ServeFault.TheVariants as faults
+use Rattle.node_loop.specs.Turns.{Act, Calls, Outlook}
+use Rattle.node_loop.specs.Courses.{Course, gives, served}
+use Rattle.node_loop.specs.Writing.{Before, Standing, IsAt, IsBeyond, IsWithin}
+
+-- The disk fails in the answer to a record of the datagram.
+pub record IsCutDelivery (s : Setting) (n : Node) (bytes : List ℕ) (c : Call) : Type 0 where
+  pub from : ℕ
+  pub records : List Record
+  pub read : read_of bytes ≡ Ok (kinds.Records from records)
+  pub place : ℕ
+  pub at : Record
+  pub found : slice_get records place ≡ Some at
+  pub is : c ≡ delivered_until s n (take place records) at
+  pub ended : c.ended ≡ true
+
+-- The disk fails in the accusation of a silent member.
+pub record IsCutTick (s : Setting) (n : Node) (c : Call) : Type 0 where
+  pub place : ℕ
+  pub member : ℕ
+  pub found : slice_get (silent_at s n) place ≡ Some member
+  pub is : c ≡ ticked_until s n (take place (silent_at s n)) member
+  pub ended : c.ended ≡ true
+
+-- The call is this one, up to where the disk fails.
+abbrev pub IsCut : Setting → Node → Input → Call → Type 0
+IsCut s n (Delivers bytes) c = IsCutDelivery s n bytes c
+IsCut s n Ticks c = IsCutTick s n c
+
+-- The course up to a call in which the disk fails, and what that call gives.
+pub record IsStopped (s : Setting) (acts : List Act) (start whole : Course) : Type 0 where
+  pub done : List Act
+  pub input : Input
+  pub later : List Act
+  pub call : Call
+  pub split : acts ≡ done ++ Calls input ∷ later
+  pub cut : IsCut s (served s done start).node input call
+  pub is : whole ≡ gives call (served s done start)
+
+-- The course of all acts, or up to a failing disk.
+abbrev pub IsWhole : Setting → List Act → Course → Course → Type 0
+IsWhole s acts start whole = (whole ≡ served s acts start) ⊎ IsStopped s acts start whole
+
+-- It stands where a stopped course does.
+pub record StandsStopped (s : Setting) (before : Before) (acts : List Act) (start : Course) (w : Standing) : Type 0 where
+  pub whole : Course
+  pub stopped : IsStopped s acts start whole
+  pub at : IsAt s before w whole
+
+-- What was written and given to the link is a front of what a course writes and gives.
+pub record BreaksOff (s : Setting) (before : Before) (acts : List Act) (start : Course) (w : Standing) : Type 0 where
+  pub whole : Course
+  pub is : IsWhole s acts start whole
+  pub within : IsWithin before w whole
+
+-- Memory was refused in a call of the node, which is over: what came before the call stands in front.
+pub record IsStarved (s : Setting) (before : Before) (acts : List Act) (start : Course) (w : Standing) : Type 0 where
+  pub done : List Act
+  pub input : Input
+  pub later : List Act
+  pub split : acts ≡ done ++ Calls input ∷ later
+  pub over : w.node.ended ≡ true
+  pub beyond : IsBeyond before w (served s done start)
+
+-- All acts were done; or the disk failed in one of the calls, and what that gave was still told; or a write failed, or
+-- memory was refused, and it broke off somewhere.
+abbrev pub Serves : Setting → Before → List Act → Course → Standing → Result (Unit {0}) ServeFault → Type 0
+Serves s before acts start w (Ok done) = IsAt s before w (served s acts start)
+Serves s before acts start w (Err faults.StoreFault) = StandsStopped s before acts start w
+Serves s before acts start w (Err faults.WriteFault) = BreaksOff s before acts start w ⊎ IsStarved s before acts start w
+Serves s before acts start w (Err faults.OutOfMemory) = BreaksOff s before acts start w ⊎ IsStarved s before acts start w
+
+-- The outlook is that of the link in this course, of a clock that tells its readings, and of so many ticks made.
+pub record Sees (o : Outlook) (r : Course) (last : ℕ) (coming : Option (List ℕ)) (ticks : ℕ) : Type 0 where
+  pub heard : r.link.coming ≡ o.heard
+  pub reading : last ≡ o.reading
+  pub readings : coming ≡ Some o.readings
+  pub made : ticks ≡ o.made

@@ -1,0 +1,90 @@
+-- The turns of a life: in each one receive and one reading of the clock, the turn's line, and the calls of the node that
+-- these bring. What they are depends on the answers of the link and the readings of the clock alone.
+use Rattle.std.specs.Prelude.{ℕ, zero, suc, ◌+◌, ◌-◌, ◌/◌, min, List, [], ◌∷◌, ◌++◌, replicate, take, drop}
+use Rattle.ports.specs.declared.link.LinkAnswer.{LinkAnswer}
+use Rattle.ports.specs.declared.link.LinkAnswer.TheVariants as answers
+use Rattle.ports.specs.Link.{next_of}
+use Rattle.ports.specs.Clock.{next_reading}
+use Rattle.journal.specs.declared.turn.Heard.{Heard}
+use Rattle.journal.specs.declared.turn.Heard.TheVariants as heard
+use Rattle.journal.specs.declared.turn.Turn.{Turn}
+use Rattle.journal.specs.Turns.{turn_text}
+use Rattle.node_rules.specs.Lives.{Input, Delivers, Ticks}
+
+-- how many bytes a receive has room for: one more than the longest datagram has
+abbrev pub room : ℕ
+room = 32769
+
+-- what comes of an answer of the link: of a datagram as much as there is room for
+abbrev pub heard_of : LinkAnswer → Heard
+heard_of (answers.Got bytes) = heard.Got (take room bytes)
+heard_of answers.Nothing = heard.Nothing
+heard_of answers.Failed = heard.Failed
+
+-- ---- what a turn does
+
+-- a receive, a line of the journal, or a call of the node
+pub data Act : Type 0 where
+  Receives : Act
+  Writes : (line : List ℕ) → Act
+  Calls : (input : Input) → Act
+
+-- what was got is delivered
+abbrev pub delivery_of : Heard → List Act
+delivery_of (heard.Got bytes) = Calls (Delivers bytes) ∷ []
+delivery_of heard.Nothing = []
+delivery_of heard.Failed = []
+
+abbrev pub ticks_of : ℕ → List Act
+ticks_of ticks = replicate ticks (Calls Ticks)
+
+-- its line, the delivery of what was got, and the ticks
+abbrev pub turn_acts : Turn → List Act
+turn_acts turn = Receives ∷ Writes (turn_text turn) ∷ delivery_of turn.heard ++ ticks_of turn.ticks
+
+-- ---- the turns
+
+-- the most ticks that a turn makes
+abbrev pub most_ticks : ℕ
+most_ticks = 64
+
+-- Since the base a tick is owed for each so many milliseconds. Of those not made yet a turn makes 64 at the most.
+abbrev pub ticks_owed : ℕ → ℕ → ℕ → ℕ → ℕ
+ticks_owed millis base made reading = min most_ticks ((reading - base) / millis - made)
+
+-- what is to come: the answers of the link; the last reading of the clock, and those to come; and how many ticks were made
+pub record Outlook : Type 0 where
+  pub heard : List LinkAnswer
+  pub reading : ℕ
+  pub readings : List ℕ
+  pub made : ℕ
+
+abbrev pub reading_of : Outlook → ℕ
+reading_of o = next_reading o.reading o.readings
+
+abbrev pub ticks_in : ℕ → ℕ → Outlook → ℕ
+ticks_in millis base o = ticks_owed millis base o.made (reading_of o)
+
+abbrev pub turn_in : ℕ → ℕ → ℕ → Outlook → Turn
+turn_in millis base number o = record { number = number; heard = heard_of (next_of o.heard); ticks = ticks_in millis base o }
+
+abbrev pub after_turn : ℕ → ℕ → Outlook → Outlook
+after_turn millis base o =
+    record {
+      heard = drop 1 o.heard;
+      reading = reading_of o;
+      readings = drop 1 o.readings;
+      made = o.made + ticks_in millis base o;
+    }
+
+-- so many turns, the first of which has this number
+abbrev pub turns_from : ℕ → ℕ → ℕ → ℕ → Outlook → List Act
+turns_from millis base zero number o = []
+turns_from millis base (suc left) number o =
+    turn_acts (turn_in millis base number o) ++ turns_from millis base left (number + 1) (after_turn millis base o)
+
+-- The base is the first reading, and the turns are numbered from 1.
+unfoldable pub life_acts : ℕ → ℕ → List LinkAnswer → ℕ → List ℕ → List Act
+life_acts millis turns heard reading readings =
+    let base = next_reading reading readings in
+    turns_from millis base turns 1 (record { heard = heard; reading = base; readings = drop 1 readings; made = 0 })

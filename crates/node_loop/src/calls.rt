@@ -1,0 +1,128 @@
+//! One call of the node after another, with what each tells written and sent.
+
+ghost use Rattle.std.specs.Prelude.{◌≡◌, false, true, List, [], ◌∷◌, OnOk, IfErr};
+ghost use Rattle.ports.specs.Count.{counted, Rose};
+ghost use Rattle.ports.specs.Disk.{Moment};
+ghost use Rattle.node_rules.specs.Nodes.{Setting};
+ghost use Rattle.node_rules.specs.Lives as lives;
+ghost use Rattle.node_loop.specs.Turns.{Calls, ticks_of};
+ghost use Rattle.node_loop.specs.Courses.{Course, tells_all};
+ghost use Rattle.node_loop.specs.Writing.{Answers, Before, Extends, GoesOn, IsAt, Settles, is_open_after, is_write_fault, standing};
+ghost use Rattle.node_loop.specs.Serving.{Serves};
+
+use crate::fault::{ServeFault, fault_of};
+use crate::telling::tell_all;
+use node_core::{Events, Node, NodeFault, Outbox};
+use ports::{Disk, Link, Sink};
+use std::alloc::Global;
+
+/// Tells what a call of the node told, also where the call ended with a fault, and answers that fault.
+fn settle<L: Link, O: Sink>(
+    alloc: Global,
+    node: &Node,
+    link: &mut L,
+    out: &mut O,
+    sent: &mut u64,
+    events: &Events,
+    done: Result<(), NodeFault>,
+) -> Result<(), ServeFault>
+    requires open { O.is_open out.old ≡ true }
+    ensures going { O.is_open out.new ≡ is_open_after result }
+    ensures faults { O.faults out.new ≡ counted (is_write_fault result) (O.faults out.old) }
+    ensures settles { (s : Setting) (before : Before) (moments : List Moment) (r : Course) → IsAt s before (standing node.now (L.contents link.old) (O.taken out.old) moments sent.old) r
+        → Settles s before (standing node.now (L.contents link.new) (O.taken out.new) moments sent.new) (tells_all events.now r) result }
+    ensures answers { Answers done result }
+    ensures extends { Extends (O.taken out.old) (O.taken out.new) (L.contents link.old) (L.contents link.new) }
+{
+    tell_all(alloc, node, link, out, sent, events.as_slice())?;
+    match done {
+        Ok(()) => Ok(()),
+        Err(fault) => Err(fault_of(fault)),
+    }
+}
+
+/// Delivers the bytes.
+pub fn deliver<D: Disk, L: Link, O: Sink>(
+    alloc: Global,
+    node: &mut Node,
+    disk: &mut D,
+    link: &mut L,
+    out: &mut O,
+    sent: &mut u64,
+    bytes: &[u8],
+) -> Result<(), ServeFault>
+    requires going { node.old.ended ≡ false }
+    requires open { O.is_open out.old ≡ true }
+    ensures open { O.is_open out.new ≡ is_open_after result }
+    ensures going { OnOk result (node.new.ended ≡ false) }
+    ensures faults { O.faults out.new ≡ counted (is_write_fault result) (O.faults out.old) }
+    ensures calm { OnOk result (D.faults disk.new ≡ D.faults disk.old) }
+    ensures store { IfErr result (λ e. e ≡ ServeFault.StoreFault → Rose (D.faults disk.old) (D.faults disk.new)) }
+    ensures closed { OnOk result (node.new.signer.closed ≡ node.old.signer.closed) }
+    ensures spends { GoesOn node.old.signer node.new.signer (D.moments disk.old) (D.moments disk.new) }
+    ensures serves { (s : Setting) (before : Before) (r : Course) → IsAt s before (standing node.old (L.contents link.old) (O.taken out.old) (D.moments disk.old) sent.old) r
+        → Serves s before (Calls (lives.Delivers bytes.now) ∷ []) r (standing node.new (L.contents link.new) (O.taken out.new) (D.moments disk.new) sent.new) result }
+{
+    let mut outbox = Outbox::new(alloc);
+    let mut events = Events::new(alloc);
+    let done = node.deliver(alloc, disk, bytes, &mut outbox, &mut events);
+    settle(alloc, node, link, out, sent, &events, done)
+}
+
+/// Makes a tick. A life that counted 2^64 - 1 ticks makes no more.
+fn tick<D: Disk, L: Link, O: Sink>(
+    alloc: Global,
+    node: &mut Node,
+    disk: &mut D,
+    link: &mut L,
+    out: &mut O,
+    sent: &mut u64,
+) -> Result<(), ServeFault>
+    requires going { node.old.ended ≡ false }
+    requires open { O.is_open out.old ≡ true }
+    ensures open { O.is_open out.new ≡ is_open_after result }
+    ensures going { OnOk result (node.new.ended ≡ false) }
+    ensures faults { O.faults out.new ≡ counted (is_write_fault result) (O.faults out.old) }
+    ensures calm { OnOk result (D.faults disk.new ≡ D.faults disk.old) }
+    ensures store { IfErr result (λ e. e ≡ ServeFault.StoreFault → Rose (D.faults disk.old) (D.faults disk.new)) }
+    ensures closed { OnOk result (node.new.signer.closed ≡ node.old.signer.closed) }
+    ensures spends { GoesOn node.old.signer node.new.signer (D.moments disk.old) (D.moments disk.new) }
+    ensures serves { (s : Setting) (before : Before) (r : Course) → IsAt s before (standing node.old (L.contents link.old) (O.taken out.old) (D.moments disk.old) sent.old) r
+        → Serves s before (Calls lives.Ticks ∷ []) r (standing node.new (L.contents link.new) (O.taken out.new) (D.moments disk.new) sent.new) result }
+{
+    if node.membership().now() == u64::MAX {
+        return Ok(());
+    }
+    let mut outbox = Outbox::new(alloc);
+    let mut events = Events::new(alloc);
+    let done = node.tick(alloc, disk, &mut outbox, &mut events);
+    settle(alloc, node, link, out, sent, &events, done)
+}
+
+/// Makes so many ticks.
+pub fn tick_times<D: Disk, L: Link, O: Sink>(
+    alloc: Global,
+    node: &mut Node,
+    disk: &mut D,
+    link: &mut L,
+    out: &mut O,
+    sent: &mut u64,
+    ticks: u8,
+) -> Result<(), ServeFault>
+    requires going { node.old.ended ≡ false }
+    requires open { O.is_open out.old ≡ true }
+    ensures open { O.is_open out.new ≡ is_open_after result }
+    ensures going { OnOk result (node.new.ended ≡ false) }
+    ensures faults { O.faults out.new ≡ counted (is_write_fault result) (O.faults out.old) }
+    ensures calm { OnOk result (D.faults disk.new ≡ D.faults disk.old) }
+    ensures store { IfErr result (λ e. e ≡ ServeFault.StoreFault → Rose (D.faults disk.old) (D.faults disk.new)) }
+    ensures closed { OnOk result (node.new.signer.closed ≡ node.old.signer.closed) }
+    ensures spends { GoesOn node.old.signer node.new.signer (D.moments disk.old) (D.moments disk.new) }
+    ensures serves { (s : Setting) (before : Before) (r : Course) → IsAt s before (standing node.old (L.contents link.old) (O.taken out.old) (D.moments disk.old) sent.old) r
+        → Serves s before (ticks_of ticks) r (standing node.new (L.contents link.new) (O.taken out.new) (D.moments disk.new) sent.new) result }
+{
+    for _done in 0..ticks {
+        tick(alloc, node, disk, link, out, sent)?;
+    }
+    Ok(())
+}

@@ -1,0 +1,82 @@
+//! The loop over the turns.
+
+ghost use Rattle.std.specs.Prelude.{◌≡◌, ◌≤◌, ℕ, false, true, List, Option, Some, OnOk, IfErr};
+ghost use Rattle.ports.specs.Count.{counted, Rose};
+ghost use Rattle.ports.specs.Link.{LinkState};
+ghost use Rattle.node_core.specs.Playing.{IsNode};
+ghost use Rattle.node_rules.specs.Nodes.{Setting, Node as RulesNode};
+ghost use Rattle.node_loop.specs.Turns.{life_acts};
+ghost use Rattle.node_loop.specs.Courses.{served_from};
+ghost use Rattle.node_loop.specs.Writing.{GoesOn, before_all, is_open_after, is_write_fault, standing};
+ghost use Rattle.node_loop.specs.Serving.{Serves};
+
+use crate::fault::ServeFault;
+use crate::turns::{Progress, turn};
+use node_core::Node;
+use ports::{Clock, Disk, Link, Sink};
+use std::alloc::Global;
+
+/// How many bytes a receive has room for: one more than the longest datagram has.
+const ROOM: usize = 32_769;
+
+/// Runs a node for so many turns, and writes the journal of its life. In each turn it hears the link once and reads the
+/// clock once, writes the turn's line, delivers what was got, and makes the ticks that are owed: one for each `millis`
+/// milliseconds since the call began, of which a turn makes 64 at the most and leaves the rest to the next.
+///
+/// What the node tells is written, line by line. A datagram has the number of those sent before it in this call: it is
+/// given to the link once its line is written, for the port in its addressee's certificate. A send that fails is followed
+/// by the line `lost`, and a receive that fails is the turn's word `failed`: neither ends the loop.
+///
+/// Where the disk fails in a call of the node, what that told until then is still written and sent, and the answer is
+/// `StoreFault`. `WriteFault` comes where a write failed. The node is over behind a `StoreFault`, and where memory was
+/// refused in one of its calls.
+pub fn serve<D: Disk, L: Link, C: Clock, O: Sink>(
+    alloc: Global,
+    node: &mut Node,
+    link: &mut L,
+    clock: &mut C,
+    disk: &mut D,
+    out: &mut O,
+    millis: u32,
+    turns: u32,
+) -> Result<(), ServeFault>
+    requires going { node.old.ended ≡ false }
+    requires open { O.is_open out.old ≡ true }
+    requires some { 1 ≤ millis }
+    ensures open { O.is_open out.new ≡ is_open_after result }
+    ensures going { OnOk result (node.new.ended ≡ false) }
+    ensures write_fault { O.faults out.new ≡ counted (is_write_fault result) (O.faults out.old) }
+    ensures calm { OnOk result (D.faults disk.new ≡ D.faults disk.old) }
+    ensures store_fault { IfErr result (λ e. e ≡ ServeFault.StoreFault → Rose (D.faults disk.old) (D.faults disk.new)) }
+    ensures closed { OnOk result (node.new.signer.closed ≡ node.old.signer.closed) }
+    ensures spends { GoesOn node.old.signer node.new.signer (D.moments disk.old) (D.moments disk.new) }
+    ensures serves { (s : Setting) (n : RulesNode) (link_told : LinkState) (readings : List ℕ)
+        → IsNode s node.old n → L.contents link.old ≡ Some link_told → C.coming clock.old ≡ Some readings
+        → (sent : ℕ) × Serves s (before_all (O.taken out.old) node.old.signer (D.moments disk.old)) (life_acts millis turns link_told.coming (C.reading clock.old) readings) (served_from n link_told)
+        (standing node.new (L.contents link.new) (O.taken out.new) (D.moments disk.new) sent) result }
+{
+    let base = clock.now();
+    let Ok(mut buf) = vec![in alloc; 0u8; ROOM] else {
+        return Err(ServeFault::OutOfMemory);
+    };
+    let mut progress = Progress {
+        base,
+        millis,
+        made: 0,
+        sent: 0,
+    };
+    for done in 0..turns {
+        turn(
+            alloc,
+            node,
+            disk,
+            link,
+            clock,
+            out,
+            &mut progress,
+            &mut buf,
+            done + 1,
+        )?;
+    }
+    Ok(())
+}

@@ -1,0 +1,165 @@
+//! What a call told is written, line by line, and each of its datagrams is sent behind its line.
+
+ghost use Rattle.std.specs.Prelude.{◌≡◌, ◌≢◌, true, List, Some, None, MatchOption, IfErr, unwrap_or};
+ghost use Rattle.std.specs.Option.{option_map};
+ghost use Rattle.ports.specs.Count.{counted};
+ghost use Rattle.ports.specs.Disk.{Moment};
+ghost use Rattle.validate.specs.Certified.{certificate_of as kept_certificate};
+ghost use Rattle.journal.specs.declared.event.What.TheVariants as kinds;
+ghost use Rattle.node_rules.specs.Nodes.{Setting};
+ghost use Rattle.node_loop.specs.Courses.{Course, datagram_in, line_of, sends_one, tells, tells_all};
+ghost use Rattle.node_loop.specs.Writing.{Before, Extends, HandsOver, IsAt, Tells, WritesLine, is_lost, is_open_after, is_write_fault, standing};
+
+use crate::fault::ServeFault;
+use crate::writing::write_told;
+use ff_ids::MemberId;
+use fields::{Bytes, NoMemory};
+use journal::{Event, What};
+use node_core::Node;
+use ports::{Link, Sent, Sink};
+use std::alloc::Global;
+
+/// Whom a datagram went to, and its bytes, where the event tells of one.
+fn datagram_in(what: &What) -> Option<(MemberId, &Bytes)>
+    ensures { MatchOption result (datagram_in what.now ≡ None) (λ d. datagram_in what.now ≡ Some (d.0, d.1.now)) }
+{
+    match what {
+        What::Sent { to, bytes, .. } => Some((*to, bytes)),
+        _ => None,
+    }
+}
+
+/// Gives the datagram to the link, for the port in the addressee's certificate, and says whether it is lost. An addressee
+/// is certified: without a certificate it would have the port 0, to which nothing can be sent.
+fn hand_over<L: Link>(
+    node: &Node,
+    link: &mut L,
+    to: MemberId,
+    bytes: &[u8],
+) -> Result<bool, NoMemory>
+    ensures faults { L.faults link.new ≡ counted (is_lost result) (L.faults link.old) }
+    ensures given { HandsOver (unwrap_or (option_map (λ c. c.port) (kept_certificate node.now.roster to)) 0) bytes.now (L.contents link.old) (L.contents link.new) result }
+{
+    let port = node.port_of(to).unwrap_or(0);
+    match link.send(port, bytes) {
+        Sent::Done => Ok(false),
+        Sent::Failed => Ok(true),
+        Sent::OutOfMemory => Err(NoMemory),
+    }
+}
+
+/// Writes that the datagram of this number went to the member.
+fn write_sent<O: Sink>(
+    alloc: Global,
+    out: &mut O,
+    moment: u64,
+    number: u64,
+    to: MemberId,
+    bytes: &[u8],
+) -> Result<(), ServeFault>
+    requires open { O.is_open out.old ≡ true }
+    ensures going { O.is_open out.new ≡ is_open_after result }
+    ensures faults { O.faults out.new ≡ counted (is_write_fault result) (O.faults out.old) }
+    ensures cause { IfErr result (λ e. e ≢ ServeFault.StoreFault) }
+    ensures wrote { WritesLine (O.taken out.old) (O.taken out.new) (line_of (record { moment = moment; what = kinds.Sent number to bytes.now })) result }
+{
+    let Ok(copy) = bytes.to_vec(alloc) else {
+        return Err(ServeFault::OutOfMemory);
+    };
+    let what = What::Sent {
+        number,
+        to,
+        bytes: Bytes::from_vec(copy),
+    };
+    write_told(alloc, out, &Event { moment, what })
+}
+
+/// Writes the line of a datagram, which has the number of those sent before it, and sends it; where that fails, it
+/// writes that the datagram is lost.
+fn send_one<L: Link, O: Sink>(
+    alloc: Global,
+    node: &Node,
+    link: &mut L,
+    out: &mut O,
+    sent: &mut u64,
+    moment: u64,
+    to: MemberId,
+    bytes: &[u8],
+) -> Result<(), ServeFault>
+    requires open { O.is_open out.old ≡ true }
+    ensures going { O.is_open out.new ≡ is_open_after result }
+    ensures faults { O.faults out.new ≡ counted (is_write_fault result) (O.faults out.old) }
+    ensures cause { IfErr result (λ e. e ≢ ServeFault.StoreFault) }
+    ensures tells { (s : Setting) (before : Before) (moments : List Moment) (r : Course) → IsAt s before (standing node.now (L.contents link.old) (O.taken out.old) moments sent.old) r
+        → Tells s before (standing node.now (L.contents link.new) (O.taken out.new) moments sent.new) (sends_one moment to bytes.now r) result }
+    ensures extends { Extends (O.taken out.old) (O.taken out.new) (L.contents link.old) (L.contents link.new) }
+{
+    let number = *sent;
+    write_sent(alloc, out, moment, number, to, bytes)?;
+    match hand_over(node, link, to, bytes) {
+        Ok(lost) => {
+            *sent = number.saturating_add(1);
+            if lost {
+                let what = What::Lost { number };
+                return write_told(alloc, out, &Event { moment, what });
+            }
+            Ok(())
+        }
+        Err(NoMemory) => Err(ServeFault::OutOfMemory),
+    }
+}
+
+/// Writes what happened, and sends the datagram where it is that one was sent.
+fn tell<L: Link, O: Sink>(
+    alloc: Global,
+    node: &Node,
+    link: &mut L,
+    out: &mut O,
+    sent: &mut u64,
+    event: &Event,
+) -> Result<(), ServeFault>
+    requires open { O.is_open out.old ≡ true }
+    ensures going { O.is_open out.new ≡ is_open_after result }
+    ensures faults { O.faults out.new ≡ counted (is_write_fault result) (O.faults out.old) }
+    ensures cause { IfErr result (λ e. e ≢ ServeFault.StoreFault) }
+    ensures tells { (s : Setting) (before : Before) (moments : List Moment) (r : Course) → IsAt s before (standing node.now (L.contents link.old) (O.taken out.old) moments sent.old) r
+        → Tells s before (standing node.now (L.contents link.new) (O.taken out.new) moments sent.new) (tells r event.now) result }
+    ensures extends { Extends (O.taken out.old) (O.taken out.new) (L.contents link.old) (L.contents link.new) }
+{
+    match datagram_in(&event.what) {
+        Some(datagram) => send_one(
+            alloc,
+            node,
+            link,
+            out,
+            sent,
+            event.moment,
+            datagram.0,
+            datagram.1.as_slice(),
+        ),
+        None => write_told(alloc, out, event),
+    }
+}
+
+/// Writes what happened, event after event, and sends each datagram behind its line.
+pub fn tell_all<L: Link, O: Sink>(
+    alloc: Global,
+    node: &Node,
+    link: &mut L,
+    out: &mut O,
+    sent: &mut u64,
+    events: &[Event],
+) -> Result<(), ServeFault>
+    requires open { O.is_open out.old ≡ true }
+    ensures going { O.is_open out.new ≡ is_open_after result }
+    ensures faults { O.faults out.new ≡ counted (is_write_fault result) (O.faults out.old) }
+    ensures cause { IfErr result (λ e. e ≢ ServeFault.StoreFault) }
+    ensures tells { (s : Setting) (before : Before) (moments : List Moment) (r : Course) → IsAt s before (standing node.now (L.contents link.old) (O.taken out.old) moments sent.old) r
+        → Tells s before (standing node.now (L.contents link.new) (O.taken out.new) moments sent.new) (tells_all events.now r) result }
+    ensures extends { Extends (O.taken out.old) (O.taken out.new) (L.contents link.old) (L.contents link.new) }
+{
+    for event in events {
+        tell(alloc, node, link, out, sent, event)?;
+    }
+    Ok(())
+}

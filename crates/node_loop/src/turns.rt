@@ -1,0 +1,158 @@
+//! Turns: what each hears, and how many ticks it makes.
+
+ghost use Rattle.std.specs.Prelude.{◌≡◌, ◌≢◌, ◌≤◌, ◌+◌, false, true, OnOk, IfErr, length};
+ghost use Rattle.ports.specs.Count.{counted, Rose};
+ghost use Rattle.node_rules.specs.Nodes.{Setting};
+ghost use Rattle.journal.specs.Turns.{turn_text};
+ghost use Rattle.node_loop.specs.Turns.{Outlook, after_turn, delivery_of, room, ticks_owed, turn_acts, turn_in};
+ghost use Rattle.node_loop.specs.Courses.{Course, served, with_feed};
+ghost use Rattle.node_loop.specs.Writing.{Before, GoesOn, Hears, IsAt, WritesLine, has_failed, is_open_after, is_write_fault, standing};
+ghost use Rattle.node_loop.specs.Serving.{Sees, Serves};
+
+use crate::calls::{deliver, tick_times};
+use crate::fault::ServeFault;
+use crate::writing::write_line;
+use fields::{Bytes, NoMemory};
+use journal::{Heard, Turn, write_turn};
+use node_core::Node;
+use ports::{Clock, Disk, Link, Received, Sink};
+use std::alloc::Global;
+
+/// The most ticks that one turn makes.
+const MOST_TICKS: u64 = 64;
+
+/// How far a life has come.
+#[derive(Drop)]
+pub struct Progress {
+    /// The clock's reading before the first turn.
+    pub base: u64,
+    /// A tick is owed for each so many milliseconds since then.
+    pub millis: u32,
+    /// How many ticks were made.
+    pub made: u64,
+    /// How many datagrams were sent.
+    pub sent: u64,
+}
+
+impl Progress {
+    /// How many ticks the turn makes that reads the clock so. They count as made.
+    fn next_ticks(&mut self, reading: u64) -> u8
+        requires { 1 ≤ self.old.millis }
+        ensures ticks { result ≡ ticks_owed self.old.millis self.old.base self.old.made reading }
+        ensures made { self.new ≡ record self.old { made = self.old.made + result } }
+    {
+        let due = reading.saturating_sub(self.base) / u64::from(self.millis);
+        let ticks = due.saturating_sub(self.made).min(MOST_TICKS);
+        self.made += ticks;
+        ticks as u8
+    }
+}
+
+/// Hears the link, through the buffer.
+fn hear<L: Link>(alloc: Global, link: &mut L, buf: &mut [u8]) -> Result<Heard, NoMemory>
+    requires { length buf.old ≡ room }
+    ensures faults { L.faults link.new ≡ counted (has_failed result) (L.faults link.old) }
+    ensures hears { Hears (L.contents link.old) (L.contents link.new) result }
+{
+    match link.receive(buf) {
+        Received::Got(count) => match buf[..count].to_vec(alloc) {
+            Ok(bytes) => Ok(Heard::Got(Bytes::from_vec(bytes))),
+            Err(_) => Err(NoMemory),
+        },
+        Received::Nothing => Ok(Heard::Nothing),
+        Received::Failed => Ok(Heard::Failed),
+    }
+}
+
+/// Writes the turn's line.
+fn write_turn_line<O: Sink>(alloc: Global, out: &mut O, turn: &Turn) -> Result<(), ServeFault>
+    requires open { O.is_open out.old ≡ true }
+    ensures going { O.is_open out.new ≡ is_open_after result }
+    ensures faults { O.faults out.new ≡ counted (is_write_fault result) (O.faults out.old) }
+    ensures cause { IfErr result (λ e. e ≢ ServeFault.StoreFault) }
+    ensures wrote { WritesLine (O.taken out.old) (O.taken out.new) (with_feed (turn_text turn.now)) result }
+{
+    let mut text = Vec::new(alloc);
+    match write_turn(turn, &mut text) {
+        Ok(()) => write_line(out, text),
+        Err(NoMemory) => Err(ServeFault::OutOfMemory),
+    }
+}
+
+/// Delivers what was got.
+fn deliver_heard<D: Disk, L: Link, O: Sink>(
+    alloc: Global,
+    node: &mut Node,
+    disk: &mut D,
+    link: &mut L,
+    out: &mut O,
+    sent: &mut u64,
+    heard: &Heard,
+) -> Result<(), ServeFault>
+    requires going { node.old.ended ≡ false }
+    requires open { O.is_open out.old ≡ true }
+    ensures open { O.is_open out.new ≡ is_open_after result }
+    ensures going { OnOk result (node.new.ended ≡ false) }
+    ensures faults { O.faults out.new ≡ counted (is_write_fault result) (O.faults out.old) }
+    ensures calm { OnOk result (D.faults disk.new ≡ D.faults disk.old) }
+    ensures store { IfErr result (λ e. e ≡ ServeFault.StoreFault → Rose (D.faults disk.old) (D.faults disk.new)) }
+    ensures closed { OnOk result (node.new.signer.closed ≡ node.old.signer.closed) }
+    ensures spends { GoesOn node.old.signer node.new.signer (D.moments disk.old) (D.moments disk.new) }
+    ensures serves { (s : Setting) (before : Before) (r : Course) → IsAt s before (standing node.old (L.contents link.old) (O.taken out.old) (D.moments disk.old) sent.old) r
+        → Serves s before (delivery_of heard.now) r (standing node.new (L.contents link.new) (O.taken out.new) (D.moments disk.new) sent.new) result }
+{
+    match heard {
+        Heard::Got(bytes) => deliver(alloc, node, disk, link, out, sent, bytes.as_slice()),
+        Heard::Nothing | Heard::Failed => Ok(()),
+    }
+}
+
+/// One turn: hears the link, reads the clock, writes the turn's line, delivers what was got, and makes the ticks that are
+/// owed.
+pub fn turn<D: Disk, L: Link, C: Clock, O: Sink>(
+    alloc: Global,
+    node: &mut Node,
+    disk: &mut D,
+    link: &mut L,
+    clock: &mut C,
+    out: &mut O,
+    progress: &mut Progress,
+    buf: &mut [u8],
+    number: u32,
+) -> Result<(), ServeFault>
+    requires going { node.old.ended ≡ false }
+    requires open { O.is_open out.old ≡ true }
+    requires some { 1 ≤ progress.old.millis }
+    requires room { length buf.old ≡ room }
+    ensures open { O.is_open out.new ≡ is_open_after result }
+    ensures going { OnOk result (node.new.ended ≡ false) }
+    ensures faults { O.faults out.new ≡ counted (is_write_fault result) (O.faults out.old) }
+    ensures calm { OnOk result (D.faults disk.new ≡ D.faults disk.old) }
+    ensures store { IfErr result (λ e. e ≡ ServeFault.StoreFault → Rose (D.faults disk.old) (D.faults disk.new)) }
+    ensures kept { (progress.new.base ≡ progress.old.base) × (progress.new.millis ≡ progress.old.millis) }
+    ensures closed { OnOk result (node.new.signer.closed ≡ node.old.signer.closed) }
+    ensures spends { GoesOn node.old.signer node.new.signer (D.moments disk.old) (D.moments disk.new) }
+    ensures serves { (s : Setting) (before : Before) (r : Course) (o : Outlook)
+        → IsAt s before (standing node.old (L.contents link.old) (O.taken out.old) (D.moments disk.old) progress.old.sent) r
+        → Sees o r (C.reading clock.old) (C.coming clock.old) progress.old.made
+        → Serves s before (turn_acts (turn_in progress.old.millis progress.old.base number o)) r (standing node.new (L.contents link.new) (O.taken out.new) (D.moments disk.new) progress.new.sent) result }
+    ensures sees { (s : Setting) (before : Before) (r : Course) (o : Outlook)
+        → IsAt s before (standing node.old (L.contents link.old) (O.taken out.old) (D.moments disk.old) progress.old.sent) r
+        → Sees o r (C.reading clock.old) (C.coming clock.old) progress.old.made
+        → OnOk result (Sees (after_turn progress.old.millis progress.old.base o) (served s (turn_acts (turn_in progress.old.millis progress.old.base number o)) r)
+        (C.reading clock.new) (C.coming clock.new) progress.new.made) }
+{
+    let Ok(heard) = hear(alloc, link, buf) else {
+        return Err(ServeFault::OutOfMemory);
+    };
+    let ticks = progress.next_ticks(clock.now());
+    let turn = Turn {
+        number,
+        heard,
+        ticks,
+    };
+    write_turn_line(alloc, out, &turn)?;
+    let sent = &mut progress.sent;
+    deliver_heard(alloc, node, disk, link, out, sent, &turn.heard)?;
+    tick_times(alloc, node, disk, link, out, sent, turn.ticks)
+}
