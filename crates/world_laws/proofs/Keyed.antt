@@ -1,11 +1,8 @@
 -- What is signed with the keys of a world verifies under them.
-use Rattle.std.proofs.Common.{◌≡◌, ℕ, ◌<◌, true, List, Ok, refl, ap, ◌∙◌}
+use Rattle.std.proofs.Common.{◌≡◌, ℕ, List, Ok, ap, ◌∙◌}
 use Rattle.std.specs.Result.{is_ok}
 use Rattle.std.proofs.lemmas.Bool.{eq-eqb, lt-ltb}
 use Rattle.std.proofs.lemmas.Slice.Eq.{bytes_eq-Decides}
-use Rattle.ff_ids.specs.declared.Group.{Group}
-use Rattle.lms_ots.specs.declared.OtsKind.{OtsKind}
-use Rattle.lms_tree.specs.declared.TreeKind.{TreeKind}
 use Rattle.lms_tree.specs.declared.key.PublicKey.{PublicKey}
 use Rattle.lms_tree.specs.Lms.{Verifies, root_in, verdict_of}
 use Rattle.lms_tree.proofs.Signatures.{signature-verifies}

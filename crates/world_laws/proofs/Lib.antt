@@ -11,3 +11,4 @@ mod Lawful
 mod Verified
 mod Removing
 mod Keyed
+mod Rows
