@@ -1,5 +1,5 @@
 -- How one call of the node is served.
-use Rattle.std.proofs.Common.{◌≡◌, ◌<◌, ◌≤◌, arith, ℕ, inl, inr, true, false, List, [], ◌∷◌, ◌++◌, Option, Some, None, Result, Ok, Err, IsOk, refl, sym, ap, ◌∙◌, subst, take, cond}
+use Rattle.std.proofs.Common.{◌≡◌, ◌<◌, ◌≤◌, arith, ℕ, inl, inr, true, false, List, [], ◌∷◌, ◌++◌, Option, Result, Ok, Err, refl, sym, ap, ◌∙◌, subst, take, cond}
 use Rattle.std.proofs.lemmas.Bool.{false≢true}
 use Rattle.std.specs.Result.{is_err}
 use Rattle.std.specs.Prelude.{Bool, IfErr, OnOk, nat_lt}
@@ -25,9 +25,9 @@ use Rattle.node_rules.specs.Lives.{Input, Delivers, Ticks, call_of}
 use Rattle.node_loop.specs.declared.fault.ServeFault.{ServeFault}
 use Rattle.node_loop.specs.declared.fault.ServeFault.TheVariants as faults
 use Rattle.node_loop.specs.Turns.{Act, Calls}
-use Rattle.node_loop.specs.Courses.{Course, acted, called, gives, may_tick, moves, served, tells_all}
-use Rattle.node_loop.specs.Writing.{Answers, Before, Extends, GoesOn, IsAt, IsBeyond, IsWithin, Settles, Standing, Tells, standing}
-use Rattle.node_loop.specs.Serving.{BreaksOff, IsCut, IsStarved, IsStopped, Serves, StandsStopped}
+use Rattle.node_loop.specs.Courses.{Course, acted, gives, may_tick, moves, served, tells_all}
+use Rattle.node_loop.specs.Writing.{Answers, Before, Extends, GoesOn, IsAt, IsBeyond, Settles, Standing, Tells, standing}
+use Rattle.node_loop.specs.Serving.{IsCut, IsStarved, IsStopped, Serves}
 use Rattle.node_loop.proofs.CourseLemmas.{Grows, grows-refl, served-cons, served-nil}
 use Rattle.node_loop.proofs.TellLemmas.{at-within, beyond}
 use Rattle.node_loop.proofs.ServeLemmas.{breaks-off}

@@ -1,15 +1,14 @@
 -- Courses only grow, and fold act by act.
-use Rattle.std.proofs.Common.{◌≡◌, ℕ, zero, suc, Bool, true, false, List, [], ◌∷◌, ◌++◌, Option, Some, None, refl, sym, ap, ◌∙◌, subst, append_assoc, append-nil, fold, cond, drop, replicate}
+use Rattle.std.proofs.Common.{◌≡◌, ℕ, zero, suc, Bool, true, false, List, [], ◌∷◌, ◌++◌, Option, Some, None, refl, sym, ap, ◌∙◌, append_assoc, append-nil, fold, cond, drop}
 use Rattle.node_core.specs.Told.{IsFront}
 use Rattle.node_core.specs.Spending.{spent_told}
-use Rattle.ports.specs.Link.{LinkState, received_from}
 use Rattle.ports.specs.declared.link.LinkAnswer.{LinkAnswer}
 use Rattle.journal.specs.declared.turn.Heard.{Heard}
 use Rattle.journal.specs.declared.turn.Heard.TheVariants as heard
 use Rattle.journal.specs.declared.turn.Turn.{Turn}
 use Rattle.journal.specs.declared.event.Event as journal
 use Rattle.journal.specs.declared.event.What as whats
-use Rattle.node_rules.specs.Nodes.{Setting, Node}
+use Rattle.node_rules.specs.Nodes.{Setting}
 use Rattle.node_rules.specs.Calls.{Call}
 use Rattle.node_rules.specs.Lives.{Input, Delivers, Ticks, call_of}
 use Rattle.node_loop.specs.Turns.{Act, Receives, Writes, Calls, delivery_of, ticks_of, turn_acts}

@@ -1,6 +1,5 @@
 -- What one call of the link comes to.
-use Rattle.std.proofs.Common.{◌≡◌, ℕ, ◌≤◌, min, Bool, true, false, List, [], ◌∷◌, ◌++◌, length, take, drop, Option, Some, None, Result, Ok, Err, refl, sym, ap, ◌∙◌, subst, arith, length-take}
-use Rattle.std.proofs.lemmas.List.{take-append-le}
+use Rattle.std.proofs.Common.{◌≡◌, ℕ, min, true, false, List, ◌++◌, length, take, drop, Option, Some, None, Ok, Err, refl, sym, ap, ◌∙◌, arith, length-take}
 use Rattle.std.proofs.Math.Seq.{take-append_seam}
 use Rattle.ports.specs.declared.Received as received
 use Rattle.ports.specs.declared.Sent as sent
@@ -8,7 +7,6 @@ use Rattle.ports.specs.declared.link.LinkAnswer.{LinkAnswer}
 use Rattle.ports.specs.declared.link.LinkAnswer.TheVariants as answers
 use Rattle.ports.specs.Link.{LinkState, Receives, Sends, answer_of, buffer_of, next_of}
 use Rattle.fields.specs.declared.NoMemory.{NoMemory}
-use Rattle.journal.specs.declared.turn.Heard.{Heard}
 use Rattle.journal.specs.declared.turn.Heard.TheVariants as heard
 use Rattle.node_loop.specs.Turns.{heard_of, room}
 use Rattle.node_loop.specs.Writing.{HandsOver, Hears}

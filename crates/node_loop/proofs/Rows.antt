@@ -1,12 +1,12 @@
 -- Turns, worked out.
-use Rattle.std.proofs.Common.{◌≡◌, List, [], ◌∷◌, refl}
+use Rattle.std.proofs.Common.{◌≡◌, [], ◌∷◌, refl}
 use Rattle.std.specs.Prelude.{codes}
 use Rattle.std.specs.Fmt.{digits}
 use Rattle.ports.specs.declared.link.LinkAnswer.TheVariants as answers
 use Rattle.node_rules.specs.Lives.{Delivers, Ticks}
 use Rattle.journal.specs.declared.turn.Heard.TheVariants as heard
 use Rattle.journal.specs.Turns.{turn_text}
-use Rattle.node_loop.specs.Turns.{Receives, Writes, Calls, life_acts, ticks_of, turns_from, ticks_owed}
+use Rattle.node_loop.specs.Turns.{Receives, Writes, Calls, life_acts, ticks_owed}
 
 -- A tick a tenth of a second, and readings of 0, 50 and 250 milliseconds: two ticks are owed at the second turn.
 two-turns : life_acts 100 2 [] 0 (0 ∷ 50 ∷ 250 ∷ [])

@@ -1,16 +1,14 @@
 -- How the events of a call are told, one after another.
-use Rattle.std.proofs.Common.{◌≡◌, ℕ, Bool, true, false, cond, List, [], ◌∷◌, ◌++◌, Option, Some, None, Result, Ok, Err, refl, sym, ap, ◌∙◌, subst}
+use Rattle.std.proofs.Common.{◌≡◌, ℕ, Bool, true, false, cond, List, [], ◌∷◌, ◌++◌, Option, Some, None, Result, Err, sym, ap, ◌∙◌, subst}
 use Rattle.std.specs.Result.{IsErrAnd}
 use Rattle.std.proofs.lemmas.Result.{err_from_is_err_and}
 use Rattle.ports.specs.Disk.{Moment}
 use Rattle.ports.specs.Link.{LinkState}
 use Rattle.journal.specs.declared.event.Event as journal
-use Rattle.journal.specs.declared.event.What as whats
 use Rattle.journal.specs.declared.event.What.TheVariants as kinds
 use Rattle.node_core.specs.Playing.{Kept}
 use Rattle.node_rules.specs.Nodes.{Setting}
 use Rattle.node_loop.specs.declared.fault.ServeFault.{ServeFault}
-use Rattle.node_loop.specs.declared.fault.ServeFault.TheVariants as faults
 use Rattle.node_loop.specs.Courses.{Course, datagram_in, fails_next, hands_over, line_of, sends_one, tells, tells_all, tells_what, writes, writes_event}
 use Rattle.node_loop.specs.Writing.{Before, Extends, IsAt, IsWithin, Standing, Tells, WritesLine, standing}
 use Rattle.node_loop.proofs.CourseLemmas.{Grows, grows-sent, grows-tells_all, tells_all-append}
@@ -55,7 +53,7 @@ got-lost s before v link taken after moments sent number moment to bytes r answe
     let r1 = hands_over to bytes (writes_event moment (kinds.Sent r.sent to bytes) r) in
     let line = line_of (record { moment = moment; what = kinds.Lost r.sent }) in
     let told = written s before v link taken after moments sent line r1 answer at
-        (subst (λ (k : ℕ). WritesLine taken after (line_of (record { moment = moment; what = kinds.Lost k })) answer) is wrote) in
+    (subst (λ (k : ℕ). WritesLine taken after (line_of (record { moment = moment; what = kinds.Lost k })) answer) is wrote) in
     subst (λ (b : Bool). Tells s before (standing v link after moments sent) (cond b (writes line r1) r1) answer) fails told
 
 -- ---- one event

@@ -1,16 +1,12 @@
 -- How acts are served, some behind others.
-use Rattle.std.proofs.Common.{◌≡◌, ℕ, ◌+◌, ◌⊎◌, inl, inr, Bool, true, false, List, [], ◌∷◌, ◌++◌, Option, Some, None, Result, Ok, Err, IsOk, refl, sym, ap, ◌∙◌, subst, append_assoc, append-nil, replicate}
-use Rattle.node_core.specs.declared.NodeFault.{NodeFault}
-use Rattle.node_core.specs.declared.NodeFault.TheVariants as node
+use Rattle.std.proofs.Common.{◌≡◌, ◌⊎◌, inl, inr, List, [], ◌∷◌, ◌++◌, Result, Ok, Err, refl, sym, ap, ◌∙◌, subst, append_assoc, append-nil}
 use Rattle.node_rules.specs.Nodes.{Setting}
-use Rattle.node_rules.specs.Calls.{Call}
-use Rattle.node_rules.specs.Lives.{Input, Delivers, Ticks}
 use Rattle.node_loop.specs.declared.fault.ServeFault.{ServeFault}
 use Rattle.node_loop.specs.declared.fault.ServeFault.TheVariants as faults
-use Rattle.node_loop.specs.Turns.{Act, Calls, ticks_of}
+use Rattle.node_loop.specs.Turns.{Act, Calls}
 use Rattle.node_loop.specs.Courses.{Course, gives, served}
 use Rattle.node_loop.specs.Writing.{Before, Standing, IsAt, IsBeyond, IsWithin}
-use Rattle.node_loop.specs.Serving.{IsCut, IsStopped, IsWhole, StandsStopped, BreaksOff, IsStarved, Serves}
+use Rattle.node_loop.specs.Serving.{IsCut, IsStopped, IsWhole, BreaksOff, IsStarved, Serves}
 use Rattle.node_loop.proofs.CourseLemmas.{Grows, grows-refl, grows-served, served-append}
 use Rattle.node_loop.proofs.TellLemmas.{within-grows}
 

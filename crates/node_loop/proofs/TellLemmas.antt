@@ -1,13 +1,11 @@
 -- What stands as lines are written and datagrams are sent.
-use Rattle.std.proofs.Common.{◌≡◌, ℕ, Bool, true, false, List, [], ◌∷◌, ◌++◌, Option, Some, None, Result, Ok, Err, refl, sym, ap, ◌∙◌, subst, append_assoc, take, take-append-drop, drop}
+use Rattle.std.proofs.Common.{◌≡◌, ℕ, Bool, List, [], ◌++◌, Option, Some, None, Result, Ok, Err, refl, sym, ap, ◌∙◌, subst, append_assoc, take, take-append-drop, drop}
 use Rattle.std.specs.Io.KnownBytes.{Appends}
 use Rattle.std.proofs.KnownBytes.{Appends-nil, Appends-trans}
-use Rattle.ports.specs.Contents.{TookFront}
 use Rattle.ports.specs.Disk.{Moment}
 use Rattle.ports.specs.Link.{LinkState, with_given}
 use Rattle.fields.specs.declared.NoMemory.{NoMemory}
-use Rattle.node_core.specs.Playing.{Kept, IsNode}
-use Rattle.node_core.specs.Told.{IsFront}
+use Rattle.node_core.specs.Playing.{Kept}
 use Rattle.node_core.specs.Spending.{LivesOn}
 use Rattle.node_core.proofs.SpendLemmas.{lives-trans}
 use Rattle.signer.specs.Lives.{Spent}
@@ -16,15 +14,13 @@ use Rattle.node_loop.specs.declared.fault.ServeFault.{ServeFault}
 use Rattle.node_loop.specs.declared.fault.ServeFault.TheVariants as faults
 use Rattle.node_loop.specs.Courses.{Course, writes, fails_next}
 use Rattle.node_loop.specs.Writing.{Before, Standing, standing, IsAt, IsWithin, IsBeyond, Tells, WritesLine, HandsOver, KeepsGiven, Extends}
-use Rattle.node_loop.proofs.CourseLemmas.{Grows, front-refl, front-trans, grows-refl, grows-writes}
+use Rattle.node_loop.proofs.CourseLemmas.{Grows, front-refl, front-trans}
 use Rattle.std.specs.Option.{option_map}
-use Rattle.std.specs.Prelude.{unwrap_or, fold}
+use Rattle.std.specs.Prelude.{unwrap_or}
 use Rattle.ports.specs.Count.{next_count}
 use Rattle.validate.specs.Certified.{certificate_of as kept_certificate}
-use Rattle.journal.specs.declared.event.Event as journal
-use Rattle.journal.specs.declared.event.What.TheVariants as kinds
-use Rattle.node_loop.specs.Courses.{hands_over, port_in, sends_one, writes_event, tells, tells_all, line_of}
-use Rattle.node_loop.proofs.CourseLemmas.{front-append, grows-trans, grows-sent, grows-tells_all}
+use Rattle.node_loop.specs.Courses.{hands_over, port_in}
+use Rattle.node_loop.proofs.CourseLemmas.{front-append}
 
 -- ---- what stands within a course
 

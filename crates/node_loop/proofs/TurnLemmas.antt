@@ -1,5 +1,5 @@
 -- How a turn is served, and the turns one after another.
-use Rattle.std.proofs.Common.{◌≡◌, ℕ, zero, suc, ◌+◌, ◌-◌, ◌<◌, ◌≤◌, ◌⊎◌, inl, inr, Bool, true, false, List, [], ◌∷◌, ◌++◌, Option, Some, None, Result, Ok, Err, length, take, drop, min, replicate, refl, sym, ap, ◌∙◌, subst, append_assoc, append-nil, arith}
+use Rattle.std.proofs.Common.{◌≡◌, ℕ, zero, suc, ◌+◌, ◌-◌, ◌<◌, ◌⊎◌, inl, inr, List, [], ◌∷◌, ◌++◌, Option, Some, Result, Ok, Err, length, take, drop, length-append, length-drop, length-take, refl, sym, ap, ◌∙◌, subst, append_assoc, append-nil, arith}
 use Rattle.std.specs.Prelude.{OnOk}
 use Rattle.ports.specs.Disk.{Moment}
 use Rattle.ports.specs.Link.{LinkState, next_of, received_from}
@@ -10,7 +10,7 @@ use Rattle.node_core.proofs.SpendLemmas.{lives-same}
 use Rattle.ports.specs.declared.link.LinkAnswer.{LinkAnswer}
 use Rattle.std.proofs.KnownBytes.{Appends-nil}
 use Rattle.node_rules.specs.Nodes.{Setting, Node as RulesNode}
-use Rattle.node_rules.specs.Lives.{Delivers, Ticks}
+use Rattle.node_rules.specs.Lives.{Ticks}
 use Rattle.node_loop.specs.declared.fault.ServeFault.{ServeFault}
 use Rattle.node_loop.specs.declared.fault.ServeFault.TheVariants as faults
 use Rattle.journal.specs.declared.turn.Heard.{Heard}
@@ -21,8 +21,7 @@ use Rattle.node_loop.specs.Turns.{Act, Receives, Writes, Calls, Outlook, after_t
 use Rattle.node_loop.specs.Courses.{Course, acted, served, served_from, with_feed, writes}
 use Rattle.node_loop.specs.Writing.{Before, Hears, IsAt, IsWithin, Standing, Tells, before_all, standing}
 use Rattle.node_loop.specs.Serving.{Sees, Serves}
-use Rattle.node_loop.proofs.CourseLemmas.{Grows, coming-turn, front-refl, grows-refl, grows-served, grows-trans, grows-writes, served-append, served-cons, served-nil}
-use Rattle.node_loop.proofs.TellLemmas.{at-within, within-grows}
+use Rattle.node_loop.proofs.CourseLemmas.{Grows, coming-turn, front-refl, grows-served, served-append, served-cons, served-nil}
 use Rattle.node_loop.proofs.ServeLemmas.{breaks-off, serves-last, serves-within}
 
 -- ---- ticks
@@ -275,3 +274,8 @@ life-is millis turns last base coming readings is = ap (λ b. turns_from millis 
 -- what holds of the pace that is kept holds of the one that was asked for
 pub at-pace : (P : ℕ → ℕ → Type 0) (m m1 b b1 : ℕ) → m ≡ m1 → b ≡ b1 → P m b → P m1 b1
 at-pace P m m1 b b1 millis base h = subst (λ x. P m1 x) base (subst (λ x. P x b) millis h)
+
+-- a buffer that is written over keeps its length
+pub length-kept : (k n : ℕ) (xs items : List ℕ) → k ≡ length items → length xs ≡ length items → length items ≡ n → length (take k (xs ++ drop (length xs) items)) ≡ n
+length-kept k n xs items counted same long =
+    length-take k (xs ++ drop (length xs) items) ∙ omega (arith, length-append xs (drop (length xs) items), length-drop (length xs) items, counted, same, long)

@@ -1,5 +1,5 @@
 -- How a line of the journal, and the events of a call, are written and sent.
-use Rattle.std.specs.Prelude.{◌≡◌, ℕ, Bool, true, false, List, ◌++◌, Option, Some, None, Result, Ok, Err, IsOk}
+use Rattle.std.specs.Prelude.{◌≡◌, ℕ, Bool, true, false, List, Option, Some, None, Result, Ok, Err, IsOk}
 use Rattle.std.specs.Io.KnownBytes.{Appends}
 use Rattle.ports.specs.Contents.{TookFront}
 use Rattle.fields.specs.declared.NoMemory.{NoMemory}

@@ -1,4 +1,4 @@
-use Rattle.std.proofs.Common.{◌≡◌, ℕ, List, [], subst, ap, arith}
+use Rattle.std.proofs.Common.{ℕ, List, subst}
 use Rattle.journal.specs.declared.event.Event as journal
 use Rattle.node_core.specs.Answers as core
 use Rattle.node_core.specs.Answers.{Lent}

@@ -1,4 +1,4 @@
-use Rattle.std.proofs.Common.{◌≡◌, ℕ, List, [], subst, ap, arith}
+use Rattle.std.proofs.Common.{ℕ, List, subst, ap, arith}
 use Rattle.journal.specs.declared.event.Event as journal
 use Rattle.node_core.specs.Answers.{Lent}
 use Rattle.node_core.specs.Ticks.{GivesTick}
@@ -27,5 +27,5 @@ returns-clause-serves g c = λ s before r at.
     let spends = subst (λ (es : List journal.Event). SpendsIn done c.args.node.now.signer v.signer older newer es events) c.new-events.ensures c.tick-done.ensures.spends in
     let moment = ap (λ x. x.moment) c.membership.ensures in
     let may = may-count s before _ r at (omega (arith, moment, c.now.ensures.moment, c.if-now-eq18446744073709551615.false, c.now.type_inv)) in
-    serves-tick s before c.args.node.now v (g.L.Link.contents c.args.link.now) (g.L.Link.contents c.settle.new.link) (g.O.Sink.taken c.args.out.now) (g.O.Sink.taken c.settle.new.out) older newer c.args.sent.now c.settle.new.sent r 
+    serves-tick s before c.args.node.now v (g.L.Link.contents c.args.link.now) (g.L.Link.contents c.settle.new.link) (g.O.Sink.taken c.args.out.now) (g.O.Sink.taken c.settle.new.out) older newer c.args.sent.now c.settle.new.sent r
     events out done c.settle.result at may step c.tick-done.ensures.ended spends c.settle.ensures.answers c.settle.ensures.extends (λ r1 at1. c.settle.ensures.settles s before newer r1 at1)

@@ -1,16 +1,16 @@
-use Rattle.std.proofs.Common.{◌≡◌, ◌+◌, ℕ, Err, subst, sym, ap, ◌∙◌, refl, arith, rules}
+use Rattle.std.proofs.Common.{◌≡◌, ◌+◌, ℕ, length, Err, subst, sym, ap, ◌∙◌, refl, arith}
 use Rattle.std.specs.Prelude.{IfErr}
 use Rattle.ports.specs.Count.{Rose}
 use Rattle.node_loop.specs.declared.fault.ServeFault.{ServeFault}
 use Rattle.node_loop.specs.declared.fault.ServeFault.TheVariants as faults
-use Rattle.node_loop.specs.Turns.{Outlook, after_turn, life_acts, turn_acts, turn_in}
+use Rattle.node_loop.specs.Turns.{Outlook, room, after_turn, life_acts, turn_acts, turn_in}
 use Rattle.node_loop.specs.Courses.{Course, served, served_from}
 use Rattle.node_loop.specs.Serving.{Sees, Serves}
 use Rattle.node_loop.specs.Writing.{Before, IsAt, Standing, before_all, standing}
 use Rattle.node_loop.proofs.CallLemmas.{goes-same, goes-trans}
 use Rattle.node_loop.proofs.SendLemmas.{thrown}
 use Rattle.node_loop.proofs.TellLemmas.{at-within}
-use Rattle.node_loop.proofs.TurnLemmas.{Turned, at-pace, base-read, begins-at, begins-seeing, first_outlook, life-is, turned-ends, turned-first, turned-last, turned-next, unheard-turn}
+use Rattle.node_loop.proofs.TurnLemmas.{Turned, at-pace, base-read, begins-at, begins-seeing, first_outlook, length-kept, life-is, turned-ends, turned-first, turned-last, turned-next, unheard-turn}
 use Rattle.node_loop.proofs.serving.serve.Goals as goal
 
 pub returns-in_default-clause-spends : goal.returns-in_default-clause-spends
@@ -23,9 +23,11 @@ returns-in_default-clause-serves g c = λ s n link_told readings is link_is comi
     let link = g.L.Link.contents c.args.link.now in
     let before : Before = before_all taken c.args.node.now.signer moments in
     let start : Course = served_from n link_told in
-    let w : Standing = standing c.args.node.now link taken moments 0 in
-    (0, unheard-turn s before w start (life_acts c.args.millis c.args.turns link_told.coming (g.C.Clock.reading c.args.clock.now) readings)
-    (at-within s before w start (begins-at s c.args.node.now n link taken moments link_told is link_is)))
+    let w : Standing = standing c.args.node.now link taken moments 0 in (
+      0,
+      unheard-turn s before w start (life_acts c.args.millis c.args.turns link_told.coming (g.C.Clock.reading c.args.clock.now) readings)
+          (at-within s before w start (begins-at s c.args.node.now n link taken moments link_told is link_is)),
+    )
 
 pub loop-done-init : goal.loop-done-init
 loop-done-init g c = record {
@@ -52,7 +54,7 @@ loop-done-preserved g c =
       faults = c.in_ok-turn.ensures.faults ∙ h.faults;
       millis = c.in_ok-turn.ensures.kept.1 ∙ h.millis;
       base = c.in_ok-turn.ensures.kept.0 ∙ h.base;
-      room = search rules;
+      room = length-kept c.loop-done.buf.len room c.turn.new.buf c.loop-done.buf.items c.loop-done.buf.ok.0 (let a = c.turn.auto.buf in let b = c.deref_mut.ensures.len in let d = c.deref_mut.ensures.value in omega (arith, a, b, ap length d)) h.room;
       closed = c.in_ok-turn.ensures.closed ∙ h.closed;
       goes = goes-trans _ _ _ _ _ _ h.goes c.in_ok-turn.ensures.spends;
       turned = λ s before o start at sees.
@@ -105,11 +107,12 @@ returns-in_err-turn-clause-serves g c = λ s n link_told readings is link_is com
     let r : Course = served s t.acts start in
     let e : ServeFault = c.in_err-turn.field-0.0 in
     let ended = at-pace (λ m b. Serves s before (turn_acts (turn_in m b (done + 1) t.outlook)) r w1 (Err e)) c.loop-done.progress.millis c.args.millis c.loop-done.progress.base base h.millis h.base
-        (c.in_err-turn.ensures.serves s before r t.outlook t.at t.sees) in
-    let whole = turned-ends s before c.args.millis base c.args.turns done o start w w1 (g.C.Clock.reading c.loop-done.clock) (g.C.Clock.coming c.loop-done.clock) c.loop-done.progress.made e c.loop-done-test.true t ended in
-    (c.turn.new.progress.sent,
-    subst (λ x. Serves s before (life_acts c.args.millis c.args.turns link_told.coming last readings) start w1 x) (sym (thrown c.from_residual.result e c.from_residual.ensures.1))
-    (subst (λ acts. Serves s before acts start w1 (Err e)) (life-is c.args.millis c.args.turns last base link_told.coming readings read.0) whole))
+    (c.in_err-turn.ensures.serves s before r t.outlook t.at t.sees) in
+    let whole = turned-ends s before c.args.millis base c.args.turns done o start w w1 (g.C.Clock.reading c.loop-done.clock) (g.C.Clock.coming c.loop-done.clock) c.loop-done.progress.made e c.loop-done-test.true t ended in (
+      c.turn.new.progress.sent,
+      subst (λ x. Serves s before (life_acts c.args.millis c.args.turns link_told.coming last readings) start w1 x) (sym (thrown c.from_residual.result e c.from_residual.ensures.1))
+          (subst (λ acts. Serves s before acts start w1 (Err e)) (life-is c.args.millis c.args.turns last base link_told.coming readings read.0) whole),
+    )
 
 pub returns-clause-serves : goal.returns-clause-serves
 returns-clause-serves g c = λ s n link_told readings is link_is coming_is.
@@ -130,6 +133,7 @@ returns-clause-serves g c = λ s n link_told readings is link_is coming_is.
     let t : Turned s before c.args.millis base c.args.turns c.loop-done.done o start w reading coming made =
     c.loop-done.invariant.turned s before o start (begins-at s c.args.node.now n link taken moments link_told is link_is) (begins-seeing n link_told (g.C.Clock.reading c.now-base.new.self) base later readings c.now-base.ensures.kept read.1) in
     let all : c.loop-done.done ≡ c.args.turns = omega arith in
-    let last_turn = subst (λ k. Turned s before c.args.millis base c.args.turns k o start w reading coming made) all t in
-    (c.loop-done.progress.sent,
-    subst (λ acts. IsAt s before w (served s acts start)) (life-is c.args.millis c.args.turns last base link_told.coming readings read.0) (turned-last s before c.args.millis base c.args.turns o start w reading coming made last_turn))
+    let last_turn = subst (λ k. Turned s before c.args.millis base c.args.turns k o start w reading coming made) all t in (
+      c.loop-done.progress.sent,
+      subst (λ acts. IsAt s before w (served s acts start)) (life-is c.args.millis c.args.turns last base link_told.coming readings read.0) (turned-last s before c.args.millis base c.args.turns o start w reading coming made last_turn),
+    )

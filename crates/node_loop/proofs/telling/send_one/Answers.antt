@@ -1,5 +1,4 @@
-use Rattle.std.proofs.Common.{◌≡◌, true, false, Ok, Err, subst, sym, ap, ◌∙◌}
-use Rattle.ports.specs.Count.{next_count}
+use Rattle.std.proofs.Common.{◌≡◌, true, false, Ok, Err, subst, sym, ◌∙◌}
 use Rattle.journal.specs.declared.event.What.TheVariants as kinds
 use Rattle.node_loop.specs.declared.fault.ServeFault.{ServeFault}
 use Rattle.node_loop.specs.Courses.{Course, fails_next, hands_over, line_of, sends_one, writes_event}

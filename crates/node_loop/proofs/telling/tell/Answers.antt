@@ -1,4 +1,4 @@
-use Rattle.std.proofs.Common.{◌≡◌, ℕ, List, Some, subst, sym, ap, ◌∙◌, rules}
+use Rattle.std.proofs.Common.{◌≡◌, ℕ, List, Some, sym, ap, ◌∙◌}
 use Rattle.node_loop.specs.Courses.{datagram_in, line_of, sends_one, writes}
 use Rattle.node_loop.specs.Writing.{Standing, standing}
 use Rattle.node_loop.proofs.TellLemmas.{extends-line, written}

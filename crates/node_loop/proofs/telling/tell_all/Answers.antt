@@ -1,4 +1,4 @@
-use Rattle.std.proofs.Common.{◌≡◌, ◌+◌, List, [], ◌∷◌, ◌++◌, Err, take, drop, subst, sym, ap, ◌∙◌, arith, append_assoc, take-append-drop}
+use Rattle.std.proofs.Common.{◌≡◌, ◌+◌, List, [], ◌∷◌, ◌++◌, take, drop, subst, sym, ap, ◌∙◌, arith, append_assoc, take-append-drop}
 use Rattle.std.proofs.lemmas.List.{take_more}
 use Rattle.journal.specs.declared.event.Event as journal
 use Rattle.node_core.proofs.HandleLemmas.{take-all}

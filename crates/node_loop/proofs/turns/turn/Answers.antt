@@ -1,4 +1,4 @@
-use Rattle.std.proofs.Common.{◌≡◌, ◌+◌, ℕ, Ok, Err, subst, sym, ap, ◌∙◌}
+use Rattle.std.proofs.Common.{◌+◌, ℕ, Ok, Err, subst, sym, ap, ◌∙◌}
 use Rattle.journal.specs.declared.turn.Turn.{Turn}
 use Rattle.journal.specs.Turns.{turn_text}
 use Rattle.node_loop.specs.declared.fault.ServeFault.{ServeFault}
@@ -37,7 +37,7 @@ returns-in_err-write_turn_line-clause-serves g c = λ s before r o at0 sees.
     let at : IsAt s before (standing v l0 t0 m sent) r = subst (λ k. IsAt s before (standing v l0 t0 m k) r) (sym (ap (λ x. x.sent) c.next_ticks-ticks.ensures.made)) at0 in
     let made : Turn = record { number = c.args.number; heard = c.in-Ok.heard; ticks = c.next_ticks-ticks.result } in
     let due = seen-turn p.millis p.base c.args.number o r (g.C.Clock.reading c.args.clock.now) (g.C.Clock.coming c.args.clock.now) (g.C.Clock.coming c.now.new.self) p.made c.now.result c.next_ticks-ticks.result c.in-Ok.heard sees c.now.ensures.reads
-        (heard-is s before v l0 l1 t0 m sent r c.in-Ok.heard at c.in-Ok.ensures.hears) c.next_ticks-ticks.ensures.ticks in
+    (heard-is s before v l0 l1 t0 m sent r c.in-Ok.heard at c.in-Ok.ensures.hears) c.next_ticks-ticks.ensures.ticks in
     let heard = at-heard s before v l0 l1 t0 m sent r c.in-Ok.heard at c.in-Ok.ensures.hears in
     let e : ServeFault = c.in_err-write_turn_line.field-0.0 in
     let told = written s before v l1 t0 t1 m sent (with_feed (turn_text made)) (acted s r Receives) (Err e) heard c.in_err-write_turn_line.ensures.wrote in
@@ -59,7 +59,7 @@ returns-in_err-deliver_heard-clause-serves g c = λ s before r o at0 sees.
     let at : IsAt s before (standing v l0 t0 m sent) r = subst (λ k. IsAt s before (standing v l0 t0 m k) r) (sym (ap (λ x. x.sent) c.next_ticks-ticks.ensures.made)) at0 in
     let made : Turn = record { number = c.args.number; heard = c.in-Ok.heard; ticks = c.next_ticks-ticks.result } in
     let due = seen-turn p.millis p.base c.args.number o r (g.C.Clock.reading c.args.clock.now) (g.C.Clock.coming c.args.clock.now) (g.C.Clock.coming c.now.new.self) p.made c.now.result c.next_ticks-ticks.result c.in-Ok.heard sees c.now.ensures.reads
-        (heard-is s before v l0 l1 t0 m sent r c.in-Ok.heard at c.in-Ok.ensures.hears) c.next_ticks-ticks.ensures.ticks in
+    (heard-is s before v l0 l1 t0 m sent r c.in-Ok.heard at c.in-Ok.ensures.hears) c.next_ticks-ticks.ensures.ticks in
     let heard = at-heard s before v l0 l1 t0 m sent r c.in-Ok.heard at c.in-Ok.ensures.hears in
     let told = written s before v l1 t0 t1 m sent (with_feed (turn_text made)) (acted s r Receives) (Ok c.in_ok-write_turn_line.field-0) heard c.in_ok-write_turn_line.ensures.wrote in
     let e : ServeFault = c.in_err-deliver_heard.field-0.0 in
@@ -85,7 +85,7 @@ returns-clause-serves g c = λ s before r o at0 sees.
     let at : IsAt s before (standing v l0 t0 m sent) r = subst (λ k. IsAt s before (standing v l0 t0 m k) r) (sym (ap (λ x. x.sent) c.next_ticks-ticks.ensures.made)) at0 in
     let made : Turn = record { number = c.args.number; heard = c.in-Ok.heard; ticks = c.next_ticks-ticks.result } in
     let due = seen-turn p.millis p.base c.args.number o r (g.C.Clock.reading c.args.clock.now) (g.C.Clock.coming c.args.clock.now) (g.C.Clock.coming c.now.new.self) p.made c.now.result c.next_ticks-ticks.result c.in-Ok.heard sees c.now.ensures.reads
-        (heard-is s before v l0 l1 t0 m sent r c.in-Ok.heard at c.in-Ok.ensures.hears) c.next_ticks-ticks.ensures.ticks in
+    (heard-is s before v l0 l1 t0 m sent r c.in-Ok.heard at c.in-Ok.ensures.hears) c.next_ticks-ticks.ensures.ticks in
     let heard = at-heard s before v l0 l1 t0 m sent r c.in-Ok.heard at c.in-Ok.ensures.hears in
     let told = written s before v l1 t0 t1 m sent (with_feed (turn_text made)) (acted s r Receives) (Ok c.in_ok-write_turn_line.field-0) heard c.in_ok-write_turn_line.ensures.wrote in
     let r1 : Course = writes (with_feed (turn_text made)) (acted s r Receives) in
@@ -106,7 +106,7 @@ returns-clause-sees g c = λ s before r o at sees.
     let readings = g.C.Clock.coming c.args.clock.now in
     let later = g.C.Clock.coming c.now.new.self in
     let due = seen-turn p.millis p.base c.args.number o r reading readings later p.made c.now.result c.next_ticks-ticks.result c.in-Ok.heard sees c.now.ensures.reads
-        (heard-is s before v l0 l1 t0 m p.sent r c.in-Ok.heard at c.in-Ok.ensures.hears) c.next_ticks-ticks.ensures.ticks in
+    (heard-is s before v l0 l1 t0 m p.sent r c.in-Ok.heard at c.in-Ok.ensures.hears) c.next_ticks-ticks.ensures.ticks in
     let read = read-next o r reading readings later p.made c.now.result sees c.now.ensures.reads in
     on-any c.tick_times.result _
     (sees-after s p.millis p.base c.args.number o r reading readings p.made (g.C.Clock.reading c.now.new.self) later c.next_ticks-ticks.new.self.made sees (c.now.ensures.kept ∙ read.0) read.1
