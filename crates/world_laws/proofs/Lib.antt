@@ -12,3 +12,4 @@ mod Verified
 mod Removing
 mod Keyed
 mod Rows
+mod Walking

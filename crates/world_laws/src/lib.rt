@@ -3,6 +3,7 @@
 #![tactic(auto)]
 
 ghost use Rattle.world_laws.specs.Laws.{RostersAreKept, OwnAheadNeverComes, TheRemovedHadSigned, NodesAccuseTheSilent, AcceptedAccusationsWereSigned, KeysVerify, RemovalsAreVerified};
+ghost use Rattle.world_laws.specs.Texts.{TextsComeToWorlds};
 
 /// In every life a node keeps the authority's certificates of the members, and no others.
 pub fn rosters_are_kept()
@@ -38,4 +39,11 @@ pub fn keys_verify()
 /// of that accusation verifies under the key of the accuser's certificate, as the node keeps it.
 pub fn removals_are_verified()
     ensures { RemovalsAreVerified }
+{}
+
+/// Whatever a text in the world form is, and whatever ends it: as soon as its roster is whole, the lines that were taken
+/// lead to its world, none of them is forged, and what was told is what they tell. Nobody in it is both a node and a
+/// liar, the group has its rings, and what is signed with its keys verifies under them.
+pub fn texts_come_to_worlds()
+    ensures { TextsComeToWorlds }
 {}

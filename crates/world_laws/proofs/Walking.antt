@@ -1,0 +1,200 @@
+-- The walk over a text in the world form comes to a world to which its lines lead.
+use Rattle.std.proofs.Common.{◌≡◌, ◌⊎◌, ℕ, ◌<◌, ◌≤◌, true, eqb, List, [], ◌∷◌, ◌++◌, Option, Some, None, inl, inr, refl, ap, sym, subst, arith}
+use Rattle.std.specs.Prelude.{Result, Ok, Err, IsTrue}
+use Rattle.std.specs.List.{list_any}
+use Rattle.std.proofs.lemmas.Bool.{eqb-true, false≢true, false_from_ne_true}
+use Rattle.std.proofs.lemmas.List.{append_assoc}
+use Rattle.ff_ids.specs.declared.TheConstants.{MEMBERS}
+use Rattle.ff_ids.specs.declared.Group.{Group}
+use Rattle.lms_ots.specs.declared.OtsKind.{OtsKind}
+use Rattle.lms_tree.specs.declared.TreeKind.{TreeKind}
+use Rattle.life_laws.proofs.Lists.{In, Contains-from_In, In-append_left, In-append_right, In-append_cases, some_passes}
+use Rattle.line_text.specs.declared.bad_word.BadWord.{BadWord}
+use Rattle.line_text.specs.Answers.{Progress, next_line}
+use Rattle.line_text.proofs.FrameLemmas.{judge-spelled}
+use Rattle.schedule_world.specs.declared.line.WorldLine.{WorldLine}
+use Rattle.schedule_world.specs.declared.line.WorldLine.TheVariants as lines
+use Rattle.schedule_world.specs.declared.text.WorldText.{WorldText}
+use Rattle.schedule_world.specs.declared.text.WorldText.TheVariants as world
+use Rattle.schedule_world.specs.Rows.{has_node, is_body, is_ended, is_grouped, is_headed, is_roster, is_start, row_for}
+use Rattle.schedule_world.specs.Grammar.{InRange, IsWorld, Stands, after, behind, judge, opening}
+use Rattle.schedule_world.specs.Laws.{world-spelled}
+use Rattle.world_rules.specs.Settings.{Setting}
+use Rattle.world_rules.specs.Keys.{setting_for}
+use Rattle.world_rules.specs.Worlds.{World, begun_world}
+use Rattle.world_rules.specs.Forgeries.{Forgery}
+use Rattle.world_rules.specs.Steps.{Answer, Told, step}
+use Rattle.world_rules.specs.Walk.{Brought, Lists, Plays, Roster, Stage, Walk, at_end, brought, events_in, from_answer, from_line, listed, no_roster, setting_in, stepped, walk}
+use Rattle.world_rules.specs.Laws.{IsSetting, opens_so, goes}
+use Rattle.world_laws.specs.Texts.{IsComeTo, IsPlayed, TextsComeToWorlds, end_fault, world_grammar}
+use Rattle.world_laws.proofs.Keyed.{keys-verify}
+
+-- ---- rosters
+
+-- Nobody is listed.
+pub record IsEmpty (r : Roster) : Type 0 where
+  pub nodes : r.correct ≡ []
+  pub liars : r.liars ≡ []
+
+pub record HasGroup (r : Roster) : Type 0 where
+  pub some : 1 ≤ r.group.t
+  pub few : r.group.t ≤ 15
+
+-- Who is listed is among the names, and the nodes and the liars are apart.
+pub record IsNamed (r : Roster) (names : List ℕ) : Type 0 where
+  pub group : HasGroup r
+  pub nodes : (m : ℕ) → In r.correct m → In names m
+  pub liars : (m : ℕ) → In r.liars m → In names m
+  pub numbered : (m : ℕ) → In r.correct m → m < MEMBERS
+  pub apart : (m : ℕ) → In r.correct m → In r.liars m → ⊥
+
+-- What is known of a roster, by how far the text has come.
+abbrev pub Fits : WorldText → Roster → Type 0
+Fits world.Start r = IsEmpty r
+Fits world.Headed r = IsEmpty r
+Fits (world.Grouped t) r = IsEmpty r × HasGroup r
+Fits (world.Roster t names node) r = IsNamed r names
+Fits (world.Body t ticks) r = ⊥
+Fits world.Ended r = ⊥
+
+listed-in : (xs : List ℕ) (m : ℕ) → list_any (λ x. eqb x m) xs ≡ true → In xs m
+listed-in xs m e = let r = some_passes _ xs e in subst (In xs) (eqb-true r.0 m r.1.1) r.1.0
+
+setting-fits : (r : Roster) (names : List ℕ) → IsNamed r names → IsSetting (setting_in r)
+unfolding setting_for
+setting-fits r names h =
+    record {
+      some = h.group.some;
+      few = h.group.few;
+      numbered = λ m is. h.numbered m (listed-in r.correct m is);
+      apart = λ m is. false_from_ne_true _ (λ liar. h.apart m (listed-in r.correct m is) (listed-in r.liars m liar));
+    }
+
+last-of : (xs : List ℕ) (k m : ℕ) → In (xs ++ k ∷ []) m → In xs m ⊎ (k ≡ m)
+last-of xs k m i = elim (In-append_cases xs (k ∷ []) m i) [ inl old ↦ inl old | inr (inl is) ↦ inr is | inr (inr none) ↦ absurd none ]
+
+-- ---- a line of a roster
+
+header-line : (form : WorldText) (r : Roster) → IsTrue (is_start form) → Fits form r → Fits world.Headed r
+header-line world.Start r stands h = h
+header-line _ r stands h = absurd (false≢true stands)
+
+group-line : (form : WorldText) (r : Roster) (g : Group) → IsTrue (is_headed form) → InRange form (lines.Group g) → Fits form r → Fits (world.Grouped g.t) (record r { group = g })
+group-line world.Headed r g stands range h = (record { nodes = h.nodes; liars = h.liars }, record { some = range.0; few = range.1 })
+group-line _ r g stands range h = absurd (false≢true stands)
+
+kinds-line : (form : WorldText) (r : Roster) (ots : OtsKind) (tree : TreeKind) → IsTrue (is_grouped form) → Fits form r → Fits (after form (lines.Kinds ots tree)) (record r { ots = ots; tree = tree })
+kinds-line (world.Grouped t) r ots tree stands h =
+    record {
+      group = record { some = h.1.some; few = h.1.few };
+      nodes = λ m i. subst (λ xs. In xs m) h.0.nodes i;
+      liars = λ m i. subst (λ xs. In xs m) h.0.liars i;
+      numbered = λ m i. absurd (subst (λ xs. In xs m) h.0.nodes i);
+      apart = λ m i j. subst (λ xs. In xs m) h.0.nodes i;
+    }
+kinds-line _ r ots tree stands h = absurd (false≢true stands)
+
+node-line : (form : WorldText) (r : Roster) (m : ℕ) → IsTrue (is_roster form) → InRange form (lines.Node m) → Fits form r → Fits (after form (lines.Node m)) (record r { correct = r.correct ++ m ∷ [] })
+node-line (world.Roster t names node) r m stands range h =
+    record {
+      group = record { some = h.group.some; few = h.group.few };
+      nodes = λ k i. elim (last-of r.correct m k i) [ inl old ↦ In-append_left names (m ∷ []) k (h.nodes k old) | inr is ↦ In-append_right names (m ∷ []) k (inl is) ];
+      liars = λ k i. In-append_left names (m ∷ []) k (h.liars k i);
+      numbered = λ k i. elim (last-of r.correct m k i) [ inl old ↦ h.numbered k old | inr is ↦ omega (arith, is, range.range) ];
+      apart = λ k i j. elim (last-of r.correct m k i) [ inl old ↦ h.apart k old j | inr is ↦ range.unnamed (Contains-from_In names m (h.liars m (subst (In r.liars) (sym is) j))) ];
+    }
+node-line _ r m stands range h = absurd (false≢true stands)
+
+liar-line : (form : WorldText) (r : Roster) (m : ℕ) → IsTrue (is_roster form) → InRange form (lines.Liar m) → Fits form r → Fits (after form (lines.Liar m)) (record r { liars = r.liars ++ m ∷ [] })
+liar-line (world.Roster t names node) r m stands range h =
+    record {
+      group = record { some = h.group.some; few = h.group.few };
+      nodes = λ k i. In-append_left names (m ∷ []) k (h.nodes k i);
+      liars = λ k i. elim (last-of r.liars m k i) [ inl old ↦ In-append_left names (m ∷ []) k (h.liars k old) | inr is ↦ In-append_right names (m ∷ []) k (inl is) ];
+      numbered = h.numbered;
+      apart = λ k i j. elim (last-of r.liars m k j) [ inl old ↦ h.apart k i old | inr is ↦ range.unnamed (Contains-from_In names m (h.nodes m (subst (In r.correct) (sym is) i))) ];
+    }
+liar-line _ r m stands range h = absurd (false≢true stands)
+
+begin-line : (form : WorldText) (r : Roster) → IsTrue (has_node form) → Fits form r → IsPlayed (setting_in r) (begun_world (setting_in r)) []
+begin-line (world.Roster t names node) r stands h = record { fits = setting-fits r names h; verify = keys-verify r.group r.ots r.tree r.correct r.liars; reached = opens_so }
+begin-line _ r stands h = absurd (false≢true stands)
+
+no-body : (form : WorldText) (r : Roster) → IsTrue (is_body form) → Fits form r → ⊥
+no-body (world.Body t ticks) r stands h = h
+no-body _ r stands h = absurd (false≢true stands)
+
+abbrev pub IsAt : WorldText → Stage → List Told → Type 0
+IsAt form (Lists r) told = Fits form r × (told ≡ [])
+IsAt form (Plays s w) told = IsPlayed s w told
+
+roster-line : (form : WorldText) (r : Roster) (l : WorldLine) → Stands form l → InRange form l → Fits form r → IsAt (after form l) (listed setting_in r l) []
+roster-line form r lines.Header stands range h = (header-line form r stands h, refl)
+roster-line form r (lines.Group g) stands range h = (group-line form r g stands range h, refl)
+roster-line form r (lines.Kinds ots tree) stands range h = (kinds-line form r ots tree stands h, refl)
+roster-line form r (lines.Node m) stands range h = (node-line form r m stands range h, refl)
+roster-line form r (lines.Liar m) stands range h = (liar-line form r m stands range h, refl)
+roster-line form r lines.Begin stands range h = begin-line form r stands h
+roster-line form r l stands range h = absurd (no-body form r stands h)
+
+-- ---- a line
+
+played-step : (form : WorldText) (s : Setting) (w : World) (told : List Told) (l : WorldLine) (r : Result Answer Forgery) (b : Brought) → step s w l ≡ r → stepped s r ≡ Ok b → IsPlayed s w told → IsAt form b.stage (told ++ b.told)
+played-step form s w told l (Err found) b is e h = cc
+played-step form s w told l (Ok a) b is e h =
+    subst (λ (x : Brought). IsAt form x.stage (told ++ x.told)) (ok-is _ _ e)
+    (record { fits = h.fits; verify = h.verify; reached = goes w told l a h.reached is })
+  where
+    ok-is : (x y : Brought) → (let r : Result Brought Forgery = Ok x in r) ≡ Ok y → x ≡ y
+    ok-is x y e = cc
+
+line-at : (p : Progress WorldText) (bytes : List ℕ) (l : WorldLine) (stage : Stage) (told : List Told) (b : Brought) → judge p bytes ≡ Ok l → brought setting_in stage l ≡ Ok b → IsAt p.form stage told → IsAt (behind p l).form b.stage (told ++ b.told)
+line-at p bytes l (Lists r) told b judged e h =
+    let is = judge-spelled (next_line is_ended row_for p) (IsWorld p.form) (world-spelled p.form) bytes l judged in
+    subst (λ (x : Brought). IsAt (after p.form l) x.stage (told ++ x.told)) (ok-is _ _ e)
+    (subst (λ xs. IsAt (after p.form l) (listed setting_in r l) (xs ++ [])) (sym h.1) (roster-line p.form r l is.spells.stands is.spells.in_range h.0))
+  where
+    ok-is : (x y : Brought) → (let r : Result Brought Forgery = Ok x in r) ≡ Ok y → x ≡ y
+    ok-is x y e = cc
+line-at p bytes l (Plays s w) told b judged e h = played-step (after p.form l) s w told l (step s w l) b refl e h
+
+-- ---- the walk
+
+at-come : (form : WorldText) (stage : Stage) (told : List Told) → IsAt form stage told → IsComeTo stage told
+at-come form (Lists r) told h = h.1
+at-come form (Plays s w) told h = h
+
+nil-right : {A : Type 0} (xs : List A) → xs ++ [] ≡ xs
+nil-right [] = refl
+nil-right (x ∷ xs) = ap (λ ys. x ∷ ys) (nil-right xs)
+
+-- The walk ends here.
+ended : (form : WorldText) (stage : Stage) (told : List Told) → IsAt form stage told → IsComeTo stage (told ++ [])
+ended form stage told h = subst (IsComeTo stage) (sym (nil-right told)) (at-come form stage told h)
+
+end-come : (form : WorldText) (stage : Stage) (told : List Told) (fault : Option BadWord) → IsAt form stage told → let w = at_end stage fault in IsComeTo w.stage (told ++ events_in w)
+end-come form stage told None h = ended form stage told h
+end-come form stage told (Some bad) h = ended form stage told h
+
+-- The lines behind come to that.
+abbrev Comes : (WorldLine → List ℕ) → List (List ℕ) → Progress WorldText → Type 0
+Comes spelled rest p = (stage : Stage) (told : List Told) → IsAt p.form stage told → let w = walk (world_grammar spelled) setting_in rest p stage in IsComeTo w.stage (told ++ events_in w)
+
+answer-come : (spelled : WorldLine → List ℕ) (rest : List (List ℕ)) (p : Progress WorldText) (bytes : List ℕ) (stage : Stage) (told : List Told) (l : WorldLine) (r : Result Brought Forgery)
+    → judge p bytes ≡ Ok l → brought setting_in stage l ≡ r → IsAt p.form stage told → Comes spelled rest (behind p l) → let w = from_answer stage l r (λ after. walk (world_grammar spelled) setting_in rest (behind p l) after) in IsComeTo w.stage (told ++ events_in w)
+answer-come spelled rest p bytes stage told l (Err found) judged is h later = ended p.form stage told h
+answer-come spelled rest p bytes stage told l (Ok b) judged is h later =
+    let w : Walk = walk (world_grammar spelled) setting_in rest (behind p l) b.stage in
+    subst (IsComeTo w.stage) (append_assoc told b.told (events_in w)) (later b.stage (told ++ b.told) (line-at p bytes l stage told b judged is h))
+
+line-come : (spelled : WorldLine → List ℕ) (rest : List (List ℕ)) (p : Progress WorldText) (bytes : List ℕ) (stage : Stage) (told : List Told) (r : Result WorldLine BadWord)
+    → judge p bytes ≡ r → IsAt p.form stage told → ((l : WorldLine) → Comes spelled rest (behind p l)) → let w = from_line setting_in stage r (λ l after. walk (world_grammar spelled) setting_in rest (behind p l) after) in IsComeTo w.stage (told ++ events_in w)
+line-come spelled rest p bytes stage told (Err bad) is h later = ended p.form stage told h
+line-come spelled rest p bytes stage told (Ok l) is h later = answer-come spelled rest p bytes stage told l (brought setting_in stage l) is refl h (later l)
+
+walk-come : (spelled : WorldLine → List ℕ) (text : List (List ℕ)) (p : Progress WorldText) → Comes spelled text p
+walk-come spelled [] p = λ stage told h. end-come p.form stage told (end_fault p) h
+walk-come spelled (bytes ∷ rest) p = λ stage told h. line-come spelled rest p bytes stage told (judge p bytes) refl h (λ l. walk-come spelled rest (behind p l))
+
+pub texts-come : TextsComeToWorlds
+texts-come spelled text = walk-come spelled text opening (Lists no_roster) [] (record { nodes = refl; liars = refl }, refl)
