@@ -24,10 +24,13 @@ use Rattle.world_rules.specs.Keys.{setting_for}
 use Rattle.world_rules.specs.Worlds.{World, begun_world}
 use Rattle.world_rules.specs.Forgeries.{Forgery}
 use Rattle.world_rules.specs.Steps.{Answer, Told, step}
-use Rattle.world_rules.specs.Walk.{Brought, Lists, Plays, Roster, Stage, Walk, at_end, brought, events_in, from_answer, from_line, listed, no_roster, setting_in, stepped, walk}
+use Rattle.world_rules.specs.Walk.{Brought, Lists, Plays, Roster, Stage, Walk, at_end, brought, events_in, from_answer, from_line, listed, no_roster, setting_in, stepped, walk, walk_over}
 use Rattle.world_rules.specs.Laws.{IsSetting, opens_so, goes}
-use Rattle.world_laws.specs.Texts.{IsComeTo, IsPlayed, TextsComeToWorlds, end_fault, world_grammar}
+use Rattle.world_laws.specs.Texts.{IsComeTo, IsLawful, IsLawfulStage, IsPlayed, TextsAreLawful, TextsComeToWorlds, end_fault, world_grammar}
+use Rattle.world_rules.proofs.Once.{nodes-once}
 use Rattle.world_laws.proofs.Keyed.{keys-verify}
+use Rattle.world_laws.proofs.Lawful.{accepted-signed, accuse-silent, never-ahead, removed-signed}
+use Rattle.world_laws.proofs.Removing.{removals-verified}
 
 -- ---- rosters
 
@@ -198,3 +201,27 @@ walk-come spelled (bytes ∷ rest) p = λ stage told h. line-come spelled rest p
 
 pub texts-come : TextsComeToWorlds
 texts-come spelled text = walk-come spelled text opening (Lists no_roster) [] (record { nodes = refl; liars = refl }, refl)
+
+-- ---- what holds of it
+
+played-lawful : (s : Setting) (w : World) (told : List Told) → IsPlayed s w told → IsLawful s w told
+played-lawful s w told h =
+    let accepted = accepted-signed s w told h.fits h.reached in
+    record {
+      removals = λ t m among is. removals-verified s w told t m h.fits h.verify h.reached among is;
+      once = λ m is. nodes-once s w told m h.fits h.reached is;
+      none_ahead = never-ahead s w told h.fits h.reached;
+      had_signed = λ who. removed-signed s w told who h.fits h.reached;
+      signed = λ m index a is spent. accuse-silent s w told m index a h.fits h.reached is spent;
+      lived = accepted.0;
+      accepted = accepted.1;
+    }
+
+come-lawful : (stage : Stage) (told : List Told) → IsComeTo stage told → IsLawfulStage stage told
+come-lawful (Lists r) told h = h
+come-lawful (Plays s w) told h = played-lawful s w told h
+
+pub texts-lawful : TextsAreLawful
+texts-lawful spelled text =
+    let w : Walk = walk_over (world_grammar spelled) setting_in text in
+    come-lawful w.stage (events_in w) (texts-come spelled text)

@@ -1,5 +1,10 @@
 -- Whole texts in the world form: what comes of one is a world to which its lines lead.
-use Rattle.std.specs.Prelude.{◌≡◌, ℕ, if◌then◌else◌, List, [], Option, Some, None}
+use Rattle.std.specs.Prelude.{◌≡◌, ℕ, true, false, if◌then◌else◌, List, [], Contains, Option, Some, None}
+use Rattle.std.specs.List.{AllByRecursion}
+use Rattle.ff_ids.specs.declared.AccBody.{AccBody}
+use Rattle.records.specs.declared.Body.TheVariants.{Accusation}
+use Rattle.signer.specs.Lives.{IsOnce}
+use Rattle.journal.specs.declared.event.What.TheVariants as happened
 use Rattle.line_text.specs.declared.bad_word.BadWord.{BadWord}
 use Rattle.line_text.specs.declared.bad_word.BadWord.TheVariants as bad
 use Rattle.line_text.specs.Answers.{Progress}
@@ -7,12 +12,13 @@ use Rattle.schedule_world.specs.declared.line.WorldLine.{WorldLine}
 use Rattle.schedule_world.specs.declared.text.WorldText.{WorldText}
 use Rattle.schedule_world.specs.Rows.{is_ended}
 use Rattle.schedule_world.specs.Grammar.{behind, judge, opening}
-use Rattle.world_rules.specs.Settings.{Setting}
-use Rattle.world_rules.specs.Worlds.{World}
+use Rattle.world_rules.specs.Settings.{Setting, is_node}
+use Rattle.world_rules.specs.Worlds.{World, lives_of, spent_of}
 use Rattle.world_rules.specs.Steps.{Told}
 use Rattle.world_rules.specs.Walk.{Grammar, Stage, Lists, Plays, events_in, setting_in, walk_over}
 use Rattle.world_rules.specs.Laws.{IsSetting, Reached}
-use Rattle.world_laws.specs.Laws.{SignaturesVerify}
+use Rattle.world_laws.specs.Signing.{HasSpentOn, SignedAtTick}
+use Rattle.world_laws.specs.Laws.{is_own_ahead, RemovesRightly, AccusesRightly, AcceptsRightly, RestsOnVerified, SignaturesVerify}
 
 -- The text may end only behind its last line.
 abbrev pub end_fault : Progress WorldText → Option BadWord
@@ -37,3 +43,27 @@ IsComeTo (Plays s w) told = IsPlayed s w told
 -- Whatever the text is, and whatever ends it: with the lines that were taken it has come to that.
 abbrev pub TextsComeToWorlds : Type 0
 TextsComeToWorlds = (spelled : WorldLine → List ℕ) (text : List (List ℕ)) → let w = walk_over (world_grammar spelled) setting_in text in IsComeTo w.stage (events_in w)
+
+-- ---- what holds of all of them
+
+-- Each removal that was told of a node rests on an accusation that stood for the timeout, whose record verifies under the
+-- key of the accuser's certificate. What each node's key spent, over all its lives, rises in index and, for notes, in
+-- epoch. No note was ahead of a node's own. A node that was removed anywhere had itself signed the note of that
+-- accusation's epoch with that accusation's ring enabled. And each accusation of a node's, signed by it or accepted by
+-- anyone, was signed by it at a tick at which the accused was silent there.
+pub record IsLawful (s : Setting) (w : World) (told : List Told) : Type 0 where
+  pub removals : (t : Told) (m : ℕ) → Contains told t → t.event.what ≡ happened.Removed m → RestsOnVerified s w t.who m
+  pub once : (m : ℕ) → is_node s m ≡ true → IsOnce (spent_of w (Some m))
+  pub none_ahead : AllByRecursion (λ t. is_own_ahead t.event.what ≡ false) told
+  pub had_signed : (who : ℕ) → AllByRecursion (RemovesRightly s w) (lives_of w who)
+  pub signed : (m index : ℕ) (a : AccBody) → is_node s m ≡ true → HasSpentOn w (Some m) index (Accusation a) → (a.accuser ≡ m) × SignedAtTick s w index a
+  pub lived : (who : ℕ) → AllByRecursion (λ life. AllByRecursion (AccusesRightly s w) life.node.lived) (lives_of w who)
+  pub accepted : AllByRecursion (λ t. AcceptsRightly s w t.event.what) told
+
+abbrev pub IsLawfulStage : Stage → List Told → Type 0
+IsLawfulStage (Lists roster) told = told ≡ []
+IsLawfulStage (Plays s w) told = IsLawful s w told
+
+-- So is what comes of any text.
+abbrev pub TextsAreLawful : Type 0
+TextsAreLawful = (spelled : WorldLine → List ℕ) (text : List (List ℕ)) → let w = walk_over (world_grammar spelled) setting_in text in IsLawfulStage w.stage (events_in w)

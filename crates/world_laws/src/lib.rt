@@ -3,7 +3,7 @@
 #![tactic(auto)]
 
 ghost use Rattle.world_laws.specs.Laws.{RostersAreKept, OwnAheadNeverComes, TheRemovedHadSigned, NodesAccuseTheSilent, AcceptedAccusationsWereSigned, KeysVerify, RemovalsAreVerified};
-ghost use Rattle.world_laws.specs.Texts.{TextsComeToWorlds};
+ghost use Rattle.world_laws.specs.Texts.{TextsAreLawful, TextsComeToWorlds};
 
 /// In every life a node keeps the authority's certificates of the members, and no others.
 pub fn rosters_are_kept()
@@ -46,4 +46,10 @@ pub fn removals_are_verified()
 /// liar, the group has its rings, and what is signed with its keys verifies under them.
 pub fn texts_come_to_worlds()
     ensures { TextsComeToWorlds }
+{}
+
+/// What holds of all worlds holds of what any text in the world form comes to: its removals, what its nodes have signed
+/// and whom they have accused are as the other laws say.
+pub fn texts_are_lawful()
+    ensures { TextsAreLawful }
 {}
