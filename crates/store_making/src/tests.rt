@@ -10,7 +10,7 @@ use std::alloc::Global;
 use std::test::Fail;
 
 const SECRET: &str = "fireflies 1 secret\n\
-    group 1 4 1 2 00000000000000000000000000000000\nkinds 8 5\n\
+    group 1 4 1 2 00000000000000000000000000000000\nkinds 2 5\n\
     secret 5a5a5a5a5a5a5a5a5a5a5a5a5a5a5a5a5a5a5a5a5a5a5a5a5a5a5a5a5a5a5a5a\nend\n";
 
 /// A source of the text.
@@ -42,7 +42,7 @@ fn a_store_is_made_once(rt: HostRuntime) -> Result<(), Fail> {
         Ok(())
     );
     assert_eq!(rt; out.bytes().len(), 117);
-    assert_eq!(rt; &out.bytes()[..20], b"key 0000000500000004".as_slice());
+    assert_eq!(rt; &out.bytes()[..20], b"key 0000000500000002".as_slice());
     assert_eq!(rt; disk.image().len(), 58);
     let mut input = source(rt.alloc(), SECRET)?;
     let mut out = sink(rt.alloc())?;
@@ -72,7 +72,7 @@ fn a_disk_that_fails_is_answered(rt: HostRuntime) -> Result<(), Fail> {
 #[test]
 fn a_bad_text_makes_nothing(rt: HostRuntime) -> Result<(), Fail> {
     let mut disk = disk(rt.alloc(), &[0])?;
-    let mut input = source(rt.alloc(), "fireflies 1 secret\nkinds 8 5\n")?;
+    let mut input = source(rt.alloc(), "fireflies 1 secret\nkinds 2 5\n")?;
     let mut out = sink(rt.alloc())?;
     assert_eq!(rt;
         make_store(rt.alloc(), "a.st", &mut input, &mut out, &mut disk),

@@ -1,0 +1,3 @@
+pub mod SigningLemmas
+pub mod OpeningLemmas
+pub mod EnrolLemmas

@@ -1,0 +1,52 @@
+use Rattle.std.proofs.Common.{◌≡◌, ◌∙◌, ℕ, List, ap, refl, subst, inr}
+use Rattle.std.specs.Io.KnownBytes.{Appends}
+use Rattle.records.specs.declared.Body.TheVariants.{Certificate}
+use Rattle.authority.specs.OfDisk.{of_disk}
+use Rattle.enrolment.specs.Lines.{cert_line, signed_line}
+use Rattle.enrolment.specs.Signing.{line_next}
+use Rattle.play.specs.Plays.{standing}
+use Rattle.ports.specs.Contents.{TookFront}
+use Rattle.records.specs.Signing.{CheckedRecord}
+use Rattle.enrolment.proofs.SigningLemmas.{not-signed, one-signed}
+use Rattle.enrolment.proofs.signing.sign_one.Goals as goal
+
+pub returns-in-Err-clause-signs : goal.returns-in-Err-clause-signs
+returns-in-Err-clause-signs g c = λ left reads.
+    rw c.halt_of.ensures
+    (not-signed c.args.cert c.args.signer.now c.sign_certificate.new.self (standing left (g.O.Sink.taken c.args.out.now) reads (g.O.Sink.faults c.args.out.now))
+    (of_disk (g.D.Disk.faults c.args.disk.now) (g.D.Disk.calls c.args.disk.now) (g.D.Disk.moments c.args.disk.now))
+    (of_disk (g.D.Disk.faults c.sign_certificate.new.disk) (g.D.Disk.calls c.sign_certificate.new.disk) (g.D.Disk.moments c.sign_certificate.new.disk))
+    c.in-Err.fault c.requires.going c.in-Err.ensures)
+
+pub returns-in-Ok-write_all-clause-signs : goal.returns-in-Ok-write_all-clause-signs
+unfolding signed_line
+returns-in-Ok-write_all-clause-signs g c = λ left reads.
+    let line : c.as_bytes.result.now ≡ line_next c.args.signer.now c.args.cert =
+    c.as_bytes.ensures.value ∙ c.in-Ok-cert_line.ensures ∙ ap (cert_line c.args.cert) (c.as_slice.ensures ∙ ap (λ r. r.signature) c.rec.ensures.value ∙ ap (λ (r : CheckedRecord). r.rec.signature) c.in-Ok.ensures.signed) in (
+      one-signed c.args.cert c.args.signer.now c.sign_certificate.new.self
+          (of_disk (g.D.Disk.faults c.args.disk.now) (g.D.Disk.calls c.args.disk.now) (g.D.Disk.moments c.args.disk.now))
+          (of_disk (g.D.Disk.faults c.sign_certificate.new.disk) (g.D.Disk.calls c.sign_certificate.new.disk) (g.D.Disk.moments c.sign_certificate.new.disk))
+          c.in-Ok.signed c.requires.going c.in-Ok.ensures,
+      record {
+        wrote = subst (Appends (g.O.Sink.taken c.args.out.now) (g.O.Sink.taken c.write_all.new.out)) line c.in-Ok-write_all.ensures.wrote;
+        left = refl;
+        unfailed = record { reads = refl; writes = c.in-Ok-write_all.ensures.faults };
+      },
+    )
+
+pub returns-clause-signs : goal.returns-clause-signs
+unfolding signed_line
+returns-clause-signs g c = λ left reads.
+    let line : c.as_bytes.result.now ≡ line_next c.args.signer.now c.args.cert =
+    c.as_bytes.ensures.value ∙ c.in-Ok-cert_line.ensures ∙ ap (cert_line c.args.cert) (c.as_slice.ensures ∙ ap (λ r. r.signature) c.rec.ensures.value ∙ ap (λ (r : CheckedRecord). r.rec.signature) c.in-Ok.ensures.signed) in (
+      one-signed c.args.cert c.args.signer.now c.sign_certificate.new.self
+          (of_disk (g.D.Disk.faults c.args.disk.now) (g.D.Disk.calls c.args.disk.now) (g.D.Disk.moments c.args.disk.now))
+          (of_disk (g.D.Disk.faults c.sign_certificate.new.disk) (g.D.Disk.calls c.sign_certificate.new.disk) (g.D.Disk.moments c.sign_certificate.new.disk))
+          c.in-Ok.signed c.requires.going c.in-Ok.ensures,
+      record {
+        wrote = subst (TookFront (g.O.Sink.taken c.args.out.now) (g.O.Sink.taken c.write_all.new.out)) line c.in-Err-write_all.ensures.wrote;
+        left = refl;
+        reads = refl;
+        writes = c.in-Err-write_all.ensures.faults;
+      },
+    )

@@ -1,0 +1,97 @@
+-- What the signing of certificates does: to the key, to the disk, and to what was written, by the answer.
+use Rattle.std.specs.Prelude.{◌≡◌, ℕ, ◌+◌, ◌<◌, ◌≤◌, ◌⊎◌, false, List, [], ◌∷◌, ◌++◌, length, map, take, Result, Ok, Err}
+use Rattle.std.specs.Io.KnownBytes.{Appends}
+use Rattle.epoch_store.specs.Store.{IsSettled}
+use Rattle.lms_tree.specs.Kinds.{leaf_count}
+use Rattle.play.specs.Plays.{Standing}
+use Rattle.ports.specs.Count.{next_count}
+use Rattle.records.specs.declared.Body.TheVariants.{Certificate}
+use Rattle.records.specs.declared.CertBody.{CertBody}
+use Rattle.schedule_texts.specs.declared.line.RosterLine.{RosterLine}
+use Rattle.schedule_texts.specs.declared.line.RosterLine.TheVariants as asked
+use Rattle.signer.specs.declared.SignFault.{SignFault}
+use Rattle.signer.specs.declared.SignFault.TheVariants as fault
+use Rattle.signer.specs.Lives.{EndsNow, IsLiving, Spent, spent_by}
+use Rattle.signer.specs.Signing.{SignerState}
+use Rattle.authority.specs.declared.halt.Halt.{Halt}
+use Rattle.authority.specs.declared.halt.Halt.TheVariants as halt
+use Rattle.authority.specs.OfDisk.{OfDisk}
+use Rattle.authority.specs.Telling.{IsCut, IsTold}
+use Rattle.enrolment.specs.Lines.{signed_line, signed_lines}
+
+abbrev pub halt_of_fault : SignFault → Halt
+halt_of_fault fault.OutOfMemory = halt.OutOfMemory
+halt_of_fault fault.Closed = halt.StoreFault
+halt_of_fault (fault.Exhausted next) = halt.Exhausted next
+halt_of_fault fault.StoreFault = halt.StoreFault
+
+-- Just these certificates were signed, in turn, each with the next index: so the store keeps, and the lives of the key go on
+-- with them.
+pub record AreSigned (certs : List CertBody) (s later : SignerState) (old new : OfDisk) : Type 0 where
+  pub group : later.group ≡ s.group
+  pub key : later.key ≡ s.key
+  pub going : later.closed ≡ false
+  pub next : later.state.next ≡ s.state.next + length certs
+  pub epoch : later.state.epoch ≡ s.state.epoch
+  pub mask : later.state.mask ≡ s.state.mask
+  pub within : s.state.next ≤ leaf_count s.key.tree → later.state.next ≤ leaf_count s.key.tree
+  pub faults : new.faults ≡ old.faults
+  pub settled : (tag : List ℕ) → IsSettled tag s.state s.gate old.moments → IsSettled tag later.state later.gate new.moments
+  pub lives : (tag before : List ℕ) (spent : List Spent) → IsLiving tag before spent s old.moments
+      → IsLiving tag before (spent ++ spent_by s.state (map Certificate certs)) later new.moments
+
+-- The disk failed behind these signatures: no further one was handed out, and each crash ends the lives of the key so.
+pub record FailsBehind (certs : List CertBody) (s : SignerState) (old new : OfDisk) : Type 0 where
+  pub faults : new.faults ≡ next_count old.faults
+  pub lives : (tag before : List ℕ) (spent : List Spent) → IsLiving tag before spent s old.moments
+      → EndsNow tag before (spent ++ spent_by s.state (map Certificate certs)) new.moments
+
+-- the line of the certificate that is signed next
+abbrev pub line_next : SignerState → CertBody → List ℕ
+line_next s c = signed_line s.group s.key s.state.next c
+
+-- One certificate.
+abbrev pub SignsOne : CertBody → SignerState → SignerState → Standing → Standing → OfDisk → OfDisk → Result (Unit {0}) Halt → Type 0
+SignsOne c s later between now old new (Ok _) = AreSigned (c ∷ []) s later old new × IsTold between now (line_next s c)
+SignsOne c s later between now old new (Err (halt.Refused line w)) = ⊥
+SignsOne c s later between now old new (Err halt.ReadFault) = ⊥
+SignsOne c s later between now old new (Err halt.WriteFault) = AreSigned (c ∷ []) s later old new × IsCut between now (line_next s c)
+SignsOne c s later between now old new (Err halt.StoreFault) = (now ≡ between) × FailsBehind [] s old new
+SignsOne c s later between now old new (Err (halt.StoreBroken place byte)) = ⊥
+SignsOne c s later between now old new (Err (halt.StoreTaken len)) = ⊥
+SignsOne c s later between now old new (Err (halt.Exhausted next)) =
+    (now ≡ between) × AreSigned [] s later old new × (next ≡ s.state.next) × (next ≡ leaf_count s.key.tree)
+SignsOne c s later between now old new (Err halt.OutOfMemory) =
+    (now ≡ between) × (AreSigned [] s later old new ⊎ AreSigned (c ∷ []) s later old new)
+
+-- One line of a roster: nothing is done for one that asks for no certificate.
+abbrev pub SignsLine : RosterLine → SignerState → SignerState → Standing → Standing → OfDisk → OfDisk → Result (Unit {0}) Halt → Type 0
+SignsLine (asked.Cert c) s later between now old new result = SignsOne c s later between now old new result
+SignsLine _ s later between now old new result = (result ≡ Ok tt) × (later ≡ s) × (now ≡ between) × (new ≡ old)
+
+-- The certificates up to one of them, and those behind it.
+pub record IsPart (certs done : List CertBody) (c : CertBody) : Type 0 where
+  pub rest : List CertBody
+  pub are : certs ≡ done ++ c ∷ rest
+
+-- the lines of these certificates
+abbrev pub lines_of : SignerState → List CertBody → List ℕ
+lines_of s certs = signed_lines s.group s.key s.state.next certs
+
+-- Certificates were signed and their lines written, up to one of which P holds, in the state, with what was written and on
+-- the disk so far.
+pub record Upto (certs : List CertBody) (s : SignerState) (between : Standing) (old : OfDisk) (P : CertBody → SignerState → Standing → OfDisk → Type 0) : Type 0 where
+  pub done : List CertBody
+  pub one : CertBody
+  pub part : IsPart certs done one
+  pub then : SignerState
+  pub mid : Standing
+  pub disk : OfDisk
+  pub signed : AreSigned done s then old disk
+  pub told : IsTold between mid (lines_of s done)
+  pub ends : P one then mid disk
+
+-- All of them, one after the other.
+abbrev pub SignsAll : List CertBody → SignerState → Standing → Standing → OfDisk → OfDisk → Result (Unit {0}) Halt → Type 0
+SignsAll certs s between now old new (Ok _) = (later : SignerState) × AreSigned certs s later old new × IsTold between now (lines_of s certs)
+SignsAll certs s between now old new (Err h) = Upto certs s between old (λ c then mid disk. (later : SignerState) × SignsOne c then later mid now disk new (Err h))
