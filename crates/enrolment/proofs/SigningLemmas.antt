@@ -8,6 +8,7 @@ use Rattle.epoch_store.specs.Store.{IsSettled}
 use Rattle.lms_tree.specs.Kinds.{leaf_count}
 use Rattle.play.specs.Plays.{Standing}
 use Rattle.ports.specs.DiskCalls.{DiskCall}
+use Rattle.ports.specs.MemoryDisk.{DiskState}
 use Rattle.records.specs.declared.Body.TheVariants.{Certificate}
 use Rattle.records.specs.declared.CertBody.{CertBody}
 use Rattle.records.specs.Signing.{CheckedRecord}
@@ -29,8 +30,8 @@ use Rattle.enrolment.specs.Signing.{AreSigned, FailsBehind, IsPart, SignsAll, Si
 -- ## One signature
 
 -- the call of a signer that signs the certificate
-abbrev SignsCert : CertBody → SignerState → SignerState → OfDisk → OfDisk → Result CheckedRecord SignFault → Type 0
-SignsCert c s later old new r = Signs s later (Certificate c) r old.faults new.faults old.calls new.calls old.moments new.moments
+abbrev SignsCert : CertBody → SignerState → SignerState → OfDisk → OfDisk → Option DiskState → Option DiskState → Result CheckedRecord SignFault → Type 0
+SignsCert c s later old new disk disk_now r = Signs s later (Certificate c) r old.faults new.faults old.calls new.calls old.moments new.moments disk disk_now
 
 -- nothing was signed, and nothing changed
 none-signed : (s later : SignerState) (old new : OfDisk) → s.closed ≡ false → later ≡ s → new.faults ≡ old.faults → new.moments ≡ old.moments → AreSigned [] s later old new
@@ -49,7 +50,7 @@ none-signed s later old new going same faults moments = record {
       (subst (λ ms. IsLiving tag before spent later ms) (sym moments) (subst (λ x. IsLiving tag before spent x old.moments) (sym same) living));
 }
 
-pub one-signed : (c : CertBody) (s later : SignerState) (old new : OfDisk) (rec : CheckedRecord) → s.closed ≡ false → SignsCert c s later old new (Ok rec) → AreSigned (c ∷ []) s later old new
+pub one-signed : {disk disk_now : Option DiskState} (c : CertBody) (s later : SignerState) (old new : OfDisk) (rec : CheckedRecord) → s.closed ≡ false → SignsCert c s later old new disk disk_now (Ok rec) → AreSigned (c ∷ []) s later old new
 one-signed c s later old new rec going h = record {
   group = ap (λ x. x.group) h.after;
   key = ap (λ x. x.key) h.after;
@@ -63,7 +64,7 @@ one-signed c s later old new rec going h = record {
   lives = h.lives;
 }
 
-pub not-signed : (c : CertBody) (s later : SignerState) (between : Standing) (old new : OfDisk) (f : SignFault) → s.closed ≡ false → SignsCert c s later old new (Err f) → SignsOne c s later between between old new (Err (halt_of_fault f))
+pub not-signed : {disk disk_now : Option DiskState} (c : CertBody) (s later : SignerState) (between : Standing) (old new : OfDisk) (f : SignFault) → s.closed ≡ false → SignsCert c s later old new disk disk_now (Err f) → SignsOne c s later between between old new (Err (halt_of_fault f))
 not-signed c s later between old new fault.OutOfMemory going h = (refl, inl (none-signed s later old new going h.after h.faults h.same))
 not-signed c s later between old new fault.Closed going h = absurd (false≢true (sym going ∙ h.answers))
 not-signed c s later between old new (fault.Exhausted next) going h = (refl, none-signed s later old new going h.after h.faults h.same, h.answers.1, h.answers.2)
