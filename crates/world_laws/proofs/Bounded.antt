@@ -30,7 +30,7 @@ use Rattle.world_laws.proofs.Handing.{Hands, AnyRecord, IsHanded, hands-accuses,
 abbrev pub IsBounded : node.Setting → Stored → Type 0
 IsBounded s kept = kept.next ≤ s.indexes
 
-index-left : (s : node.Setting) (n : Node) → is_used_up s n ≡ false → IsBounded s n.stored → n.stored.next < s.indexes
+pub index-left : (s : node.Setting) (n : Node) → is_used_up s n ≡ false → IsBounded s n.stored → n.stored.next < s.indexes
 index-left s n left within = grind (arith, nat_tests, left, within)
 
 bounded-signs : (s : node.Setting) (b : Body) (c : Call) → is_used_up s c.node ≡ false → IsBounded s c.node.stored → IsBounded s (signs s b c).node.stored
@@ -78,11 +78,6 @@ within-steps s f [] d steps h = h
 within-steps s f (x ∷ xs) d steps h =
     within-steps s f xs (steps_on f d x) steps
     (cond_both {A = OnDisk} d.call.ended d (takes_step (λ works. f works d.call x) d) (IsWithin s) (λ over. h) (λ going. within-step s (λ works. f works d.call x) d (λ works. steps works d.call x h.node) h))
-
--- Only the answers to records change the disk.
-abbrev IsPlain : Result Datagram ℕ → Type 0
-IsPlain (Ok (kinds.Records from records)) = ⊥
-IsPlain _ = Unit {0}
 
 disk-heard : (s : node.Setting) (heard : Result Datagram ℕ) (d : OnDisk) → IsWithin s d → IsBounded s (hears_on s heard d).disk.state
 disk-heard s (Err place) d h = h.disk

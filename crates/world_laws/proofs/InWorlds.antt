@@ -88,6 +88,7 @@ pub record SignedBy (s : Setting) (lives : List Life) (m index : ℕ) (a : AccBo
   pub behind : List Input
   pub at_tick : life.inputs ≡ before ++ Ticks ∷ behind
   pub disk : Disk
+  pub kept : disk.state ≡ (node_after s m life.found before).stored
   pub signed : TellsSpent (called_on (setting_of s m) (node_after s m life.found before) Ticks disk).call index (Accusation a)
   pub silent : AccusesTheSilent (setting_of s m) (node_after s m life.found before) a
 
@@ -102,6 +103,7 @@ signed-later s m index a old new grows h =
       behind = h.behind ++ x.more;
       at_tick = x.inputs ∙ ap (λ xs. xs ++ x.more) h.at_tick ∙ append_assoc h.before (Ticks ∷ h.behind) x.more;
       disk = h.disk;
+      kept = subst (λ k. h.disk.state ≡ (node_after s m k h.before).stored) (sym x.found) h.kept;
       signed = subst (λ k. TellsSpent (called_on (setting_of s m) (node_after s m k h.before) Ticks h.disk).call index (Accusation a)) (sym x.found) h.signed;
       silent = subst (λ k. AccusesTheSilent (setting_of s m) (node_after s m k h.before) a) (sym x.found) h.silent;
     }

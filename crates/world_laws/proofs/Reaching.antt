@@ -231,10 +231,10 @@ called-there station life i n d running x j =
       | inr is ↦ subst (IsThere (station_after station after d)) is (record { later = after; among = after-itself station after d; found = refl; more = i ∷ []; inputs = refl })
     ]
 
-called-signed : (s : Setting) (m index : ℕ) (a : AccBody) (life : Life) (i : Input) (station : Station) (moment : ℕ) → life.node ≡ node_after s m life.found life.inputs
+called-signed : (s : Setting) (m index : ℕ) (a : AccBody) (life : Life) (i : Input) (station : Station) (moment : ℕ) → life.node ≡ node_after s m life.found life.inputs → life.node.stored ≡ station.disk.state
     → In (called_on (setting_of s m) life.node i station.disk).call.told (record { moment = moment; what = happened.Spent index (Accusation a) })
     → let d = called_on (setting_of s m) life.node i station.disk in SignedBy s (lives_at (station_after station (with_input life i d.call.node) d)) m index a
-called-signed s m index a life i station moment after told =
+called-signed s m index a life i station moment after kept told =
     let own : node.Setting = setting_of s m in
     let d : OnDisk = called_on own life.node i station.disk in
     let whole = (within-whole own life.node i d.call (so_far own life.node i station.disk)).spent moment index (Accusation a) told in
@@ -247,6 +247,7 @@ called-signed s m index a life i station moment after told =
       behind = [];
       at_tick = ap (λ x. life.inputs ++ x ∷ []) silent.0;
       disk = station.disk;
+      kept = sym kept ∙ ap (λ (n : node.Node). n.stored) after;
       signed = subst (λ n. TellsSpent (called_on own n Ticks station.disk).call index (Accusation a)) after
           (subst (λ x. TellsSpent (called_on own life.node x station.disk).call index (Accusation a)) silent.0 (moment, Contains-from_In _ _ told));
       silent = subst (λ n. AccusesTheSilent own n a) after silent.1;
@@ -274,7 +275,7 @@ holds-called s fits m i life c running free h =
     (λ k index a is j.
     let t = told-as m d.call.told _ j in
     subst (λ z. SignedBy s (lives_of v z) z index a) (some-number k m t.who)
-    (at-place m after w (λ x. SignedBy s (lives_at x) m index a) (called-signed s m index a life i station t.moment ((h.stations m).after life running) t.among)))
+    (at-place m after w (λ x. SignedBy s (lives_at x) m index a) (called-signed s m index a life i station t.moment ((h.stations m).after life running) ((h.notes m ((h.stations m).is life running)).runs life running) t.among)))
     h
 
 -- ---- a life begins

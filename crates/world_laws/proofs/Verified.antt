@@ -17,7 +17,7 @@ use Rattle.datagram.specs.declared.Datagram.{Datagram}
 use Rattle.node_rules.specs.Nodes as node
 use Rattle.node_rules.specs.Nodes.{Node, state_of, event_of, public_key_of}
 use Rattle.node_rules.specs.Refusals.{signature_fault, refusal, refusal_of}
-use Rattle.node_rules.specs.Calls.{Call, begun, takes, signs, sends, lives, own_record, is_used_up}
+use Rattle.node_rules.specs.Calls.{Call, begun, takes, signs, sends, lives, own_record}
 use Rattle.node_rules.specs.Deliveries.{answer_to}
 use Rattle.node_rules.specs.Starting.{blank, opened, first_note, started}
 use Rattle.node_rules.specs.Lives.{Input, AreCertificates}
@@ -41,7 +41,7 @@ use Rattle.world_laws.proofs.Rightly.{Verifies, signature-verifies}
 use Rattle.world_laws.proofs.InCalls.{GoesOn, InLife, IsOfWorld, going-on, handed}
 use Rattle.world_laws.proofs.InWorlds.{Holds, lives_at}
 use Rattle.world_laws.proofs.Reaching.{after-current, after-lives, current-in, holds-first, holds-kept, in-last, in-life, lives-over}
-use Rattle.world_laws.proofs.Bounded.{bounded-called, bounding}
+use Rattle.world_laws.proofs.Bounded.{bounded-called, bounding, index-left}
 
 -- ---- what verifies
 
@@ -109,9 +109,6 @@ verified-sends s own d c to h = h
 
 -- ---- a call
 
-index-left : (s : Setting) (m : ℕ) (n : Node) → is_used_up (setting_of s m) n ≡ false → n.stored.next ≤ s.indexes → n.stored.next < s.indexes
-index-left s m n left within = grind (arith, nat_tests, left, within)
-
 signed-own : (s : Setting) (m : ℕ) (n : Node) (a : AccBody) → IsSetting s → SignaturesVerify s → is_node s m ≡ true → a.accuser ≡ m → n.stored.next < s.indexes → IsAccusersOwn s a
 signed-own s m n a fits verify is by left =
     record {
@@ -154,7 +151,7 @@ verifying s w m of verify =
         on.accused a c by left h.0,
         record {
           bounded = (bounding own).accused a c by left h.1.bounded;
-          lived = more s c.node (signs own (Accusation a) c).node (Accuses a) (lived-signs own (Accusation a) c) (signed-own s m c.node a of.fits verify of.is by (index-left s m c.node left h.1.bounded)) h.1.lived;
+          lived = more s c.node (signs own (Accusation a) c).node (Accuses a) (lived-signs own (Accusation a) c) (signed-own s m c.node a of.fits verify of.is by (index-left own c.node left h.1.bounded)) h.1.lived;
         },
       );
       stopped = λ c h. (on.stopped c h.0, h.1);
