@@ -10,7 +10,7 @@ pub use crew::Crew;
 use fields::NoMemory;
 pub use keys::{AUTHORITY, Key, Kinds};
 use node_core::NodeFault;
-pub use player::Player;
+pub use player::{Player, Players};
 use std::alloc::{AllocError, AllocFailed};
 
 /// Why a scene can't be set.

@@ -93,8 +93,54 @@ impl Player {
         self.disk.image()
     }
 
+    /// The node and its disk are let go. Who owns a player ends it in one place, so that its many parts are let go there
+    /// alone.
+    pub fn end(self) {}
+
     /// The disk lets so many calls pass, and stops in the next with this outcome.
     pub fn arm(&mut self, calls: u64, outcome: u16) {
         self.disk.arm(calls, outcome);
     }
+}
+
+/// Nodes with their disks, by their order. Contracts see nothing of them.
+#[derive(Drop)]
+pub struct Players {
+    list: Vec<Player>,
+}
+
+impl Model for Players {
+    ghost Value = { Unit {0} };
+
+    ghost view = { λ p. tt };
+}
+
+impl Players {
+    /// Nobody.
+    pub fn new(alloc: Global) -> Players {
+        Players {
+            list: Vec::new(alloc),
+        }
+    }
+
+    /// One more.
+    pub fn push(&mut self, player: Player) -> Result<(), NoMemory> {
+        match self.list.push(player) {
+            Ok(()) => Ok(()),
+            Err(_) => Err(NoMemory),
+        }
+    }
+
+    /// The one at this place.
+    pub fn get(&mut self, place: usize) -> Option<&mut Player> {
+        self.list.get_mut(place)
+    }
+
+    /// How many there are.
+    pub fn count(&self) -> usize {
+        self.list.len()
+    }
+
+    /// All are let go.
+    pub fn end(self) {}
 }
