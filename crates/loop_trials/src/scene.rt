@@ -90,11 +90,7 @@ pub fn serve_node(
 }
 
 /// A link on which these come, and then nothing, and whose sends of these numbers fail.
-pub fn link_with(
-    alloc: Global,
-    answers: Vec<LinkAnswer>,
-    fail_sends: Vec<u64>,
-) -> MemoryLink {
+pub fn link_with(alloc: Global, answers: Vec<LinkAnswer>, fail_sends: Vec<u64>) -> MemoryLink {
     MemoryLink::new(alloc, answers, fail_sends, false)
 }
 

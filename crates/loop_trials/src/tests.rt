@@ -14,7 +14,8 @@ const PING: [u8; 14] = *b"\x46\x46\x01\x01\x00\x02\x00\x00\x00\x00\x00\x00\x01\x
 
 const PONG: [u8; 14] = *b"\x46\x46\x01\x02\x00\x01\x00\x00\x00\x00\x00\x00\x01\x02";
 
-const PINGED: &str = "got 4646010100020000000000000102 ticks 0\nat 0 ping 2 258\nat 0 sent 0 2 4646010200010000000000000102\n";
+const PINGED: &str =
+    "got 4646010100020000000000000102 ticks 0\nat 0 ping 2 258\nat 0 sent 0 2 4646010200010000000000000102\n";
 
 /// The link was given one datagram, the pong for the port of 2.
 fn gave_pong(rt: &impl Abort, link: &MemoryLink) {
