@@ -1,5 +1,6 @@
-//! What no liar brings about in a world of nodes, as theorems alone: which notes and accusations a correct member has
-//! signed that is removed, or by which a member is accused. Each law is the contract of a function that does nothing.
+//! What no liar brings about in a world of nodes, as theorems alone: which notes a member had signed that is removed, and
+//! at which ticks members sign their accusations. They speak of each world that lines lead to, none of which is forged.
+//! Each law is the contract of a function that does nothing.
 #![tactic(auto)]
 
 ghost use Rattle.world_laws.specs.Laws.{RostersAreKept, OwnAheadNeverComes, TheRemovedHadSigned, NodesAccuseTheSilent, AcceptedAccusationsWereSigned, KeysVerify, RemovalsAreVerified};
@@ -10,7 +11,7 @@ pub fn rosters_are_kept()
     ensures { RostersAreKept }
 {}
 
-/// No node is ever handed a note of its own that it doesn't know.
+/// No node ever refuses a record as a note of its own that is ahead of what its store keeps.
 pub fn own_ahead_never_comes()
     ensures { OwnAheadNeverComes }
 {}
