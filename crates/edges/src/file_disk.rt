@@ -1,9 +1,11 @@
 //! A file of the system as a disk.
 
-ghost use Rattle.std.specs.Prelude.{◌≡◌, ◌≤◌, true, false, None, length, IfOk, OnOk, OnErr, IsNone, IsErr, is_err};
+ghost use Rattle.std.specs.Prelude.{◌≡◌, ◌≤◌, true, false, None, [], ◌∷◌, length, IfOk, OnOk, OnErr, IsNone, IsErr, is_err};
 ghost use Rattle.ports.specs.Count.{counted};
 ghost use Rattle.ports.specs.Device.{open_failed};
 ghost use Rattle.ports.specs.Disk.{Opens, Measures, Fails, ReadsPart, KeepsRest, Settles, next, wrote, torn_at, stays};
+ghost use Rattle.ports.specs.DiskCalls.{ToOpen};
+ghost use Rattle.ports.specs.DiskSteps.{OpensOn};
 ghost use Rattle.edges.specs.Device.{after_call, after_open, untold};
 
 use ports::{Disk, Failed, Opened};
@@ -135,6 +137,7 @@ impl<'a, R: Files<File = File>> Disk for FileDisk<'a, R> {
     fn open(&mut self, name: &str) -> Opened
         ensures faults { self.new.faults ≡ counted (open_failed result) self.old.faults }
         ensures opens { Opens untold untold result }
+        ensures follows { OpensOn (ToOpen name.now ∷ []) None None result }
         ensures after { self.new ≡ after_open result self.old }
     {
         match open_or_make(self.files, name) {
