@@ -1,5 +1,5 @@
 -- How one call of the node is served.
-use Rattle.std.proofs.Common.{◌≡◌, ◌<◌, ◌≤◌, arith, ℕ, inl, inr, true, false, List, [], ◌∷◌, ◌++◌, Option, Result, Ok, Err, refl, sym, ap, ◌∙◌, subst, take, cond}
+use Rattle.std.proofs.Common.{◌≡◌, ◌<◌, ◌≤◌, arith, ℕ, inl, inr, true, false, List, [], ◌∷◌, ◌++◌, Option, Some, None, Result, Ok, Err, refl, sym, ap, ◌∙◌, subst, take, cond}
 use Rattle.std.proofs.lemmas.Bool.{false≢true}
 use Rattle.std.specs.Result.{is_err}
 use Rattle.std.specs.Prelude.{Bool, IfErr, OnOk, nat_lt}
@@ -14,10 +14,17 @@ use Rattle.node_core.proofs.SpendLemmas.{lives-same, lives-trans}
 use Rattle.node_core.specs.declared.NodeFault.{NodeFault}
 use Rattle.node_core.specs.declared.NodeFault.TheVariants as node
 use Rattle.node_core.specs.Playing.{Kept, IsNode}
+use Rattle.std.specs.Option.{option_and_then, option_map}
+use Rattle.ff_ids.specs.declared.summary.RecordKey.TheVariants as keys
+use Rattle.records.specs.declared.CertBody.{CertBody}
+use Rattle.records.specs.declared.Body.TheVariants.{Certificate}
+use Rattle.records.specs.declared.Record.{Record}
+use Rattle.validate.specs.Certified.{Certificates, certificate_of as kept_certificate}
+use Rattle.node_core.specs.Told.{IsFront}
 use Rattle.node_core.specs.Answers.{Lent}
 use Rattle.node_core.specs.Answers as core
 use Rattle.node_core.specs.Ticks.{GivesTick}
-use Rattle.node_rules.specs.Nodes.{Setting, state_of}
+use Rattle.node_rules.specs.Nodes.{Setting, Node, Holding, certificate_in, certificate_of, state_of}
 use Rattle.node_rules.specs.Calls.{Call}
 use Rattle.node_rules.specs.Deliveries.{delivered_until}
 use Rattle.node_rules.specs.Ticking.{silent_at, ticked_until}
@@ -26,10 +33,10 @@ use Rattle.node_loop.specs.declared.fault.ServeFault.{ServeFault}
 use Rattle.node_loop.specs.declared.fault.ServeFault.TheVariants as faults
 use Rattle.node_loop.specs.Turns.{Act, Calls}
 use Rattle.node_loop.specs.Courses.{Course, acted, gives, may_tick, moves, served, tells_all}
-use Rattle.node_loop.specs.Writing.{Answers, Before, Extends, GoesOn, IsAt, IsBeyond, Settles, Standing, Tells, standing}
-use Rattle.node_loop.specs.Serving.{IsCut, IsStarved, IsStopped, Serves}
-use Rattle.node_loop.proofs.CourseLemmas.{Grows, grows-refl, served-cons, served-nil}
-use Rattle.node_loop.proofs.TellLemmas.{at-within, beyond}
+use Rattle.node_loop.specs.Writing.{Answers, Before, Extends, GoesOn, IsAt, IsBeyond, IsWithin, Settles, Standing, Stands, standing}
+use Rattle.node_loop.specs.Serving.{IsCut, IsStarved, IsStopped, Serves, starves}
+use Rattle.node_loop.proofs.CourseLemmas.{Grows, grows-refl, grows-tells_all, node-gives, served-cons, served-nil, tells_all-append}
+use Rattle.node_loop.proofs.TellLemmas.{at-within, beyond, within-grows}
 use Rattle.node_loop.proofs.ServeLemmas.{breaks-off}
 
 -- ---- numbers
@@ -82,16 +89,11 @@ answers-untold done faults.WriteFault other = tt
 answers-untold done faults.OutOfMemory other = tt
 
 -- all was told, whatever the answer
-pub settles-at : (s : Setting) (before : Before) (w : Standing) (r : Course) (answer : Result (Unit {0}) ServeFault) → IsAt s before w r → Settles s before w r answer
-settles-at s before w r (Ok x) at = at
-settles-at s before w r (Err faults.StoreFault) at = at
-settles-at s before w r (Err faults.WriteFault) at = at-within s before w r at
-settles-at s before w r (Err faults.OutOfMemory) at = at-within s before w r at
-
-pub settles-untold : (s : Setting) (before : Before) (w : Standing) (r : Course) (e : ServeFault) → Tells s before w r (Err e) → Settles s before w r (Err e)
-settles-untold s before w r faults.StoreFault h = absurd h
-settles-untold s before w r faults.WriteFault h = h
-settles-untold s before w r faults.OutOfMemory h = h
+pub settles-at : (before : Before) (w : Standing) (r : Course) (answer : Result (Unit {0}) ServeFault) → IsAt before w r → Settles before w r answer
+settles-at before w r (Ok x) at = at
+settles-at before w r (Err faults.StoreFault) at = at
+settles-at before w r (Err faults.WriteFault) at = at-within before w r at
+settles-at before w r (Err faults.OutOfMemory) at = at-within before w r at
 
 -- ---- what a call comes to
 
@@ -99,17 +101,23 @@ settles-untold s before w r faults.OutOfMemory h = h
 pub told-spent : (events told : List journal.Event) (spent : List Spent) (s later : SignerState) (older newer : List Moment) → events ≡ told → spent_told events ≡ spent → LivesOn spent s later older newer → LivesOn (spent_told told) s later older newer
 told-spent events told spent s later older newer e so lives = subst (λ (xs : List Spent). LivesOn xs s later older newer) (sym so ∙ ap spent_told e) lives
 
+-- the node has come to this, and made these signatures
+came-to : (s : Setting) (before : Before) (v0 v : Kept) (link : Option LinkState) (taken : Option (List ℕ)) (older newer : List Moment) (sent : ℕ) (r : Course) (there : Node) (spent : List Spent)
+    → Stands s before (standing v0 link taken older sent) r → ((m : ℕ) → kept_certificate v.roster m ≡ certificate_of there m) → LivesOn spent v0.signer v.signer older newer
+    → IsAt before (standing v link taken newer sent) (starves there spent r)
+came-to s before v0 v link taken older newer sent r there spent st knows lives = record {
+  knows = knows;
+  link = st.at.link;
+  text = st.at.text;
+  sent = st.at.sent;
+  key = lives-trans r.spent spent before.signer v0.signer v.signer before.moments older newer st.at.key lives;
+}
+
 -- the node stands where the call does
 pub moved : (s : Setting) (before : Before) (v0 v : Kept) (link : Option LinkState) (taken : Option (List ℕ)) (older newer : List Moment) (sent : ℕ) (r : Course) (c : Call)
-    → IsAt s before (standing v0 link taken older sent) r → IsNode s v c.node → LivesOn (spent_told c.told) v0.signer v.signer older newer
-    → IsAt s before (standing v link taken newer sent) (moves c r)
-moved s before v0 v link taken older newer sent r c at is lives = record {
-  node = is;
-  link = at.link;
-  text = at.text;
-  sent = at.sent;
-  key = lives-trans r.spent (spent_told c.told) before.signer v0.signer v.signer before.moments older newer at.key lives;
-}
+    → Stands s before (standing v0 link taken older sent) r → IsNode s v c.node → LivesOn (spent_told c.told) v0.signer v.signer older newer
+    → IsAt before (standing v link taken newer sent) (moves c r)
+moved s before v0 v link taken older newer sent r c st is lives = came-to s before v0 v link taken older newer sent r c.node (spent_told c.told) st is.roster lives
 
 pub gives-is : (c : Call) (r : Course) → gives c r ≡ tells_all c.told (moves c r)
 unfolding gives
@@ -119,20 +127,27 @@ served-one : (s : Setting) (act : Act) (r : Course) → served s (act ∷ []) r 
 served-one s act r = served-cons s act [] r ∙ served-nil s (acted s r act)
 
 -- what a call told was told
-pub told-so : (s : Setting) (before : Before) (w : Standing) (r : Course) (c : Call) (events : List journal.Event) (answer : Result (Unit {0}) ServeFault)
-    → events ≡ c.told → Settles s before w (tells_all events (moves c r)) answer → Settles s before w (gives c r) answer
-told-so s before w r c events answer e h =
+pub told-so : (before : Before) (w : Standing) (r : Course) (c : Call) (events : List journal.Event) (answer : Result (Unit {0}) ServeFault)
+    → events ≡ c.told → Settles before w (tells_all events (moves c r)) answer → Settles before w (gives c r) answer
+told-so before w r c events answer e h =
     let r1 : Course = moves c r in
-    subst (λ x. Settles s before w x answer) (ap (λ es. tells_all es r1) e ∙ sym (gives-is c r)) h
+    subst (λ x. Settles before w x answer) (ap (λ es. tells_all es r1) e ∙ sym (gives-is c r)) h
+
+-- the node stands for that of the call
+stands-gives : (s : Setting) (before : Before) (w : Standing) (r : Course) (c : Call) → IsNode s w.node c.node → IsAt before w (gives c r) → Stands s before w (gives c r)
+stands-gives s before w r c is at = record { node = subst (λ n. IsNode s w.node n) (sym (node-gives c r)) is; at = at }
+
+done-other : (x : Unit {0}) → ◌≡◌ {A = Result (Unit {0}) NodeFault} (Ok x) (Err node.StoreFault) → ⊥
+done-other x is = cc
 
 -- the whole call
 pub whole-call : (s : Setting) (before : Before) (w : Standing) (r : Course) (input : Input) (c : Call) (x : Unit {0}) (answer : Result (Unit {0}) ServeFault)
-    → acted s r (Calls input) ≡ gives c r → Answers (Ok x) answer → Settles s before w (gives c r) answer → Serves s before (Calls input ∷ []) r w answer
-whole-call s before w r input c x (Ok y) is answers h = subst (λ z. IsAt s before w z) (sym (served-one s (Calls input) r ∙ is)) h
-whole-call s before w r input c x (Err faults.StoreFault) is answers h = cc
-whole-call s before w r input c x (Err faults.WriteFault) is answers h =
+    → acted s r (Calls input) ≡ gives c r → IsNode s w.node c.node → Answers (Ok x) answer → Settles before w (gives c r) answer → Serves s before (Calls input ∷ []) r w answer
+whole-call s before w r input c x (Ok y) is node answers h = subst (λ z. Stands s before w z) (sym (served-one s (Calls input) r ∙ is)) (stands-gives s before w r c node h)
+whole-call s before w r input c x (Err faults.StoreFault) is node answers h = absurd (done-other x answers)
+whole-call s before w r input c x (Err faults.WriteFault) is node answers h =
     inl (breaks-off s before (Calls input ∷ []) r (gives c r) w h (subst (λ z. Grows (gives c r) z) (sym (served-one s (Calls input) r ∙ is)) (grows-refl (gives c r))))
-whole-call s before w r input c x (Err faults.OutOfMemory) is answers h =
+whole-call s before w r input c x (Err faults.OutOfMemory) is node answers h =
     inl (breaks-off s before (Calls input ∷ []) r (gives c r) w h (subst (λ z. Grows (gives c r) z) (sym (served-one s (Calls input) r ∙ is)) (grows-refl (gives c r))))
 
 stopped-one : (s : Setting) (r : Course) (input : Input) (c : Call) → IsCut s r.node input c → IsStopped s (Calls input ∷ []) r (gives c r)
@@ -148,29 +163,94 @@ stopped-one s r input c cut = record {
 
 -- the call up to where the disk failed
 pub cut-call : (s : Setting) (before : Before) (w : Standing) (r : Course) (input : Input) (c : Call) (answer : Result (Unit {0}) ServeFault)
-    → IsCut s r.node input c → Answers (Err node.StoreFault) answer → Settles s before w (gives c r) answer → Serves s before (Calls input ∷ []) r w answer
-cut-call s before w r input c (Ok y) cut answers h = absurd (false≢true answers)
-cut-call s before w r input c (Err faults.StoreFault) cut answers h = record { whole = gives c r; stopped = stopped-one s r input c cut; at = h }
-cut-call s before w r input c (Err faults.WriteFault) cut answers h = inl (record { whole = gives c r; is = inr (stopped-one s r input c cut); within = h })
-cut-call s before w r input c (Err faults.OutOfMemory) cut answers h = inl (record { whole = gives c r; is = inr (stopped-one s r input c cut); within = h })
+    → IsCut s r.node input c → IsNode s w.node c.node → Answers (Err node.StoreFault) answer → Settles before w (gives c r) answer → Serves s before (Calls input ∷ []) r w answer
+cut-call s before w r input c (Ok y) cut is answers h = absurd (false≢true answers)
+cut-call s before w r input c (Err faults.StoreFault) cut is answers h = record { whole = gives c r; stopped = stopped-one s r input c cut; at = stands-gives s before w r c is h }
+cut-call s before w r input c (Err faults.WriteFault) cut is answers h = inl (record { whole = gives c r; is = inr (stopped-one s r input c cut); within = h })
+cut-call s before w r input c (Err faults.OutOfMemory) cut is answers h = inl (record { whole = gives c r; is = inr (stopped-one s r input c cut); within = h })
 
-starved-one : (s : Setting) (before : Before) (w : Standing) (r : Course) (input : Input) → w.node.ended ≡ true → IsBeyond before w r → IsStarved s before (Calls input ∷ []) r w
-starved-one s before w r input over far = record {
+-- ---- memory was refused in a call
+
+-- a record with this certificate, which nobody has signed
+unsigned : CertBody → Record
+unsigned c = record { body = Certificate c; signature = [] }
+
+-- of the records only the certificates that are kept
+only-certificates : Certificates → Holding
+only-certificates roster (keys.Certificate m) = option_map unsigned (kept_certificate roster m)
+only-certificates roster (keys.Note m) = None
+only-certificates roster (keys.Accusation m ring) = None
+
+abbrev knowing : Certificates → Node → Node
+knowing roster n = record n { held = only-certificates roster }
+
+read-back : (kept : Option CertBody) → kept ≡ option_and_then (λ (r : Record). certificate_in r.body) (option_map unsigned kept)
+unfolding unsigned
+read-back None = refl
+read-back (Some c) = refl
+
+knows-kept : (roster : Certificates) (n : Node) (m : ℕ) → kept_certificate roster m ≡ certificate_of (knowing roster n) m
+unfolding certificate_of only-certificates
+knows-kept roster n m = read-back (kept_certificate roster m)
+
+-- what was settled broke off
+untold : (before : Before) (w : Standing) (r : Course) (e : ServeFault) → (e ≡ faults.StoreFault → ⊥) → Settles before w r (Err e) → IsWithin before w r
+untold before w r faults.StoreFault other h = absurd (other refl)
+untold before w r faults.WriteFault other h = h
+untold before w r faults.OutOfMemory other h = h
+
+-- a front of the events
+pub told-front : (before : Before) (w : Standing) (r : Course) (events all : List journal.Event) → IsFront events all → IsWithin before w (tells_all events r) → IsWithin before w (tells_all all r)
+told-front before w r events all front h =
+    within-grows before w (tells_all events r) (tells_all all r) h
+    (subst (λ x. Grows (tells_all events r) x) (sym (ap (λ es. tells_all es r) front.is ∙ tells_all-append events front.more r)) (grows-tells_all front.more (tells_all events r)))
+
+starved-one : (s : Setting) (before : Before) (w : Standing) (r : Course) (input : Input) (there : Node) (spent : List Spent) → w.node.ended ≡ true → IsBeyond before w r
+    → ((m : ℕ) → kept_certificate w.node.roster m ≡ certificate_of there m) → IsWithin before w (tells_all (call_of s r.node input).told (starves there spent r)) → IsStarved s before (Calls input ∷ []) r w
+starved-one s before w r input there spent over far knows within = record {
   done = [];
   input = input;
   later = [];
   split = refl;
   over = over;
   beyond = subst (λ z. IsBeyond before w z) (sym (served-nil s r)) far;
+  there = there;
+  knows = knows;
+  spent = spent;
+  within = subst (λ (z : Course). IsWithin before w (tells_all (call_of s z.node input).told (starves there spent z))) (sym (served-nil s r)) within;
 }
 
+refused-other : ◌≡◌ {A = Result (Unit {0}) NodeFault} (Err node.OutOfMemory) (Err node.StoreFault) → ⊥
+refused-other is = cc
+
+write-other : faults.WriteFault ≡ faults.StoreFault → ⊥
+write-other is = cc
+
+memory-other : faults.OutOfMemory ≡ faults.StoreFault → ⊥
+memory-other is = cc
+
+starved-so : (s : Setting) (before : Before) (w : Standing) (r : Course) (input : Input) (answer : Result (Unit {0}) ServeFault) → Answers (Err node.OutOfMemory) answer
+    → ((e : ServeFault) → (e ≡ faults.StoreFault → ⊥) → answer ≡ Err e → IsStarved s before (Calls input ∷ []) r w) → Serves s before (Calls input ∷ []) r w answer
+starved-so s before w r input (Ok y) answers h = absurd (false≢true answers)
+starved-so s before w r input (Err faults.StoreFault) answers h = absurd (refused-other answers)
+starved-so s before w r input (Err faults.WriteFault) answers h = inr (h faults.WriteFault write-other refl)
+starved-so s before w r input (Err faults.OutOfMemory) answers h = inr (h faults.OutOfMemory memory-other refl)
+
 -- a call for which memory was refused
-pub starved-call : (s : Setting) (before : Before) (w : Standing) (r : Course) (input : Input) (answer : Result (Unit {0}) ServeFault)
-    → w.node.ended ≡ true → Answers (Err node.OutOfMemory) answer → IsBeyond before w r → Serves s before (Calls input ∷ []) r w answer
-starved-call s before w r input (Ok y) over answers far = absurd (false≢true answers)
-starved-call s before w r input (Err faults.StoreFault) over answers far = cc
-starved-call s before w r input (Err faults.WriteFault) over answers far = inr (starved-one s before w r input over far)
-starved-call s before w r input (Err faults.OutOfMemory) over answers far = inr (starved-one s before w r input over far)
+pub starved-call : (s : Setting) (before : Before) (v0 v : Kept) (link later : Option LinkState) (taken after : Option (List ℕ)) (older newer : List Moment) (sent sent1 : ℕ) (r : Course) (input : Input)
+    (events : List journal.Event) (spent : List Spent) (answer : Result (Unit {0}) ServeFault)
+    → Stands s before (standing v0 link taken older sent) r → v.ended ≡ true → LivesOn spent v0.signer v.signer older newer → IsFront events (call_of s r.node input).told
+    → Answers (Err node.OutOfMemory) answer → Extends taken after link later
+    → ((r1 : Course) → IsAt before (standing v link taken newer sent) r1 → Settles before (standing v later after newer sent1) (tells_all events r1) answer)
+    → Serves s before (Calls input ∷ []) r (standing v later after newer sent1) answer
+starved-call s before v0 v link later taken after older newer sent sent1 r input events spent answer st over lives front answers more settles =
+    let w : Standing = standing v later after newer sent1 in
+    let there : Node = knowing v.roster r.node in
+    let r1 : Course = starves there spent r in
+    let at = came-to s before v0 v link taken older newer sent r there spent st (knows-kept v.roster r.node) lives in
+    starved-so s before w r input answer answers (λ e other is.
+    starved-one s before w r input there spent over (beyond before v0 v link later taken after older newer sent sent1 r spent st.at more lives) (knows-kept v.roster r.node)
+    (told-front before w r1 events (call_of s r.node input).told front (untold before w (tells_all events r1) e other (subst (λ x. Settles before w (tells_all events r1) x) is (settles r1 at)))))
 
 -- ---- the calls
 
@@ -183,58 +263,60 @@ lent-none P es os no_events no_sent h = subst (λ (xs : List journal.Event). P (
 
 pub serves-delivery : (s : Setting) (before : Before) (v0 v : Kept) (link later : Option LinkState) (taken after : Option (List ℕ)) (older newer : List Moment) (sent sent1 : ℕ) (r : Course) (bytes : List ℕ)
     (events : List journal.Event) (out : List (ℕ × List ℕ)) (done : Result (Unit {0}) NodeFault) (answer : Result (Unit {0}) ServeFault)
-    → IsAt s before (standing v0 link taken older sent) r → core.Delivers s r.node bytes v (lent [] []) (lent events out) done → v.ended ≡ is_err done → SpendsIn done v0.signer v.signer older newer [] events
+    → Stands s before (standing v0 link taken older sent) r → core.Delivers s r.node bytes v (lent [] []) (lent events out) done → v.ended ≡ is_err done → SpendsIn done v0.signer v.signer older newer [] events
     → Answers done answer → Extends taken after link later
-    → ((r1 : Course) → IsAt s before (standing v link taken newer sent) r1 → Settles s before (standing v later after newer sent1) (tells_all events r1) answer)
+    → ((r1 : Course) → IsAt before (standing v link taken newer sent) r1 → Settles before (standing v later after newer sent1) (tells_all events r1) answer)
     → Serves s before (Calls (Delivers bytes) ∷ []) r (standing v later after newer sent1) answer
-serves-delivery s before v0 v link later taken after older newer sent sent1 r bytes events out (Ok x) answer at d over spends answers more settles =
+serves-delivery s before v0 v link later taken after older newer sent sent1 r bytes events out (Ok x) answer st d over spends answers more settles =
     let c = call_of s r.node (Delivers bytes) in
     let lives = told-spent events c.told spends.spent v0.signer v.signer older newer d.told (ap spent_told spends.after_is ∙ spends.tells) spends.key in
-    whole-call s before (standing v later after newer sent1) r (Delivers bytes) c x answer refl answers
-    (told-so s before (standing v later after newer sent1) r c events answer d.told (settles (moves c r) (moved s before v0 v link taken older newer sent r c at d.is lives)))
-serves-delivery s before v0 v link later taken after older newer sent sent1 r bytes events out (Err node.StoreFault) answer at d over spends answers more settles =
+    whole-call s before (standing v later after newer sent1) r (Delivers bytes) c x answer refl d.is answers
+    (told-so before (standing v later after newer sent1) r c events answer d.told (settles (moves c r) (moved s before v0 v link taken older newer sent r c st d.is lives)))
+serves-delivery s before v0 v link later taken after older newer sent sent1 r bytes events out (Err node.StoreFault) answer st d over spends answers more settles =
     let c = delivered_until s r.node (take d.place d.records) d.at in
     let lives = told-spent events c.told spends.spent v0.signer v.signer older newer d.gives.told (ap spent_told spends.after_is ∙ spends.tells) spends.key in
-    cut-call s before (standing v later after newer sent1) r (Delivers bytes) c answer (record { from = d.from; records = d.records; read = d.read; place = d.place; at = d.at; found = d.found; is = refl; ended = d.ended }) answers
-    (told-so s before (standing v later after newer sent1) r c events answer d.gives.told (settles (moves c r) (moved s before v0 v link taken older newer sent r c at d.gives.is lives)))
-serves-delivery s before v0 v link later taken after older newer sent sent1 r bytes events out (Err node.OutOfMemory) answer at d over spends answers more settles =
-    starved-call s before (standing v later after newer sent1) r (Delivers bytes) answer over answers (beyond s before v0 v link later taken after older newer sent sent1 r spends.spent at more spends.key)
-serves-delivery s before v0 v link later taken after older newer sent sent1 r bytes events out (Err (node.Exhausted next)) answer at d over spends answers more settles = absurd d
-serves-delivery s before v0 v link later taken after older newer sent sent1 r bytes events out (Err node.Ended) answer at d over spends answers more settles = absurd d
+    cut-call s before (standing v later after newer sent1) r (Delivers bytes) c answer (record { from = d.from; records = d.records; read = d.read; place = d.place; at = d.at; found = d.found; is = refl; ended = d.ended }) d.gives.is answers
+    (told-so before (standing v later after newer sent1) r c events answer d.gives.told (settles (moves c r) (moved s before v0 v link taken older newer sent r c st d.gives.is lives)))
+serves-delivery s before v0 v link later taken after older newer sent sent1 r bytes events out (Err node.OutOfMemory) answer st d over spends answers more settles =
+    starved-call s before v0 v link later taken after older newer sent sent1 r (Delivers bytes) events spends.spent answer st over spends.key
+    (subst (λ es. IsFront es (call_of s r.node (Delivers bytes)).told) (sym d.events_added) d.events_front) answers more settles
+serves-delivery s before v0 v link later taken after older newer sent sent1 r bytes events out (Err (node.Exhausted next)) answer st d over spends answers more settles = absurd d
+serves-delivery s before v0 v link later taken after older newer sent sent1 r bytes events out (Err node.Ended) answer st d over spends answers more settles = absurd d
 
 tick-acted : (s : Setting) (r : Course) → may_tick s r.node ≡ true → acted s r (Calls Ticks) ≡ gives (call_of s r.node Ticks) r
 tick-acted s r may = ap (λ b. cond b (gives (call_of s r.node Ticks) r) r) may
 
 pub serves-tick : (s : Setting) (before : Before) (v0 v : Kept) (link later : Option LinkState) (taken after : Option (List ℕ)) (older newer : List Moment) (sent sent1 : ℕ) (r : Course)
     (events : List journal.Event) (out : List (ℕ × List ℕ)) (done : Result (Unit {0}) NodeFault) (answer : Result (Unit {0}) ServeFault)
-    → IsAt s before (standing v0 link taken older sent) r → may_tick s r.node ≡ true → GivesTick s r.node v (lent [] []) (lent events out) done → v.ended ≡ is_err done → SpendsIn done v0.signer v.signer older newer [] events
+    → Stands s before (standing v0 link taken older sent) r → may_tick s r.node ≡ true → GivesTick s r.node v (lent [] []) (lent events out) done → v.ended ≡ is_err done → SpendsIn done v0.signer v.signer older newer [] events
     → Answers done answer → Extends taken after link later
-    → ((r1 : Course) → IsAt s before (standing v link taken newer sent) r1 → Settles s before (standing v later after newer sent1) (tells_all events r1) answer)
+    → ((r1 : Course) → IsAt before (standing v link taken newer sent) r1 → Settles before (standing v later after newer sent1) (tells_all events r1) answer)
     → Serves s before (Calls Ticks ∷ []) r (standing v later after newer sent1) answer
-serves-tick s before v0 v link later taken after older newer sent sent1 r events out (Ok x) answer at may d over spends answers more settles =
+serves-tick s before v0 v link later taken after older newer sent sent1 r events out (Ok x) answer st may d over spends answers more settles =
     let c = call_of s r.node Ticks in
     let lives = told-spent events c.told spends.spent v0.signer v.signer older newer d.told (ap spent_told spends.after_is ∙ spends.tells) spends.key in
-    whole-call s before (standing v later after newer sent1) r Ticks c x answer (tick-acted s r may) answers
-    (told-so s before (standing v later after newer sent1) r c events answer d.told (settles (moves c r) (moved s before v0 v link taken older newer sent r c at d.is lives)))
-serves-tick s before v0 v link later taken after older newer sent sent1 r events out (Err node.StoreFault) answer at may d over spends answers more settles =
+    whole-call s before (standing v later after newer sent1) r Ticks c x answer (tick-acted s r may) d.is answers
+    (told-so before (standing v later after newer sent1) r c events answer d.told (settles (moves c r) (moved s before v0 v link taken older newer sent r c st d.is lives)))
+serves-tick s before v0 v link later taken after older newer sent sent1 r events out (Err node.StoreFault) answer st may d over spends answers more settles =
     let c = ticked_until s r.node (take d.place (silent_at s r.node)) d.at in
     let lives = told-spent events c.told spends.spent v0.signer v.signer older newer d.gives.told (ap spent_told spends.after_is ∙ spends.tells) spends.key in
-    cut-call s before (standing v later after newer sent1) r Ticks c answer (record { place = d.place; member = d.at; found = d.found; is = refl; ended = d.ended }) answers
-    (told-so s before (standing v later after newer sent1) r c events answer d.gives.told (settles (moves c r) (moved s before v0 v link taken older newer sent r c at d.gives.is lives)))
-serves-tick s before v0 v link later taken after older newer sent sent1 r events out (Err node.OutOfMemory) answer at may d over spends answers more settles =
-    starved-call s before (standing v later after newer sent1) r Ticks answer over answers (beyond s before v0 v link later taken after older newer sent sent1 r spends.spent at more spends.key)
-serves-tick s before v0 v link later taken after older newer sent sent1 r events out (Err (node.Exhausted next)) answer at may d over spends answers more settles = absurd d
-serves-tick s before v0 v link later taken after older newer sent sent1 r events out (Err node.Ended) answer at may d over spends answers more settles = absurd d
+    cut-call s before (standing v later after newer sent1) r Ticks c answer (record { place = d.place; member = d.at; found = d.found; is = refl; ended = d.ended }) d.gives.is answers
+    (told-so before (standing v later after newer sent1) r c events answer d.gives.told (settles (moves c r) (moved s before v0 v link taken older newer sent r c st d.gives.is lives)))
+serves-tick s before v0 v link later taken after older newer sent sent1 r events out (Err node.OutOfMemory) answer st may d over spends answers more settles =
+    starved-call s before v0 v link later taken after older newer sent sent1 r Ticks events spends.spent answer st over spends.key
+    (subst (λ es. IsFront es (call_of s r.node Ticks).told) (sym d.events_added) d.events_front) answers more settles
+serves-tick s before v0 v link later taken after older newer sent sent1 r events out (Err (node.Exhausted next)) answer st may d over spends answers more settles = absurd d
+serves-tick s before v0 v link later taken after older newer sent sent1 r events out (Err node.Ended) answer st may d over spends answers more settles = absurd d
 
 -- whether a tick can be counted
-pub may-count : (s : Setting) (before : Before) (w : Standing) (r : Course) → IsAt s before w r → w.node.membership.moment < 18446744073709551615 → may_tick s r.node ≡ true
+pub may-count : (s : Setting) (before : Before) (w : Standing) (r : Course) → Stands s before w r → w.node.membership.moment < 18446744073709551615 → may_tick s r.node ≡ true
 may-count s before w r at lt = let same = at.node.holds.moment_same in below-lt (state_of s r.node).moment 18446744073709551615 (omega (arith, same, lt))
 
-pub may-not : (s : Setting) (before : Before) (w : Standing) (r : Course) → IsAt s before w r → 18446744073709551615 ≤ w.node.membership.moment → may_tick s r.node ≡ false
+pub may-not : (s : Setting) (before : Before) (w : Standing) (r : Course) → Stands s before w r → 18446744073709551615 ≤ w.node.membership.moment → may_tick s r.node ≡ false
 may-not s before w r at le = let same = at.node.holds.moment_same in above-lt (state_of s r.node).moment 18446744073709551615 (omega (arith, same, le))
 
 -- a tick that can't be counted is none
-pub no-tick : (s : Setting) (before : Before) (w : Standing) (r : Course) → may_tick s r.node ≡ false → IsAt s before w r → Serves s before (Calls Ticks ∷ []) r w (Ok tt)
+pub no-tick : (s : Setting) (before : Before) (w : Standing) (r : Course) → may_tick s r.node ≡ false → Stands s before w r → Serves s before (Calls Ticks ∷ []) r w (Ok tt)
 no-tick s before w r not at =
     let is : acted s r (Calls Ticks) ≡ r = ap (λ b. cond b (gives (call_of s r.node Ticks) r) r) not in
-    subst (λ z. IsAt s before w z) (sym (served-one s (Calls Ticks) r ∙ is)) at
+    subst (λ z. Stands s before w z) (sym (served-one s (Calls Ticks) r ∙ is)) at

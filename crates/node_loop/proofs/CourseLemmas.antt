@@ -8,7 +8,7 @@ use Rattle.journal.specs.declared.turn.Heard.TheVariants as heard
 use Rattle.journal.specs.declared.turn.Turn.{Turn}
 use Rattle.journal.specs.declared.event.Event as journal
 use Rattle.journal.specs.declared.event.What as whats
-use Rattle.node_rules.specs.Nodes.{Setting}
+use Rattle.node_rules.specs.Nodes.{Setting, Node}
 use Rattle.node_rules.specs.Calls.{Call}
 use Rattle.node_rules.specs.Lives.{Input, Delivers, Ticks, call_of}
 use Rattle.node_loop.specs.Turns.{Act, Receives, Writes, Calls, delivery_of, ticks_of, turn_acts}
@@ -163,3 +163,25 @@ coming-turn s turn r =
     let r2 = acted s r1 (Writes (turn_text turn)) in
     ap (λ (x : Course). x.link.coming) (served-cons s Receives (Writes (turn_text turn) ∷ rest) r ∙ served-cons s (Writes (turn_text turn)) rest r1 ∙ served-append s (delivery_of turn.heard) (ticks_of turn.ticks) r2)
     ∙ coming-ticks s turn.ticks (served s (delivery_of turn.heard) r2) ∙ coming-delivery s turn.heard r2
+
+-- ---- what is told leaves the node
+
+node-cond : (b : Bool) (n : Node) (x y : Course) → x.node ≡ n → y.node ≡ n → (cond b x y).node ≡ n
+node-cond true n x y p q = p
+node-cond false n x y p q = q
+
+node-what : (moment : ℕ) (what : whats.What) (d : Option (ℕ × List ℕ)) (r : Course) → (tells_what moment what d r).node ≡ r.node
+node-what moment what (Some d) r = node-cond (fails_next r.link) r.node _ (hands_over d.0 d.1 (writes_event moment (whats.TheVariants.Sent r.sent d.0 d.1) r)) refl refl
+node-what moment what None r = refl
+
+node-tells : (r : Course) (e : journal.Event) → (tells r e).node ≡ r.node
+unfolding tells
+node-tells r e = node-what e.moment e.what (datagram_in e.what) r
+
+pub node-tells_all : (events : List journal.Event) (r : Course) → (tells_all events r).node ≡ r.node
+node-tells_all [] r = refl
+node-tells_all (e ∷ events) r = node-tells_all events (tells r e) ∙ node-tells r e
+
+pub node-gives : (c : Call) (r : Course) → (gives c r).node ≡ c.node
+unfolding gives
+node-gives c r = node-tells_all c.told (moves c r)

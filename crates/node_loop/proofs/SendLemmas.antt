@@ -17,19 +17,19 @@ use Rattle.node_loop.proofs.TellLemmas.{extends-refl, extends-trans, tells-more,
 -- ---- one datagram
 
 -- its line, which has the number of those sent before it
-pub sent-line : (s : Setting) (before : Before) (v : Kept) (link : Option LinkState) (taken after : Option (List ℕ)) (moments : List Moment) (sent moment to : ℕ) (bytes : List ℕ) (r : Course)
-    (answer : Result (Unit {0}) ServeFault) → IsAt s before (standing v link taken moments sent) r
+pub sent-line : (before : Before) (v : Kept) (link : Option LinkState) (taken after : Option (List ℕ)) (moments : List Moment) (sent moment to : ℕ) (bytes : List ℕ) (r : Course)
+    (answer : Result (Unit {0}) ServeFault) → IsAt before (standing v link taken moments sent) r
     → WritesLine taken after (line_of (record { moment = moment; what = kinds.Sent sent to bytes })) answer
-    → Tells s before (standing v link after moments sent) (writes_event moment (kinds.Sent r.sent to bytes) r) answer
-sent-line s before v link taken after moments sent moment to bytes r answer at wrote =
-    written s before v link taken after moments sent (line_of (record { moment = moment; what = kinds.Sent r.sent to bytes })) r answer at
+    → Tells before (standing v link after moments sent) (writes_event moment (kinds.Sent r.sent to bytes) r) answer
+sent-line before v link taken after moments sent moment to bytes r answer at wrote =
+    written before v link taken after moments sent (line_of (record { moment = moment; what = kinds.Sent r.sent to bytes })) r answer at
     (subst (λ (k : ℕ). WritesLine taken after (line_of (record { moment = moment; what = kinds.Sent k to bytes })) answer) at.sent wrote)
 
 -- the line broke off
-pub unsent : (s : Setting) (before : Before) (w : Standing) (moment to : ℕ) (bytes : List ℕ) (r : Course) (e : ServeFault)
-    → Tells s before w (writes_event moment (kinds.Sent r.sent to bytes) r) (Err e) → Tells s before w (sends_one moment to bytes r) (Err e)
-unsent s before w moment to bytes r e h =
-    tells-more s before w (writes_event moment (kinds.Sent r.sent to bytes) r) (sends_one moment to bytes r) e h (grows-sent moment to bytes r)
+pub unsent : (before : Before) (w : Standing) (moment to : ℕ) (bytes : List ℕ) (r : Course) (e : ServeFault)
+    → Tells before w (writes_event moment (kinds.Sent r.sent to bytes) r) (Err e) → Tells before w (sends_one moment to bytes r) (Err e)
+unsent before w moment to bytes r e h =
+    tells-more before w (writes_event moment (kinds.Sent r.sent to bytes) r) (sends_one moment to bytes r) e h (grows-sent moment to bytes r)
 
 -- memory was refused for it
 pub within-sent : (before : Before) (w : Standing) (moment to : ℕ) (bytes : List ℕ) (r : Course) → IsWithin before w (writes_event moment (kinds.Sent r.sent to bytes) r) → IsWithin before w (sends_one moment to bytes r)
@@ -37,24 +37,24 @@ within-sent before w moment to bytes r h =
     within-grows before w (writes_event moment (kinds.Sent r.sent to bytes) r) (sends_one moment to bytes r) h (grows-sent moment to bytes r)
 
 -- it went out
-pub went-out : (s : Setting) (before : Before) (w : Standing) (moment to : ℕ) (bytes : List ℕ) (r : Course) → false ≡ fails_next r.link
-    → IsAt s before w (hands_over to bytes (writes_event moment (kinds.Sent r.sent to bytes) r)) → IsAt s before w (sends_one moment to bytes r)
-went-out s before w moment to bytes r works at =
+pub went-out : (before : Before) (w : Standing) (moment to : ℕ) (bytes : List ℕ) (r : Course) → false ≡ fails_next r.link
+    → IsAt before w (hands_over to bytes (writes_event moment (kinds.Sent r.sent to bytes) r)) → IsAt before w (sends_one moment to bytes r)
+went-out before w moment to bytes r works at =
     let r1 = hands_over to bytes (writes_event moment (kinds.Sent r.sent to bytes) r) in
-    subst (λ (b : Bool). IsAt s before w (cond b (writes_event moment (kinds.Lost r.sent) r1) r1)) works at
+    subst (λ (b : Bool). IsAt before w (cond b (writes_event moment (kinds.Lost r.sent) r1) r1)) works at
 
 -- it is lost, and that is written
-pub got-lost : (s : Setting) (before : Before) (v : Kept) (link : Option LinkState) (taken after : Option (List ℕ)) (moments : List Moment) (sent number moment to : ℕ) (bytes : List ℕ) (r : Course)
+pub got-lost : (before : Before) (v : Kept) (link : Option LinkState) (taken after : Option (List ℕ)) (moments : List Moment) (sent number moment to : ℕ) (bytes : List ℕ) (r : Course)
     (answer : Result (Unit {0}) ServeFault) → true ≡ fails_next r.link → number ≡ r.sent
-    → IsAt s before (standing v link taken moments sent) (hands_over to bytes (writes_event moment (kinds.Sent r.sent to bytes) r))
+    → IsAt before (standing v link taken moments sent) (hands_over to bytes (writes_event moment (kinds.Sent r.sent to bytes) r))
     → WritesLine taken after (line_of (record { moment = moment; what = kinds.Lost number })) answer
-    → Tells s before (standing v link after moments sent) (sends_one moment to bytes r) answer
-got-lost s before v link taken after moments sent number moment to bytes r answer fails is at wrote =
+    → Tells before (standing v link after moments sent) (sends_one moment to bytes r) answer
+got-lost before v link taken after moments sent number moment to bytes r answer fails is at wrote =
     let r1 = hands_over to bytes (writes_event moment (kinds.Sent r.sent to bytes) r) in
     let line = line_of (record { moment = moment; what = kinds.Lost r.sent }) in
-    let told = written s before v link taken after moments sent line r1 answer at
+    let told = written before v link taken after moments sent line r1 answer at
     (subst (λ (k : ℕ). WritesLine taken after (line_of (record { moment = moment; what = kinds.Lost k })) answer) is wrote) in
-    subst (λ (b : Bool). Tells s before (standing v link after moments sent) (cond b (writes line r1) r1) answer) fails told
+    subst (λ (b : Bool). Tells before (standing v link after moments sent) (cond b (writes line r1) r1) answer) fails told
 
 -- ---- one event
 
@@ -66,34 +66,34 @@ pub tells-writes : (e : journal.Event) (r : Course) → datagram_in e.what ≡ N
 unfolding tells
 tells-writes e r is = ap (λ (x : Option (ℕ × List ℕ)). tells_what e.moment e.what x r) is
 
-pub told-as : (s : Setting) (before : Before) (w : Standing) (r r1 : Course) (answer : Result (Unit {0}) ServeFault) → r1 ≡ r → Tells s before w r answer → Tells s before w r1 answer
-told-as s before w r r1 answer is h = subst (λ (x : Course). Tells s before w x answer) (sym is) h
+pub told-as : (before : Before) (w : Standing) (r r1 : Course) (answer : Result (Unit {0}) ServeFault) → r1 ≡ r → Tells before w r answer → Tells before w r1 answer
+told-as before w r r1 answer is h = subst (λ (x : Course). Tells before w x answer) (sym is) h
 
 -- ---- events one after another
 
 -- These events were told.
 pub record HasTold (v : Kept) (events : List journal.Event) (link later : Option LinkState) (taken after : Option (List ℕ)) (sent sent1 : ℕ) : Type 0 where
-  pub tells : (s : Setting) (before : Before) (moments : List Moment) (r : Course) → IsAt s before (standing v link taken moments sent) r → IsAt s before (standing v later after moments sent1) (tells_all events r)
+  pub tells : (before : Before) (moments : List Moment) (r : Course) → IsAt before (standing v link taken moments sent) r → IsAt before (standing v later after moments sent1) (tells_all events r)
   pub extends : Extends taken after link later
 
 pub told-none : (v : Kept) (link : Option LinkState) (taken : Option (List ℕ)) (sent : ℕ) → HasTold v [] link link taken taken sent sent
-told-none v link taken sent = record { tells = λ s before moments r at. at; extends = extends-refl taken link }
+told-none v link taken sent = record { tells = λ before moments r at. at; extends = extends-refl taken link }
 
 pub told-next : (v : Kept) (done more : List journal.Event) (e : journal.Event) (l1 l2 l3 : Option LinkState) (t1 t2 t3 : Option (List ℕ)) (n1 n2 n3 : ℕ) → HasTold v done l1 l2 t1 t2 n1 n2 → more ≡ done ++ e ∷ []
-    → ((s : Setting) (before : Before) (moments : List Moment) (r : Course) → IsAt s before (standing v l2 t2 moments n2) r → IsAt s before (standing v l3 t3 moments n3) (tells r e))
+    → ((before : Before) (moments : List Moment) (r : Course) → IsAt before (standing v l2 t2 moments n2) r → IsAt before (standing v l3 t3 moments n3) (tells r e))
     → Extends t2 t3 l2 l3 → HasTold v more l1 l3 t1 t3 n1 n3
 told-next v done more e l1 l2 l3 t1 t2 t3 n1 n2 n3 h is next extends = record {
-  tells = λ s before moments r at.
-      subst (λ (x : Course). IsAt s before (standing v l3 t3 moments n3) x) (sym (ap (λ (es : List journal.Event). tells_all es r) is ∙ tells_all-append done (e ∷ []) r))
-      (next s before moments (tells_all done r) (h.tells s before moments r at));
+  tells = λ before moments r at.
+      subst (λ (x : Course). IsAt before (standing v l3 t3 moments n3) x) (sym (ap (λ (es : List journal.Event). tells_all es r) is ∙ tells_all-append done (e ∷ []) r))
+      (next before moments (tells_all done r) (h.tells before moments r at));
   extends = extends-trans t1 t2 t3 l1 l2 l3 h.extends extends;
 }
 
 -- one of them broke off
-pub told-part : (s : Setting) (before : Before) (w : Standing) (done all rest : List journal.Event) (e : journal.Event) (r : Course) (fault : ServeFault) → all ≡ done ++ e ∷ rest
-    → Tells s before w (tells (tells_all done r) e) (Err fault) → Tells s before w (tells_all all r) (Err fault)
-told-part s before w done all rest e r fault is h =
-    tells-more s before w (tells (tells_all done r) e) (tells_all all r) fault h
+pub told-part : (before : Before) (w : Standing) (done all rest : List journal.Event) (e : journal.Event) (r : Course) (fault : ServeFault) → all ≡ done ++ e ∷ rest
+    → Tells before w (tells (tells_all done r) e) (Err fault) → Tells before w (tells_all all r) (Err fault)
+told-part before w done all rest e r fault is h =
+    tells-more before w (tells (tells_all done r) e) (tells_all all r) fault h
     (subst (λ (x : Course). Grows (tells (tells_all done r) e) x) (sym (ap (λ (es : List journal.Event). tells_all es r) is ∙ tells_all-append done (e ∷ rest) r)) (grows-tells_all rest (tells (tells_all done r) e)))
 
 -- what a `?` hands on

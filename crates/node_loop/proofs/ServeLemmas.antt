@@ -1,12 +1,13 @@
 -- How acts are served, some behind others.
 use Rattle.std.proofs.Common.{◌≡◌, ◌⊎◌, inl, inr, List, [], ◌∷◌, ◌++◌, Result, Ok, Err, refl, sym, ap, ◌∙◌, subst, append_assoc, append-nil}
 use Rattle.node_rules.specs.Nodes.{Setting}
+use Rattle.node_rules.specs.Lives.{call_of}
 use Rattle.node_loop.specs.declared.fault.ServeFault.{ServeFault}
 use Rattle.node_loop.specs.declared.fault.ServeFault.TheVariants as faults
 use Rattle.node_loop.specs.Turns.{Act, Calls}
-use Rattle.node_loop.specs.Courses.{Course, gives, served}
-use Rattle.node_loop.specs.Writing.{Before, Standing, IsAt, IsBeyond, IsWithin}
-use Rattle.node_loop.specs.Serving.{IsCut, IsStopped, IsWhole, BreaksOff, IsStarved, Serves}
+use Rattle.node_loop.specs.Courses.{Course, gives, served, tells_all}
+use Rattle.node_loop.specs.Writing.{Before, IsBeyond, IsWithin, Standing, Stands}
+use Rattle.node_loop.specs.Serving.{IsCut, IsStopped, IsWhole, BreaksOff, IsStarved, Serves, starves}
 use Rattle.node_loop.proofs.CourseLemmas.{Grows, grows-refl, grows-served, served-append}
 use Rattle.node_loop.proofs.TellLemmas.{within-grows}
 
@@ -61,6 +62,10 @@ starved-within s before first acts last start w h = record {
   split = split-within first acts last h.done h.later (Calls h.input) h.split;
   over = h.over;
   beyond = subst (λ r. IsBeyond before w r) (sym (served-append s first h.done start)) h.beyond;
+  there = h.there;
+  knows = h.knows;
+  spent = h.spent;
+  within = subst (λ (r : Course). IsWithin before w (tells_all (call_of s r.node h.input).told (starves h.there h.spent r))) (sym (served-append s first h.done start)) h.within;
 }
 
 either-within : (s : Setting) (before : Before) (first acts last : List Act) (start : Course) (w : Standing)
@@ -83,7 +88,7 @@ serves-within s before first acts last start w faults.OutOfMemory h = either-wit
 -- the last of the acts
 pub serves-last : (s : Setting) (before : Before) (first acts : List Act) (start : Course) (w : Standing) (answer : Result (Unit {0}) ServeFault)
     → Serves s before acts (served s first start) w answer → Serves s before (first ++ acts) start w answer
-serves-last s before first acts start w (Ok x) h = subst (λ r. IsAt s before w r) (sym (served-append s first acts start)) h
+serves-last s before first acts start w (Ok x) h = subst (λ r. Stands s before w r) (sym (served-append s first acts start)) h
 serves-last s before first acts start w (Err e) h =
     let P : List Act → Type 0 = λ xs. Serves s before (first ++ xs) start w (Err e) in
     subst P (append-nil acts) (serves-within s before first acts [] start w e h)

@@ -37,8 +37,8 @@ within-grows before w r whole h g = record {
   key = h.key;
 }
 
-pub at-within : (s : Setting) (before : Before) (w : Standing) (r : Course) → IsAt s before w r → IsWithin before w r
-at-within s before w r at = record {
+pub at-within : (before : Before) (w : Standing) (r : Course) → IsAt before w r → IsWithin before w r
+at-within before w r at = record {
   text = r.text;
   front = front-refl r.text;
   written = at.text;
@@ -51,26 +51,26 @@ at-within s before w r at = record {
 }
 
 -- what broke off within a course broke off within a longer one
-pub tells-more : (s : Setting) (before : Before) (w : Standing) (r whole : Course) (e : ServeFault)
-    → Tells s before w r (Err e) → Grows r whole → Tells s before w whole (Err e)
-tells-more s before w r whole faults.StoreFault h g = h
-tells-more s before w r whole faults.WriteFault h g = within-grows before w r whole h g
-tells-more s before w r whole faults.OutOfMemory h g = within-grows before w r whole h g
+pub tells-more : (before : Before) (w : Standing) (r whole : Course) (e : ServeFault)
+    → Tells before w r (Err e) → Grows r whole → Tells before w whole (Err e)
+tells-more before w r whole faults.StoreFault h g = h
+tells-more before w r whole faults.WriteFault h g = within-grows before w r whole h g
+tells-more before w r whole faults.OutOfMemory h g = within-grows before w r whole h g
 
 -- ---- lines
 
-pub written : (s : Setting) (before : Before) (v : Kept) (link : Option LinkState) (taken after : Option (List ℕ)) (moments : List Moment) (sent : ℕ) (line : List ℕ) (r : Course)
-    (answer : Result (Unit {0}) ServeFault) → IsAt s before (standing v link taken moments sent) r → WritesLine taken after line answer
-    → Tells s before (standing v link after moments sent) (writes line r) answer
-written s before v link taken after moments sent line r (Ok x) at wrote = record {
-  node = at.node;
+pub written : (before : Before) (v : Kept) (link : Option LinkState) (taken after : Option (List ℕ)) (moments : List Moment) (sent : ℕ) (line : List ℕ) (r : Course)
+    (answer : Result (Unit {0}) ServeFault) → IsAt before (standing v link taken moments sent) r → WritesLine taken after line answer
+    → Tells before (standing v link after moments sent) (writes line r) answer
+written before v link taken after moments sent line r (Ok x) at wrote = record {
+  knows = at.knows;
   link = at.link;
   text = Appends-trans before.taken taken after r.text line at.text wrote;
   sent = at.sent;
   key = at.key;
 }
-written s before v link taken after moments sent line r (Err faults.StoreFault) at wrote = wrote
-written s before v link taken after moments sent line r (Err faults.WriteFault) at wrote = record {
+written before v link taken after moments sent line r (Err faults.StoreFault) at wrote = wrote
+written before v link taken after moments sent line r (Err faults.WriteFault) at wrote = record {
   text = r.text ++ take wrote.count line;
   front = record {
     more = drop wrote.count line;
@@ -84,7 +84,7 @@ written s before v link taken after moments sent line r (Err faults.WriteFault) 
   made = front-refl r.spent;
   key = at.key;
 }
-written s before v link taken after moments sent line r (Err faults.OutOfMemory) at same = record {
+written before v link taken after moments sent line r (Err faults.OutOfMemory) at same = record {
   text = r.text;
   front = front-append r.text line;
   written = subst (λ x. Appends before.taken x r.text) (sym same) at.text;
@@ -98,9 +98,9 @@ written s before v link taken after moments sent line r (Err faults.OutOfMemory)
 
 -- ---- datagrams
 
-pub port-of : (s : Setting) (before : Before) (w : Standing) (r : Course) (to : ℕ) → IsAt s before w r
+pub port-of : (before : Before) (w : Standing) (r : Course) (to : ℕ) → IsAt before w r
     → unwrap_or (option_map (λ c. c.port) (kept_certificate w.node.roster to)) 0 ≡ port_in r.node to
-port-of s before w r to at = ap (λ c. unwrap_or (option_map (λ x. x.port) c) 0) (at.node.roster to)
+port-of before w r to at = ap (λ c. unwrap_or (option_map (λ x. x.port) c) 0) (at.knows to)
 
 given-by : (port : ℕ) (bytes : List ℕ) (was : LinkState) (link after : Option LinkState) (lost : Bool) → link ≡ Some was
     → HandsOver port bytes link after (Ok lost) → HandsOver port bytes (Some was) after (Ok lost)
@@ -111,28 +111,28 @@ refused-by : (port : ℕ) (bytes : List ℕ) (was : LinkState) (link after : Opt
 refused-by port bytes was link after e is h = let P : Option LinkState → Type 0 = λ x. HandsOver port bytes x after (Err e) in subst P is h
 
 -- the datagram was given
-pub handed : (s : Setting) (before : Before) (v : Kept) (link after : Option LinkState) (taken : Option (List ℕ)) (moments : List Moment) (sent to : ℕ) (bytes : List ℕ) (r : Course) (lost : Bool)
-    → IsAt s before (standing v link taken moments sent) r → HandsOver (unwrap_or (option_map (λ c. c.port) (kept_certificate v.roster to)) 0) bytes link after (Ok lost)
-    → IsAt s before (standing v after taken moments (next_count sent)) (hands_over to bytes r)
-handed s before v link after taken moments sent to bytes r lost at h =
+pub handed : (before : Before) (v : Kept) (link after : Option LinkState) (taken : Option (List ℕ)) (moments : List Moment) (sent to : ℕ) (bytes : List ℕ) (r : Course) (lost : Bool)
+    → IsAt before (standing v link taken moments sent) r → HandsOver (unwrap_or (option_map (λ c. c.port) (kept_certificate v.roster to)) 0) bytes link after (Ok lost)
+    → IsAt before (standing v after taken moments (next_count sent)) (hands_over to bytes r)
+handed before v link after taken moments sent to bytes r lost at h =
     let port = unwrap_or (option_map (λ c. c.port) (kept_certificate v.roster to)) 0 in
     record {
-      node = at.node;
+      knows = at.knows;
       link = (given-by port bytes r.link link after lost at.link h).1
-          ∙ ap (λ p. Some (with_given p bytes r.link)) (port-of s before (standing v link taken moments sent) r to at);
+          ∙ ap (λ p. Some (with_given p bytes r.link)) (port-of before (standing v link taken moments sent) r to at);
       text = at.text;
       sent = ap next_count at.sent;
       key = at.key;
     }
 
-pub lost-is : (s : Setting) (before : Before) (v : Kept) (link after : Option LinkState) (taken : Option (List ℕ)) (moments : List Moment) (sent port : ℕ) (bytes : List ℕ) (r : Course) (lost : Bool)
-    → IsAt s before (standing v link taken moments sent) r → HandsOver port bytes link after (Ok lost) → lost ≡ fails_next r.link
-lost-is s before v link after taken moments sent port bytes r lost at h = (given-by port bytes r.link link after lost at.link h).0
+pub lost-is : (before : Before) (v : Kept) (link after : Option LinkState) (taken : Option (List ℕ)) (moments : List Moment) (sent port : ℕ) (bytes : List ℕ) (r : Course) (lost : Bool)
+    → IsAt before (standing v link taken moments sent) r → HandsOver port bytes link after (Ok lost) → lost ≡ fails_next r.link
+lost-is before v link after taken moments sent port bytes r lost at h = (given-by port bytes r.link link after lost at.link h).0
 
 -- memory was refused for the datagram
-pub not-handed : (s : Setting) (before : Before) (v : Kept) (link after : Option LinkState) (taken : Option (List ℕ)) (moments : List Moment) (sent port : ℕ) (bytes : List ℕ) (r : Course) (e : NoMemory)
-    → IsAt s before (standing v link taken moments sent) r → HandsOver port bytes link after (Err e) → IsWithin before (standing v after taken moments sent) r
-not-handed s before v link after taken moments sent port bytes r e at h = record {
+pub not-handed : (before : Before) (v : Kept) (link after : Option LinkState) (taken : Option (List ℕ)) (moments : List Moment) (sent port : ℕ) (bytes : List ℕ) (r : Course) (e : NoMemory)
+    → IsAt before (standing v link taken moments sent) r → HandsOver port bytes link after (Err e) → IsWithin before (standing v after taken moments sent) r
+not-handed before v link after taken moments sent port bytes r e at h = record {
   text = r.text;
   front = front-refl r.text;
   written = at.text;
@@ -184,9 +184,9 @@ pub extends-handed : (taken : Option (List ℕ)) (port : ℕ) (bytes : List ℕ)
 extends-handed taken port bytes link after answer h = record { text = []; written = Appends-nil taken; given = keeps-handed port bytes link after answer h }
 
 -- a course that the link and the sink stood at is a front of what stands
-pub beyond : (s : Setting) (before : Before) (v v1 : Kept) (link later : Option LinkState) (taken after : Option (List ℕ)) (older newer : List Moment) (sent sent1 : ℕ) (r : Course) (spent : List Spent)
-    → IsAt s before (standing v link taken older sent) r → Extends taken after link later → LivesOn spent v.signer v1.signer older newer → IsBeyond before (standing v1 later after newer sent1) r
-beyond s before v v1 link later taken after older newer sent sent1 r spent at more lives =
+pub beyond : (before : Before) (v v1 : Kept) (link later : Option LinkState) (taken after : Option (List ℕ)) (older newer : List Moment) (sent sent1 : ℕ) (r : Course) (spent : List Spent)
+    → IsAt before (standing v link taken older sent) r → Extends taken after link later → LivesOn spent v.signer v1.signer older newer → IsBeyond before (standing v1 later after newer sent1) r
+beyond before v v1 link later taken after older newer sent sent1 r spent at more lives =
     let P : Option LinkState → Type 0 = λ o. KeepsGiven o later in
     let given : KeepsGiven (Some r.link) later = subst P at.link more.given in
     record {

@@ -19,7 +19,7 @@ use Rattle.journal.specs.declared.turn.Turn.{Turn}
 use Rattle.journal.specs.Turns.{turn_text}
 use Rattle.node_loop.specs.Turns.{Act, Receives, Writes, Calls, Outlook, after_turn, life_acts, delivery_of, heard_of, ticks_in, ticks_of, ticks_owed, turn_acts, turn_in, turns_from}
 use Rattle.node_loop.specs.Courses.{Course, acted, served, served_from, with_feed, writes}
-use Rattle.node_loop.specs.Writing.{Before, Hears, IsAt, IsWithin, Standing, Tells, before_all, standing}
+use Rattle.node_loop.specs.Writing.{Before, Hears, IsWithin, Standing, Stands, Tells, before_all, standing}
 use Rattle.node_loop.specs.Serving.{Sees, Serves}
 use Rattle.node_loop.proofs.CourseLemmas.{Grows, coming-turn, front-refl, grows-served, served-append, served-cons, served-nil}
 use Rattle.node_loop.proofs.ServeLemmas.{breaks-off, serves-last, serves-within}
@@ -42,12 +42,12 @@ ticks-split done all lt =
     let e : done + (1 + rest) ≡ all = omega (arith, lt) in
     ap (λ xs. ticks_of done ++ xs) (ticks-more 1 rest) ∙ ticks-more done (1 + rest) ∙ ap ticks_of e
 
-pub ticked-none : (s : Setting) (before : Before) (w : Standing) (r : Course) → IsAt s before w r → IsAt s before w (served s (ticks_of 0) r)
-ticked-none s before w r at = subst (λ x. IsAt s before w x) (sym (served-nil s r)) at
+pub ticked-none : (s : Setting) (before : Before) (w : Standing) (r : Course) → Stands s before w r → Stands s before w (served s (ticks_of 0) r)
+ticked-none s before w r at = subst (λ x. Stands s before w x) (sym (served-nil s r)) at
 
-pub ticked-on : (s : Setting) (before : Before) (w : Standing) (r : Course) (done : ℕ) → IsAt s before w (served s (Calls Ticks ∷ []) (served s (ticks_of done) r)) → IsAt s before w (served s (ticks_of (done + 1)) r)
+pub ticked-on : (s : Setting) (before : Before) (w : Standing) (r : Course) (done : ℕ) → Stands s before w (served s (Calls Ticks ∷ []) (served s (ticks_of done) r)) → Stands s before w (served s (ticks_of (done + 1)) r)
 ticked-on s before w r done at =
-    subst (λ x. IsAt s before w x) (sym (served-append s (ticks_of done) (Calls Ticks ∷ []) r) ∙ ap (λ acts. served s acts r) (ticks-one done)) at
+    subst (λ x. Stands s before w x) (sym (served-append s (ticks_of done) (Calls Ticks ∷ []) r) ∙ ap (λ acts. served s acts r) (ticks-one done)) at
 
 -- a tick ended among them
 pub tick-ended : (s : Setting) (before : Before) (w : Standing) (r : Course) (done all : ℕ) (e : ServeFault) → done < all → Serves s before (Calls Ticks ∷ []) (served s (ticks_of done) r) w (Err e) → Serves s before (ticks_of all) r w (Err e)
@@ -58,30 +58,33 @@ tick-ended s before w r done all e lt h =
 
 -- what was heard
 pub at-heard : (s : Setting) (before : Before) (v : Kept) (link after : Option LinkState) (taken : Option (List ℕ)) (moments : List Moment) (sent : ℕ) (r : Course) (came : Heard)
-    → IsAt s before (standing v link taken moments sent) r → Hears link after (Ok came) → IsAt s before (standing v after taken moments sent) (acted s r Receives)
+    → Stands s before (standing v link taken moments sent) r → Hears link after (Ok came) → Stands s before (standing v after taken moments sent) (acted s r Receives)
 at-heard s before v link after taken moments sent r came at h =
     let P : Option LinkState → Type 0 = λ o. Hears o after (Ok came) in
-    record { node = at.node; link = (subst P at.link h).1; text = at.text; sent = at.sent; key = at.key }
+    record {
+      node = at.node;
+      at = record { knows = at.at.knows; link = (subst P at.at.link h).1; text = at.at.text; sent = at.at.sent; key = at.at.key };
+    }
 
 pub heard-is : (s : Setting) (before : Before) (v : Kept) (link after : Option LinkState) (taken : Option (List ℕ)) (moments : List Moment) (sent : ℕ) (r : Course) (came : Heard)
-    → IsAt s before (standing v link taken moments sent) r → Hears link after (Ok came) → came ≡ heard_of (next_of r.link.coming)
+    → Stands s before (standing v link taken moments sent) r → Hears link after (Ok came) → came ≡ heard_of (next_of r.link.coming)
 heard-is s before v link after taken moments sent r came at h =
-    let P : Option LinkState → Type 0 = λ o. Hears o after (Ok came) in (subst P at.link h).0
+    let P : Option LinkState → Type 0 = λ o. Hears o after (Ok came) in (subst P at.at.link h).0
 
 pub within-unheard : (s : Setting) (before : Before) (v : Kept) (link after : Option LinkState) (taken : Option (List ℕ)) (moments : List Moment) (sent : ℕ) (r : Course) (e : NoMemory)
-    → IsAt s before (standing v link taken moments sent) r → Hears link after (Err e) → IsWithin before (standing v after taken moments sent) r
+    → Stands s before (standing v link taken moments sent) r → Hears link after (Err e) → IsWithin before (standing v after taken moments sent) r
 within-unheard s before v link after taken moments sent r e at h =
     let P : Option LinkState → Type 0 = λ o. Hears o after (Err e) in
     record {
       text = r.text;
       front = front-refl r.text;
-      written = at.text;
+      written = at.at.text;
       link = received_from r.link;
-      told = subst P at.link h;
+      told = subst P at.at.link h;
       given = front-refl r.link.given;
       spent = r.spent;
       made = front-refl r.spent;
-      key = at.key;
+      key = at.at.key;
     }
 
 served-line : (s : Setting) (turn : Turn) (r : Course)
@@ -100,8 +103,8 @@ pub nothing-delivered : (came : Heard) → (came ≡ heard.Nothing) ⊎ (came �
 nothing-delivered came (inl is) = ap delivery_of is
 nothing-delivered came (inr is) = ap delivery_of is
 
-pub undelivered : (s : Setting) (before : Before) (w : Standing) (r : Course) (came : Heard) → (came ≡ heard.Nothing) ⊎ (came ≡ heard.Failed) → IsAt s before w r → IsAt s before w (served s (delivery_of came) r)
-undelivered s before w r came nothing at = subst (λ x. IsAt s before w x) (sym (ap (λ acts. served s acts r) (nothing-delivered came nothing) ∙ served-nil s r)) at
+pub undelivered : (s : Setting) (before : Before) (w : Standing) (r : Course) (came : Heard) → (came ≡ heard.Nothing) ⊎ (came ≡ heard.Failed) → Stands s before w r → Stands s before w (served s (delivery_of came) r)
+undelivered s before w r came nothing at = subst (λ x. Stands s before w x) (sym (ap (λ acts. served s acts r) (nothing-delivered came nothing) ∙ served-nil s r)) at
 
 -- the turn that was made is the one that was due
 pub turn-due : (s : Setting) (before : Before) (r : Course) (w : Standing) (made due : Turn) (answer : Result (Unit {0}) ServeFault) → made ≡ due → Serves s before (turn_acts made) r w answer → Serves s before (turn_acts due) r w answer
@@ -113,7 +116,7 @@ unheard-turn s before w r acts h = inl (breaks-off s before acts r r w h (grows-
 
 -- the turn's line broke off
 pub unwritten-turn : (s : Setting) (before : Before) (w : Standing) (r : Course) (turn : Turn) (e : ServeFault)
-    → Tells s before w (writes (with_feed (turn_text turn)) (acted s r Receives)) (Err e) → Serves s before (turn_acts turn) r w (Err e)
+    → Tells before w (writes (with_feed (turn_text turn)) (acted s r Receives)) (Err e) → Serves s before (turn_acts turn) r w (Err e)
 unwritten-turn s before w r turn faults.StoreFault h = absurd h
 unwritten-turn s before w r turn faults.WriteFault h = inl (breaks-off s before (turn_acts turn) r _ w h (grows-line s turn r))
 unwritten-turn s before w r turn faults.OutOfMemory h = inl (breaks-off s before (turn_acts turn) r _ w h (grows-line s turn r))
@@ -186,19 +189,19 @@ pub record Turned (s : Setting) (before : Before) (millis base all done : ℕ) (
   pub acts : List Act
   pub outlook : Outlook
   pub split : turns_from millis base all 1 o ≡ acts ++ turns_from millis base (all - done) (done + 1) outlook
-  pub at : IsAt s before w (served s acts start)
+  pub at : Stands s before w (served s acts start)
   pub sees : Sees outlook (served s acts start) reading readings made
 
 turns-none : (millis base all : ℕ) (o : Outlook) → turns_from millis base all 1 o ≡ turns_from millis base (all - 0) (0 + 1) o
 turns-none millis base all o = let e : all ≡ all - 0 = omega arith in ap (λ k. turns_from millis base k 1 o) e
 
 pub turned-first : (s : Setting) (before : Before) (millis base all : ℕ) (o : Outlook) (start : Course) (w : Standing) (reading : ℕ) (readings : Option (List ℕ)) (made : ℕ)
-    → IsAt s before w start → Sees o start reading readings made → Turned s before millis base all 0 o start w reading readings made
+    → Stands s before w start → Sees o start reading readings made → Turned s before millis base all 0 o start w reading readings made
 turned-first s before millis base all o start w reading readings made at sees = record {
   acts = [];
   outlook = o;
   split = turns-none millis base all o;
-  at = subst (λ r. IsAt s before w r) (sym (served-nil s start)) at;
+  at = subst (λ r. Stands s before w r) (sym (served-nil s start)) at;
   sees = subst (λ r. Sees o r reading readings made) (sym (served-nil s start)) sees;
 }
 
@@ -215,7 +218,7 @@ split-step s before millis base all done o start w reading readings made lt t = 
 
 pub turned-next : (s : Setting) (before : Before) (millis base all done : ℕ) (o : Outlook) (start : Course) (w w1 : Standing) (reading now : ℕ) (readings later : Option (List ℕ)) (made made1 : ℕ)
     → done < all → (t : Turned s before millis base all done o start w reading readings made)
-    → IsAt s before w1 (served s (turn_acts (turn_in millis base (done + 1) t.outlook)) (served s t.acts start))
+    → Stands s before w1 (served s (turn_acts (turn_in millis base (done + 1) t.outlook)) (served s t.acts start))
     → Sees (after_turn millis base t.outlook) (served s (turn_acts (turn_in millis base (done + 1) t.outlook)) (served s t.acts start)) now later made1
     → Turned s before millis base all (done + 1) o start w1 now later made1
 turned-next s before millis base all done o start w w1 reading now readings later made made1 lt t at sees =
@@ -225,7 +228,7 @@ turned-next s before millis base all done o start w w1 reading now readings late
       acts = t.acts ++ acts;
       outlook = after_turn millis base t.outlook;
       split = split-step s before millis base all done o start w reading readings made lt t ∙ sym (append_assoc t.acts acts (turns_from millis base (all - (done + 1)) (done + 1 + 1) (after_turn millis base t.outlook)));
-      at = subst (λ r. IsAt s before w1 r) is at;
+      at = subst (λ r. Stands s before w1 r) is at;
       sees = subst (λ r. Sees (after_turn millis base t.outlook) r now later made1) is sees;
     }
 
@@ -240,18 +243,21 @@ turned-ends s before millis base all done o start w w1 reading readings made e l
     subst P (sym (split-step s before millis base all done o start w reading readings made lt t)) (serves-within s before t.acts acts rest start w1 e h)
 
 pub turned-last : (s : Setting) (before : Before) (millis base all : ℕ) (o : Outlook) (start : Course) (w : Standing) (reading : ℕ) (readings : Option (List ℕ)) (made : ℕ)
-    → Turned s before millis base all all o start w reading readings made → IsAt s before w (served s (turns_from millis base all 1 o) start)
+    → Turned s before millis base all all o start w reading readings made → Stands s before w (served s (turns_from millis base all 1 o) start)
 turned-last s before millis base all o start w reading readings made t =
     let e : all - all ≡ 0 = omega arith in
     let whole : turns_from millis base all 1 o ≡ t.acts =
     t.split ∙ ap (λ k. t.acts ++ turns_from millis base k (all + 1) t.outlook) e ∙ append-nil t.acts in
-    subst (λ xs. IsAt s before w (served s xs start)) (sym whole) t.at
+    subst (λ xs. Stands s before w (served s xs start)) (sym whole) t.at
 
 -- ---- the life
 
 pub begins-at : (s : Setting) (v : Kept) (n : RulesNode) (link : Option LinkState) (taken : Option (List ℕ)) (moments : List Moment) (told : LinkState) → IsNode s v n → link ≡ Some told
-    → IsAt s (before_all taken v.signer moments) (standing v link taken moments 0) (served_from n told)
-begins-at s v n link taken moments told is tells = record { node = is; link = tells; text = Appends-nil taken; sent = refl; key = lives-same v.signer v.signer moments refl }
+    → Stands s (before_all taken v.signer moments) (standing v link taken moments 0) (served_from n told)
+begins-at s v n link taken moments told is tells = record {
+  node = is;
+  at = record { knows = is.roster; link = tells; text = Appends-nil taken; sent = refl; key = lives-same v.signer v.signer moments refl };
+}
 
 -- as the base was read
 abbrev pub first_outlook : List LinkAnswer → ℕ → List ℕ → Outlook

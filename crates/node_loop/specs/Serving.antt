@@ -4,16 +4,18 @@ use Rattle.std.specs.List.{slice_get}
 use Rattle.records.specs.declared.Record.{Record}
 use Rattle.datagram.specs.declared.Datagram.TheVariants as kinds
 use Rattle.datagram.specs.Grammar.{read_of}
-use Rattle.node_rules.specs.Nodes.{Setting, Node}
+use Rattle.signer.specs.Lives.{Spent}
+use Rattle.validate.specs.Certified.{certificate_of as kept_certificate}
+use Rattle.node_rules.specs.Nodes.{Setting, Node, certificate_of}
 use Rattle.node_rules.specs.Calls.{Call}
 use Rattle.node_rules.specs.Deliveries.{delivered_until}
 use Rattle.node_rules.specs.Ticking.{silent_at, ticked_until}
-use Rattle.node_rules.specs.Lives.{Input, Delivers, Ticks}
+use Rattle.node_rules.specs.Lives.{Input, Delivers, Ticks, call_of}
 use Rattle.node_loop.specs.declared.fault.ServeFault.{ServeFault}
 use Rattle.node_loop.specs.declared.fault.ServeFault.TheVariants as faults
 use Rattle.node_loop.specs.Turns.{Act, Calls, Outlook}
-use Rattle.node_loop.specs.Courses.{Course, gives, served}
-use Rattle.node_loop.specs.Writing.{Before, Standing, IsAt, IsBeyond, IsWithin}
+use Rattle.node_loop.specs.Courses.{Course, gives, served, tells_all}
+use Rattle.node_loop.specs.Writing.{Before, IsBeyond, IsWithin, Standing, Stands}
 
 -- The disk fails in the answer to a record of the datagram.
 pub record IsCutDelivery (s : Setting) (n : Node) (bytes : List ℕ) (c : Call) : Type 0 where
@@ -53,11 +55,15 @@ pub record IsStopped (s : Setting) (acts : List Act) (start whole : Course) : Ty
 abbrev pub IsWhole : Setting → List Act → Course → Course → Type 0
 IsWhole s acts start whole = (whole ≡ served s acts start) ⊎ IsStopped s acts start whole
 
+-- The node has come to this, and has made these signatures.
+abbrev pub starves : Node → List Spent → Course → Course
+starves there spent r = record r { node = there; spent = r.spent ++ spent }
+
 -- It stands where a stopped course does.
 pub record StandsStopped (s : Setting) (before : Before) (acts : List Act) (start : Course) (w : Standing) : Type 0 where
   pub whole : Course
   pub stopped : IsStopped s acts start whole
-  pub at : IsAt s before w whole
+  pub at : Stands s before w whole
 
 -- What was written and given to the link is a front of what a course writes and gives.
 pub record BreaksOff (s : Setting) (before : Before) (acts : List Act) (start : Course) (w : Standing) : Type 0 where
@@ -65,7 +71,8 @@ pub record BreaksOff (s : Setting) (before : Before) (acts : List Act) (start : 
   pub is : IsWhole s acts start whole
   pub within : IsWithin before w whole
 
--- Memory was refused in a call of the node, which is over: what came before the call stands in front.
+-- Memory was refused in a call of the node, which is over. What came before the call stands in front, and of what the
+-- whole call would tell a front was told, with the ports in the certificates that the node keeps.
 pub record IsStarved (s : Setting) (before : Before) (acts : List Act) (start : Course) (w : Standing) : Type 0 where
   pub done : List Act
   pub input : Input
@@ -73,11 +80,15 @@ pub record IsStarved (s : Setting) (before : Before) (acts : List Act) (start : 
   pub split : acts ≡ done ++ Calls input ∷ later
   pub over : w.node.ended ≡ true
   pub beyond : IsBeyond before w (served s done start)
+  pub there : Node
+  pub knows : (m : ℕ) → kept_certificate w.node.roster m ≡ certificate_of there m
+  pub spent : List Spent
+  pub within : IsWithin before w (tells_all (call_of s (served s done start).node input).told (starves there spent (served s done start)))
 
 -- All acts were done; or the disk failed in one of the calls, and what that gave was still told; or a write failed, or
 -- memory was refused, and it broke off somewhere.
 abbrev pub Serves : Setting → Before → List Act → Course → Standing → Result (Unit {0}) ServeFault → Type 0
-Serves s before acts start w (Ok done) = IsAt s before w (served s acts start)
+Serves s before acts start w (Ok done) = Stands s before w (served s acts start)
 Serves s before acts start w (Err faults.StoreFault) = StandsStopped s before acts start w
 Serves s before acts start w (Err faults.WriteFault) = BreaksOff s before acts start w ⊎ IsStarved s before acts start w
 Serves s before acts start w (Err faults.OutOfMemory) = BreaksOff s before acts start w ⊎ IsStarved s before acts start w

@@ -12,7 +12,8 @@ use Rattle.signer.specs.Signing.{SignerState}
 use Rattle.node_core.specs.Playing.{Kept, IsNode}
 use Rattle.node_core.specs.Spending.{LivesOn}
 use Rattle.node_core.specs.Told.{IsFront}
-use Rattle.node_rules.specs.Nodes.{Setting}
+use Rattle.node_rules.specs.Nodes.{Setting, certificate_of}
+use Rattle.validate.specs.Certified.{certificate_of as kept_certificate}
 use Rattle.node_loop.specs.declared.fault.ServeFault.{ServeFault}
 use Rattle.node_loop.specs.declared.fault.ServeFault.TheVariants as faults
 use Rattle.journal.specs.declared.turn.Heard.{Heard}
@@ -93,13 +94,18 @@ pub record GoesOn (old new : SignerState) (older newer : List Moment) : Type 0 w
   pub spent : List Spent
   pub key : LivesOn spent old new older newer
 
--- It stands where the course is, behind what there was before.
-pub record IsAt (s : Setting) (before : Before) (w : Standing) (r : Course) : Type 0 where
-  pub node : IsNode s w.node r.node
+-- It stands where the course is, behind what there was before; of the node, its certificates are those of the course's.
+pub record IsAt (before : Before) (w : Standing) (r : Course) : Type 0 where
+  pub knows : (m : ℕ) → kept_certificate w.node.roster m ≡ certificate_of r.node m
   pub link : w.link ≡ Some r.link
   pub text : Appends before.taken w.taken r.text
   pub sent : w.sent ≡ r.sent
   pub key : HasSpent before r.spent w
+
+-- The node stands for that of the course, too.
+pub record Stands (s : Setting) (before : Before) (w : Standing) (r : Course) : Type 0 where
+  pub node : IsNode s w.node r.node
+  pub at : IsAt before w r
 
 -- What was written is a front of what the course has written, what was given to the link a front of what it has given,
 -- and the signatures that were made are a front of its own.
@@ -139,11 +145,11 @@ pub record Extends (taken after : Option (List ℕ)) (link later : Option LinkSt
   pub given : KeepsGiven link later
 
 -- All of it was told, or it broke off.
-abbrev pub Tells : Setting → Before → Standing → Course → Result (Unit {0}) ServeFault → Type 0
-Tells s before w r (Ok done) = IsAt s before w r
-Tells s before w r (Err faults.StoreFault) = ⊥
-Tells s before w r (Err faults.WriteFault) = IsWithin before w r
-Tells s before w r (Err faults.OutOfMemory) = IsWithin before w r
+abbrev pub Tells : Before → Standing → Course → Result (Unit {0}) ServeFault → Type 0
+Tells before w r (Ok done) = IsAt before w r
+Tells before w r (Err faults.StoreFault) = ⊥
+Tells before w r (Err faults.WriteFault) = IsWithin before w r
+Tells before w r (Err faults.OutOfMemory) = IsWithin before w r
 
 -- Only a call that was answered Ok is answered so, and only one in which the disk failed has that answer.
 abbrev pub Answers : Result (Unit {0}) NodeFault → Result (Unit {0}) ServeFault → Type 0
@@ -153,8 +159,8 @@ Answers done (Err faults.WriteFault) = Unit {0}
 Answers done (Err faults.OutOfMemory) = Unit {0}
 
 -- What the call gave was told, or that broke off.
-abbrev pub Settles : Setting → Before → Standing → Course → Result (Unit {0}) ServeFault → Type 0
-Settles s before w r (Ok x) = IsAt s before w r
-Settles s before w r (Err faults.StoreFault) = IsAt s before w r
-Settles s before w r (Err faults.WriteFault) = IsWithin before w r
-Settles s before w r (Err faults.OutOfMemory) = IsWithin before w r
+abbrev pub Settles : Before → Standing → Course → Result (Unit {0}) ServeFault → Type 0
+Settles before w r (Ok x) = IsAt before w r
+Settles before w r (Err faults.StoreFault) = IsAt before w r
+Settles before w r (Err faults.WriteFault) = IsWithin before w r
+Settles before w r (Err faults.OutOfMemory) = IsWithin before w r

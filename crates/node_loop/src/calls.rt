@@ -7,7 +7,7 @@ ghost use Rattle.node_rules.specs.Nodes.{Setting};
 ghost use Rattle.node_rules.specs.Lives as lives;
 ghost use Rattle.node_loop.specs.Turns.{Calls, ticks_of};
 ghost use Rattle.node_loop.specs.Courses.{Course, tells_all};
-ghost use Rattle.node_loop.specs.Writing.{Answers, Before, Extends, GoesOn, IsAt, Settles, is_open_after, is_write_fault, standing};
+ghost use Rattle.node_loop.specs.Writing.{Answers, Before, Extends, GoesOn, IsAt, Settles, Stands, is_open_after, is_write_fault, standing};
 ghost use Rattle.node_loop.specs.Serving.{Serves};
 
 use crate::fault::{ServeFault, fault_of};
@@ -29,8 +29,8 @@ fn settle<L: Link, O: Sink>(
     requires open { O.is_open out.old ≡ true }
     ensures going { O.is_open out.new ≡ is_open_after result }
     ensures faults { O.faults out.new ≡ counted (is_write_fault result) (O.faults out.old) }
-    ensures settles { (s : Setting) (before : Before) (moments : List Moment) (r : Course) → IsAt s before (standing node.now (L.contents link.old) (O.taken out.old) moments sent.old) r
-        → Settles s before (standing node.now (L.contents link.new) (O.taken out.new) moments sent.new) (tells_all events.now r) result }
+    ensures settles { (before : Before) (moments : List Moment) (r : Course) → IsAt before (standing node.now (L.contents link.old) (O.taken out.old) moments sent.old) r
+        → Settles before (standing node.now (L.contents link.new) (O.taken out.new) moments sent.new) (tells_all events.now r) result }
     ensures answers { Answers done result }
     ensures extends { Extends (O.taken out.old) (O.taken out.new) (L.contents link.old) (L.contents link.new) }
 {
@@ -60,7 +60,7 @@ pub fn deliver<D: Disk, L: Link, O: Sink>(
     ensures store { IfErr result (λ e. e ≡ ServeFault.StoreFault → Rose (D.faults disk.old) (D.faults disk.new)) }
     ensures closed { OnOk result (node.new.signer.closed ≡ node.old.signer.closed) }
     ensures spends { GoesOn node.old.signer node.new.signer (D.moments disk.old) (D.moments disk.new) }
-    ensures serves { (s : Setting) (before : Before) (r : Course) → IsAt s before (standing node.old (L.contents link.old) (O.taken out.old) (D.moments disk.old) sent.old) r
+    ensures serves { (s : Setting) (before : Before) (r : Course) → Stands s before (standing node.old (L.contents link.old) (O.taken out.old) (D.moments disk.old) sent.old) r
         → Serves s before (Calls (lives.Delivers bytes.now) ∷ []) r (standing node.new (L.contents link.new) (O.taken out.new) (D.moments disk.new) sent.new) result }
 {
     let mut outbox = Outbox::new(alloc);
@@ -87,7 +87,7 @@ fn tick<D: Disk, L: Link, O: Sink>(
     ensures store { IfErr result (λ e. e ≡ ServeFault.StoreFault → Rose (D.faults disk.old) (D.faults disk.new)) }
     ensures closed { OnOk result (node.new.signer.closed ≡ node.old.signer.closed) }
     ensures spends { GoesOn node.old.signer node.new.signer (D.moments disk.old) (D.moments disk.new) }
-    ensures serves { (s : Setting) (before : Before) (r : Course) → IsAt s before (standing node.old (L.contents link.old) (O.taken out.old) (D.moments disk.old) sent.old) r
+    ensures serves { (s : Setting) (before : Before) (r : Course) → Stands s before (standing node.old (L.contents link.old) (O.taken out.old) (D.moments disk.old) sent.old) r
         → Serves s before (Calls lives.Ticks ∷ []) r (standing node.new (L.contents link.new) (O.taken out.new) (D.moments disk.new) sent.new) result }
 {
     if node.membership().now() == u64::MAX {
@@ -118,7 +118,7 @@ pub fn tick_times<D: Disk, L: Link, O: Sink>(
     ensures store { IfErr result (λ e. e ≡ ServeFault.StoreFault → Rose (D.faults disk.old) (D.faults disk.new)) }
     ensures closed { OnOk result (node.new.signer.closed ≡ node.old.signer.closed) }
     ensures spends { GoesOn node.old.signer node.new.signer (D.moments disk.old) (D.moments disk.new) }
-    ensures serves { (s : Setting) (before : Before) (r : Course) → IsAt s before (standing node.old (L.contents link.old) (O.taken out.old) (D.moments disk.old) sent.old) r
+    ensures serves { (s : Setting) (before : Before) (r : Course) → Stands s before (standing node.old (L.contents link.old) (O.taken out.old) (D.moments disk.old) sent.old) r
         → Serves s before (ticks_of ticks) r (standing node.new (L.contents link.new) (O.taken out.new) (D.moments disk.new) sent.new) result }
 {
     for _done in 0..ticks {

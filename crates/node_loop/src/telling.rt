@@ -6,7 +6,6 @@ ghost use Rattle.ports.specs.Count.{counted};
 ghost use Rattle.ports.specs.Disk.{Moment};
 ghost use Rattle.validate.specs.Certified.{certificate_of as kept_certificate};
 ghost use Rattle.journal.specs.declared.event.What.TheVariants as kinds;
-ghost use Rattle.node_rules.specs.Nodes.{Setting};
 ghost use Rattle.node_loop.specs.Courses.{Course, datagram_in, line_of, sends_one, tells, tells_all};
 ghost use Rattle.node_loop.specs.Writing.{Before, Extends, HandsOver, IsAt, Tells, WritesLine, is_lost, is_open_after, is_write_fault, standing};
 
@@ -90,8 +89,8 @@ fn send_one<L: Link, O: Sink>(
     ensures going { O.is_open out.new ≡ is_open_after result }
     ensures faults { O.faults out.new ≡ counted (is_write_fault result) (O.faults out.old) }
     ensures cause { IfErr result (λ e. e ≢ ServeFault.StoreFault) }
-    ensures tells { (s : Setting) (before : Before) (moments : List Moment) (r : Course) → IsAt s before (standing node.now (L.contents link.old) (O.taken out.old) moments sent.old) r
-        → Tells s before (standing node.now (L.contents link.new) (O.taken out.new) moments sent.new) (sends_one moment to bytes.now r) result }
+    ensures tells { (before : Before) (moments : List Moment) (r : Course) → IsAt before (standing node.now (L.contents link.old) (O.taken out.old) moments sent.old) r
+        → Tells before (standing node.now (L.contents link.new) (O.taken out.new) moments sent.new) (sends_one moment to bytes.now r) result }
     ensures extends { Extends (O.taken out.old) (O.taken out.new) (L.contents link.old) (L.contents link.new) }
 {
     let number = *sent;
@@ -122,8 +121,8 @@ fn tell<L: Link, O: Sink>(
     ensures going { O.is_open out.new ≡ is_open_after result }
     ensures faults { O.faults out.new ≡ counted (is_write_fault result) (O.faults out.old) }
     ensures cause { IfErr result (λ e. e ≢ ServeFault.StoreFault) }
-    ensures tells { (s : Setting) (before : Before) (moments : List Moment) (r : Course) → IsAt s before (standing node.now (L.contents link.old) (O.taken out.old) moments sent.old) r
-        → Tells s before (standing node.now (L.contents link.new) (O.taken out.new) moments sent.new) (tells r event.now) result }
+    ensures tells { (before : Before) (moments : List Moment) (r : Course) → IsAt before (standing node.now (L.contents link.old) (O.taken out.old) moments sent.old) r
+        → Tells before (standing node.now (L.contents link.new) (O.taken out.new) moments sent.new) (tells r event.now) result }
     ensures extends { Extends (O.taken out.old) (O.taken out.new) (L.contents link.old) (L.contents link.new) }
 {
     match datagram_in(&event.what) {
@@ -154,8 +153,8 @@ pub fn tell_all<L: Link, O: Sink>(
     ensures going { O.is_open out.new ≡ is_open_after result }
     ensures faults { O.faults out.new ≡ counted (is_write_fault result) (O.faults out.old) }
     ensures cause { IfErr result (λ e. e ≢ ServeFault.StoreFault) }
-    ensures tells { (s : Setting) (before : Before) (moments : List Moment) (r : Course) → IsAt s before (standing node.now (L.contents link.old) (O.taken out.old) moments sent.old) r
-        → Tells s before (standing node.now (L.contents link.new) (O.taken out.new) moments sent.new) (tells_all events.now r) result }
+    ensures tells { (before : Before) (moments : List Moment) (r : Course) → IsAt before (standing node.now (L.contents link.old) (O.taken out.old) moments sent.old) r
+        → Tells before (standing node.now (L.contents link.new) (O.taken out.new) moments sent.new) (tells_all events.now r) result }
     ensures extends { Extends (O.taken out.old) (O.taken out.new) (L.contents link.old) (L.contents link.new) }
 {
     for event in events {

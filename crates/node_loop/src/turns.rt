@@ -6,7 +6,7 @@ ghost use Rattle.node_rules.specs.Nodes.{Setting};
 ghost use Rattle.journal.specs.Turns.{turn_text};
 ghost use Rattle.node_loop.specs.Turns.{Outlook, after_turn, delivery_of, room, ticks_owed, turn_acts, turn_in};
 ghost use Rattle.node_loop.specs.Courses.{Course, served, with_feed};
-ghost use Rattle.node_loop.specs.Writing.{Before, GoesOn, Hears, IsAt, WritesLine, has_failed, is_open_after, is_write_fault, standing};
+ghost use Rattle.node_loop.specs.Writing.{Before, GoesOn, Hears, Stands, WritesLine, has_failed, is_open_after, is_write_fault, standing};
 ghost use Rattle.node_loop.specs.Serving.{Sees, Serves};
 
 use crate::calls::{deliver, tick_times};
@@ -98,7 +98,7 @@ fn deliver_heard<D: Disk, L: Link, O: Sink>(
     ensures store { IfErr result (λ e. e ≡ ServeFault.StoreFault → Rose (D.faults disk.old) (D.faults disk.new)) }
     ensures closed { OnOk result (node.new.signer.closed ≡ node.old.signer.closed) }
     ensures spends { GoesOn node.old.signer node.new.signer (D.moments disk.old) (D.moments disk.new) }
-    ensures serves { (s : Setting) (before : Before) (r : Course) → IsAt s before (standing node.old (L.contents link.old) (O.taken out.old) (D.moments disk.old) sent.old) r
+    ensures serves { (s : Setting) (before : Before) (r : Course) → Stands s before (standing node.old (L.contents link.old) (O.taken out.old) (D.moments disk.old) sent.old) r
         → Serves s before (delivery_of heard.now) r (standing node.new (L.contents link.new) (O.taken out.new) (D.moments disk.new) sent.new) result }
 {
     match heard {
@@ -133,11 +133,11 @@ pub fn turn<D: Disk, L: Link, C: Clock, O: Sink>(
     ensures closed { OnOk result (node.new.signer.closed ≡ node.old.signer.closed) }
     ensures spends { GoesOn node.old.signer node.new.signer (D.moments disk.old) (D.moments disk.new) }
     ensures serves { (s : Setting) (before : Before) (r : Course) (o : Outlook)
-        → IsAt s before (standing node.old (L.contents link.old) (O.taken out.old) (D.moments disk.old) progress.old.sent) r
+        → Stands s before (standing node.old (L.contents link.old) (O.taken out.old) (D.moments disk.old) progress.old.sent) r
         → Sees o r (C.reading clock.old) (C.coming clock.old) progress.old.made
         → Serves s before (turn_acts (turn_in progress.old.millis progress.old.base number o)) r (standing node.new (L.contents link.new) (O.taken out.new) (D.moments disk.new) progress.new.sent) result }
     ensures sees { (s : Setting) (before : Before) (r : Course) (o : Outlook)
-        → IsAt s before (standing node.old (L.contents link.old) (O.taken out.old) (D.moments disk.old) progress.old.sent) r
+        → Stands s before (standing node.old (L.contents link.old) (O.taken out.old) (D.moments disk.old) progress.old.sent) r
         → Sees o r (C.reading clock.old) (C.coming clock.old) progress.old.made
         → OnOk result (Sees (after_turn progress.old.millis progress.old.base o) (served s (turn_acts (turn_in progress.old.millis progress.old.base number o)) r)
         (C.reading clock.new) (C.coming clock.new) progress.new.made) }

@@ -18,4 +18,4 @@ returns-clause-serves g c = λ s before r at.
     let step = lent-none (λ (l : Lent). core.Delivers s r.node c.args.bytes.now v l (lent events out) done) c.new-events.result c.new-outbox.result c.new-events.ensures c.new-outbox.ensures (c.deliver-done.ensures.step s r.node at.node c.requires.going) in
     let spends = subst (λ (es : List journal.Event). SpendsIn done c.args.node.now.signer v.signer older newer es events) c.new-events.ensures c.deliver-done.ensures.spends in
     serves-delivery s before c.args.node.now v (g.L.Link.contents c.args.link.now) (g.L.Link.contents c.settle.new.link) (g.O.Sink.taken c.args.out.now) (g.O.Sink.taken c.settle.new.out) older newer c.args.sent.now c.settle.new.sent r c.args.bytes.now
-    events out done c.settle.result at step c.deliver-done.ensures.ended spends c.settle.ensures.answers c.settle.ensures.extends (λ r1 at1. c.settle.ensures.settles s before newer r1 at1)
+    events out done c.settle.result at step c.deliver-done.ensures.ended spends c.settle.ensures.answers c.settle.ensures.extends (λ r1 at1. c.settle.ensures.settles before newer r1 at1)

@@ -28,4 +28,4 @@ returns-clause-serves g c = λ s before r at.
     let moment = ap (λ x. x.moment) c.membership.ensures in
     let may = may-count s before _ r at (omega (arith, moment, c.now.ensures.moment, c.if-now-eq18446744073709551615.false, c.now.type_inv)) in
     serves-tick s before c.args.node.now v (g.L.Link.contents c.args.link.now) (g.L.Link.contents c.settle.new.link) (g.O.Sink.taken c.args.out.now) (g.O.Sink.taken c.settle.new.out) older newer c.args.sent.now c.settle.new.sent r
-    events out done c.settle.result at may step c.tick-done.ensures.ended spends c.settle.ensures.answers c.settle.ensures.extends (λ r1 at1. c.settle.ensures.settles s before newer r1 at1)
+    events out done c.settle.result at may step c.tick-done.ensures.ended spends c.settle.ensures.answers c.settle.ensures.extends (λ r1 at1. c.settle.ensures.settles before newer r1 at1)

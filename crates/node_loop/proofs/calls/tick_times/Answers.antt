@@ -6,7 +6,7 @@ use Rattle.node_loop.specs.declared.fault.ServeFault.TheVariants as faults
 use Rattle.node_loop.specs.Turns.{ticks_of}
 use Rattle.node_loop.specs.Courses.{served}
 use Rattle.node_loop.specs.Serving.{Serves}
-use Rattle.node_loop.specs.Writing.{IsAt, Standing, is_write_fault, standing}
+use Rattle.node_loop.specs.Writing.{Stands, Standing, is_write_fault, standing}
 use Rattle.node_loop.proofs.CallLemmas.{goes-same, goes-trans}
 use Rattle.node_loop.proofs.SendLemmas.{thrown}
 use Rattle.node_loop.proofs.TurnLemmas.{tick-ended, ticked-none, ticked-on}
@@ -62,4 +62,4 @@ pub returns-clause-serves : goal.returns-clause-serves
 returns-clause-serves g c = λ s before r at.
     let all : c.loop-done._done ≡ c.args.ticks = omega arith in
     let w : Standing = standing c.loop-done.node (g.L.Link.contents c.loop-done.link) (g.O.Sink.taken c.loop-done.out) (g.D.Disk.moments c.loop-done.disk) c.loop-done.sent in
-    subst (λ (k : ℕ). IsAt s before w (served s (ticks_of k) r)) all (c.loop-done.invariant.ticked s before r at)
+    subst (λ (k : ℕ). Stands s before w (served s (ticks_of k) r)) all (c.loop-done.invariant.ticked s before r at)

@@ -6,7 +6,7 @@ use Rattle.node_loop.specs.declared.fault.ServeFault.TheVariants as faults
 use Rattle.node_loop.specs.Turns.{Outlook, room, after_turn, life_acts, turn_acts, turn_in}
 use Rattle.node_loop.specs.Courses.{Course, served, served_from}
 use Rattle.node_loop.specs.Serving.{Sees, Serves}
-use Rattle.node_loop.specs.Writing.{Before, IsAt, Standing, before_all, standing}
+use Rattle.node_loop.specs.Writing.{Before, Stands, Standing, before_all, standing}
 use Rattle.node_loop.proofs.CallLemmas.{goes-same, goes-trans}
 use Rattle.node_loop.proofs.SendLemmas.{thrown}
 use Rattle.node_loop.proofs.TellLemmas.{at-within}
@@ -26,7 +26,7 @@ returns-in_default-clause-serves g c = λ s n link_told readings is link_is comi
     let w : Standing = standing c.args.node.now link taken moments 0 in (
       0,
       unheard-turn s before w start (life_acts c.args.millis c.args.turns link_told.coming (g.C.Clock.reading c.args.clock.now) readings)
-          (at-within s before w start (begins-at s c.args.node.now n link taken moments link_told is link_is)),
+          (at-within before w start (begins-at s c.args.node.now n link taken moments link_told is link_is).at),
     )
 
 pub loop-done-init : goal.loop-done-init
@@ -69,7 +69,7 @@ loop-done-preserved g c =
           let t : Turned s before c.args.millis c.now-base.result c.args.turns done o start w reading readings made = h.turned s before o start at sees in
           let r : Course = served s t.acts start in
           turned-next s before c.args.millis c.now-base.result c.args.turns done o start w w1 reading now readings later made made1 c.loop-done-test.true t
-          (at-pace (λ m b. IsAt s before w1 (served s (turn_acts (turn_in m b (done + 1) t.outlook)) r)) c.loop-done.progress.millis c.args.millis c.loop-done.progress.base c.now-base.result h.millis h.base
+          (at-pace (λ m b. Stands s before w1 (served s (turn_acts (turn_in m b (done + 1) t.outlook)) r)) c.loop-done.progress.millis c.args.millis c.loop-done.progress.base c.now-base.result h.millis h.base
           (c.in_ok-turn.ensures.serves s before r t.outlook t.at t.sees))
           (at-pace (λ m b. Sees (after_turn m b t.outlook) (served s (turn_acts (turn_in m b (done + 1) t.outlook)) r) now later made1) c.loop-done.progress.millis c.args.millis c.loop-done.progress.base c.now-base.result h.millis h.base
           (c.in_ok-turn.ensures.sees s before r t.outlook t.at t.sees));
@@ -135,5 +135,5 @@ returns-clause-serves g c = λ s n link_told readings is link_is coming_is.
     let all : c.loop-done.done ≡ c.args.turns = omega arith in
     let last_turn = subst (λ k. Turned s before c.args.millis base c.args.turns k o start w reading coming made) all t in (
       c.loop-done.progress.sent,
-      subst (λ acts. IsAt s before w (served s acts start)) (life-is c.args.millis c.args.turns last base link_told.coming readings read.0) (turned-last s before c.args.millis base c.args.turns o start w reading coming made last_turn),
+      subst (λ acts. Stands s before w (served s acts start)) (life-is c.args.millis c.args.turns last base link_told.coming readings read.0) (turned-last s before c.args.millis base c.args.turns o start w reading coming made last_turn),
     )

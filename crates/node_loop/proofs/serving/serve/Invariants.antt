@@ -3,7 +3,7 @@ use Rattle.node_rules.specs.Nodes.{Setting}
 use Rattle.node_loop.specs.Turns.{Outlook, room}
 use Rattle.node_loop.specs.Courses.{Course}
 use Rattle.node_loop.specs.Serving.{Sees}
-use Rattle.node_loop.specs.Writing.{Before, GoesOn, IsAt, standing}
+use Rattle.node_loop.specs.Writing.{Before, GoesOn, Stands, standing}
 use Rattle.node_loop.proofs.TurnLemmas.{Turned}
 use Rattle.node_loop.proofs.serving.serve.Given as goal
 
@@ -19,7 +19,7 @@ invariant-loop-done g l = record {
   closed : l.node.signer.closed ≡ l.initial.node.signer.closed;
   goes : GoesOn l.initial.node.signer l.node.signer (g.D.Disk.moments l.initial.disk) (g.D.Disk.moments l.disk);
   turned : (s : Setting) (before : Before) (o : Outlook) (start : Course)
-      → IsAt s before (standing l.initial.node (g.L.Link.contents l.initial.link) (g.O.Sink.taken l.initial.out) (g.D.Disk.moments l.initial.disk) 0) start
+      → Stands s before (standing l.initial.node (g.L.Link.contents l.initial.link) (g.O.Sink.taken l.initial.out) (g.D.Disk.moments l.initial.disk) 0) start
       → Sees o start (g.C.Clock.reading l.initial.clock) (g.C.Clock.coming l.initial.clock) 0
       → Turned s before l.millis l.base l.turns l.done o start (standing l.node (g.L.Link.contents l.link) (g.O.Sink.taken l.out) (g.D.Disk.moments l.disk) l.progress.sent)
       (g.C.Clock.reading l.clock) (g.C.Clock.coming l.clock) l.progress.made;

@@ -8,11 +8,11 @@ use Rattle.node_loop.proofs.SendLemmas.{got-lost, sent-line, thrown, unsent, wen
 use Rattle.node_loop.proofs.telling.send_one.Goals as goal
 
 pub returns-in_err-write_sent-clause-tells : goal.returns-in_err-write_sent-clause-tells
-returns-in_err-write_sent-clause-tells g c = λ s before moments r at.
+returns-in_err-write_sent-clause-tells g c = λ before moments r at.
     let w : Standing = standing c.args.node.now (g.L.Link.contents c.args.link.now) (g.O.Sink.taken c.write_sent.new.out) moments c.args.sent.now in
     let e : ServeFault = c.in_err-write_sent.field-0.0 in
-    let line = sent-line s before c.args.node.now (g.L.Link.contents c.args.link.now) (g.O.Sink.taken c.args.out.now) (g.O.Sink.taken c.write_sent.new.out) moments c.args.sent.now c.args.moment c.args.to c.args.bytes.now r (Err e) at c.in_err-write_sent.ensures.wrote in
-    subst (λ x. Tells s before w (sends_one c.args.moment c.args.to c.args.bytes.now r) x) (sym (thrown c.from_residual.result e c.from_residual.ensures.1)) (unsent s before w c.args.moment c.args.to c.args.bytes.now r e line)
+    let line = sent-line before c.args.node.now (g.L.Link.contents c.args.link.now) (g.O.Sink.taken c.args.out.now) (g.O.Sink.taken c.write_sent.new.out) moments c.args.sent.now c.args.moment c.args.to c.args.bytes.now r (Err e) at c.in_err-write_sent.ensures.wrote in
+    subst (λ x. Tells before w (sends_one c.args.moment c.args.to c.args.bytes.now r) x) (sym (thrown c.from_residual.result e c.from_residual.ensures.1)) (unsent before w c.args.moment c.args.to c.args.bytes.now r e line)
 
 pub returns-in_err-write_sent-clause-extends : goal.returns-in_err-write_sent-clause-extends
 returns-in_err-write_sent-clause-extends g c =
@@ -20,17 +20,17 @@ returns-in_err-write_sent-clause-extends g c =
     (line_of (record { moment = c.args.moment; what = kinds.Sent c.args.sent.now c.args.to c.args.bytes.now })) (Err c.in_err-write_sent.field-0.0) c.in_err-write_sent.ensures.wrote
 
 pub returns-then-lost-clause-tells : goal.returns-then-lost-clause-tells
-returns-then-lost-clause-tells g c = λ s before moments r at.
+returns-then-lost-clause-tells g c = λ before moments r at.
     let v = c.args.node.now in
     let l0 = g.L.Link.contents c.args.link.now in
     let l1 = g.L.Link.contents c.hand_over.new.link in
     let t1 = g.O.Sink.taken c.write_sent.new.out in
-    let line = sent-line s before v l0 (g.O.Sink.taken c.args.out.now) t1 moments c.args.sent.now c.args.moment c.args.to c.args.bytes.now r (Ok c.in_ok-write_sent.field-0) at c.in_ok-write_sent.ensures.wrote in
+    let line = sent-line before v l0 (g.O.Sink.taken c.args.out.now) t1 moments c.args.sent.now c.args.moment c.args.to c.args.bytes.now r (Ok c.in_ok-write_sent.field-0) at c.in_ok-write_sent.ensures.wrote in
     let r1 : Course = writes_event c.args.moment (kinds.Sent r.sent c.args.to c.args.bytes.now) r in
-    let given = handed s before v l0 l1 t1 moments c.args.sent.now c.args.to c.args.bytes.now r1 c.in-Ok.lost line c.in-Ok.ensures.given in
-    let counted = subst (λ k. IsAt s before (standing v l1 t1 moments k) (hands_over c.args.to c.args.bytes.now r1)) (sym c.saturating_add.ensures) given in
-    let lost : true ≡ fails_next r.link = sym c.if-lost.true ∙ lost-is s before v l0 l1 t1 moments c.args.sent.now _ c.args.bytes.now r1 c.in-Ok.lost line c.in-Ok.ensures.given in
-    got-lost s before v l1 t1 (g.O.Sink.taken c.write_told.new.out) moments c.saturating_add.result c.args.sent.now c.args.moment c.args.to c.args.bytes.now r c.write_told.result lost at.sent counted c.write_told.ensures.wrote
+    let given = handed before v l0 l1 t1 moments c.args.sent.now c.args.to c.args.bytes.now r1 c.in-Ok.lost line c.in-Ok.ensures.given in
+    let counted = subst (λ k. IsAt before (standing v l1 t1 moments k) (hands_over c.args.to c.args.bytes.now r1)) (sym c.saturating_add.ensures) given in
+    let lost : true ≡ fails_next r.link = sym c.if-lost.true ∙ lost-is before v l0 l1 t1 moments c.args.sent.now _ c.args.bytes.now r1 c.in-Ok.lost line c.in-Ok.ensures.given in
+    got-lost before v l1 t1 (g.O.Sink.taken c.write_told.new.out) moments c.saturating_add.result c.args.sent.now c.args.moment c.args.to c.args.bytes.now r c.write_told.result lost at.sent counted c.write_told.ensures.wrote
 
 pub returns-then-lost-clause-extends : goal.returns-then-lost-clause-extends
 returns-then-lost-clause-extends g c =
@@ -45,25 +45,25 @@ returns-then-lost-clause-extends g c =
     extends-trans t0 t1 t2 l0 l1 l1 (extends-trans t0 t1 t1 l0 l0 l1 first given) last
 
 pub returns-else-lost-clause-tells : goal.returns-else-lost-clause-tells
-returns-else-lost-clause-tells g c = λ s before moments r at.
+returns-else-lost-clause-tells g c = λ before moments r at.
     let v = c.args.node.now in
     let l0 = g.L.Link.contents c.args.link.now in
     let l1 = g.L.Link.contents c.hand_over.new.link in
     let t1 = g.O.Sink.taken c.write_sent.new.out in
-    let line = sent-line s before v l0 (g.O.Sink.taken c.args.out.now) t1 moments c.args.sent.now c.args.moment c.args.to c.args.bytes.now r (Ok c.in_ok-write_sent.field-0) at c.in_ok-write_sent.ensures.wrote in
+    let line = sent-line before v l0 (g.O.Sink.taken c.args.out.now) t1 moments c.args.sent.now c.args.moment c.args.to c.args.bytes.now r (Ok c.in_ok-write_sent.field-0) at c.in_ok-write_sent.ensures.wrote in
     let r1 : Course = writes_event c.args.moment (kinds.Sent r.sent c.args.to c.args.bytes.now) r in
-    let given = handed s before v l0 l1 t1 moments c.args.sent.now c.args.to c.args.bytes.now r1 c.in-Ok.lost line c.in-Ok.ensures.given in
-    let counted = subst (λ k. IsAt s before (standing v l1 t1 moments k) (hands_over c.args.to c.args.bytes.now r1)) (sym c.saturating_add.ensures) given in
-    let works : false ≡ fails_next r.link = sym c.if-lost.false ∙ lost-is s before v l0 l1 t1 moments c.args.sent.now _ c.args.bytes.now r1 c.in-Ok.lost line c.in-Ok.ensures.given in
-    went-out s before (standing v l1 t1 moments c.saturating_add.result) c.args.moment c.args.to c.args.bytes.now r works counted
+    let given = handed before v l0 l1 t1 moments c.args.sent.now c.args.to c.args.bytes.now r1 c.in-Ok.lost line c.in-Ok.ensures.given in
+    let counted = subst (λ k. IsAt before (standing v l1 t1 moments k) (hands_over c.args.to c.args.bytes.now r1)) (sym c.saturating_add.ensures) given in
+    let works : false ≡ fails_next r.link = sym c.if-lost.false ∙ lost-is before v l0 l1 t1 moments c.args.sent.now _ c.args.bytes.now r1 c.in-Ok.lost line c.in-Ok.ensures.given in
+    went-out before (standing v l1 t1 moments c.saturating_add.result) c.args.moment c.args.to c.args.bytes.now r works counted
 
 pub returns-in-Err-clause-tells : goal.returns-in-Err-clause-tells
-returns-in-Err-clause-tells g c = λ s before moments r at.
+returns-in-Err-clause-tells g c = λ before moments r at.
     let v = c.args.node.now in
     let l0 = g.L.Link.contents c.args.link.now in
     let l1 = g.L.Link.contents c.hand_over.new.link in
     let t1 = g.O.Sink.taken c.write_sent.new.out in
-    let line = sent-line s before v l0 (g.O.Sink.taken c.args.out.now) t1 moments c.args.sent.now c.args.moment c.args.to c.args.bytes.now r (Ok c.in_ok-write_sent.field-0) at c.in_ok-write_sent.ensures.wrote in
+    let line = sent-line before v l0 (g.O.Sink.taken c.args.out.now) t1 moments c.args.sent.now c.args.moment c.args.to c.args.bytes.now r (Ok c.in_ok-write_sent.field-0) at c.in_ok-write_sent.ensures.wrote in
     let r1 : Course = writes_event c.args.moment (kinds.Sent r.sent c.args.to c.args.bytes.now) r in
     within-sent before (standing v l1 t1 moments c.args.sent.now) c.args.moment c.args.to c.args.bytes.now r
-    (not-handed s before v l0 l1 t1 moments c.args.sent.now _ c.args.bytes.now r1 c.in-Err.field-0 line c.in-Err.ensures.given)
+    (not-handed before v l0 l1 t1 moments c.args.sent.now _ c.args.bytes.now r1 c.in-Err.field-0 line c.in-Err.ensures.given)

@@ -6,19 +6,19 @@ use Rattle.node_loop.proofs.SendLemmas.{tells-sends, tells-writes, told-as}
 use Rattle.node_loop.proofs.telling.tell.Goals as goal
 
 pub returns-in-Some-clause-tells : goal.returns-in-Some-clause-tells
-returns-in-Some-clause-tells g c = λ s before moments r at.
+returns-in-Some-clause-tells g c = λ before moments r at.
     let e = c.args.event.now in
     let w : Standing = standing c.args.node.now (g.L.Link.contents c.send_one.new.link) (g.O.Sink.taken c.send_one.new.out) moments c.send_one.new.sent in
     let d : ℕ × List ℕ = (c.in-Some.datagram.0, c.as_slice.result.now) in
     let is : datagram_in e.what ≡ Some d = c.in-Some.ensures ∙ ap (λ (xs : List ℕ). Some (c.in-Some.datagram.0, xs)) (sym c.as_slice.ensures) in
-    told-as s before w (sends_one e.moment d.0 d.1 r) _ c.send_one.result (tells-sends e d r is) (c.send_one.ensures.tells s before moments r at)
+    told-as before w (sends_one e.moment d.0 d.1 r) _ c.send_one.result (tells-sends e d r is) (c.send_one.ensures.tells before moments r at)
 
 pub returns-in-None-clause-tells : goal.returns-in-None-clause-tells
-returns-in-None-clause-tells g c = λ s before moments r at.
+returns-in-None-clause-tells g c = λ before moments r at.
     let e = c.args.event.now in
     let w : Standing = standing c.args.node.now (g.L.Link.contents c.args.link.now) (g.O.Sink.taken c.write_told.new.out) moments c.args.sent.now in
-    told-as s before w (writes (line_of e) r) _ c.write_told.result (tells-writes e r c.in-None.ensures)
-    (written s before c.args.node.now (g.L.Link.contents c.args.link.now) (g.O.Sink.taken c.args.out.now) (g.O.Sink.taken c.write_told.new.out) moments c.args.sent.now (line_of e) r c.write_told.result at c.write_told.ensures.wrote)
+    told-as before w (writes (line_of e) r) _ c.write_told.result (tells-writes e r c.in-None.ensures)
+    (written before c.args.node.now (g.L.Link.contents c.args.link.now) (g.O.Sink.taken c.args.out.now) (g.O.Sink.taken c.write_told.new.out) moments c.args.sent.now (line_of e) r c.write_told.result at c.write_told.ensures.wrote)
 
 pub returns-in-None-clause-extends : goal.returns-in-None-clause-extends
 returns-in-None-clause-extends g c =

@@ -23,7 +23,7 @@ loop-event-preserved g c =
     }
 
 pub returns-in_err-tell-clause-tells : goal.returns-in_err-tell-clause-tells
-returns-in_err-tell-clause-tells g c = λ s before moments r at.
+returns-in_err-tell-clause-tells g c = λ before moments r at.
     let h = c.loop-event.invariant in
     let events : List journal.Event = c.args.events.now in
     let i = c.loop-event.event-index in
@@ -33,15 +33,15 @@ returns-in_err-tell-clause-tells g c = λ s before moments r at.
     let split : events ≡ take i events ++ (x ∷ drop (i + 1) events) =
     sym (take-append-drop (i + 1) events) ∙ ap (λ (xs : List journal.Event). xs ++ drop (i + 1) events) longer ∙ append_assoc (take i events) (x ∷ []) (drop (i + 1) events) in
     let w : Standing = standing c.args.node.now (g.L.Link.contents c.tell.new.link) (g.O.Sink.taken c.tell.new.out) moments c.tell.new.sent in
-    subst (λ y. Tells s before w (tells_all events r) y) (sym (thrown c.from_residual.result e c.from_residual.ensures.1))
-    (told-part s before w (take i events) events (drop (i + 1) events) x r e split (c.in_err-tell.ensures.tells s before moments (tells_all (take i events) r) (h.told.tells s before moments r at)))
+    subst (λ y. Tells before w (tells_all events r) y) (sym (thrown c.from_residual.result e c.from_residual.ensures.1))
+    (told-part before w (take i events) events (drop (i + 1) events) x r e split (c.in_err-tell.ensures.tells before moments (tells_all (take i events) r) (h.told.tells before moments r at)))
 
 pub returns-in_err-tell-clause-extends : goal.returns-in_err-tell-clause-extends
 returns-in_err-tell-clause-extends g c = extends-trans _ _ _ _ _ _ c.loop-event.invariant.told.extends c.in_err-tell.ensures.extends
 
 pub returns-clause-tells : goal.returns-clause-tells
-returns-clause-tells g c = λ s before moments r at.
+returns-clause-tells g c = λ before moments r at.
     let events : List journal.Event = c.args.events.now in
     let whole : take c.loop-event.event-index events ≡ events = take-all c.loop-event.event-index events (omega (arith, c.loop-event-test.false)) in
     let w : Standing = standing c.args.node.now (g.L.Link.contents c.loop-event.link) (g.O.Sink.taken c.loop-event.out) moments c.loop-event.sent in
-    subst (λ (es : List journal.Event). IsAt s before w (tells_all es r)) whole (c.loop-event.invariant.told.tells s before moments r at)
+    subst (λ (es : List journal.Event). IsAt before w (tells_all es r)) whole (c.loop-event.invariant.told.tells before moments r at)

@@ -4,7 +4,7 @@ use Rattle.journal.specs.Turns.{turn_text}
 use Rattle.node_loop.specs.declared.fault.ServeFault.{ServeFault}
 use Rattle.node_loop.specs.Turns.{Receives, turn_acts, turn_in}
 use Rattle.node_loop.specs.Courses.{Course, acted, with_feed, writes}
-use Rattle.node_loop.specs.Writing.{IsAt, Standing, standing}
+use Rattle.node_loop.specs.Writing.{Stands, Standing, standing}
 use Rattle.node_loop.specs.Serving.{Serves}
 use Rattle.node_loop.proofs.CallLemmas.{goes-same, goes-trans}
 use Rattle.node_loop.proofs.SendLemmas.{thrown}
@@ -34,13 +34,13 @@ returns-in_err-write_turn_line-clause-serves g c = λ s before r o at0 sees.
     let t0 = g.O.Sink.taken c.args.out.now in
     let t1 = g.O.Sink.taken c.write_turn_line.new.out in
     let m = g.D.Disk.moments c.args.disk.now in
-    let at : IsAt s before (standing v l0 t0 m sent) r = subst (λ k. IsAt s before (standing v l0 t0 m k) r) (sym (ap (λ x. x.sent) c.next_ticks-ticks.ensures.made)) at0 in
+    let at : Stands s before (standing v l0 t0 m sent) r = subst (λ k. Stands s before (standing v l0 t0 m k) r) (sym (ap (λ x. x.sent) c.next_ticks-ticks.ensures.made)) at0 in
     let made : Turn = record { number = c.args.number; heard = c.in-Ok.heard; ticks = c.next_ticks-ticks.result } in
     let due = seen-turn p.millis p.base c.args.number o r (g.C.Clock.reading c.args.clock.now) (g.C.Clock.coming c.args.clock.now) (g.C.Clock.coming c.now.new.self) p.made c.now.result c.next_ticks-ticks.result c.in-Ok.heard sees c.now.ensures.reads
     (heard-is s before v l0 l1 t0 m sent r c.in-Ok.heard at c.in-Ok.ensures.hears) c.next_ticks-ticks.ensures.ticks in
     let heard = at-heard s before v l0 l1 t0 m sent r c.in-Ok.heard at c.in-Ok.ensures.hears in
     let e : ServeFault = c.in_err-write_turn_line.field-0.0 in
-    let told = written s before v l1 t0 t1 m sent (with_feed (turn_text made)) (acted s r Receives) (Err e) heard c.in_err-write_turn_line.ensures.wrote in
+    let told = written before v l1 t0 t1 m sent (with_feed (turn_text made)) (acted s r Receives) (Err e) heard.at c.in_err-write_turn_line.ensures.wrote in
     let w : Standing = standing v l1 t1 m sent in
     let T : Turn = turn_in p.millis p.base c.args.number o in
     subst (λ x. Serves s before (turn_acts T) r w x) (sym (thrown c.from_residual.result e c.from_residual.ensures.1))
@@ -56,12 +56,15 @@ returns-in_err-deliver_heard-clause-serves g c = λ s before r o at0 sees.
     let t0 = g.O.Sink.taken c.args.out.now in
     let t1 = g.O.Sink.taken c.write_turn_line.new.out in
     let m = g.D.Disk.moments c.args.disk.now in
-    let at : IsAt s before (standing v l0 t0 m sent) r = subst (λ k. IsAt s before (standing v l0 t0 m k) r) (sym (ap (λ x. x.sent) c.next_ticks-ticks.ensures.made)) at0 in
+    let at : Stands s before (standing v l0 t0 m sent) r = subst (λ k. Stands s before (standing v l0 t0 m k) r) (sym (ap (λ x. x.sent) c.next_ticks-ticks.ensures.made)) at0 in
     let made : Turn = record { number = c.args.number; heard = c.in-Ok.heard; ticks = c.next_ticks-ticks.result } in
     let due = seen-turn p.millis p.base c.args.number o r (g.C.Clock.reading c.args.clock.now) (g.C.Clock.coming c.args.clock.now) (g.C.Clock.coming c.now.new.self) p.made c.now.result c.next_ticks-ticks.result c.in-Ok.heard sees c.now.ensures.reads
     (heard-is s before v l0 l1 t0 m sent r c.in-Ok.heard at c.in-Ok.ensures.hears) c.next_ticks-ticks.ensures.ticks in
     let heard = at-heard s before v l0 l1 t0 m sent r c.in-Ok.heard at c.in-Ok.ensures.hears in
-    let told = written s before v l1 t0 t1 m sent (with_feed (turn_text made)) (acted s r Receives) (Ok c.in_ok-write_turn_line.field-0) heard c.in_ok-write_turn_line.ensures.wrote in
+    let told : Stands s before (standing v l1 t1 m sent) (writes (with_feed (turn_text made)) (acted s r Receives)) = record {
+      node = heard.node;
+      at = written before v l1 t0 t1 m sent (with_feed (turn_text made)) (acted s r Receives) (Ok c.in_ok-write_turn_line.field-0) heard.at c.in_ok-write_turn_line.ensures.wrote;
+    } in
     let e : ServeFault = c.in_err-deliver_heard.field-0.0 in
     let r1 : Course = writes (with_feed (turn_text made)) (acted s r Receives) in
     let w : Standing = standing c.deliver_heard.new.node (g.L.Link.contents c.deliver_heard.new.link) (g.O.Sink.taken c.deliver_heard.new.out) (g.D.Disk.moments c.deliver_heard.new.disk) c.deliver_heard.new.sent in
@@ -82,12 +85,15 @@ returns-clause-serves g c = λ s before r o at0 sees.
     let t0 = g.O.Sink.taken c.args.out.now in
     let t1 = g.O.Sink.taken c.write_turn_line.new.out in
     let m = g.D.Disk.moments c.args.disk.now in
-    let at : IsAt s before (standing v l0 t0 m sent) r = subst (λ k. IsAt s before (standing v l0 t0 m k) r) (sym (ap (λ x. x.sent) c.next_ticks-ticks.ensures.made)) at0 in
+    let at : Stands s before (standing v l0 t0 m sent) r = subst (λ k. Stands s before (standing v l0 t0 m k) r) (sym (ap (λ x. x.sent) c.next_ticks-ticks.ensures.made)) at0 in
     let made : Turn = record { number = c.args.number; heard = c.in-Ok.heard; ticks = c.next_ticks-ticks.result } in
     let due = seen-turn p.millis p.base c.args.number o r (g.C.Clock.reading c.args.clock.now) (g.C.Clock.coming c.args.clock.now) (g.C.Clock.coming c.now.new.self) p.made c.now.result c.next_ticks-ticks.result c.in-Ok.heard sees c.now.ensures.reads
     (heard-is s before v l0 l1 t0 m sent r c.in-Ok.heard at c.in-Ok.ensures.hears) c.next_ticks-ticks.ensures.ticks in
     let heard = at-heard s before v l0 l1 t0 m sent r c.in-Ok.heard at c.in-Ok.ensures.hears in
-    let told = written s before v l1 t0 t1 m sent (with_feed (turn_text made)) (acted s r Receives) (Ok c.in_ok-write_turn_line.field-0) heard c.in_ok-write_turn_line.ensures.wrote in
+    let told : Stands s before (standing v l1 t1 m sent) (writes (with_feed (turn_text made)) (acted s r Receives)) = record {
+      node = heard.node;
+      at = written before v l1 t0 t1 m sent (with_feed (turn_text made)) (acted s r Receives) (Ok c.in_ok-write_turn_line.field-0) heard.at c.in_ok-write_turn_line.ensures.wrote;
+    } in
     let r1 : Course = writes (with_feed (turn_text made)) (acted s r Receives) in
     let delivered = c.in_ok-deliver_heard.ensures.serves s before r1 told in
     let w : Standing = standing c.tick_times.new.node (g.L.Link.contents c.tick_times.new.link) (g.O.Sink.taken c.tick_times.new.out) (g.D.Disk.moments c.tick_times.new.disk) c.tick_times.new.sent in
