@@ -7,8 +7,9 @@ use Rattle.play.specs.declared.stop.Stop.{Stop}
 use Rattle.play.specs.declared.stop.Stop.TheVariants as stop
 use Rattle.text_trace.specs.Lines.{text_lines}
 use Rattle.text_trace.specs.Trace.{Owed}
-use Rattle.fireflies.specs.Causes.{IsFront, Says, cause_line, status_of}
-use Rattle.fireflies.specs.Ends.{Counts, Ends, Is, Stands, Tells}
+use Rattle.authority.specs.declared.halt.Halt.{Halt}
+use Rattle.fireflies.specs.Causes.{IsFront, Says, cause_line, status_of, status_of_halt}
+use Rattle.fireflies.specs.Ends.{Counts, Ends, HaltEnds, Is, Stands, Tells}
 use Rattle.fireflies.specs.declared.status.Status.{Status}
 use Rattle.fireflies.specs.declared.status.Status.TheVariants as status
 
@@ -33,6 +34,11 @@ told owed was between now status.OutOfMemory stood reads writes =
       | inl same ↦ record { reads = reads ∙ ap (λ (x : Standing). x.read_faults) same; writes = writes ∙ ap (λ (x : Standing). x.write_faults) same }
       | inr starved ↦ unfailed was between now starved.unfailed reads writes
     ]
+told owed was between now status.StoreFault stood reads writes = absurd stood
+told owed was between now (status.StoreBroken place byte) stood reads writes = absurd stood
+told owed was between now status.LinkFault stood reads writes = absurd stood
+told owed was between now (status.Exhausted next) stood reads writes = absurd stood
+told owed was between now (status.StoreTaken len) stood reads writes = absurd stood
 
 pub none_shorter : {A : Type 0} (n : ℕ) → n < 0 → A
 none_shorter n h = absurd (omega arith)
@@ -44,15 +50,20 @@ cut owed was between now (status.BadInput number refused) line stood front reads
 cut owed was between now status.ReadFault line stood front reads writes = (inr (reads ∙ stood.failed), writes ∙ ap next_count stood.kept)
 cut owed was between now status.WriteFault line stood front reads writes = none_shorter _ front.short
 cut owed was between now status.OutOfMemory line stood front reads writes = none_shorter _ front.short
+cut owed was between now status.StoreFault line stood front reads writes = absurd stood
+cut owed was between now (status.StoreBroken place byte) line stood front reads writes = absurd stood
+cut owed was between now status.LinkFault line stood front reads writes = absurd stood
+cut owed was between now (status.Exhausted next) line stood front reads writes = absurd stood
+cut owed was between now (status.StoreTaken len) line stood front reads writes = absurd stood
 
-counts-by : (owed : Owed BadWord) (was between now : Standing) (failed : Bool) (first : Status) (line : List ℕ) (s : Status) → Stands owed was between first → Says failed first line s → now.read_faults ≡ between.read_faults → now.write_faults ≡ counted failed between.write_faults → Counts was now s
+pub counts-by : (owed : Owed BadWord) (was between now : Standing) (failed : Bool) (first : Status) (line : List ℕ) (s : Status) → Stands owed was between first → Says failed first line s → now.read_faults ≡ between.read_faults → now.write_faults ≡ counted failed between.write_faults → Counts was now s
 counts-by owed was between now false first line s stood says reads writes = subst (Counts was now) (sym says.0) (told owed was between now first stood reads writes)
 counts-by owed was between now true first line s stood says reads writes = subst (Counts was now) (sym says.0) (cut owed was between now first line stood says.1 reads writes)
 
 never_usage : (owed : Owed BadWord) (was between : Standing) (first : Status) → Stands owed was between first → first ≢ status.Usage
 never_usage owed was between first stood is = subst (Stands owed was between) is stood
 
-not-usage : (owed : Owed BadWord) (was between : Standing) (failed : Bool) (first : Status) (line : List ℕ) (s : Status) → Stands owed was between first → Says failed first line s → s ≢ status.Usage
+pub not-usage : (owed : Owed BadWord) (was between : Standing) (failed : Bool) (first : Status) (line : List ℕ) (s : Status) → Stands owed was between first → Says failed first line s → s ≢ status.Usage
 not-usage owed was between false first line s stood says usage = never_usage owed was between first stood (sym says.0 ∙ usage)
 not-usage owed was between true first line s stood says usage = let same : status.WriteFault ≡ status.Usage = sym says.0 ∙ usage in cc
 
@@ -70,3 +81,7 @@ concluded owed was between now r first s ran is tells =
       counts = counts-by owed was between now tells.failed first tells.line s stood tells.says tells.reads tells.writes;
       command = not-usage owed was between tells.failed first tells.line s stood tells.says;
     }
+
+-- a command of an authority that ended so, and whose line of the cause was then written or cut
+pub halt-ends : (P : Standing → Result (Unit {0}) Halt → Type 0) (r : Result (Unit {0}) Halt) (first s : Status) (mid now : Standing) → P mid r → first ≡ status_of_halt r → Tells first mid now s → HaltEnds P now s
+halt-ends P r first s mid now stands is tells = record { result = r; between = mid; stands = stands; tells = subst (λ f. Tells f mid now s) is tells }

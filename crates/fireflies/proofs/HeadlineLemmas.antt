@@ -20,7 +20,7 @@ use Rattle.fireflies.specs.Causes.{IsWritten, cause_line}
 use Rattle.fireflies.specs.Ends.{Ends}
 use Rattle.fireflies.proofs.EndLemmas.{none_shorter}
 use Rattle.fireflies.specs.Headline.{Headline, OnWhole}
-use Rattle.fireflies.specs.Traced.{EndsSilently, IsOwed}
+use Rattle.fireflies.specs.Traced.{EndsSilently, IsOfText, IsOwed}
 use Rattle.fireflies.proofs.TraceLemmas.{traced}
 use Rattle.fireflies.specs.declared.status.Status.{Status}
 use Rattle.fireflies.specs.declared.status.Status.TheVariants as status
@@ -35,6 +35,11 @@ whole owed rest (status.BadInput line refused) quiet none = none
 whole owed rest status.ReadFault quiet none = none quiet
 whole owed rest status.WriteFault quiet none = tt
 whole owed rest status.OutOfMemory quiet none = tt
+whole owed rest status.StoreFault quiet none = tt
+whole owed rest (status.StoreBroken place byte) quiet none = tt
+whole owed rest status.LinkFault quiet none = tt
+whole owed rest (status.Exhausted next) quiet none = tt
+whole owed rest (status.StoreTaken len) quiet none = tt
 
 on-whole : (s : Status) (P Q : Type 0) → (P → Q) → OnWhole s P → OnWhole s Q
 on-whole status.Ok P Q f p = f p
@@ -43,6 +48,11 @@ on-whole (status.BadInput line refused) P Q f p = f p
 on-whole status.ReadFault P Q f p = f p
 on-whole status.WriteFault P Q f p = tt
 on-whole status.OutOfMemory P Q f p = tt
+on-whole status.StoreFault P Q f p = tt
+on-whole (status.StoreBroken place byte) P Q f p = tt
+on-whole status.LinkFault P Q f p = tt
+on-whole (status.Exhausted next) P Q f p = tt
+on-whole (status.StoreTaken len) P Q f p = tt
 
 -- ## The line of a cause gives no removal
 
@@ -105,15 +115,20 @@ none-behind ls text rest line false same is =
     subst (IsJustified ls) (sym (ap (λ (l : List ℕ). text ++ l) is ∙ append-nil text)) (justified-written ls text rest same)
 none-behind ls text rest line true same is = absurd (none_shorter _ is.short)
 
-written : (ls : List (List ℕ)) (text rest line : List ℕ) (failed : Bool) (first : Status) → (replayed ls).output ≡ text ++ rest → OnWhole first (rest ≡ []) → IsWritten failed (cause_line first) line → IsJustified ls (text ++ line)
-written ls text rest line failed status.Ok same none is = none-behind ls text rest line failed same is
-written ls text rest line failed status.Usage same none is = none-behind ls text rest line failed same is
-written ls text rest line failed (status.BadInput number w) same none is =
+written : (ls : List (List ℕ)) (text rest line : List ℕ) (failed : Bool) (first : Status) → IsOfText first → (replayed ls).output ≡ text ++ rest → OnWhole first (rest ≡ []) → IsWritten failed (cause_line first) line → IsJustified ls (text ++ line)
+written ls text rest line failed status.Ok of same none is = none-behind ls text rest line failed same is
+written ls text rest line failed status.Usage of same none is = absurd of
+written ls text rest line failed (status.BadInput number w) of same none is =
     other-behind ls text (cause_line (status.BadInput number w)) line failed (same ∙ ap (λ (r : List ℕ). text ++ r) none ∙ append-nil text) (bad-line number w) is
-written ls text rest line failed status.ReadFault same none is =
+written ls text rest line failed status.ReadFault of same none is =
     other-behind ls text (cause_line status.ReadFault) line failed (same ∙ ap (λ (r : List ℕ). text ++ r) none ∙ append-nil text) fault-line is
-written ls text rest line failed status.WriteFault same none is = none-behind ls text rest line failed same is
-written ls text rest line failed status.OutOfMemory same none is = none-behind ls text rest line failed same is
+written ls text rest line failed status.WriteFault of same none is = none-behind ls text rest line failed same is
+written ls text rest line failed status.OutOfMemory of same none is = none-behind ls text rest line failed same is
+written ls text rest line failed status.StoreFault of same none is = absurd of
+written ls text rest line failed (status.StoreBroken place byte) of same none is = absurd of
+written ls text rest line failed status.LinkFault of same none is = absurd of
+written ls text rest line failed (status.Exhausted next) of same none is = absurd of
+written ls text rest line failed (status.StoreTaken len) of same none is = absurd of
 
 pub headline : (was now : Standing) (s : Status) → Ends replayed was now s → Headline was now s
 headline was now s ends =
@@ -122,7 +137,7 @@ headline was now s ends =
     record {
       trace = t;
       whole = all;
-      written = written (seen t.bytes) t.text t.rest t.line t.failed t.cause t.front all t.says.1;
+      written = written (seen t.bytes) t.text t.rest t.line t.failed t.cause t.of_text t.front all t.says.1;
       taken = justified-walk (seen t.bytes);
       told =
           on-whole t.cause (t.rest ≡ []) (IsTold (seen t.bytes) t.text)

@@ -4,3 +4,6 @@ pub mod CompleteLemmas
 pub mod HeadlineLemmas
 pub mod VerificationLemmas
 pub mod UpheldLemmas
+pub mod BehindLemmas
+pub mod StoreLemmas
+pub mod EnrollLemmas

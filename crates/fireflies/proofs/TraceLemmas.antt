@@ -14,14 +14,14 @@ use Rattle.text_trace.proofs.WholeLemmas.{whole-one, whole-join, rest-next, cut-
 use Rattle.text_trace.proofs.LineLemmas.{lines_of-rest}
 use Rattle.fireflies.specs.Causes.{Says}
 use Rattle.fireflies.specs.Ends.{Ends, Is, Stands}
-use Rattle.fireflies.specs.Traced.{AreUnrefused, EndsSilently, IsCause, IsEarly, IsFirst, IsNumber, IsOwed, IsTrace, IsUnread, IsUnrefusedText, SpeaksAtEnd, Traced}
+use Rattle.fireflies.specs.Traced.{AreUnrefused, EndsSilently, IsCause, IsEarly, IsFirst, IsNumber, IsOfText, IsOwed, IsTrace, IsUnread, IsUnrefusedText, SpeaksAtEnd, Traced}
 use Rattle.fireflies.specs.declared.status.Status.{Status}
 use Rattle.fireflies.specs.declared.status.Status.TheVariants as status
 
 none-shorter : {A : Type 0} (n : ℕ) → n < 0 → A
 none-shorter n h = absurd (omega arith)
 
-at-end : (left : Option (List ℕ)) → IsUsedUp left → IsAtEnd left
+pub at-end : (left : Option (List ℕ)) → IsUsedUp left → IsAtEnd left
 at-end None none = tt
 at-end (Some left) none = none
 
@@ -42,7 +42,7 @@ record Fronted (owed : Owed BadWord) (was now : Standing) (first : Status) : Typ
   unrefused : IsFirst owed bytes text now.left first
 
 -- whole lines, as they are seen
-seen-whole : (lines : List (List ℕ)) (bytes : List ℕ) → AreWhole lines bytes → seen bytes ≡ lines
+pub seen-whole : (lines : List (List ℕ)) (bytes : List ℕ) → AreWhole lines bytes → seen bytes ≡ lines
 seen-whole lines bytes whole = ap seen (sym (append-nil bytes)) ∙ whole.first [] ∙ append-nil lines
 
 -- a line without its line feed, no more than is seen of one
@@ -132,7 +132,7 @@ refused-all owed lines bytes text rest refusal (Some line) whole is refuses =
     ap seen (append_assoc bytes line rest) ∙ whole.first (line ++ rest) ∙ ap (λ (x : List (List ℕ)). lines ++ x) next.same in
     rw same (refuses owed refl next.others)
 
-refused-told : (owed : Owed BadWord) (lines : List (List ℕ)) (bytes text : List ℕ) (refusal : BadWord) (last before after : Option (List ℕ))
+pub refused-told : (owed : Owed BadWord) (lines : List (List ℕ)) (bytes text : List ℕ) (refusal : BadWord) (last before after : Option (List ℕ))
     → Consumes before after (bytes ++ bytes_of last) → AreWhole lines bytes → IsLast last after → Refuses BadWord (Is owed) lines last text refusal
     → IfSome before (λ all. owed (seen all) ≡ record { output = text; cause = Some refusal })
 refused-told owed lines bytes text refusal last None after took whole is refuses = tt
@@ -338,6 +338,24 @@ fronted owed was now status.WriteFault stood =
       unrefused = tt;
     }
 fronted owed was now status.OutOfMemory stood = elim stood [ inl same ↦ unmoved owed was now same | inr wanting ↦ starved owed was now wanting ]
+fronted owed was now status.StoreFault stood = absurd stood
+fronted owed was now (status.StoreBroken place byte) stood = absurd stood
+fronted owed was now status.LinkFault stood = absurd stood
+fronted owed was now (status.Exhausted next) stood = absurd stood
+fronted owed was now (status.StoreTaken len) stood = absurd stood
+
+pub of-text : (owed : Owed BadWord) (was now : Standing) (first : Status) → Stands owed was now first → IsOfText first
+of-text owed was now status.Ok stood = tt
+of-text owed was now status.Usage stood = absurd stood
+of-text owed was now (status.BadInput line w) stood = tt
+of-text owed was now status.ReadFault stood = tt
+of-text owed was now status.WriteFault stood = tt
+of-text owed was now status.OutOfMemory stood = tt
+of-text owed was now status.StoreFault stood = absurd stood
+of-text owed was now (status.StoreBroken place byte) stood = absurd stood
+of-text owed was now status.LinkFault stood = absurd stood
+of-text owed was now (status.Exhausted next) stood = absurd stood
+of-text owed was now (status.StoreTaken len) stood = absurd stood
 
 pub traced : (owed : Owed BadWord) (was now : Standing) (s : Status) → Ends owed was now s → Traced owed was now s
 traced owed was now s ends =
@@ -351,6 +369,7 @@ traced owed was now s ends =
       rest = f.rest;
       line = t.line;
       says = t.says;
+      of_text = of-text owed was ends.between ends.first ends.stands;
       read = subst (λ (o : Option (List ℕ)). Consumes was.left o f.bytes) (sym t.left) f.read;
       few = f.few;
       number = subst (λ (o : Option (List ℕ)). IsNumber f.bytes o ends.first) (sym t.left) f.number;

@@ -54,6 +54,11 @@ silent was now s (status.BadInput line refused) t refusal early = no-front t.tex
 silent was now s status.ReadFault t refusal early = early late
 silent was now s status.WriteFault t refusal early = tt
 silent was now s status.OutOfMemory t refusal early = early late
+silent was now s status.StoreFault t refusal early = tt
+silent was now s (status.StoreBroken place byte) t refusal early = tt
+silent was now s status.LinkFault t refusal early = tt
+silent was now s (status.Exhausted next) t refusal early = tt
+silent was now s (status.StoreTaken len) t refusal early = tt
 
 pub verification : (was now : Standing) (s : Status) → Ends verified was now s → Verification was now s
 verification was now s ends =

@@ -1,18 +1,30 @@
 -- How a run may stop, and the line that says so.
-use Rattle.std.specs.Prelude.{◌≡◌, ℕ, ◌<◌, Bool, true, false, List, [], ◌∷◌, ◌++◌, length, take, codes, Result, Ok, Err}
+use Rattle.std.specs.Prelude.{◌≡◌, ℕ, ◌<◌, Bool, true, false, List, [], ◌∷◌, ◌++◌, length, take, codes, Option, Some, None, Result, Ok, Err}
 use Rattle.std.specs.Fmt.{decimal}
 use Rattle.line_text.specs.Texts.{bad_word_text}
 use Rattle.line_text.specs.declared.bad_word.BadWord.{BadWord}
 use Rattle.play.specs.declared.stop.Stop.{Stop}
 use Rattle.play.specs.declared.stop.Stop.TheVariants as stop
+use Rattle.authority.specs.declared.halt.Halt.{Halt}
+use Rattle.authority.specs.declared.halt.Halt.TheVariants as halt
 use Rattle.fireflies.specs.declared.status.Status.{Status}
 use Rattle.fireflies.specs.declared.status.Status.TheVariants as status
+
+-- a byte in decimal, or that the file ends before it
+abbrev pub byte_text : Option ℕ → List ℕ
+byte_text None = codes "none"
+byte_text (Some byte) = decimal byte
 
 -- The line that gives the cause, behind what was written till then. Where a write failed or memory was refused, there
 -- is none.
 abbrev pub cause_line : Status → List ℕ
 cause_line (status.BadInput line word) = codes "bad " ++ decimal line ++ 32 ∷ [] ++ bad_word_text word ++ 10 ∷ []
 cause_line status.ReadFault = codes "read fault" ++ 10 ∷ []
+cause_line status.StoreFault = codes "store fault" ++ 10 ∷ []
+cause_line (status.StoreBroken place byte) = codes "store broken " ++ decimal place ++ 32 ∷ [] ++ byte_text byte ++ 10 ∷ []
+cause_line status.LinkFault = codes "link fault" ++ 10 ∷ []
+cause_line (status.Exhausted next) = codes "exhausted " ++ decimal next ++ 10 ∷ []
+cause_line (status.StoreTaken len) = codes "store taken " ++ decimal len ++ 10 ∷ []
 cause_line _ = []
 
 -- The line is a front of another one, and not all of it.
@@ -43,3 +55,15 @@ status_of (Err (stop.Refused line word)) = status.BadInput line word
 status_of (Err stop.ReadFault) = status.ReadFault
 status_of (Err stop.WriteFault) = status.WriteFault
 status_of (Err stop.OutOfMemory) = status.OutOfMemory
+
+-- The status of a command of an authority that ended so.
+abbrev pub status_of_halt : Result (Unit {0}) Halt → Status
+status_of_halt (Ok _) = status.Ok
+status_of_halt (Err (halt.Refused line word)) = status.BadInput line word
+status_of_halt (Err halt.ReadFault) = status.ReadFault
+status_of_halt (Err halt.WriteFault) = status.WriteFault
+status_of_halt (Err halt.StoreFault) = status.StoreFault
+status_of_halt (Err (halt.StoreBroken place byte)) = status.StoreBroken place byte
+status_of_halt (Err (halt.StoreTaken len)) = status.StoreTaken len
+status_of_halt (Err (halt.Exhausted next)) = status.Exhausted next
+status_of_halt (Err halt.OutOfMemory) = status.OutOfMemory

@@ -4,6 +4,8 @@ pub mod Commands
 pub mod Causes
 pub mod Ends
 pub mod Traced
+pub mod TracedAs
+pub mod Enrolment
 pub mod Headline
 pub mod Verification
 pub mod Upheld

@@ -79,6 +79,16 @@ IsFirst owed bytes text left status.ReadFault = IsUnread owed bytes text
 IsFirst owed bytes text left status.OutOfMemory = (bytes ≡ []) ⊎ (AreUnrefused owed bytes ⊎ IsUnrefusedText owed bytes left)
 IsFirst owed bytes text left _ = Unit {0}
 
+-- The cause is one that a run over a text alone may have.
+abbrev pub IsOfText : Status → Type 0
+IsOfText status.Usage = ⊥
+IsOfText status.StoreFault = ⊥
+IsOfText (status.StoreBroken place byte) = ⊥
+IsOfText status.LinkFault = ⊥
+IsOfText (status.Exhausted next) = ⊥
+IsOfText (status.StoreTaken len) = ⊥
+IsOfText _ = Unit {0}
+
 -- These bytes were taken from the source, up to the first cause. Written was a front of their trace, and behind it the
 -- line of that cause, or a front of it where a write failed.
 pub record Traced (owed : Owed BadWord) (was now : Standing) (s : Status) : Type 0 where
@@ -89,6 +99,7 @@ pub record Traced (owed : Owed BadWord) (was now : Standing) (s : Status) : Type
   pub rest : List ℕ
   pub line : List ℕ
   pub says : Says failed cause line s
+  pub of_text : IsOfText cause
   pub read : Consumes was.left now.left bytes
   pub few : length (seen bytes) ≤ text_lines + 1
   pub number : IsNumber bytes now.left cause

@@ -12,7 +12,7 @@ mod tests;
 mod words;
 
 pub use command::Command;
-use edges::{StdSink, StdSource};
+use edges::{FileDisk, StdSink, StdSource};
 pub use run::run;
 use start::start;
 pub use status::Status;
@@ -24,5 +24,6 @@ fn main(rt: HostRuntime) -> ExitCode {
     let words = words_of(rt.alloc(), std::env::args(&rt));
     let mut input = StdSource::new(rt.alloc(), rt.reader());
     let mut out = StdSink::new(io::writer(&rt));
-    ExitCode::from(start(rt.alloc(), words, &mut input, &mut out).number())
+    let mut disk = FileDisk::new(&rt);
+    ExitCode::from(start(rt.alloc(), words, &mut input, &mut out, &mut disk).number())
 }

@@ -1,72 +1,156 @@
 // The top call.
 
-ghost use Rattle.std.specs.Prelude.{◌≡◌, ◌≢◌, ◌↔◌, true, map, IfSome, string_bytes};
-ghost use Rattle.text_trace.specs.Lines.{text_lines};
-ghost use Rattle.play.specs.Plays.{Runs, standing, has_written};
-ghost use Rattle.line_text.specs.declared.bad_word.BadWord.{BadWord};
-ghost use Rattle.fireflies.specs.Commands.{command_of, owed_by};
-ghost use Rattle.fireflies.specs.Ends.{Counts, Ends, Is};
-ghost use Rattle.fireflies.specs.Traced.{Completes, Traced};
+ghost use Rattle.std.specs.Prelude.{◌≡◌, ◌≢◌, ◌↔◌, true, false, map, IfSome, string_bytes};
+ghost use Rattle.authority.specs.OfDisk.{of_disk};
+ghost use Rattle.play.specs.Plays.{standing};
+ghost use Rattle.trace.specs.Walk.{replayed};
+ghost use Rattle.verifier.specs.Answered.{verified};
+ghost use Rattle.fireflies.specs.Commands.{command_of, is_over_store, store_in, takes_store};
+ghost use Rattle.fireflies.specs.Ends.{Counts, DiskCounts, EndsAs, Ends, EnrollEnds, StoreEnds};
+ghost use Rattle.fireflies.specs.TracedAs.{CompletesAs, TracedAs};
 ghost use Rattle.fireflies.specs.Upheld.{Upholds};
 
-use crate::command::Command;
+use crate::command::{Command, store_in};
 use crate::ending::conclude;
 use crate::status::Status;
-use line_text::BadWord;
-use play::Stop;
+use enrolment::enroll;
 use ports::{Clock, Disk, Link, Sink, Source};
 use replay::replay;
 use std::alloc::Global;
+use store_making::make_store;
 use verifier::verify_input;
 
-/// Plays the text of the command, from the source to the sink.
-fn play_text<S: Source, O: Sink>(
-    alloc: Global,
-    command: Command,
-    input: &mut S,
-    out: &mut O,
-) -> Result<(), Stop<BadWord>>
+/// Does what a command does with a text alone, and answers how the run ended.
+fn run_replay<S: Source, O: Sink>(alloc: Global, input: &mut S, out: &mut O) -> Status
     requires source { S.is_open input.old ≡ true }
     requires sink { O.is_open out.old ≡ true }
-    ensures sink { O.is_open out.new ≡ has_written result }
-    ensures runs { Runs BadWord (Is (owed_by command)) text_lines
+    ensures ends { Ends replayed
         (standing (S.left input.old) (O.taken out.old) (S.faults input.old) (O.faults out.old))
         (standing (S.left input.new) (O.taken out.new) (S.faults input.new) (O.faults out.new)) result }
 {
-    match command {
-        Command::Replay => replay(alloc, input, out),
-        Command::Verify => verify_input(alloc, input, out),
-    }
+    let ended = replay(alloc, input, out);
+    conclude(out, Status::from(ended))
+}
+
+/// Answers whether a signature is good, and how the run ended.
+fn run_verify<S: Source, O: Sink>(alloc: Global, input: &mut S, out: &mut O) -> Status
+    requires source { S.is_open input.old ≡ true }
+    requires sink { O.is_open out.old ≡ true }
+    ensures ends { Ends verified
+        (standing (S.left input.old) (O.taken out.old) (S.faults input.old) (O.faults out.old))
+        (standing (S.left input.new) (O.taken out.new) (S.faults input.new) (O.faults out.new)) result }
+{
+    let ended = verify_input(alloc, input, out);
+    conclude(out, Status::from(ended))
+}
+
+/// Makes a store, and answers how the run ended.
+fn run_store<S: Source, O: Sink, D: Disk>(
+    alloc: Global,
+    name: &str,
+    input: &mut S,
+    out: &mut O,
+    disk: &mut D,
+) -> Status
+    requires source { S.is_open input.old ≡ true }
+    requires sink { O.is_open out.old ≡ true }
+    ensures ends { StoreEnds name.now
+        (standing (S.left input.old) (O.taken out.old) (S.faults input.old) (O.faults out.old))
+        (standing (S.left input.new) (O.taken out.new) (S.faults input.new) (O.faults out.new))
+        (of_disk (D.faults disk.old) (D.calls disk.old) (D.moments disk.old))
+        (of_disk (D.faults disk.new) (D.calls disk.new) (D.moments disk.new)) result }
+{
+    let ended = make_store(alloc, name, input, out, disk);
+    conclude(out, Status::from(ended))
+}
+
+/// Signs certificates, and answers how the run ended.
+fn run_enroll<S: Source, O: Sink, D: Disk>(
+    alloc: Global,
+    name: &str,
+    input: &mut S,
+    out: &mut O,
+    disk: &mut D,
+) -> Status
+    requires source { S.is_open input.old ≡ true }
+    requires sink { O.is_open out.old ≡ true }
+    ensures ends { EnrollEnds
+        (standing (S.left input.old) (O.taken out.old) (S.faults input.old) (O.faults out.old))
+        (standing (S.left input.new) (O.taken out.new) (S.faults input.new) (O.faults out.new))
+        (of_disk (D.faults disk.old) (D.calls disk.old) (D.moments disk.old))
+        (of_disk (D.faults disk.new) (D.calls disk.new) (D.moments disk.new)) result }
+{
+    let ended = enroll(alloc, name, input, out, disk);
+    conclude(out, Status::from(ended))
 }
 
 /// Does what the command says, and answers how the run ended.
-fn run_command<S: Source, O: Sink>(
+fn run_command<S: Source, O: Sink, D: Disk>(
     alloc: Global,
     command: Command,
+    name: &str,
     input: &mut S,
     out: &mut O,
+    disk: &mut D,
+) -> Status
+    requires source { S.is_open input.old ≡ true }
+    requires sink { O.is_open out.old ≡ true }
+    ensures ends { EndsAs command name.now
+        (standing (S.left input.old) (O.taken out.old) (S.faults input.old) (O.faults out.old))
+        (standing (S.left input.new) (O.taken out.new) (S.faults input.new) (O.faults out.new))
+        (of_disk (D.faults disk.old) (D.calls disk.old) (D.moments disk.old))
+        (of_disk (D.faults disk.new) (D.calls disk.new) (D.moments disk.new)) result }
+    ensures disk { takes_store command ≡ false → disk.new ≡ disk.old }
+{
+    match command {
+        Command::Replay => run_replay(alloc, input, out),
+        Command::Verify => run_verify(alloc, input, out),
+        Command::Store => run_store(alloc, name, input, out, disk),
+        Command::Enroll => run_enroll(alloc, name, input, out, disk),
+    }
+}
+
+/// The same, and what follows from how the run ended.
+fn run_named<S: Source, O: Sink, D: Disk>(
+    alloc: Global,
+    command: Command,
+    name: &str,
+    input: &mut S,
+    out: &mut O,
+    disk: &mut D,
 ) -> Status
     requires source { S.is_open input.old ≡ true }
     requires sink { O.is_open out.old ≡ true }
     ensures command { result ≢ Status.Usage }
-    ensures ends { Ends (owed_by command)
+    ensures ends { EndsAs command name.now
         (standing (S.left input.old) (O.taken out.old) (S.faults input.old) (O.faults out.old))
-        (standing (S.left input.new) (O.taken out.new) (S.faults input.new) (O.faults out.new)) result }
-    ensures traced { Traced (owed_by command)
+        (standing (S.left input.new) (O.taken out.new) (S.faults input.new) (O.faults out.new))
+        (of_disk (D.faults disk.old) (D.calls disk.old) (D.moments disk.old))
+        (of_disk (D.faults disk.new) (D.calls disk.new) (D.moments disk.new)) result }
+    ensures traced { TracedAs command
         (standing (S.left input.old) (O.taken out.old) (S.faults input.old) (O.faults out.old))
-        (standing (S.left input.new) (O.taken out.new) (S.faults input.new) (O.faults out.new)) result }
-    ensures complete { Completes (owed_by command)
+        (standing (S.left input.new) (O.taken out.new) (S.faults input.new) (O.faults out.new))
+        (of_disk (D.faults disk.old) (D.calls disk.old) (D.moments disk.old))
+        (of_disk (D.faults disk.new) (D.calls disk.new) (D.moments disk.new)) result }
+    ensures complete { CompletesAs command
         (standing (S.left input.old) (O.taken out.old) (S.faults input.old) (O.faults out.old))
-        (standing (S.left input.new) (O.taken out.new) (S.faults input.new) (O.faults out.new)) result }
+        (standing (S.left input.new) (O.taken out.new) (S.faults input.new) (O.faults out.new))
+        (of_disk (D.faults disk.old) (D.calls disk.old) (D.moments disk.old))
+        (of_disk (D.faults disk.new) (D.calls disk.new) (D.moments disk.new)) result }
     ensures upholds { Upholds command
         (standing (S.left input.old) (O.taken out.old) (S.faults input.old) (O.faults out.old))
-        (standing (S.left input.new) (O.taken out.new) (S.faults input.new) (O.faults out.new)) result }
+        (standing (S.left input.new) (O.taken out.new) (S.faults input.new) (O.faults out.new))
+        (of_disk (D.faults disk.old) (D.calls disk.old) (D.moments disk.old))
+        (of_disk (D.faults disk.new) (D.calls disk.new) (D.moments disk.new)) result }
     ensures counts { Counts
         (standing (S.left input.old) (O.taken out.old) (S.faults input.old) (O.faults out.old))
         (standing (S.left input.new) (O.taken out.new) (S.faults input.new) (O.faults out.new)) result }
+    ensures faults { DiskCounts
+        (of_disk (D.faults disk.old) (D.calls disk.old) (D.moments disk.old))
+        (of_disk (D.faults disk.new) (D.calls disk.new) (D.moments disk.new)) result }
+    ensures disk { takes_store command ≡ false → disk.new ≡ disk.old }
 {
-    let ended = play_text(alloc, command, input, out);
-    conclude(out, Status::from(ended))
+    run_command(alloc, command, name, input, out, disk)
 }
 
 /// Runs the command that the words name, from the source to the sink. The first cause that comes in the run
@@ -88,38 +172,51 @@ pub fn run<S: Source, O: Sink, D: Disk, L: Link, C: Clock>(
     ensures untouched { result ≡ Status.Usage → (input.new ≡ input.old) × (out.new ≡ out.old) }
 
     // What is taken and written, by how the run ended.
-    ensures ends { IfSome (command_of (map string_bytes words.now)) (λ command. Ends (owed_by command)
+    ensures ends { IfSome (command_of (map string_bytes words.now)) (λ command. EndsAs command (store_in (map string_bytes words.now))
         (standing (S.left input.old) (O.taken out.old) (S.faults input.old) (O.faults out.old))
-        (standing (S.left input.new) (O.taken out.new) (S.faults input.new) (O.faults out.new)) result) }
+        (standing (S.left input.new) (O.taken out.new) (S.faults input.new) (O.faults out.new))
+        (of_disk (D.faults disk.old) (D.calls disk.old) (D.moments disk.old))
+        (of_disk (D.faults disk.new) (D.calls disk.new) (D.moments disk.new)) result) }
 
     // What is written is a front of the trace of what was taken, and behind it the line of the cause.
-    ensures traced { IfSome (command_of (map string_bytes words.now)) (λ command. Traced (owed_by command)
+    ensures traced { IfSome (command_of (map string_bytes words.now)) (λ command. TracedAs command
         (standing (S.left input.old) (O.taken out.old) (S.faults input.old) (O.faults out.old))
-        (standing (S.left input.new) (O.taken out.new) (S.faults input.new) (O.faults out.new)) result) }
+        (standing (S.left input.new) (O.taken out.new) (S.faults input.new) (O.faults out.new))
+        (of_disk (D.faults disk.old) (D.calls disk.old) (D.moments disk.old))
+        (of_disk (D.faults disk.new) (D.calls disk.new) (D.moments disk.new)) result) }
 
-    // Where no line refuses the text and neither side failed, all of it is run, unless memory is refused.
-    ensures complete { IfSome (command_of (map string_bytes words.now)) (λ command. Completes (owed_by command)
+    // Where no line refuses the text, nothing failed, and the store that a command takes is as it wants it, all of it is
+    // run, unless memory is refused.
+    ensures complete { IfSome (command_of (map string_bytes words.now)) (λ command. CompletesAs command
         (standing (S.left input.old) (O.taken out.old) (S.faults input.old) (O.faults out.old))
-        (standing (S.left input.new) (O.taken out.new) (S.faults input.new) (O.faults out.new)) result) }
+        (standing (S.left input.new) (O.taken out.new) (S.faults input.new) (O.faults out.new))
+        (of_disk (D.faults disk.old) (D.calls disk.old) (D.moments disk.old))
+        (of_disk (D.faults disk.new) (D.calls disk.new) (D.moments disk.new)) result) }
 
     // What the trace that was written rests on: in a replay each removal on an accusation that stood unanswered for
-    // the timeout; to a text that asks about a signature nothing is answered before its end.
+    // the timeout; to a text that asks about a signature nothing is answered before its end. What is signed of
+    // certificates spends indexes from the next one found on, each once, whatever ends the run.
     ensures upholds { IfSome (command_of (map string_bytes words.now)) (λ command. Upholds command
         (standing (S.left input.old) (O.taken out.old) (S.faults input.old) (O.faults out.old))
-        (standing (S.left input.new) (O.taken out.new) (S.faults input.new) (O.faults out.new)) result) }
+        (standing (S.left input.new) (O.taken out.new) (S.faults input.new) (O.faults out.new))
+        (of_disk (D.faults disk.old) (D.calls disk.old) (D.moments disk.old))
+        (of_disk (D.faults disk.new) (D.calls disk.new) (D.moments disk.new)) result) }
 
     // A cause that is no fault leaves both counts as they were; a fault raises its own by one.
     ensures counts { Counts
         (standing (S.left input.old) (O.taken out.old) (S.faults input.old) (O.faults out.old))
         (standing (S.left input.new) (O.taken out.new) (S.faults input.new) (O.faults out.new)) result }
 
-    // No command uses a disk, a link or a clock yet.
-    ensures disk { disk.new ≡ disk.old }
+    // So does the disk's, which a command without a store doesn't touch. No command uses a link or a clock yet.
+    ensures faults { DiskCounts
+        (of_disk (D.faults disk.old) (D.calls disk.old) (D.moments disk.old))
+        (of_disk (D.faults disk.new) (D.calls disk.new) (D.moments disk.new)) result }
+    ensures disk { is_over_store (command_of (map string_bytes words.now)) ≡ false → disk.new ≡ disk.old }
     ensures link { link.new ≡ link.old }
     ensures clock { clock.new ≡ clock.old }
 {
     let Some(command) = Command::of(words) else {
         return Status::Usage;
     };
-    run_command(alloc, command, input, out)
+    run_named(alloc, command, store_in(words), input, out, disk)
 }

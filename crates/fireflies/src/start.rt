@@ -1,41 +1,48 @@
 // From the words of the command line to the status.
 
-ghost use Rattle.std.specs.Prelude.{◌≡◌, true, map, string_bytes, IfOk, IfErr, OnOk, OnErr};
+ghost use Rattle.std.specs.Prelude.{◌≡◌, true, false, map, string_bytes, IfOk, IfErr, OnOk, OnErr};
+ghost use Rattle.authority.specs.OfDisk.{of_disk};
 ghost use Rattle.play.specs.Plays.{standing};
+ghost use Rattle.fireflies.specs.Commands.{command_of, is_over_store};
 ghost use Rattle.fireflies.specs.Starts.{Ran, OnBoth};
 
 use crate::run::run;
 use crate::status::Status;
 use edges::{Absent, NoClock};
 use fields::NoMemory;
-use ports::{Sink, Source};
+use ports::{Disk, Sink, Source};
 use std::alloc::Global;
 
-/// Runs the command of the words, with no disk, link or clock.
-fn run_words<S: Source, O: Sink>(
+/// Runs the command of the words, with no link or clock.
+fn run_words<S: Source, O: Sink, D: Disk>(
     alloc: Global,
     words: &[String],
     input: &mut S,
     out: &mut O,
+    disk: &mut D,
 ) -> Status
     requires source { S.is_open input.old ≡ true }
     requires sink { O.is_open out.old ≡ true }
     ensures untouched { result ≡ Status.Usage → (input.new ≡ input.old) × (out.new ≡ out.old) }
     ensures ran { Ran (map string_bytes words.now)
         (standing (S.left input.old) (O.taken out.old) (S.faults input.old) (O.faults out.old))
-        (standing (S.left input.new) (O.taken out.new) (S.faults input.new) (O.faults out.new)) result }
+        (standing (S.left input.new) (O.taken out.new) (S.faults input.new) (O.faults out.new))
+        (of_disk (D.faults disk.old) (D.calls disk.old) (D.moments disk.old))
+        (of_disk (D.faults disk.new) (D.calls disk.new) (D.moments disk.new)) result }
+    ensures disk { is_over_store (command_of (map string_bytes words.now)) ≡ false → disk.new ≡ disk.old }
 {
-    let (mut disk, mut link, mut clock) = (Absent::new(), Absent::new(), NoClock);
-    run(alloc, words, input, out, &mut disk, &mut link, &mut clock)
+    let (mut link, mut clock) = (Absent::new(), NoClock);
+    run(alloc, words, input, out, disk, &mut link, &mut clock)
 }
 
 /// Runs the command of the words from the source to the sink. Where the words were not read, or there is no source,
-/// nothing is run, and nothing is read or written.
-pub(crate) fn start<S: Source, O: Sink>(
+/// nothing is run, and nothing is read or written, nor the disk touched.
+pub(crate) fn start<S: Source, O: Sink, D: Disk>(
     alloc: Global,
     words: Result<Vec<String>, Status>,
     input: &mut Result<S, NoMemory>,
     out: &mut O,
+    disk: &mut D,
 ) -> Status
     requires source { IfOk input.old (λ from. S.is_open from ≡ true) }
     requires sink { O.is_open out.old ≡ true }
@@ -46,11 +53,16 @@ pub(crate) fn start<S: Source, O: Sink>(
     ensures untouched { OnOk words (result ≡ Status.Usage → out.new ≡ out.old) }
     ensures ran { IfOk words (λ all. OnBoth input.old input.new (λ was now. Ran (map string_bytes all.items)
         (standing (S.left was) (O.taken out.old) (S.faults was) (O.faults out.old))
-        (standing (S.left now) (O.taken out.new) (S.faults now) (O.faults out.new)) result)) }
+        (standing (S.left now) (O.taken out.new) (S.faults now) (O.faults out.new))
+        (of_disk (D.faults disk.old) (D.calls disk.old) (D.moments disk.old))
+        (of_disk (D.faults disk.new) (D.calls disk.new) (D.moments disk.new)) result)) }
+    ensures disk { IfOk words (λ all. is_over_store (command_of (map string_bytes all.items)) ≡ false → disk.new ≡ disk.old) }
+    ensures unread_disk { OnErr words (disk.new ≡ disk.old) }
+    ensures starved_disk { OnErr input.old (disk.new ≡ disk.old) }
 {
     match (words, input) {
         (Err(status), _) => status,
         (Ok(_), Err(NoMemory)) => Status::OutOfMemory,
-        (Ok(words), Ok(input)) => run_words(alloc, &words, input, out),
+        (Ok(words), Ok(input)) => run_words(alloc, &words, input, out, disk),
     }
 }

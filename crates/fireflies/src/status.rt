@@ -1,12 +1,13 @@
 // How a run may end.
 
-ghost use Rattle.std.specs.Prelude.{◌≡◌, ◌++◌, ◌∷◌, [], codes};
+ghost use Rattle.std.specs.Prelude.{◌≡◌, ◌≤◌, ◌++◌, ◌∷◌, [], codes, length};
 ghost use Rattle.std.specs.Fmt.{decimal};
 ghost use Rattle.line_text.specs.Texts.{bad_word_text};
-ghost use Rattle.fireflies.specs.Causes.{cause_line, status_of};
+ghost use Rattle.fireflies.specs.Causes.{byte_text, cause_line, status_of, status_of_halt};
 ghost use Rattle.fireflies.specs.Numbers.{status_number};
 
 use arrayvec::ArrayString;
+use authority::Halt;
 use itoa::Buffer;
 use line_text::BadWord;
 use play::Stop;
@@ -25,8 +26,18 @@ pub enum Status {
     ReadFault,
     /// A write failed.
     WriteFault,
+    /// The disk failed.
+    StoreFault,
+    /// The file is no store of the key: it breaks, or differs, at this place, where this byte stands, or none past the end.
+    StoreBroken { place: u64, byte: Option<u8> },
+    /// The port could not be bound.
+    LinkFault,
+    /// The key has no leaf from this number on.
+    Exhausted { next: u32 },
     /// Memory was refused.
     OutOfMemory,
+    /// The file has so many bytes already.
+    StoreTaken { len: u64 },
 }
 
 impl Status {
@@ -40,28 +51,83 @@ impl Status {
             Status::BadInput { .. } => 3,
             Status::ReadFault => 5,
             Status::WriteFault => 6,
+            Status::StoreFault => 7,
+            Status::StoreBroken { .. } => 8,
+            Status::LinkFault => 9,
+            Status::Exhausted { .. } => 10,
             Status::OutOfMemory => 11,
+            Status::StoreTaken { .. } => 12,
         }
     }
 
     /// The line that gives the cause, with its line feed; nothing where there is none. It takes no memory.
-    pub fn line(self) -> ArrayString<32>
+    pub fn line(self) -> ArrayString<64>
         ensures { result.bytes ≡ cause_line self }
     {
         match self {
             Status::BadInput { line, word } => refusal_line(line, word),
-            Status::ReadFault => {
-                let mut text = ArrayString::new();
-                text.push_str("read fault\n");
-                text
+            Status::ReadFault => fixed_line("read fault\n"),
+            Status::StoreFault => fixed_line("store fault\n"),
+            Status::StoreBroken { place, byte } => broken_line(place, byte),
+            Status::LinkFault => fixed_line("link fault\n"),
+            Status::Exhausted { next } => numbered_line("exhausted ", u64::from(next)),
+            Status::StoreTaken { len } => numbered_line("store taken ", len),
+            Status::Ok | Status::Usage | Status::WriteFault | Status::OutOfMemory => {
+                ArrayString::new()
             }
-            _ => ArrayString::new(),
         }
     }
 }
 
+fn fixed_line(line: &str) -> ArrayString<64>
+    requires { length line.now ≤ 64 }
+    ensures { result.bytes ≡ line.now }
+{
+    let mut text = ArrayString::new();
+    text.push_str(line);
+    text
+}
+
+/// The line of these words and a number.
+fn numbered_line(words: &str, number: u64) -> ArrayString<64>
+    requires { length words.now ≤ 20 }
+    ensures { result.bytes ≡ words.now ++ decimal number ++ 10 ∷ [] }
+{
+    let mut digits = Buffer::new();
+    let mut text = ArrayString::new();
+    text.push_str(words);
+    text.push_str(digits.format(number));
+    text.push_str("\n");
+    text
+}
+
+/// A byte in decimal, or that there is none.
+fn byte_word(digits: &mut Buffer, byte: Option<u8>) -> &str
+    ensures text { result.now ≡ byte_text byte }
+    ensures short { length result.now ≤ 20 }
+{
+    match byte {
+        Some(byte) => digits.format(byte),
+        None => "none",
+    }
+}
+
+/// The line that says where a file is no store.
+fn broken_line(place: u64, byte: Option<u8>) -> ArrayString<64>
+    ensures { result.bytes ≡ codes "store broken " ++ decimal place ++ 32 ∷ [] ++ byte_text byte ++ 10 ∷ [] }
+{
+    let mut digits = Buffer::new();
+    let mut text = ArrayString::new();
+    text.push_str("store broken ");
+    text.push_str(digits.format(place));
+    text.push_str(" ");
+    text.push_str(byte_word(&mut digits, byte));
+    text.push_str("\n");
+    text
+}
+
 /// The line that says which line is refused, and for which word.
-fn refusal_line(line: u32, word: BadWord) -> ArrayString<32>
+fn refusal_line(line: u32, word: BadWord) -> ArrayString<64>
     ensures { result.bytes ≡ codes "bad " ++ decimal line ++ 32 ∷ [] ++ bad_word_text word ++ 10 ∷ [] }
 {
     let mut digits = Buffer::new();
@@ -84,6 +150,24 @@ impl From<Result<(), Stop<BadWord>>> for Status {
             Err(Stop::ReadFault) => Status::ReadFault,
             Err(Stop::WriteFault) => Status::WriteFault,
             Err(Stop::OutOfMemory) => Status::OutOfMemory,
+        }
+    }
+}
+
+impl From<Result<(), Halt>> for Status {
+    ghost from_gives = { λ ended status. status ≡ status_of_halt ended };
+
+    fn from(ended: Result<(), Halt>) -> Status {
+        match ended {
+            Ok(()) => Status::Ok,
+            Err(Halt::Refused { line, word }) => Status::BadInput { line, word },
+            Err(Halt::ReadFault) => Status::ReadFault,
+            Err(Halt::WriteFault) => Status::WriteFault,
+            Err(Halt::StoreFault) => Status::StoreFault,
+            Err(Halt::StoreBroken { place, byte }) => Status::StoreBroken { place, byte },
+            Err(Halt::StoreTaken { len }) => Status::StoreTaken { len },
+            Err(Halt::Exhausted { next }) => Status::Exhausted { next },
+            Err(Halt::OutOfMemory) => Status::OutOfMemory,
         }
     }
 }

@@ -2,6 +2,7 @@
 
 ghost use Rattle.std.specs.Prelude.{◌≤◌};
 
+mod storing;
 mod verifying;
 
 use super::run;

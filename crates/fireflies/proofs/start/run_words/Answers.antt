@@ -8,4 +8,5 @@ returns-clause-ran g c = record {
   complete = c.run.ensures.complete;
   upholds = c.run.ensures.upholds;
   counts = c.run.ensures.counts;
+  faults = c.run.ensures.faults;
 }
