@@ -222,45 +222,67 @@ rises o (c ∷ certs) =
     let up = all-above o.next (o.next + 1) (indexes (spent_by (record o { next = o.next + 1 }) (map Certificate certs))) refl rest.above in
     record { rising = (up.0, rest.rising); above = (omega arith, up.1) }
 
-spends-certs : (s : Setting) (o : Stored) (certs : List CertBody) (old new : OfDisk)
-    → ((before : List ℕ) (spent : List Spent) → EndsNow (tag_of s) before spent old.moments → EndsNow (tag_of s) before (spent ++ spent_by o (map Certificate certs)) new.moments) → Enrolment old new
-spends-certs s o certs old new spends =
+-- these certificates were signed
+spends-certs : (was between : Standing) (s : Setting) (lines : List RosterLine) (o : Stored) (gate : ℕ) (certs others : List CertBody) (old new : OfDisk) → IsRoster was between s lines → HoldsStore (tag_of s) o gate old.moments → asked_in lines ≡ certs ++ others
+    → ((before : List ℕ) (spent : List Spent) → EndsNow (tag_of s) before spent old.moments → EndsNow (tag_of s) before (spent ++ spent_by o (map Certificate certs)) new.moments) → Enrolment was old new
+spends-certs was between s lines o gate certs others old new read found first spends =
     let up = rises o certs in
-    record { tag = tag_of s; next = o.next; spent = spent_by o (map Certificate certs); rising = up.rising; above = up.above; lives = spends }
+    inr (record {
+      setting = s;
+      lines = lines;
+      between = between;
+      read = read;
+      opened = o;
+      gate = gate;
+      found = found;
+      certs = certs;
+      others = others;
+      first = first;
+      rising = up.rising;
+      above = up.above;
+      lives = spends;
+    })
 
-spends-none : (old new : OfDisk) → ((tag before : List ℕ) (spent : List Spent) → EndsNow tag before spent old.moments → EndsNow tag before spent new.moments) → Enrolment old new
-spends-none old new kept = record {
-  tag = [];
-  next = 0;
-  spent = [];
-  rising = tt;
-  above = tt;
-  lives = λ before spent ends. subst (λ sp. EndsNow [] before sp new.moments) (sym (append-nil spent)) (kept [] before spent ends);
-}
+untouched : (was : Standing) (old new : OfDisk) → new ≡ old → Enrolment was old new
+untouched was old new same = inl (λ tag before spent ends. subst (λ (d : OfDisk). EndsNow tag before spent d.moments) (sym same) ends)
 
-untouched : (old new : OfDisk) → new ≡ old → Enrolment old new
-untouched old new same = spends-none old new (λ tag before spent ends. subst (λ (d : OfDisk). EndsNow tag before spent d.moments) (sym same) ends)
+kept-over : (was : Standing) (old new : OfDisk) → Fails stays old.moments new.moments → Enrolment was old new
+kept-over was old new fails = inl (λ tag before spent ends. (kept_by_opening tag before spent old.moments new.moments ends fails).1)
 
-kept-over : (old new : OfDisk) → Fails stays old.moments new.moments → Enrolment old new
-kept-over old new fails = spends-none old new (λ tag before spent ends. (kept_by_opening tag before spent old.moments new.moments ends fails).1)
+-- the first ones, or one more
+one-more : (certs done : List CertBody) (one : CertBody) (part : IsPart certs done one) → certs ≡ (done ++ one ∷ []) ++ part.rest
+one-more certs done one part = part.are ∙ sym (append_assoc done (one ∷ []) part.rest)
 
-spends-either : (s : Setting) (done more : List CertBody) (o : Stored) (old new : OfDisk) → AreEnrolled s o done old new ⊎ AreEnrolled s o more old new → Enrolment old new
-spends-either s done more o old new (inl e) = spends-certs s o done old new e.spends
-spends-either s done more o old new (inr e) = spends-certs s o more old new e.spends
+spends-either : (was between : Standing) (s : Setting) (lines : List RosterLine) (o : Stored) (done : List CertBody) (one : CertBody) (part : IsPart (asked_in lines) done one) (old new : OfDisk) → IsRoster was between s lines → AreEnrolled s o done old new ⊎ AreEnrolled s o (done ++ one ∷ []) old new → Enrolment was old new
+spends-either was between s lines o done one part old new read (inl e) = spends-certs was between s lines o e.gate done (one ∷ part.rest) old new read e.found part.are e.spends
+spends-either was between s lines o done one part old new read (inr e) = spends-certs was between s lines o e.gate (done ++ one ∷ []) part.rest old new read e.found (one-more (asked_in lines) done one part) e.spends
 
-pub enroll-upheld : (was mid : Standing) (old new : OfDisk) (r : Answer) → Enrols was mid old new r → Enrolment old new
-enroll-upheld was mid old new (Ok _) h = spends-certs h.setting h.rest.opened (asked_in h.lines) old new h.rest.enrolled.spends
-enroll-upheld was mid old new (Err (halt.Refused line w)) h = untouched old new h.1
-enroll-upheld was mid old new (Err halt.ReadFault) h = untouched old new h.1
-enroll-upheld was mid old new (Err halt.WriteFault) h = spends-certs h.setting h.rest.opened (h.rest.done ++ h.rest.one ∷ []) old new h.rest.enrolled.spends
-enroll-upheld was mid old new (Err halt.StoreFault) h = elim h.rest [ inl opening ↦ kept-over old new opening.1.moments | inr e ↦ spends-certs h.setting e.opened e.done old new e.spends ]
-enroll-upheld was mid old new (Err (halt.StoreBroken place byte)) h = kept-over old new h.rest.1.kept
+pub enroll-upheld : (was mid : Standing) (old new : OfDisk) (r : Answer) → Enrols was mid old new r → Enrolment was old new
+enroll-upheld was mid old new (Ok _) h =
+    let e = h.rest in
+    spends-certs was h.between h.setting h.lines e.opened e.enrolled.gate (asked_in h.lines) [] old new h.read e.enrolled.found (sym (append-nil (asked_in h.lines))) e.enrolled.spends
+enroll-upheld was mid old new (Err (halt.Refused line w)) h = untouched was old new h.1
+enroll-upheld was mid old new (Err halt.ReadFault) h = untouched was old new h.1
+enroll-upheld was mid old new (Err halt.WriteFault) h =
+    let e = h.rest in
+    spends-certs was h.between h.setting h.lines e.opened e.enrolled.gate (e.done ++ e.one ∷ []) e.part.rest old new h.read e.enrolled.found (one-more (asked_in h.lines) e.done e.one e.part) e.enrolled.spends
+enroll-upheld was mid old new (Err halt.StoreFault) h =
+    elim h.rest [
+      | inl opening ↦ kept-over was old new opening.1.moments
+      | inr e ↦ spends-certs was h.between h.setting h.lines e.opened e.gate e.done (e.one ∷ e.part.rest) old new h.read e.found e.part.are e.spends
+    ]
+enroll-upheld was mid old new (Err (halt.StoreBroken place byte)) h = kept-over was old new h.rest.1.kept
 enroll-upheld was mid old new (Err (halt.StoreTaken len)) h = absurd h.rest
-enroll-upheld was mid old new (Err (halt.Exhausted next)) h = spends-certs h.setting h.rest.opened h.rest.done old new h.rest.enrolled.spends
+enroll-upheld was mid old new (Err (halt.Exhausted next)) h =
+    let e = h.rest in
+    spends-certs was h.between h.setting h.lines e.opened e.enrolled.gate e.done (e.one ∷ e.part.rest) old new h.read e.enrolled.found e.part.are e.enrolled.spends
 enroll-upheld was mid old new (Err halt.OutOfMemory) h =
     elim h [
-      | inl cut ↦ untouched old new cut.1
-      | inr w ↦ elim w.rest [ inl opening ↦ kept-over old new opening.1.moments | inr e ↦ spends-either w.setting e.done (e.done ++ e.one ∷ []) e.opened old new e.enrolled ]
+      | inl cut ↦ untouched was old new cut.1
+      | inr w ↦ elim w.rest [
+        | inl opening ↦ kept-over was old new opening.1.moments
+        | inr e ↦ spends-either was w.between w.setting w.lines e.opened e.done e.one e.part old new w.read e.enrolled
+      ]
     ]
 
 -- ## Where it is whole

@@ -1,16 +1,40 @@
 -- What an enrolment upholds: the indexes that it spends are those from the next one found on, each once.
-use Rattle.std.specs.Prelude.{◌≡◌, ℕ, ◌≤◌, List, ◌++◌}
+use Rattle.std.specs.Prelude.{◌≡◌, ℕ, ◌≤◌, ◌⊎◌, List, ◌++◌, map}
 use Rattle.std.specs.List.{AllByRecursion}
-use Rattle.signer.specs.Lives.{EndsNow, IsRising, Spent, indexes}
+use Rattle.epoch_store.specs.declared.Stored.{Stored}
+use Rattle.epoch_store.specs.Calls.{HoldsStore}
+use Rattle.records.specs.declared.Body.TheVariants.{Certificate}
+use Rattle.records.specs.declared.CertBody.{CertBody}
+use Rattle.schedule_texts.specs.declared.line.RosterLine.{RosterLine}
+use Rattle.signer.specs.Lives.{EndsNow, IsRising, Spent, indexes, spent_by}
+use Rattle.play.specs.Plays.{Standing}
+use Rattle.authority.specs.declared.setting.Setting.{Setting}
 use Rattle.authority.specs.OfDisk.{OfDisk}
+use Rattle.authority.specs.Settings.{asked_in, tag_of}
+use Rattle.authority.specs.Texts.{IsRoster}
 
--- Under the key of some store's mark, of which the next index was found as this, just these were spent: they rise, and none is
--- below it. Where the disk's file ended lives of the key that spent something, each crash now ends lives that spent just
--- these more.
-pub record Enrolment (old new : OfDisk) : Type 0 where
-  pub tag : List ℕ
-  pub next : ℕ
-  pub spent : List Spent
-  pub rising : IsRising (indexes spent)
-  pub above : AllByRecursion (λ i. next ≤ i) (indexes spent)
-  pub lives : (before : List ℕ) (earlier : List Spent) → EndsNow tag before earlier old.moments → EndsNow tag before (earlier ++ spent) new.moments
+-- Nothing was spent: what the keys of all stores have spent is as it was.
+abbrev pub SpendsNothing : OfDisk → OfDisk → Type 0
+SpendsNothing old new = (tag before : List ℕ) (spent : List Spent) → EndsNow tag before spent old.moments → EndsNow tag before spent new.moments
+
+-- The whole roster was read, and a store of its key was found. Just these certificates of those that it asks for were signed, the
+-- first ones, in turn: the indexes rise, and none is below the next one found. Where the disk's file ended lives of the key
+-- that spent something, each crash now ends lives that spent just these more.
+pub record SpendsOnce (was : Standing) (old new : OfDisk) : Type 0 where
+  pub setting : Setting
+  pub lines : List RosterLine
+  pub between : Standing
+  pub read : IsRoster was between setting lines
+  pub opened : Stored
+  pub gate : ℕ
+  pub found : HoldsStore (tag_of setting) opened gate old.moments
+  pub certs : List CertBody
+  pub others : List CertBody
+  pub first : asked_in lines ≡ certs ++ others
+  pub rising : IsRising (indexes (spent_by opened (map Certificate certs)))
+  pub above : AllByRecursion (λ i. opened.next ≤ i) (indexes (spent_by opened (map Certificate certs)))
+  pub lives : (before : List ℕ) (spent : List Spent) → EndsNow (tag_of setting) before spent old.moments
+      → EndsNow (tag_of setting) before (spent ++ spent_by opened (map Certificate certs)) new.moments
+
+abbrev pub Enrolment : Standing → OfDisk → OfDisk → Type 0
+Enrolment was old new = SpendsNothing old new ⊎ SpendsOnce was old new

@@ -31,4 +31,4 @@ abbrev pub Upholds : Command → Standing → Standing → OfDisk → OfDisk →
 Upholds Replay was now old new s = Headline was now s
 Upholds Verify was now old new s = Verification was now s
 Upholds Store was now old new s = OnMade s (IsStoreMade was old new)
-Upholds Enroll was now old new s = Enrolment old new
+Upholds Enroll was now old new s = Enrolment was old new
