@@ -1,12 +1,12 @@
 //! Member 1 of a world of two, and what it is served with.
 
-ghost use Rattle.std.specs.Prelude.{◌≡◌, IfOk, false};
+ghost use Rattle.std.specs.Prelude.{◌≡◌, IfOk, [], false};
 ghost use Rattle.ports.specs.MemoryClock.{NeverFalls};
 ghost use Rattle.records.specs.Spelling.{HasPort};
 
 use datagram::records_head;
 use ff_ids::{Group, MemberId};
-use fields::Bytes;
+use fields::{Bytes, NoMemory};
 use lms_ots::OtsKind;
 use lms_tree::TreeKind;
 use node_core::{Events, Node};
@@ -15,10 +15,11 @@ use node_scene::{Crew, Key, Kinds};
 use ports::{LinkAnswer, MemoryClock, MemoryDisk, MemoryLink, MemorySink};
 use records::{Body, write_record};
 use std::alloc::Global;
+use std::marker::Model;
 use std::test::Fail;
 
 /// Of 100 ticks the last is due.
-pub const GROUP: Group = Group {
+const GROUP: Group = Group {
     tag: [0; 16],
     t: 1,
     timeout: 400,
@@ -36,13 +37,8 @@ pub fn key_of(alloc: Global, number: u16) -> Result<Key, Fail> {
     Ok(Key::of(alloc, &GROUP.tag, number, KINDS)?)
 }
 
-/// A disk on which nothing fails.
-pub fn disk(alloc: Global) -> Result<MemoryDisk, Fail> {
-    Ok(MemoryDisk::new(alloc, 700, 200, Vec::new(alloc))?)
-}
-
 /// Member 1, whose port is 20,001, begins its first life. Member 2 has the port 20,002.
-pub fn begin(alloc: Global, disk: &mut MemoryDisk) -> Result<Node, Fail>
+fn begin(alloc: Global, disk: &mut MemoryDisk) -> Result<Node, Fail>
     ensures { IfOk result (λ node. node.ended ≡ false) }
 {
     let mut crew = Crew::open(alloc, GROUP, KINDS)?;
@@ -55,43 +51,109 @@ pub fn begin(alloc: Global, disk: &mut MemoryDisk) -> Result<Node, Fail>
     Ok(crew.begin(alloc, MemberId::new(1), key, disk, &mut events)?)
 }
 
-/// How a call of `serve` ended, and the journal that it wrote.
+/// What a node is served with: what comes on its link, which sends fail, what the clock reads, and whether its disk stops
+/// in the next call.
 #[derive(Drop)]
-pub struct Served {
-    pub done: Result<(), ServeFault>,
-    pub journal: MemorySink,
+pub struct Turns {
+    pub answers: Vec<LinkAnswer>,
+    pub fail_sends: Vec<u64>,
+    pub times: Vec<u64>,
+    pub turns: u32,
+    pub stops: bool,
 }
 
-/// Serves the node for so many turns, with a tick each 100 milliseconds.
-pub fn serve_node(
+impl Turns {
+    /// So many turns in which these come; no time passes, and nothing fails.
+    pub fn of(alloc: Global, answers: Vec<LinkAnswer>, turns: u32) -> Turns
+        ensures { result.times.items ≡ [] }
+    {
+        Turns {
+            answers,
+            fail_sends: Vec::new(alloc),
+            times: Vec::new(alloc),
+            turns,
+            stops: false,
+        }
+    }
+}
+
+/// How a call of `serve` ended, the journal that it wrote, what the link was given, and how many ticks the life had.
+/// Contracts see nothing of it.
+#[derive(Drop)]
+pub struct Served {
+    done: Result<(), ServeFault>,
+    journal: MemorySink,
+    link: MemoryLink,
+    now: u64,
+}
+
+impl Model for Served {
+    ghost Value = { Unit {0} };
+
+    ghost view = { λ s. tt };
+}
+
+impl Served {
+    pub fn done(&self) -> Result<(), ServeFault> {
+        self.done
+    }
+
+    pub fn journal(&self) -> &[u8] {
+        self.journal.bytes()
+    }
+
+    pub fn given(&self) -> &[(u16, Bytes)] {
+        self.link.sent()
+    }
+
+    pub fn now(&self) -> u64 {
+        self.now
+    }
+}
+
+/// Serves the node, with a tick each 100 milliseconds.
+fn serve_node(
     alloc: Global,
     node: &mut Node,
-    link: &mut MemoryLink,
     disk: &mut MemoryDisk,
-    times: Vec<u64>,
-    turns: u32,
-) -> Result<Served, Fail>
+    with: Turns,
+) -> Result<Served, NoMemory>
     requires going { node.old.ended ≡ false }
-    requires times { NeverFalls 0 times.items }
+    requires times { NeverFalls 0 with.times.items }
 {
-    let mut clock = MemoryClock::new(times);
     let mut journal = MemorySink::new(alloc, 60_000, 64, Vec::new(alloc))?;
+    let mut link = MemoryLink::new(alloc, with.answers, with.fail_sends, false);
+    let mut clock = MemoryClock::new(with.times);
+    if with.stops {
+        disk.arm(0, 0);
+    }
     let done = serve(
         alloc,
         node,
-        link,
+        &mut link,
         &mut clock,
         disk,
         &mut journal,
         100,
-        turns,
+        with.turns,
     );
-    Ok(Served { done, journal })
+    let now = node.membership().now();
+    Ok(Served {
+        done,
+        journal,
+        link,
+        now,
+    })
 }
 
-/// A link on which these come, and then nothing, and whose sends of these numbers fail.
-pub fn link_with(alloc: Global, answers: Vec<LinkAnswer>, fail_sends: Vec<u64>) -> MemoryLink {
-    MemoryLink::new(alloc, answers, fail_sends, false)
+/// The first life of member 1, served so.
+pub fn serve_first_life(alloc: Global, with: Turns) -> Result<Served, Fail>
+    requires times { NeverFalls 0 with.times.items }
+{
+    let mut disk = MemoryDisk::new(alloc, 700, 200, Vec::new(alloc))?;
+    let mut node = begin(alloc, &mut disk)?;
+    let served = serve_node(alloc, &mut node, &mut disk, with);
+    Ok(served?)
 }
 
 /// This datagram comes.

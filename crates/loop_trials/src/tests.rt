@@ -1,9 +1,9 @@
 //! What the journal says and what the link is given, turn by turn.
 
-use crate::scene::{begin, disk, got, key_of, link_with, record_of_2, serve_node};
+use crate::scene::{Served, Turns, got, key_of, record_of_2, serve_first_life};
 use ff_ids::{AccBody, Epoch, Mask, MemberId, NoteBody, RingNo};
 use node_loop::ServeFault;
-use ports::{LinkAnswer, MemoryLink};
+use ports::LinkAnswer;
 use records::Body;
 use std::alloc::Global;
 use std::process::Abort;
@@ -18,9 +18,9 @@ const PINGED: &str =
     "got 4646010100020000000000000102 ticks 0\nat 0 ping 2 258\nat 0 sent 0 2 4646010200010000000000000102\n";
 
 /// The link was given one datagram, the pong for the port of 2.
-fn gave_pong(rt: &impl Abort, link: &MemoryLink) {
-    assert_eq!(rt; link.sent().len(), 1);
-    for (port, bytes) in link.sent() {
+fn gave_pong(rt: &impl Abort, served: &Served) {
+    assert_eq!(rt; served.given().len(), 1);
+    for (port, bytes) in served.given() {
         assert_eq!(rt; *port, 20_002);
         assert_eq!(rt; bytes.as_slice(), PONG.as_slice());
     }
@@ -36,61 +36,57 @@ fn one_ping(alloc: Global) -> Result<Vec<LinkAnswer>, Fail> {
 #[test]
 fn a_ping_is_answered_at_the_port_of_its_sender(rt: HostRuntime) -> Result<(), Fail> {
     let alloc = rt.alloc();
-    let mut disk = disk(alloc)?;
-    let mut node = begin(alloc, &mut disk)?;
-    let mut link = link_with(alloc, one_ping(alloc)?, Vec::new(alloc));
-    let times = [7u64].to_vec(alloc)?;
-    let served = serve_node(alloc, &mut node, &mut link, &mut disk, times, 1)?;
-    assert_eq!(rt; served.done, Ok(()));
     let wanted = format!(in alloc; "turn 1 {PINGED}")?;
-    assert_eq!(rt; served.journal.bytes(), wanted.as_bytes());
-    gave_pong(&rt, &link);
+    let with = Turns::of(alloc, one_ping(alloc)?, 1);
+    let served = serve_first_life(alloc, with)?;
+    assert_eq!(rt; served.done(), Ok(()));
+    assert_eq!(rt; served.journal(), wanted.as_bytes());
+    gave_pong(&rt, &served);
     Ok(())
 }
 
 #[test]
 fn a_send_that_fails_is_lost(rt: HostRuntime) -> Result<(), Fail> {
     let alloc = rt.alloc();
-    let mut disk = disk(alloc)?;
-    let mut node = begin(alloc, &mut disk)?;
-    let mut link = link_with(alloc, one_ping(alloc)?, [0u64].to_vec(alloc)?);
-    let served = serve_node(alloc, &mut node, &mut link, &mut disk, Vec::new(alloc), 2)?;
-    assert_eq!(rt; served.done, Ok(()));
     let wanted = format!(in alloc; "turn 1 {PINGED}at 0 lost 0\nturn 2 nothing ticks 0\n")?;
-    assert_eq!(rt; served.journal.bytes(), wanted.as_bytes());
-    gave_pong(&rt, &link);
+    let mut with = Turns::of(alloc, one_ping(alloc)?, 2);
+    with.fail_sends.push(0)?;
+    let served = serve_first_life(alloc, with)?;
+    assert_eq!(rt; served.done(), Ok(()));
+    assert_eq!(rt; served.journal(), wanted.as_bytes());
+    gave_pong(&rt, &served);
     Ok(())
 }
 
 #[test]
 fn a_receive_that_fails_ends_nothing(rt: HostRuntime) -> Result<(), Fail> {
     let alloc = rt.alloc();
-    let mut disk = disk(alloc)?;
-    let mut node = begin(alloc, &mut disk)?;
+    let wanted = format!(in alloc; "turn 1 failed ticks 0\nturn 2 {PINGED}")?;
     let mut answers = Vec::new(alloc);
     answers.push(LinkAnswer::Failed)?;
     answers.push(got(alloc, &PING)?)?;
-    let mut link = link_with(alloc, answers, Vec::new(alloc));
-    let served = serve_node(alloc, &mut node, &mut link, &mut disk, Vec::new(alloc), 2)?;
-    assert_eq!(rt; served.done, Ok(()));
-    let wanted = format!(in alloc; "turn 1 failed ticks 0\nturn 2 {PINGED}")?;
-    assert_eq!(rt; served.journal.bytes(), wanted.as_bytes());
-    gave_pong(&rt, &link);
+    let served = serve_first_life(alloc, Turns::of(alloc, answers, 2))?;
+    assert_eq!(rt; served.done(), Ok(()));
+    assert_eq!(rt; served.journal(), wanted.as_bytes());
+    gave_pong(&rt, &served);
     Ok(())
 }
 
 #[test]
 fn ticks_that_a_turn_leaves_come_in_the_next(rt: HostRuntime) -> Result<(), Fail> {
     let alloc = rt.alloc();
-    let mut disk = disk(alloc)?;
-    let mut node = begin(alloc, &mut disk)?;
-    let mut link = link_with(alloc, Vec::new(alloc), Vec::new(alloc));
-    let times = [1_000u64, 7_500].to_vec(alloc)?;
-    let served = serve_node(alloc, &mut node, &mut link, &mut disk, times, 3)?;
-    assert_eq!(rt; served.done, Ok(()));
     let wanted = b"turn 1 nothing ticks 64\nturn 2 nothing ticks 1\nturn 3 nothing ticks 0\n";
-    assert_eq!(rt; served.journal.bytes(), wanted.as_slice());
-    assert_eq!(rt; node.membership().now(), 65);
+    let with = Turns {
+        answers: Vec::new(alloc),
+        fail_sends: Vec::new(alloc),
+        times: [1_000u64, 7_500].to_vec(alloc)?,
+        turns: 3,
+        stops: false,
+    };
+    let served = serve_first_life(alloc, with)?;
+    assert_eq!(rt; served.done(), Ok(()));
+    assert_eq!(rt; served.journal(), wanted.as_slice());
+    assert_eq!(rt; served.now(), 65);
     Ok(())
 }
 
@@ -117,14 +113,12 @@ fn note_and_accusation(alloc: Global) -> Result<Vec<LinkAnswer>, Fail> {
 #[test]
 fn a_store_that_fails_at_a_rebuttal_ends_the_life(rt: HostRuntime) -> Result<(), Fail> {
     let alloc = rt.alloc();
-    let mut disk = disk(alloc)?;
-    let mut node = begin(alloc, &mut disk)?;
-    let mut link = link_with(alloc, note_and_accusation(alloc)?, Vec::new(alloc));
-    disk.arm(0, 0);
-    let served = serve_node(alloc, &mut node, &mut link, &mut disk, Vec::new(alloc), 3)?;
-    assert_eq!(rt; served.done, Err(ServeFault::StoreFault));
     let last = b" ticks 0\nat 0 took accuse 2 1 1 0 : accepted\nat 0 stopped\n";
-    assert!(rt; served.journal.bytes().ends_with(last.as_slice()));
-    assert_eq!(rt; link.sent().len(), 0);
+    let mut with = Turns::of(alloc, note_and_accusation(alloc)?, 3);
+    with.stops = true;
+    let served = serve_first_life(alloc, with)?;
+    assert_eq!(rt; served.done(), Err(ServeFault::StoreFault));
+    assert!(rt; served.journal().ends_with(last.as_slice()));
+    assert_eq!(rt; served.given().len(), 0);
     Ok(())
 }
