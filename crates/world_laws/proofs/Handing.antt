@@ -130,7 +130,7 @@ hands-ponged s Given P k from nonce c h =
 abbrev pub HasGiven : (Record → Type 0) → Result Datagram ℕ → Type 0
 HasGiven Given heard = (from : ℕ) (records : List Record) → heard ≡ Ok (kinds.Records from records) → (r : Record) → In records r → Given r
 
-hands-hears : (s : Setting) (Given : Record → Type 0) (P : Call → Type 0) → Hands s Given P → (heard : Result Datagram ℕ) (c : Call) → HasGiven Given heard → P c → P (hears s heard c)
+pub hands-hears : (s : Setting) (Given : Record → Type 0) (P : Call → Type 0) → Hands s Given P → (heard : Result Datagram ℕ) (c : Call) → HasGiven Given heard → P c → P (hears s heard c)
 hands-hears s Given P k (Err place) c given h = k.told (happened.BadForm place) c refl h
 hands-hears s Given P k (Ok (kinds.Ping from nonce)) c given h = hands-pinged s Given P k from nonce c h
 hands-hears s Given P k (Ok (kinds.Pong from nonce)) c given h = hands-ponged s Given P k from nonce c h
@@ -222,7 +222,7 @@ abbrev pub IsHanded : (Record → Type 0) → Input → Type 0
 IsHanded Given (Delivers bytes) = HasGiven Given (read_of bytes)
 IsHanded Given Tick = Unit {0}
 
-hands-so_far : (s : Setting) (Given : Record → Type 0) (P : Call → Type 0) → Hands s Given P → (n : Node) (i : Input) (c : Call) → ComesSoFar s n i c → IsHanded Given i → P (begun n) → P c
+pub hands-so_far : (s : Setting) (Given : Record → Type 0) (P : Call → Type 0) → Hands s Given P → (n : Node) (i : Input) (c : Call) → ComesSoFar s n i c → IsHanded Given i → P (begun n) → P c
 hands-so_far s Given P k n (Delivers bytes) c (inl whole) given h = subst P (sym whole.is) (hands-delivered s Given P k n bytes given h)
 hands-so_far s Given P k n (Delivers bytes) c (inr cut) given h =
     let all : (r : Record) → In cut.records r → Given r = given cut.from cut.records cut.read in

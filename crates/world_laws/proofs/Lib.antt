@@ -8,6 +8,7 @@ mod InWorlds
 mod Reaching
 mod Bounded
 mod Lawful
+mod Origins
 mod Verified
 mod Removing
 mod Keyed

@@ -1,4 +1,4 @@
--- Each removal that is told rests on an accusation whose record verifies.
+-- Each removal that is told rests on an accusation that has come of a record which verifies.
 use Rattle.std.proofs.Common.{◌≡◌, ℕ, ◌+◌, zero, suc, ◌<◌, true, false, not, List, [], ◌∷◌, ◌++◌, length, Option, Some, None, inl, inr, refl, ap, ◌∙◌, subst, map, filter, arith}
 use Rattle.std.specs.Prelude.{flat_map}
 use Rattle.std.proofs.lemmas.Bool.{cond_both, and_from, eq-eqb, not-true}
@@ -19,12 +19,11 @@ use Rattle.node_rules.specs.Lives.{is_of_life, told_by}
 use Rattle.world_rules.specs.Settings.{Setting}
 use Rattle.world_rules.specs.Worlds.{Life, World, lives_of}
 use Rattle.world_rules.specs.Steps.{Told}
-use Rattle.world_rules.specs.Laws.{tells_life}
+use Rattle.world_rules.specs.Laws.{IsSetting, Reached, tells_life}
 use Rattle.world_rules.proofs.Telling.{lives-justified}
-use Rattle.world_laws.specs.Laws.{RemovalsAreVerified, RestsOnVerified}
-use Rattle.world_laws.proofs.Handing.{In-at}
+use Rattle.world_laws.specs.Laws.{RemovalsAreVerified, RestsOnVerified, SignaturesVerify}
 use Rattle.world_laws.proofs.Signed.{in-mapped}
-use Rattle.world_laws.proofs.Verified.{AllVerified, IsAccusersOwn, reached-verified, vouched}
+use Rattle.world_laws.proofs.Verified.{IsVouchedAt, reached-verified, vouched}
 
 -- ---- a step that reports a removal
 
@@ -131,10 +130,10 @@ in-flat f (x ∷ xs) y i =
 
 -- ---- the law
 
-verified-at : (s : Setting) (w : World) (told : List Told) (who m : ℕ) (life : Life) → AllVerified s w told → In (lives_of w who) life → RemovedIn s.group (opening []) life.node.lived m → RestsOnVerified s w who m
-verified-at s w told who m life h i gone =
+verified-at : (s : Setting) (w : World) (told : List Told) (who m : ℕ) (life : Life) → IsSetting s → SignaturesVerify s → Reached s w told → In (lives_of w who) life → RemovedIn s.group (opening []) life.node.lived m → RestsOnVerified s w who m
+verified-at s w told who m life fits verify reached i gone =
     let rests = justified s.group [] life.node.lived gone.place m gone.within gone.removed in
-    let own : IsAccusersOwn s rests.1 = (h.stations who).lived life i (Accuses rests.1) (In-at life.node.lived rests.0 (Accuses rests.1) rests.2.accepted.event) in
+    let vouched-at : IsVouchedAt s w who life rests.0 rests.1 = vouched s w told who life rests.0 rests.1 fits verify reached (reached-verified s w told fits reached) i rests.2.accepted.event in
     record {
       life = life;
       lived = Contains-from_In _ _ i;
@@ -144,14 +143,14 @@ verified-at s w told who m life h i gone =
       accepted = rests.0;
       accusation = rests.1;
       rests = rests.2;
-      verified = vouched s who life.node rests.1 ((h.holds.stations who).rosters life i) own;
+      verified = vouched-at.verified;
+      came = vouched-at.came;
     }
 
 pub removals-verified : RemovalsAreVerified
 removals-verified s w told t m fits verify reached among is =
-    let h : AllVerified s w told = reached-verified s w told fits verify reached in
     let tells : tells_life t.who t ≡ true = and_from _ _ (eq-eqb t.who t.who refl) (ap is_of_life is) in
     let i : In (map (λ (x : Told). x.event) (filter (tells_life t.who) told)) t.event = in-mapped (λ (x : Told). x.event) (filter (tells_life t.who) told) t (In-filter (tells_life t.who) told t (In-from_Contains _ _ among) tells) in
     let so = (lives-justified s w told t.who reached).told_so in
     let life = in-flat (λ (life : Life). told_by s.group (opening []) life.node.lived) (lives_of w t.who) t.event (subst (λ xs. In xs t.event) so i) in
-    verified-at s w told t.who m life.0 h life.1.0 (removed-in s.group (opening []) life.0.node.lived t.event m life.1.1 is)
+    verified-at s w told t.who m life.0 fits verify reached life.1.0 (removed-in s.group (opening []) life.0.node.lived t.event m life.1.1 is)

@@ -1,64 +1,62 @@
--- Each accusation in a life of a world is that of a record which verifies under its accuser's key.
-use Rattle.std.proofs.Common.{◌≡◌, ◌⊎◌, ℕ, ◌<◌, ◌≤◌, Bool, true, false, eqb, cond, List, [], ◌∷◌, ◌++◌, Some, None, inl, inr, refl, ap, sym, ◌∙◌, subst, arith}
-use Rattle.std.specs.Prelude.{fold, option_map, option_to_list}
-use Rattle.std.specs.List.{list_any}
+-- Each accusation in a life of a world has come of a record which verifies under its accuser's key.
+use Rattle.std.proofs.Common.{◌≡◌, ◌⊎◌, ℕ, ◌<◌, ◌≤◌, Bool, true, false, eqb, cond, List, [], ◌∷◌, ◌++◌, length, Some, None, inl, inr, refl, ap, sym, ◌∙◌, subst, arith}
+use Rattle.std.specs.Prelude.{Ok, fold, option_map, option_to_list}
+use Rattle.std.specs.List.{list_any, slice_get}
 use Rattle.std.proofs.lemmas.Bool.{cond_both, eq-eqb}
 use Rattle.std.proofs.lemmas.Bool.Decides.{nat_tests}
+use Rattle.std.proofs.lemmas.List.{append_assoc}
 use Rattle.ff_ids.specs.declared.AccBody.{AccBody}
 use Rattle.ff_ids.specs.Faults.{accusation_fault}
-use Rattle.ff_ids.specs.Steps.{Event, Accuses, Ticks as Passes}
-use Rattle.life_laws.proofs.Lists.{In, In-append_left, In-append_cases, any_from_In}
+use Rattle.ff_ids.specs.Steps.{Event, Accuses}
+use Rattle.life_laws.proofs.Lists.{In, Contains-from_In, In-append_left, In-append_cases, any_from_In}
 use Rattle.lms_tree.specs.declared.key.PublicKey.{PublicKey}
-use Rattle.records.specs.declared.Body.{Body}
-use Rattle.records.specs.declared.Body.TheVariants.{Certificate, Note, Accusation}
+use Rattle.records.specs.declared.Body.TheVariants.{Accusation}
 use Rattle.records.specs.declared.Record.{Record}
 use Rattle.epoch_store.specs.declared.Stored.{Stored}
-use Rattle.datagram.specs.declared.Datagram.{Datagram}
+use Rattle.signer.specs.Lives.{Spent}
+use Rattle.datagram.specs.declared.Datagram.TheVariants as kinds
 use Rattle.node_rules.specs.Nodes as node
 use Rattle.node_rules.specs.Nodes.{Node, state_of, event_of, public_key_of}
 use Rattle.node_rules.specs.Refusals.{signature_fault, refusal, refusal_of}
-use Rattle.node_rules.specs.Calls.{Call, begun, takes, signs, sends, lives, own_record}
-use Rattle.node_rules.specs.Deliveries.{answer_to}
+use Rattle.node_rules.specs.Calls.{Call, begun, takes, signs}
+use Rattle.node_rules.specs.Deliveries.{handles_all}
 use Rattle.node_rules.specs.Starting.{blank, opened, first_note, started}
-use Rattle.node_rules.specs.Lives.{Input, AreCertificates}
+use Rattle.node_rules.specs.Lives.{Input, Delivers, Ticks, AreCertificates}
+use Rattle.node_rules.specs.Verdicts.{when_all_handled}
 use Rattle.node_rules.specs.Vouching.{IsVouchedFor}
 use Rattle.node_rules.proofs.OwnNote.{option_or-none}
-use Rattle.world_rules.specs.Settings.{Setting, is_node, members, certificate, certificates, setting_of}
+use Rattle.world_rules.specs.Settings.{Setting, is_node, members, certificate, certificates, record_of, setting_of}
 use Rattle.world_rules.specs.Disks.{Disk}
 use Rattle.world_rules.specs.Calls.{OnDisk, called_on}
-use Rattle.world_rules.specs.Worlds.{Life, Station, World, begun_world, with_station}
+use Rattle.world_rules.specs.Worlds.{Life, Station, World, begun_world, lives_of, spent_of, with_station}
 use Rattle.world_rules.specs.Steps.{Told, first_call, first_life, life_over, station_after, with_disk, with_input}
 use Rattle.world_rules.specs.Laws.{IsSetting, Reached}
 use Rattle.world_rules.proofs.OnDisks.{next-after}
 use Rattle.world_rules.proofs.LineSteps.{IsFree, HasIndexLeft, Keeps, keeps-reached}
-use Rattle.world_rules.proofs.Once.{at-station, one-started}
-use Rattle.world_laws.specs.Signing.{KeepsRoster}
+use Rattle.world_rules.proofs.Once.{Rises, Stands, at-station, one-started, stands-kept, stands-first}
+use Rattle.world_laws.specs.Signing.{KeepsRoster, node_after}
+use Rattle.world_laws.specs.Origins.{HasComeOf, IsAcceptedBehind, node_behind}
 use Rattle.world_laws.specs.Laws.{SignaturesVerify}
-use Rattle.world_laws.proofs.Handing.{Hands, hands-called}
+use Rattle.world_laws.proofs.Handing.{In-at, hands-handles_all}
 use Rattle.world_laws.proofs.Rosters.{kit-all, member-listed, roster-key}
-use Rattle.world_laws.proofs.Signed.{IsGenuine}
+use Rattle.world_laws.proofs.Signed.{IsGenuine, SignedIn, spent-in}
 use Rattle.world_laws.proofs.Rightly.{Verifies, signature-verifies}
-use Rattle.world_laws.proofs.InCalls.{GoesOn, InLife, IsOfWorld, going-on, handed}
+use Rattle.world_laws.proofs.InCalls.{ComesSigned, GoesOn, InLife, IsOfWorld, going-on, handed}
 use Rattle.world_laws.proofs.InWorlds.{Holds, lives_at}
 use Rattle.world_laws.proofs.Reaching.{after-current, after-lives, current-in, holds-first, holds-kept, in-last, in-life, lives-over}
-use Rattle.world_laws.proofs.Bounded.{bounded-called, bounding, index-left}
+use Rattle.world_laws.proofs.Bounded.{IsWithin, bounded-called}
+use Rattle.world_laws.proofs.Origins.{ComesOfInput, ComesOfOne, ComesOfRecord, all-handled, called-in, lived-signs, lived-takes}
 
 -- ---- what verifies
 
--- The accuser is a member, and a record of the accusation verifies under its key.
-pub record IsAccusersOwn (s : Setting) (a : AccBody) : Type 0 where
-  pub listed : list_any (λ k. eqb k a.accuser) (members s) ≡ true
-  pub witness : Record
-  pub says : witness.body ≡ Accusation a
-  pub verifies : s.verifies (s.key (Some a.accuser)) witness ≡ true
+-- The accuser is a member.
+abbrev IsListed : Setting → AccBody → Type 0
+IsListed s a = list_any (λ k. eqb k a.accuser) (members s) ≡ true
 
-abbrev pub IsVerified : Setting → Event → Type 0
-IsVerified s (Accuses a) = IsAccusersOwn s a
-IsVerified s event = Unit {0}
-
-pub record HasVerified (s : Setting) (n : Node) : Type 0 where
-  pub bounded : n.stored.next ≤ s.indexes
-  pub lived : (e : Event) → In n.lived e → IsVerified s e
+-- The accuser is a member, and the record verifies under its key.
+pub record Verified (s : Setting) (a : AccBody) (r : Record) : Type 0 where
+  pub listed : IsListed s a
+  pub verifies : s.verifies (s.key (Some a.accuser)) r ≡ true
 
 listed-of : (s : Setting) (k : ℕ) (key : PublicKey) (listed : Bool) → option_map (λ c. c.key) (cond listed (Some (certificate s k)) None) ≡ Some key → listed ≡ true
 listed-of s k key true e = refl
@@ -68,122 +66,138 @@ listed-of s k key false e = cc
 roster-listed : (s : Setting) (n : Node) (k : ℕ) (key : PublicKey) → KeepsRoster s n → public_key_of n k ≡ Some key → list_any (λ m. eqb m k) (members s) ≡ true
 roster-listed s n k key keeps e = listed-of s k key (list_any (λ m. eqb m k) (members s)) (sym (ap (λ o. option_map (λ c. c.key) o) (keeps k)) ∙ e)
 
-accepted-own : (s : Setting) (m : ℕ) (n : Node) (r : Record) (b : Body) → r.body ≡ b → KeepsRoster s n → refusal (setting_of s m) n r ≡ None → IsVerified s (event_of (setting_of s m) b)
+accepted-verified : (s : Setting) (m : ℕ) (n : Node) (r : Record) (a : AccBody) → r.body ≡ Accusation a → KeepsRoster s n → refusal (setting_of s m) n r ≡ None → Verified s a r
 unfolding refusal
-accepted-own s m n r (Certificate c) is keeps fine = tt
-accepted-own s m n r (Note note) is keeps fine = tt
-accepted-own s m n r (Accusation a) is keeps fine =
+accepted-verified s m n r a is keeps fine =
     let own : node.Setting = setting_of s m in
     let none : signature_fault own (public_key_of n a.accuser) r ≡ None = (option_or-none (accusation_fault s.group.t (state_of own n) a) _ (sym (ap (refusal_of own n r) is) ∙ fine)).1 in
     let v : Verifies own (public_key_of n a.accuser) r = signature-verifies own (public_key_of n a.accuser) r none in
     record {
       listed = roster-listed s n a.accuser v.key keeps v.author_is;
-      witness = r;
-      says = is;
       verifies = sym (ap (λ key. s.verifies key r) (roster-key s n a.accuser v.key keeps v.author_is)) ∙ v.verifies;
     }
 
-more : (s : Setting) (n next : Node) (e : Event) → next.lived ≡ n.lived ++ e ∷ [] → IsVerified s e → ((x : Event) → In n.lived x → IsVerified s x) → (x : Event) → In next.lived x → IsVerified s x
-more s n next e lived new old x i =
-    elim (In-append_cases n.lived (e ∷ []) x (subst (λ xs. In xs x) lived i)) [
-      | inl j ↦ old x j
-      | inr (inl is) ↦ subst (IsVerified s) is new
-      | inr (inr none) ↦ absurd none
+-- ---- where an accusation in a life has come from
+
+-- The node has accepted the record at this place of the life, and it verifies.
+pub record WasAccepted (s : Setting) (m : ℕ) (life : Life) (place : ℕ) (a : AccBody) : Type 0 where
+  pub witness : Record
+  pub accepted : IsAcceptedBehind s m life place witness
+  pub says : witness.body ≡ Accusation a
+  pub verified : Verified s a witness
+
+-- The accuser is the node.
+pub record IsByItself (s : Setting) (m : ℕ) (a : AccBody) : Type 0 where
+  pub by : a.accuser ≡ m
+  pub is : is_node s m ≡ true
+
+abbrev pub HasCome : Setting → ℕ → Life → ℕ → AccBody → Type 0
+HasCome s m life place a = WasAccepted s m life place a ⊎ IsByItself s m a
+
+accepted-later : (s : Setting) (m : ℕ) (life : Life) (i : Input) (n : Node) (place : ℕ) (a : AccBody) → HasCome s m life place a → HasCome s m (with_input life i n) place a
+accepted-later s m life i n place a (inr own) = inr own
+accepted-later s m life i n place a (inl h) =
+    let x : IsAcceptedBehind s m life place h.witness = h.accepted in
+    inl (record {
+      witness = h.witness;
+      accepted = record {
+        before = x.before;
+        bytes = x.bytes;
+        behind = x.behind ++ i ∷ [];
+        delivered = ap (λ xs. xs ++ i ∷ []) x.delivered ∙ append_assoc x.before (Delivers x.bytes ∷ x.behind) (i ∷ []);
+        from = x.from;
+        earlier = x.earlier;
+        later = x.later;
+        read = x.read;
+        at = x.at;
+        no_fault = x.no_fault;
+      };
+      says = h.says;
+      verified = h.verified;
+    })
+
+-- The roster is kept as the records before it are handled.
+roster-behind : (s : Setting) (w : World) (m : ℕ) (n : Node) (records : List Record) → IsOfWorld s w m → ((r : Record) → In records r → IsGenuine s w r) → InLife s w m n → KeepsRoster s (handles_all (setting_of s m) records (begun n)).node
+roster-behind s w m n records of free h =
+    (hands-handles_all (setting_of s m) (IsGenuine s w) (GoesOn s w m) (going-on s w m of) records (begun n) free
+    (record { roster = h.roster; own = h.own; so_far = record { within = h.within; lived = h.lived; told = λ e none. absurd none } })).roster
+
+accepted-here : (s : Setting) (w : World) (m : ℕ) (life : Life) (bytes : List ℕ) (next : Node) (place : ℕ) (a : AccBody) → IsOfWorld s w m → IsFree s w (Delivers bytes) → InLife s w m life.node → life.node ≡ node_after s m life.found life.inputs
+    → ComesOfRecord (setting_of s m) life.node bytes place a → WasAccepted s m (with_input life (Delivers bytes) next) place a
+accepted-here s w m life bytes next place a of free h after x =
+    let own : node.Setting = setting_of s m in
+    let one : ComesOfOne own (begun life.node) x.records place a = x.one in
+    let n : Node = (handles_all own one.earlier (begun life.node)).node in
+    let same : n ≡ node_behind s m life life.inputs one.earlier = all-handled own one.earlier (begun life.node) ∙ ap (λ k. when_all_handled own k one.earlier) after in
+    let all : (r : Record) → In x.records r → IsGenuine s w r = handed s w (Delivers bytes) free x.from x.records x.read in
+    let roster : KeepsRoster s n = roster-behind s w m life.node one.earlier of (λ r i. all r (subst (λ xs. In xs r) (sym one.among) (In-append_left one.earlier (one.taken ∷ one.later) r i))) h in
+    record {
+      witness = one.taken;
+      accepted = record {
+        before = life.inputs;
+        bytes = bytes;
+        behind = [];
+        delivered = refl;
+        from = x.from;
+        earlier = one.earlier;
+        later = one.later;
+        read = x.read ∙ ap (λ xs. Ok (kinds.Records x.from xs)) one.among;
+        at = ap (λ (k : Node). length k.lived) (sym same) ∙ one.at;
+        no_fault = subst (λ k. refusal own k one.taken ≡ None) same one.no_fault;
+      };
+      says = one.says;
+      verified = accepted-verified s m n one.taken a one.says roster one.no_fault;
+    }
+
+input-here : (s : Setting) (w : World) (m : ℕ) (life : Life) (i : Input) (next : Node) (place : ℕ) (a : AccBody) → IsOfWorld s w m → IsFree s w i → InLife s w m life.node → life.node ≡ node_after s m life.found life.inputs
+    → ComesOfInput (setting_of s m) life.node i place a → WasAccepted s m (with_input life i next) place a
+input-here s w m life (Delivers bytes) next place a of free h after x = accepted-here s w m life bytes next place a of free h after x
+input-here s w m life Ticks next place a of free h after x = absurd x
+
+-- Behind one more call too each accusation has come from there.
+called-come : (s : Setting) (w : World) (m : ℕ) (life : Life) (i : Input) (d : Disk) (place : ℕ) (a : AccBody) → IsOfWorld s w m → IsFree s w i → InLife s w m life.node → life.node ≡ node_after s m life.found life.inputs
+    → (slice_get life.node.lived place ≡ Some (Accuses a) → HasCome s m life place a) → let next = (called_on (setting_of s m) life.node i d).call.node in slice_get next.lived place ≡ Some (Accuses a) → HasCome s m (with_input life i next) place a
+called-come s w m life i d place a of free h after old found =
+    let next : Node = (called_on (setting_of s m) life.node i d).call.node in
+    elim (called-in (setting_of s m) life.node i d place a found) [
+      | inl before ↦ accepted-later s m life i next place a (old before)
+      | inr (inl by) ↦ inr (record { by = by; is = of.is })
+      | inr (inr came) ↦ inl (input-here s w m life i next place a of free h after came)
     ]
-
-lived-takes : (own : node.Setting) (r : Record) (c : Call) → (takes own r c).node.lived ≡ c.node.lived ++ event_of own r.body ∷ []
-unfolding takes lives
-lived-takes own r c = refl
-
-lived-signs : (own : node.Setting) (b : Body) (c : Call) → (signs own b c).node.lived ≡ c.node.lived ++ event_of own b ∷ []
-unfolding signs takes lives
-lived-signs own b c = refl
-
-lived-lives : (own : node.Setting) (e : Event) (c : Call) → (lives own e c).node.lived ≡ c.node.lived ++ e ∷ []
-unfolding lives
-lived-lives own e c = refl
-
-verified-sends : (s : Setting) (own : node.Setting) (d : Datagram) (c : Call) (to : ℕ) → HasVerified s c.node → HasVerified s (sends own d c to).node
-unfolding sends
-verified-sends s own d c to h = h
-
--- ---- a call
-
-signed-own : (s : Setting) (m : ℕ) (n : Node) (a : AccBody) → IsSetting s → SignaturesVerify s → is_node s m ≡ true → a.accuser ≡ m → n.stored.next < s.indexes → IsAccusersOwn s a
-signed-own s m n a fits verify is by left =
-    record {
-      listed = any_from_In (λ k. eqb k a.accuser) (members s) m (member-listed s m fits is) (eq-eqb m a.accuser (sym by));
-      witness = own_record (setting_of s m) n (Accusation a);
-      says = refl;
-      verifies = subst (λ z. s.verifies (s.key (Some z)) (own_record (setting_of s m) n (Accusation a)) ≡ true) (sym by) (verify (Some m) n.stored.next (Accusation a) left);
-    }
-
-abbrev Goes : Setting → World → ℕ → Call → Type 0
-Goes s w m c = GoesOn s w m c × HasVerified s c.node
-
-taken : (s : Setting) (w : World) (m : ℕ) (r : Record) (c : Call) → refusal (setting_of s m) c.node r ≡ None → Goes s w m c → HasVerified s (takes (setting_of s m) r c).node
-taken s w m r c fine h =
-    let own : node.Setting = setting_of s m in
-    record {
-      bounded = (bounding own).taken r c tt fine h.1.bounded;
-      lived = more s c.node (takes own r c).node (event_of own r.body) (lived-takes own r c) (accepted-own s m c.node r r.body refl h.0.roster fine) h.1.lived;
-    }
-
-verifying : (s : Setting) (w : World) (m : ℕ) → IsOfWorld s w m → SignaturesVerify s → Hands (setting_of s m) (IsGenuine s w) (Goes s w m)
-verifying s w m of verify =
-    let own : node.Setting = setting_of s m in
-    let on : Hands own (IsGenuine s w) (GoesOn s w m) = going-on s w m of in
-    record {
-      told = λ what c plain h. (on.told what c plain h.0, h.1);
-      judged = λ r c free h. (on.judged r c free h.0, h.1);
-      sent = λ d c to h. (on.sent d c to h.0, verified-sends s own d c to h.1);
-      taken = λ r c free fine h. (on.taken r c free fine h.0, taken s w m r c fine h);
-      answered = λ r a c free fine is me left h.
-          let c1 : Call = takes own r c in
-          let v : HasVerified s c1.node = taken s w m r c fine h in (
-            on.answered r a c free fine is me left h.0,
-            record {
-              bounded = (bounding own).answered r a c tt fine is me left h.1.bounded;
-              lived = more s c1.node (signs own (answer_to own c1.node.stored a) c1).node (event_of own (answer_to own c1.node.stored a)) (lived-signs own (answer_to own c1.node.stored a) c1) tt v.lived;
-            },
-          );
-      accused = λ a c by left h. (
-        on.accused a c by left h.0,
-        record {
-          bounded = (bounding own).accused a c by left h.1.bounded;
-          lived = more s c.node (signs own (Accusation a) c).node (Accuses a) (lived-signs own (Accusation a) c) (signed-own s m c.node a of.fits verify of.is by (index-left own c.node left h.1.bounded)) h.1.lived;
-        },
-      );
-      stopped = λ c h. (on.stopped c h.0, h.1);
-      passed = λ c h. (
-        on.passed c h.0,
-        record {
-          bounded = (bounding own).passed c h.1.bounded;
-          lived = more s c.node (lives own Passes c).node Passes (lived-lives own Passes c) tt h.1.lived;
-        },
-      );
-      probed = λ p c h. (on.probed p c h.0, record { bounded = h.1.bounded; lived = h.1.lived });
-    }
-
-called-verified : (s : Setting) (w : World) (m : ℕ) (n : Node) (i : Input) (d : Disk) → IsOfWorld s w m → SignaturesVerify s → IsFree s w i → InLife s w m n → HasVerified s n → HasVerified s (called_on (setting_of s m) n i d).call.node
-called-verified s w m n i d of verify free h v =
-    (hands-called (setting_of s m) (IsGenuine s w) (Goes s w m) (verifying s w m of verify) n i d (handed s w i free)
-    (record { roster = h.roster; own = h.own; so_far = record { within = h.within; lived = h.lived; told = λ e none. absurd none } }, v)).1
 
 -- ---- the start
 
-kit-verified : (s : Setting) (own : node.Setting) (records : List Record) (c : Call) → AreCertificates records → ((e : Event) → In c.node.lived e → IsVerified s e) → (e : Event) → In (fold (λ c r. takes own r c) c records).node.lived e → IsVerified s e
-kit-verified s own [] c all h = h
-kit-verified s own (r ∷ records) c all h =
-    kit-verified s own records (takes own r c) all.1 (more s c.node (takes own r c).node (event_of own r.body) (lived-takes own r c) (subst (λ b. IsVerified s (event_of own b)) (sym all.0.1) tt) h)
+-- No accusation.
+abbrev IsQuiet : Event → Type 0
+IsQuiet (Accuses a) = ⊥
+IsQuiet event = Unit {0}
 
-started-lived : (s : Setting) (m : ℕ) (kept : Stored) (e : Event) → In (first_call s m kept).node.lived e → IsVerified s e
+quiet-not : (e : Event) (a : AccBody) → IsQuiet e → e ≡ Accuses a → ⊥
+quiet-not e a quiet is = subst IsQuiet is quiet
+
+more : (own : node.Setting) (n next : Node) (e : Event) → next.lived ≡ n.lived ++ e ∷ [] → IsQuiet e → ((x : Event) → In n.lived x → IsQuiet x) → (x : Event) → In next.lived x → IsQuiet x
+more own n next e lived new old x i =
+    elim (In-append_cases n.lived (e ∷ []) x (subst (λ xs. In xs x) lived i)) [
+      | inl j ↦ old x j
+      | inr (inl is) ↦ subst IsQuiet is new
+      | inr (inr none) ↦ absurd none
+    ]
+
+kit-quiet : (own : node.Setting) (records : List Record) (c : Call) → AreCertificates records → ((e : Event) → In c.node.lived e → IsQuiet e) → (e : Event) → In (fold (λ c r. takes own r c) c records).node.lived e → IsQuiet e
+kit-quiet own [] c all h = h
+kit-quiet own (r ∷ records) c all h =
+    kit-quiet own records (takes own r c) all.1 (more own c.node (takes own r c).node (event_of own r.body) (lived-takes own r c) (subst (λ b. IsQuiet (event_of own b)) (sym all.0.1) tt) h)
+
+started-quiet : (s : Setting) (m : ℕ) (kept : Stored) (e : Event) → In (first_call s m kept).node.lived e → IsQuiet e
 unfolding started
-started-lived s m kept =
+started-quiet s m kept =
     let own : node.Setting = setting_of s m in
     let c : Call = opened own (s.nonces m kept.next) (certificates s) kept in
-    more s c.node (signs own (first_note own kept) c).node (event_of own (first_note own kept)) (lived-signs own (first_note own kept) c) tt
-    (kit-verified s own (certificates s) (begun (blank own (s.nonces m kept.next) kept)) (kit-all s) (λ e none. absurd none))
+    more own c.node (signs own (first_note own kept) c).node (event_of own (first_note own kept)) (lived-signs own (first_note own kept) c) tt
+    (kit-quiet own (certificates s) (begun (blank own (s.nonces m kept.next) kept)) (kit-all s) (λ e none. absurd none))
+
+none-first : {A : Type 0} (s : Setting) (m : ℕ) (kept : Stored) (place : ℕ) (a : AccBody) → slice_get (first_call s m kept).node.lived place ≡ Some (Accuses a) → A
+none-first s m kept place a found = absurd (quiet-not (Accuses a) a (started-quiet s m kept (Accuses a) (In-at (first_call s m kept).node.lived place (Accuses a) found)) refl)
 
 first-left : (s : Setting) (station : Station) → HasIndexLeft s station → station.disk.state.next ≤ s.indexes → station.disk.state.next < s.indexes
 first-left s station left within = grind (arith, nat_tests, left, within)
@@ -196,17 +210,20 @@ first-bounded s m station left within =
 
 -- ---- the world
 
-pub record IsVerifiedAt (s : Setting) (station : Station) : Type 0 where
+abbrev pub AllHaveCome : Setting → ℕ → Life → Type 0
+AllHaveCome s m life = (place : ℕ) (a : AccBody) → slice_get life.node.lived place ≡ Some (Accuses a) → HasCome s m life place a
+
+pub record IsVerifiedAt (s : Setting) (m : ℕ) (station : Station) : Type 0 where
   pub disk : station.disk.state.next ≤ s.indexes
   pub running : (life : Life) → station.current ≡ Some life → life.node.stored.next ≤ s.indexes
-  pub lived : (life : Life) → In (lives_at station) life → (e : Event) → In life.node.lived e → IsVerified s e
+  pub lived : (life : Life) → In (lives_at station) life → AllHaveCome s m life
 
 pub record AllVerified (s : Setting) (w : World) (told : List Told) : Type 0 where
   pub holds : Holds s w told
-  pub stations : (m : ℕ) → IsVerifiedAt s (w.stations m)
+  pub stations : (m : ℕ) → IsVerifiedAt s m (w.stations m)
 
-put : (s : Setting) (m : ℕ) (station : Station) (w : World) → IsVerifiedAt s station → ((k : ℕ) → IsVerifiedAt s (w.stations k)) → (k : ℕ) → IsVerifiedAt s ((with_station m station w).stations k)
-put s m station w here others k = at-station k m station w (IsVerifiedAt s) (λ e. here) (λ apart. others k)
+put : (s : Setting) (m : ℕ) (station : Station) (w : World) → IsVerifiedAt s m station → ((k : ℕ) → IsVerifiedAt s k (w.stations k)) → (k : ℕ) → IsVerifiedAt s k ((with_station m station w).stations k)
+put s m station w here others k = at-station k m station w (IsVerifiedAt s k) (λ e. subst (λ z. IsVerifiedAt s z station) e here) (λ apart. others k)
 
 some-is : {X : Type 0} (x y : X) → Some x ≡ Some y → x ≡ y
 some-is x y e = cc
@@ -217,67 +234,69 @@ none-some x e = cc
 after-disk : (station : Station) (life : Life) (d : OnDisk) → (station_after station life d).disk ≡ d.disk
 after-disk station life d = cond_both {A = Station} d.call.ended _ _ (λ x. x.disk ≡ d.disk) (λ over. refl) (λ going. refl)
 
-called-at : (s : Setting) (w : World) (told : List Told) (m : ℕ) (i : Input) (life : Life) → IsSetting s → SignaturesVerify s → (w.stations m).current ≡ Some life → IsFree s w i → AllVerified s w told
-    → let d = called_on (setting_of s m) life.node i (w.stations m).disk in IsVerifiedAt s (station_after (w.stations m) (with_input life i d.call.node) d)
-called-at s w told m i life fits verify running free h =
+called-at : (s : Setting) (w : World) (told : List Told) (m : ℕ) (i : Input) (life : Life) → IsSetting s → (w.stations m).current ≡ Some life → IsFree s w i → AllVerified s w told
+    → let d = called_on (setting_of s m) life.node i (w.stations m).disk in IsVerifiedAt s m (station_after (w.stations m) (with_input life i d.call.node) d)
+called-at s w told m i life fits running free h =
     let own : node.Setting = setting_of s m in
     let station : Station = w.stations m in
     let d : OnDisk = called_on own life.node i station.disk in
     let after : Life = with_input life i d.call.node in
-    let at : IsVerifiedAt s station = h.stations m in
+    let at : IsVerifiedAt s m station = h.stations m in
     let of : IsOfWorld s w m = record { fits = fits; is = (h.holds.stations m).is life running; only = h.holds.only } in
-    let v : HasVerified s d.call.node = called-verified s w m life.node i station.disk of verify free (in-life s w told m life running h.holds) (record { bounded = at.running life running; lived = at.lived life (current-in station life running) }) in
+    let bound : IsWithin own d = bounded-called own life.node i station.disk (at.running life running) at.disk in
+    let come : AllHaveCome s m after = λ place a found. called-come s w m life i station.disk place a of free (in-life s w told m life running h.holds) ((h.holds.stations m).after life running) (at.lived life (current-in station life running) place a) found in
     record {
-      disk = subst (λ (x : Disk). x.state.next ≤ s.indexes) (sym (after-disk station after d)) (bounded-called own life.node i station.disk (at.running life running) at.disk).disk;
-      running = λ l e. subst (λ (x : Life). x.node.stored.next ≤ s.indexes) (after-current station after d l e).1 v.bounded;
-      lived = λ l j e k. elim (after-lives station after d l j) [
-        | inl old ↦ at.lived l (In-append_left station.past (option_to_list station.current) l old) e k
-        | inr is ↦ v.lived e (subst (λ (x : Life). In x.node.lived e) (sym is) k)
+      disk = subst (λ (x : Disk). x.state.next ≤ s.indexes) (sym (after-disk station after d)) bound.disk;
+      running = λ l e. subst (λ (x : Life). x.node.stored.next ≤ s.indexes) (after-current station after d l e).1 bound.node;
+      lived = λ l j. elim (after-lives station after d l j) [
+        | inl old ↦ at.lived l (In-append_left station.past (option_to_list station.current) l old)
+        | inr is ↦ subst (AllHaveCome s m) is come
       ];
     }
 
-began-at : (s : Setting) (m : ℕ) (d : Disk) (station : Station) → HasIndexLeft s station → d.state ≡ (first_call s m station.disk.state).node.stored → IsVerifiedAt s station
-    → IsVerifiedAt s (record { disk = d; past = station.past; current = Some (first_life station.disk.state (first_call s m station.disk.state)) })
+began-at : (s : Setting) (m : ℕ) (d : Disk) (station : Station) → HasIndexLeft s station → d.state ≡ (first_call s m station.disk.state).node.stored → IsVerifiedAt s m station
+    → IsVerifiedAt s m (record { disk = d; past = station.past; current = Some (first_life station.disk.state (first_call s m station.disk.state)) })
 began-at s m d station left same h =
     let kept : Stored = station.disk.state in
     let call : Call = first_call s m kept in
     let bound : call.node.stored.next ≤ s.indexes = first-bounded s m station left h.disk in
+    let first : AllHaveCome s m (first_life kept call) = λ place a found. none-first s m kept place a found in
     record {
       disk = subst (λ (k : Stored). k.next ≤ s.indexes) (sym same) bound;
       running = λ l e. subst (λ (x : Life). x.node.stored.next ≤ s.indexes) (some-is _ l e) bound;
-      lived = λ l j e k. elim (in-last station.past (first_life kept call) l j) [
-        | inl old ↦ h.lived l (In-append_left station.past (option_to_list station.current) l old) e k
-        | inr is ↦ started-lived s m kept e (subst (λ (x : Life). In x.node.lived e) (sym is) k)
+      lived = λ l j. elim (in-last station.past (first_life kept call) l j) [
+        | inl old ↦ h.lived l (In-append_left station.past (option_to_list station.current) l old)
+        | inr is ↦ subst (AllHaveCome s m) is first
       ];
     }
 
-disk-at : (s : Setting) (station : Station) (d : Disk) → d.state.next ≤ s.indexes → IsVerifiedAt s station → IsVerifiedAt s (with_disk station d)
-disk-at s station d bound h = record { disk = bound; running = h.running; lived = h.lived }
+disk-at : (s : Setting) (m : ℕ) (station : Station) (d : Disk) → d.state.next ≤ s.indexes → IsVerifiedAt s m station → IsVerifiedAt s m (with_disk station d)
+disk-at s m station d bound h = record { disk = bound; running = h.running; lived = h.lived }
 
-tried-at : (s : Setting) (m : ℕ) (station : Station) (d : Disk) → HasIndexLeft s station → (d.state ≡ station.disk.state) ⊎ (d.state ≡ (first_call s m station.disk.state).node.stored) → IsVerifiedAt s station → d.state.next ≤ s.indexes
+tried-at : (s : Setting) (m : ℕ) (station : Station) (d : Disk) → HasIndexLeft s station → (d.state ≡ station.disk.state) ⊎ (d.state ≡ (first_call s m station.disk.state).node.stored) → IsVerifiedAt s m station → d.state.next ≤ s.indexes
 tried-at s m station d left (inl same) h = subst (λ (k : Stored). k.next ≤ s.indexes) (sym same) h.disk
 tried-at s m station d left (inr after) h = subst (λ (k : Stored). k.next ≤ s.indexes) (sym after) (first-bounded s m station left h.disk)
 
-over-at : (s : Setting) (station : Station) (life : Life) → station.current ≡ Some life → IsVerifiedAt s station → IsVerifiedAt s (life_over station (Some life))
-over-at s station life running h =
+over-at : (s : Setting) (m : ℕ) (station : Station) (life : Life) → station.current ≡ Some life → IsVerifiedAt s m station → IsVerifiedAt s m (life_over station (Some life))
+over-at s m station life running h =
     record {
       disk = h.disk;
       running = λ l none. none-some {X = Life} l none;
-      lived = λ l i e k. h.lived l (subst (λ xs. In xs l) (lives-over station life running) i) e k;
+      lived = λ l i. h.lived l (subst (λ xs. In xs l) (lives-over station life running) i);
     }
 
-verified-kept : (s : Setting) → IsSetting s → SignaturesVerify s → Keeps s (AllVerified s)
-verified-kept s fits verify =
+verified-kept : (s : Setting) → IsSetting s → Keeps s (AllVerified s)
+verified-kept s fits =
     let k : Keeps s (Holds s) = holds-kept s fits in
     record {
       called = λ m i life c running free h.
-          record { holds = k.called m i life c running free h.holds; stations = put s m _ c.world (called-at s c.world c.told m i life fits verify running free h) h.stations };
+          record { holds = k.called m i life c running free h.holds; stations = put s m _ c.world (called-at s c.world c.told m i life fits running free h) h.stations };
       began = λ m d c is idle left same h. record { holds = k.began m d c is idle left same h.holds; stations = put s m _ c.world (began-at s m d (c.world.stations m) left same (h.stations m)) h.stations };
       tried = λ m d w told idle left may h.
-          record { holds = k.tried m d w told idle left may h.holds; stations = put s m _ w (disk-at s (w.stations m) d (tried-at s m (w.stations m) d left may (h.stations m)) (h.stations m)) h.stations };
+          record { holds = k.tried m d w told idle left may h.holds; stations = put s m _ w (disk-at s m (w.stations m) d (tried-at s m (w.stations m) d left may (h.stations m)) (h.stations m)) h.stations };
       disked = λ m d w told same h.
-          record { holds = k.disked m d w told same h.holds; stations = put s m _ w (disk-at s (w.stations m) d (subst (λ (x : Stored). x.next ≤ s.indexes) (sym same) (h.stations m).disk) (h.stations m)) h.stations };
-      ended = λ m life w told running h. record { holds = k.ended m life w told running h.holds; stations = put s m _ w (over-at s (w.stations m) life running (h.stations m)) h.stations };
+          record { holds = k.disked m d w told same h.holds; stations = put s m _ w (disk-at s m (w.stations m) d (subst (λ (x : Stored). x.next ≤ s.indexes) (sym same) (h.stations m).disk) (h.stations m)) h.stations };
+      ended = λ m life w told running h. record { holds = k.ended m life w told running h.holds; stations = put s m _ w (over-at s m (w.stations m) life running (h.stations m)) h.stations };
       got = λ m moment number w told h. record { holds = k.got m moment number w told h.holds; stations = h.stations };
       flowed = λ number w told h. record { holds = k.flowed number w told h.holds; stations = h.stations };
       lied = λ key body name w told liar h. record { holds = k.lied key body name w told liar h.holds; stations = h.stations };
@@ -291,8 +310,8 @@ verified-first s =
       stations = λ m. record { disk = omega arith; running = λ l none. none-some {X = Life} l none; lived = λ l none. absurd none };
     }
 
-pub reached-verified : (s : Setting) (w : World) (told : List Told) → IsSetting s → SignaturesVerify s → Reached s w told → AllVerified s w told
-reached-verified s w told fits verify reached = keeps-reached s (AllVerified s) (verified-kept s fits verify) (verified-first s) w told reached
+pub reached-verified : (s : Setting) (w : World) (told : List Told) → IsSetting s → Reached s w told → AllVerified s w told
+reached-verified s w told fits reached = keeps-reached s (AllVerified s) (verified-kept s fits) (verified-first s) w told reached
 
 -- ---- what it says
 
@@ -300,13 +319,66 @@ entry-key : (s : Setting) (k : ℕ) (listed : Bool) → listed ≡ true → opti
 entry-key s k true e = refl
 entry-key s k false e = cc
 
--- A record of the accusation verifies under the key of the accuser's certificate.
-pub vouched : (s : Setting) (m : ℕ) (n : Node) (a : AccBody) → KeepsRoster s n → IsAccusersOwn s a → IsVouchedFor (setting_of s m) (public_key_of n a.accuser) (Accusation a)
-vouched s m n a keeps own =
+-- What the node's key has spent is below what its store keeps.
+abbrev IndexesBelow : Stored → List Spent → Type 0
+IndexesBelow kept spent = (x : Spent) → In spent x → x.index < kept.next
+
+below-rises : Rises IndexesBelow
+below-rises =
     record {
-      witness = own.witness;
-      key = s.key (Some a.accuser);
-      says = own.says;
-      author_is = ap (λ o. option_map (λ c. c.key) o) (keeps a.accuser) ∙ entry-key s a.accuser (list_any (λ k. eqb k a.accuser) (members s)) own.listed;
-      verifies = own.verifies;
+      first = λ kept x none. absurd none;
+      push = λ kept body spent may h x i. elim (In-append_cases spent _ x i) [
+        | inl old ↦ omega (arith, h x old, next-after kept body)
+        | inr (inl is) ↦ omega (arith, ap (λ (y : Spent). y.index) is, next-after kept body)
+        | inr (inr none) ↦ absurd none
+      ];
+      later = λ kept body spent may h x i. omega (arith, h x i, next-after kept body);
     }
+
+spent-below : (s : Setting) (w : World) (told : List Told) (m : ℕ) → IsSetting s → is_node s m ≡ true → Reached s w told → IndexesBelow (w.stations m).disk.state (spent_of w (Some m))
+spent-below s w told m fits is reached = (keeps-reached s (Stands IndexesBelow m) (stands-kept IndexesBelow below-rises s m fits is) (stands-first IndexesBelow below-rises s m) w told reached).holds
+
+vouched-by : (s : Setting) (m : ℕ) (n : Node) (a : AccBody) (r : Record) → KeepsRoster s n → r.body ≡ Accusation a → Verified s a r → IsVouchedFor (setting_of s m) (public_key_of n a.accuser) (Accusation a)
+vouched-by s m n a r keeps says v =
+    record {
+      witness = r;
+      key = s.key (Some a.accuser);
+      says = says;
+      author_is = ap (λ o. option_map (λ c. c.key) o) (keeps a.accuser) ∙ entry-key s a.accuser (list_any (λ k. eqb k a.accuser) (members s)) v.listed;
+      verifies = v.verifies;
+    }
+
+-- The record verifies, from which the accusation has come.
+pub record IsVouchedAt (s : Setting) (w : World) (m : ℕ) (life : Life) (place : ℕ) (a : AccBody) : Type 0 where
+  pub verified : IsVouchedFor (setting_of s m) (public_key_of life.node a.accuser) (Accusation a)
+  pub came : HasComeOf s w m life place a verified.witness
+
+own-vouched : (s : Setting) (w : World) (told : List Told) (m : ℕ) (life : Life) (place : ℕ) (a : AccBody) → IsSetting s → SignaturesVerify s → Reached s w told → AllVerified s w told → KeepsRoster s life.node → IsByItself s m a → SignedIn w.signed (Some a.accuser) (Accusation a)
+    → IsVouchedAt s w m life place a
+unfolding vouched-by
+own-vouched s w told m life place a fits verify reached h keeps own signed =
+    let spent : In (spent_of w (Some m)) (record { index = signed.index; body = Accusation a }) = spent-in w (Some m) signed.index (Accusation a) (eq-eqb m m refl) (subst (λ z. In w.signed (record { who = Some z; index = signed.index; body = Accusation a })) own.by signed.among) in
+    let below : signed.index < (w.stations m).disk.state.next = spent-below s w told m fits own.is reached (record { index = signed.index; body = Accusation a }) spent in
+    let left : signed.index < s.indexes = omega (arith, below, (h.stations m).disk) in
+    let r : Record = record_of s (record { who = Some m; index = signed.index; body = Accusation a }) in
+    record {
+      verified = vouched-by s m life.node a r keeps refl (record {
+        listed = any_from_In (λ k. eqb k a.accuser) (members s) m (member-listed s m fits own.is) (eq-eqb m a.accuser (sym own.by));
+        verifies = subst (λ z. s.verifies (s.key (Some z)) r ≡ true) (sym own.by) (verify (Some m) signed.index (Accusation a) left);
+      });
+      came = inr (record { by = own.by; index = signed.index; spent = Contains-from_In _ _ spent; signed = refl });
+    }
+
+come-vouched : (s : Setting) (w : World) (told : List Told) (m : ℕ) (life : Life) (place : ℕ) (a : AccBody) → IsSetting s → SignaturesVerify s → Reached s w told → AllVerified s w told → KeepsRoster s life.node → ComesSigned s m w.signed [] (Accuses a) → HasCome s m life place a
+    → IsVouchedAt s w m life place a
+unfolding vouched-by
+come-vouched s w told m life place a fits verify reached h keeps signed (inl x) = record { verified = vouched-by s m life.node a x.witness keeps x.says x.verified; came = inl x.accepted }
+come-vouched s w told m life place a fits verify reached h keeps signed (inr own) =
+    own-vouched s w told m life place a fits verify reached h keeps own (elim (signed (ap (is_node s) own.by ∙ own.is)) [ inl before ↦ before | inr now ↦ absurd now.1.among ])
+
+-- The record from which an accusation in a life has come verifies under the key of the accuser's certificate.
+pub vouched : (s : Setting) (w : World) (told : List Told) (m : ℕ) (life : Life) (place : ℕ) (a : AccBody) → IsSetting s → SignaturesVerify s → Reached s w told → AllVerified s w told → In (lives_of w m) life → slice_get life.node.lived place ≡ Some (Accuses a)
+    → IsVouchedAt s w m life place a
+vouched s w told m life place a fits verify reached h i found =
+    let at = h.holds.stations m in
+    come-vouched s w told m life place a fits verify reached h (at.rosters life i) (at.lived life i (Accuses a) (In-at life.node.lived place (Accuses a) found)) ((h.stations m).lived life i place a found)

@@ -28,6 +28,7 @@ use Rattle.world_rules.specs.Walk.{Brought, Lists, Plays, Roster, Stage, Walk, a
 use Rattle.world_rules.specs.Laws.{IsSetting, opens_so, goes}
 use Rattle.world_laws.specs.Texts.{IsComeTo, IsLawful, IsLawfulStage, IsPlayed, TextsAreLawful, TextsComeToWorlds, end_fault, world_grammar}
 use Rattle.world_rules.proofs.Once.{nodes-once}
+use Rattle.world_rules.proofs.Telling.{lives-justified}
 use Rattle.world_laws.proofs.Keyed.{keys-verify}
 use Rattle.world_laws.proofs.Lawful.{accepted-signed, accuse-silent, never-ahead, removed-signed}
 use Rattle.world_laws.proofs.Removing.{removals-verified}
@@ -208,6 +209,7 @@ played-lawful : (s : Setting) (w : World) (told : List Told) → IsPlayed s w to
 played-lawful s w told h =
     let accepted = accepted-signed s w told h.fits h.reached in
     record {
+      lives = λ m. lives-justified s w told m h.reached;
       removals = λ t m among is. removals-verified s w told t m h.fits h.verify h.reached among is;
       once = λ m is. nodes-once s w told m h.fits h.reached is;
       none_ahead = never-ahead s w told h.fits h.reached;

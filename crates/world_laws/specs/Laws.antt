@@ -21,6 +21,7 @@ use Rattle.world_rules.specs.Worlds.{Life, World, lives_of}
 use Rattle.world_rules.specs.Steps.{Told}
 use Rattle.world_rules.specs.Laws.{IsSetting, Reached}
 use Rattle.world_laws.specs.Signing.{KeepsRoster, HasSpentOn, HasEnabled, SignedAtTick, WasSigned}
+use Rattle.world_laws.specs.Origins.{HasComeOf}
 
 -- ---- certificates
 
@@ -30,7 +31,7 @@ RostersAreKept = (s : Setting) (w : World) (told : List Told) (who : ℕ) → Is
 
 -- ---- own notes
 
--- A note of the node itself is refused that it doesn't know.
+-- A record is refused as a note of the node's own that is ahead of its newest.
 abbrev pub is_own_ahead : whats.What → Bool
 is_own_ahead (happened.Took body (Some (faults.OwnAhead stored seen))) = true
 is_own_ahead what = false
@@ -92,8 +93,8 @@ SignaturesVerify s = (who : Owner) (index : ℕ) (body : Body) → index < s.ind
 abbrev pub KeysVerify : Type 0
 KeysVerify = (g : Group) (ots : OtsKind) (tree : TreeKind) (correct liars : List ℕ) → SignaturesVerify (setting_for g ots tree correct liars)
 
--- In one of the node's lives the member is removed, and that rests on an accusation, of which a record verifies under
--- the key of the accuser's certificate, as the node keeps it.
+-- In one of the node's lives the member is removed, and that rests on an accusation. The record of which the accusation
+-- has come verifies under the key of the accuser's certificate, as the node keeps it.
 pub record RestsOnVerified (s : Setting) (w : World) (who m : ℕ) : Type 0 where
   pub life : Life
   pub lived : Contains (lives_of w who) life
@@ -104,6 +105,7 @@ pub record RestsOnVerified (s : Setting) (w : World) (who m : ℕ) : Type 0 wher
   pub accusation : AccBody
   pub rests : RestsOn s.group (opening []) life.node.lived place m accepted accusation
   pub verified : IsVouchedFor (setting_of s who) (public_key_of life.node accusation.accuser) (Accusation accusation)
+  pub came : HasComeOf s w who life accepted accusation verified.witness
 
 abbrev pub RemovalsAreVerified : Type 0
 RemovalsAreVerified = (s : Setting) (w : World) (told : List Told) (t : Told) (m : ℕ) → IsSetting s → SignaturesVerify s → Reached s w told → Contains told t → t.event.what ≡ happened.Removed m → RestsOnVerified s w t.who m

@@ -1,3 +1,4 @@
 pub mod Signing
+pub mod Origins
 pub mod Laws
 pub mod Texts

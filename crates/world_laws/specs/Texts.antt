@@ -16,7 +16,7 @@ use Rattle.world_rules.specs.Settings.{Setting, is_node}
 use Rattle.world_rules.specs.Worlds.{World, lives_of, spent_of}
 use Rattle.world_rules.specs.Steps.{Told}
 use Rattle.world_rules.specs.Walk.{Grammar, Stage, Lists, Plays, events_in, setting_in, walk_over}
-use Rattle.world_rules.specs.Laws.{IsSetting, Reached}
+use Rattle.world_rules.specs.Laws.{IsSetting, Reached, TellsLives}
 use Rattle.world_laws.specs.Signing.{HasSpentOn, SignedAtTick}
 use Rattle.world_laws.specs.Laws.{is_own_ahead, RemovesRightly, AccusesRightly, AcceptsRightly, RestsOnVerified, SignaturesVerify}
 
@@ -46,12 +46,15 @@ TextsComeToWorlds = (spelled : WorldLine → List ℕ) (text : List (List ℕ)) 
 
 -- ---- what holds of all of them
 
--- Each removal that was told of a node rests on an accusation that stood for the timeout, whose record verifies under the
--- key of the accuser's certificate. What each node's key spent, over all its lives, rises in index and, for notes, in
--- epoch. No note was ahead of a node's own. A node that was removed anywhere had itself signed the note of that
--- accusation's epoch with that accusation's ring enabled. And each accusation of a node's, signed by it or accepted by
--- anyone, was signed by it at a tick at which the accused was silent there.
+-- What was told of each node's view is what its lives tell, one after another, and each removal in a life rests on an
+-- accusation that stood for the timeout. Each removal that was told of a node rests on such an accusation, and the record
+-- that the node accepted of it, or made of it, verifies under the key of the accuser's certificate. What each node's key
+-- spent, over all its lives, rises in index and, for notes, in epoch. No verdict told that a note was ahead of a node's
+-- own. Where a node was removed anywhere, it had itself signed the note of the accusation's epoch with the accusation's
+-- ring enabled. And each accusation of a node's, signed by it or accepted by anyone, was signed by it at a tick at which
+-- the accused was silent there.
 pub record IsLawful (s : Setting) (w : World) (told : List Told) : Type 0 where
+  pub lives : (m : ℕ) → TellsLives s w told m
   pub removals : (t : Told) (m : ℕ) → Contains told t → t.event.what ≡ happened.Removed m → RestsOnVerified s w t.who m
   pub once : (m : ℕ) → is_node s m ≡ true → IsOnce (spent_of w (Some m))
   pub none_ahead : AllByRecursion (λ t. is_own_ahead t.event.what ≡ false) told

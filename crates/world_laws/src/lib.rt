@@ -11,13 +11,13 @@ pub fn rosters_are_kept()
     ensures { RostersAreKept }
 {}
 
-/// No node ever refuses a record as a note of its own that is ahead of what its store keeps.
+/// No verdict that is told refuses a record as a note of the node's own that is ahead of its newest.
 pub fn own_ahead_never_comes()
     ensures { OwnAheadNeverComes }
 {}
 
-/// A node that is removed from any node's view had itself signed the note of the epoch of the accusation on which the
-/// removal rests, with that accusation's ring enabled.
+/// Each removal of a node from any node's view rests on an accusation; and the note of the removed that was the newest
+/// there, as that was accepted, the removed had itself signed, of that accusation's epoch and with its ring enabled.
 pub fn the_removed_had_signed()
     ensures { TheRemovedHadSigned }
 {}
@@ -36,8 +36,9 @@ pub fn keys_verify()
 {}
 
 /// Each removal that a world tells of a node is one in a life of the node, and rests on an accusation that was accepted
-/// earlier in that life, by the node's monitor of the member, and stood so and unanswered for the timeout; and a record
-/// of that accusation verifies under the key of the accuser's certificate, as the node keeps it.
+/// earlier in that life, by the node's monitor of the member, and stood so and unanswered for the timeout. The record of
+/// it verifies under the key of the accuser's certificate, as the node keeps it: the one of a delivered datagram that the
+/// node accepted there; or one of the node's own, with the signature of an index that its key spent on the accusation.
 pub fn removals_are_verified()
     ensures { RemovalsAreVerified }
 {}
@@ -49,8 +50,8 @@ pub fn texts_come_to_worlds()
     ensures { TextsComeToWorlds }
 {}
 
-/// What holds of all worlds holds of what any text in the world form comes to: its removals, what its nodes have signed
-/// and whom they have accused are as the other laws say.
+/// What holds of all worlds holds of what any text in the world form comes to: what is told of its nodes' views is what
+/// their lives tell, and its removals, what its nodes have signed and whom they have accused are as the other laws say.
 pub fn texts_are_lawful()
     ensures { TextsAreLawful }
 {}
