@@ -130,7 +130,7 @@ hands-ponged s Given P k from nonce c h =
 abbrev pub HasGiven : (Record → Type 0) → Result Datagram ℕ → Type 0
 HasGiven Given heard = (from : ℕ) (records : List Record) → heard ≡ Ok (kinds.Records from records) → (r : Record) → In records r → Given r
 
-pub hands-hears : (s : Setting) (Given : Record → Type 0) (P : Call → Type 0) → Hands s Given P → (heard : Result Datagram ℕ) (c : Call) → HasGiven Given heard → P c → P (hears s heard c)
+hands-hears : (s : Setting) (Given : Record → Type 0) (P : Call → Type 0) → Hands s Given P → (heard : Result Datagram ℕ) (c : Call) → HasGiven Given heard → P c → P (hears s heard c)
 hands-hears s Given P k (Err place) c given h = k.told (happened.BadForm place) c refl h
 hands-hears s Given P k (Ok (kinds.Ping from nonce)) c given h = hands-pinged s Given P k from nonce c h
 hands-hears s Given P k (Ok (kinds.Pong from nonce)) c given h = hands-ponged s Given P k from nonce c h

@@ -1,5 +1,5 @@
 -- Which record an accusation in a life has come of.
-use Rattle.std.proofs.Common.{◌≡◌, ◌⊎◌, ℕ, ◌+◌, zero, suc, Bool, true, false, eqb, cond, List, [], ◌∷◌, ◌++◌, length, Option, Some, None, inl, inr, refl, ap, sym, ◌∙◌, subst, take, arith}
+use Rattle.std.proofs.Common.{◌≡◌, ◌⊎◌, ℕ, ◌+◌, ◌≤◌, zero, suc, Bool, true, false, eqb, cond, List, [], ◌∷◌, ◌++◌, length, Option, Some, None, inl, inr, refl, ap, sym, ◌∙◌, subst, take, arith}
 use Rattle.std.specs.Prelude.{Result, Ok, Err}
 use Rattle.std.specs.List.{slice_get}
 use Rattle.std.proofs.lemmas.Bool.{cond_both}
@@ -7,7 +7,6 @@ use Rattle.std.proofs.lemmas.List.{append_assoc}
 use Rattle.ff_ids.specs.declared.AccBody.{AccBody}
 use Rattle.ff_ids.specs.declared.Fault.{Fault}
 use Rattle.ff_ids.specs.declared.NoteBody.{NoteBody}
-use Rattle.ff_ids.specs.declared.summary.Summary.{Summary}
 use Rattle.ff_ids.specs.Steps.{Event, Notes, Accuses, Ticks as Passes}
 use Rattle.records.specs.declared.Body.{Body}
 use Rattle.records.specs.declared.Body.TheVariants.{Certificate, Note, Accusation}
@@ -23,12 +22,13 @@ use Rattle.node_rules.specs.Deliveries.{answer_to, answering_note, answers, judg
 use Rattle.node_rules.specs.Lives.{Input, Delivers, Ticks}
 use Rattle.node_rules.specs.Verdicts.{when_all_handled}
 use Rattle.node_rules.proofs.Small.{node-sends}
-use Rattle.node_rules.proofs.Handling.{nil-right, node-wants, node-handles}
+use Rattle.node_rules.proofs.Handling.{nil-right, node-wants, node-handles, unread}
+use Rattle.node_rules.proofs.Sendings.{ping-brings, pong-brings, summary-brings}
 use Rattle.world_rules.specs.Disks.{Disk}
 use Rattle.world_rules.specs.Calls.{called_on}
 use Rattle.world_rules.specs.Laws.{ComesSoFar}
 use Rattle.world_rules.proofs.SoFar.{so_far}
-use Rattle.world_laws.proofs.Handing.{Hands, hands-hears, hands-so_far}
+use Rattle.world_laws.proofs.Handing.{Hands, hands-so_far}
 use Rattle.world_laws.proofs.Stopped.{split-at}
 
 -- ---- places in lists
@@ -200,9 +200,22 @@ of-until s n front rest r place a e =
 
 -- ---- what else comes in
 
--- Each accusation that comes in is the node's own.
-abbrev AddsOwn : Setting → Node → Node → Type 0
-AddsOwn s n next = (place : ℕ) (a : AccBody) → slice_get next.lived place ≡ Some (Accuses a) → (slice_get n.lived place ≡ Some (Accuses a)) ⊎ (a.accuser ≡ s.me)
+no-shorter : {X : Type 0} (xs ys : List X) → length xs ≤ length (xs ++ ys)
+no-shorter [] ys = omega arith
+no-shorter (x ∷ xs) ys = omega (arith, no-shorter xs ys)
+
+-- The accusation is the node's own, and is behind what was in the life before.
+pub record IsAddedOwn (s : Setting) (n : Node) (place : ℕ) (a : AccBody) : Type 0 where
+  pub by : a.accuser ≡ s.me
+  pub since : length n.lived ≤ place
+
+-- So is each accusation that comes in.
+record AddsOwn (s : Setting) (n next : Node) : Type 0 where
+  longer : length n.lived ≤ length next.lived
+  each : (place : ℕ) (a : AccBody) → slice_get next.lived place ≡ Some (Accuses a) → (slice_get n.lived place ≡ Some (Accuses a)) ⊎ IsAddedOwn s n place a
+
+adds-nothing : (s : Setting) (n : Node) → AddsOwn s n n
+adds-nothing s n = record { longer = omega arith; each = λ place a e. inl e }
 
 abbrev NoRecord : Record → Type 0
 NoRecord r = ⊥
@@ -212,11 +225,14 @@ one-at e x zero h = some-is e x h
 one-at e x (suc place) h = cc
 
 adds-one : (s : Setting) (n before next : Node) (e : Event) → next.lived ≡ before.lived ++ e ∷ [] → ((a : AccBody) → e ≡ Accuses a → a.accuser ≡ s.me) → AddsOwn s n before → AddsOwn s n next
-adds-one s n before next e lived own h place a found =
-    elim (at-append before.lived (e ∷ []) place (Accuses a) (sym (ap (λ xs. slice_get xs place) lived) ∙ found)) [
-      | inl old ↦ h place a old
-      | inr new ↦ inr (own a (one-at e (Accuses a) new.more new.found))
-    ]
+adds-one s n before next e lived own h =
+    record {
+      longer = omega (arith, h.longer, no-shorter before.lived (e ∷ []), ap (λ xs. length xs) lived);
+      each = λ place a found. elim (at-append before.lived (e ∷ []) place (Accuses a) (sym (ap (λ xs. slice_get xs place) lived) ∙ found)) [
+        | inl old ↦ h.each place a old
+        | inr new ↦ inr (record { by = own a (one-at e (Accuses a) new.more new.found); since = omega (arith, new.is, h.longer) })
+      ];
+    }
 
 own-accusation : (m : ℕ) (x a : AccBody) → x.accuser ≡ m → Accuses x ≡ Accuses a → a.accuser ≡ m
 own-accusation m x a by e = subst (λ (z : AccBody). z.accuser ≡ m) (inner x a e) by
@@ -238,7 +254,7 @@ adding s n =
       accused = λ a c by left h. adds-one s n c.node (signs s (Accusation a) c).node (Accuses a) (lived-signs s (Accusation a) c) (λ x e. own-accusation s.me a x by e) h;
       stopped = λ c h. h;
       passed = λ c h. adds-one s n c.node (lives s Passes c).node Passes (lived-passes s c) (λ a e. passes-not s.me a e) h;
-      probed = λ p c h. h;
+      probed = λ p c h. record { longer = h.longer; each = h.each };
     }
 
 -- ---- a call
@@ -252,54 +268,35 @@ pub record ComesOfRecord (s : Setting) (n : Node) (bytes : List ℕ) (place : �
 
 abbrev pub ComesOfInput : Setting → Node → Input → ℕ → AccBody → Type 0
 ComesOfInput s n (Delivers bytes) place a = ComesOfRecord s n bytes place a
-ComesOfInput s n Ticks place a = ⊥
+ComesOfInput s n Ticks place a = IsAddedOwn s n place a
 
--- It was there before, is the node's own, or has come of what is delivered.
+-- It was there before, or has come of the call.
 abbrev pub ComesIn : Setting → Node → Input → ℕ → AccBody → Type 0
-ComesIn s n i place a = (slice_get n.lived place ≡ Some (Accuses a)) ⊎ ((a.accuser ≡ s.me) ⊎ ComesOfInput s n i place a)
-
-own-in : (s : Setting) (n next : Node) (i : Input) (place : ℕ) (a : AccBody) → AddsOwn s n next → slice_get next.lived place ≡ Some (Accuses a) → ComesIn s n i place a
-own-in s n next i place a h e = elim (h place a e) [ inl old ↦ inl old | inr own ↦ inr (inl own) ]
+ComesIn s n i place a = (slice_get n.lived place ≡ Some (Accuses a)) ⊎ ComesOfInput s n i place a
 
 records-in : (s : Setting) (n : Node) (bytes : List ℕ) (from : ℕ) (records : List Record) (place : ℕ) (a : AccBody) → read_of bytes ≡ Ok (kinds.Records from records) → (slice_get n.lived place ≡ Some (Accuses a)) ⊎ ComesOfOne s (begun n) records place a
     → ComesIn s n (Delivers bytes) place a
 records-in s n bytes from records place a read (inl old) = inl old
-records-in s n bytes from records place a read (inr one) = inr (inr (record { from = from; records = records; read = read; one = one }))
+records-in s n bytes from records place a read (inr one) = inr (record { from = from; records = records; read = read; one = one })
 
--- A datagram without records, or none at all.
-abbrev BringsNone : Result Datagram ℕ → Type 0
-BringsNone heard = (from : ℕ) (records : List Record) → heard ≡ Ok (kinds.Records from records) → ⊥
-
-none-in : (s : Setting) (n : Node) (bytes : List ℕ) (heard : Result Datagram ℕ) (place : ℕ) (a : AccBody) → BringsNone heard → slice_get (hears s heard (begun n)).node.lived place ≡ Some (Accuses a) → ComesIn s n (Delivers bytes) place a
-none-in s n bytes heard place a none e =
-    own-in s n (hears s heard (begun n)).node (Delivers bytes) place a
-    (hands-hears s NoRecord (λ c. AddsOwn s n c.node) (adding s n) heard (begun n) (λ from records is r i. none from records is) (λ place a e. inl e)) e
-
-err-none : (at : ℕ) → BringsNone (Err at)
-err-none at from records is = cc
-
-ping-none : (by nonce : ℕ) → BringsNone (Ok (kinds.Ping by nonce))
-ping-none by nonce from records is = cc
-
-pong-none : (by nonce : ℕ) → BringsNone (Ok (kinds.Pong by nonce))
-pong-none by nonce from records is = cc
-
-summary-none : (by : ℕ) (flag : Bool) (theirs : Summary) → BringsNone (Ok (kinds.Summary by flag theirs))
-summary-none by flag theirs from records is = cc
-
-heard-in : (s : Setting) (n : Node) (bytes : List ℕ) (heard : Result Datagram ℕ) (place : ℕ) (a : AccBody) → read_of bytes ≡ heard → slice_get (hears s heard (begun n)).node.lived place ≡ Some (Accuses a) → ComesIn s n (Delivers bytes) place a
-heard-in s n bytes (Err at) place a read e = none-in s n bytes (Err at) place a (err-none at) e
-heard-in s n bytes (Ok (kinds.Ping from nonce)) place a read e = none-in s n bytes (Ok (kinds.Ping from nonce)) place a (ping-none from nonce) e
-heard-in s n bytes (Ok (kinds.Pong from nonce)) place a read e = none-in s n bytes (Ok (kinds.Pong from nonce)) place a (pong-none from nonce) e
-heard-in s n bytes (Ok (kinds.Summary from flag theirs)) place a read e = none-in s n bytes (Ok (kinds.Summary from flag theirs)) place a (summary-none from flag theirs) e
-heard-in s n bytes (Ok (kinds.Records from records)) place a read e = records-in s n bytes from records place a read (of-all s records (begun n) place a e)
-
-whole-in : (s : Setting) (n : Node) (bytes : List ℕ) (place : ℕ) (a : AccBody) → slice_get (delivered s n bytes).node.lived place ≡ Some (Accuses a) → ComesIn s n (Delivers bytes) place a
+all-in : (s : Setting) (n : Node) (bytes : List ℕ) (from : ℕ) (records : List Record) (place : ℕ) (a : AccBody) → read_of bytes ≡ Ok (kinds.Records from records) → slice_get (delivered s n bytes).node.lived place ≡ Some (Accuses a) → ComesIn s n (Delivers bytes) place a
 unfolding delivered
-whole-in s n bytes place a e = heard-in s n bytes (read_of bytes) place a refl e
+all-in s n bytes from records place a read e =
+    records-in s n bytes from records place a read
+    (of-all s records (begun n) place a (subst (λ heard. slice_get (hears s heard (begun n)).node.lived place ≡ Some (Accuses a)) read e))
+
+same-in : (s : Setting) (n next : Node) (i : Input) (place : ℕ) (a : AccBody) → next.lived ≡ n.lived → slice_get next.lived place ≡ Some (Accuses a) → ComesIn s n i place a
+same-in s n next i place a same e = inl (sym (ap (λ xs. slice_get xs place) same) ∙ e)
+
+whole-in : (s : Setting) (n : Node) (bytes : List ℕ) (heard : Result Datagram ℕ) (place : ℕ) (a : AccBody) → read_of bytes ≡ heard → slice_get (delivered s n bytes).node.lived place ≡ Some (Accuses a) → ComesIn s n (Delivers bytes) place a
+whole-in s n bytes (Err at) place a read e = same-in s n (delivered s n bytes).node (Delivers bytes) place a (ap (λ (x : Node). x.lived) (unread s n bytes at read).node) e
+whole-in s n bytes (Ok (kinds.Ping from nonce)) place a read e = same-in s n (delivered s n bytes).node (Delivers bytes) place a (ap (λ (x : Node). x.lived) (ping-brings s n bytes from nonce read).node_so) e
+whole-in s n bytes (Ok (kinds.Pong from nonce)) place a read e = same-in s n (delivered s n bytes).node (Delivers bytes) place a (ap (λ (x : Node). x.lived) (pong-brings s n bytes from nonce read).node_so) e
+whole-in s n bytes (Ok (kinds.Summary from flag theirs)) place a read e = same-in s n (delivered s n bytes).node (Delivers bytes) place a (ap (λ (x : Node). x.lived) (summary-brings s n bytes from flag theirs read).node_so) e
+whole-in s n bytes (Ok (kinds.Records from records)) place a read e = all-in s n bytes from records place a read e
 
 so_far-in : (s : Setting) (n : Node) (i : Input) (c : Call) (place : ℕ) (a : AccBody) → ComesSoFar s n i c → slice_get c.node.lived place ≡ Some (Accuses a) → ComesIn s n i place a
-so_far-in s n (Delivers bytes) c place a (inl whole) e = whole-in s n bytes place a (subst (λ (x : Call). slice_get x.node.lived place ≡ Some (Accuses a)) whole.is e)
+so_far-in s n (Delivers bytes) c place a (inl whole) e = whole-in s n bytes (read_of bytes) place a refl (subst (λ (x : Call). slice_get x.node.lived place ≡ Some (Accuses a)) whole.is e)
 so_far-in s n (Delivers bytes) c place a (inr cut) e =
     let split = split-at cut.records cut.place cut.at cut.found in
     let is : slice_get (delivered_until s n (take cut.place cut.records) cut.at).node.lived place ≡ Some (Accuses a) = subst (λ (x : Call). slice_get x.node.lived place ≡ Some (Accuses a)) cut.is e in
@@ -308,8 +305,7 @@ so_far-in s n (Delivers bytes) c place a (inr cut) e =
       | inl old ↦ inl old
       | inr one ↦ inr (subst (λ xs. ComesOfOne s (begun n) xs place a) (sym split.1) one)
     ])
-so_far-in s n Ticks c place a so e =
-    own-in s n c.node Ticks place a (hands-so_far s NoRecord (λ c. AddsOwn s n c.node) (adding s n) n Ticks c so tt (λ place a e. inl e)) e
+so_far-in s n Ticks c place a so e = (hands-so_far s NoRecord (λ c. AddsOwn s n c.node) (adding s n) n Ticks c so tt (adds-nothing s n)).each place a e
 
 pub called-in : (s : Setting) (n : Node) (i : Input) (d : Disk) (place : ℕ) (a : AccBody) → slice_get (called_on s n i d).call.node.lived place ≡ Some (Accuses a) → ComesIn s n i place a
 called-in s n i d place a e = so_far-in s n i (called_on s n i d).call place a (so_far s n i d) e

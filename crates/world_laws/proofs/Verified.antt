@@ -45,7 +45,7 @@ use Rattle.world_laws.proofs.InCalls.{ComesSigned, GoesOn, InLife, IsOfWorld, go
 use Rattle.world_laws.proofs.InWorlds.{Holds, lives_at}
 use Rattle.world_laws.proofs.Reaching.{after-current, after-lives, current-in, holds-first, holds-kept, in-last, in-life, lives-over}
 use Rattle.world_laws.proofs.Bounded.{IsWithin, bounded-called}
-use Rattle.world_laws.proofs.Origins.{ComesOfInput, ComesOfOne, ComesOfRecord, all-handled, called-in, lived-signs, lived-takes}
+use Rattle.world_laws.proofs.Origins.{ComesOfInput, ComesOfOne, ComesOfRecord, IsAddedOwn, all-handled, called-in, lived-signs, lived-takes}
 
 -- ---- what verifies
 
@@ -86,16 +86,34 @@ pub record WasAccepted (s : Setting) (m : ℕ) (life : Life) (place : ℕ) (a : 
   pub says : witness.body ≡ Accusation a
   pub verified : Verified s a witness
 
--- The accuser is the node.
-pub record IsByItself (s : Setting) (m : ℕ) (a : AccBody) : Type 0 where
+-- The node, which is the accuser, came to it at a tick.
+pub record IsByItself (s : Setting) (m : ℕ) (life : Life) (place : ℕ) (a : AccBody) : Type 0 where
   pub by : a.accuser ≡ m
   pub is : is_node s m ≡ true
+  pub before : List Input
+  pub behind : List Input
+  pub at_tick : life.inputs ≡ before ++ Ticks ∷ behind
+  pub disk : Disk
+  pub kept : disk.state ≡ (node_after s m life.found before).stored
+  pub since : length (node_after s m life.found before).lived ≤ place
+  pub came_in : slice_get (called_on (setting_of s m) (node_after s m life.found before) Ticks disk).call.node.lived place ≡ Some (Accuses a)
 
 abbrev pub HasCome : Setting → ℕ → Life → ℕ → AccBody → Type 0
-HasCome s m life place a = WasAccepted s m life place a ⊎ IsByItself s m a
+HasCome s m life place a = WasAccepted s m life place a ⊎ IsByItself s m life place a
 
 accepted-later : (s : Setting) (m : ℕ) (life : Life) (i : Input) (n : Node) (place : ℕ) (a : AccBody) → HasCome s m life place a → HasCome s m (with_input life i n) place a
-accepted-later s m life i n place a (inr own) = inr own
+accepted-later s m life i n place a (inr own) =
+    inr (record {
+      by = own.by;
+      is = own.is;
+      before = own.before;
+      behind = own.behind ++ i ∷ [];
+      at_tick = ap (λ xs. xs ++ i ∷ []) own.at_tick ∙ append_assoc own.before (Ticks ∷ own.behind) (i ∷ []);
+      disk = own.disk;
+      kept = own.kept;
+      since = own.since;
+      came_in = own.came_in;
+    })
 accepted-later s m life i n place a (inl h) =
     let x : IsAcceptedBehind s m life place h.witness = h.accepted in
     inl (record {
@@ -149,20 +167,41 @@ accepted-here s w m life bytes next place a of free h after x =
       verified = accepted-verified s m n one.taken a one.says roster one.no_fault;
     }
 
-input-here : (s : Setting) (w : World) (m : ℕ) (life : Life) (i : Input) (next : Node) (place : ℕ) (a : AccBody) → IsOfWorld s w m → IsFree s w i → InLife s w m life.node → life.node ≡ node_after s m life.found life.inputs
-    → ComesOfInput (setting_of s m) life.node i place a → WasAccepted s m (with_input life i next) place a
-input-here s w m life (Delivers bytes) next place a of free h after x = accepted-here s w m life bytes next place a of free h after x
-input-here s w m life Ticks next place a of free h after x = absurd x
+own-here : (s : Setting) (m : ℕ) (life : Life) (d : Disk) (next : Node) (place : ℕ) (a : AccBody) → is_node s m ≡ true → life.node ≡ node_after s m life.found life.inputs → life.node.stored ≡ d.state
+    → IsAddedOwn (setting_of s m) life.node place a → slice_get (called_on (setting_of s m) life.node Ticks d).call.node.lived place ≡ Some (Accuses a) → IsByItself s m (with_input life Ticks next) place a
+own-here s m life d next place a is after runs x found =
+    record {
+      by = x.by;
+      is = is;
+      before = life.inputs;
+      behind = [];
+      at_tick = refl;
+      disk = d;
+      kept = sym runs ∙ ap (λ (n : Node). n.stored) after;
+      since = subst (λ (n : Node). length n.lived ≤ place) after x.since;
+      came_in = subst (λ (n : Node). slice_get (called_on (setting_of s m) n Ticks d).call.node.lived place ≡ Some (Accuses a)) after found;
+    }
+
+-- A node that runs in the world, over this disk.
+record Runs (s : Setting) (w : World) (m : ℕ) (life : Life) (d : Disk) : Type 0 where
+  of : IsOfWorld s w m
+  in_life : InLife s w m life.node
+  after : life.node ≡ node_after s m life.found life.inputs
+  runs : life.node.stored ≡ d.state
+
+input-here : (s : Setting) (w : World) (m : ℕ) (life : Life) (i : Input) (d : Disk) (next : Node) (place : ℕ) (a : AccBody) → Runs s w m life d → IsFree s w i
+    → ComesOfInput (setting_of s m) life.node i place a → slice_get (called_on (setting_of s m) life.node i d).call.node.lived place ≡ Some (Accuses a) → HasCome s m (with_input life i next) place a
+input-here s w m life (Delivers bytes) d next place a h free x found = inl (accepted-here s w m life bytes next place a h.of free h.in_life h.after x)
+input-here s w m life Ticks d next place a h free x found = inr (own-here s m life d next place a h.of.is h.after h.runs x found)
 
 -- Behind one more call too each accusation has come from there.
-called-come : (s : Setting) (w : World) (m : ℕ) (life : Life) (i : Input) (d : Disk) (place : ℕ) (a : AccBody) → IsOfWorld s w m → IsFree s w i → InLife s w m life.node → life.node ≡ node_after s m life.found life.inputs
+called-come : (s : Setting) (w : World) (m : ℕ) (life : Life) (i : Input) (d : Disk) (place : ℕ) (a : AccBody) → Runs s w m life d → IsFree s w i
     → (slice_get life.node.lived place ≡ Some (Accuses a) → HasCome s m life place a) → let next = (called_on (setting_of s m) life.node i d).call.node in slice_get next.lived place ≡ Some (Accuses a) → HasCome s m (with_input life i next) place a
-called-come s w m life i d place a of free h after old found =
+called-come s w m life i d place a h free old found =
     let next : Node = (called_on (setting_of s m) life.node i d).call.node in
     elim (called-in (setting_of s m) life.node i d place a found) [
       | inl before ↦ accepted-later s m life i next place a (old before)
-      | inr (inl by) ↦ inr (record { by = by; is = of.is })
-      | inr (inr came) ↦ inl (input-here s w m life i next place a of free h after came)
+      | inr came ↦ input-here s w m life i d next place a h free came found
     ]
 
 -- ---- the start
@@ -244,7 +283,8 @@ called-at s w told m i life fits running free h =
     let at : IsVerifiedAt s m station = h.stations m in
     let of : IsOfWorld s w m = record { fits = fits; is = (h.holds.stations m).is life running; only = h.holds.only } in
     let bound : IsWithin own d = bounded-called own life.node i station.disk (at.running life running) at.disk in
-    let come : AllHaveCome s m after = λ place a found. called-come s w m life i station.disk place a of free (in-life s w told m life running h.holds) ((h.holds.stations m).after life running) (at.lived life (current-in station life running) place a) found in
+    let runs : Runs s w m life station.disk = record { of = of; in_life = in-life s w told m life running h.holds; after = (h.holds.stations m).after life running; runs = (h.holds.notes m of.is).runs life running } in
+    let come : AllHaveCome s m after = λ place a found. called-come s w m life i station.disk place a runs free (at.lived life (current-in station life running) place a) found in
     record {
       disk = subst (λ (x : Disk). x.state.next ≤ s.indexes) (sym (after-disk station after d)) bound.disk;
       running = λ l e. subst (λ (x : Life). x.node.stored.next ≤ s.indexes) (after-current station after d l e).1 bound.node;
@@ -353,7 +393,7 @@ pub record IsVouchedAt (s : Setting) (w : World) (m : ℕ) (life : Life) (place 
   pub verified : IsVouchedFor (setting_of s m) (public_key_of life.node a.accuser) (Accusation a)
   pub came : HasComeOf s w m life place a verified.witness
 
-own-vouched : (s : Setting) (w : World) (told : List Told) (m : ℕ) (life : Life) (place : ℕ) (a : AccBody) → IsSetting s → SignaturesVerify s → Reached s w told → AllVerified s w told → KeepsRoster s life.node → IsByItself s m a → SignedIn w.signed (Some a.accuser) (Accusation a)
+own-vouched : (s : Setting) (w : World) (told : List Told) (m : ℕ) (life : Life) (place : ℕ) (a : AccBody) → IsSetting s → SignaturesVerify s → Reached s w told → AllVerified s w told → KeepsRoster s life.node → IsByItself s m life place a → SignedIn w.signed (Some a.accuser) (Accusation a)
     → IsVouchedAt s w m life place a
 unfolding vouched-by
 own-vouched s w told m life place a fits verify reached h keeps own signed =
@@ -366,7 +406,19 @@ own-vouched s w told m life place a fits verify reached h keeps own signed =
         listed = any_from_In (λ k. eqb k a.accuser) (members s) m (member-listed s m fits own.is) (eq-eqb m a.accuser (sym own.by));
         verifies = subst (λ z. s.verifies (s.key (Some z)) r ≡ true) (sym own.by) (verify (Some m) signed.index (Accusation a) left);
       });
-      came = inr (record { by = own.by; index = signed.index; spent = Contains-from_In _ _ spent; signed = refl });
+      came = inr (record {
+        by = own.by;
+        before = own.before;
+        behind = own.behind;
+        at_tick = own.at_tick;
+        disk = own.disk;
+        kept = own.kept;
+        since = own.since;
+        came_in = own.came_in;
+        index = signed.index;
+        spent = Contains-from_In _ _ spent;
+        signed = refl;
+      });
     }
 
 come-vouched : (s : Setting) (w : World) (told : List Told) (m : ℕ) (life : Life) (place : ℕ) (a : AccBody) → IsSetting s → SignaturesVerify s → Reached s w told → AllVerified s w told → KeepsRoster s life.node → ComesSigned s m w.signed [] (Accuses a) → HasCome s m life place a

@@ -38,7 +38,8 @@ pub fn keys_verify()
 /// Each removal that a world tells of a node is one in a life of the node, and rests on an accusation that was accepted
 /// earlier in that life, by the node's monitor of the member, and stood so and unanswered for the timeout. The record of
 /// it verifies under the key of the accuser's certificate, as the node keeps it: the one of a delivered datagram that the
-/// node accepted there; or one of the node's own, with the signature of an index that its key spent on the accusation.
+/// node accepted there; or, where the node came to accuse there itself, at a tick, one with the signature of an index that
+/// its key spent on the accusation.
 pub fn removals_are_verified()
     ensures { RemovalsAreVerified }
 {}
