@@ -1,12 +1,11 @@
 -- What comes of an enrolment, by its answer.
-use Rattle.std.proofs.Common.{◌≡◌, ℕ, ◌+◌, ◌<◌, ◌≤◌, Bool, true, false, ltb, cond, List, [], ◌∷◌, ◌++◌, length, map, Result, Ok, Err, refl, sym, ap, subst, ◌∙◌, inl, inr, arith, append-nil, length-append, lt-ltb}
+use Rattle.std.proofs.Common.{◌≡◌, ℕ, ◌+◌, ◌<◌, ◌≤◌, max, true, false, ltb, List, [], ◌∷◌, ◌++◌, length, map, Result, Ok, Err, refl, sym, ap, subst, ◌∙◌, inl, inr, arith, length-append, lt-ltb}
+use Rattle.std.proofs.Math.Nat.{max-eq_left, max-eq_right}
 use Rattle.std.proofs.lemmas.Bool.{ltb-true}
 use Rattle.std.proofs.lemmas.Bool.Decides.{nat_tests}
 use Rattle.epoch_store.specs.declared.Stored.{Stored}
-use Rattle.epoch_store.specs.Calls.{HoldsStore}
 use Rattle.epoch_store.specs.Store.{IsSettled}
 use Rattle.ff_ids.specs.declared.Group.{Group}
-use Rattle.ff_ids.specs.declared.Mask.{Mask}
 use Rattle.line_text.specs.declared.bad_word.BadWord.{BadWord}
 use Rattle.lms_tree.specs.Kinds.{leaf_count}
 use Rattle.lms_tree.specs.declared.secret.Secret.{Secret}
@@ -14,13 +13,16 @@ use Rattle.play.specs.Plays.{Standing}
 use Rattle.play.specs.declared.stop.Stop.{Stop}
 use Rattle.play.specs.declared.stop.Stop.TheVariants as stop
 use Rattle.ports.specs.Count.{next_count}
+use Rattle.ports.specs.DiskCalls.{AsFarAs}
+use Rattle.ports.proofs.SinceLemmas.{Since-trans, Since-weaken}
 use Rattle.records.specs.declared.Body.TheVariants.{Certificate}
 use Rattle.records.specs.declared.CertBody.{CertBody}
 use Rattle.schedule_texts.specs.declared.line.RosterLine.{RosterLine}
 use Rattle.schedule_texts.specs.declared.roster.RosterText.TheVariants as roster
-use Rattle.signer.specs.Lives.{EndsNow, IsLiving, Spent, spent_by}
+use Rattle.signer.specs.Lives.{EndsLives, EndsNow, EndsWithin, IsLiving, LivesOn, Spent, spent_by}
 use Rattle.signer.specs.Signing.{SignerState}
-use Rattle.signer.proofs.LivingLemmas.{begins_life}
+use Rattle.signer.proofs.LivingLemmas.{begins_life, kept_by_opening}
+use Rattle.signer.proofs.OnwardLemmas.{within-none}
 use Rattle.whole_text.specs.Gathered.{IsUnfinished, nothing}
 use Rattle.whole_text.proofs.WholeLemmas.{never-unwritten}
 use Rattle.authority.specs.declared.halt.Halt.{Halt}
@@ -32,32 +34,57 @@ use Rattle.authority.specs.Settings.{asked_in, key_of, roster_judging, tag_of}
 use Rattle.authority.specs.Telling.{IsCut, IsTold, is_writable}
 use Rattle.authority.specs.Texts.{IsRoster}
 use Rattle.enrolment.specs.Lines.{lines_for, lines_within, signed_line, signed_lines}
-use Rattle.enrolment.specs.Signing.{AreSigned, FailsBehind, IsPart, SignsAll, SignsOne, Upto, lines_of}
-use Rattle.enrolment.specs.Enrolling.{AreEnrolled, Enrols, EnrolsBehind, IsEnough, IsOpened, OpensStore, Spends}
-use Rattle.enrolment.proofs.SigningLemmas.{next-line, signed-more, signed-none, signed-nothing, told-none}
-use Rattle.enrolment.specs.declared.enrolling.Opened.{Opened}
+use Rattle.enrolment.specs.Signing.{AreSigned, SignsAll, lines_of}
+use Rattle.enrolment.specs.Enrolling.{AreEnrolled, Enrols, EnrolsBehind, IsEnough, IsOpened, OpensAndPuts, OpensStore, Spends, SpendsFronts}
+use Rattle.enrolment.proofs.SigningLemmas.{fails-behind, next-line, put-next, signed-more, signed-none, signed-nothing, stored-is, told-none}
 
 -- the key with the store that was opened
 abbrev pub begun : Setting → Stored → ℕ → SignerState
 begun s o gate = record { group = s.group; key = key_of s; leaf = o.next; state = o; gate = gate; closed = false }
 
-stored-is : (a : Stored) (n e : ℕ) (m : Mask) → a.next ≡ n → a.epoch ≡ e → a.mask ≡ m → a ≡ record { next = n; epoch = e; mask = m }
-stored-is a n e m x y z =
-    ap (λ (i : ℕ). record { next = i; epoch = a.epoch; mask = a.mask }) x ∙ ap (λ (i : ℕ). record { next = n; epoch = i; mask = a.mask }) y ∙ ap (λ (i : Mask). record { next = n; epoch = e; mask = i }) z
+living : (name : List ℕ) (s : Setting) (o : Stored) (gate : ℕ) (old mid : OfDisk) → IsOpened name s o gate old mid → (before : List ℕ) (spent : List Spent) → EndsNow (tag_of s) before spent old.moments → IsLiving (tag_of s) before spent (begun s o gate) mid.moments
+living name s o gate old mid open_ before spent ends = begins_life (tag_of s) before spent (begun s o gate) mid.moments open_.settled (kept_by_opening (tag_of s) before spent old.moments mid.moments ends open_.kept).1
 
-living : (s : Setting) (o : Stored) (gate : ℕ) (old mid : OfDisk) → IsOpened s o gate old mid → (before : List ℕ) (spent : List Spent) → EndsNow (tag_of s) before spent old.moments → IsLiving (tag_of s) before spent (begun s o gate) mid.moments
-living s o gate old mid open_ before spent ends = begins_life (tag_of s) before spent (begun s o gate) mid.moments open_.settled (open_.lives before spent ends)
+-- what is spent behind the opening
+spent-behind : (name : List ℕ) (s : Setting) (o : Stored) (gate : ℕ) (certs : List CertBody) (later : SignerState) (old mid new : OfDisk) → IsOpened name s o gate old mid → LivesOn (spent_by o (map Certificate certs)) (begun s o gate) later mid.moments new.moments → Spends s o certs old new
+spent-behind name s o gate certs later old mid new open_ lives before spent ends = (lives.lives (tag_of s) before spent (living name s o gate old mid open_ before spent ends)).ends
+
+fronts-behind : (name : List ℕ) (s : Setting) (o : Stored) (gate : ℕ) (certs : List CertBody) (later : SignerState) (old mid new : OfDisk) → IsOpened name s o gate old mid → LivesOn (spent_by o (map Certificate certs)) (begun s o gate) later mid.moments new.moments → SpendsFronts s o certs old new
+fronts-behind name s o gate certs later old mid new open_ lives before spent ends =
+    let more = spent_by o (map Certificate certs) in
+    Since-trans (EndsWithin (tag_of s) before spent more) old.moments mid.moments new.moments
+    (Since-weaken (EndsLives (tag_of s) before spent) (EndsWithin (tag_of s) before spent more) old.moments mid.moments (within-none (tag_of s) before spent more) (kept_by_opening (tag_of s) before spent old.moments mid.moments ends open_.kept).0)
+    (lives.any_moment (tag_of s) before spent (living name s o gate old mid open_ before spent ends))
+
+-- the calls that were made
+calls-behind : (name : List ℕ) (s : Setting) (o : Stored) (gate : ℕ) (certs : List CertBody) (later : SignerState) (old mid new : OfDisk) → IsOpened name s o gate old mid → AreSigned certs (begun s o gate) later mid new → OpensAndPuts name o gate (length certs) old.calls new.calls
+calls-behind name s o gate certs later old mid new open_ signed = record { between = mid.calls; opened = open_.calls; made = signed.calls }
 
 -- what was signed stands in the store
-enrolled : (s : Setting) (o : Stored) (gate : ℕ) (certs : List CertBody) (later : SignerState) (old mid new : OfDisk) → IsOpened s o gate old mid → AreSigned certs (begun s o gate) later mid new → AreEnrolled s o certs old new
-enrolled s o gate certs later old mid new open_ signed = record {
+enrolled : (name : List ℕ) (s : Setting) (o : Stored) (gate : ℕ) (certs : List CertBody) (later : SignerState) (old mid new : OfDisk) → IsEnough s o.next certs → IsOpened name s o gate old mid → AreSigned certs (begun s o gate) later mid new → AreEnrolled name s o certs old new
+enrolled name s o gate certs later old mid new enough open_ signed = record {
   faults = signed.faults ∙ open_.faults;
   gate = gate;
   found = open_.found;
-  later = later.gate;
-  left = subst (λ st. IsSettled (tag_of s) st later.gate new.moments) (stored-is later.state (o.next + length certs) o.epoch o.mask signed.next signed.epoch signed.mask) (signed.settled (tag_of s) open_.settled);
-  spends = λ before spent ends. (signed.lives (tag_of s) before spent (living s o gate old mid open_ before spent ends)).ends;
+  calls = calls-behind name s o gate certs later old mid new open_ signed;
+  enough = enough;
+  left =
+      subst (λ at. IsSettled (tag_of s) (record o { next = o.next + length certs }) at new.moments) signed.gate
+      (subst (λ st. IsSettled (tag_of s) st later.gate new.moments) (stored-is later.state (o.next + length certs) o.epoch o.mask signed.next signed.epoch signed.mask) (signed.settled (tag_of s) open_.settled));
+  spends = spent-behind name s o gate certs later old mid new open_ signed.lives;
+  any_moment = fronts-behind name s o gate certs later old mid new open_ signed.lives;
 }
+
+-- the key has a leaf for each that was signed
+enough-for : (s : Setting) (o : Stored) (gate : ℕ) (certs : List CertBody) (later : SignerState) (mid new : OfDisk) → o.next ≤ leaf_count s.kinds.tree → AreSigned certs (begun s o gate) later mid new → o.next + length certs ≤ leaf_count s.kinds.tree
+enough-for s o gate certs later mid new few signed = let n = signed.next in let w = signed.within few in omega (arith, n, w)
+
+-- the key has just so many leaves
+end-is : (a n : ℕ) (next : ℕ) → a ≤ n → next ≡ n → next ≡ max a n
+end-is a n next few is = is ∙ sym (max-eq_right few)
+
+end-found : (a n : ℕ) → n < a → a ≡ max a n
+end-found a n gone = sym (max-eq_left (omega (arith, gone)))
 
 -- ## The lines, as far as there are leaves
 
@@ -70,11 +97,11 @@ within-all g k i (c ∷ certs) few =
 no-leaf : (i n : ℕ) → n ≤ i → ltb i n ≡ false
 no-leaf i n h = grind (arith, nat_tests)
 
-within-none : (g : Group) (k : Secret) (i : ℕ) (c : CertBody) (rest : List CertBody) → leaf_count k.tree ≤ i → lines_within g k i (c ∷ rest) ≡ []
-within-none g k i c rest gone = rw (no-leaf i (leaf_count k.tree) gone) refl
+within-end : (g : Group) (k : Secret) (i : ℕ) (c : CertBody) (rest : List CertBody) → leaf_count k.tree ≤ i → lines_within g k i (c ∷ rest) ≡ []
+within-end g k i c rest gone = rw (no-leaf i (leaf_count k.tree) gone) refl
 
 within-stop : (g : Group) (k : Secret) (i : ℕ) (done : List CertBody) (c : CertBody) (rest : List CertBody) → i + length done ≡ leaf_count k.tree → lines_within g k i (done ++ c ∷ rest) ≡ signed_lines g k i done
-within-stop g k i [] c rest gone = within-none g k i c rest (omega (arith, gone))
+within-stop g k i [] c rest gone = within-end g k i c rest (omega (arith, gone))
 within-stop g k i (x ∷ done) c rest gone =
     let has : ltb i (leaf_count k.tree) ≡ true = lt-ltb i (leaf_count k.tree) (omega (arith, gone)) in
     rw has (ap (λ (t : List ℕ). signed_line g k i x ++ t) (within-stop g k (i + 1) done c rest (omega (arith, gone))))
@@ -84,32 +111,34 @@ within-stop g k i (x ∷ done) c rest gone =
 abbrev Answer : Type 0
 Answer = Result (Unit {0}) Halt
 
-cert-signed : (s : Setting) (o : Stored) (gate : ℕ) (certs : List CertBody) (between now : Standing) (old mid new : OfDisk) (r : Answer) → o.next ≤ leaf_count s.kinds.tree → IsOpened s o gate old mid → SignsAll certs (begun s o gate) between now mid new r → EnrolsBehind s certs between now old new r
-cert-signed s o gate certs between now old mid new (Ok _) few open_ h =
-    let enough : o.next + length certs ≤ leaf_count s.kinds.tree = let n = h.1.next in let w = h.1.within few in omega (arith, n, w) in
+cert-signed : (name : List ℕ) (s : Setting) (o : Stored) (gate : ℕ) (certs : List CertBody) (between now : Standing) (old mid new : OfDisk) (r : Answer) → o.next ≤ leaf_count s.kinds.tree → IsOpened name s o gate old mid → SignsAll certs (begun s o gate) between now mid new r → EnrolsBehind name s certs between now old new r
+cert-signed name s o gate certs between now old mid new (Ok _) few open_ h =
+    let enough = enough-for s o gate certs h.0 mid new few h.1 in
     record {
       opened = o;
-      enrolled = enrolled s o gate certs h.0 old mid new open_ h.1;
-      enough = inl enough;
+      enrolled = enrolled name s o gate certs h.0 old mid new (inl enough) open_ h.1;
       told = subst (IsTold between now) (sym (within-all s.group (key_of s) o.next certs enough)) h.2;
     }
-cert-signed s o gate certs between now old mid new (Err (halt.Refused line w)) few open_ h = absurd h.ends.1
-cert-signed s o gate certs between now old mid new (Err halt.ReadFault) few open_ h = absurd h.ends.1
-cert-signed s o gate certs between now old mid new (Err halt.WriteFault) few open_ h =
+cert-signed name s o gate certs between now old mid new (Err (halt.Refused line w)) few open_ h = absurd h.ends.1
+cert-signed name s o gate certs between now old mid new (Err halt.ReadFault) few open_ h = absurd h.ends.1
+cert-signed name s o gate certs between now old mid new (Err halt.WriteFault) few open_ h =
     let e = h.ends.1 in
+    let all = signed-more h.done h.one (begun s o gate) h.then h.ends.0 mid h.disk new h.signed e.0 in
+    let enough = enough-for s o gate (h.done ++ h.one ∷ []) h.ends.0 mid new few all in
     record {
       opened = o;
       done = h.done;
       one = h.one;
       part = h.part;
-      within = let a = signed-more h.done h.one (begun s o gate) h.then h.ends.0 mid h.disk new h.signed e.0 in let n = a.next in let w = a.within few in let l = length-append h.done (h.one ∷ []) in omega (arith, n, w, l);
-      enrolled = enrolled s o gate (h.done ++ h.one ∷ []) h.ends.0 old mid new open_ (signed-more h.done h.one (begun s o gate) h.then h.ends.0 mid h.disk new h.signed e.0);
+      within = let l = length-append h.done (h.one ∷ []) in omega (arith, enough, l);
+      enrolled = enrolled name s o gate (h.done ++ h.one ∷ []) h.ends.0 old mid new (inl enough) open_ all;
       mid = h.mid;
       told = h.told;
       cut = subst (IsCut h.mid now) (next-line h.done h.one (begun s o gate) h.then mid h.disk h.signed) e.1;
     }
-cert-signed s o gate certs between now old mid new (Err halt.StoreFault) few open_ h =
+cert-signed name s o gate certs between now old mid new (Err halt.StoreFault) few open_ h =
     let e = h.ends.1 in
+    let lives = fails-behind h.done (begun s o gate) h.then h.ends.0 mid h.disk new h.signed e.1 in
     inr (record {
       opened = o;
       done = h.done;
@@ -117,16 +146,20 @@ cert-signed s o gate certs between now old mid new (Err halt.StoreFault) few ope
       part = h.part;
       gate = gate;
       found = open_.found;
-      within = let n = h.signed.next in let w = h.signed.within few in omega (arith, n, w);
+      within = let n = h.signed.next in let left = subst (λ k. h.then.state.next < leaf_count k.tree) h.signed.key e.1.left in omega (arith, n, left);
       faults = e.1.faults ∙ ap next_count (h.signed.faults ∙ open_.faults);
-      spends = λ before spent ends.
-          subst (λ sp. EndsNow (tag_of s) before sp new.moments) (append-nil (spent ++ spent_by o (map Certificate h.done)))
-          (e.1.lives (tag_of s) before (spent ++ spent_by o (map Certificate h.done)) (h.signed.lives (tag_of s) before spent (living s o gate old mid open_ before spent ends)));
+      calls = record {
+        between = h.disk.calls;
+        before = calls-behind name s o gate h.done h.then old mid h.disk open_ h.signed;
+        last = subst (λ calls. AsFarAs calls h.disk.calls new.calls) (put-next h.done (begun s o gate) h.then mid h.disk h.signed) e.1.calls;
+      };
+      spends = spent-behind name s o gate h.done h.ends.0 old mid new open_ lives;
+      any_moment = fronts-behind name s o gate h.done h.ends.0 old mid new open_ lives;
       told = subst (λ m. IsTold between m (lines_of (begun s o gate) h.done)) (sym e.0) h.told;
     })
-cert-signed s o gate certs between now old mid new (Err (halt.StoreBroken place byte)) few open_ h = absurd h.ends.1
-cert-signed s o gate certs between now old mid new (Err (halt.StoreTaken len)) few open_ h = absurd h.ends.1
-cert-signed s o gate certs between now old mid new (Err (halt.Exhausted next)) few open_ h =
+cert-signed name s o gate certs between now old mid new (Err (halt.StoreBroken place byte)) few open_ h = absurd h.ends.1
+cert-signed name s o gate certs between now old mid new (Err (halt.StoreTaken len)) few open_ h = absurd h.ends.1
+cert-signed name s o gate certs between now old mid new (Err (halt.Exhausted next)) few open_ h =
     let e = h.ends.1 in
     let all = signed-nothing h.done (begun s o gate) h.then h.ends.0 mid h.disk new h.signed e.1 in
     let next_is : next ≡ o.next + length h.done = e.2 ∙ h.signed.next in
@@ -136,93 +169,97 @@ cert-signed s o gate certs between now old mid new (Err (halt.Exhausted next)) f
       done = h.done;
       one = h.one;
       part = h.part;
-      enrolled = enrolled s o gate h.done h.ends.0 old mid new open_ all;
+      enrolled = enrolled name s o gate h.done h.ends.0 old mid new (inl (enough-for s o gate h.done h.ends.0 mid new few all)) open_ all;
       next_is = next_is;
-      gone = omega (arith, gone);
+      gone = end-is o.next (leaf_count s.kinds.tree) next few gone;
       told = subst (λ m. IsTold between m (lines_for o.next certs s)) (sym e.0)
           (subst (IsTold between h.mid) (sym (ap (lines_within s.group (key_of s) o.next) h.part.are ∙ within-stop s.group (key_of s) o.next h.done h.one h.part.rest (sym next_is ∙ gone))) h.told);
     }
-cert-signed s o gate certs between now old mid new (Err halt.OutOfMemory) few open_ h =
+cert-signed name s o gate certs between now old mid new (Err halt.OutOfMemory) few open_ h =
     let e = h.ends.1 in
     inr (record {
       opened = o;
       done = h.done;
       one = h.one;
       part = h.part;
-      within = let n = h.signed.next in let w = h.signed.within few in omega (arith, n, w);
+      within = enough-for s o gate h.done h.then mid h.disk few h.signed;
       enrolled = elim e.1 [
-        | inl none ↦ inl (enrolled s o gate h.done h.ends.0 old mid new open_ (signed-nothing h.done (begun s o gate) h.then h.ends.0 mid h.disk new h.signed none))
-        | inr one ↦ inr (enrolled s o gate (h.done ++ h.one ∷ []) h.ends.0 old mid new open_ (signed-more h.done h.one (begun s o gate) h.then h.ends.0 mid h.disk new h.signed one))
+        | inl none ↦
+            let all = signed-nothing h.done (begun s o gate) h.then h.ends.0 mid h.disk new h.signed none in
+            inl (enrolled name s o gate h.done h.ends.0 old mid new (inl (enough-for s o gate h.done h.ends.0 mid new few all)) open_ all)
+        | inr one ↦
+            let all = signed-more h.done h.one (begun s o gate) h.then h.ends.0 mid h.disk new h.signed one in
+            inr (enrolled name s o gate (h.done ++ h.one ∷ []) h.ends.0 old mid new (inl (enough-for s o gate (h.done ++ h.one ∷ []) h.ends.0 mid new few all)) open_ all)
       ];
       told = subst (λ m. IsTold between m (lines_of (begun s o gate) h.done)) (sym e.0) h.told;
     })
 
-pub signed-behind : (s : Setting) (o : Stored) (gate : ℕ) (signer : SignerState) (certs : List CertBody) (between now : Standing) (old mid new : OfDisk) (r : Answer) → signer ≡ begun s o gate → o.next ≤ leaf_count s.kinds.tree → IsOpened s o gate old mid → SignsAll certs signer between now mid new r → EnrolsBehind s certs between now old new r
-signed-behind s o gate signer certs between now old mid new r is few open_ h =
-    cert-signed s o gate certs between now old mid new r few open_ (subst (λ x. SignsAll certs x between now mid new r) is h)
+pub signed-behind : (name : List ℕ) (s : Setting) (o : Stored) (gate : ℕ) (signer : SignerState) (certs : List CertBody) (between now : Standing) (old mid new : OfDisk) (r : Answer) → signer ≡ begun s o gate → o.next ≤ leaf_count s.kinds.tree → IsOpened name s o gate old mid → SignsAll certs signer between now mid new r → EnrolsBehind name s certs between now old new r
+signed-behind name s o gate signer certs between now old mid new r is few open_ h =
+    cert-signed name s o gate certs between now old mid new r few open_ (subst (λ x. SignsAll certs x between now mid new r) is h)
 
 -- the store wasn't opened
-pub unopened-behind : (s : Setting) (certs : List CertBody) (between : Standing) (old new : OfDisk) (h : Halt) → OpensStore s old new (Err h) → EnrolsBehind s certs between between old new (Err h)
-unopened-behind s certs between old new (halt.Refused line w) o = absurd o
-unopened-behind s certs between old new halt.ReadFault o = absurd o
-unopened-behind s certs between old new halt.WriteFault o = absurd o
-unopened-behind s certs between old new halt.StoreFault o = inl (refl, o)
-unopened-behind s certs between old new (halt.StoreBroken place byte) o = (refl, o)
-unopened-behind s certs between old new (halt.StoreTaken len) o = absurd o
-unopened-behind s certs between old new (halt.Exhausted next) o = absurd o
-unopened-behind s certs between old new halt.OutOfMemory o = inl (refl, o)
+pub unopened-behind : (name : List ℕ) (s : Setting) (certs : List CertBody) (between : Standing) (old new : OfDisk) (h : Halt) → OpensStore name s old new (Err h) → EnrolsBehind name s certs between between old new (Err h)
+unopened-behind name s certs between old new (halt.Refused line w) o = absurd o
+unopened-behind name s certs between old new halt.ReadFault o = absurd o
+unopened-behind name s certs between old new halt.WriteFault o = absurd o
+unopened-behind name s certs between old new halt.StoreFault o = inl (refl, o)
+unopened-behind name s certs between old new (halt.StoreBroken place byte) o = (refl, o)
+unopened-behind name s certs between old new (halt.StoreTaken len) o = absurd o
+unopened-behind name s certs between old new (halt.Exhausted next) o = absurd o
+unopened-behind name s certs between old new halt.OutOfMemory o = inl (refl, o)
 
-pub unopened-writable : (s : Setting) (old new : OfDisk) (h : Halt) → OpensStore s old new (Err h) → is_writable (Err h) ≡ true
-unopened-writable s old new (halt.Refused line w) o = refl
-unopened-writable s old new halt.ReadFault o = refl
-unopened-writable s old new halt.WriteFault o = absurd o
-unopened-writable s old new halt.StoreFault o = refl
-unopened-writable s old new (halt.StoreBroken place byte) o = refl
-unopened-writable s old new (halt.StoreTaken len) o = refl
-unopened-writable s old new (halt.Exhausted next) o = refl
-unopened-writable s old new halt.OutOfMemory o = refl
+pub unopened-writable : (name : List ℕ) (s : Setting) (old new : OfDisk) (h : Halt) → OpensStore name s old new (Err h) → is_writable (Err h) ≡ true
+unopened-writable name s old new (halt.Refused line w) o = refl
+unopened-writable name s old new halt.ReadFault o = refl
+unopened-writable name s old new halt.WriteFault o = absurd o
+unopened-writable name s old new halt.StoreFault o = refl
+unopened-writable name s old new (halt.StoreBroken place byte) o = refl
+unopened-writable name s old new (halt.StoreTaken len) o = refl
+unopened-writable name s old new (halt.Exhausted next) o = refl
+unopened-writable name s old new halt.OutOfMemory o = refl
 
 -- the store has a next index that the key hasn't
-none-enrolled : (s : Setting) (o : Stored) (gate : ℕ) (old mid : OfDisk) → IsOpened s o gate old mid → AreEnrolled s o [] old mid
-none-enrolled s o gate old mid open_ = enrolled s o gate [] (begun s o gate) old mid mid open_ (signed-none (begun s o gate) mid refl)
+none-enrolled : (name : List ℕ) (s : Setting) (o : Stored) (gate : ℕ) (old mid : OfDisk) → IsOpened name s o gate old mid → AreEnrolled name s o [] old mid
+none-enrolled name s o gate old mid open_ = enrolled name s o gate [] (begun s o gate) old mid mid (inr refl) open_ (signed-none (begun s o gate) mid refl)
 
-pub gone-asked : (s : Setting) (o : Stored) (gate : ℕ) (certs : List CertBody) (between : Standing) (old new : OfDisk) → leaf_count s.kinds.tree < o.next → IsOpened s o gate old new → ltb 0 (length certs) ≡ true → EnrolsBehind s certs between between old new (Err (halt.Exhausted o.next))
-gone-asked s o gate [] between old new gone open_ some = absurd (let h = ltb-true 0 0 some in omega (arith, h))
-gone-asked s o gate (c ∷ certs) between old new gone open_ some = record {
+pub gone-asked : (name : List ℕ) (s : Setting) (o : Stored) (gate : ℕ) (certs : List CertBody) (between : Standing) (old new : OfDisk) → leaf_count s.kinds.tree < o.next → IsOpened name s o gate old new → ltb 0 (length certs) ≡ true → EnrolsBehind name s certs between between old new (Err (halt.Exhausted o.next))
+gone-asked name s o gate [] between old new gone open_ some = absurd (let h = ltb-true 0 0 some in omega (arith, h))
+gone-asked name s o gate (c ∷ certs) between old new gone open_ some = record {
   opened = o;
   done = [];
   one = c;
   part = record { rest = certs; are = refl };
-  enrolled = none-enrolled s o gate old new open_;
+  enrolled = none-enrolled name s o gate old new open_;
   next_is = omega arith;
-  gone = omega arith;
-  told = subst (IsTold between between) (sym (within-none s.group (key_of s) o.next c certs (omega arith))) (told-none between);
+  gone = end-found o.next (leaf_count s.kinds.tree) gone;
+  told = subst (IsTold between between) (sym (within-end s.group (key_of s) o.next c certs (omega arith))) (told-none between);
 }
 
-pub gone-unasked : (s : Setting) (o : Stored) (gate : ℕ) (certs : List CertBody) (between : Standing) (old new : OfDisk) → IsOpened s o gate old new → ltb 0 (length certs) ≡ false → EnrolsBehind s certs between between old new (Ok tt)
-gone-unasked s o gate [] between old new open_ none = record { opened = o; enrolled = none-enrolled s o gate old new open_; enough = inr refl; told = told-none between }
-gone-unasked s o gate (c ∷ certs) between old new open_ none = absurd (grind (arith, nat_tests))
+pub gone-unasked : (name : List ℕ) (s : Setting) (o : Stored) (gate : ℕ) (certs : List CertBody) (between : Standing) (old new : OfDisk) → IsOpened name s o gate old new → ltb 0 (length certs) ≡ false → EnrolsBehind name s certs between between old new (Ok tt)
+gone-unasked name s o gate [] between old new open_ none = record { opened = o; enrolled = none-enrolled name s o gate old new open_; told = told-none between }
+gone-unasked name s o gate (c ∷ certs) between old new open_ none = absurd (grind (arith, nat_tests))
 
 -- ## The whole
 
 -- a roster that was read whole, and what came behind that
-pub went : (s : Setting) (lines : List RosterLine) (was between now : Standing) (old new : OfDisk) (r : Answer) → IsRoster was between s lines → EnrolsBehind s (asked_in lines) between now old new r → Enrols was now old new r
-went s lines was between now old new (Ok _) read h = record { setting = s; lines = lines; between = between; read = read; rest = h }
-went s lines was between now old new (Err (halt.Refused line w)) read h = absurd h
-went s lines was between now old new (Err halt.ReadFault) read h = absurd h
-went s lines was between now old new (Err halt.WriteFault) read h = record { setting = s; lines = lines; between = between; read = read; rest = h }
-went s lines was between now old new (Err halt.StoreFault) read h = record { setting = s; lines = lines; between = between; read = read; rest = h }
-went s lines was between now old new (Err (halt.StoreBroken place byte)) read h = record { setting = s; lines = lines; between = between; read = read; rest = h }
-went s lines was between now old new (Err (halt.StoreTaken len)) read h = absurd h
-went s lines was between now old new (Err (halt.Exhausted next)) read h = record { setting = s; lines = lines; between = between; read = read; rest = h }
-went s lines was between now old new (Err halt.OutOfMemory) read h = inr (record { setting = s; lines = lines; between = between; read = read; rest = h })
+pub went : (name : List ℕ) (s : Setting) (lines : List RosterLine) (was between now : Standing) (old new : OfDisk) (r : Answer) → IsRoster was between s lines → EnrolsBehind name s (asked_in lines) between now old new r → Enrols name was now old new r
+went name s lines was between now old new (Ok _) read h = record { setting = s; lines = lines; between = between; read = read; rest = h }
+went name s lines was between now old new (Err (halt.Refused line w)) read h = absurd h
+went name s lines was between now old new (Err halt.ReadFault) read h = absurd h
+went name s lines was between now old new (Err halt.WriteFault) read h = record { setting = s; lines = lines; between = between; read = read; rest = h }
+went name s lines was between now old new (Err halt.StoreFault) read h = record { setting = s; lines = lines; between = between; read = read; rest = h }
+went name s lines was between now old new (Err (halt.StoreBroken place byte)) read h = record { setting = s; lines = lines; between = between; read = read; rest = h }
+went name s lines was between now old new (Err (halt.StoreTaken len)) read h = absurd h
+went name s lines was between now old new (Err (halt.Exhausted next)) read h = record { setting = s; lines = lines; between = between; read = read; rest = h }
+went name s lines was between now old new (Err halt.OutOfMemory) read h = inr (record { setting = s; lines = lines; between = between; read = read; rest = h })
 
 -- a roster that wasn't read to its end
-pub unread : (was now : Standing) (disk : OfDisk) (s : Stop BadWord) → IsUnfinished roster_judging roster.Start was now s → Enrols was now disk disk (Err (halt_of s))
-unread was now disk (stop.Refused line w) h = (h, refl)
-unread was now disk stop.ReadFault h = (h, refl)
-unread was now disk stop.WriteFault h = absurd (never-unwritten roster_judging roster.Start was now (h nothing))
-unread was now disk stop.OutOfMemory h = inl (h, refl)
+pub unread : (name : List ℕ) (was now : Standing) (disk : OfDisk) (s : Stop BadWord) → IsUnfinished roster_judging roster.Start was now s → Enrols name was now disk disk (Err (halt_of s))
+unread name was now disk (stop.Refused line w) h = (h, refl)
+unread name was now disk stop.ReadFault h = (h, refl)
+unread name was now disk stop.WriteFault h = absurd (never-unwritten roster_judging roster.Start was now (h nothing))
+unread name was now disk stop.OutOfMemory h = inl (h, refl)
 
 pub unread-writable : (was now : Standing) (s : Stop BadWord) → IsUnfinished roster_judging roster.Start was now s → is_writable (Err (halt_of s)) ≡ true
 unread-writable was now (stop.Refused line w) h = refl

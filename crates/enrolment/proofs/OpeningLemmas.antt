@@ -1,16 +1,14 @@
 -- A store that is opened, or isn't.
-use Rattle.std.proofs.Common.{◌≡◌, ℕ, List, [], ◌∷◌, Result, Ok, Err, refl, sym, ap, subst}
+use Rattle.std.proofs.Common.{◌≡◌, ℕ, List, [], ◌∷◌, Result, Err, refl, subst}
 use Rattle.epoch_store.specs.declared.StoreError.{StoreError}
 use Rattle.epoch_store.specs.declared.StoreError.TheVariants as store
 use Rattle.epoch_store.specs.declared.Stored.{Stored}
+use Rattle.epoch_store.specs.Asked.{ReadsGates, ReadsTo, open_calls}
 use Rattle.epoch_store.specs.Calls.{HoldsStore, IsNotTaken, OnRead, OpensAs, SettlesAs, StoreState, is_fault, same}
 use Rattle.epoch_store.specs.Store.{IsSettled, StoreAt}
 use Rattle.ports.specs.Count.{counted}
 use Rattle.ports.specs.Disk.{Fails, Moment, stays}
 use Rattle.ports.proofs.SinceLemmas.{Fails-same}
-use Rattle.signer.specs.Lives.{EndsNow, Spent}
-use Rattle.signer.proofs.LivingLemmas.{kept_by_opening}
-use Rattle.authority.specs.declared.halt.Halt.TheVariants as halt
 use Rattle.authority.specs.declared.setting.Setting.{Setting}
 use Rattle.authority.specs.Halts.{halt_for}
 use Rattle.authority.specs.OfDisk.{OfDisk}
@@ -23,28 +21,29 @@ held tag st gate [] new settles is = tt
 held tag st gate (was ∷ older) [] settles is = absurd settles
 held tag st gate (was ∷ older) (now ∷ past) settles is = subst (λ (m : Moment). StoreAt tag m.image st gate) settles is.1
 
-pub opened : (s : Setting) (tag : List ℕ) (st : StoreState) (old new : OfDisk) → tag ≡ tag_of s → new.faults ≡ old.faults → SettlesAs same old.moments new.moments → IsSettled tag st.state st.gate new.moments → Fails stays old.moments new.moments
-    → IsOpened s st.state st.gate old new
-opened s tag st old new tag_is faults settles is moments = record {
+pub opened : (name : List ℕ) (s : Setting) (tag : List ℕ) (st : StoreState) (old new : OfDisk) → tag ≡ tag_of s → new.faults ≡ old.faults → ReadsTo (open_calls name) st.gate old.calls new.calls → SettlesAs same old.moments new.moments → IsSettled tag st.state st.gate new.moments → Fails stays old.moments new.moments
+    → IsOpened name s st.state st.gate old new
+opened name s tag st old new tag_is faults calls settles is moments = record {
   faults = faults;
+  calls = calls;
   found = subst (λ t. HoldsStore t st.state st.gate old.moments) tag_is (held tag st.state st.gate old.moments new.moments settles is);
   settled = subst (λ t. IsSettled t st.state st.gate new.moments) tag_is is;
-  lives = λ before spent ends. (kept_by_opening (tag_of s) before spent old.moments new.moments ends moments).1;
+  kept = moments;
 }
 
 abbrev failed : StoreError → Result StoreState StoreError
 failed e = Err e
 
-pub not-opened : (s : Setting) (tag : List ℕ) (old new : OfDisk) (e : StoreError) → tag ≡ tag_of s → new.faults ≡ counted (is_fault (failed e)) old.faults → OpensAs tag old.moments (failed e) → IsNotTaken (failed e)
-    → OnRead (failed e) (SettlesAs same old.moments new.moments) → Fails stays old.moments new.moments → OpensStore s old new (Err (halt_for e))
-not-opened s tag old new store.Fault tag_is faults reads taken settles moments = record { faults = faults; moments = moments }
-not-opened s tag old new (store.Taken len) tag_is faults reads taken settles moments = absurd taken
-not-opened s tag old new (store.Broken place byte) tag_is faults reads taken settles moments =
-    record { faults = faults; error = store.Broken place byte; is = refl; reads = subst (λ t. OpensAs t old.moments (failed (store.Broken place byte))) tag_is reads; settles = settles; kept = moments }
-not-opened s tag old new (store.OtherKey place byte) tag_is faults reads taken settles moments =
-    record { faults = faults; error = store.OtherKey place byte; is = refl; reads = subst (λ t. OpensAs t old.moments (failed (store.OtherKey place byte))) tag_is reads; settles = settles; kept = moments }
-not-opened s tag old new store.OutOfMemory tag_is faults reads taken settles moments = record { faults = faults; moments = moments }
+pub not-opened : (name : List ℕ) (s : Setting) (tag : List ℕ) (old new : OfDisk) (e : StoreError) → tag ≡ tag_of s → new.faults ≡ counted (is_fault (failed e)) old.faults → ReadsGates (open_calls name) (failed e) old.calls new.calls → OpensAs tag old.moments (failed e) → IsNotTaken (failed e)
+    → OnRead (failed e) (SettlesAs same old.moments new.moments) → Fails stays old.moments new.moments → OpensStore name s old new (Err (halt_for e))
+not-opened name s tag old new store.Fault tag_is faults calls reads taken settles moments = record { faults = faults; calls = calls; moments = moments }
+not-opened name s tag old new (store.Taken len) tag_is faults calls reads taken settles moments = absurd taken
+not-opened name s tag old new (store.Broken place byte) tag_is faults calls reads taken settles moments =
+    record { faults = faults; error = store.Broken place byte; is = refl; calls = calls; reads = subst (λ t. OpensAs t old.moments (failed (store.Broken place byte))) tag_is reads; settles = settles; kept = moments }
+not-opened name s tag old new (store.OtherKey place byte) tag_is faults calls reads taken settles moments =
+    record { faults = faults; error = store.OtherKey place byte; is = refl; calls = calls; reads = subst (λ t. OpensAs t old.moments (failed (store.OtherKey place byte))) tag_is reads; settles = settles; kept = moments }
+not-opened name s tag old new store.OutOfMemory tag_is faults calls reads taken settles moments = record { faults = faults; calls = calls; moments = moments }
 
 -- nothing was opened
-pub unopened : (disk : OfDisk) → IsUnopened disk disk
-unopened disk = record { faults = refl; moments = Fails-same disk.moments disk.moments refl }
+pub unopened : (name : List ℕ) (disk : OfDisk) → IsUnopened name disk disk
+unopened name disk = record { faults = refl; calls = record { gates = 0; made = record { left_out = 3; made = refl } }; moments = Fails-same disk.moments disk.moments refl }

@@ -1,13 +1,16 @@
 -- Certificates that are signed one after the other.
-use Rattle.std.proofs.Common.{◌≡◌, ℕ, ◌+◌, ◌≤◌, true, false, List, [], ◌∷◌, ◌++◌, length, map, Option, Result, Ok, Err, refl, sym, ap, subst, ◌∙◌, inl, inr, arith, append_assoc, append-nil, length-append}
-use Rattle.std.specs.Io.KnownBytes.{Appends}
+use Rattle.std.proofs.Common.{◌≡◌, ℕ, suc, ◌+◌, ◌*◌, ◌≤◌, false, List, [], ◌∷◌, ◌++◌, length, map, Option, Result, Ok, Err, refl, sym, ap, subst, ◌∙◌, inl, arith, append_assoc, append-nil, length-append}
 use Rattle.std.proofs.KnownBytes.{Appends-nil, Appends-trans}
 use Rattle.std.proofs.lemmas.Bool.{false≢true}
 use Rattle.epoch_store.specs.declared.Stored.{Stored}
+use Rattle.epoch_store.specs.Asked.{put_calls}
 use Rattle.epoch_store.specs.Store.{IsSettled}
+use Rattle.epoch_store.proofs.CallLemmas.{with_calls-append}
+use Rattle.ff_ids.specs.declared.Mask.{Mask}
 use Rattle.lms_tree.specs.Kinds.{leaf_count}
 use Rattle.play.specs.Plays.{Standing}
-use Rattle.ports.specs.DiskCalls.{DiskCall}
+use Rattle.ports.specs.Disk.{Moment}
+use Rattle.ports.specs.DiskCalls.{AsFarAs, with_calls}
 use Rattle.ports.specs.MemoryDisk.{DiskState}
 use Rattle.records.specs.declared.Body.TheVariants.{Certificate}
 use Rattle.records.specs.declared.CertBody.{CertBody}
@@ -16,16 +19,16 @@ use Rattle.schedule_texts.specs.declared.line.RosterLine.{RosterLine}
 use Rattle.schedule_texts.specs.declared.line.RosterLine.TheVariants as asked
 use Rattle.signer.specs.declared.SignFault.{SignFault}
 use Rattle.signer.specs.declared.SignFault.TheVariants as fault
-use Rattle.signer.specs.Lives.{EndsNow, IsLiving, Spent, spent_by}
+use Rattle.signer.specs.Lives.{LivesOn, Spent, spent_by}
+use Rattle.signer.proofs.OnwardLemmas.{lives-same, lives-signed, lives-trans}
 use Rattle.signer.specs.Signing.{SignerState}
 use Rattle.signer.specs.Signs.{Signs}
 use Rattle.authority.specs.declared.halt.Halt.{Halt}
-use Rattle.authority.specs.declared.halt.Halt.TheVariants as halt
 use Rattle.authority.specs.OfDisk.{OfDisk}
 use Rattle.authority.specs.Settings.{asked_in}
 use Rattle.authority.specs.Telling.{IsTold}
 use Rattle.enrolment.specs.Lines.{signed_line, signed_lines}
-use Rattle.enrolment.specs.Signing.{AreSigned, FailsBehind, IsPart, SignsAll, SignsLine, SignsOne, Upto, halt_of_fault, line_next, lines_of}
+use Rattle.enrolment.specs.Signing.{AreSigned, FailsToPut, SignsAll, SignsLine, SignsOne, Upto, halt_of_fault, line_next, lines_of, put_behind, puts}
 
 -- ## One signature
 
@@ -33,22 +36,36 @@ use Rattle.enrolment.specs.Signing.{AreSigned, FailsBehind, IsPart, SignsAll, Si
 abbrev SignsCert : CertBody → SignerState → SignerState → OfDisk → OfDisk → Option DiskState → Option DiskState → Result CheckedRecord SignFault → Type 0
 SignsCert c s later old new disk disk_now r = Signs s later (Certificate c) r old.faults new.faults old.calls new.calls old.moments new.moments disk disk_now
 
+pub stored-is : (a : Stored) (n e : ℕ) (m : Mask) → a.next ≡ n → a.epoch ≡ e → a.mask ≡ m → a ≡ record { next = n; epoch = e; mask = m }
+stored-is a n e m x y z =
+    ap (λ (i : ℕ). record { next = i; epoch = a.epoch; mask = a.mask }) x ∙ ap (λ (i : ℕ). record { next = n; epoch = i; mask = a.mask }) y ∙ ap (λ (i : Mask). record { next = n; epoch = e; mask = i }) z
+
 -- nothing was signed, and nothing changed
-none-signed : (s later : SignerState) (old new : OfDisk) → s.closed ≡ false → later ≡ s → new.faults ≡ old.faults → new.moments ≡ old.moments → AreSigned [] s later old new
-none-signed s later old new going same faults moments = record {
+none-signed : (s later : SignerState) (old new : OfDisk) → s.closed ≡ false → later ≡ s → new.faults ≡ old.faults → new.calls ≡ old.calls → new.moments ≡ old.moments → AreSigned [] s later old new
+none-signed s later old new going same faults calls moments = record {
   group = ap (λ x. x.group) same;
   key = ap (λ x. x.key) same;
   going = ap (λ x. x.closed) same ∙ going;
   next = ap (λ x. x.state.next) same ∙ omega arith;
   epoch = ap (λ x. x.state.epoch) same;
   mask = ap (λ x. x.state.mask) same;
+  gate = ap (λ x. x.gate) same ∙ omega arith;
   within = λ few. subst (λ x. x.state.next ≤ leaf_count s.key.tree) (sym same) few;
   faults = faults;
+  calls = calls;
   settled = λ tag is. subst (λ ms. IsSettled tag later.state later.gate ms) (sym moments) (subst (λ x. IsSettled tag x.state x.gate old.moments) (sym same) is);
-  lives = λ tag before spent living.
-      subst (λ sp. IsLiving tag before sp later new.moments) (sym (append-nil spent))
-      (subst (λ ms. IsLiving tag before spent later ms) (sym moments) (subst (λ x. IsLiving tag before spent x old.moments) (sym same) living));
+  lives = subst (λ ms. LivesOn [] s later old.moments ms) (sym moments) (lives-same s later old.moments same);
 }
+
+-- where a signer stands, the next put goes
+put-same : (o a : Stored) (gate at behind signed : ℕ) → a.next + signed ≡ o.next + behind → a.epoch ≡ o.epoch → a.mask ≡ o.mask → at + 17 * signed ≡ gate + 17 * behind → put_behind a at signed ≡ put_behind o gate behind
+put-same o a gate at behind signed next epoch mask place =
+    ap (λ g. put_calls g (record a { next = a.next + signed + 1 })) place
+    ∙ ap (put_calls (gate + 17 * behind)) (stored-is (record a { next = a.next + signed + 1 }) (o.next + behind + 1) o.epoch o.mask (omega (arith, next)) epoch mask)
+
+-- one put behind the gate
+one-put : (o : Stored) (gate : ℕ) → put_calls gate (record o { next = o.next + 1 }) ≡ put_behind o gate 0
+one-put o gate = ap (λ (g : ℕ). put_calls g (record o { next = o.next + 1 })) (omega arith) ∙ ap (λ (n : ℕ). put_calls (gate + 17 * 0) (record o { next = n })) (omega arith)
 
 pub one-signed : {disk disk_now : Option DiskState} (c : CertBody) (s later : SignerState) (old new : OfDisk) (rec : CheckedRecord) → s.closed ≡ false → SignsCert c s later old new disk disk_now (Ok rec) → AreSigned (c ∷ []) s later old new
 one-signed c s later old new rec going h = record {
@@ -58,17 +75,27 @@ one-signed c s later old new rec going h = record {
   next = ap (λ x. x.state.next) h.after;
   epoch = ap (λ x. x.state.epoch) h.after;
   mask = ap (λ x. x.state.mask) h.after;
+  gate = ap (λ x. x.gate) h.after;
   within = λ few. let n : later.state.next ≡ s.state.next + 1 = ap (λ x. x.state.next) h.after in omega (arith, n, h.answers.1);
   faults = h.faults;
+  calls = h.calls ∙ ap (λ calls. with_calls calls old.calls) (one-put s.state s.gate);
   settled = h.settled;
-  lives = h.lives;
+  lives = lives-signed s later (Certificate c) (Ok rec) _ _ _ _ _ _ h;
 }
 
 pub not-signed : {disk disk_now : Option DiskState} (c : CertBody) (s later : SignerState) (between : Standing) (old new : OfDisk) (f : SignFault) → s.closed ≡ false → SignsCert c s later old new disk disk_now (Err f) → SignsOne c s later between between old new (Err (halt_of_fault f))
-not-signed c s later between old new fault.OutOfMemory going h = (refl, inl (none-signed s later old new going h.after h.faults h.same))
+not-signed c s later between old new fault.OutOfMemory going h = (refl, inl (none-signed s later old new going h.after h.faults h.calls h.same))
 not-signed c s later between old new fault.Closed going h = absurd (false≢true (sym going ∙ h.answers))
-not-signed c s later between old new (fault.Exhausted next) going h = (refl, none-signed s later old new going h.after h.faults h.same, h.answers.1, h.answers.2)
-not-signed c s later between old new fault.StoreFault going h = (refl, record { faults = h.faults; lives = λ tag before spent living. (h.lives tag before spent living).ends })
+not-signed c s later between old new (fault.Exhausted next) going h = (refl, none-signed s later old new going h.after h.faults h.calls h.same, h.answers.1, h.answers.2)
+not-signed c s later between old new fault.StoreFault going h = (
+  refl,
+  record {
+    left = h.answers.1;
+    faults = h.faults;
+    calls = subst (λ calls. AsFarAs calls old.calls new.calls) (one-put s.state s.gate) h.calls;
+    lives = lives-signed s later (Certificate c) (Err fault.StoreFault) _ _ _ _ _ _ h;
+  },
+)
 
 -- ## One after the other
 
@@ -79,7 +106,14 @@ spent-more st (x ∷ certs) c =
     (spent-more (record st { next = st.next + 1 }) certs c ∙ ap (λ (i : ℕ). spent_by (record st { next = st.next + 1 }) (map Certificate certs) ++ record { index = i; body = Certificate c } ∷ []) (omega arith))
 
 pub signed-none : (s : SignerState) (old : OfDisk) → s.closed ≡ false → AreSigned [] s s old old
-signed-none s old going = none-signed s s old old going refl refl refl
+signed-none s old going = none-signed s s old old going refl refl refl refl
+
+-- where the signatures end, the next put goes
+pub put-next : (certs : List CertBody) (s then : SignerState) (old mid : OfDisk) → AreSigned certs s then old mid → put_behind then.state then.gate 0 ≡ put_behind s.state s.gate (length certs)
+put-next certs s then old mid a = put-same s.state then.state s.gate then.gate (length certs) 0 (omega (arith, a.next)) a.epoch a.mask (omega (arith, a.gate))
+
+one-longer : (certs : List CertBody) (c : CertBody) → length (certs ++ c ∷ []) ≡ suc (length certs)
+one-longer certs c = length-append certs (c ∷ []) ∙ omega arith
 
 pub signed-more : (certs : List CertBody) (c : CertBody) (s then later : SignerState) (old mid new : OfDisk) → AreSigned certs s then old mid → AreSigned (c ∷ []) then later mid new → AreSigned (certs ++ c ∷ []) s later old new
 signed-more certs c s then later old mid new a b = record {
@@ -89,16 +123,22 @@ signed-more certs c s then later old mid new a b = record {
   next = let n = length-append certs (c ∷ []) in omega (arith, a.next, b.next, n);
   epoch = b.epoch ∙ a.epoch;
   mask = b.mask ∙ a.mask;
+  gate = let n = length-append certs (c ∷ []) in omega (arith, a.gate, b.gate, n);
   within = λ few. subst (λ k. later.state.next ≤ leaf_count k.tree) a.key (b.within (subst (λ k. then.state.next ≤ leaf_count k.tree) (sym a.key) (a.within few)));
   faults = b.faults ∙ a.faults;
+  calls =
+      b.calls
+      ∙ ap (λ calls. with_calls (calls ++ []) mid.calls) (put-next certs s then old mid a)
+      ∙ ap (λ calls. with_calls (put_behind s.state s.gate (length certs)) calls) a.calls
+      ∙ sym (with_calls-append (put_behind s.state s.gate (length certs)) (puts s.state s.gate (length certs)) old.calls)
+      ∙ ap (λ n. with_calls (puts s.state s.gate n) old.calls) (sym (one-longer certs c));
   settled = λ tag is. b.settled tag (a.settled tag is);
-  lives = λ tag before spent living.
+  lives =
+      let first = spent_by s.state (map Certificate certs) in
       let one : spent_by then.state (map Certificate (c ∷ [])) ≡ record { index = s.state.next + length certs; body = Certificate c } ∷ [] =
       ap (λ (i : ℕ). record { index = i; body = Certificate c } ∷ []) a.next in
-      subst (λ sp. IsLiving tag before sp later new.moments)
-      (append_assoc spent (spent_by s.state (map Certificate certs)) (spent_by then.state (map Certificate (c ∷ [])))
-      ∙ ap (λ sp. spent ++ sp) (ap (λ sp. spent_by s.state (map Certificate certs) ++ sp) one ∙ sym (spent-more s.state certs c)))
-      (b.lives tag before (spent ++ spent_by s.state (map Certificate certs)) (a.lives tag before spent living));
+      subst (λ sp. LivesOn sp s later old.moments new.moments) (ap (λ sp. first ++ sp) one ∙ sym (spent-more s.state certs c))
+      (lives-trans first (spent_by then.state (map Certificate (c ∷ []))) s then later old.moments mid.moments new.moments a.lives b.lives);
 }
 
 lines-more : (s : SignerState) (next : ℕ) (certs : List CertBody) (c : CertBody) → signed_lines s.group s.key next (certs ++ c ∷ []) ≡ signed_lines s.group s.key next certs ++ signed_line s.group s.key (next + length certs) c
@@ -185,6 +225,10 @@ stops-at lines done rest (asked.Kinds k) s then later was mid now old disk new h
 stops-at lines done rest (asked.Secret x) s then later was mid now old disk new h split a b = let e = b.0 in cc
 stops-at lines done rest asked.End s then later was mid now old disk new h split a b = let e = b.0 in cc
 
+-- nothing more is spent
+nothing-more : (first : List Spent) (a b c : SignerState) (x y z : List Moment) → LivesOn first a b x y → LivesOn [] b c y z → LivesOn first a c x z
+nothing-more first a b c x y z p q = subst (λ sp. LivesOn sp a c x z) (append-nil first) (lives-trans first [] a b c x y z p q)
+
 -- nothing more was signed
 pub signed-nothing : (certs : List CertBody) (s then later : SignerState) (old mid new : OfDisk) → AreSigned certs s then old mid → AreSigned [] then later mid new → AreSigned certs s later old new
 signed-nothing certs s then later old mid new a b = record {
@@ -194,13 +238,17 @@ signed-nothing certs s then later old mid new a b = record {
   next = omega (arith, a.next, b.next);
   epoch = b.epoch ∙ a.epoch;
   mask = b.mask ∙ a.mask;
+  gate = omega (arith, a.gate, b.gate);
   within = λ few. subst (λ k. later.state.next ≤ leaf_count k.tree) a.key (b.within (subst (λ k. then.state.next ≤ leaf_count k.tree) (sym a.key) (a.within few)));
   faults = b.faults ∙ a.faults;
+  calls = b.calls ∙ a.calls;
   settled = λ tag is. b.settled tag (a.settled tag is);
-  lives = λ tag before spent living.
-      subst (λ sp. IsLiving tag before sp later new.moments) (append-nil (spent ++ spent_by s.state (map Certificate certs)))
-      (b.lives tag before (spent ++ spent_by s.state (map Certificate certs)) (a.lives tag before spent living));
+  lives = nothing-more (spent_by s.state (map Certificate certs)) s then later old.moments mid.moments new.moments a.lives b.lives;
 }
+
+-- the disk failed behind these signatures
+pub fails-behind : (certs : List CertBody) (s then later : SignerState) (old mid new : OfDisk) → AreSigned certs s then old mid → FailsToPut then later mid new → LivesOn (spent_by s.state (map Certificate certs)) s later old.moments new.moments
+fails-behind certs s then later old mid new a b = nothing-more (spent_by s.state (map Certificate certs)) s then later old.moments mid.moments new.moments a.lives b.lives
 
 pub no-lines : (lines : List RosterLine) → length lines ≡ 0 → lines ≡ []
 no-lines [] h = refl

@@ -1,17 +1,19 @@
 -- What the signing of certificates does: to the key, to the disk, and to what was written, by the answer.
-use Rattle.std.specs.Prelude.{◌≡◌, ℕ, ◌+◌, ◌<◌, ◌≤◌, ◌⊎◌, false, List, [], ◌∷◌, ◌++◌, length, map, take, Result, Ok, Err}
-use Rattle.std.specs.Io.KnownBytes.{Appends}
+use Rattle.std.specs.Prelude.{◌≡◌, ℕ, zero, suc, ◌+◌, ◌*◌, ◌<◌, ◌≤◌, ◌⊎◌, false, List, [], ◌∷◌, ◌++◌, length, map, Result, Ok, Err}
+use Rattle.epoch_store.specs.declared.Stored.{Stored}
+use Rattle.epoch_store.specs.Asked.{put_calls}
 use Rattle.epoch_store.specs.Store.{IsSettled}
 use Rattle.lms_tree.specs.Kinds.{leaf_count}
 use Rattle.play.specs.Plays.{Standing}
 use Rattle.ports.specs.Count.{next_count}
+use Rattle.ports.specs.DiskCalls.{AsFarAs, DiskCall, with_calls}
 use Rattle.records.specs.declared.Body.TheVariants.{Certificate}
 use Rattle.records.specs.declared.CertBody.{CertBody}
 use Rattle.schedule_texts.specs.declared.line.RosterLine.{RosterLine}
 use Rattle.schedule_texts.specs.declared.line.RosterLine.TheVariants as asked
 use Rattle.signer.specs.declared.SignFault.{SignFault}
 use Rattle.signer.specs.declared.SignFault.TheVariants as fault
-use Rattle.signer.specs.Lives.{EndsNow, IsLiving, Spent, spent_by}
+use Rattle.signer.specs.Lives.{LivesOn, spent_by}
 use Rattle.signer.specs.Signing.{SignerState}
 use Rattle.authority.specs.declared.halt.Halt.{Halt}
 use Rattle.authority.specs.declared.halt.Halt.TheVariants as halt
@@ -25,8 +27,18 @@ halt_of_fault fault.Closed = halt.StoreFault
 halt_of_fault (fault.Exhausted next) = halt.Exhausted next
 halt_of_fault fault.StoreFault = halt.StoreFault
 
--- Just these certificates were signed, in turn, each with the next index: so the store keeps, and the lives of the key go on
--- with them.
+-- the calls that put the next index behind these: of a store that was found with this state and its closed gate at this place,
+-- in which as many entries were put since; the last call first
+abbrev pub put_behind : Stored → ℕ → ℕ → List DiskCall
+put_behind o gate signed = put_calls (gate + 17 * signed) (record o { next = o.next + signed + 1 })
+
+-- the calls that put one next index after the other, for so many signatures; the last call first
+abbrev pub puts : Stored → ℕ → ℕ → List DiskCall
+puts o gate zero = []
+puts o gate (suc signed) = put_behind o gate signed ++ puts o gate signed
+
+-- Just these certificates were signed, in turn, each with the next index, and each behind one put and no other call: so the
+-- store keeps, and the lives of the key go on with them, at each moment with a front of them.
 pub record AreSigned (certs : List CertBody) (s later : SignerState) (old new : OfDisk) : Type 0 where
   pub group : later.group ≡ s.group
   pub key : later.key ≡ s.key
@@ -34,17 +46,20 @@ pub record AreSigned (certs : List CertBody) (s later : SignerState) (old new : 
   pub next : later.state.next ≡ s.state.next + length certs
   pub epoch : later.state.epoch ≡ s.state.epoch
   pub mask : later.state.mask ≡ s.state.mask
+  pub gate : later.gate ≡ s.gate + 17 * length certs
   pub within : s.state.next ≤ leaf_count s.key.tree → later.state.next ≤ leaf_count s.key.tree
   pub faults : new.faults ≡ old.faults
+  pub calls : new.calls ≡ with_calls (puts s.state s.gate (length certs)) old.calls
   pub settled : (tag : List ℕ) → IsSettled tag s.state s.gate old.moments → IsSettled tag later.state later.gate new.moments
-  pub lives : (tag before : List ℕ) (spent : List Spent) → IsLiving tag before spent s old.moments
-      → IsLiving tag before (spent ++ spent_by s.state (map Certificate certs)) later new.moments
+  pub lives : LivesOn (spent_by s.state (map Certificate certs)) s later old.moments new.moments
 
--- The disk failed behind these signatures: no further one was handed out, and each crash ends the lives of the key so.
-pub record FailsBehind (certs : List CertBody) (s : SignerState) (old new : OfDisk) : Type 0 where
+-- A leaf was left, and the disk failed in the put of the next index: no call came behind that, no signature was handed out, and
+-- the lives of the key go on without it.
+pub record FailsToPut (s later : SignerState) (old new : OfDisk) : Type 0 where
+  pub left : s.state.next < leaf_count s.key.tree
   pub faults : new.faults ≡ next_count old.faults
-  pub lives : (tag before : List ℕ) (spent : List Spent) → IsLiving tag before spent s old.moments
-      → EndsNow tag before (spent ++ spent_by s.state (map Certificate certs)) new.moments
+  pub calls : AsFarAs (put_behind s.state s.gate 0) old.calls new.calls
+  pub lives : LivesOn [] s later old.moments new.moments
 
 -- the line of the certificate that is signed next
 abbrev pub line_next : SignerState → CertBody → List ℕ
@@ -56,7 +71,7 @@ SignsOne c s later between now old new (Ok _) = AreSigned (c ∷ []) s later old
 SignsOne c s later between now old new (Err (halt.Refused line w)) = ⊥
 SignsOne c s later between now old new (Err halt.ReadFault) = ⊥
 SignsOne c s later between now old new (Err halt.WriteFault) = AreSigned (c ∷ []) s later old new × IsCut between now (line_next s c)
-SignsOne c s later between now old new (Err halt.StoreFault) = (now ≡ between) × FailsBehind [] s old new
+SignsOne c s later between now old new (Err halt.StoreFault) = (now ≡ between) × FailsToPut s later old new
 SignsOne c s later between now old new (Err (halt.StoreBroken place byte)) = ⊥
 SignsOne c s later between now old new (Err (halt.StoreTaken len)) = ⊥
 SignsOne c s later between now old new (Err (halt.Exhausted next)) =

@@ -33,7 +33,7 @@ fn open_store<D: Disk>(
     setting: &Setting,
     disk: &mut D,
 ) -> Result<Opened, Halt>
-    ensures opens { OpensStore setting.now
+    ensures opens { OpensStore name.now setting.now
         (of_disk (D.faults disk.old) (D.calls disk.old) (D.moments disk.old))
         (of_disk (D.faults disk.new) (D.calls disk.new) (D.moments disk.new)) result }
 {
@@ -75,7 +75,7 @@ fn open_and_sign<O: Sink, D: Disk>(
     requires ports { HavePorts lines.items }
     requires sink { O.is_open out.old ≡ true }
     ensures sink { O.is_open out.new ≡ is_writable result }
-    ensures enrols { (left : Option (List ℕ)) (reads : ℕ) → EnrolsBehind setting.now (asked_in lines.items)
+    ensures enrols { (left : Option (List ℕ)) (reads : ℕ) → EnrolsBehind name.now setting.now (asked_in lines.items)
         (standing left (O.taken out.old) reads (O.faults out.old))
         (standing left (O.taken out.new) reads (O.faults out.new))
         (of_disk (D.faults disk.old) (D.calls disk.old) (D.moments disk.old))
@@ -112,7 +112,7 @@ pub fn enroll<S: Source, O: Sink, D: Disk>(
     requires source { S.is_open input.old ≡ true }
     requires sink { O.is_open out.old ≡ true }
     ensures sink { O.is_open out.new ≡ is_writable result }
-    ensures enrols { Enrols
+    ensures enrols { Enrols name.now
         (standing (S.left input.old) (O.taken out.old) (S.faults input.old) (O.faults out.old))
         (standing (S.left input.new) (O.taken out.new) (S.faults input.new) (O.faults out.new))
         (of_disk (D.faults disk.old) (D.calls disk.old) (D.moments disk.old))

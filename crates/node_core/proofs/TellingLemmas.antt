@@ -3,13 +3,11 @@ use Rattle.std.proofs.Common.{◌≡◌, ℕ, ◌+◌, ◌<◌, inl, inr, length
 use Rattle.std.proofs.lemmas.Bool.{cases_Bool}
 use Rattle.std.proofs.lemmas.List.{append_assoc, take_more}
 use Rattle.ff_ids.specs.Steps.{Report}
+pub use Rattle.signer.proofs.OnwardLemmas.{front-after, front-trans}
 use Rattle.journal.specs.declared.event.Event as journal
 use Rattle.journal.specs.declared.event.What as whats
 use Rattle.journal.specs.declared.event.What.TheVariants as kinds
 use Rattle.node_core.specs.Told.{Tellings, Adds, IsFront, with_event, with_report, with_each}
-
-pub front-trans : {X : Type 0} (xs ys zs : List X) → IsFront xs ys → IsFront ys zs → IsFront xs zs
-front-trans xs ys zs a b = record { more = a.more ++ b.more; is = b.is ∙ ap (λ v. v ++ b.more) a.is ∙ append_assoc xs a.more b.more }
 
 pub nil-right : {A : Type 0} (xs : List A) → xs ++ [] ≡ xs
 nil-right [] = refl
@@ -17,9 +15,6 @@ nil-right (x ∷ xs) = ap (λ ys. x ∷ ys) (nil-right xs)
 
 pub front-refl : {X : Type 0} (xs : List X) → IsFront xs xs
 front-refl xs = record { more = []; is = sym (nil-right xs) }
-
-pub front-after : {X : Type 0} (before xs ys : List X) → IsFront xs ys → IsFront (before ++ xs) (before ++ ys)
-front-after before xs ys h = record { more = h.more; is = ap (λ z. before ++ z) h.is ∙ sym (append_assoc before xs h.more) }
 
 tail-same : {X : Type 0} (x : X) (xs ys : List X) → x ∷ xs ≡ x ∷ ys → xs ≡ ys
 tail-same x xs ys e = cc

@@ -1,15 +1,15 @@
 -- What a node spends of its key: what its events tell of that, and what becomes of the lives of the key.
 use Rattle.std.specs.Prelude.{◌≡◌, ℕ, Bool, false, List, [], ◌∷◌, ◌++◌, Result, Ok, Err}
-use Rattle.ports.specs.Disk.{Moment, Since}
+use Rattle.ports.specs.Disk.{Moment}
 use Rattle.records.specs.declared.Body.{Body}
 use Rattle.signer.specs.Signing.{SignerState}
-use Rattle.signer.specs.Lives.{Spent, IsLiving, EndsLives}
+pub use Rattle.signer.specs.Lives.{LivesOn, EndsWithin}
+use Rattle.signer.specs.Lives.{IsFront, Spent}
 use Rattle.journal.specs.declared.event.Event as journal
 use Rattle.journal.specs.declared.event.What as whats
 use Rattle.journal.specs.declared.event.What.TheVariants as told
 use Rattle.node_core.specs.declared.NodeFault.{NodeFault}
 use Rattle.node_core.specs.declared.NodeFault.TheVariants as faults
-use Rattle.node_core.specs.Told.{IsFront}
 use Rattle.node_core.specs.Playing.{Kept}
 
 -- ---- what events tell of
@@ -23,19 +23,6 @@ spent_by other = []
 abbrev pub spent_told : List journal.Event → List Spent
 spent_told [] = []
 spent_told (e ∷ events) = spent_by e.what ++ spent_told events
-
--- ---- what becomes of a key
-
--- Each file that a crash at this moment may leave ends lives that have spent what came before, and a front of this.
-pub record EndsWithin (tag before : List ℕ) (spent more : List Spent) (moment : Moment) : Type 0 where
-  pub done : List Spent
-  pub front : IsFront done more
-  pub ends : EndsLives tag before (spent ++ done) moment
-
--- The lives of a key go on, and this is spent in the end: at each new moment a front of it is.
-pub record LivesOn (more : List Spent) (s later : SignerState) (older newer : List Moment) : Type 0 where
-  pub lives : (tag before : List ℕ) (spent : List Spent) → IsLiving tag before spent s older → IsLiving tag before (spent ++ more) later newer
-  pub any_moment : (tag before : List ℕ) (spent : List Spent) → IsLiving tag before spent s older → Since (EndsWithin tag before spent more) older newer
 
 -- ---- a step of a node
 

@@ -1,6 +1,7 @@
 -- What a call has told and sent so far.
 use Rattle.std.specs.Prelude.{◌≡◌, ℕ, ◌-◌, Bool, false, true, List, [], ◌∷◌, ◌++◌, length, map}
 use Rattle.ff_ids.specs.Steps.{Report}
+pub use Rattle.signer.specs.Lives.{IsFront}
 use Rattle.journal.specs.declared.event.Event as journal
 use Rattle.journal.specs.declared.event.What as whats
 use Rattle.journal.specs.declared.event.What.TheVariants as told
@@ -25,11 +26,6 @@ with_sent moment bytes to w =
       events = w.events ++ record { moment = moment; what = told.Sent (length w.sent - w.before) to bytes } ∷ [];
       sent = w.sent ++ (to, bytes) ∷ [];
     }
-
--- The first is a front of the second.
-pub record IsFront {X : Type 0} (front whole : List X) : Type 0 where
-  pub more : List X
-  pub is : whole ≡ front ++ more
 
 -- This is added, or memory was refused and a front of it is. Where memory was refused before, nothing is.
 pub record Adds (f : Tellings → Tellings) (old new : Tellings) : Type 0 where

@@ -1,3 +1,4 @@
 pub mod StepLemmas
 pub mod LivesLemmas
 pub mod LivingLemmas
+pub mod OnwardLemmas

@@ -126,6 +126,22 @@ abbrev pub spent_in : {T : Type 0} → SignerState → Body → Result T SignFau
 spent_in s body (Ok value) = record { index = s.state.next; body = body } ∷ []
 spent_in s body (Err fault) = []
 
+-- the first is a front of the second
+pub record IsFront {X : Type 0} (front whole : List X) : Type 0 where
+  pub more : List X
+  pub is : whole ≡ front ++ more
+
+-- each file that a crash at this moment may leave ends lives that have spent what came before, and a front of this
+pub record EndsWithin (tag before : List ℕ) (spent more : List Spent) (moment : Moment) : Type 0 where
+  pub done : List Spent
+  pub front : IsFront done more
+  pub ends : EndsLives tag before (spent ++ done) moment
+
+-- the lives of a key go on, and this is spent in the end: at each new moment a front of it is
+pub record LivesOn (more : List Spent) (s later : SignerState) (older newer : List Moment) : Type 0 where
+  pub lives : (tag before : List ℕ) (spent : List Spent) → IsLiving tag before spent s older → IsLiving tag before (spent ++ more) later newer
+  pub any_moment : (tag before : List ℕ) (spent : List Spent) → IsLiving tag before spent s older → Since (EndsWithin tag before spent more) older newer
+
 -- what a key has spent is kept over whatever comes between two lives: where a crash now ends lives that spent this,
 -- it does so at each moment of an opening, whatever the opening answers
 abbrev pub KeptByOpening : Type 0

@@ -10,9 +10,9 @@ returns-in-Err-clause-sink g c =
 
 pub returns-in-Err-clause-enrols : goal.returns-in-Err-clause-enrols
 returns-in-Err-clause-enrols g c =
-    rw c.from.ensures (unread _ _ _ c.in-Err.stop c.in-Err.ensures.unfinished)
+    rw c.from.ensures (unread c.args.name.now _ _ _ c.in-Err.stop c.in-Err.ensures.unfinished)
 
 pub returns-clause-enrols : goal.returns-clause-enrols
 returns-clause-enrols g c =
-    went c.in-Ok.asked.setting c.in-Ok.asked.lines.items _ _ _ _ _ c.open_and_sign.result c.in-Ok.ensures.asks
+    went c.args.name.now c.in-Ok.asked.setting c.in-Ok.asked.lines.items _ _ _ _ _ c.open_and_sign.result c.in-Ok.ensures.asks
     (c.open_and_sign.ensures.enrols (g.S.Source.left c.read_roster.new.input) (g.S.Source.faults c.read_roster.new.input))

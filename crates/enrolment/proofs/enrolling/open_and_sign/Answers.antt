@@ -13,18 +13,18 @@ returns-then-is_asked-clause-enrols g c = λ left reads.
     let o = c.in-Ok.opened.store.state in
     let next : o.next ≡ c.state-next.result.next = sym (ap (λ s. s.next) c.state-next.ensures.value) in
     let gone : leaf_count c.args.setting.now.kinds.tree < o.next = let a = c.if-next-leaf_count.true in let b = c.leaf_count.ensures in omega (arith, a, b, next) in
-    subst (λ (n : ℕ). EnrolsBehind c.args.setting.now (asked_in c.args.lines.items) (standing left (g.O.Sink.taken c.args.out.now) reads (g.O.Sink.faults c.args.out.now)) (standing left (g.O.Sink.taken c.args.out.now) reads (g.O.Sink.faults c.args.out.now))
+    subst (λ (n : ℕ). EnrolsBehind c.args.name.now c.args.setting.now (asked_in c.args.lines.items) (standing left (g.O.Sink.taken c.args.out.now) reads (g.O.Sink.faults c.args.out.now)) (standing left (g.O.Sink.taken c.args.out.now) reads (g.O.Sink.faults c.args.out.now))
     (of_disk (g.D.Disk.faults c.args.disk.now) (g.D.Disk.calls c.args.disk.now) (g.D.Disk.moments c.args.disk.now))
     (of_disk (g.D.Disk.faults c.open_store.new.disk) (g.D.Disk.calls c.open_store.new.disk) (g.D.Disk.moments c.open_store.new.disk))
     (Err (halt.Exhausted n))) next
-    (gone-asked c.args.setting.now o c.in-Ok.opened.store.gate (asked_in c.args.lines.items) (standing left (g.O.Sink.taken c.args.out.now) reads (g.O.Sink.faults c.args.out.now))
+    (gone-asked c.args.name.now c.args.setting.now o c.in-Ok.opened.store.gate (asked_in c.args.lines.items) (standing left (g.O.Sink.taken c.args.out.now) reads (g.O.Sink.faults c.args.out.now))
     (of_disk (g.D.Disk.faults c.args.disk.now) (g.D.Disk.calls c.args.disk.now) (g.D.Disk.moments c.args.disk.now))
     (of_disk (g.D.Disk.faults c.open_store.new.disk) (g.D.Disk.calls c.open_store.new.disk) (g.D.Disk.moments c.open_store.new.disk))
     gone c.in-Ok.ensures.opens.opened (sym c.is_asked.ensures ∙ c.if-is_asked.true))
 
 pub returns-then-next-leaf_count-clause-enrols : goal.returns-then-next-leaf_count-clause-enrols
 returns-then-next-leaf_count-clause-enrols g c = λ left reads.
-    gone-unasked c.args.setting.now c.in-Ok.opened.store.state c.in-Ok.opened.store.gate (asked_in c.args.lines.items) (standing left (g.O.Sink.taken c.args.out.now) reads (g.O.Sink.faults c.args.out.now))
+    gone-unasked c.args.name.now c.args.setting.now c.in-Ok.opened.store.state c.in-Ok.opened.store.gate (asked_in c.args.lines.items) (standing left (g.O.Sink.taken c.args.out.now) reads (g.O.Sink.faults c.args.out.now))
     (of_disk (g.D.Disk.faults c.args.disk.now) (g.D.Disk.calls c.args.disk.now) (g.D.Disk.moments c.args.disk.now))
     (of_disk (g.D.Disk.faults c.open_store.new.disk) (g.D.Disk.calls c.open_store.new.disk) (g.D.Disk.moments c.open_store.new.disk))
     c.in-Ok.ensures.opens.opened (sym c.is_asked.ensures ∙ c.if-is_asked.false)
@@ -38,7 +38,7 @@ returns-clause-enrols g c = λ left reads.
     c.open-signer.ensures.value ∙ ap (λ k. record { group = c.args.setting.now.group; key = k; leaf = o.next; state = o; gate = gate; closed = false }) h.tree in
     let few : o.next ≤ leaf_count c.args.setting.now.kinds.tree =
     let a = c.if-next-leaf_count.false in let b = c.leaf_count.ensures in let d = ap (λ s. s.next) c.state-next.ensures.value in omega (arith, a, b, d) in
-    signed-behind c.args.setting.now o gate c.open-signer.result (asked_in c.args.lines.items) _ _
+    signed-behind c.args.name.now c.args.setting.now o gate c.open-signer.result (asked_in c.args.lines.items) _ _
     (of_disk (g.D.Disk.faults c.args.disk.now) (g.D.Disk.calls c.args.disk.now) (g.D.Disk.moments c.args.disk.now))
     (of_disk (g.D.Disk.faults c.open_store.new.disk) (g.D.Disk.calls c.open_store.new.disk) (g.D.Disk.moments c.open_store.new.disk))
     _ c.sign_all.result is few h.opened (c.sign_all.ensures.signs left reads)

@@ -1,9 +1,9 @@
-use Rattle.std.proofs.Common.{◌≡◌, ◌∙◌, ap, sym}
+use Rattle.std.proofs.Common.{◌≡◌, ◌∙◌, ap}
 use Rattle.lms_tree.specs.Lms.{public_of}
 use Rattle.secrets.specs.Secrets.{store_tag}
 use Rattle.authority.specs.OfDisk.{of_disk}
 use Rattle.authority.specs.Settings.{tag_of}
-use Rattle.enrolment.proofs.OpeningLemmas.{not-opened, opened}
+use Rattle.enrolment.proofs.OpeningLemmas.{not-opened, opened, unopened}
 use Rattle.enrolment.proofs.enrolling.open_store.Goals as goal
 
 pub returns-in-Ok-open : goal.returns-in-Ok-open
@@ -16,10 +16,10 @@ returns-in-Ok-open g c =
         leaves = c.split.ensures.leaves ∙ ap (λ k. record { key = k; next = 0 }) c.in-Ok.ensures;
         going = c.in-Ok-open.ensures.runs;
         opened =
-            opened c.args.setting.now c.store_tag.result c.in-Ok-open.store
+            opened c.args.name.now c.args.setting.now c.store_tag.result c.in-Ok-open.store
             (of_disk (g.D.Disk.faults c.args.disk.now) (g.D.Disk.calls c.args.disk.now) (g.D.Disk.moments c.args.disk.now))
             (of_disk (g.D.Disk.faults c.open.new.disk) (g.D.Disk.calls c.open.new.disk) (g.D.Disk.moments c.open.new.disk))
-            tag c.in-Ok-open.ensures.faults c.in-Ok-open.ensures.settles c.in-Ok-open.ensures.store c.in-Ok-open.ensures.any_moment;
+            tag c.in-Ok-open.ensures.faults c.in-Ok-open.ensures.calls c.in-Ok-open.ensures.settles c.in-Ok-open.ensures.store c.in-Ok-open.ensures.any_moment;
       };
     }
 
@@ -30,8 +30,11 @@ returns-in-Err-open g c =
     record {
       opens =
           rw c.from.ensures
-          (not-opened c.args.setting.now c.store_tag.result
+          (not-opened c.args.name.now c.args.setting.now c.store_tag.result
           (of_disk (g.D.Disk.faults c.args.disk.now) (g.D.Disk.calls c.args.disk.now) (g.D.Disk.moments c.args.disk.now))
           (of_disk (g.D.Disk.faults c.open.new.disk) (g.D.Disk.calls c.open.new.disk) (g.D.Disk.moments c.open.new.disk))
-          c.in-Err-open.error tag c.in-Err-open.ensures.faults c.in-Err-open.ensures.reads c.in-Err-open.ensures.not_taken c.in-Err-open.ensures.settles c.in-Err-open.ensures.any_moment);
+          c.in-Err-open.error tag c.in-Err-open.ensures.faults c.in-Err-open.ensures.calls c.in-Err-open.ensures.reads c.in-Err-open.ensures.not_taken c.in-Err-open.ensures.settles c.in-Err-open.ensures.any_moment);
     }
+
+pub returns-in-Err : goal.returns-in-Err
+returns-in-Err g c = record { opens = unopened c.args.name.now (of_disk (g.D.Disk.faults c.args.disk.now) (g.D.Disk.calls c.args.disk.now) (g.D.Disk.moments c.args.disk.now)) }

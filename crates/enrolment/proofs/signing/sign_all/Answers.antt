@@ -1,4 +1,4 @@
-use Rattle.std.proofs.Common.{◌≡◌, ◌∙◌, ◌∷◌, ◌++◌, [], ℕ, List, append-nil, append_assoc, ap, length, refl, subst, sym}
+use Rattle.std.proofs.Common.{◌≡◌, ◌∙◌, ◌∷◌, ◌++◌, [], List, append-nil, append_assoc, ap, length, subst, sym}
 use Rattle.schedule_texts.specs.declared.line.RosterLine.{RosterLine}
 use Rattle.authority.specs.Texts.{HavePorts}
 use Rattle.enrolment.proofs.SigningLemmas.{all-so-far, lines-more-so-far, no-lines, signed-none, stops-at, told-none}

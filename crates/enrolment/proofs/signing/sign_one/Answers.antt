@@ -1,6 +1,5 @@
-use Rattle.std.proofs.Common.{◌≡◌, ◌∙◌, ℕ, List, ap, refl, subst, inr}
+use Rattle.std.proofs.Common.{◌≡◌, ◌∙◌, ap, refl, subst, inr}
 use Rattle.std.specs.Io.KnownBytes.{Appends}
-use Rattle.records.specs.declared.Body.TheVariants.{Certificate}
 use Rattle.authority.specs.OfDisk.{of_disk}
 use Rattle.enrolment.specs.Lines.{cert_line, signed_line}
 use Rattle.enrolment.specs.Signing.{line_next}
@@ -50,3 +49,12 @@ returns-clause-signs g c = λ left reads.
         writes = c.in-Err-write_all.ensures.faults;
       },
     )
+
+pub returns-in-Err-cert_line-clause-signs : goal.returns-in-Err-cert_line-clause-signs
+returns-in-Err-cert_line-clause-signs g c = λ left reads. (
+  refl,
+  inr (one-signed c.args.cert c.args.signer.now c.sign_certificate.new.self
+      (of_disk (g.D.Disk.faults c.args.disk.now) (g.D.Disk.calls c.args.disk.now) (g.D.Disk.moments c.args.disk.now))
+      (of_disk (g.D.Disk.faults c.sign_certificate.new.disk) (g.D.Disk.calls c.sign_certificate.new.disk) (g.D.Disk.moments c.sign_certificate.new.disk))
+      c.in-Ok.signed c.requires.going c.in-Ok.ensures),
+)
