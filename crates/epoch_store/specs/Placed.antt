@@ -10,7 +10,7 @@ pub record PlacedStore : Type 0 where
   pub disk : DiskState
   pub gate : ℕ
 
-abbrev pub put_on : Stored → PlacedStore → Came
+unfoldable pub put_on : Stored → PlacedStore → Came
 put_on e store = runs (put_calls store.gate e) store.disk
 
 abbrev pub put_passes : Stored → PlacedStore → Bool

@@ -15,3 +15,5 @@ pub mod DeliverLemmas
 pub mod GossipLemmas
 pub mod AccusingLemmas
 pub mod TickLemmas
+pub mod DiskLemmas
+pub mod TickDiskLemmas

@@ -12,3 +12,4 @@ pub mod Rolls
 pub mod Begins
 pub mod Answers
 pub mod Ticks
+pub mod OnDisks

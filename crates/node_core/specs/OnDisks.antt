@@ -6,10 +6,11 @@ use Rattle.ports.specs.DiskSteps.{came_to, runs_on}
 use Rattle.epoch_store.specs.declared.Stored.{Stored}
 use Rattle.epoch_store.specs.Asked.{put_calls}
 use Rattle.epoch_store.specs.Placed.{PlacedStore, put_passes, after_put}
-use Rattle.signer.specs.Signing.{SignerState}
+use Rattle.signer.specs.Signing.{SignerState, stored_after, next_note}
 use Rattle.journal.specs.declared.event.Event as journal
 use Rattle.node_rules.specs.Nodes.{Setting}
 use Rattle.node_rules.specs.Calls.{Call}
+use Rattle.node_rules.specs.Replies.{first_mask}
 use Rattle.node_rules.specs.OnDisks.{Storage, OnDisk}
 use Rattle.node_core.specs.declared.NodeFault.{NodeFault}
 use Rattle.node_core.specs.declared.NodeFault.TheVariants as faults
@@ -72,3 +73,17 @@ FollowsDisk s v old new disk_now o (Err faults.StoreFault) = GivesOn s v old new
 FollowsDisk s v old new disk_now o (Err faults.OutOfMemory) = Unit {0}
 FollowsDisk s v old new disk_now o (Err (faults.Exhausted next)) = ⊥
 FollowsDisk s v old new disk_now o (Err faults.Ended) = ⊥
+
+-- ---- the start of a life
+
+-- What the store is to keep behind the first note.
+abbrev pub kept_first : ℕ → ℕ → Stored → Stored
+kept_first t me stored = stored_after stored (next_note stored me (record { 0 = first_mask t stored.mask.0 }))
+
+-- It was put, or the put failed; where the key is used up nothing is asked of the disk.
+abbrev pub PutsFirst : {T : Type 0} → Stored → ℕ → Option DiskState → Option DiskState → Result T NodeFault → Type 0
+PutsFirst kept gate disk disk_now (Ok value) = came_to disk_now false ≡ runs_on (put_calls gate kept) disk
+PutsFirst kept gate disk disk_now (Err faults.StoreFault) = came_to disk_now true ≡ runs_on (put_calls gate kept) disk
+PutsFirst kept gate disk disk_now (Err faults.OutOfMemory) = Unit {0}
+PutsFirst kept gate disk disk_now (Err (faults.Exhausted next)) = disk_now ≡ disk
+PutsFirst kept gate disk disk_now (Err faults.Ended) = ⊥

@@ -1,5 +1,5 @@
 -- How a tick of a node goes, by its answer.
-use Rattle.std.specs.Prelude.{◌≡◌, ℕ, true, false, Some, List, ◌++◌, Result, Ok, Err, take}
+use Rattle.std.specs.Prelude.{◌≡◌, ℕ, true, false, Option, Some, List, ◌++◌, Result, Ok, Err, fold, take}
 use Rattle.std.specs.List.{slice_get}
 use Rattle.journal.specs.declared.event.Event as journal
 use Rattle.node_rules.specs.Nodes.{Setting, Node, state_of}
@@ -8,6 +8,9 @@ use Rattle.node_rules.specs.Ticking.{accuses, accuses_all, due_tick, probes_afte
 use Rattle.node_core.specs.declared.NodeFault.{NodeFault}
 use Rattle.node_core.specs.declared.NodeFault.TheVariants as faults
 use Rattle.ports.specs.Disk.{Moment}
+use Rattle.ports.specs.MemoryDisk.{DiskState}
+use Rattle.node_rules.specs.OnDisks.{accuses_on}
+use Rattle.node_core.specs.OnDisks.{ComesTo, on_disk, storage}
 use Rattle.node_core.specs.Playing.{Kept, Plays, Grows}
 use Rattle.node_core.specs.Spending.{Spends}
 use Rattle.node_core.specs.Answers.{Lent, Gives, GivesFront}
@@ -22,10 +25,12 @@ RunsAccusing P Q s silent c (Ok done) = P (accuses_all s silent c)
 RunsAccusing P Q s silent c (Err fault) = StopsAt Q s silent (accuses_all s silent c) c
 
 -- These were accused, and the rest is to come.
-pub record Accused (old now : Kept) (older newer : List Moment) (silent rest : List ℕ) : Type 0 where
+pub record Accused (old now : Kept) (older newer : List Moment) (disk disk_now : Option DiskState) (silent rest : List ℕ) : Type 0 where
   pub done : List ℕ
   pub split : silent ≡ done ++ rest
   pub plays : (s : Setting) (es : List journal.Event) (os : List (ℕ × List ℕ)) (c : Call) → Plays s es os old c → Plays s es os now (accuses_all s done c)
+  pub comes : (s : Setting) (es : List journal.Event) (os : List (ℕ × List ℕ)) (c : Call) (d : DiskState) → Plays s es os old c → c.ended ≡ false → disk ≡ Some d → now.telling.failed ≡ false
+      → ComesTo s es os now disk_now false (fold (accuses_on storage s) (on_disk c d old.signer.gate) done)
   pub grows : Grows old now
   pub spends : Spends old now older newer
   pub closed : now.signer.closed ≡ old.signer.closed

@@ -1,6 +1,6 @@
 //! Accusations of the silent.
 
-ghost use Rattle.std.specs.Prelude.{◌≡◌, ℕ, ◌≤◌, ◌<◌, ◌&&◌, ◌∷◌, List, Option, Some, true, filter, take, IfErr, IfSome, is_err, OnOk};
+ghost use Rattle.std.specs.Prelude.{◌≡◌, ℕ, ◌≤◌, ◌<◌, ◌&&◌, ◌∷◌, List, Option, Some, true, filter, take, IfErr, IfSome, is_err, OnOk, false, fold};
 ghost use Rattle.std.specs.List.{list_any, range_with_len, slice_get};
 ghost use Rattle.std.specs.Option.{option_map};
 ghost use Rattle.ff_ids.specs.Masks.{ring_count, enables, enabled};
@@ -9,6 +9,7 @@ ghost use Rattle.membership.specs.Life.{has_joined};
 ghost use Rattle.membership.specs.Holds.{Holds};
 ghost use Rattle.membership.specs.Reports.{kept_against};
 ghost use Rattle.ports.specs.Count.{counted};
+ghost use Rattle.ports.specs.MemoryDisk.{DiskState};
 ghost use Rattle.journal.specs.declared.event.Event as journal;
 ghost use Rattle.node_rules.specs.Nodes.{Setting};
 ghost use Rattle.node_rules.specs.Calls.{Call};
@@ -16,6 +17,8 @@ ghost use Rattle.node_rules.specs.Ticking.{accuses, is_by as is_accused_by};
 ghost use Rattle.node_core.specs.declared.NodeFault.TheVariants as faults;
 ghost use Rattle.node_core.specs.Playing.{Plays, Stops, Grows};
 ghost use Rattle.node_core.specs.Spending.{Spends};
+ghost use Rattle.node_rules.specs.OnDisks.{accuses_on};
+ghost use Rattle.node_core.specs.OnDisks.{ComesTo, FailsIn, Stores, on_disk, storage};
 ghost use Rattle.node_core.specs.Signatures.{Runs};
 ghost use Rattle.node_core.specs.Ticks.{RunsAccusing};
 
@@ -103,6 +106,9 @@ impl Node {
         ensures closed { OnOk result (self.new.signer.closed ≡ self.old.signer.closed) }
         ensures faults { D.faults disk.new ≡ counted (is_err result) (D.faults disk.old) }
         ensures cause { IfErr result (λ e. e ≡ faults.StoreFault) }
+        ensures stores { OnOk result (Stores self.old.signer self.new.signer (D.state disk.old) (D.state disk.new)) }
+        ensures fails { (s : Setting) (es : List journal.Event) (os : List (ℕ × List ℕ)) (c : Call) → Plays s es os self.old c
+            → FailsIn (accuses true s c member) self.old self.new (D.state disk.old) (D.state disk.new) result }
     {
         if has_accused(&self.membership, self.me, member) {
             return Ok(());
@@ -141,6 +147,8 @@ impl Node {
         ensures closed { OnOk result (self.new.signer.closed ≡ self.old.signer.closed) }
         ensures faults { D.faults disk.new ≡ counted (is_err result) (D.faults disk.old) }
         ensures cause { IfErr result (λ e. e ≡ faults.StoreFault) }
+        ensures follows { (s : Setting) (es : List journal.Event) (os : List (ℕ × List ℕ)) (c : Call) (d : DiskState) → Plays s es os self.old c → c.ended ≡ false
+            → D.state disk.old ≡ Some d → self.new.telling.failed ≡ false → ComesTo s es os self.new (D.state disk.new) (is_err result) (fold (accuses_on storage s) (on_disk c d self.old.signer.gate) silent.items) }
     {
         for member in silent {
             self.accuse(alloc, disk, member)?;

@@ -1,7 +1,8 @@
 //! One delivery: the bytes of a datagram, whatever they are.
 
-ghost use Rattle.std.specs.Prelude.{◌≡◌, ℕ, ◌≤◌, ◌<◌, List, true, false, Ok, Err, ◌↔◌, OnOk, IfErr, is_err};
+ghost use Rattle.std.specs.Prelude.{◌≡◌, ℕ, ◌≤◌, ◌<◌, List, true, false, Some, Ok, Err, ◌↔◌, OnOk, IfErr, is_err};
 ghost use Rattle.ports.specs.Count.{counted as counts_faults, Rose};
+ghost use Rattle.ports.specs.MemoryDisk.{DiskState};
 ghost use Rattle.journal.specs.declared.event.Event as journal;
 ghost use Rattle.datagram.specs.Grammar.{read_of};
 ghost use Rattle.datagram.specs.Spelling.{IsWritable};
@@ -13,6 +14,8 @@ ghost use Rattle.node_core.specs.declared.NodeFault.TheVariants as faults;
 ghost use Rattle.node_core.specs.Playing.{Plays, Stops, Grows, IsNode};
 ghost use Rattle.node_core.specs.Spending.{SignsNothing, Spends, SpendsIn};
 ghost use Rattle.node_core.specs.Hears.{RunsHearing};
+ghost use Rattle.node_rules.specs.OnDisks.{delivered_on, hears_on};
+ghost use Rattle.node_core.specs.OnDisks.{ComesTo, FollowsDisk, on_disk, storage};
 ghost use Rattle.node_core.specs.Answers.{Delivers, Stands, IsEnded};
 ghost use Rattle.node_rules.specs.Nodes.{Node as RulesNode};
 
@@ -40,6 +43,8 @@ impl Node {
         ensures closed { OnOk result (self.new.signer.closed ≡ self.old.signer.closed) }
         ensures faults { D.faults disk.new ≡ counts_faults (is_err result) (D.faults disk.old) }
         ensures cause { IfErr result (λ e. e ≡ faults.StoreFault) }
+        ensures follows { (s : Setting) (es : List journal.Event) (os : List (ℕ × List ℕ)) (c : Call) (d : DiskState) → Plays s es os self.old c → c.ended ≡ false
+            → D.state disk.old ≡ Some d → self.new.telling.failed ≡ false → ComesTo s es os self.new (D.state disk.new) (is_err result) (hears_on storage s (Ok datagram) (on_disk c d self.old.signer.gate)) }
     {
         match datagram {
             Datagram::Ping { from, nonce } => self.hear_ping(alloc, from, nonce),
@@ -84,6 +89,8 @@ impl Node {
         ensures closed { OnOk result (self.new.signer.closed ≡ self.old.signer.closed) }
         ensures faults { D.faults disk.new ≡ counts_faults (is_err result) (D.faults disk.old) }
         ensures cause { IfErr result (λ e. e ≡ faults.StoreFault) }
+        ensures follows { (s : Setting) (es : List journal.Event) (os : List (ℕ × List ℕ)) (c : Call) (d : DiskState) → Plays s es os self.old c → c.ended ≡ false
+            → D.state disk.old ≡ Some d → self.new.telling.failed ≡ false → ComesTo s es os self.new (D.state disk.new) (is_err result) (hears_on storage s (read_of bytes.now) (on_disk c d self.old.signer.gate)) }
     {
         match read(alloc, bytes) {
             Ok(datagram) => self.hear(alloc, disk, datagram),
@@ -142,6 +149,8 @@ impl Node {
         ensures closed { OnOk result (self.new.signer.closed ≡ self.old.signer.closed) }
         ensures faults { IfErr result (λ e. e ≡ faults.StoreFault → Rose (D.faults disk.old) (D.faults disk.new)) }
         ensures calm { OnOk result (D.faults disk.new ≡ D.faults disk.old) }
+        ensures follows { (s : Setting) (n : RulesNode) (d : DiskState) → IsNode s self.old n → self.old.ended ≡ false → D.state disk.old ≡ Some d
+            → FollowsDisk s self.new (record { events = events.old; sent = out.old }) (record { events = events.new; sent = out.new }) (D.state disk.new) (delivered_on storage s n bytes.now (record { disk = d; gate = self.old.signer.gate })) result }
     {
         if self.ended {
             return Err(NodeFault::Ended);

@@ -15,6 +15,7 @@ ghost use Rattle.node_rules.specs.Deliveries.{answers, handles};
 ghost use Rattle.node_core.specs.declared.NodeFault.TheVariants as faults;
 ghost use Rattle.node_core.specs.Playing.{Plays, Stops, Grows};
 ghost use Rattle.node_core.specs.Spending.{Spends};
+ghost use Rattle.node_core.specs.OnDisks.{FailsIn, Stores};
 ghost use Rattle.node_core.specs.Signatures.{Runs};
 ghost use Rattle.node_core.specs.Formed.{IsFormed, Sees};
 
@@ -77,6 +78,9 @@ impl Node {
         ensures closed { OnOk result (self.new.signer.closed ≡ self.old.signer.closed) }
         ensures faults { D.faults disk.new ≡ counted (is_err result) (D.faults disk.old) }
         ensures cause { IfErr result (λ e. e ≡ faults.StoreFault) }
+        ensures stores { OnOk result (Stores self.old.signer self.new.signer (D.state disk.old) (D.state disk.new)) }
+        ensures fails { (s : Setting) (es : List journal.Event) (os : List (ℕ × List ℕ)) (c : Call) → Plays s es os self.old c
+            → FailsIn (answers true s (bodies.Accusation acc.now) c) self.old self.new (D.state disk.old) (D.state disk.new) result }
     {
         if acc.accused != self.me {
             return Ok(());
@@ -108,6 +112,10 @@ impl Node {
         ensures closed { OnOk result (self.new.signer.closed ≡ self.old.signer.closed) }
         ensures faults { D.faults disk.new ≡ counted (is_err result) (D.faults disk.old) }
         ensures cause { IfErr result (λ e. e ≡ faults.StoreFault) }
+        ensures stores { OnOk result (Stores self.old.signer self.new.signer (D.state disk.old) (D.state disk.new)) }
+        ensures fails { (s : Setting) (es : List journal.Event) (os : List (ℕ × List ℕ)) (c : Call) → Plays s es os self.old c
+            → refusal s c.node rec.rec ≡ None
+            → FailsIn (answers true s body.now (takes s rec.rec c)) self.old self.new (D.state disk.old) (D.state disk.new) result }
     {
         match body {
             Body::Certificate(cert) => self.take_certificate(rec, *cert),
@@ -139,6 +147,9 @@ impl Node {
         ensures closed { OnOk result (self.new.signer.closed ≡ self.old.signer.closed) }
         ensures faults { D.faults disk.new ≡ counted (is_err result) (D.faults disk.old) }
         ensures cause { IfErr result (λ e. e ≡ faults.StoreFault) }
+        ensures stores { OnOk result (Stores self.old.signer self.new.signer (D.state disk.old) (D.state disk.new)) }
+        ensures fails { (s : Setting) (es : List journal.Event) (os : List (ℕ × List ℕ)) (c : Call) → Plays s es os self.old c
+            → FailsIn (handles true s c rec) self.old self.new (D.state disk.old) (D.state disk.new) result }
     {
         let body = rec.body;
         see_body(&self.roster, &body);

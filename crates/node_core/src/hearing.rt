@@ -1,7 +1,8 @@
 //! What is heard: records, pings and pongs.
 
-ghost use Rattle.std.specs.Prelude.{◌≡◌, ℕ, ◌≤◌, ◌<◌, ◌++◌, ◌∷◌, List, IfOk, IfErr, is_err, All, OnOk};
+ghost use Rattle.std.specs.Prelude.{◌≡◌, ℕ, ◌≤◌, ◌<◌, ◌++◌, ◌∷◌, List, IfOk, IfErr, is_err, All, OnOk, false, Some, fold};
 ghost use Rattle.ports.specs.Count.{counted as counts_faults};
+ghost use Rattle.ports.specs.MemoryDisk.{DiskState};
 ghost use Rattle.journal.specs.declared.event.Event as journal;
 ghost use Rattle.records.specs.Spelling.{HasPort};
 ghost use Rattle.datagram.specs.Spelling.{datagram_bytes, IsWritable};
@@ -14,6 +15,8 @@ ghost use Rattle.node_core.specs.declared.NodeFault.TheVariants as faults;
 ghost use Rattle.node_core.specs.Playing.{Plays, Stops, Grows, IsNode};
 ghost use Rattle.node_core.specs.Spending.{SignsNothing, Spends};
 ghost use Rattle.node_core.specs.Signatures.{RunsAll};
+ghost use Rattle.node_rules.specs.OnDisks.{handles_on};
+ghost use Rattle.node_core.specs.OnDisks.{ComesTo, on_disk, storage};
 
 use crate::exchange::{lacking_bytes, page_bytes};
 use crate::{Node, NodeFault};
@@ -51,6 +54,8 @@ impl Node {
         ensures closed { OnOk result (self.new.signer.closed ≡ self.old.signer.closed) }
         ensures faults { D.faults disk.new ≡ counts_faults (is_err result) (D.faults disk.old) }
         ensures cause { IfErr result (λ e. e ≡ faults.StoreFault) }
+        ensures follows { (s : Setting) (es : List journal.Event) (os : List (ℕ × List ℕ)) (c : Call) (d : DiskState) → Plays s es os self.old c → c.ended ≡ false
+            → D.state disk.old ≡ Some d → self.new.telling.failed ≡ false → ComesTo s es os self.new (D.state disk.new) (is_err result) (fold (handles_on storage s) (on_disk c d self.old.signer.gate) records.items) }
     {
         for rec in records {
             self.handle(alloc, disk, rec)?;

@@ -11,6 +11,7 @@ ghost use Rattle.node_core.specs.declared.NodeFault.TheVariants as faults;
 ghost use Rattle.node_core.specs.Playing.{Plays, Stops, Grows};
 ghost use Rattle.node_core.specs.Spending.{Spends, TellsSpent};
 ghost use Rattle.node_core.specs.Neighbours.{addressees};
+ghost use Rattle.node_core.specs.OnDisks.{FailsIn, Stores};
 ghost use Rattle.node_core.specs.Signatures.{with_stored, next_own, Runs};
 
 use crate::sending::datagram_of;
@@ -77,6 +78,9 @@ impl Node {
         ensures closed { OnOk result (self.new.signer.closed ≡ self.old.signer.closed) }
         ensures faults { D.faults disk.new ≡ counted (is_err result) (D.faults disk.old) }
         ensures cause { IfErr result (λ e. e ≡ faults.StoreFault) }
+        ensures stores { OnOk result (Stores self.old.signer self.new.signer (D.state disk.old) (D.state disk.new)) }
+        ensures fails { (s : Setting) (es : List journal.Event) (os : List (ℕ × List ℕ)) (c : Call) → Plays s es os self.old c
+            → FailsIn (wants true s (next_own s c.node mask) (addressees s None) c) self.old self.new (D.state disk.old) (D.state disk.new) result }
     {
         let index = self.signer.state().next;
         match self.signer.sign_note(alloc, disk, self.me, mask) {
@@ -109,6 +113,9 @@ impl Node {
         ensures closed { OnOk result (self.new.signer.closed ≡ self.old.signer.closed) }
         ensures faults { D.faults disk.new ≡ counted (is_err result) (D.faults disk.old) }
         ensures cause { IfErr result (λ e. e ≡ faults.StoreFault) }
+        ensures stores { OnOk result (Stores self.old.signer self.new.signer (D.state disk.old) (D.state disk.new)) }
+        ensures fails { (s : Setting) (es : List journal.Event) (os : List (ℕ × List ℕ)) (c : Call) → Plays s es os self.old c
+            → FailsIn (wants true s (bodies.Accusation acc.now) (addressees s (Some acc.now.accused)) c) self.old self.new (D.state disk.old) (D.state disk.new) result }
     {
         let index = self.signer.state().next;
         match self.signer.sign_accusation(alloc, disk, *acc) {

@@ -18,6 +18,7 @@ ghost use Rattle.node_core.specs.Playing.{Plays, Grows, IsReady, setting_of};
 ghost use Rattle.node_core.specs.Signatures.{with_stored};
 ghost use Rattle.node_core.specs.Spending.{LivesOn, TellsOf, TellsSpent, SpendsUntold, StartSpends};
 ghost use Rattle.node_core.specs.Told.{IsFront};
+ghost use Rattle.node_core.specs.OnDisks.{PutsFirst, kept_first};
 ghost use Rattle.node_core.specs.Rolls.{IsCertificateFor, AreApart, recs_of};
 ghost use Rattle.node_core.specs.Begins.{AreOf, HasOpened, MayBegin, IsFirst, IsKit, IsVouchable, MayRefuse, Starts, is_store_fault, spent_first};
 
@@ -115,6 +116,8 @@ fn sign_first<D: Disk>(
     ensures signed { IfOk result (λ f. IsFirst signer.old signer.new group.now.t me f) }
     ensures cause { IfErr result (λ e. MayRefuse signer.old e) }
     ensures key { LivesOn (spent_first result) signer.old signer.new (D.moments disk.old) (D.moments disk.new) }
+    ensures puts { PutsFirst (kept_first group.now.t me signer.old.state) signer.old.gate (D.state disk.old) (D.state disk.new) result }
+    ensures gate { IfOk result (λ f. signer.new.gate ≡ signer.old.gate + 17) }
 {
     let index = signer.state().next;
     let mask = first_mask(group, signer.state().mask);
@@ -171,6 +174,8 @@ fn make_ready<D: Disk>(
     ensures closed { IfOk result (λ r. r.signer.closed ≡ false) }
     ensures key { IfOk result (λ r. LivesOn (record { index = r.index; body = bodies.Note r.note } ∷ []) signer r.signer (D.moments disk.old) (D.moments disk.new)) }
     ensures untold { IfErr result (λ e. SpendsUntold e signer (D.moments disk.old) (D.moments disk.new)) }
+    ensures puts { PutsFirst (kept_first kit.group.t kit.me signer.state) signer.gate (D.state disk.old) (D.state disk.new) result }
+    ensures gate { IfOk result (λ r. r.signer.gate ≡ signer.gate + 17) }
 {
     let Kit {
         group,
@@ -300,6 +305,8 @@ impl Node {
         ensures cause { IfErr result (λ e. MayRefuse signer e) }
         ensures faults { D.faults disk.new ≡ counted (is_store_fault result) (D.faults disk.old) }
         ensures spends { StartSpends signer (D.moments disk.old) (D.moments disk.new) events.old events.new result }
+        ensures puts { PutsFirst (kept_first kit.group.t kit.me signer.state) signer.gate (D.state disk.old) (D.state disk.new) result }
+        ensures gate { IfOk result (λ node. node.signer.gate ≡ signer.gate + 17) }
     {
         let ready = make_ready(alloc, kit, signer, disk)?;
         let before = events.events.len();

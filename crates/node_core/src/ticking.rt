@@ -1,7 +1,8 @@
 //! One tick: that of the life, and where it is due the accusations of the silent, the pings and the summary.
 
-ghost use Rattle.std.specs.Prelude.{◌≡◌, ℕ, ◌<◌, ◌-◌, ◌^◌, List, true, false, ◌↔◌, IfOk, OnOk, IfErr, is_err};
+ghost use Rattle.std.specs.Prelude.{◌≡◌, ℕ, ◌<◌, ◌-◌, ◌^◌, List, true, false, Some, ◌↔◌, IfOk, OnOk, IfErr, is_err};
 ghost use Rattle.ports.specs.Count.{counted as counts_faults, Rose};
+ghost use Rattle.ports.specs.MemoryDisk.{DiskState};
 ghost use Rattle.node_rules.specs.Nodes.{Node as RulesNode};
 ghost use Rattle.node_rules.specs.Calls.{begun};
 ghost use Rattle.node_core.specs.declared.NodeFault.TheVariants as faults;
@@ -9,6 +10,8 @@ ghost use Rattle.node_core.specs.Playing.{IsNode};
 ghost use Rattle.node_core.specs.Spending.{SignsNothing, Spends, SpendsIn};
 ghost use Rattle.node_core.specs.Answers.{Stands, IsEnded};
 ghost use Rattle.node_core.specs.Ticks.{RunsDue, RunsTick, GivesTick};
+ghost use Rattle.node_rules.specs.OnDisks.{due_on, ticked_on};
+ghost use Rattle.node_core.specs.OnDisks.{ComesTo, FollowsDisk, on_disk, storage};
 ghost use Rattle.journal.specs.declared.event.Event as journal;
 ghost use Rattle.node_rules.specs.Nodes.{Setting};
 ghost use Rattle.node_rules.specs.Calls.{Call};
@@ -70,6 +73,8 @@ impl Node {
         ensures closed { OnOk result (self.new.signer.closed ≡ self.old.signer.closed) }
         ensures faults { D.faults disk.new ≡ counts_faults (is_err result) (D.faults disk.old) }
         ensures cause { IfErr result (λ e. e ≡ faults.StoreFault) }
+        ensures follows { (s : Setting) (es : List journal.Event) (os : List (ℕ × List ℕ)) (c : Call) (d : DiskState) → Plays s es os self.old c → c.ended ≡ false
+            → D.state disk.old ≡ Some d → self.new.telling.failed ≡ false → ComesTo s es os self.new (D.state disk.new) (is_err result) (due_on storage s due.silent.items due.pings.items round (on_disk c d self.old.signer.gate)) }
     {
         let Due { silent, pings } = due;
         self.accuse_all(alloc, disk, silent)?;
@@ -88,6 +93,8 @@ impl Node {
         ensures closed { OnOk result (self.new.signer.closed ≡ self.old.signer.closed) }
         ensures faults { D.faults disk.new ≡ counts_faults (is_err result) (D.faults disk.old) }
         ensures cause { IfErr result (λ e. e ≡ faults.StoreFault) }
+        ensures follows { (s : Setting) (es : List journal.Event) (os : List (ℕ × List ℕ)) (n : RulesNode) (d : DiskState) → Plays s es os self.old (begun n)
+            → D.state disk.old ≡ Some d → self.new.telling.failed ≡ false → ComesTo s es os self.new (D.state disk.new) (is_err result) (ticked_on storage s n (record { disk = d; gate = self.old.signer.gate })) }
     {
         self.live_tick();
         let now = self.membership.now();
@@ -130,6 +137,8 @@ impl Node {
         ensures closed { OnOk result (self.new.signer.closed ≡ self.old.signer.closed) }
         ensures faults { IfErr result (λ e. e ≡ faults.StoreFault → Rose (D.faults disk.old) (D.faults disk.new)) }
         ensures calm { OnOk result (D.faults disk.new ≡ D.faults disk.old) }
+        ensures follows { (s : Setting) (n : RulesNode) (d : DiskState) → IsNode s self.old n → self.old.ended ≡ false → D.state disk.old ≡ Some d
+            → FollowsDisk s self.new (record { events = events.old; sent = out.old }) (record { events = events.new; sent = out.new }) (D.state disk.new) (ticked_on storage s n (record { disk = d; gate = self.old.signer.gate })) result }
     {
         if self.ended {
             return Err(NodeFault::Ended);

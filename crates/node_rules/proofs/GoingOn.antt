@@ -20,7 +20,7 @@ use Rattle.node_rules.specs.Ticking.{accusation_on, ring_for, has_accused, wants
 use Rattle.node_rules.specs.Lives.{Input, Delivers, Ticks, call_of}
 
 -- The life goes on in the second where it does in the first.
-abbrev GoesOn : Call → Call → Type 0
+abbrev pub GoesOn : Call → Call → Type 0
 GoesOn c d = d.ended ≡ c.ended
 
 on-sends : (s : Setting) (d : Datagram) (c : Call) (to : ℕ) → GoesOn c (sends s d c to)
@@ -59,7 +59,7 @@ on-judged : (s : Setting) (f : Option Fault) (r : Record) (c : Call) → GoesOn 
 on-judged s (Some f) r c = refl
 on-judged s None r c = let c0 : Call = tells s (told.Took r.body None) c in on-answers s r.body (takes s r c0) ∙ on-takes s r c0
 
-on-handles : (s : Setting) (c : Call) (r : Record) → GoesOn c (handles true s c r)
+pub on-handles : (s : Setting) (c : Call) (r : Record) → GoesOn c (handles true s c r)
 unfolding handles
 on-handles s c r = on-judged s (refusal s c.node r) r c
 
@@ -75,7 +75,7 @@ on-replies : (s : Setting) (to : ℕ) (flag : Bool) (number : ℕ) (c : Call) �
 on-replies s to true number c = refl
 on-replies s to false number c = on-sends s (kinds.Summary s.me true (page c.node number)) c to
 
-on-hears : (s : Setting) (d : Result Datagram ℕ) (c : Call) → GoesOn c (hears s d c)
+pub on-hears : (s : Setting) (d : Result Datagram ℕ) (c : Call) → GoesOn c (hears s d c)
 on-hears s (Err place) c = refl
 on-hears s (Ok (kinds.Ping from nonce)) c =
     let c1 : Call = tells s (told.Ping from nonce) c in
@@ -97,7 +97,7 @@ on-accusation : (s : Setting) (m : ℕ) (ring : Option ℕ) (c : Call) → GoesO
 on-accusation s m None c = refl
 on-accusation s m (Some ring) c = on-wants s (accusation_on s (state_of s c.node) m ring) (neighbours_and s m) c
 
-on-accuses : (s : Setting) (c : Call) (m : ℕ) → GoesOn c (accuses true s c m)
+pub on-accuses : (s : Setting) (c : Call) (m : ℕ) → GoesOn c (accuses true s c m)
 unfolding accuses
 on-accuses s c m =
     let c1 : Call = tells s (told.Silent m) c in
@@ -108,11 +108,11 @@ on-accuses_all : (s : Setting) (silent : List ℕ) (c : Call) → GoesOn c (accu
 on-accuses_all s [] c = refl
 on-accuses_all s (m ∷ silent) c = on-accuses_all s silent (accuses true s c m) ∙ on-accuses s c m
 
-on-pings_all : (s : Setting) (pings : List (ℕ × ℕ)) (c : Call) → GoesOn c (pings_all s pings c)
+pub on-pings_all : (s : Setting) (pings : List (ℕ × ℕ)) (c : Call) → GoesOn c (pings_all s pings c)
 on-pings_all s [] c = refl
 on-pings_all s (p ∷ pings) c = on-pings_all s pings (sends s (kinds.Ping s.me p.1) c p.0) ∙ on-sends s (kinds.Ping s.me p.1) c p.0
 
-on-summary : (s : Setting) (round : ℕ) (to : Option ℕ) (c : Call) → GoesOn c (summary_to s round to c)
+pub on-summary : (s : Setting) (round : ℕ) (to : Option ℕ) (c : Call) → GoesOn c (summary_to s round to c)
 on-summary s round None c = refl
 on-summary s round (Some to) c = on-sends s (kinds.Summary s.me false (page c.node (page_number s c.node round))) c to
 
@@ -123,7 +123,7 @@ on-due s accused pings round c =
     let c2 : Call = pings_all s pings c1 in
     on-summary s round (partner s c2.node round) c2 ∙ on-pings_all s pings c1 ∙ on-accuses_all s accused c
 
-on-probed : (s : Setting) (n : Node) → (probed_at s n).ended ≡ false
+pub on-probed : (s : Setting) (n : Node) → (probed_at s n).ended ≡ false
 unfolding probed_at passed lives
 on-probed s n = refl
 

@@ -11,6 +11,9 @@ use Rattle.std.proofs.Common.{refl}
 use Rattle.node_core.specs.contracts.Node.{the_view}
 use Rattle.node_core.proofs.ExtendLemmas.{extends-trans, extends-takes, extends-answers}
 use Rattle.signer.specs.Signing.{SignerState}
+use Rattle.std.proofs.Common.{ap}
+use Rattle.node_core.specs.OnDisks.{FailsIn}
+use Rattle.node_core.proofs.DiskLemmas.{stores-none, stored-behind, fails-behind}
 use Rattle.node_core.proofs.Node.accept.Goals as goal
 
 pub returns-in-Certificate-clause-plays : goal.returns-in-Certificate-clause-plays
@@ -50,3 +53,26 @@ returns-then-acc-self-clause-plays g c = λ s es os call p accepted.
 
 pub returns-in-Accusation-clause-closed : goal.returns-in-Accusation-clause-closed
 returns-in-Accusation-clause-closed g c = open-further c.answer.result _ _ _ c.answer.ensures.closed (ap (λ (s : SignerState). s.closed) c.take_accusation.ensures.quiet.signer)
+
+pub returns-in-Certificate-clause-stores : goal.returns-in-Certificate-clause-stores
+returns-in-Certificate-clause-stores g c = stores-none c.args.self.now.signer c.take_certificate.new.self.signer (g.D.Disk.state c.args.disk.now) c.take_certificate.ensures.quiet.signer
+
+pub returns-in-Note-clause-stores : goal.returns-in-Note-clause-stores
+returns-in-Note-clause-stores g c = stores-none c.args.self.now.signer c.take_note.new.self.signer (g.D.Disk.state c.args.disk.now) c.take_note.ensures.quiet.signer
+
+pub returns-then-acc-self-clause-stores : goal.returns-then-acc-self-clause-stores
+returns-then-acc-self-clause-stores g c = stores-none c.args.self.now.signer c.self.inside.signer (g.D.Disk.state c.args.disk.now) (ap (λ (v : Kept). v.signer) c.self.view_is)
+
+pub returns-in-Accusation-clause-stores : goal.returns-in-Accusation-clause-stores
+returns-in-Accusation-clause-stores g c =
+    stored-behind c.args.self.now c.take_accusation.new.self c.answer.new.self (g.D.Disk.state c.args.disk.now) (g.D.Disk.state c.answer.new.disk) c.answer.result c.take_accusation.ensures.quiet c.answer.ensures.stores
+
+pub returns-in-Accusation-clause-fails : goal.returns-in-Accusation-clause-fails
+returns-in-Accusation-clause-fails g c = λ s es os call p accepted.
+    let is : c.args.body.now ≡ bodies.Accusation c.in-Accusation.acc = search rules in
+    let x = (g.D.Disk.state c.args.disk.now) in
+    let y = g.D.Disk.state c.answer.new.disk in
+    let c1 : Call = takes s c.args.rec.rec call in
+    subst (λ (b : Body). FailsIn (answers true s b c1) c.args.self.now c.answer.new.self x y c.answer.result) (sym is)
+    (fails-behind (answers true s (bodies.Accusation c.in-Accusation.acc) c1) c.args.self.now c.take_accusation.new.self c.answer.new.self x y c.answer.result c.take_accusation.ensures.quiet
+    (c.answer.ensures.fails s es os c1 (c.take_accusation.ensures.plays s es os call p)))

@@ -18,6 +18,7 @@ use Rattle.node_core.proofs.DueLemmas.{from-fine, runs-from-fine, runs-same, pla
 use Rattle.node_core.proofs.AccusingLemmas.{accused-same, accuses-kept, accuses-wanted, no-note, ring-of_note, rings-same, body-is, wanted-if}
 use Rattle.node_core.proofs.SpendLemmas.{open-further, nothing-same, nothing-trans, refused-none, spends-none, spends-after}
 use Rattle.signer.specs.Signing.{SignerState}
+use Rattle.node_core.proofs.DiskLemmas.{stores-none, stored-behind, fails-behind, fails-given, fails-same}
 use Rattle.node_core.proofs.Node.accuse.Goals as goal
 
 pub returns-then-has_accused-clause-plays : goal.returns-then-has_accused-clause-plays
@@ -121,3 +122,48 @@ returns-then-not-is_member-clause-plays g c = λ s es os call p.
 
 pub returns-clause-closed : goal.returns-clause-closed
 returns-clause-closed g c = open-further c.want_accusation.result _ _ _ c.want_accusation.ensures.closed (ap (λ (s : SignerState). s.closed) c.tell.ensures.quiet.signer)
+
+pub returns-then-has_accused-clause-stores : goal.returns-then-has_accused-clause-stores
+returns-then-has_accused-clause-stores g c = stores-none c.args.self.now.signer c.args.self.now.signer (g.D.Disk.state c.args.disk.now) refl
+
+pub returns-in_default-clause-stores : goal.returns-in_default-clause-stores
+returns-in_default-clause-stores g c = stores-none c.args.self.now.signer c.tell.new.self.signer (g.D.Disk.state c.args.disk.now) c.tell.ensures.quiet.signer
+
+pub returns-in_default-ring_for-clause-stores : goal.returns-in_default-ring_for-clause-stores
+returns-in_default-ring_for-clause-stores g c = stores-none c.args.self.now.signer c.tell.new.self.signer (g.D.Disk.state c.args.disk.now) c.tell.ensures.quiet.signer
+
+pub returns-then-not-is_member-clause-stores : goal.returns-then-not-is_member-clause-stores
+returns-then-not-is_member-clause-stores g c = stores-none c.args.self.now.signer c.self-2.inside.signer (g.D.Disk.state c.args.disk.now) (ap (λ (v : Kept). v.signer) c.self-2.view_is ∙ c.tell.ensures.quiet.signer)
+
+pub returns-clause-stores : goal.returns-clause-stores
+returns-clause-stores g c =
+    stored-behind c.args.self.now c.tell.new.self c.want_accusation.new.self (g.D.Disk.state c.args.disk.now) (g.D.Disk.state c.want_accusation.new.disk) c.want_accusation.result c.tell.ensures.quiet c.want_accusation.ensures.stores
+
+pub returns-clause-fails : goal.returns-clause-fails
+returns-clause-fails g c = λ s es os call p.
+    let v : Kept = the_view c.self.inside in
+    let v2 : Kept = the_view c.self-2.inside in
+    let m : ℕ = c.args.member in
+    let st : State = state_of s call.node in
+    let c1 : Call = tells s (told.Silent m) call in
+    let body : Body = Accusation (record { accuser = c.self-2.inside.me; accused = m; epoch = c.in-Some.note.epoch; ring = c.in-Some-ring_for.ring }) in
+    let at = c.tell.ensures.plays s es os call p in
+    let x = (g.D.Disk.state c.args.disk.now) in
+    let y = g.D.Disk.state c.want_accusation.new.disk in
+    fails-given (accuses true s call m) c.args.self.now c.want_accusation.new.self x y c.want_accusation.result (λ fine.
+    let told_fine = c.want_accusation.ensures.grows.going fine in
+    let is = subst (λ v. IsNode s v call.node) (sym c.self.view_is) (p.at (c.tell.ensures.grows.going told_fine)).is in
+    let fails : has_accused s st m ≡ false = sym (accused-same s v call.node m is c.self.invariant.membership_group) ∙ sym (c.has_accused.ensures st is.holds) ∙ c.if-has_accused.false in
+    let now = subst (λ v. IsNode s v c1.node) (sym c.self-2.view_is) (at.at told_fine).is in
+    let some : c.note_of.result ≡ Some c.in-Some.note = search rules in
+    let one : c.ring_for.result ≡ Some c.in-Some-ring_for.ring = search rules in
+    let noted : newest st.notes m ≡ Some c.in-Some.note = sym (c.note_of.ensures.value st now.holds) ∙ some in
+    let ring : ring_of s st m ≡ Some c.in-Some-ring_for.ring.0 =
+    ring-of_note s st m c.in-Some.note noted ∙ sym (rings-same s v2 c1.node m c.in-Some.note now c.self-2.invariant.membership_group) ∙ sym (c.ring_for.ensures.ring st now.holds) ∙ ap (λ (o : Option RingNo). option_map (λ r. r.0) o) one in
+    let who = setting-me s v2.group v2.me v2.authority v2.signer.key now.setting in
+    let wanted : Call = wants true s body (addressees s (Some m)) c1 in
+    let same : wanted ≡ accuses true s call m =
+    sym (ap (λ (o : Option ℕ). wants_accusation true s m o c1) ring ∙ ap (λ (b : Body). wants true s b (addressees s (Some m)) c1) (sym (body-is s st m v2.me c.in-Some.note c.in-Some-ring_for.ring who noted)))
+    ∙ sym (accuses-wanted true s call m fails) in
+    fails-same wanted (accuses true s call m) c.args.self.now c.want_accusation.new.self x y c.want_accusation.result (λ again. same)
+    (fails-behind wanted c.args.self.now c.tell.new.self c.want_accusation.new.self x y c.want_accusation.result c.tell.ensures.quiet (c.want_accusation.ensures.fails s es os c1 at)))

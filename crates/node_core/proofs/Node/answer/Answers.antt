@@ -1,4 +1,4 @@
-use Rattle.std.proofs.Common.{◌≡◌, ◌≢◌, ℕ, Bool, true, cond, None, subst, sym}
+use Rattle.std.proofs.Common.{◌≡◌, ◌≢◌, ℕ, Bool, true, cond, None, ap, subst, sym}
 use Rattle.records.specs.declared.Body.TheVariants as bodies
 use Rattle.node_rules.specs.Nodes.{neighbours}
 use Rattle.node_rules.specs.Calls.{Call, wants}
@@ -19,6 +19,8 @@ use Rattle.rebuttal.specs.Rebuttals.{IsEnabledByAnswer}
 use Rattle.std.proofs.Common.{refl}
 use Rattle.node_core.proofs.SpendLemmas.{nothing-same, refused-none, spends-none}
 use Rattle.records.specs.declared.Body.{Body}
+use Rattle.node_core.proofs.DiskLemmas.{stores-none, fails-same}
+use Rattle.ports.specs.MemoryDisk.{DiskState}
 use Rattle.node_core.proofs.Node.answer.Goals as goal
 
 pub returns-then-ne-clause-plays : goal.returns-then-ne-clause-plays
@@ -53,3 +55,21 @@ returns-then-not-enables-clause-plays g c = λ s es os call p.
     let v : Kept = the_view c.self.inside in
     let b : Body = bodies.Accusation c.args.acc.now in
     plays-refused s es os v _ call (answers true s b call) c.fail.ensures (subst (λ v. Plays s es os v call) (sym c.self.view_is) p) (extends-answers s b call)
+
+pub returns-then-ne-clause-stores : goal.returns-then-ne-clause-stores
+returns-then-ne-clause-stores g c = stores-none c.args.self.now.signer c.args.self.now.signer (g.D.Disk.state c.args.disk.now) refl
+
+pub returns-then-not-enables-clause-stores : goal.returns-then-not-enables-clause-stores
+returns-then-not-enables-clause-stores g c = stores-none c.args.self.now.signer c.self.inside.signer (g.D.Disk.state c.args.disk.now) (ap (λ (v : Kept). v.signer) c.self.view_is)
+
+pub returns-clause-fails : goal.returns-clause-fails
+returns-clause-fails g c = λ s es os call p.
+    let v : Kept = the_view c.self.inside in
+    let who : c.args.acc.now.accused ≡ c.self.inside.me = grind (arith, nat_tests, c.ne.ensures, c.if-ne.false) in
+    let exact = subst (λ (x : Stored). (r : ℕ) → r < ring_count c.self.inside.group.t → (enables c.answer_mask.result.0 r ≡ true) ↔ IsEnabledByAnswer c.self.inside.group.t x.mask.0 c.args.acc.now.ring.0 r) c.state.ensures c.answer_mask.ensures.exact in
+    let a = c.args.acc.now in
+    let wanted : Call = wants true s (next_own s call.node c.answer_mask.result) (addressees s None) call in
+    fails-same wanted (answers true s (bodies.Accusation a) call) c.args.self.now c.want_note.new.self (g.D.Disk.state c.args.disk.now) (g.D.Disk.state c.want_note.new.disk) c.want_note.result (λ fine.
+    let h = p.at (c.want_note.ensures.grows.going fine) in
+    let n = subst (λ v. IsNode s v call.node) (sym c.self.view_is) h.is in
+    answers-is s v call a c.answer_mask.result true n who c.answer_mask.ensures.good exact) (c.want_note.ensures.fails s es os call p)

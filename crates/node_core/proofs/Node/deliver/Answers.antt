@@ -11,6 +11,13 @@ use Rattle.node_core.proofs.TellingLemmas.{nil-right}
 use Rattle.node_core.proofs.DeliverLemmas.{calm-by, delivers-by}
 use Rattle.node_core.proofs.SpendLemmas.{open-by, open-further, call-spends, idle-spends}
 use Rattle.node_core.proofs.DueLemmas.{plays-at}
+use Rattle.std.proofs.Common.{true, rules}
+use Rattle.std.proofs.lemmas.Bool.{false≢true}
+use Rattle.std.specs.Prelude.{is_err}
+use Rattle.node_core.specs.OnDisks.{ComesTo, on_disk, storage}
+use Rattle.datagram.specs.Grammar.{read_of}
+use Rattle.node_rules.specs.OnDisks.{delivered_on}
+use Rattle.node_core.proofs.DiskLemmas.{delivered-on-is, follows-by}
 use Rattle.node_core.proofs.Node.deliver.Goals as goal
 
 pub returns-clause-step : goal.returns-clause-step
@@ -54,3 +61,28 @@ returns-clause-closed g c =
     let closed : Kept → Bool = λ v. v.signer.closed in
     open-by c.hear_bytes-heard.result c.finish.result c.hear_bytes-heard.new.self.telling.failed c.args.self.now.signer.closed c.hear_bytes-heard.new.self.signer.closed c.finish.new.self.signer.closed
     (open-further c.hear_bytes-heard.result _ _ _ c.hear_bytes-heard.ensures.closed (ap closed c.self.view_is)) (ap closed c.finish.ensures.frame) c.finish.ensures.failed c.finish.ensures.going
+
+pub returns-clause-follows : goal.returns-clause-follows
+returns-clause-follows g c = λ s n d is0 going told.
+    let v : Kept = the_view c.self.inside in
+    let es : List journal.Event = c.args.events.now in
+    let os : List (ℕ × List ℕ) = c.args.out.now in
+    let is = subst (λ v. IsNode s v n) (sym c.self.view_is) is0 in
+    let over : c.over.result ≡ record { events = es; sent = os; before = length os; failed = false } = c.over.ensures in
+    let p : Plays s es os (record v { telling = c.over.result }) (begun n) = plays-at s es os (record v { telling = c.over.result }) (begun n) (record {
+      is = record { setting = is.setting; holds = is.holds; stored = is.stored; records = is.records; roster = is.roster; probes = is.probes };
+      told = ap (λ (t : Tellings). t.events) over ∙ sym (nil-right es);
+      sent = ap (λ (t : Tellings). t.sent) over ∙ sym (nil-right os);
+      before = ap (λ (t : Tellings). t.before) over;
+    }) in
+    let old : Lent = record { events = es; sent = os } in
+    let new : Lent = record { events = c.finish.new.events; sent = c.finish.new.out } in
+    let y = g.D.Disk.state c.hear_bytes-heard.new.disk in
+    let made = λ (gate : ℕ). delivered_on storage s n c.args.bytes.now (record { disk = d; gate = gate }) in
+    follows-by s c.hear_bytes-heard.new.self c.finish.new.self old new y (made c.args.self.now.signer.gate) c.hear_bytes-heard.result c.finish.result
+    (λ fine. subst (λ (gate : ℕ). ComesTo s es os c.hear_bytes-heard.new.self y (is_err c.hear_bytes-heard.result) (made gate)) (ap (λ (w : Kept). w.signer.gate) c.self.view_is)
+    (subst (ComesTo s es os c.hear_bytes-heard.new.self y (is_err c.hear_bytes-heard.result)) (sym (delivered-on-is s n c.args.bytes.now d v.signer.gate)) (c.hear_bytes-heard.ensures.follows s es os (begun n) d p refl told fine)))
+    c.hear_bytes-heard.ensures.cause c.finish.ensures.failed c.finish.ensures.going c.finish.ensures.frame c.finish.ensures.events c.finish.ensures.sent
+
+pub returns-then-self-clause-follows : goal.returns-then-self-clause-follows
+returns-then-self-clause-follows g c = λ s n d is going told. let over : c.args.self.now.ended ≡ true = search rules in absurd (false≢true (sym going ∙ over))

@@ -15,6 +15,12 @@ use Rattle.node_core.proofs.HearLemmas.{grows-probed}
 use Rattle.node_core.specs.Spending.{SignsNothing, spent_told}
 use Rattle.node_core.proofs.SpendLemmas.{open-further, spends-none, spends-after}
 use Rattle.signer.specs.Signing.{SignerState}
+use Rattle.std.proofs.Common.{ℕ, List}
+use Rattle.std.specs.Prelude.{is_err}
+use Rattle.node_rules.specs.OnDisks.{due_on, ticked_on}
+use Rattle.node_core.specs.OnDisks.{ComesTo, on_disk, storage}
+use Rattle.node_core.proofs.TickLemmas.{FindsDue}
+use Rattle.node_core.proofs.TickDiskLemmas.{seen-on, ticked-on-idle, ticked-on-found}
 use Rattle.node_core.proofs.Node.pass.Goals as goal
 
 pub returns-then-not-is_due-clause-plays : goal.returns-then-not-is_due-clause-plays
@@ -103,3 +109,58 @@ returns-then-not-is_due-clause-closed g c = ap (λ (v : Kept). v.signer.closed) 
 
 pub returns-in-Err-clause-closed : goal.returns-in-Err-clause-closed
 returns-in-Err-clause-closed g c = ap (λ (v : Kept). v.signer.closed) c.self.view_is ∙ ap (λ (s : SignerState). s.closed) c.live_tick.ensures.quiet.signer
+
+pub returns-then-not-is_due-clause-follows : goal.returns-then-not-is_due-clause-follows
+returns-then-not-is_due-clause-follows g c = λ s es os n d p told fine.
+    let v : Kept = the_view c.self.inside in
+    let v2 : Kept = record v { detector = c.tick.new.self } in
+    let c1 : Call = passed s n in
+    let x = g.D.Disk.state c.args.disk.now in
+    let gate : ℕ = c.args.self.now.signer.gate in
+    let lived : Plays s es os c.live_tick.new.self c1 = subst (λ x. Plays s es os c.live_tick.new.self x) (sym (passed-is s n)) (c.live_tick.ensures.plays s es os (begun n) p) in
+    let at : Plays s es os v c1 = subst (λ v. Plays s es os v c1) (sym c.self.view_is) lived in
+    let h = at.at fine in
+    let same = due-same s v c1.node c.now-now.result c.from-period.result h.is c.now-now.ensures.moment c.from-period.ensures in
+    let idle : is_due s (state_of s c1.node) ≡ false = sym same ∙ search rules in
+    subst (ComesTo s es os v2 x false) (sym (ticked-on-idle s n d gate idle))
+    (record {
+      at = seen-at s es os v c1 c.tick.new.self (eqb (c.now-now.result % c.from-period.result) 0) h c.self.invariant.detector_group same c.tick.ensures.holds;
+      ended = seen-on s n;
+      disk = told;
+      gate = ap (λ (w : Kept). w.signer.gate) c.self.view_is ∙ ap (λ k. k.gate) c.live_tick.ensures.quiet.signer;
+    })
+
+pub returns-in-Ok-clause-follows : goal.returns-in-Ok-clause-follows
+returns-in-Ok-clause-follows g c = λ s es os n d p told fine.
+    let v : Kept = the_view c.self.inside in
+    let v2 : Kept = record v { detector = c.tick.new.self } in
+    let c1 : Call = passed s n in
+    let b : Bool = eqb (c.now-now.result % c.from-period.result) 0 in
+    let silent : List ℕ = c.in-Ok.due.silent.items in
+    let pings : List (ℕ × ℕ) = c.in-Ok.due.pings.items in
+    let round : ℕ = c.saturating_sub.result in
+    let y = g.D.Disk.state c.pass_due.new.disk in
+    let lived : Plays s es os c.live_tick.new.self c1 = subst (λ x. Plays s es os c.live_tick.new.self x) (sym (passed-is s n)) (c.live_tick.ensures.plays s es os (begun n) p) in
+    let at : Plays s es os v c1 = subst (λ v. Plays s es os v c1) (sym c.self.view_is) lived in
+    let h = at.at ((grows-probed v c.pass_due.new.self c.tick.new.self c.pass_due.ensures.grows).going fine) in
+    let n1 = h.is in
+    let same : b ≡ is_due s (state_of s c1.node) = due-same s v c1.node c.now-now.result c.from-period.result n1 c.now-now.ensures.moment c.from-period.ensures in
+    let is : b ≡ true = search rules in
+    let saw : Plays s es os v2 (seen s c1) = record {
+      at = λ again. seen-at s es os v c1 c.tick.new.self b h c.self.invariant.detector_group same c.tick.ensures.holds;
+      due = record { told = at.due.told; sent = at.due.sent };
+    } in
+    let watching = watched-same s v c1.node n1 c.self.invariant.detector_group in
+    let finds : FindsDue s n silent pings round = record {
+      due = sym same ∙ is;
+      silent_is = c.in-Ok.ensures.silent ∙ c.tick.ensures.silent c1.node.probes (state_of s c1.node) n1.probes n1.holds ∙ ap (λ ws. silent_of c1.node.probes ws) watching;
+      pings_is = c.in-Ok.ensures.pings ∙ c.tick.ensures.pings c1.node.probes (state_of s c1.node) n1.probes n1.holds ∙ ap (λ ws. pings_of c1.node.probes b ws) watching ∙ ap (λ (x : Bool). pings_of c1.node.probes x (watched_by s (state_of s c1.node))) is;
+      round_is = search rules ∙ round-same s v c1.node c.now-now.result c.from-period.result n1 c.now-now.ensures.moment c.from-period.ensures;
+    } in
+    let ran = c.pass_due.ensures.follows s es os (seen s c1) d saw (seen-on s n) told fine in
+    let gates : v.signer.gate ≡ c.args.self.now.signer.gate = ap (λ (w : Kept). w.signer.gate) c.self.view_is ∙ ap (λ k. k.gate) c.live_tick.ensures.quiet.signer in
+    subst (λ (gate : ℕ). ComesTo s es os c.pass_due.new.self y (is_err c.pass_due.result) (ticked_on storage s n (record { disk = d; gate = gate }))) gates
+    (subst (ComesTo s es os c.pass_due.new.self y (is_err c.pass_due.result)) (ticked-on-found s n silent pings round d v.signer.gate finds) ran)
+
+pub returns-in-Err-clause-follows : goal.returns-in-Err-clause-follows
+returns-in-Err-clause-follows g c = λ s es os n d p told fine. absurd (false≢true (sym fine ∙ ap (λ (t : Tellings). t.failed) c.fail.ensures))

@@ -5,6 +5,14 @@ use Rattle.node_core.specs.Playing.{Plays}
 use Rattle.node_core.proofs.TickLemmas.{due-is, err-due}
 use Rattle.node_core.proofs.SpendLemmas.{nothing-trans, spends-before}
 use Rattle.signer.specs.Signing.{SignerState}
+use Rattle.std.proofs.Common.{Bool, true, false, refl}
+use Rattle.std.specs.Prelude.{fold}
+use Rattle.epoch_store.specs.Placed.{PlacedStore}
+use Rattle.node_rules.specs.OnDisks.{OnDisk, accuses_on, due_on}
+use Rattle.node_core.specs.Playing.{IsAt}
+use Rattle.node_core.specs.OnDisks.{ComesTo, on_disk, storage}
+use Rattle.node_core.proofs.DueLemmas.{plays-at}
+use Rattle.node_core.proofs.TickDiskLemmas.{due-comes, due-over}
 use Rattle.node_core.proofs.Node.pass_due.Goals as goal
 
 pub returns-clause-plays : goal.returns-clause-plays
@@ -29,3 +37,28 @@ pub returns-clause-closed : goal.returns-clause-closed
 returns-clause-closed g c =
     let closed : SignerState → Bool = λ s. s.closed in
     ap closed c.gossip.ensures.quiet.signer ∙ ap closed c.ping_all.ensures.quiet.signer ∙ c.in_ok-accuse_all.ensures.closed
+
+pub returns-clause-follows : goal.returns-clause-follows
+returns-clause-follows g c = λ s es os call d p on is fine.
+    let silent : List ℕ = c.args.due.silent.items in
+    let pings : List (ℕ × ℕ) = c.args.due.pings.items in
+    let y = g.D.Disk.state c.accuse_all.new.disk in
+    let begun : OnDisk PlacedStore = on_disk call d c.args.self.now.signer.gate in
+    let o : OnDisk PlacedStore = fold (accuses_on storage s) begun silent in
+    let h = c.in_ok-accuse_all.ensures.follows s es os call d p on is (c.ping_all.ensures.grows.going (c.gossip.ensures.grows.going fine)) in
+    let pinged = c.ping_all.ensures.plays s es os o.call (plays-at s es os c.accuse_all.new.self o.call h.at) in
+    let done = (c.gossip.ensures.plays s es os (pings_all s c.deref.result.now o.call) pinged).at fine in
+    due-comes s es os c.accuse_all.new.self c.gossip.new.self y silent pings c.args.round begun h
+    (subst (λ (ps : List (ℕ × ℕ)). IsAt s es os c.gossip.new.self (gossips s c.args.round (pings_all s ps o.call))) c.deref.ensures.value done)
+    (c.gossip.ensures.quiet.signer ∙ c.ping_all.ensures.quiet.signer)
+
+pub returns-in_err-accuse_all-clause-follows : goal.returns-in_err-accuse_all-clause-follows
+returns-in_err-accuse_all-clause-follows g c = λ s es os call d p on is fine.
+    let silent : List ℕ = c.args.due.silent.items in
+    let pings : List (ℕ × ℕ) = c.args.due.pings.items in
+    let y = g.D.Disk.state c.accuse_all.new.disk in
+    let begun : OnDisk PlacedStore = on_disk call d c.args.self.now.signer.gate in
+    let o : OnDisk PlacedStore = fold (accuses_on storage s) begun silent in
+    let h = c.in_err-accuse_all.ensures.follows s es os call d p on is fine in
+    subst (λ (failed : Bool). ComesTo s es os c.accuse_all.new.self y failed (due_on storage s silent pings c.args.round begun)) (sym c.from_residual.ensures.0)
+    (subst (ComesTo s es os c.accuse_all.new.self y true) (sym (due-over s silent pings c.args.round begun o refl h.ended)) h)

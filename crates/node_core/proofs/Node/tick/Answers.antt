@@ -12,6 +12,12 @@ use Rattle.node_core.proofs.TickLemmas.{gives-by}
 use Rattle.node_core.proofs.SpendLemmas.{open-by, open-further, call-spends, idle-spends}
 use Rattle.node_core.proofs.DueLemmas.{plays-at}
 use Rattle.node_core.proofs.DeliverLemmas.{calm-by}
+use Rattle.std.proofs.Common.{true, rules}
+use Rattle.std.proofs.lemmas.Bool.{false≢true}
+use Rattle.std.specs.Prelude.{is_err}
+use Rattle.node_core.specs.OnDisks.{ComesTo, on_disk, storage}
+use Rattle.node_rules.specs.OnDisks.{ticked_on}
+use Rattle.node_core.proofs.DiskLemmas.{follows-by}
 use Rattle.node_core.proofs.Node.tick.Goals as goal
 
 pub returns-clause-step : goal.returns-clause-step
@@ -55,3 +61,28 @@ returns-clause-closed g c =
     let closed : Kept → Bool = λ v. v.signer.closed in
     open-by c.pass-passed.result c.finish.result c.pass-passed.new.self.telling.failed c.args.self.now.signer.closed c.pass-passed.new.self.signer.closed c.finish.new.self.signer.closed
     (open-further c.pass-passed.result _ _ _ c.pass-passed.ensures.closed (ap closed c.self.view_is)) (ap closed c.finish.ensures.frame) c.finish.ensures.failed c.finish.ensures.going
+
+pub returns-clause-follows : goal.returns-clause-follows
+returns-clause-follows g c = λ s n d is0 going told.
+    let v : Kept = the_view c.self.inside in
+    let es : List journal.Event = c.args.events.now in
+    let os : List (ℕ × List ℕ) = c.args.out.now in
+    let is = subst (λ v. IsNode s v n) (sym c.self.view_is) is0 in
+    let over : c.over.result ≡ record { events = es; sent = os; before = length os; failed = false } = c.over.ensures in
+    let p : Plays s es os (record v { telling = c.over.result }) (begun n) = plays-at s es os (record v { telling = c.over.result }) (begun n) (record {
+      is = record { setting = is.setting; holds = is.holds; stored = is.stored; records = is.records; roster = is.roster; probes = is.probes };
+      told = ap (λ (t : Tellings). t.events) over ∙ sym (nil-right es);
+      sent = ap (λ (t : Tellings). t.sent) over ∙ sym (nil-right os);
+      before = ap (λ (t : Tellings). t.before) over;
+    }) in
+    let old : Lent = record { events = es; sent = os } in
+    let new : Lent = record { events = c.finish.new.events; sent = c.finish.new.out } in
+    let y = g.D.Disk.state c.pass-passed.new.disk in
+    let made = λ (gate : ℕ). ticked_on storage s n (record { disk = d; gate = gate }) in
+    follows-by s c.pass-passed.new.self c.finish.new.self old new y (made c.args.self.now.signer.gate) c.pass-passed.result c.finish.result
+    (λ fine. subst (λ (gate : ℕ). ComesTo s es os c.pass-passed.new.self y (is_err c.pass-passed.result) (made gate)) (ap (λ (w : Kept). w.signer.gate) c.self.view_is)
+    (c.pass-passed.ensures.follows s es os n d p told fine))
+    c.pass-passed.ensures.cause c.finish.ensures.failed c.finish.ensures.going c.finish.ensures.frame c.finish.ensures.events c.finish.ensures.sent
+
+pub returns-then-self-clause-follows : goal.returns-then-self-clause-follows
+returns-then-self-clause-follows g c = λ s n d is going told. let over : c.args.self.now.ended ≡ true = search rules in absurd (false≢true (sym going ∙ over))

@@ -9,6 +9,16 @@ use Rattle.node_core.specs.Playing.{Plays, Kept}
 use Rattle.node_core.specs.contracts.Node.{the_view}
 use Rattle.node_core.proofs.PlayLemmas.{signer-at, stopped-at, used_up-at, signed-at, grows-signer, wants-refused, refused-keeps}
 use Rattle.node_core.proofs.SpendLemmas.{lives-signed, signed-spends, unsigned-spends, refused-none}
+use Rattle.node_core.specs.Neighbours.{addressees}
+use Rattle.node_rules.specs.Calls.{wants}
+use Rattle.epoch_store.specs.Asked.{put_calls}
+use Rattle.std.proofs.Common.{◌≡◌, true, false}
+use Rattle.epoch_store.specs.declared.Stored.{Stored}
+use Rattle.signer.specs.Signing.{after_signing, stored_after}
+use Rattle.signer.specs.Signs.{MakesFrom}
+use Rattle.node_core.proofs.PlayLemmas.{free-below}
+use Rattle.node_core.proofs.DiskLemmas.{stores-idle, stores-signed, fails-signed, wants-stored}
+use Rattle.node_core.specs.OnDisks.{Stores, FailsToStore}
 use Rattle.node_core.proofs.Node.want_accusation.Goals as goal
 
 pub returns-in-Err-StoreFault-clause-plays : goal.returns-in-Err-StoreFault-clause-plays
@@ -80,3 +90,28 @@ returns-in-Err-Exhausted-clause-closed g c =
     let closed : SignerState → Bool = λ s. s.closed in
     let same : c.sign_accusation.new.self ≡ c.self.inside.signer = subst (λ (f : SignFault). c.sign_accusation.new.self ≡ after_signing {T = CheckedRecord} c.self.inside.signer (bodies.Accusation c.args.acc.now) (Err f)) c.in-Err-Exhausted.field-0-is c.in-Err-Exhausted.ensures.after in
     ap closed c.tell.ensures.quiet.signer ∙ ap closed same ∙ ap (λ (v : Kept). v.signer.closed) c.self.view_is
+
+pub returns-in-Ok-clause-stores : goal.returns-in-Ok-clause-stores
+returns-in-Ok-clause-stores g c =
+    let v : Kept = the_view c.self.inside in
+    let b : Body = bodies.Accusation c.args.acc.now in
+    let x = g.D.Disk.state c.args.disk.now in
+    let y = g.D.Disk.state c.sign_accusation.new.disk in
+    subst (λ (w : Kept). Stores w.signer c.pass_on_accusation.new.self.signer x y) c.self.view_is
+    (stores-signed v.signer c.sign_accusation.new.self c.pass_on_accusation.new.self.signer b c.in-Ok.rec x y c.in-Ok.ensures.after c.pass_on_accusation.ensures.spent.signer c.in-Ok.ensures.follows)
+
+pub returns-in-Err-StoreFault-clause-fails : goal.returns-in-Err-StoreFault-clause-fails
+returns-in-Err-StoreFault-clause-fails g c = λ s es os call p fine.
+    let v : Kept = the_view c.self.inside in
+    let b : Body = bodies.Accusation c.args.acc.now in
+    let p0 = subst (λ v. Plays s es os v call) (sym c.self.view_is) p in
+    let told = c.tell-in-Err-StoreFault in
+    let h = p0.at (told.ensures.grows.going fine) in
+    let answered = subst (λ (f : SignFault). AnswersBy {T = CheckedRecord} c.self.inside.signer (Err f)) c.in-Err-StoreFault.field-0-is c.in-Err-StoreFault.ensures.answers in
+    let after = subst (λ (f : SignFault). c.sign_accusation.new.self ≡ after_signing {T = CheckedRecord} c.self.inside.signer b (Err f)) c.in-Err-StoreFault.field-0-is c.in-Err-StoreFault.ensures.after in
+    let free = free-below s v call.node h.is answered.1 in
+    let x = g.D.Disk.state c.args.disk.now in
+    let y = g.D.Disk.state c.sign_accusation.new.disk in
+    let kept : Stored = (wants true s b (addressees s (Some c.args.acc.now.accused)) call).node.stored in
+    subst (λ (w : Kept). FailsToStore kept w.signer told.new.self.signer x y) c.self.view_is
+    (fails-signed v.signer c.sign_accusation.new.self told.new.self.signer b kept x y after told.ensures.quiet.signer (subst (λ (f : SignFault). MakesFrom {T = CheckedRecord} (Err f) (put_calls v.signer.gate (stored_after v.signer.state b)) x y) c.in-Err-StoreFault.field-0-is c.in-Err-StoreFault.ensures.follows) (wants-stored s b (Some c.args.acc.now.accused) call free ∙ ap (λ (k : Stored). stored_after k b) (sym h.is.stored)))

@@ -1,0 +1,63 @@
+-- A tick over a disk whose state is told.
+use Rattle.std.proofs.Common.{◌≡◌, ℕ, Bool, true, false, Option, Some, List, refl, sym, ap, ◌∙◌, subst}
+use Rattle.std.specs.Prelude.{fold}
+use Rattle.ports.specs.MemoryDisk.{DiskState}
+use Rattle.epoch_store.specs.Placed.{PlacedStore}
+use Rattle.journal.specs.declared.event.Event as journal
+use Rattle.detector.specs.Silence.{silent as silent_of, pings as pings_of}
+use Rattle.node_rules.specs.Nodes.{Setting, Node}
+use Rattle.node_rules.specs.Pages.{partner}
+use Rattle.node_rules.specs.Calls.{Call}
+use Rattle.node_rules.specs.Ticking.{gossips, is_due, pings_all, round_of, passed, probed_at, watched_by}
+use Rattle.node_rules.specs.OnDisks.{OnDisk, accuses_on, due_on, ticked_on}
+use Rattle.node_rules.proofs.GoingOn.{on-pings_all, on-summary, on-probed}
+use Rattle.node_core.specs.Playing.{Kept, IsAt}
+use Rattle.node_core.specs.Spending.{SignsNothing}
+use Rattle.node_core.specs.Ticks.{seen}
+use Rattle.node_core.specs.OnDisks.{ComesTo, on_disk, storage}
+use Rattle.node_core.proofs.TickLemmas.{FindsDue, now_of}
+
+due-going : (s : Setting) (accused : List ℕ) (pings : List (ℕ × ℕ)) (round : ℕ) (d o : OnDisk PlacedStore) → fold (accuses_on storage s) d accused ≡ o → o.call.ended ≡ false
+    → due_on storage s accused pings round d ≡ record { call = gossips s round (pings_all s pings o.call); disk = o.disk }
+unfolding due_on
+due-going s accused pings round d o is on = rw is (rw on refl)
+
+pub due-over : (s : Setting) (accused : List ℕ) (pings : List (ℕ × ℕ)) (round : ℕ) (d o : OnDisk PlacedStore) → fold (accuses_on storage s) d accused ≡ o → o.call.ended ≡ true → due_on storage s accused pings round d ≡ o
+unfolding due_on
+due-over s accused pings round d o is over = rw is (rw over refl)
+
+on-gossips : (s : Setting) (pings : List (ℕ × ℕ)) (round : ℕ) (c : Call) → (gossips s round (pings_all s pings c)).ended ≡ c.ended
+on-gossips s pings round c = let c1 : Call = pings_all s pings c in on-summary s round (partner s c1.node round) c1 ∙ on-pings_all s pings c
+
+-- behind the accusations the disk is left alone
+pub due-comes : (s : Setting) (es : List journal.Event) (os : List (ℕ × List ℕ)) (v w : Kept) (y : Option DiskState) (accused : List ℕ) (pings : List (ℕ × ℕ)) (round : ℕ) (d : OnDisk PlacedStore) → let o = fold (accuses_on storage s) d accused in
+    ComesTo s es os v y false o → IsAt s es os w (gossips s round (pings_all s pings o.call)) → w.signer ≡ v.signer → ComesTo s es os w y false (due_on storage s accused pings round d)
+due-comes s es os v w y accused pings round d h at same =
+    let o : OnDisk PlacedStore = fold (accuses_on storage s) d accused in
+    subst (ComesTo s es os w y false) (sym (due-going s accused pings round d o refl h.ended))
+    (record { at = at; ended = on-gossips s pings round o.call ∙ h.ended; disk = h.disk; gate = ap (λ k. k.gate) same ∙ h.gate })
+
+probed-is : (s : Setting) (n : Node) → probed_at s n ≡ seen s (passed s n)
+unfolding probed_at
+probed-is s n = refl
+
+pub seen-on : (s : Setting) (n : Node) → (seen s (passed s n)).ended ≡ false
+seen-on s n = sym (ap (λ (c : Call). c.ended) (probed-is s n)) ∙ on-probed s n
+
+pub ticked-on-idle : (s : Setting) (n : Node) (d : DiskState) (gate : ℕ) → is_due s (now_of s n) ≡ false → ticked_on storage s n (record { disk = d; gate = gate }) ≡ on_disk (seen s (passed s n)) d gate
+unfolding ticked_on probed_at
+ticked-on-idle s n d gate idle = rw idle refl
+
+ticked-on-due : (s : Setting) (n : Node) (d : DiskState) (gate : ℕ) → is_due s (now_of s n) ≡ true
+    → ticked_on storage s n (record { disk = d; gate = gate }) ≡ due_on storage s (silent_of (passed s n).node.probes (watched_by s (now_of s n))) (pings_of (passed s n).node.probes true (watched_by s (now_of s n))) (round_of s (now_of s n)) (on_disk (seen s (passed s n)) d gate)
+unfolding ticked_on probed_at
+ticked-on-due s n d gate due = rw due refl
+
+pub ticked-on-found : (s : Setting) (n : Node) (silent : List ℕ) (pings : List (ℕ × ℕ)) (round : ℕ) (d : DiskState) (gate : ℕ) → FindsDue s n silent pings round
+    → due_on storage s silent pings round (on_disk (seen s (passed s n)) d gate) ≡ ticked_on storage s n (record { disk = d; gate = gate })
+ticked-on-found s n silent pings round d gate f =
+    let o : OnDisk PlacedStore = on_disk (seen s (passed s n)) d gate in
+    ap (λ (xs : List ℕ). due_on storage s xs pings round o) f.silent_is
+    ∙ ap (λ (ps : List (ℕ × ℕ)). due_on storage s (silent_of (passed s n).node.probes (watched_by s (now_of s n))) ps round o) f.pings_is
+    ∙ ap (λ (k : ℕ). due_on storage s (silent_of (passed s n).node.probes (watched_by s (now_of s n))) (pings_of (passed s n).node.probes true (watched_by s (now_of s n))) k o) f.round_is
+    ∙ sym (ticked-on-due s n d gate f.due)
