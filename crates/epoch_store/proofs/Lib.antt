@@ -8,3 +8,4 @@ pub mod FoundLemmas
 pub mod CallLemmas
 pub mod FollowLemmas
 pub mod ReachLemmas
+pub mod PlacedLemmas

@@ -5,3 +5,4 @@ pub mod ByteLemmas
 pub mod TurnLemmas
 pub mod SinceLemmas
 pub mod RunLemmas
+pub mod UpLemmas

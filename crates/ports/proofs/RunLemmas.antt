@@ -8,7 +8,7 @@ runs_later : (later earlier : List DiskCall) (a b : DiskState) → runs earlier 
 runs_later [] earlier a b is = is
 runs_later (call ∷ later) earlier a b is = ap (makes call) (runs_later later earlier a b is)
 
-runs_no_further : (later earlier : List DiskCall) (a b : DiskState) → runs earlier a ≡ record { disk = b; failed = true } → runs (later ++ earlier) a ≡ record { disk = b; failed = true }
+pub runs_no_further : (later earlier : List DiskCall) (a b : DiskState) → runs earlier a ≡ record { disk = b; failed = true } → runs (later ++ earlier) a ≡ record { disk = b; failed = true }
 runs_no_further [] earlier a b is = is
 runs_no_further (call ∷ later) earlier a b is = ap (makes call) (runs_no_further later earlier a b is)
 

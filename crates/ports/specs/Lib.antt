@@ -8,6 +8,7 @@ pub mod DiskCalls
 pub mod Disk
 pub mod MemoryDisk
 pub mod DiskSteps
+pub mod Up
 pub mod DiskLaws
 pub mod Link
 pub mod MemoryLink
