@@ -82,7 +82,7 @@ opened tag image c rest state next gate store entry follows is = record {
 }
 
 -- a closed gate, whatever stands behind it
-shut_still : (tag image c rest : List ℕ) (state : Stored) (gate x : ℕ) (store : StoreAt tag image state gate) → x ≢ 1 → c ≡ front tag (state ∷ store.older) ++ x ∷ rest → StoreAt tag c state gate
+pub shut_still : (tag image c rest : List ℕ) (state : Stored) (gate x : ℕ) (store : StoreAt tag image state gate) → x ≢ 1 → c ≡ front tag (state ∷ store.older) ++ x ∷ rest → StoreAt tag c state gate
 shut_still tag image c rest state gate x store closed is = record {
   older = store.older;
   shut = x;
@@ -110,7 +110,7 @@ with_entry tag image bytes state next gate store spell =
     )
 
 -- a file that a crash leaves in which the gate was being opened
-torn_gate : (before behind rest c : List ℕ) (gate shut : ℕ) → gate ≡ length before → Leaves (torn_at gate 1 (settled (before ++ shut ∷ (behind ++ rest)))) c → (x : ℕ) × (more : List ℕ) × (c ≡ before ++ x ∷ (behind ++ more))
+pub torn_gate : (before behind rest c : List ℕ) (gate shut : ℕ) → gate ≡ length before → Leaves (torn_at gate 1 (settled (before ++ shut ∷ (behind ++ rest)))) c → (x : ℕ) × (more : List ℕ) × (c ≡ before ++ x ∷ (behind ++ more))
 torn_gate before behind rest c gate shut place leaves =
     let image = before ++ shut ∷ (behind ++ rest) in
     let size : length image ≡ gate + 1 + length behind + length rest = simp (length-append) (omega arith) in

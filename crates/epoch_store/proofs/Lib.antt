@@ -9,3 +9,4 @@ pub mod CallLemmas
 pub mod FollowLemmas
 pub mod ReachLemmas
 pub mod PlacedLemmas
+pub mod StopLemmas

@@ -1,5 +1,5 @@
 -- A store on a disk whose state is told: which puts succeed, and what is behind them.
-use Rattle.std.specs.Prelude.{ℕ, ◌+◌, Bool, not, if◌then◌else◌}
+use Rattle.std.specs.Prelude.{ℕ, ◌+◌, ◌%◌, ◌==◌, Bool, true, false, not, if◌then◌else◌}
 use Rattle.ports.specs.MemoryDisk.{DiskState}
 use Rattle.ports.specs.DiskSteps.{Came, runs}
 use Rattle.epoch_store.specs.declared.Stored.{Stored}
@@ -18,3 +18,8 @@ put_passes e store = not (put_on e store).failed
 
 abbrev pub after_put : Stored → PlacedStore → PlacedStore
 after_put e store = record { disk = (put_on e store).disk; gate = if put_passes e store then store.gate + 17 else store.gate }
+
+-- whether the byte of a gate that was being written is 1 as a stop with this outcome leaves it: 0 leaves the closed gate,
+-- 1 what was written, and any other a byte of its own making
+abbrev pub leaves_open : ℕ → ℕ → Bool
+leaves_open outcome gate = if outcome == 0 then false else (if outcome == 1 then true else (outcome + gate) % 256 == 1)

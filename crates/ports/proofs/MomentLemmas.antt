@@ -1,5 +1,5 @@
 -- What a crash may leave, moment after moment.
-use Rattle.std.proofs.Common.{◌≡◌, ℕ, zero, suc, ◌+◌, true, false, List, [], ◌∷◌, ◌++◌, length, get_or, refl, ap, ◌∙◌, arith, length-append, cond, eqb, add-zero}
+use Rattle.std.proofs.Common.{◌≡◌, ℕ, zero, suc, ◌+◌, ◌<◌, ◌%◌, sym, true, false, List, [], ◌∷◌, ◌++◌, length, get_or, refl, ap, ◌∙◌, arith, length-append, cond, eqb, add-zero}
 use Rattle.std.proofs.lemmas.List.{ext_get_or}
 use Rattle.std.proofs.lemmas.Bool.Decides.{nat_tests}
 use Rattle.ports.specs.Disk.{Moment, Leaves, LeavesItself, settled, torn_at, wrote, IsAmong}
@@ -19,6 +19,16 @@ get_or-garbled_stable outcome torn kept place zero (b ∷ bytes) stable =
 get_or-garbled_stable outcome torn kept place (suc i) (b ∷ bytes) stable =
     let at : place + suc i ≡ place + 1 + i = omega arith in
     get_or-garbled_stable outcome torn kept (place + 1) i bytes (rw at at stable)
+
+pub get_or-garbled_unstable : (outcome : ℕ) (torn : List (ℕ × ℕ)) (kept place i : ℕ) (bytes : List ℕ) → i < length bytes → is_unstable torn kept (place + i) ≡ true → get_or (garbled outcome torn kept place bytes) i 0 ≡ (outcome + (place + i)) % 256
+get_or-garbled_unstable outcome torn kept place i [] within torn_there = absurd (omega arith)
+get_or-garbled_unstable outcome torn kept place zero (b ∷ bytes) within torn_there =
+    let here : is_unstable torn kept place ≡ true = rw add-zero at torn_there in
+    let at : place + zero ≡ place = omega arith in rw (here, at) refl
+get_or-garbled_unstable outcome torn kept place (suc i) (b ∷ bytes) within torn_there =
+    let at : place + suc i ≡ place + 1 + i = omega arith in
+    let below : i < length bytes = omega arith in
+    get_or-garbled_unstable outcome torn kept (place + 1) i bytes below (rw at at torn_there) ∙ ap (λ (j : ℕ). (outcome + j) % 256) (sym at)
 
 garbled_leaves : (outcome : ℕ) (moment : Moment) → LeavesItself moment → Leaves moment (garbled outcome moment.torn (length moment.stable) 0 moment.image)
 garbled_leaves outcome moment left = record {

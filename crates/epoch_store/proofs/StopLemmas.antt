@@ -1,0 +1,105 @@
+-- What a stop within a put leaves of the store, by the outcome that picks the file.
+use Rattle.std.proofs.Common.{◌≡◌, ◌≢◌, ℕ, ◌+◌, ◌-◌, ◌<◌, ◌≤◌, ◌%◌, inl, inr, eqb, Bool, true, false, cond, List, [], ◌∷◌, ◌++◌, length, take, drop, get_or, refl, sym, ap, ◌∙◌, subst, arith, append_assoc, length-append, length-take, eq-eqb}
+use Rattle.std.proofs.lemmas.Bool.{cases_Bool, eqb-true, false≢true}
+use Rattle.std.proofs.lemmas.Bool.Decides.{nat_tests}
+use Rattle.ports.specs.Disk.{Moment, Leaves, LeavesItself, settled, torn_at, written, wrote}
+use Rattle.ports.specs.MemoryDisk.{picked, garbled, is_unstable}
+use Rattle.ports.specs.DiskLaws.{length-written, settled_leaves, wrote_leaves}
+use Rattle.ports.proofs.MomentLemmas.{get_or-garbled_unstable, picked_leaves, wrote_among}
+use Rattle.epoch_store.specs.declared.Stored.{Stored}
+use Rattle.epoch_store.specs.Store.{spelled, front, IsEntry, Follows, StoreAt}
+use Rattle.epoch_store.specs.Placed.{leaves_open}
+use Rattle.epoch_store.proofs.FileLemmas.{behind_gate, opened, shut_still, torn_gate, with_entry, written_within}
+use Rattle.epoch_store.proofs.PlacedLemmas.{entry_of, entry_written, gate_written}
+
+-- in the write of the entry or in its sync: the gate wasn't touched
+pub stopped_at_entry : (tag image : List ℕ) (state next : Stored) (gate outcome : ℕ) → StoreAt tag image state gate → StoreAt tag (picked outcome (entry_written gate next (settled image))) state gate
+stopped_at_entry tag image state next gate outcome store =
+    let now : Moment = settled image in
+    let m : Moment = wrote (gate + 1) (entry_of next) now in
+    let left : LeavesItself m = wrote_leaves (gate + 1) (entry_of next) now (settled_leaves image) in
+    behind_gate tag image (picked outcome m) state gate (length (entry_of next)) store (wrote_among (gate + 1) (entry_of next) now (picked outcome m) (picked_leaves outcome m left))
+
+-- ---- the byte of the gate
+
+byte_behind : (before rest : List ℕ) (x : ℕ) → get_or (before ++ x ∷ rest) (length before) 0 ≡ x
+byte_behind [] rest x = refl
+byte_behind (b ∷ before) rest x = byte_behind before rest x
+
+byte_at : (before rest : List ℕ) (x gate : ℕ) → gate ≡ length before → get_or (before ++ x ∷ rest) gate 0 ≡ x
+byte_at before rest x gate place = ap (λ (i : ℕ). get_or (before ++ x ∷ rest) i 0) place ∙ byte_behind before rest x
+
+byte_written : (full : List ℕ) (gate : ℕ) → gate < length full → get_or (written gate (1 ∷ []) full) gate 0 ≡ 1
+byte_written full gate within =
+    let some : 0 < 1 = omega arith in
+    let inside : gate ≤ length full = omega arith in
+    let size : gate ≡ length (take gate full) = simp length-take (omega arith) in
+    let bytes : List ℕ = 1 ∷ [] in
+    let rest : List ℕ = drop (gate + length bytes) full in
+    let last : get_or (take gate full ++ 1 ∷ rest) gate 0 ≡ 1 = byte_at (take gate full) rest 1 gate size in
+    rw (written_within gate (1 ∷ []) full some inside, append_assoc (take gate full) (1 ∷ []) rest) last
+
+byte_unstable : (full : List ℕ) (gate : ℕ) → is_unstable ((gate, 1) ∷ []) (length full) (0 + gate) ≡ true
+byte_unstable full gate = grind (arith, nat_tests)
+
+long_written : (full : List ℕ) (gate : ℕ) → gate < length full → gate < length (written gate (1 ∷ []) full)
+long_written full gate within = omega (arith, length-written gate (1 ∷ []) full)
+
+-- the gate is open exactly where the outcome leaves it so
+byte_picked : (full : List ℕ) (gate outcome : ℕ) → gate < length full → get_or full gate 0 ≢ 1 → eqb (get_or (picked outcome (wrote gate (1 ∷ []) (settled full))) gate 0) 1 ≡ leaves_open outcome gate
+byte_picked full gate outcome within closed =
+    let shut : eqb (get_or full gate 0) 1 ≡ false = grind (arith, nat_tests, closed) in
+    let made : get_or (garbled outcome ((gate, 1) ∷ []) (length full) 0 (written gate (1 ∷ []) full)) gate 0 ≡ (outcome + (0 + gate)) % 256 =
+    get_or-garbled_unstable outcome ((gate, 1) ∷ []) (length full) 0 gate (written gate (1 ∷ []) full) (long_written full gate within) (byte_unstable full gate) in
+    let zero_more : 0 + gate ≡ gate = omega arith in
+    elim (cases_Bool (eqb outcome 0)) [
+      | inl none ↦ rw none shut
+      | inr some ↦ elim (cases_Bool (eqb outcome 1)) [
+        | inl one ↦ rw (some, one) (ap (λ (b : ℕ). eqb b 1) (byte_written full gate within))
+        | inr more ↦ rw (some, more) (ap (λ (b : ℕ). eqb b 1) (made ∙ ap (λ (i : ℕ). (outcome + i) % 256) zero_more))
+      ]
+    ]
+
+-- ---- in the write of the gate or in its sync
+
+-- the store has the entry, or not
+record IsDecided (tag c : List ℕ) (state next : Stored) (gate : ℕ) : Type 0 where
+  has : get_or c gate 0 ≡ 1 → StoreAt tag c next (gate + 17)
+  hasnt : get_or c gate 0 ≢ 1 → StoreAt tag c state gate
+
+decided : (tag image full c rest : List ℕ) (state next : Stored) (gate : ℕ) (store : StoreAt tag image state gate) → IsEntry next → Follows state next
+    → full ≡ front tag (state ∷ store.older) ++ store.shut ∷ (spelled next ++ 0 ∷ rest) → Leaves (torn_at gate 1 (settled full)) c → IsDecided tag c state next gate
+decided tag image full c rest state next gate store entry follows is leaves =
+    let before = front tag (state ∷ store.older) in
+    let shape : full ≡ before ++ store.shut ∷ ((spelled next ++ 0 ∷ []) ++ rest) =
+    is ∙ ap (λ (b : List ℕ). before ++ store.shut ∷ b) (sym (append_assoc (spelled next) (0 ∷ []) rest)) in
+    let torn = torn_gate before (spelled next ++ 0 ∷ []) rest c gate store.shut store.place (rw shape at leaves) in
+    let whole : c ≡ before ++ torn.0 ∷ (spelled next ++ 0 ∷ torn.1) = torn.2 ∙ ap (λ (b : List ℕ). before ++ torn.0 ∷ b) (append_assoc (spelled next) (0 ∷ []) torn.1) in
+    let byte : get_or c gate 0 ≡ torn.0 = ap (λ (b : List ℕ). get_or b gate 0) whole ∙ byte_at before (spelled next ++ 0 ∷ torn.1) torn.0 gate store.place in
+    record {
+      has = λ one. opened tag image c torn.1 state next gate store entry follows (whole ∙ ap (λ (x : ℕ). before ++ x ∷ (spelled next ++ 0 ∷ torn.1)) (sym byte ∙ one));
+      hasnt = λ other. shut_still tag image c (spelled next ++ 0 ∷ torn.1) state gate torn.0 store (λ one. other (byte ∙ one)) whole;
+    }
+
+-- as the outcome leaves the gate
+pub record LeavesGate (tag c : List ℕ) (state next : Stored) (gate outcome : ℕ) : Type 0 where
+  pub open_ : leaves_open outcome gate ≡ true → StoreAt tag c next (gate + 17)
+  pub shut : leaves_open outcome gate ≡ false → StoreAt tag c state gate
+
+pub stopped_at_gate : (tag image : List ℕ) (state next : Stored) (gate outcome : ℕ) → StoreAt tag image state gate → IsEntry next → Follows state next → LeavesGate tag (picked outcome (gate_written gate next (settled image))) state next gate outcome
+stopped_at_gate tag image state next gate outcome store entry follows =
+    let full : List ℕ = written (gate + 1) (entry_of next) image in
+    let m : Moment = wrote gate (1 ∷ []) (settled full) in
+    let c : List ℕ = picked outcome m in
+    let before = front tag (state ∷ store.older) in
+    let shape = with_entry tag image (entry_of next) state next gate store refl in
+    let left : LeavesItself m = wrote_leaves gate (1 ∷ []) (settled full) (settled_leaves full) in
+    let leaves : Leaves (torn_at gate 1 (settled full)) c = wrote_among gate (1 ∷ []) (settled full) c (picked_leaves outcome m left) in
+    let by = decided tag image full c shape.0 state next gate store entry follows shape.1 leaves in
+    let within : gate < length full = omega (arith, store.place, ap length shape.1, length-append before (store.shut ∷ (spelled next ++ 0 ∷ shape.0))) in
+    let was : get_or full gate 0 ≡ store.shut = ap (λ (b : List ℕ). get_or b gate 0) shape.1 ∙ byte_at before (spelled next ++ 0 ∷ shape.0) store.shut gate store.place in
+    let byte = byte_picked full gate outcome within (λ one. store.closed (sym was ∙ one)) in
+    record {
+      open_ = λ opens. by.has (eqb-true _ _ (byte ∙ opens));
+      shut = λ none. by.hasnt (λ one. false≢true (sym none ∙ sym byte ∙ eq-eqb (get_or c gate 0) 1 one));
+    }
