@@ -1,6 +1,7 @@
 -- What follows from how an enrolment ended.
 use Rattle.std.proofs.Common.{◌≡◌, ◌≢◌, ◌+◌, ◌<◌, ◌≤◌, ◌⊎◌, ℕ, Bool, true, false, length, take, drop, map, Option, Some, None, List, [], ◌∷◌, ◌++◌, Result, Ok, Err, refl, sym, subst, ap, ◌∙◌, inl, inr, arith, append-nil, append_assoc, length-append, take-append-drop, ltb, lt-ltb}
 use Rattle.std.specs.Prelude.{IfSome}
+use Rattle.std.proofs.Math.Nat.{le-max_right}
 use Rattle.std.specs.List.{AllByRecursion}
 use Rattle.std.specs.Io.KnownBytes.{Appends}
 use Rattle.std.proofs.KnownBytes.{Appends-nil, Appends-trans, Consumes-whole}
@@ -94,21 +95,21 @@ first-written was between mid now s lines next done one part first answer read f
     written was between mid now s lines next first answer (signed_lines s.group (key_of s) next done) rest read told
     (ap (λ cs. lines_within s.group (key_of s) next cs) part.are ∙ split-within s next done (one ∷ part.rest) few) (owing rest) tells
 
-found-of : (s : Setting) (certs : List CertBody) (o : Stored) (old new : OfDisk) → AreEnrolled s o certs old new → IsFound o old
-found-of s certs o old new e = record { setting = s; gate = e.gate; found = e.found }
+found-of : (name : List ℕ) (s : Setting) (certs : List CertBody) (o : Stored) (old new : OfDisk) → AreEnrolled name s o certs old new → IsFound o old
+found-of name s certs o old new e = record { setting = s; gate = e.gate; found = e.found }
 
-found-either : (s : Setting) (done more : List CertBody) (o : Stored) (old new : OfDisk) → AreEnrolled s o done old new ⊎ AreEnrolled s o more old new → IsFound o old
-found-either s done more o old new (inl e) = found-of s done o old new e
-found-either s done more o old new (inr e) = found-of s more o old new e
+found-either : (name : List ℕ) (s : Setting) (done more : List CertBody) (o : Stored) (old new : OfDisk) → AreEnrolled name s o done old new ⊎ AreEnrolled name s o more old new → IsFound o old
+found-either name s done more o old new (inl e) = found-of name s done o old new e
+found-either name s done more o old new (inr e) = found-of name s more o old new e
 
-pub enroll-traced : (was mid now : Standing) (old new : OfDisk) (r : Answer) (s : Status) → Enrols was mid old new r → Tells (status_of_halt r) mid now s → TracedRoster was now old s
-enroll-traced was mid now old new (Ok _) s h t =
+pub enroll-traced : (name : List ℕ) (was mid now : Standing) (old new : OfDisk) (r : Answer) (s : Status) → Enrols name was mid old new r → Tells (status_of_halt r) mid now s → TracedRoster was now old s
+enroll-traced name was mid now old new (Ok _) s h t =
     let e = h.rest in
-    as_.Opened e.opened (found-of h.setting (asked_in h.lines) e.opened old new e.enrolled)
+    as_.Opened e.opened (found-of name h.setting (asked_in h.lines) e.opened old new e.enrolled)
     (written was h.between mid now h.setting h.lines e.opened.next status.Ok s (lines_for e.opened.next (asked_in h.lines) h.setting) [] h.read e.told (sym (append-nil (lines_for e.opened.next (asked_in h.lines) h.setting))) refl t)
-enroll-traced was mid now old new (Err (halt.Refused line w)) s h t = as_.CutOff (λ next. traced (enrolled next) was now s (record { first = status.BadInput line w; between = mid; stands = h.0 (told_at_end next); tells = t }))
-enroll-traced was mid now old new (Err halt.ReadFault) s h t = as_.CutOff (λ next. traced (enrolled next) was now s (record { first = status.ReadFault; between = mid; stands = h.0 (told_at_end next); tells = t }))
-enroll-traced was mid now old new (Err halt.WriteFault) s h t =
+enroll-traced name was mid now old new (Err (halt.Refused line w)) s h t = as_.CutOff (λ next. traced (enrolled next) was now s (record { first = status.BadInput line w; between = mid; stands = h.0 (told_at_end next); tells = t }))
+enroll-traced name was mid now old new (Err halt.ReadFault) s h t = as_.CutOff (λ next. traced (enrolled next) was now s (record { first = status.ReadFault; between = mid; stands = h.0 (told_at_end next); tells = t }))
+enroll-traced name was mid now old new (Err halt.WriteFault) s h t =
     let e = h.rest in
     let cut = e.cut.wrote in
     let g = h.setting.group in
@@ -120,26 +121,26 @@ enroll-traced was mid now old new (Err halt.WriteFault) s h t =
     ap (λ cs. lines_within g k e.opened.next cs) e.part.are ∙ split-within h.setting e.opened.next e.done (e.one ∷ e.part.rest) (omega (arith, e.within))
     ∙ ap (λ (x : List ℕ). before ++ x) (one-within h.setting (e.opened.next + length e.done) e.one e.part.rest e.within ∙ ap (λ (x : List ℕ). x ++ behind) (sym (take-append-drop cut.count line)) ∙ append_assoc (take cut.count line) (drop cut.count line) behind)
     ∙ sym (append_assoc before (take cut.count line) (drop cut.count line ++ behind)) in
-    as_.Opened e.opened (found-of h.setting (e.done ++ e.one ∷ []) e.opened old new e.enrolled)
+    as_.Opened e.opened (found-of name h.setting (e.done ++ e.one ∷ []) e.opened old new e.enrolled)
     (whole-traced roster_judging roster.Start (told_at_end e.opened.next) h.lines was h.between mid now status.WriteFault s (before ++ take cut.count line) (drop cut.count line ++ behind) h.read.whole
     (Appends-trans h.between.taken e.mid.taken mid.taken before (take cut.count line) e.told.wrote cut.gained) (e.cut.left ∙ e.told.left) (told-lines was h.between h.setting h.lines e.opened.next h.read ∙ same) tt t)
-enroll-traced was mid now old new (Err halt.StoreFault) s h t =
+enroll-traced name was mid now old new (Err halt.StoreFault) s h t =
     elim h.rest [
       | inl opening ↦ as_.Unopened (silent was h.between mid now h.setting h.lines status.StoreFault s h.read opening.0 (λ rest. tt) t)
-      | inr e ↦ as_.Opened e.opened (record { setting = h.setting; gate = e.gate; found = e.found }) (first-written was h.between mid now h.setting h.lines e.opened.next e.done e.one e.part status.StoreFault s h.read e.within e.told (λ rest. tt) t)
+      | inr e ↦ as_.Opened e.opened (record { setting = h.setting; gate = e.gate; found = e.found }) (first-written was h.between mid now h.setting h.lines e.opened.next e.done e.one e.part status.StoreFault s h.read (omega (arith, e.within)) e.told (λ rest. tt) t)
     ]
-enroll-traced was mid now old new (Err (halt.StoreBroken place byte)) s h t = as_.Unopened (silent was h.between mid now h.setting h.lines (status.StoreBroken place byte) s h.read h.rest.0 (λ rest. tt) t)
-enroll-traced was mid now old new (Err (halt.StoreTaken len)) s h t = absurd h.rest
-enroll-traced was mid now old new (Err (halt.Exhausted next)) s h t =
+enroll-traced name was mid now old new (Err (halt.StoreBroken place byte)) s h t = as_.Unopened (silent was h.between mid now h.setting h.lines (status.StoreBroken place byte) s h.read h.rest.0 (λ rest. tt) t)
+enroll-traced name was mid now old new (Err (halt.StoreTaken len)) s h t = absurd h.rest
+enroll-traced name was mid now old new (Err (halt.Exhausted next)) s h t =
     let e = h.rest in
-    as_.Opened e.opened (found-of h.setting e.done e.opened old new e.enrolled)
+    as_.Opened e.opened (found-of name h.setting e.done e.opened old new e.enrolled)
     (written was h.between mid now h.setting h.lines e.opened.next (status.Exhausted next) s (lines_for e.opened.next (asked_in h.lines) h.setting) [] h.read e.told (sym (append-nil (lines_for e.opened.next (asked_in h.lines) h.setting))) refl t)
-enroll-traced was mid now old new (Err halt.OutOfMemory) s h t =
+enroll-traced name was mid now old new (Err halt.OutOfMemory) s h t =
     elim h [
       | inl cut ↦ as_.CutOff (λ next. traced (enrolled next) was now s (record { first = status.OutOfMemory; between = mid; stands = cut.0 (told_at_end next); tells = t }))
       | inr w ↦ elim w.rest [
         | inl opening ↦ as_.Unopened (silent was w.between mid now w.setting w.lines status.OutOfMemory s w.read opening.0 (λ rest. tt) t)
-        | inr e ↦ as_.Opened e.opened (found-either w.setting e.done (e.done ++ e.one ∷ []) e.opened old new e.enrolled) (first-written was w.between mid now w.setting w.lines e.opened.next e.done e.one e.part status.OutOfMemory s w.read e.within e.told (λ rest. tt) t)
+        | inr e ↦ as_.Opened e.opened (found-either name w.setting e.done (e.done ++ e.one ∷ []) e.opened old new e.enrolled) (first-written was w.between mid now w.setting w.lines e.opened.next e.done e.one e.part status.OutOfMemory s w.read e.within e.told (λ rest. tt) t)
       ]
     ]
 
@@ -151,26 +152,26 @@ whole-unfailed was between mid s lines read same = subst (Unfailed was) (sym sam
 told-unfailed : (was between mid : Standing) (s : Setting) (lines : List RosterLine) (text : List ℕ) → IsRoster was between s lines → IsTold between mid text → Unfailed was mid
 told-unfailed was between mid s lines text read told = record { reads = told.unfailed.reads ∙ read.whole.unfailed.reads; writes = told.unfailed.writes ∙ read.whole.unfailed.writes }
 
-pub enroll-counts : (was mid now : Standing) (old new : OfDisk) (r : Answer) (s : Status) → Enrols was mid old new r → Tells (status_of_halt r) mid now s → Counts was now s
-enroll-counts was mid now old new (Ok _) s h t = done-by was mid now t.failed status.Ok t.line s tt (told-unfailed was h.between mid h.setting h.lines _ h.read h.rest.told) t.says t.reads t.writes
-enroll-counts was mid now old new (Err (halt.Refused line w)) s h t = counts-by (enrolled 0) was mid now t.failed (status.BadInput line w) t.line s (h.0 (told_at_end 0)) t.says t.reads t.writes
-enroll-counts was mid now old new (Err halt.ReadFault) s h t = counts-by (enrolled 0) was mid now t.failed status.ReadFault t.line s (h.0 (told_at_end 0)) t.says t.reads t.writes
-enroll-counts was mid now old new (Err halt.WriteFault) s h t =
+pub enroll-counts : (name : List ℕ) (was mid now : Standing) (old new : OfDisk) (r : Answer) (s : Status) → Enrols name was mid old new r → Tells (status_of_halt r) mid now s → Counts was now s
+enroll-counts name was mid now old new (Ok _) s h t = done-by was mid now t.failed status.Ok t.line s tt (told-unfailed was h.between mid h.setting h.lines _ h.read h.rest.told) t.says t.reads t.writes
+enroll-counts name was mid now old new (Err (halt.Refused line w)) s h t = counts-by (enrolled 0) was mid now t.failed (status.BadInput line w) t.line s (h.0 (told_at_end 0)) t.says t.reads t.writes
+enroll-counts name was mid now old new (Err halt.ReadFault) s h t = counts-by (enrolled 0) was mid now t.failed status.ReadFault t.line s (h.0 (told_at_end 0)) t.says t.reads t.writes
+enroll-counts name was mid now old new (Err halt.WriteFault) s h t =
     let e = h.rest in
     let before = told-unfailed was h.between e.mid h.setting h.lines _ h.read e.told in
     cut-by was mid now t.failed t.line s (e.cut.reads ∙ before.reads) (e.cut.writes ∙ ap next_count before.writes) t.says t.reads t.writes
-enroll-counts was mid now old new (Err halt.StoreFault) s h t =
+enroll-counts name was mid now old new (Err halt.StoreFault) s h t =
     let before : Unfailed was mid = elim h.rest [
       | inl opening ↦ whole-unfailed was h.between mid h.setting h.lines h.read opening.0
       | inr e ↦ told-unfailed was h.between mid h.setting h.lines _ h.read e.told
     ] in
     done-by was mid now t.failed status.StoreFault t.line s tt before t.says t.reads t.writes
-enroll-counts was mid now old new (Err (halt.StoreBroken place byte)) s h t =
+enroll-counts name was mid now old new (Err (halt.StoreBroken place byte)) s h t =
     done-by was mid now t.failed (status.StoreBroken place byte) t.line s tt (whole-unfailed was h.between mid h.setting h.lines h.read h.rest.0) t.says t.reads t.writes
-enroll-counts was mid now old new (Err (halt.StoreTaken len)) s h t = absurd h.rest
-enroll-counts was mid now old new (Err (halt.Exhausted next)) s h t =
+enroll-counts name was mid now old new (Err (halt.StoreTaken len)) s h t = absurd h.rest
+enroll-counts name was mid now old new (Err (halt.Exhausted next)) s h t =
     done-by was mid now t.failed (status.Exhausted next) t.line s tt (told-unfailed was h.between mid h.setting h.lines _ h.read h.rest.told) t.says t.reads t.writes
-enroll-counts was mid now old new (Err halt.OutOfMemory) s h t =
+enroll-counts name was mid now old new (Err halt.OutOfMemory) s h t =
     elim h [
       | inl cut ↦ counts-by (enrolled 0) was mid now t.failed status.OutOfMemory t.line s (cut.0 (told_at_end 0)) t.says t.reads t.writes
       | inr w ↦
@@ -181,25 +182,25 @@ enroll-counts was mid now old new (Err halt.OutOfMemory) s h t =
           done-by was mid now t.failed status.OutOfMemory t.line s tt before t.says t.reads t.writes
     ]
 
-faults-either : (s : Setting) (done more : List CertBody) (o : Stored) (old new : OfDisk) → AreEnrolled s o done old new ⊎ AreEnrolled s o more old new → new.faults ≡ old.faults
-faults-either s done more o old new (inl e) = e.faults
-faults-either s done more o old new (inr e) = e.faults
+faults-either : (name : List ℕ) (s : Setting) (done more : List CertBody) (o : Stored) (old new : OfDisk) → AreEnrolled name s o done old new ⊎ AreEnrolled name s o more old new → new.faults ≡ old.faults
+faults-either name s done more o old new (inl e) = e.faults
+faults-either name s done more o old new (inr e) = e.faults
 
-pub enroll-disk : (was mid now : Standing) (old new : OfDisk) (r : Answer) (s : Status) → Enrols was mid old new r → Tells (status_of_halt r) mid now s → DiskCounts old new s
-enroll-disk was mid now old new (Ok _) s h t = or-cut t.failed status.Ok t.line s t.says (DiskCounts old new) h.rest.enrolled.faults (inl h.rest.enrolled.faults)
-enroll-disk was mid now old new (Err (halt.Refused line w)) s h t = let same = ap (λ d. d.faults) h.1 in or-cut t.failed (status.BadInput line w) t.line s t.says (DiskCounts old new) same (inl same)
-enroll-disk was mid now old new (Err halt.ReadFault) s h t = let same = ap (λ d. d.faults) h.1 in or-cut t.failed status.ReadFault t.line s t.says (DiskCounts old new) same (inl same)
-enroll-disk was mid now old new (Err halt.WriteFault) s h t = or-cut t.failed status.WriteFault t.line s t.says (DiskCounts old new) (inl h.rest.enrolled.faults) (inl h.rest.enrolled.faults)
-enroll-disk was mid now old new (Err halt.StoreFault) s h t =
+pub enroll-disk : (name : List ℕ) (was mid now : Standing) (old new : OfDisk) (r : Answer) (s : Status) → Enrols name was mid old new r → Tells (status_of_halt r) mid now s → DiskCounts old new s
+enroll-disk name was mid now old new (Ok _) s h t = or-cut t.failed status.Ok t.line s t.says (DiskCounts old new) h.rest.enrolled.faults (inl h.rest.enrolled.faults)
+enroll-disk name was mid now old new (Err (halt.Refused line w)) s h t = let same = ap (λ d. d.faults) h.1 in or-cut t.failed (status.BadInput line w) t.line s t.says (DiskCounts old new) same (inl same)
+enroll-disk name was mid now old new (Err halt.ReadFault) s h t = let same = ap (λ d. d.faults) h.1 in or-cut t.failed status.ReadFault t.line s t.says (DiskCounts old new) same (inl same)
+enroll-disk name was mid now old new (Err halt.WriteFault) s h t = or-cut t.failed status.WriteFault t.line s t.says (DiskCounts old new) (inl h.rest.enrolled.faults) (inl h.rest.enrolled.faults)
+enroll-disk name was mid now old new (Err halt.StoreFault) s h t =
     let up : new.faults ≡ next_count old.faults = elim h.rest [ inl opening ↦ opening.1.faults | inr e ↦ e.faults ] in
     or-cut t.failed status.StoreFault t.line s t.says (DiskCounts old new) up (inr up)
-enroll-disk was mid now old new (Err (halt.StoreBroken place byte)) s h t = or-cut t.failed (status.StoreBroken place byte) t.line s t.says (DiskCounts old new) h.rest.1.faults (inl h.rest.1.faults)
-enroll-disk was mid now old new (Err (halt.StoreTaken len)) s h t = absurd h.rest
-enroll-disk was mid now old new (Err (halt.Exhausted next)) s h t = or-cut t.failed (status.Exhausted next) t.line s t.says (DiskCounts old new) h.rest.enrolled.faults (inl h.rest.enrolled.faults)
-enroll-disk was mid now old new (Err halt.OutOfMemory) s h t =
+enroll-disk name was mid now old new (Err (halt.StoreBroken place byte)) s h t = or-cut t.failed (status.StoreBroken place byte) t.line s t.says (DiskCounts old new) h.rest.1.faults (inl h.rest.1.faults)
+enroll-disk name was mid now old new (Err (halt.StoreTaken len)) s h t = absurd h.rest
+enroll-disk name was mid now old new (Err (halt.Exhausted next)) s h t = or-cut t.failed (status.Exhausted next) t.line s t.says (DiskCounts old new) h.rest.enrolled.faults (inl h.rest.enrolled.faults)
+enroll-disk name was mid now old new (Err halt.OutOfMemory) s h t =
     let same : new.faults ≡ old.faults = elim h [
       | inl cut ↦ ap (λ d. d.faults) cut.1
-      | inr w ↦ elim w.rest [ inl opening ↦ opening.1.faults | inr e ↦ faults-either w.setting e.done (e.done ++ e.one ∷ []) e.opened old new e.enrolled ]
+      | inr w ↦ elim w.rest [ inl opening ↦ opening.1.faults | inr e ↦ faults-either name w.setting e.done (e.done ++ e.one ∷ []) e.opened old new e.enrolled ]
     ] in
     or-cut t.failed status.OutOfMemory t.line s t.says (DiskCounts old new) same (inl same)
 
@@ -253,35 +254,35 @@ kept-over was old new fails = inl (λ tag before spent ends. (kept_by_opening ta
 one-more : (certs done : List CertBody) (one : CertBody) (part : IsPart certs done one) → certs ≡ (done ++ one ∷ []) ++ part.rest
 one-more certs done one part = part.are ∙ sym (append_assoc done (one ∷ []) part.rest)
 
-spends-either : (was between : Standing) (s : Setting) (lines : List RosterLine) (o : Stored) (done : List CertBody) (one : CertBody) (part : IsPart (asked_in lines) done one) (old new : OfDisk) → IsRoster was between s lines → AreEnrolled s o done old new ⊎ AreEnrolled s o (done ++ one ∷ []) old new → Enrolment was old new
-spends-either was between s lines o done one part old new read (inl e) = spends-certs was between s lines o e.gate done (one ∷ part.rest) old new read e.found part.are e.spends
-spends-either was between s lines o done one part old new read (inr e) = spends-certs was between s lines o e.gate (done ++ one ∷ []) part.rest old new read e.found (one-more (asked_in lines) done one part) e.spends
+spends-either : (name : List ℕ) (was between : Standing) (s : Setting) (lines : List RosterLine) (o : Stored) (done : List CertBody) (one : CertBody) (part : IsPart (asked_in lines) done one) (old new : OfDisk) → IsRoster was between s lines → AreEnrolled name s o done old new ⊎ AreEnrolled name s o (done ++ one ∷ []) old new → Enrolment was old new
+spends-either name was between s lines o done one part old new read (inl e) = spends-certs was between s lines o e.gate done (one ∷ part.rest) old new read e.found part.are e.spends
+spends-either name was between s lines o done one part old new read (inr e) = spends-certs was between s lines o e.gate (done ++ one ∷ []) part.rest old new read e.found (one-more (asked_in lines) done one part) e.spends
 
-pub enroll-upheld : (was mid : Standing) (old new : OfDisk) (r : Answer) → Enrols was mid old new r → Enrolment was old new
-enroll-upheld was mid old new (Ok _) h =
+pub enroll-upheld : (name : List ℕ) (was mid : Standing) (old new : OfDisk) (r : Answer) → Enrols name was mid old new r → Enrolment was old new
+enroll-upheld name was mid old new (Ok _) h =
     let e = h.rest in
     spends-certs was h.between h.setting h.lines e.opened e.enrolled.gate (asked_in h.lines) [] old new h.read e.enrolled.found (sym (append-nil (asked_in h.lines))) e.enrolled.spends
-enroll-upheld was mid old new (Err (halt.Refused line w)) h = untouched was old new h.1
-enroll-upheld was mid old new (Err halt.ReadFault) h = untouched was old new h.1
-enroll-upheld was mid old new (Err halt.WriteFault) h =
+enroll-upheld name was mid old new (Err (halt.Refused line w)) h = untouched was old new h.1
+enroll-upheld name was mid old new (Err halt.ReadFault) h = untouched was old new h.1
+enroll-upheld name was mid old new (Err halt.WriteFault) h =
     let e = h.rest in
     spends-certs was h.between h.setting h.lines e.opened e.enrolled.gate (e.done ++ e.one ∷ []) e.part.rest old new h.read e.enrolled.found (one-more (asked_in h.lines) e.done e.one e.part) e.enrolled.spends
-enroll-upheld was mid old new (Err halt.StoreFault) h =
+enroll-upheld name was mid old new (Err halt.StoreFault) h =
     elim h.rest [
       | inl opening ↦ kept-over was old new opening.1.moments
       | inr e ↦ spends-certs was h.between h.setting h.lines e.opened e.gate e.done (e.one ∷ e.part.rest) old new h.read e.found e.part.are e.spends
     ]
-enroll-upheld was mid old new (Err (halt.StoreBroken place byte)) h = kept-over was old new h.rest.1.kept
-enroll-upheld was mid old new (Err (halt.StoreTaken len)) h = absurd h.rest
-enroll-upheld was mid old new (Err (halt.Exhausted next)) h =
+enroll-upheld name was mid old new (Err (halt.StoreBroken place byte)) h = kept-over was old new h.rest.1.kept
+enroll-upheld name was mid old new (Err (halt.StoreTaken len)) h = absurd h.rest
+enroll-upheld name was mid old new (Err (halt.Exhausted next)) h =
     let e = h.rest in
     spends-certs was h.between h.setting h.lines e.opened e.enrolled.gate e.done (e.one ∷ e.part.rest) old new h.read e.enrolled.found e.part.are e.enrolled.spends
-enroll-upheld was mid old new (Err halt.OutOfMemory) h =
+enroll-upheld name was mid old new (Err halt.OutOfMemory) h =
     elim h [
       | inl cut ↦ untouched was old new cut.1
       | inr w ↦ elim w.rest [
         | inl opening ↦ kept-over was old new opening.1.moments
-        | inr e ↦ spends-either was w.between w.setting w.lines e.opened e.done e.one e.part old new w.read e.enrolled
+        | inr e ↦ spends-either name was w.between w.setting w.lines e.opened e.done e.one e.part old new w.read e.enrolled
       ]
     ]
 
@@ -343,44 +344,44 @@ not-gone s a o certs done one next same (inr none) part next_is gone =
     let z = ap length none in
     omega (arith, l, z)
 
-enroll-whole : (was mid now : Standing) (old new : OfDisk) (r : Answer) (s : Status) (all : List ℕ) (asked : List RosterLine) (setting : Setting) (o : Stored) → was.left ≡ Some all → Enrols was mid old new r → Counts was now s
+enroll-whole : (name : List ℕ) (was mid now : Standing) (old new : OfDisk) (r : Answer) (s : Status) (all : List ℕ) (asked : List RosterLine) (setting : Setting) (o : Stored) → was.left ≡ Some all → Enrols name was mid old new r → Counts was now s
     → lines_from roster_judging (unread roster.Start) (seen all) ≡ Ok asked → roster_setting asked ≡ Some setting → OnImage old.moments (λ image. StoreOf (tag_of setting) image o) → IsEnough setting o.next (asked_in asked) → NoneFailed was now old new → s ≡ status_of_halt r → IsComplete (status_of_halt r)
-enroll-whole was mid now old new (Ok _) s all asked setting o left h counts are sets there enough fine is = inl refl
-enroll-whole was mid now old new (Err (halt.Refused line w)) s all asked setting o left h counts are sets there enough fine is =
+enroll-whole name was mid now old new (Ok _) s all asked setting o left h counts are sets there enough fine is = inl refl
+enroll-whole name was mid now old new (Err (halt.Refused line w)) s all asked setting o left h counts are sets there enough fine is =
     let stood = h.0 (told_at_end 0) in
     let told = subst (λ x. IfSome x (λ bytes. enrolled 0 (seen bytes) ≡ record { output = stood.text; cause = Some w })) left
     (refused-told (enrolled 0) stood.lines stood.bytes stood.text w stood.last was.left mid.left stood.read stood.taken.whole stood.stands stood.refuses) in
     let none : (enrolled 0 (seen all)).cause ≡ None = ap (λ x. (told_of (told_at_end 0) x).cause) are in
     absurd (let e : Some w ≡ None = sym (ap cause_of told) ∙ none in cc)
-enroll-whole was mid now old new (Err halt.ReadFault) s all asked setting o left h counts are sets there enough fine is =
+enroll-whole name was mid now old new (Err halt.ReadFault) s all asked setting o left h counts are sets there enough fine is =
     let at : Counts was now status.ReadFault = subst (Counts was now) is counts in
     absurd (fine.reads (rose was.read_faults now.read_faults at.0))
-enroll-whole was mid now old new (Err halt.WriteFault) s all asked setting o left h counts are sets there enough fine is =
+enroll-whole name was mid now old new (Err halt.WriteFault) s all asked setting o left h counts are sets there enough fine is =
     let at : Counts was now status.WriteFault = subst (Counts was now) is counts in
     absurd (fine.writes (rose was.write_faults now.write_faults at.1))
-enroll-whole was mid now old new (Err halt.StoreFault) s all asked setting o left h counts are sets there enough fine is =
+enroll-whole name was mid now old new (Err halt.StoreFault) s all asked setting o left h counts are sets there enough fine is =
     let up : new.faults ≡ next_count old.faults = elim h.rest [ inl opening ↦ opening.1.faults | inr e ↦ e.faults ] in
     absurd (fine.disk (rose old.faults new.faults up))
-enroll-whole was mid now old new (Err (halt.StoreBroken place byte)) s all asked setting o left h counts are sets there enough fine is =
+enroll-whole name was mid now old new (Err (halt.StoreBroken place byte)) s all asked setting o left h counts are sets there enough fine is =
     let same = same-roster was h.between all h.setting h.lines setting asked left h.read are sets in
     let b = h.rest.1 in
     absurd (opens (tag_of setting) old.moments o b.error (tag-long setting) there (subst (λ x. OpensAs (tag_of x) old.moments (failed b.error)) same.setting_is b.reads)
     (λ e. let x : halt.StoreFault ≡ halt.StoreBroken place byte = sym (ap halt_for e) ∙ b.is in cc) (λ e. let x : halt.OutOfMemory ≡ halt.StoreBroken place byte = sym (ap halt_for e) ∙ b.is in cc))
-enroll-whole was mid now old new (Err (halt.StoreTaken len)) s all asked setting o left h counts are sets there enough fine is = absurd h.rest
-enroll-whole was mid now old new (Err (halt.Exhausted next)) s all asked setting o left h counts are sets there enough fine is =
+enroll-whole name was mid now old new (Err (halt.StoreTaken len)) s all asked setting o left h counts are sets there enough fine is = absurd h.rest
+enroll-whole name was mid now old new (Err (halt.Exhausted next)) s all asked setting o left h counts are sets there enough fine is =
     let same = same-roster was h.between all h.setting h.lines setting asked left h.read are sets in
     let e = h.rest in
     let found : e.opened ≡ o = found-is (tag_of setting) old.moments e.opened o e.enrolled.gate (tag-long setting) (subst (λ x. HoldsStore (tag_of x) e.opened e.enrolled.gate old.moments) same.setting_is e.enrolled.found) there in
     let part = subst (λ ls. IsPart (asked_in ls) e.done e.one) same.lines_are e.part in
-    let gone = subst (λ (x : Setting). leaf_count x.kinds.tree ≤ next) same.setting_is e.gone in
+    let gone = subst (λ (x : Setting). leaf_count x.kinds.tree ≤ next) same.setting_is (subst (λ (n : ℕ). leaf_count h.setting.kinds.tree ≤ n) (sym e.gone) (le-max_right e.opened.next (leaf_count h.setting.kinds.tree))) in
     absurd (not-gone setting e.opened o (asked_in asked) e.done e.one next found enough part e.next_is gone)
-enroll-whole was mid now old new (Err halt.OutOfMemory) s all asked setting o left h counts are sets there enough fine is = inr refl
+enroll-whole name was mid now old new (Err halt.OutOfMemory) s all asked setting o left h counts are sets there enough fine is = inr refl
 
-enroll-told : (left : Option (List ℕ)) (was mid now : Standing) (old new : OfDisk) (r : Answer) (s : Status) → was.left ≡ left → Enrols was mid old new r → Tells (status_of_halt r) mid now s → Counts was now s
+enroll-told : (name : List ℕ) (left : Option (List ℕ)) (was mid now : Standing) (old new : OfDisk) (r : Answer) (s : Status) → was.left ≡ left → Enrols name was mid old new r → Tells (status_of_halt r) mid now s → Counts was now s
     → IfSome left (λ all. (lines : List RosterLine) (setting : Setting) (o : Stored) → lines_from roster_judging (unread roster.Start) (seen all) ≡ Ok lines → roster_setting lines ≡ Some setting → OnImage old.moments (λ image. StoreOf (tag_of setting) image o) → IsEnough setting o.next (asked_in lines) → NoneFailed was now old new → IsComplete s)
-enroll-told None was mid now old new r s left h t counts = tt
-enroll-told (Some all) was mid now old new r s left h t counts = λ lines setting o are sets there enough fine.
-    first-answered was mid now t.failed (status_of_halt r) t.line s t.says counts fine.writes (enroll-whole was mid now old new r s all lines setting o left h counts are sets there enough fine)
+enroll-told name None was mid now old new r s left h t counts = tt
+enroll-told name (Some all) was mid now old new r s left h t counts = λ lines setting o are sets there enough fine.
+    first-answered was mid now t.failed (status_of_halt r) t.line s t.says counts fine.writes (enroll-whole name was mid now old new r s all lines setting o left h counts are sets there enough fine)
 
-pub enroll-completes : (was mid now : Standing) (old new : OfDisk) (r : Answer) (s : Status) → Enrols was mid old new r → Tells (status_of_halt r) mid now s → Counts was now s → EnrollCompletes was now old new s
-enroll-completes was mid now old new r s h t counts = enroll-told was.left was mid now old new r s refl h t counts
+pub enroll-completes : (name : List ℕ) (was mid now : Standing) (old new : OfDisk) (r : Answer) (s : Status) → Enrols name was mid old new r → Tells (status_of_halt r) mid now s → Counts was now s → EnrollCompletes was now old new s
+enroll-completes name was mid now old new r s h t counts = enroll-told name was.left was mid now old new r s refl h t counts

@@ -97,12 +97,12 @@ all-of Store name was now old new s h =
       faults = store-disk name was h.between now old new h.result s h.stands h.tells;
     }
 all-of Enroll name was now old new s h =
-    let n = enroll-counts was h.between now old new h.result s h.stands h.tells in
+    let n = enroll-counts name was h.between now old new h.result s h.stands h.tells in
     record {
       command = halt-command h.tells.failed h.result h.tells.line s h.tells.says;
-      traced = enroll-traced was h.between now old new h.result s h.stands h.tells;
-      complete = enroll-completes was h.between now old new h.result s h.stands h.tells n;
-      upholds = enroll-upheld was h.between old new h.result h.stands;
+      traced = enroll-traced name was h.between now old new h.result s h.stands h.tells;
+      complete = enroll-completes name was h.between now old new h.result s h.stands h.tells n;
+      upholds = enroll-upheld name was h.between old new h.result h.stands;
       counts = n;
-      faults = enroll-disk was h.between now old new h.result s h.stands h.tells;
+      faults = enroll-disk name was h.between now old new h.result s h.stands h.tells;
     }

@@ -65,15 +65,15 @@ pub record HaltEnds (P : Standing → Result (Unit {0}) Halt → Type 0) (now : 
 abbrev pub StoreEnds : List ℕ → Standing → Standing → OfDisk → OfDisk → Status → Type 0
 StoreEnds name was now old new s = HaltEnds (λ between result. Makes name was between old new result) now s
 
-abbrev pub EnrollEnds : Standing → Standing → OfDisk → OfDisk → Status → Type 0
-EnrollEnds was now old new s = HaltEnds (λ between result. Enrols was between old new result) now s
+abbrev pub EnrollEnds : List ℕ → Standing → Standing → OfDisk → OfDisk → Status → Type 0
+EnrollEnds name was now old new s = HaltEnds (λ between result. Enrols name was between old new result) now s
 
 -- How a run of the command ends, over a disk.
 abbrev pub EndsAs : Command → List ℕ → Standing → Standing → OfDisk → OfDisk → Status → Type 0
 EndsAs Replay name was now old new s = Ends replayed was now s × (new ≡ old)
 EndsAs Verify name was now old new s = Ends verified was now s × (new ≡ old)
 EndsAs Store name was now old new s = StoreEnds name was now old new s
-EndsAs Enroll name was now old new s = EnrollEnds was now old new s
+EndsAs Enroll name was now old new s = EnrollEnds name was now old new s
 
 -- The count of faults of the disk: a fault of the store raises it by one, and also where the line that says so can't be
 -- written; else it stays.

@@ -74,7 +74,7 @@ fn run_enroll<S: Source, O: Sink, D: Disk>(
 ) -> Status
     requires source { S.is_open input.old ≡ true }
     requires sink { O.is_open out.old ≡ true }
-    ensures ends { EnrollEnds
+    ensures ends { EnrollEnds name.now
         (standing (S.left input.old) (O.taken out.old) (S.faults input.old) (O.faults out.old))
         (standing (S.left input.new) (O.taken out.new) (S.faults input.new) (O.faults out.new))
         (of_disk (D.faults disk.old) (D.calls disk.old) (D.moments disk.old))

@@ -73,7 +73,7 @@ pub record IsTaken (name : List ℕ) (len : ℕ) (old new : OfDisk) : Type 0 whe
   pub same : new.moments ≡ old.moments
 
 -- The disk failed in one of the calls that make a store, and none came behind it: each crash leaves what it would have left
--- before, or part of the 58 bytes.
+-- before, but that any bytes may stand in the place of the first 58.
 pub record HasFailed (name : List ℕ) (s : Setting) (old new : OfDisk) : Type 0 where
   pub faults : new.faults ≡ next_count old.faults
   pub calls : AsFarAs (make_calls name (tag_of s) (first_of s)) old.calls new.calls

@@ -28,7 +28,7 @@ fn key_line(alloc: Global, key: &[u8; 56]) -> Result<String, NoMemory>
     Ok(format!(in alloc; "key {digits}\n")?)
 }
 
-/// All that takes memory: the key is made, its store's mark and its line.
+/// The mark of the store of the setting's key, and the key's line.
 fn prepare(alloc: Global, setting: &Setting) -> Result<Prepared, NoMemory>
     ensures { IfOk result (λ prepared. IsPrepared setting.now prepared) }
 {
@@ -68,7 +68,7 @@ fn make_and_tell<O: Sink, D: Disk>(
 }
 
 /// Reads the text of a secret, makes the store of its key in the file of that name, and writes the key: in this order, each
-/// only where what comes before it was done. The memory that it takes, it takes before it touches the disk.
+/// only where what comes before it was done. Where memory is refused, nothing is written and the file is as it was.
 pub fn make_store<S: Source, O: Sink, D: Disk>(
     alloc: Global,
     name: &str,
