@@ -11,6 +11,7 @@ use lms_tree::TreeKind;
 use ports::{MemoryDisk, MemorySink, MemorySource};
 use secrets::{make_key, store_tag};
 use std::alloc::Global;
+use std::process::Abort;
 use std::test::Fail;
 
 const HEAD: &str = "fireflies 1 roster\n\
@@ -40,9 +41,8 @@ fn sink(alloc: Global) -> Result<MemorySink, Fail>
     Ok(MemorySink::new(alloc, 300_000, 4_096, [].to_vec(alloc)?)?)
 }
 
-/// A disk with the authority's store, whose calls with these numbers fail.
-fn disk(alloc: Global, fail: &[u64]) -> Result<MemoryDisk, Fail> {
-    let mut disk = MemoryDisk::new(alloc, 700, 400, fail.to_vec(alloc)?).or(Err("no memory"))?;
+/// The tag of the authority's store.
+fn tag(alloc: Global) -> Result<[u8; 32], Fail> {
     let key = make_key(alloc, OtsKind::W2, TreeKind::H5, &[0x5a; 32])?.public();
     let group = Group {
         tag: [0; 16],
@@ -51,66 +51,94 @@ fn disk(alloc: Global, fail: &[u64]) -> Result<MemoryDisk, Fail> {
         period: 1,
         misses: 2,
     };
-    make(&mut disk, "a.st", &store_tag(&group, &key), Mask(7)).or(Err("make"))?;
+    Ok(store_tag(&group, &key))
+}
+
+/// A disk whose calls with these numbers fail.
+fn empty(alloc: Global, fail: &[u64]) -> Result<MemoryDisk, Fail> {
+    Ok(MemoryDisk::new(alloc, 700, 400, fail.to_vec(alloc)?).or(Err("no memory"))?)
+}
+
+/// A disk with the authority's store, whose calls with these numbers fail.
+fn disk(alloc: Global, fail: &[u64]) -> Result<MemoryDisk, Fail> {
+    let mut disk = empty(alloc, fail)?;
+    make(&mut disk, "a.st", &tag(alloc)?, Mask(7)).or(Err("make"))?;
     Ok(disk)
+}
+
+/// What an enrolment answered and wrote.
+#[derive(Drop)]
+struct Enrolled {
+    done: Result<(), Halt>,
+    written: Vec<u8>,
+}
+
+/// Enrolls so many certificates from the store in the disk's file.
+fn enroll_on(alloc: Global, count: u16, disk: &mut MemoryDisk) -> Result<Enrolled, Fail> {
+    let mut input = source(alloc, count)?;
+    let mut out = sink(alloc)?;
+    let done = enroll(alloc, "a.st", &mut input, &mut out, disk);
+    Ok(Enrolled {
+        done,
+        written: out.bytes().to_vec(alloc)?,
+    })
+}
+
+/// Compares an enrolment with one that signed the certificate of member 0 with this index.
+fn compare_one(rt: &impl Abort, alloc: Global, got: &Enrolled, index: u8) -> Result<(), Fail> {
+    let wanted = format!(in alloc; "cert 0 20000 {KEY} 0000000{index}")?;
+    assert_eq!(rt; got.done, Ok(()));
+    assert_eq!(rt; got.written.len(), wanted.len().wrapping_add(8_913));
+    assert_eq!(rt; got.written.as_slice().starts_with(wanted.as_bytes()), true);
+    Ok(())
+}
+
+/// The number of lines.
+fn lines(text: &[u8]) -> u32 {
+    let mut lines = 0u32;
+    for byte in text {
+        if *byte == b'\n' {
+            lines = lines.wrapping_add(1);
+        }
+    }
+    lines
 }
 
 #[test]
 fn each_certificate_has_the_next_index(rt: HostRuntime) -> Result<(), Fail> {
     let mut disk = disk(rt.alloc(), &[])?;
-    for signed in 0..2u8 {
-        let mut input = source(rt.alloc(), 1)?;
-        let mut out = sink(rt.alloc())?;
-        assert_eq!(rt;
-            enroll(rt.alloc(), "a.st", &mut input, &mut out, &mut disk),
-            Ok(())
-        );
-        let wanted = format!(in rt.alloc(); "cert 0 20000 {KEY} 0000000{signed}")?;
-        assert_eq!(rt; out.bytes().len(), wanted.len() + 8_913);
-        assert_eq!(rt; out.bytes().starts_with(wanted.as_bytes()), true);
-    }
-    Ok(())
+    let first = enroll_on(rt.alloc(), 1, &mut disk)?;
+    compare_one(&rt, rt.alloc(), &first, 0)?;
+    let second = enroll_on(rt.alloc(), 1, &mut disk)?;
+    compare_one(&rt, rt.alloc(), &second, 1)
 }
 
 #[test]
 fn a_key_is_used_up(rt: HostRuntime) -> Result<(), Fail> {
     let mut disk = disk(rt.alloc(), &[])?;
-    let mut input = source(rt.alloc(), 33)?;
-    let mut out = sink(rt.alloc())?;
-    assert_eq!(rt;
-        enroll(rt.alloc(), "a.st", &mut input, &mut out, &mut disk),
-        Err(Halt::Exhausted { next: 32 })
-    );
-    let mut lines = 0u32;
-    for byte in out.bytes() {
-        if *byte == b'\n' {
-            lines = lines.wrapping_add(1);
-        }
-    }
-    assert_eq!(rt; lines, 32);
+    let got = enroll_on(rt.alloc(), 33, &mut disk)?;
+    assert_eq!(rt; got.done, Err(Halt::Exhausted { next: 32 }));
+    assert_eq!(rt; lines(&got.written), 32);
     Ok(())
 }
 
 #[test]
-fn another_store_and_a_failing_one(rt: HostRuntime) -> Result<(), Fail> {
-    let alloc = rt.alloc();
-    let mut empty = MemoryDisk::new(alloc, 700, 400, [].to_vec(alloc)?).or(Err("no memory"))?;
-    let mut input = source(alloc, 1)?;
-    let mut out = sink(alloc)?;
-    assert_eq!(rt;
-        enroll(alloc, "a.st", &mut input, &mut out, &mut empty),
-        Err(Halt::StoreBroken {
-            place: 0,
-            byte: None
-        })
-    );
-    let mut failing = disk(alloc, &[9])?;
-    let mut input = source(alloc, 1)?;
-    let mut out = sink(alloc)?;
-    assert_eq!(rt;
-        enroll(alloc, "a.st", &mut input, &mut out, &mut failing),
-        Err(Halt::StoreFault)
-    );
-    assert_eq!(rt; out.bytes(), b"".as_slice());
+fn an_empty_file_is_no_store(rt: HostRuntime) -> Result<(), Fail> {
+    let mut disk = empty(rt.alloc(), &[])?;
+    let got = enroll_on(rt.alloc(), 1, &mut disk)?;
+    let broken = Halt::StoreBroken {
+        place: 0,
+        byte: None,
+    };
+    assert_eq!(rt; got.done, Err(broken));
+    Ok(())
+}
+
+#[test]
+fn nothing_is_written_for_a_put_that_fails(rt: HostRuntime) -> Result<(), Fail> {
+    let mut disk = disk(rt.alloc(), &[9])?;
+    let got = enroll_on(rt.alloc(), 1, &mut disk)?;
+    assert_eq!(rt; got.done, Err(Halt::StoreFault));
+    assert_eq!(rt; got.written.as_slice(), b"".as_slice());
     Ok(())
 }
