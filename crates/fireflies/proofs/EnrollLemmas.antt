@@ -1,16 +1,17 @@
 -- What follows from how an enrolment ended.
 use Rattle.std.proofs.Common.{◌≡◌, ◌≢◌, ◌+◌, ◌<◌, ◌≤◌, ◌⊎◌, ℕ, Bool, true, false, length, take, drop, map, Option, Some, None, List, [], ◌∷◌, ◌++◌, Result, Ok, Err, refl, sym, subst, ap, ◌∙◌, inl, inr, arith, append-nil, append_assoc, length-append, take-append-drop, ltb, lt-ltb}
 use Rattle.std.specs.Prelude.{IfSome}
-use Rattle.std.proofs.Math.Nat.{le-max_right}
 use Rattle.std.specs.List.{AllByRecursion}
 use Rattle.std.specs.Io.KnownBytes.{Appends}
+use Rattle.std.proofs.Math.Nat.{le-max_right}
 use Rattle.std.proofs.KnownBytes.{Appends-nil, Appends-trans, Consumes-whole}
 use Rattle.secrets.proofs.StoreTags.{length-store_tag}
 use Rattle.line_text.specs.declared.bad_word.BadWord.{BadWord}
 use Rattle.lms_tree.specs.Kinds.{leaf_count}
 use Rattle.lms_tree.specs.Lms.{public_of}
 use Rattle.ports.specs.Count.{Rose, counted, next_count}
-use Rattle.ports.specs.Disk.{Fails, Moment, stays}
+use Rattle.ports.specs.Disk.{Fails, Moment, Since, stays}
+use Rattle.ports.proofs.SinceLemmas.{Since-same}
 use Rattle.epoch_store.specs.declared.StoreError.{StoreError}
 use Rattle.epoch_store.specs.declared.StoreError.TheVariants as store
 use Rattle.epoch_store.specs.declared.Stored.{Stored}
@@ -23,7 +24,7 @@ use Rattle.records.specs.declared.Body.TheVariants.{Certificate}
 use Rattle.records.specs.declared.CertBody.{CertBody}
 use Rattle.schedule_texts.specs.declared.line.RosterLine.{RosterLine}
 use Rattle.schedule_texts.specs.declared.roster.RosterText.TheVariants as roster
-use Rattle.signer.specs.Lives.{EndsNow, IsRising, Spent, indexes, spent_by}
+use Rattle.signer.specs.Lives.{EndsLives, EndsNow, IsRising, Spent, indexes, spent_by}
 use Rattle.signer.proofs.LivingLemmas.{kept_by_opening}
 use Rattle.text_trace.specs.Lines.{seen}
 use Rattle.text_trace.specs.Trace.{Trace}
@@ -38,7 +39,7 @@ use Rattle.authority.specs.Telling.{IsTold}
 use Rattle.authority.specs.Texts.{IsRoster}
 use Rattle.enrolment.specs.Lines.{enrolled, lines_for, lines_within, signed_line, signed_lines, told_at_end}
 use Rattle.enrolment.specs.Signing.{IsPart}
-use Rattle.enrolment.specs.Enrolling.{AreEnrolled, Enrols, EnrolsBehind, IsEnough}
+use Rattle.enrolment.specs.Enrolling.{AreEnrolled, Enrols, EnrolsBehind, IsEnough, Spends, SpendsFronts}
 use Rattle.fireflies.specs.Causes.{Says, status_of_halt}
 use Rattle.fireflies.specs.Ends.{Counts, DiskCounts, Ends, Tells}
 use Rattle.fireflies.specs.Enrolment.{Enrolment}
@@ -225,8 +226,8 @@ rises o (c ∷ certs) =
 
 -- these certificates were signed
 spends-certs : (was between : Standing) (s : Setting) (lines : List RosterLine) (o : Stored) (gate : ℕ) (certs others : List CertBody) (old new : OfDisk) → IsRoster was between s lines → HoldsStore (tag_of s) o gate old.moments → asked_in lines ≡ certs ++ others
-    → ((before : List ℕ) (spent : List Spent) → EndsNow (tag_of s) before spent old.moments → EndsNow (tag_of s) before (spent ++ spent_by o (map Certificate certs)) new.moments) → Enrolment was old new
-spends-certs was between s lines o gate certs others old new read found first spends =
+    → Spends s o certs old new → SpendsFronts s o certs old new → Enrolment was old new
+spends-certs was between s lines o gate certs others old new read found first spends fronts =
     let up = rises o certs in
     inr (record {
       setting = s;
@@ -242,41 +243,46 @@ spends-certs was between s lines o gate certs others old new read found first sp
       rising = up.rising;
       above = up.above;
       lives = spends;
+      any_moment = fronts;
     })
 
 untouched : (was : Standing) (old new : OfDisk) → new ≡ old → Enrolment was old new
-untouched was old new same = inl (λ tag before spent ends. subst (λ (d : OfDisk). EndsNow tag before spent d.moments) (sym same) ends)
+untouched was old new same =
+    inl (λ tag before spent ends. (
+      subst (λ (d : OfDisk). Since (EndsLives tag before spent) old.moments d.moments) (sym same) (Since-same (EndsLives tag before spent) old.moments),
+      subst (λ (d : OfDisk). EndsNow tag before spent d.moments) (sym same) ends,
+    ))
 
 kept-over : (was : Standing) (old new : OfDisk) → Fails stays old.moments new.moments → Enrolment was old new
-kept-over was old new fails = inl (λ tag before spent ends. (kept_by_opening tag before spent old.moments new.moments ends fails).1)
+kept-over was old new fails = inl (λ tag before spent ends. kept_by_opening tag before spent old.moments new.moments ends fails)
 
 -- the first ones, or one more
 one-more : (certs done : List CertBody) (one : CertBody) (part : IsPart certs done one) → certs ≡ (done ++ one ∷ []) ++ part.rest
 one-more certs done one part = part.are ∙ sym (append_assoc done (one ∷ []) part.rest)
 
 spends-either : (name : List ℕ) (was between : Standing) (s : Setting) (lines : List RosterLine) (o : Stored) (done : List CertBody) (one : CertBody) (part : IsPart (asked_in lines) done one) (old new : OfDisk) → IsRoster was between s lines → AreEnrolled name s o done old new ⊎ AreEnrolled name s o (done ++ one ∷ []) old new → Enrolment was old new
-spends-either name was between s lines o done one part old new read (inl e) = spends-certs was between s lines o e.gate done (one ∷ part.rest) old new read e.found part.are e.spends
-spends-either name was between s lines o done one part old new read (inr e) = spends-certs was between s lines o e.gate (done ++ one ∷ []) part.rest old new read e.found (one-more (asked_in lines) done one part) e.spends
+spends-either name was between s lines o done one part old new read (inl e) = spends-certs was between s lines o e.gate done (one ∷ part.rest) old new read e.found part.are e.spends e.any_moment
+spends-either name was between s lines o done one part old new read (inr e) = spends-certs was between s lines o e.gate (done ++ one ∷ []) part.rest old new read e.found (one-more (asked_in lines) done one part) e.spends e.any_moment
 
 pub enroll-upheld : (name : List ℕ) (was mid : Standing) (old new : OfDisk) (r : Answer) → Enrols name was mid old new r → Enrolment was old new
 enroll-upheld name was mid old new (Ok _) h =
     let e = h.rest in
-    spends-certs was h.between h.setting h.lines e.opened e.enrolled.gate (asked_in h.lines) [] old new h.read e.enrolled.found (sym (append-nil (asked_in h.lines))) e.enrolled.spends
+    spends-certs was h.between h.setting h.lines e.opened e.enrolled.gate (asked_in h.lines) [] old new h.read e.enrolled.found (sym (append-nil (asked_in h.lines))) e.enrolled.spends e.enrolled.any_moment
 enroll-upheld name was mid old new (Err (halt.Refused line w)) h = untouched was old new h.1
 enroll-upheld name was mid old new (Err halt.ReadFault) h = untouched was old new h.1
 enroll-upheld name was mid old new (Err halt.WriteFault) h =
     let e = h.rest in
-    spends-certs was h.between h.setting h.lines e.opened e.enrolled.gate (e.done ++ e.one ∷ []) e.part.rest old new h.read e.enrolled.found (one-more (asked_in h.lines) e.done e.one e.part) e.enrolled.spends
+    spends-certs was h.between h.setting h.lines e.opened e.enrolled.gate (e.done ++ e.one ∷ []) e.part.rest old new h.read e.enrolled.found (one-more (asked_in h.lines) e.done e.one e.part) e.enrolled.spends e.enrolled.any_moment
 enroll-upheld name was mid old new (Err halt.StoreFault) h =
     elim h.rest [
       | inl opening ↦ kept-over was old new opening.1.moments
-      | inr e ↦ spends-certs was h.between h.setting h.lines e.opened e.gate e.done (e.one ∷ e.part.rest) old new h.read e.found e.part.are e.spends
+      | inr e ↦ spends-certs was h.between h.setting h.lines e.opened e.gate e.done (e.one ∷ e.part.rest) old new h.read e.found e.part.are e.spends e.any_moment
     ]
 enroll-upheld name was mid old new (Err (halt.StoreBroken place byte)) h = kept-over was old new h.rest.1.kept
 enroll-upheld name was mid old new (Err (halt.StoreTaken len)) h = absurd h.rest
 enroll-upheld name was mid old new (Err (halt.Exhausted next)) h =
     let e = h.rest in
-    spends-certs was h.between h.setting h.lines e.opened e.enrolled.gate e.done (e.one ∷ e.part.rest) old new h.read e.enrolled.found e.part.are e.enrolled.spends
+    spends-certs was h.between h.setting h.lines e.opened e.enrolled.gate e.done (e.one ∷ e.part.rest) old new h.read e.enrolled.found e.part.are e.enrolled.spends e.enrolled.any_moment
 enroll-upheld name was mid old new (Err halt.OutOfMemory) h =
     elim h [
       | inl cut ↦ untouched was old new cut.1
