@@ -1,17 +1,12 @@
 -- What is told of signatures, and what becomes of the key.
-use Rattle.std.proofs.Common.{◌≡◌, ℕ, Bool, true, false, inl, inr, Option, List, [], ◌∷◌, ◌++◌, map, refl, ap, sym, ◌∙◌, subst, append_assoc, Result, Ok, Err}
+use Rattle.std.proofs.Common.{◌≡◌, ℕ, Bool, true, false, inl, inr, List, [], ◌∷◌, ◌++◌, map, refl, ap, sym, ◌∙◌, subst, append_assoc, Result, Ok, Err}
 use Rattle.std.specs.Prelude.{IfErr, OnOk}
 use Rattle.std.proofs.lemmas.Bool.{cases_Bool}
 use Rattle.ports.specs.Disk.{Moment}
-use Rattle.ports.specs.DiskCalls.{DiskCall}
-use Rattle.ports.specs.MemoryDisk.{DiskState}
-use Rattle.ports.proofs.SinceLemmas.{Since-same, Since-trans, Since-weaken}
 use Rattle.ff_ids.specs.Steps.{Report}
 use Rattle.records.specs.declared.Body.{Body}
-use Rattle.records.specs.Signing.{CheckedRecord}
-use Rattle.signer.specs.declared.SignFault.{SignFault}
 use Rattle.signer.specs.Signing.{SignerState}
-use Rattle.signer.specs.Lives.{Spent, spent_in}
+use Rattle.signer.specs.Lives.{Spent}
 pub use Rattle.signer.proofs.OnwardLemmas.{lives-same, lives-signed, lives-trans}
 use Rattle.journal.specs.declared.event.Event as journal
 use Rattle.journal.specs.declared.event.What as whats
@@ -21,8 +16,8 @@ use Rattle.node_core.specs.declared.NodeFault.{NodeFault}
 use Rattle.node_core.specs.declared.NodeFault.TheVariants as faults
 use Rattle.node_core.specs.Told.{Tellings, Adds, IsFront, with_event, with_report, with_sent}
 use Rattle.node_core.specs.Playing.{Kept, Grows}
-use Rattle.node_core.specs.Spending.{spent_by, spent_told, EndsWithin, LivesOn, SignsNothing, TellsOf, TellsSpent, Spends, TellsSo, SpendsIn, SpendsUntold, StartSpends}
-use Rattle.node_core.proofs.TellingLemmas.{nil-right, front-trans, front-after, append-cancel, map-append}
+use Rattle.node_core.specs.Spending.{spent_by, spent_told, LivesOn, SignsNothing, TellsOf, TellsSpent, Spends, TellsSo, SpendsIn, SpendsUntold, StartSpends}
+use Rattle.node_core.proofs.TellingLemmas.{nil-right, front-trans, append-cancel, map-append}
 
 -- ---- what events tell of
 
