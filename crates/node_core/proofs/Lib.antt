@@ -17,3 +17,4 @@ pub mod AccusingLemmas
 pub mod TickLemmas
 pub mod DiskLemmas
 pub mod TickDiskLemmas
+pub mod StartLemmas

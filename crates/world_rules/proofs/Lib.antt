@@ -7,3 +7,4 @@ pub mod SoFar
 pub mod LineSteps
 pub mod Once
 pub mod Telling
+pub mod Alike
