@@ -8,3 +8,4 @@ pub mod LineSteps
 pub mod Once
 pub mod Telling
 pub mod Alike
+pub mod AsStorage
