@@ -1,5 +1,5 @@
 -- A disk in memory that runs, and on which no call fails but by the stop that is armed.
-use Rattle.std.specs.Prelude.{◌≡◌, ℕ, ◌+◌, ◌≤◌, false, true, Option, None, List, [], length}
+use Rattle.std.specs.Prelude.{◌≡◌, ℕ, ◌+◌, ◌≤◌, false, true, Option, None, [], length}
 use Rattle.ports.specs.declared.memory_disk.Arm.{Arm}
 use Rattle.ports.specs.Disk.{Moment, settled}
 use Rattle.ports.specs.MemoryDisk.{DiskState, moment_of, picked}
