@@ -1,0 +1,6 @@
+pub mod Turns
+pub mod Garbling
+pub mod Idle
+pub mod Opening
+pub mod Puts
+pub mod Making

@@ -1,0 +1,45 @@
+-- What holds of disks in memory that stand for disks of nodes.
+use Rattle.std.specs.Prelude.{◌≡◌, ℕ, ◌+◌, ◌*◌, ◌^◌, ◌<◌, ◌≤◌, false, List, [], ◌∷◌, ◌++◌, None, Some, length}
+use Rattle.ports.specs.MemoryDisk.{DiskState}
+use Rattle.ports.specs.DiskSteps.{runs}
+use Rattle.ff_ids.specs.declared.Mask.{Mask}
+use Rattle.epoch_store.specs.declared.Stored.{Stored}
+use Rattle.epoch_store.specs.Store.{IsEntry, Follows, first_entry}
+use Rattle.epoch_store.specs.Asked.{gate_reads, make_calls, open_calls, put_calls}
+use Rattle.world_rules.specs.Disks.{ArmedStop, Disk, after_calls, after_put, gate_of, lets_pass, made_disk, opening_calls, put_passes, stopped, stopped_in_put}
+use Rattle.world_disks.specs.Held.{ComesAs, HoldsDisk, armed_as, crashed}
+
+-- The calls that open a store and read all its gates.
+abbrev pub OpensAsTold : Type 0
+OpensAsTold = (tag name : List ℕ) (indexes : ℕ) (d : DiskState) (e : Disk) → HoldsDisk tag indexes d e
+    → ComesAs tag indexes (runs (gate_reads (length e.older + 2) ++ open_calls name) d) (lets_pass e.armed (opening_calls e))
+      (after_calls (opening_calls e) e) (stopped e)
+
+-- The calls that put an entry with the next index.
+abbrev pub PutsAsTold : Type 0
+PutsAsTold = (tag : List ℕ) (indexes : ℕ) (d : DiskState) (e : Disk) (kept : Stored) → HoldsDisk tag indexes d e
+    → IsEntry kept → Follows e.state kept → kept.next ≡ e.state.next + 1 → kept.next ≤ indexes
+    → ComesAs tag indexes (runs (put_calls (gate_of e) kept) d) (put_passes e) (after_put kept e) (stopped_in_put kept e)
+
+abbrev pub CrashesAsTold : Type 0
+CrashesAsTold = (tag : List ℕ) (indexes outcome : ℕ) (d : DiskState) (e : Disk) → HoldsDisk tag indexes d e → HoldsDisk tag indexes (crashed outcome d) e
+
+abbrev pub ArmsAsTold : Type 0
+ArmsAsTold = (tag : List ℕ) (indexes : ℕ) (d : DiskState) (e : Disk) (stop : ArmedStop) → HoldsDisk tag indexes d e
+    → HoldsDisk tag indexes (record d { armed = armed_as (Some stop) }) (record e { armed = Some stop })
+
+-- A disk in memory that was just made, with room for all that a key with so many indexes allows.
+pub record IsNew (indexes : ℕ) (d : DiskState) : Type 0 where
+  pub start : d.start ≡ []
+  pub log : d.log ≡ []
+  pub armed : d.armed ≡ None
+  pub sound : d.failing ≡ []
+  pub runs : d.stopped ≡ false
+  pub room : 58 + 17 * indexes ≤ d.room
+  pub changes : 2 + 4 * indexes ≤ d.changes
+
+-- The calls that make a store on it pass.
+abbrev pub MakesAsTold : Type 0
+MakesAsTold = (tag name : List ℕ) (indexes : ℕ) (d : DiskState) (mask : Mask) → IsNew indexes d → length tag ≡ 32 → mask.0 < 2 ^ 31
+    → let came = runs (make_calls name tag (first_entry mask)) d in
+      (came.failed ≡ false) × HoldsDisk tag indexes came.disk (made_disk mask)

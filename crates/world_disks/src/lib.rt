@@ -1,0 +1,31 @@
+//! Disks in memory that each have a node's store, and the disks of a world's rules for which they stand, as definitions
+//! and theorems alone. Each law is the contract of a function that does nothing.
+#![tactic(auto)]
+
+ghost use Rattle.world_disks.specs.Laws.{ArmsAsTold, CrashesAsTold, MakesAsTold, OpensAsTold, PutsAsTold};
+
+/// The calls that make a store on a new disk pass, and leave it.
+pub fn stores_are_made_as_told()
+    ensures { MakesAsTold }
+{}
+
+/// The calls that open a store pass or meet the armed stop as the rules say, and leave the store.
+pub fn stores_open_as_told()
+    ensures { OpensAsTold }
+{}
+
+/// The calls that put an entry pass or meet the armed stop as the rules say; and then the store has the entry or not, as
+/// they say too.
+pub fn entries_are_put_as_told()
+    ensures { PutsAsTold }
+{}
+
+/// A crash between two calls leaves the store.
+pub fn crashes_leave_the_store()
+    ensures { CrashesAsTold }
+{}
+
+/// A stop that is armed takes the place of one that was.
+pub fn stops_are_armed_as_told()
+    ensures { ArmsAsTold }
+{}
