@@ -10,7 +10,7 @@ use Rattle.line_text.specs.Answers.{Progress}
 use Rattle.line_text.specs.Digits.{SpellsBytes}
 use Rattle.lms_tree.specs.declared.key.PublicKey.{PublicKey}
 use Rattle.lms_tree.specs.Lms.{Verifies, key_bytes}
-use Rattle.play.specs.Plays.{Finished, Follows, IsLast, Refused, Runs, Standing, Starved, bytes_of}
+use Rattle.play.specs.Plays.{Finished, Follows, IsLast, Runs, Standing, Starved, bytes_of}
 use Rattle.play.specs.declared.stop.Stop.{Stop}
 use Rattle.play.specs.declared.stop.Stop.TheVariants as stop
 use Rattle.text_trace.specs.Lines.{AreWhole, text_lines}

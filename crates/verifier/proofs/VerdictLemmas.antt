@@ -1,13 +1,12 @@
 -- The answer says that a signature is good exactly where it verifies.
-use Rattle.std.proofs.Common.{◌≡◌, ◌↔◌, ℕ, ◌<◌, Bool, true, false, cond, eqb, ltb, List, [], ◌∷◌, ◌++◌, length, get_or, Result, Ok, Err, refl, sym, ap, subst, ◌∙◌, arith, codes, eq-eqb, lt-ltb, ltb-true}
+use Rattle.std.proofs.Common.{◌≡◌, ◌↔◌, ℕ, ◌<◌, Bool, true, false, cond, List, [], ◌∷◌, ◌++◌, get_or, Result, Ok, Err, refl, ap, arith, codes, eq-eqb, lt-ltb, ltb-true}
 use Rattle.std.specs.Prelude.{bytes_eq}
 use Rattle.std.proofs.lemmas.Bool.{eqb-true}
 use Rattle.std.proofs.lemmas.Slice.Eq.{bytes_eq-Decides}
 use Rattle.lms_tree.specs.declared.kind.SigFault.{SigFault}
 use Rattle.lms_tree.specs.declared.kind.SigFault.TheVariants as fault
 use Rattle.lms_tree.specs.declared.key.PublicKey.{PublicKey}
-use Rattle.lms_tree.specs.Kinds.{leaf_count, signature_length, type_number}
-use Rattle.lms_tree.specs.Lms.{Verifies, index_in, root_in, tree_type_in, verdict_of}
+use Rattle.lms_tree.specs.Lms.{Verifies, root_in, verdict_of}
 use Rattle.lms_tree.proofs.Verdicts.{parts-verify, verifies-has_leaf, verifies-length, verifies-ots_type, verifies-root, verifies-tree_type}
 use Rattle.verify_text.specs.declared.question.Question.{Question}
 use Rattle.verify_text.specs.Answering.{answer_line, verdict_text}
