@@ -11,3 +11,4 @@ mod writing;
 
 pub use fault::ServeFault;
 pub use serving::serve;
+pub use telling::tell_all;
