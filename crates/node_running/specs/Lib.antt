@@ -1,0 +1,5 @@
+pub mod Halts
+pub mod Members
+pub mod Opening
+pub mod Journal
+pub mod Running

@@ -1,0 +1,114 @@
+-- What the run of a member took, wrote, did and left, by its answer.
+use Rattle.std.specs.Prelude.{◌≡◌, ℕ, ◌<◌, ◌⊎◌, List, [], ◌++◌, Option, Some, Result, Ok, Err}
+use Rattle.std.specs.Io.KnownBytes.{Appends}
+use Rattle.epoch_store.specs.declared.Stored.{Stored}
+use Rattle.epoch_store.specs.Store.{IsSettled}
+use Rattle.line_text.specs.declared.bad_word.BadWord.{BadWord}
+use Rattle.lms_tree.specs.Kinds.{leaf_count}
+use Rattle.lms_tree.specs.Lms.{public_of}
+use Rattle.play.specs.Plays as play
+use Rattle.play.specs.declared.stop.Stop.{Stop}
+use Rattle.play.specs.declared.stop.Stop.TheVariants as stop
+use Rattle.ports.specs.Count.{next_count}
+use Rattle.ports.specs.Link.{LinkState}
+use Rattle.schedule_kit.specs.declared.kit.KitText.TheVariants as kit
+use Rattle.whole_text.specs.Gathered.{IsUnfinished}
+use Rattle.node_core.specs.Begins.{IsVouchable}
+use Rattle.node_core.specs.Playing.{IsNode, Kept}
+use Rattle.node_core.specs.Rolls.{recs_of}
+use Rattle.node_core.specs.Spending.{spent_told}
+use Rattle.node_loop.specs.Turns.{life_acts}
+use Rattle.node_loop.specs.Courses.{Course, served_from}
+use Rattle.node_running.specs.declared.halt.NodeHalt.{NodeHalt}
+use Rattle.node_running.specs.declared.halt.NodeHalt.TheVariants as halt
+use Rattle.node_running.specs.declared.kit.Member.{Member}
+use Rattle.node_running.specs.Members.{IsMember, kit_judging, own_port, tag_of}
+use Rattle.node_running.specs.Opening.{Ends, IsBegun, IsBroken, IsFound, IsUnopened, IsUnstarted, IsUsedUp, OfDisk, OpeningFails, StartFails, Tells, setting_for, start_of}
+use Rattle.node_running.specs.Journal.{Around, Lives, around, bound_for, course_of, journal_of}
+
+-- The link and the clock as the run begins: what the link holds, the last reading, those to come; and how many turns are run.
+pub record Feed : Type 0 where
+  pub link : LinkState
+  pub reading : ℕ
+  pub readings : List ℕ
+  pub turns : ℕ
+
+-- the course of the member's life, where its store keeps this
+abbrev pub life_in : Member → Stored → Feed → Course
+life_in m stored feed = course_of m stored feed.turns feed.link feed.reading feed.readings
+
+-- what is around the command, once the port is bound
+abbrev pub once_bound : Member → Feed → Around → Around
+once_bound m feed was = record was { link = Some (bound_for m feed.link) }
+
+-- ## Behind the text
+
+-- The life has begun, and so it went on.
+abbrev pub LivesOut : Member → Feed → Around → Around → Result (Unit {0}) NodeHalt → Type 0
+LivesOut m feed was now result =
+    (stored : Stored) × (node : Kept) × (mid : OfDisk) × IsBegun m stored node (start_of m stored).told was.disk mid
+    × Lives (setting_for m) node (start_of m stored).told (life_acts m.millis feed.turns feed.link.coming feed.reading feed.readings)
+    (served_from (start_of m stored).node (bound_for m feed.link)) (record was { disk = mid }) now result
+
+-- All was done: the journal was written, the link was given what the life gives it, and the store is settled with what the life
+-- keeps, so that each crash leaves such a store; the lives of the key go on with what was spent.
+pub record HasRun (m : Member) (feed : Feed) (was now : Around) : Type 0 where
+  pub stored : Stored
+  pub found : IsFound m stored was.disk
+  pub vouchable : IsVouchable (setting_for m) (public_of m.own.key) (recs_of m.certificates.items) stored
+  pub written : Appends was.taken now.taken (journal_of m stored feed.turns feed.link feed.reading feed.readings)
+  pub given : now.link ≡ Some (life_in m stored feed).link
+  pub faults : now.disk.faults ≡ was.disk.faults
+  pub gate : ℕ
+  pub left : Tells was.disk.moments → IsSettled (tag_of m) (life_in m stored feed).node.stored gate now.disk.moments
+  pub ends : Ends m (spent_told (start_of m stored).told ++ (life_in m stored feed).spent) was.disk now.disk
+
+-- Nothing was written or sent.
+pub record IsUnwritten (was now : Around) : Type 0 where
+  pub taken : now.taken ≡ was.taken
+  pub link : now.link ≡ was.link
+
+-- What comes behind the binding of the port.
+abbrev pub RunsOnce : Member → Feed → Around → Around → Result (Unit {0}) NodeHalt → Type 0
+RunsOnce m feed was now (Ok done) = HasRun m feed was now
+RunsOnce m feed was now (Err (halt.Refused line w)) = ⊥
+RunsOnce m feed was now (Err halt.ReadFault) = ⊥
+RunsOnce m feed was now (Err halt.WriteFault) = LivesOut m feed was now (Err halt.WriteFault)
+RunsOnce m feed was now (Err halt.StoreFault) =
+    (IsUnwritten was now × (OpeningFails was.disk now.disk ⊎ StartFails m was.disk now.disk)) ⊎ LivesOut m feed was now (Err halt.StoreFault)
+RunsOnce m feed was now (Err (halt.StoreBroken place byte)) = IsUnwritten was now × IsBroken m (halt.StoreBroken place byte) was.disk now.disk
+RunsOnce m feed was now (Err halt.LinkFault) = ⊥
+RunsOnce m feed was now (Err (halt.Exhausted next)) = IsUnwritten was now × IsUsedUp m next was.disk now.disk
+RunsOnce m feed was now (Err halt.OutOfMemory) =
+    (IsUnwritten was now × (IsUnopened was.disk now.disk ⊎ IsUnstarted m was.disk now.disk)) ⊎ LivesOut m feed was now (Err halt.OutOfMemory)
+
+-- What comes behind the text: where the port could not be bound, all is as it was.
+abbrev pub RunsBehind : Member → Feed → Around → Around → Result (Unit {0}) NodeHalt → Type 0
+RunsBehind m feed was now (Err halt.LinkFault) = now ≡ was
+RunsBehind m feed was now (Err halt.OutOfMemory) = (now ≡ was) ⊎ RunsOnce m feed (once_bound m feed was) now (Err halt.OutOfMemory)
+RunsBehind m feed was now result = RunsOnce m feed (once_bound m feed was) now result
+
+-- ## The whole
+
+-- The text was read whole, and nothing written or done for it yet; and so it went on.
+pub record Went (was now : play.Standing) (old new : Around) (Rest : Member → Around → Around → Type 0) : Type 0 where
+  pub member : Member
+  pub between : play.Standing
+  pub read : IsMember was between member
+  pub left : now.left ≡ between.left
+  pub reads : now.read_faults ≡ between.read_faults
+  pub rest : Rest member (record old { taken = between.taken }) new
+
+-- The text wasn't read to its end, and neither link nor disk were touched.
+pub record IsUnread (was now : play.Standing) (old new : Around) (s : Stop BadWord) : Type 0 where
+  pub unfinished : IsUnfinished kit_judging kit.Start was now s
+  pub link : new.link ≡ old.link
+  pub disk : new.disk ≡ old.disk
+
+-- What the run of a member took, wrote, did and left, by its answer.
+abbrev pub Runs : Feed → play.Standing → play.Standing → Around → Around → Result (Unit {0}) NodeHalt → Type 0
+Runs feed was now old new (Err (halt.Refused line w)) = IsUnread was now old new (stop.Refused line w)
+Runs feed was now old new (Err halt.ReadFault) = IsUnread was now old new stop.ReadFault
+Runs feed was now old new (Err halt.OutOfMemory) =
+    IsUnread was now old new stop.OutOfMemory ⊎ Went was now old new (λ m between after. RunsBehind m feed between after (Err halt.OutOfMemory))
+Runs feed was now old new result = Went was now old new (λ m between after. RunsBehind m feed between after result)

@@ -1,0 +1,15 @@
+//! Runs one member: reads its text whole, binds its port, opens its store, begins a life, and serves it for some turns. What
+//! is written is the journal of that life.
+#![tactic(auto)]
+
+mod halt;
+mod kit;
+mod living;
+mod opening;
+mod running;
+
+pub use halt::NodeHalt;
+pub use running::run_node;
+
+#[cfg(test)]
+mod tests;

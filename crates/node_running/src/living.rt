@@ -1,0 +1,76 @@
+//! A life from its first events to its last line.
+
+ghost use Rattle.std.specs.Prelude.{◌≡◌, ◌≢◌, ℕ, ◌≤◌, true, false, List, Some, OnOk, IfErr};
+ghost use Rattle.std.specs.List.{AllByRecursion};
+ghost use Rattle.ports.specs.Count.{counted, Rose};
+ghost use Rattle.ports.specs.Link.{LinkState};
+ghost use Rattle.node_core.specs.Playing.{IsNode};
+ghost use Rattle.node_rules.specs.Nodes.{Setting, Node as RulesNode};
+ghost use Rattle.node_loop.specs.Turns.{life_acts};
+ghost use Rattle.node_loop.specs.Courses.{served_from};
+ghost use Rattle.node_running.specs.Halts.{is_writable, is_write_fault};
+ghost use Rattle.node_running.specs.Journal.{IsUnsent, Lives, around};
+ghost use Rattle.node_running.specs.Opening.{of_disk};
+
+use crate::halt::NodeHalt;
+use node_core::{Events, Node};
+use node_loop::{serve, tell_all};
+use ports::{Clock, Disk, Failed, Link, Sink, write_all};
+use std::alloc::Global;
+
+/// How a life goes on once it has begun.
+#[derive(Clone, Copy)]
+pub struct Pace {
+    /// The milliseconds of a tick.
+    pub millis: u32,
+    pub turns: u32,
+}
+
+/// Writes what the start has told, serves the node, and writes the line `end`.
+pub fn live<D: Disk, L: Link, C: Clock, O: Sink>(
+    alloc: Global,
+    node: Node,
+    pace: Pace,
+    events: &Events,
+    out: &mut O,
+    disk: &mut D,
+    link: &mut L,
+    clock: &mut C,
+) -> Result<(), NodeHalt>
+    requires going { node.ended ≡ false }
+    requires open { O.is_open out.old ≡ true }
+    requires some { 1 ≤ pace.millis }
+    requires unsent { AllByRecursion IsUnsent events.now }
+    ensures sink { O.is_open out.new ≡ is_writable result }
+    ensures write_fault { O.faults out.new ≡ counted (is_write_fault result) (O.faults out.old) }
+    ensures calm { OnOk result (D.faults disk.new ≡ D.faults disk.old) }
+    ensures store_fault { IfErr result (λ h. h ≡ NodeHalt.StoreFault → Rose (D.faults disk.old) (D.faults disk.new)) }
+    ensures bound { IfErr result (λ h. h ≢ NodeHalt.LinkFault) }
+    ensures lives { (s : Setting) (n : RulesNode) (link_told : LinkState) (readings : List ℕ)
+        → IsNode s node n → L.contents link.old ≡ Some link_told → C.coming clock.old ≡ Some readings
+        → Lives s node events.now (life_acts pace.millis pace.turns link_told.coming (C.reading clock.old) readings) (served_from n link_told)
+        (around (O.taken out.old) (L.contents link.old) (of_disk (D.faults disk.old) (D.moments disk.old)))
+        (around (O.taken out.new) (L.contents link.new) (of_disk (D.faults disk.new) (D.moments disk.new))) result }
+{
+    let mut node = node;
+    let mut sent = 0;
+    if let Err(fault) = tell_all(alloc, &node, link, out, &mut sent, events.as_slice()) {
+        return Err(NodeHalt::from(fault));
+    }
+    if let Err(fault) = serve(
+        alloc,
+        &mut node,
+        link,
+        clock,
+        disk,
+        out,
+        pace.millis,
+        pace.turns,
+    ) {
+        return Err(NodeHalt::from(fault));
+    }
+    match write_all(out, b"end\n") {
+        Ok(()) => Ok(()),
+        Err(Failed) => Err(NodeHalt::WriteFault),
+    }
+}

@@ -1,0 +1,1 @@
+//! Runs of a member, over objects in memory.
