@@ -1,2 +1,4 @@
 pub mod KitLemmas
 pub mod OpenLemmas
+pub mod LiveLemmas
+pub mod RunLemmas

@@ -83,12 +83,14 @@ pub record HasStopped (s : Setting) (node : Kept) (told : List journal.Event) (a
   pub faults : Rose was.disk.faults now.disk.faults
   pub key : LivesOn whole.spent node.signer kept.signer was.disk.moments now.disk.moments
 
--- What the start tells was written in part, and nothing else was.
-pub record IsUntold (told : List journal.Event) (was now : Around) : Type 0 where
+-- What the start tells was written in part, and nothing else was; no datagram was given to the link.
+pub record IsUntold (told : List journal.Event) (start : Course) (was now : Around) : Type 0 where
   pub text : List ℕ
   pub front : IsFront text (lines_of told)
   pub written : Appends was.taken now.taken text
-  pub link : now.link ≡ was.link
+  pub link : LinkState
+  pub tells : now.link ≡ Some link
+  pub given : IsFront link.given start.link.given
   pub disk : now.disk ≡ was.disk
 
 -- What the start tells was written, and the serving broke off.
@@ -114,9 +116,9 @@ Lives s node told acts start was now (Ok done) = IsLived s node told (served s a
 Lives s node told acts start was now (Err (halt.Refused line w)) = ⊥
 Lives s node told acts start was now (Err halt.ReadFault) = ⊥
 Lives s node told acts start was now (Err halt.WriteFault) =
-    IsUntold told was now ⊎ IsUnserved s node told acts start was now serve.WriteFault ⊎ IsUnended s node told (served s acts start) was now
+    IsUntold told start was now ⊎ IsUnserved s node told acts start was now serve.WriteFault ⊎ IsUnended s node told (served s acts start) was now
 Lives s node told acts start was now (Err halt.StoreFault) = HasStopped s node told acts start was now
 Lives s node told acts start was now (Err (halt.StoreBroken place byte)) = ⊥
 Lives s node told acts start was now (Err halt.LinkFault) = ⊥
 Lives s node told acts start was now (Err (halt.Exhausted next)) = ⊥
-Lives s node told acts start was now (Err halt.OutOfMemory) = IsUntold told was now ⊎ IsUnserved s node told acts start was now serve.OutOfMemory
+Lives s node told acts start was now (Err halt.OutOfMemory) = IsUntold told start was now ⊎ IsUnserved s node told acts start was now serve.OutOfMemory

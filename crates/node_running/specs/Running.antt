@@ -12,7 +12,8 @@ use Rattle.play.specs.declared.stop.Stop.TheVariants as stop
 use Rattle.ports.specs.Count.{next_count}
 use Rattle.ports.specs.Link.{LinkState}
 use Rattle.schedule_kit.specs.declared.kit.KitText.TheVariants as kit
-use Rattle.whole_text.specs.Gathered.{IsUnfinished}
+use Rattle.schedule_kit.specs.declared.line.KitLine.{KitLine}
+use Rattle.whole_text.specs.Gathered.{IsUnfinished, IsWhole}
 use Rattle.node_core.specs.Begins.{IsVouchable}
 use Rattle.node_core.specs.Playing.{IsNode, Kept}
 use Rattle.node_core.specs.Rolls.{recs_of}
@@ -105,10 +106,17 @@ pub record IsUnread (was now : play.Standing) (old new : Around) (s : Stop BadWo
   pub link : new.link ≡ old.link
   pub disk : new.disk ≡ old.disk
 
+-- The text was read whole, and memory was refused for what it sets up: neither link nor disk were touched.
+pub record IsUngathered (was now : play.Standing) (old new : Around) : Type 0 where
+  pub lines : List KitLine
+  pub whole : IsWhole kit_judging kit.Start was now lines
+  pub link : new.link ≡ old.link
+  pub disk : new.disk ≡ old.disk
+
 -- What the run of a member took, wrote, did and left, by its answer.
 abbrev pub Runs : Feed → play.Standing → play.Standing → Around → Around → Result (Unit {0}) NodeHalt → Type 0
 Runs feed was now old new (Err (halt.Refused line w)) = IsUnread was now old new (stop.Refused line w)
 Runs feed was now old new (Err halt.ReadFault) = IsUnread was now old new stop.ReadFault
 Runs feed was now old new (Err halt.OutOfMemory) =
-    IsUnread was now old new stop.OutOfMemory ⊎ Went was now old new (λ m between after. RunsBehind m feed between after (Err halt.OutOfMemory))
+    IsUnread was now old new stop.OutOfMemory ⊎ IsUngathered was now old new ⊎ Went was now old new (λ m between after. RunsBehind m feed between after (Err halt.OutOfMemory))
 Runs feed was now old new result = Went was now old new (λ m between after. RunsBehind m feed between after result)

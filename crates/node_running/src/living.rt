@@ -1,6 +1,6 @@
 //! A life from its first events to its last line.
 
-ghost use Rattle.std.specs.Prelude.{◌≡◌, ◌≢◌, ℕ, ◌≤◌, true, false, List, Some, OnOk, IfErr};
+ghost use Rattle.std.specs.Prelude.{◌≡◌, ◌≢◌, ℕ, ◌≤◌, true, false, List, Option, Some, OnOk, IfErr};
 ghost use Rattle.std.specs.List.{AllByRecursion};
 ghost use Rattle.ports.specs.Count.{counted, Rose};
 ghost use Rattle.ports.specs.Link.{LinkState};
@@ -9,7 +9,9 @@ ghost use Rattle.node_rules.specs.Nodes.{Setting, Node as RulesNode};
 ghost use Rattle.node_loop.specs.Turns.{life_acts};
 ghost use Rattle.node_loop.specs.Courses.{served_from};
 ghost use Rattle.node_running.specs.Halts.{is_writable, is_write_fault};
-ghost use Rattle.node_running.specs.Journal.{IsUnsent, Lives, around};
+ghost use Rattle.std.specs.Io.KnownBytes.{Appends};
+ghost use Rattle.journal.specs.declared.event.Event as journal;
+ghost use Rattle.node_running.specs.Journal.{IsUnsent, Lives, around, lines_of};
 ghost use Rattle.node_running.specs.Opening.{of_disk};
 
 use crate::halt::NodeHalt;
@@ -24,6 +26,49 @@ pub struct Pace {
     /// The milliseconds of a tick.
     pub millis: u32,
     pub turns: u32,
+}
+
+/// Serves the node, and writes the line `end`.
+fn serve_to_end<D: Disk, L: Link, C: Clock, O: Sink>(
+    alloc: Global,
+    node: Node,
+    pace: Pace,
+    out: &mut O,
+    disk: &mut D,
+    link: &mut L,
+    clock: &mut C,
+) -> Result<(), NodeHalt>
+    requires going { node.ended ≡ false }
+    requires open { O.is_open out.old ≡ true }
+    requires some { 1 ≤ pace.millis }
+    ensures sink { O.is_open out.new ≡ is_writable result }
+    ensures write_fault { O.faults out.new ≡ counted (is_write_fault result) (O.faults out.old) }
+    ensures calm { OnOk result (D.faults disk.new ≡ D.faults disk.old) }
+    ensures store_fault { IfErr result (λ h. h ≡ NodeHalt.StoreFault → Rose (D.faults disk.old) (D.faults disk.new)) }
+    ensures bound { IfErr result (λ h. h ≢ NodeHalt.LinkFault) }
+    ensures lives { (s : Setting) (n : RulesNode) (link_told : LinkState) (readings : List ℕ) (told : List journal.Event) (was : Option LinkState) (taken : Option (List ℕ))
+        → IsNode s node n → L.contents link.old ≡ Some link_told → C.coming clock.old ≡ Some readings → Appends taken (O.taken out.old) (lines_of told)
+        → Lives s node told (life_acts pace.millis pace.turns link_told.coming (C.reading clock.old) readings) (served_from n link_told)
+        (around taken was (of_disk (D.faults disk.old) (D.moments disk.old)))
+        (around (O.taken out.new) (L.contents link.new) (of_disk (D.faults disk.new) (D.moments disk.new))) result }
+{
+    let mut node = node;
+    match serve(
+        alloc,
+        &mut node,
+        link,
+        clock,
+        disk,
+        out,
+        pace.millis,
+        pace.turns,
+    ) {
+        Ok(()) => match write_all(out, b"end\n") {
+            Ok(()) => Ok(()),
+            Err(Failed) => Err(NodeHalt::WriteFault),
+        },
+        Err(fault) => Err(NodeHalt::from(fault)),
+    }
 }
 
 /// Writes what the start has told, serves the node, and writes the line `end`.
@@ -52,25 +97,9 @@ pub fn live<D: Disk, L: Link, C: Clock, O: Sink>(
         (around (O.taken out.old) (L.contents link.old) (of_disk (D.faults disk.old) (D.moments disk.old)))
         (around (O.taken out.new) (L.contents link.new) (of_disk (D.faults disk.new) (D.moments disk.new))) result }
 {
-    let mut node = node;
     let mut sent = 0;
-    if let Err(fault) = tell_all(alloc, &node, link, out, &mut sent, events.as_slice()) {
-        return Err(NodeHalt::from(fault));
-    }
-    if let Err(fault) = serve(
-        alloc,
-        &mut node,
-        link,
-        clock,
-        disk,
-        out,
-        pace.millis,
-        pace.turns,
-    ) {
-        return Err(NodeHalt::from(fault));
-    }
-    match write_all(out, b"end\n") {
-        Ok(()) => Ok(()),
-        Err(Failed) => Err(NodeHalt::WriteFault),
+    match tell_all(alloc, &node, link, out, &mut sent, events.as_slice()) {
+        Ok(()) => serve_to_end(alloc, node, pace, out, disk, link, clock),
+        Err(fault) => Err(NodeHalt::from(fault)),
     }
 }

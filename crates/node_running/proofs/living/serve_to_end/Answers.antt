@@ -1,0 +1,40 @@
+use Rattle.std.proofs.Common.{◌≡◌, ◌∙◌, ap, sym, subst, Some, Err, refl}
+use Rattle.std.specs.Prelude.{IfErr}
+use Rattle.ports.specs.Count.{Rose, counted}
+use Rattle.node_loop.specs.declared.fault.ServeFault.TheVariants as serve
+use Rattle.node_running.specs.declared.halt.NodeHalt.{NodeHalt}
+use Rattle.node_running.specs.declared.halt.NodeHalt.TheVariants as halt
+use Rattle.node_running.specs.Halts.{halt_served, is_writable, is_write_fault}
+use Rattle.node_running.specs.Journal.{around}
+use Rattle.node_running.specs.Opening.{of_disk}
+use Rattle.node_running.proofs.LiveLemmas.{IsTold, bound-so, fault-so, lived-whole, open-so, rose-so, served-part, unended}
+use Rattle.node_running.proofs.living.serve_to_end.Goals as goal
+
+pub returns-in-Ok-write_all-clause-lives : goal.returns-in-Ok-write_all-clause-lives
+returns-in-Ok-write_all-clause-lives g c = λ s n link_told readings told was taken is link_is coming_is first.
+    let h = c.in-Ok.ensures.serves s n link_told readings is link_is coming_is in
+    lived-whole s n c.args.node c.serve.new.node told _ link_told was taken (g.O.Sink.taken c.args.out.now) (g.O.Sink.taken c.serve.new.out)
+    (of_disk (g.D.Disk.faults c.args.disk.now) (g.D.Disk.moments c.args.disk.now))
+    (around (g.O.Sink.taken c.write_all.new.out) (g.L.Link.contents c.serve.new.link) (of_disk (g.D.Disk.faults c.serve.new.disk) (g.D.Disk.moments c.serve.new.disk))) h.0
+    (record { written = first; given = refl }) c.in-Ok.ensures.closed c.in-Ok.ensures.calm h.1 c.in-Ok-write_all.ensures.wrote
+
+pub returns-in-Ok-clause-lives : goal.returns-in-Ok-clause-lives
+returns-in-Ok-clause-lives g c = λ s n link_told readings told was taken is link_is coming_is first.
+    let h = c.in-Ok.ensures.serves s n link_told readings is link_is coming_is in
+    unended s n c.args.node c.serve.new.node told _ link_told was taken (g.O.Sink.taken c.args.out.now) (g.O.Sink.taken c.serve.new.out)
+    (of_disk (g.D.Disk.faults c.args.disk.now) (g.D.Disk.moments c.args.disk.now))
+    (around (g.O.Sink.taken c.write_all.new.out) (g.L.Link.contents c.serve.new.link) (of_disk (g.D.Disk.faults c.serve.new.disk) (g.D.Disk.moments c.serve.new.disk))) h.0
+    (record { written = first; given = refl }) h.1 c.in-Err-write_all.ensures.wrote
+
+
+
+
+
+pub returns-clause-lives : goal.returns-clause-lives
+returns-clause-lives g c = λ s n link_told readings told was taken is link_is coming_is first.
+    let h = c.in-Err.ensures.serves s n link_told readings is link_is coming_is in
+    rw c.from.ensures
+    (served-part s n c.args.node c.serve.new.node told _ link_told was taken (g.O.Sink.taken c.args.out.now)
+    (of_disk (g.D.Disk.faults c.args.disk.now) (g.D.Disk.moments c.args.disk.now))
+    (around (g.O.Sink.taken c.serve.new.out) (g.L.Link.contents c.serve.new.link) (of_disk (g.D.Disk.faults c.serve.new.disk) (g.D.Disk.moments c.serve.new.disk))) h.0 c.in-Err.fault
+    (record { written = first; given = refl }) c.in-Err.ensures.store_fault h.1)

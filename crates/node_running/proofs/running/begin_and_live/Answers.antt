@@ -1,0 +1,42 @@
+use Rattle.std.proofs.Common.{◌≡◌, ◌∙◌, ap, sym, subst, Some, Err, refl}
+use Rattle.ports.specs.Count.{Rose, counted}
+use Rattle.node_running.specs.Halts.{is_writable, is_write_fault}
+use Rattle.node_running.specs.Journal.{around, bound_for}
+use Rattle.node_running.specs.Opening.{of_disk, setting_for, start_of}
+use Rattle.node_running.proofs.RunLemmas.{begins-bound, begins-rose, begins-writable, begun-unsent, calm-behind, lived-run, not-begun, rose-behind}
+use Rattle.node_running.proofs.running.begin_and_live.Goals as goal
+
+pub live-requires-clause-unsent : goal.live-requires-clause-unsent
+live-requires-clause-unsent g c = begun-unsent c.args.member c.in-Ok.node c.begin.new.events _ _ c.in-Ok.ensures.begins
+
+pub returns-in-Ok-clause-calm : goal.returns-in-Ok-clause-calm
+returns-in-Ok-clause-calm g c = calm-behind c.live.result _ _ _ c.live.ensures.calm c.in-Ok.ensures.begins.1.faults
+
+pub returns-in-Ok-clause-store_fault : goal.returns-in-Ok-clause-store_fault
+returns-in-Ok-clause-store_fault g c = rose-behind c.live.result _ _ _ c.live.ensures.store_fault c.in-Ok.ensures.begins.1.faults
+
+pub returns-in-Ok-clause-runs : goal.returns-in-Ok-clause-runs
+returns-in-Ok-clause-runs g c = λ feed link_is coming_is reading_is turns_is.
+    lived-run c.args.member feed c.in-Ok.ensures.begins.0 c.in-Ok.node c.begin.new.events
+    (around (g.O.Sink.taken c.args.out.now) (g.L.Link.contents c.args.link.now) (of_disk (g.D.Disk.faults c.args.disk.now) (g.D.Disk.moments c.args.disk.now)))
+    (around (g.O.Sink.taken c.live.new.out) (g.L.Link.contents c.live.new.link) (of_disk (g.D.Disk.faults c.live.new.disk) (g.D.Disk.moments c.live.new.disk)))
+    (of_disk (g.D.Disk.faults c.begin.new.disk) (g.D.Disk.moments c.begin.new.disk)) c.live.result (g.C.Clock.reading c.args.clock.now) c.args.turns reading_is turns_is c.in-Ok.ensures.begins.1
+    (c.live.ensures.lives (setting_for c.args.member) (start_of c.args.member c.in-Ok.ensures.begins.0).node (bound_for c.args.member feed.link) feed.readings c.in-Ok.ensures.begins.1.is link_is coming_is)
+
+pub returns-in-Err-clause-sink : goal.returns-in-Err-clause-sink
+returns-in-Err-clause-sink g c = c.requires.sink ∙ sym (begins-writable c.args.member _ _ c.begin.new.events c.in-Err.halt c.in-Err.ensures.begins).0
+
+pub returns-in-Err-clause-write_fault : goal.returns-in-Err-clause-write_fault
+returns-in-Err-clause-write_fault g c = ap (λ b. counted b (g.O.Sink.faults c.args.out.now)) (sym (begins-writable c.args.member _ _ c.begin.new.events c.in-Err.halt c.in-Err.ensures.begins).1)
+
+pub returns-in-Err-clause-store_fault : goal.returns-in-Err-clause-store_fault
+returns-in-Err-clause-store_fault g c = begins-rose c.args.member _ _ c.begin.new.events c.in-Err.halt c.in-Err.ensures.begins
+
+pub returns-in-Err-clause-bound : goal.returns-in-Err-clause-bound
+returns-in-Err-clause-bound g c = begins-bound c.args.member _ _ c.begin.new.events c.in-Err.halt c.in-Err.ensures.begins
+
+pub returns-in-Err-clause-runs : goal.returns-in-Err-clause-runs
+returns-in-Err-clause-runs g c = λ feed link_is coming_is reading_is turns_is.
+    not-begun c.args.member feed
+    (around (g.O.Sink.taken c.args.out.now) (g.L.Link.contents c.args.link.now) (of_disk (g.D.Disk.faults c.args.disk.now) (g.D.Disk.moments c.args.disk.now)))
+    (of_disk (g.D.Disk.faults c.begin.new.disk) (g.D.Disk.moments c.begin.new.disk)) c.begin.new.events c.in-Err.halt c.in-Err.ensures.begins
