@@ -1,5 +1,5 @@
 -- How a member is run, behind its text.
-use Rattle.std.proofs.Common.{◌≡◌, ◌≢◌, ℕ, ◌≤◌, ◌⊎◌, Bool, true, false, List, [], ◌∷◌, ◌++◌, Option, Some, None, Result, Ok, Err, refl, sym, ap, subst, ◌∙◌, inl, inr, append_assoc, map, fold, arith}
+use Rattle.std.proofs.Common.{◌≡◌, ◌≢◌, ℕ, ◌≤◌, ◌⊎◌, Bool, true, false, List, [], ◌∷◌, ◌++◌, length, Option, Some, None, Result, Ok, Err, refl, sym, ap, subst, ◌∙◌, inl, inr, append_assoc, map, fold, arith}
 use Rattle.std.specs.Prelude.{IfErr, OnOk}
 use Rattle.std.specs.Io.KnownBytes.{Appends}
 use Rattle.std.specs.List.{AllByRecursion}
@@ -20,7 +20,12 @@ use Rattle.schedule_kit.specs.declared.kit.KitText.TheVariants as kit
 use Rattle.whole_text.specs.Gathered.{IsUnfinished, nothing}
 use Rattle.whole_text.proofs.WholeLemmas.{never-unwritten}
 use Rattle.records.specs.declared.Record.{Record}
-use Rattle.signer.specs.Lives.{EndsNow, IsLiving, Spent}
+use Rattle.ports.specs.Disk.{Leaves, Moment, settled}
+use Rattle.secrets.specs.Secrets.{store_tag}
+use Rattle.sha2.proofs.Facts256.{length-sha256}
+use Rattle.signer.specs.Lives.{EndsNow, IsLiving, IsOnce, Spent}
+use Rattle.signer.specs.Signing.{SignerState}
+use Rattle.signer.proofs.LivesLemmas.{spent_once}
 use Rattle.node_rules.specs.Nodes.{Setting}
 use Rattle.node_rules.specs.Calls.{Call, begun, lives, signs, takes, tells, told_of, whats_of}
 use Rattle.node_rules.specs.Starting.{blank, first_note, opened, started}
@@ -52,9 +57,15 @@ each-behind P (x ∷ xs) ys a b = (a.0, each-behind P xs ys a.1 b)
 
 reported : (r : Report) → AllByRecursion IsUntoldOf (whats_of r)
 reported r =
-    each-behind IsUntoldOf (map told.Expired r.expired) _ (each-mapped told.Expired r.expired (λ x. refl))
-    (each-behind IsUntoldOf (map told.Removed r.removed) _ (each-mapped told.Removed r.removed (λ x. refl))
-    (each-behind IsUntoldOf (map told.Entered r.entered) _ (each-mapped told.Entered r.entered (λ x. refl)) (each-mapped told.Fell r.fell (λ x. refl))))
+    let expired = map told.Expired r.expired in
+    let removed = map told.Removed r.removed in
+    let entered = map told.Entered r.entered in
+    let fell = map told.Fell r.fell in
+    each-behind IsUntoldOf (expired ++ removed ++ entered) fell
+    (each-behind IsUntoldOf (expired ++ removed) entered
+    (each-behind IsUntoldOf expired removed (each-mapped told.Expired r.expired (λ x. refl)) (each-mapped told.Removed r.removed (λ x. refl)))
+    (each-mapped told.Entered r.entered (λ x. refl)))
+    (each-mapped told.Fell r.fell (λ x. refl))
 
 at-moment : (moment : ℕ) (ws : List whats.What) → AllByRecursion IsUntoldOf ws → AllByRecursion IsUnsent (map (λ what. record { moment = moment; what = what }) ws)
 at-moment moment [] all = tt
@@ -79,6 +90,20 @@ begun-unsent m node events old new h =
 
 -- ## What came of it
 
+tag-long : (m : Member) → length (tag_of m) ≡ 32
+unfolding store_tag
+tag-long m = length-sha256 _
+
+leaves-itself : (image : List ℕ) → Leaves (settled image) image
+leaves-itself image = record { no_shorter = omega arith; no_longer = omega arith; outside = λ i within whole. refl }
+
+-- what lives spend that go on was spent once
+once-in : (m : Member) (image : List ℕ) (spent : List Spent) (s : SignerState) (moments : List Moment) → s.closed ≡ false → IsLiving (tag_of m) image spent s moments → IsOnce spent
+once-in m image spent s [] going living = absurd living.ends
+once-in m image spent s (now ∷ past) going living =
+    let leaves : Leaves now now.image = subst (λ (k : Moment). Leaves k now.image) (sym (living.settled going).0) (leaves-itself now.image) in
+    spent_once (tag_of m) image now.image spent (tag-long m) (living.ends now.image leaves)
+
 has-run : (m : Member) (feed : Feed) (stored : Stored) (node : Kept) (events : List journal.Event) (was now : Around) (mid : OfDisk) → IsBegun m stored node events was.disk mid
     → IsLived (setting_for m) node events (life_in m stored feed) (record was { disk = mid }) now → HasRun m feed was now
 has-run m feed stored node events was now mid b l =
@@ -98,6 +123,9 @@ has-run m feed stored node events was now mid b l =
       ends = λ before spent ends.
           let living = l.key.lives (tag_of m) before (spent ++ spent_told (start_of m stored).told) (b.lives before spent ends) in
           subst (λ (xs : List Spent). EndsNow (tag_of m) before xs now.disk.moments) (append_assoc spent (spent_told (start_of m stored).told) r.spent) living.ends;
+      once = λ tells.
+          let f = b.fresh tells in
+          once-in m f.0 (spent_told (start_of m stored).told ++ r.spent) l.kept.signer now.disk.moments (l.unclosed ∙ b.unclosed) (l.key.lives (tag_of m) f.0 (spent_told (start_of m stored).told) f.1);
     }
 
 lived-out : (m : Member) (feed : Feed) (stored : Stored) (node : Kept) (events : List journal.Event) (was now : Around) (mid : OfDisk) (result : Result (Unit {0}) NodeHalt) → IsBegun m stored node events was.disk mid

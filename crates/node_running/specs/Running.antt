@@ -9,7 +9,7 @@ use Rattle.lms_tree.specs.Lms.{public_of}
 use Rattle.play.specs.Plays as play
 use Rattle.play.specs.declared.stop.Stop.{Stop}
 use Rattle.play.specs.declared.stop.Stop.TheVariants as stop
-use Rattle.ports.specs.Count.{next_count}
+use Rattle.signer.specs.Lives.{IsOnce}
 use Rattle.ports.specs.Link.{LinkState}
 use Rattle.schedule_kit.specs.declared.kit.KitText.TheVariants as kit
 use Rattle.schedule_kit.specs.declared.line.KitLine.{KitLine}
@@ -52,7 +52,8 @@ LivesOut m feed was now result =
     (served_from (start_of m stored).node (bound_for m feed.link)) (record was { disk = mid }) now result
 
 -- All was done: the journal was written, the link was given what the life gives it, and the store is settled with what the life
--- keeps, so that each crash leaves such a store; the lives of the key go on with what was spent.
+-- keeps, so that each crash leaves such a store; the lives of the key go on with what was spent, whose indexes rise, and the epochs of
+-- whose notes.
 pub record HasRun (m : Member) (feed : Feed) (was now : Around) : Type 0 where
   pub stored : Stored
   pub found : IsFound m stored was.disk
@@ -63,6 +64,7 @@ pub record HasRun (m : Member) (feed : Feed) (was now : Around) : Type 0 where
   pub gate : ℕ
   pub left : Tells was.disk.moments → IsSettled (tag_of m) (life_in m stored feed).node.stored gate now.disk.moments
   pub ends : Ends m (spent_told (start_of m stored).told ++ (life_in m stored feed).spent) was.disk now.disk
+  pub once : Tells was.disk.moments → IsOnce (spent_told (start_of m stored).told ++ (life_in m stored feed).spent)
 
 -- Nothing was written or sent.
 pub record IsUnwritten (was now : Around) : Type 0 where

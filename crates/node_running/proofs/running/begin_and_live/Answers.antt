@@ -23,20 +23,20 @@ returns-in-Ok-clause-runs g c = λ feed link_is coming_is reading_is turns_is.
     (of_disk (g.D.Disk.faults c.begin.new.disk) (g.D.Disk.moments c.begin.new.disk)) c.live.result (g.C.Clock.reading c.args.clock.now) c.args.turns reading_is turns_is c.in-Ok.ensures.begins.1
     (c.live.ensures.lives (setting_for c.args.member) (start_of c.args.member c.in-Ok.ensures.begins.0).node (bound_for c.args.member feed.link) feed.readings c.in-Ok.ensures.begins.1.is link_is coming_is)
 
-pub returns-in-Err-clause-sink : goal.returns-in-Err-clause-sink
-returns-in-Err-clause-sink g c = c.requires.sink ∙ sym (begins-writable c.args.member _ _ c.begin.new.events c.in-Err.halt c.in-Err.ensures.begins).0
+pub returns-clause-sink : goal.returns-clause-sink
+returns-clause-sink g c = c.requires.sink ∙ sym (begins-writable c.args.member _ _ c.begin.new.events c.in-Err.halt c.in-Err.ensures.begins).0
 
-pub returns-in-Err-clause-write_fault : goal.returns-in-Err-clause-write_fault
-returns-in-Err-clause-write_fault g c = ap (λ b. counted b (g.O.Sink.faults c.args.out.now)) (sym (begins-writable c.args.member _ _ c.begin.new.events c.in-Err.halt c.in-Err.ensures.begins).1)
+pub returns-clause-write_fault : goal.returns-clause-write_fault
+returns-clause-write_fault g c = ap (λ b. counted b (g.O.Sink.faults c.args.out.now)) (sym (begins-writable c.args.member _ _ c.begin.new.events c.in-Err.halt c.in-Err.ensures.begins).1)
 
-pub returns-in-Err-clause-store_fault : goal.returns-in-Err-clause-store_fault
-returns-in-Err-clause-store_fault g c = begins-rose c.args.member _ _ c.begin.new.events c.in-Err.halt c.in-Err.ensures.begins
+pub returns-clause-store_fault : goal.returns-clause-store_fault
+returns-clause-store_fault g c = begins-rose c.args.member _ _ c.begin.new.events c.in-Err.halt c.in-Err.ensures.begins
 
-pub returns-in-Err-clause-bound : goal.returns-in-Err-clause-bound
-returns-in-Err-clause-bound g c = begins-bound c.args.member _ _ c.begin.new.events c.in-Err.halt c.in-Err.ensures.begins
+pub returns-clause-bound : goal.returns-clause-bound
+returns-clause-bound g c = begins-bound c.args.member _ _ c.begin.new.events c.in-Err.halt c.in-Err.ensures.begins
 
-pub returns-in-Err-clause-runs : goal.returns-in-Err-clause-runs
-returns-in-Err-clause-runs g c = λ feed link_is coming_is reading_is turns_is.
+pub returns-clause-runs : goal.returns-clause-runs
+returns-clause-runs g c = λ feed link_is coming_is reading_is turns_is.
     not-begun c.args.member feed
     (around (g.O.Sink.taken c.args.out.now) (g.L.Link.contents c.args.link.now) (of_disk (g.D.Disk.faults c.args.disk.now) (g.D.Disk.moments c.args.disk.now)))
     (of_disk (g.D.Disk.faults c.begin.new.disk) (g.D.Disk.moments c.begin.new.disk)) c.begin.new.events c.in-Err.halt c.in-Err.ensures.begins

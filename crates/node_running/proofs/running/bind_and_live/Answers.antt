@@ -8,15 +8,15 @@ use Rattle.node_running.proofs.running.bind_and_live.Goals as goal
 
 pub returns-in-Done-clause-runs : goal.returns-in-Done-clause-runs
 returns-in-Done-clause-runs g c = λ feed link_is coming_is reading_is turns_is.
-    let now = bound c.args.member feed.link c.port.result (g.L.Link.contents c.args.link.now) (g.L.Link.contents c.bind.new.link) link_is c.port.ensures c.in-Done.ensures.binds in
-    run-behind c.args.member feed (g.O.Sink.taken c.args.out.now) (g.L.Link.contents c.args.link.now) (g.L.Link.contents c.bind.new.link)
+    let now = bound c.args.member feed.link c.port.result (g.L.Link.contents c.args.link.now) (g.L.Link.contents c.bind.new.self) link_is c.port.ensures c.in-Done.ensures.binds in
+    run-behind c.args.member feed (g.O.Sink.taken c.args.out.now) (g.L.Link.contents c.args.link.now) (g.L.Link.contents c.bind.new.self)
     (of_disk (g.D.Disk.faults c.args.disk.now) (g.D.Disk.moments c.args.disk.now)) _ c.begin_and_live.result now
     (c.begin_and_live.ensures.runs feed now coming_is reading_is turns_is)
 
 pub returns-in-Failed-clause-runs : goal.returns-in-Failed-clause-runs
 returns-in-Failed-clause-runs g c = λ feed link_is coming_is reading_is turns_is.
-    unbound (g.O.Sink.taken c.args.out.now) (g.L.Link.contents c.args.link.now) (g.L.Link.contents c.bind.new.link) (of_disk (g.D.Disk.faults c.args.disk.now) (g.D.Disk.moments c.args.disk.now)) feed.link c.port.result link_is c.in-Failed.ensures.binds
+    unbound (g.O.Sink.taken c.args.out.now) (g.L.Link.contents c.args.link.now) (g.L.Link.contents c.bind.new.self) (of_disk (g.D.Disk.faults c.args.disk.now) (g.D.Disk.moments c.args.disk.now)) feed.link c.port.result link_is c.in-Failed.ensures.binds
 
 pub returns-in-OutOfMemory-clause-runs : goal.returns-in-OutOfMemory-clause-runs
 returns-in-OutOfMemory-clause-runs g c = λ feed link_is coming_is reading_is turns_is.
-    inl (unbound-starved (g.O.Sink.taken c.args.out.now) (g.L.Link.contents c.args.link.now) (g.L.Link.contents c.bind.new.link) (of_disk (g.D.Disk.faults c.args.disk.now) (g.D.Disk.moments c.args.disk.now)) feed.link c.port.result link_is c.in-OutOfMemory.ensures.binds)
+    inl (unbound-starved (g.O.Sink.taken c.args.out.now) (g.L.Link.contents c.args.link.now) (g.L.Link.contents c.bind.new.self) (of_disk (g.D.Disk.faults c.args.disk.now) (g.D.Disk.moments c.args.disk.now)) feed.link c.port.result link_is c.in-OutOfMemory.ensures.binds)
