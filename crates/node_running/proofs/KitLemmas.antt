@@ -99,13 +99,15 @@ apart-append group authority named c x [] body new listed apart = (record { cert
 apart-append group authority named c x (y ∷ xs) body new listed apart =
     let first = apart.0 in
     let same : Certificate listed.0.cert ≡ Certificate first.cert = sym listed.0.body ∙ first.body in
-    let member : listed.0.cert.member ≡ first.cert.member = cc in
-    (record {
-      cert = first.cert;
-      body = first.body;
-      others = others-append first.cert.member (recs_of xs) x.rec first.others
-          (record { cert = c; body = body; other = subst (λ m. nat_eq c.member m ≡ false) member (other-member group authority named c y new listed.0) });
-    }, apart-append group authority named c x xs body new listed.1 apart.1)
+    let member : listed.0.cert.member ≡ first.cert.member = cc in (
+      record {
+        cert = first.cert;
+        body = first.body;
+        others = others-append first.cert.member (recs_of xs) x.rec first.others
+            (record { cert = c; body = body; other = subst (λ m. nat_eq c.member m ≡ false) member (other-member group authority named c y new listed.0) });
+      },
+      apart-append group authority named c x xs body new listed.1 apart.1,
+    )
 
 keys-append : (me : ℕ) (k : PublicKey) (c : CertBody) (x : CheckedRecord) (xs : List CheckedRecord) → AllByRecursion (HasKey me k) (recs_of xs) → HasKey me k x.rec → AllByRecursion (HasKey me k) (recs_of (xs ++ x ∷ []))
 keys-append me k c x xs all one = subst (AllByRecursion (HasKey me k)) (sym (recs-append xs x)) (each-append (HasKey me k) (recs_of xs) x.rec all one)
@@ -114,11 +116,13 @@ keys-append me k c x xs all one = subst (AllByRecursion (HasKey me k)) (sym (rec
 none-own : (group : Group) (authority : PublicKey) (named : List Bool) (c : CertBody) (me : ℕ) (k : PublicKey) (xs : List CheckedRecord) → c.member ≡ me → is_named named c.member ≡ false
     → AllByRecursion (IsListed group authority named) xs → AllByRecursion (HasKey me k) (recs_of xs)
 none-own group authority named c me k [] own new listed = tt
-none-own group authority named c me k (x ∷ xs) own new listed =
-    ((λ d body member.
-    let same : Certificate listed.0.cert ≡ Certificate d = sym listed.0.body ∙ body in
-    let of : listed.0.cert.member ≡ c.member = (let e : listed.0.cert.member ≡ d.member = cc in e ∙ member ∙ sym own) in
-    absurd (false≢true (sym new ∙ ap (is_named named) (sym of) ∙ listed.0.named_so))), none-own group authority named c me k xs own new listed.1)
+none-own group authority named c me k (x ∷ xs) own new listed = (
+  (λ d body member.
+      let same : Certificate listed.0.cert ≡ Certificate d = sym listed.0.body ∙ body in
+      let of : listed.0.cert.member ≡ c.member = (let e : listed.0.cert.member ≡ d.member = cc in e ∙ member ∙ sym own) in
+      absurd (false≢true (sym new ∙ ap (is_named named) (sym of) ∙ listed.0.named_so))),
+  none-own group authority named c me k xs own new listed.1,
+)
 
 -- the bytes of a key are one key's
 record IsLong (k : PublicKey) : Type 0 where
@@ -152,16 +156,20 @@ own-append group authority named me own c x xs body new long listed h = either (
     last-true : (b : Bool) → is_certificate_for me x.rec.body ≡ true → (b || is_certificate_for me x.rec.body) ≡ true
     last-true true e = refl
     last-true false e = e
+
     is-own : x.rec.body ≡ Certificate c → is_certificate_for me x.rec.body ≡ (c.member == me)
     is-own e = rw e refl
+
     other-key : (k : PublicKey) → (c.member == me) ≡ false → HasKey me k x.rec
     other-key k e = λ d it member.
         let same : Certificate c ≡ Certificate d = sym body ∙ it in
         let m : c.member ≡ d.member = cc in
         absurd (grind (e, m, member, arith))
+
     kept : (o : Option PublicKey) → (c.member == me) ≡ false → HasOwn me o xs → HasOwn me o (xs ++ x ∷ [])
     kept None e h = tt
     kept (Some k) e h = record { among = any-append me x xs true (rw h.among refl); keys = keys-append me k c x xs h.keys (other-key k e); long = h.long }
+
     either : (b : Bool) → (c.member == me) ≡ b → HasOwn me (cond b (Some c.key) own) (xs ++ x ∷ [])
     either true e =
         let m : c.member ≡ me = grind (e, arith) in

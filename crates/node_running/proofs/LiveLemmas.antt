@@ -17,12 +17,12 @@ use Rattle.node_loop.specs.Turns.{Act}
 use Rattle.node_loop.specs.Courses.{Course, line_of, served, served_from, tells_all, writes}
 use Rattle.node_loop.specs.Serving.{Serves}
 use Rattle.node_loop.specs.Writing as loop
-use Rattle.node_loop.specs.Writing.{Before, IsAt, IsWithin, Standing, Tells, before_all, standing}
+use Rattle.node_loop.specs.Writing.{Before, IsAt, IsWithin, Standing, Stands, Tells, before_all, standing}
 use Rattle.node_loop.proofs.SendLemmas.{tells-writes}
 use Rattle.node_loop.proofs.TurnLemmas.{begins-at}
 use Rattle.node_running.specs.declared.halt.NodeHalt.{NodeHalt}
 use Rattle.node_running.specs.declared.halt.NodeHalt.TheVariants as halt
-use Rattle.node_running.specs.Halts.{halt_served, is_writable, is_write_fault}
+use Rattle.node_running.specs.Halts.{IsBehind, halt_served, is_writable, is_write_fault}
 use Rattle.node_running.specs.Journal.{Around, HasStopped, IsLived, IsUnsent, IsUntold, Lives, end_line, lines_of}
 use Rattle.node_running.specs.Opening.{OfDisk}
 
@@ -41,32 +41,37 @@ pub record IsTold (s : Setting) (n : Node) (node : Kept) (told : List journal.Ev
 
 pub told-whole : (s : Setting) (n : Node) (node : Kept) (events told : List journal.Event) (link : LinkState) (was : Option LinkState) (taken mid : Option (List ℕ)) (later : Option LinkState) (moments : List Moment) (sent sent1 : ℕ)
     → events ≡ told → AllByRecursion IsUnsent told → IsNode s node n → was ≡ Some link → sent ≡ 0
-    → ((s : Setting) (before : Before) (moments : List Moment) (r : Course) → IsAt s before (standing node was taken moments sent) r → IsAt s before (standing node later mid moments sent1) (tells_all events r))
+    → ((before : Before) (moments : List Moment) (r : Course) → IsAt before (standing node was taken moments sent) r → IsAt before (standing node later mid moments sent1) (tells_all events r))
     → IsTold s n node told link taken mid later
 told-whole s n node events told link was taken mid later moments sent sent1 same unsent is link_is none tells =
     let before = before_all taken node.signer moments in
     let start : Course = served_from n link in
-    let first = subst (λ k. IsAt s before (standing node was taken moments k) start) (sym none) (begins-at s node n was taken moments link is link_is) in
-    let at = subst (λ r. IsAt s before (standing node later mid moments sent1) r) (ap (λ (es : List journal.Event). tells_all es start) same ∙ unsent-written told start unsent) (tells s before moments start first) in
+    let first = subst (λ k. IsAt before (standing node was taken moments k) start) (sym none) (begins-at s node n was taken moments link is link_is).at in
+    let at = subst (λ r. IsAt before (standing node later mid moments sent1) r) (ap (λ (es : List journal.Event). tells_all es start) same ∙ unsent-written told start unsent) (tells before moments start first) in
     record { written = at.text; given = at.link }
 
 pub told-part : (s : Setting) (n : Node) (node : Kept) (events told : List journal.Event) (acts : List Act) (link : LinkState) (was later : Option LinkState) (taken mid : Option (List ℕ)) (disk : OfDisk) (sent sent1 : ℕ) (e : ServeFault)
     → events ≡ told → AllByRecursion IsUnsent told → IsNode s node n → was ≡ Some link → sent ≡ 0
-    → ((s : Setting) (before : Before) (moments : List Moment) (r : Course) → IsAt s before (standing node was taken moments sent) r → Tells s before (standing node later mid moments sent1) (tells_all events r) (Err e))
+    → ((before : Before) (moments : List Moment) (r : Course) → IsAt before (standing node was taken moments sent) r → Tells before (standing node later mid moments sent1) (tells_all events r) (Err e))
     → Lives s node told acts (served_from n link) (record { taken = taken; link = was; disk = disk }) (record { taken = mid; link = later; disk = disk }) (Err (halt_served e))
-told-part s n node events told acts link was later taken mid disk sent sent1 e same unsent is link_is none tells = by e (subst (λ r. Tells s before w r (Err e)) (ap (λ (es : List journal.Event). tells_all es start) same ∙ unsent-written told start unsent) (tells s before disk.moments start first))
+told-part s n node events told acts link was later taken mid disk sent sent1 e same unsent is link_is none tells = by e (subst (λ r. Tells before w r (Err e)) (ap (λ (es : List journal.Event). tells_all es start) same ∙ unsent-written told start unsent) (tells before disk.moments start first))
   where
     before : Before
     before = before_all taken node.signer disk.moments
+
     start : Course
     start = served_from n link
+
     w : Standing
     w = standing node later mid disk.moments sent1
-    first : IsAt s before (standing node was taken disk.moments sent) start
-    first = subst (λ k. IsAt s before (standing node was taken disk.moments k) start) (sym none) (begins-at s node n was taken disk.moments link is link_is)
+
+    first : IsAt before (standing node was taken disk.moments sent) start
+    first = subst (λ k. IsAt before (standing node was taken disk.moments k) start) (sym none) (begins-at s node n was taken disk.moments link is link_is).at
+
     part : IsWithin before w (writes (lines_of told) start) → IsUntold told start (record { taken = taken; link = was; disk = disk }) (record { taken = mid; link = later; disk = disk })
     part h = record { text = h.text; front = h.front; written = h.written; link = h.link; tells = h.told; given = h.given; disk = refl }
-    by : (e : ServeFault) → Tells s before w (writes (lines_of told) start) (Err e) → Lives s node told acts start (record { taken = taken; link = was; disk = disk }) (record { taken = mid; link = later; disk = disk }) (Err (halt_served e))
+
+    by : (e : ServeFault) → Tells before w (writes (lines_of told) start) (Err e) → Lives s node told acts start (record { taken = taken; link = was; disk = disk }) (record { taken = mid; link = later; disk = disk }) (Err (halt_served e))
     by serve.StoreFault h = absurd h
     by serve.WriteFault h = inl (part h)
     by serve.OutOfMemory h = inl (part h)
@@ -82,10 +87,10 @@ served-part s n node later told acts link was taken mid disk now sent serve.Stor
   stopped = served.stopped;
   kept = later;
   is = served.at.node;
-  written = Appends-trans taken mid now.taken (lines_of told) served.whole.text h.written served.at.text;
-  given = served.at.link;
+  written = Appends-trans taken mid now.taken (lines_of told) served.whole.text h.written served.at.at.text;
+  given = served.at.at.link;
   faults = rose refl;
-  key = served.at.key;
+  key = served.at.at.key;
 }
 served-part s n node later told acts link was taken mid disk now sent serve.WriteFault h rose served =
     inr (inl (record { mid = mid; first = h.written; kept = later; sent = sent; broke = served }))
@@ -94,29 +99,29 @@ served-part s n node later told acts link was taken mid disk now sent serve.OutO
 
 pub lived-whole : (s : Setting) (n : Node) (node later : Kept) (told : List journal.Event) (acts : List Act) (link : LinkState) (was : Option LinkState) (taken mid mid2 : Option (List ℕ)) (disk : OfDisk) (now : Around) (sent : ℕ)
     → IsTold s n node told link taken mid (Some link) → later.signer.closed ≡ node.signer.closed → now.disk.faults ≡ disk.faults
-    → IsAt s (before_all mid node.signer disk.moments) (standing later now.link mid2 now.disk.moments sent) (served s acts (served_from n link)) → Appends mid2 now.taken end_line
+    → Stands s (before_all mid node.signer disk.moments) (standing later now.link mid2 now.disk.moments sent) (served s acts (served_from n link)) → Appends mid2 now.taken end_line
     → IsLived s node told (served s acts (served_from n link)) (record { taken = taken; link = was; disk = disk }) now
 lived-whole s n node later told acts link was taken mid mid2 disk now sent h closed faults at ended =
     let r = served s acts (served_from n link) in
-    let two = Appends-trans taken mid mid2 (lines_of told) r.text h.written at.text in
+    let two = Appends-trans taken mid mid2 (lines_of told) r.text h.written at.at.text in
     let three = Appends-trans taken mid2 now.taken (lines_of told ++ r.text) end_line two ended in
     record {
       kept = later;
       is = at.node;
       unclosed = closed;
       written = three;
-      given = at.link;
+      given = at.at.link;
       faults = faults;
-      key = at.key;
+      key = at.at.key;
     }
 
 pub unended : (s : Setting) (n : Node) (node later : Kept) (told : List journal.Event) (acts : List Act) (link : LinkState) (was : Option LinkState) (taken mid mid2 : Option (List ℕ)) (disk : OfDisk) (now : Around) (sent : ℕ)
     → IsTold s n node told link taken mid (Some link)
-    → IsAt s (before_all mid node.signer disk.moments) (standing later now.link mid2 now.disk.moments sent) (served s acts (served_from n link)) → TookFront mid2 now.taken end_line
+    → Stands s (before_all mid node.signer disk.moments) (standing later now.link mid2 now.disk.moments sent) (served s acts (served_from n link)) → TookFront mid2 now.taken end_line
     → Lives s node told acts (served_from n link) (record { taken = taken; link = was; disk = disk }) now (Err halt.WriteFault)
 unended s n node later told acts link was taken mid mid2 disk now sent h at cut =
     let r = served s acts (served_from n link) in
-    inr (inr (record { mid = mid2; lived = later; is = at.node; written = Appends-trans taken mid mid2 (lines_of told) r.text h.written at.text; cut = cut; given = at.link; key = at.key }))
+    inr (inr (record { mid = mid2; lived = later; is = at.node; written = Appends-trans taken mid mid2 (lines_of told) r.text h.written at.at.text; cut = cut; given = at.at.link; key = at.at.key }))
 
 -- ## Causes
 
@@ -142,3 +147,8 @@ pub bound-so : (e : ServeFault) → halt_served e ≡ halt.LinkFault → ⊥
 bound-so serve.StoreFault is = cc
 bound-so serve.WriteFault is = cc
 bound-so serve.OutOfMemory is = cc
+
+pub behind-so : (e : ServeFault) → IsBehind (halt_served e)
+behind-so serve.StoreFault = tt
+behind-so serve.WriteFault = tt
+behind-so serve.OutOfMemory = tt

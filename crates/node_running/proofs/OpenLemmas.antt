@@ -93,19 +93,21 @@ pub started-so : (m : Member) (st : StoreState) (kept : Kept) (told : List journ
     → SpendsIn {T = Kept} (Ok kept) (signer_of m st) kept.signer mid.moments new.moments [] told → Begins m old new told (Ok kept)
 started-so m st kept told old mid new h begun faults starts vouchable going unclosed spends =
     let told_is : told ≡ (start_of m st.state).told = starts.told in
-    let spent_is : spent_told (start_of m st.state).told ≡ spends.spent = ap spent_told (sym told_is ∙ spends.after_is) ∙ spends.tells in
-    (st.state, record {
-      faults = faults ∙ h.faults;
-      found = found m st old mid h;
-      is = starts.is;
-      told_is = told_is;
-      vouchable = vouchable;
-      going = going;
-      unclosed = unclosed;
-      lives = λ before spent ends. rw spent_is (spends.key.lives (tag_of m) before spent (living m st old mid h begun before spent ends));
-      fresh = λ tells. let f = fresh-at m st old.moments mid.moments tells h.settles h.settled begun in
-          (f.0, rw spent_is (spends.key.lives (tag_of m) f.0 [] f.1));
-    })
+    let spent_is : spent_told (start_of m st.state).told ≡ spends.spent = ap spent_told (sym told_is ∙ spends.after_is) ∙ spends.tells in (
+      st.state,
+      record {
+        faults = faults ∙ h.faults;
+        found = found m st old mid h;
+        is = starts.is;
+        told_is = told_is;
+        vouchable = vouchable;
+        going = going;
+        unclosed = unclosed;
+        lives = λ before spent ends. rw spent_is (spends.key.lives (tag_of m) before spent (living m st old mid h begun before spent ends));
+        fresh = λ tells. let f = fresh-at m st old.moments mid.moments tells h.settles h.settled begun in
+            (f.0, rw spent_is (spends.key.lives (tag_of m) f.0 [] f.1));
+      },
+    )
 
 ends-so : (m : Member) (st : StoreState) (old mid new : OfDisk) (later : SignerState) (spent : List Spent) → Opened m st old mid → Begun m st mid.moments → LivesOn spent (signer_of m st) later mid.moments new.moments → Ends m spent old new
 ends-so m st old mid new later spent h begun key = λ before spent_before ends. (key.lives (tag_of m) before spent_before (living m st old mid h begun before spent_before ends)).ends

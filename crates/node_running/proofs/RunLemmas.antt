@@ -9,7 +9,7 @@ use Rattle.ff_ids.specs.Steps.{Report}
 use Rattle.journal.specs.declared.event.Event as journal
 use Rattle.journal.specs.declared.event.What as whats
 use Rattle.journal.specs.declared.event.What.TheVariants as told
-use Rattle.ports.specs.Count.{Rose, next_count}
+use Rattle.ports.specs.Count.{Rose, counted, next_count}
 use Rattle.line_text.specs.declared.bad_word.BadWord.{BadWord}
 use Rattle.play.specs.Plays.{Standing}
 use Rattle.play.specs.declared.stop.Stop.{Stop}
@@ -17,7 +17,8 @@ use Rattle.play.specs.declared.stop.Stop.TheVariants as stop
 use Rattle.ports.specs.Link.{Binds, LinkState}
 use Rattle.ports.specs.declared.Opened.TheVariants as opens
 use Rattle.schedule_kit.specs.declared.kit.KitText.TheVariants as kit
-use Rattle.whole_text.specs.Gathered.{IsUnfinished, nothing}
+use Rattle.schedule_kit.specs.declared.line.KitLine.{KitLine}
+use Rattle.whole_text.specs.Gathered.{IsUnfinished, IsWhole, nothing}
 use Rattle.whole_text.proofs.WholeLemmas.{never-unwritten}
 use Rattle.records.specs.declared.Record.{Record}
 use Rattle.ports.specs.Disk.{Leaves, Moment, settled}
@@ -36,11 +37,11 @@ use Rattle.node_loop.specs.Courses.{Course, datagram_in, served, served_from}
 use Rattle.node_running.specs.declared.halt.NodeHalt.{NodeHalt}
 use Rattle.node_running.specs.declared.halt.NodeHalt.TheVariants as halt
 use Rattle.node_running.specs.declared.kit.Member.{Member}
-use Rattle.node_running.specs.Halts.{halt_of, is_writable, is_write_fault}
+use Rattle.node_running.specs.Halts.{IsBehind, halt_of, is_writable, is_write_fault}
 use Rattle.node_running.specs.Members.{IsMember, kit_judging, own_port, tag_of}
 use Rattle.node_running.specs.Opening.{Begins, IsBegun, OfDisk, Tells, setting_for, start_of}
 use Rattle.node_running.specs.Journal.{Around, IsLived, IsUnsent, Lives, around, bound_for, end_line, lines_of}
-use Rattle.node_running.specs.Running.{Feed, HasRun, LivesOut, Runs, RunsBehind, RunsOnce, life_in}
+use Rattle.node_running.specs.Running.{Feed, HasRun, LivesOut, Runs, RunsBehind, RunsOnce, Takes, life_in}
 
 -- ## A life begins without a datagram
 
@@ -135,8 +136,14 @@ lived-out m feed stored node events was now mid result b l = by result l
   where
     out : (result : Result (Unit {0}) NodeHalt) → Lives (setting_for m) node events (life_acts m.millis feed.turns feed.link.coming feed.reading feed.readings) (served_from (start_of m stored).node (bound_for m feed.link)) (record was { disk = mid }) now result
         → LivesOut m feed was now result
-    out result l = (stored, node, mid, subst (λ es. IsBegun m stored node es was.disk mid) b.told_is b,
-        subst (λ es. Lives (setting_for m) node es (life_acts m.millis feed.turns feed.link.coming feed.reading feed.readings) (served_from (start_of m stored).node (bound_for m feed.link)) (record was { disk = mid }) now result) b.told_is l)
+    out result l = (
+      stored,
+      node,
+      mid,
+      subst (λ es. IsBegun m stored node es was.disk mid) b.told_is b,
+      subst (λ es. Lives (setting_for m) node es (life_acts m.millis feed.turns feed.link.coming feed.reading feed.readings) (served_from (start_of m stored).node (bound_for m feed.link)) (record was { disk = mid }) now result) b.told_is l,
+    )
+
     by : (result : Result (Unit {0}) NodeHalt) → Lives (setting_for m) node events (life_acts m.millis feed.turns feed.link.coming feed.reading feed.readings) (served_from (start_of m stored).node (bound_for m feed.link)) (record was { disk = mid }) now result
         → RunsOnce m feed was now result
     by (Ok x) l = has-run m feed stored node events was now mid b l
@@ -268,3 +275,40 @@ stop-unlinked (stop.Refused line w) P e = absurd cc
 stop-unlinked stop.ReadFault P e = absurd cc
 stop-unlinked stop.WriteFault P e = absurd cc
 stop-unlinked stop.OutOfMemory P e = absurd cc
+
+pub begins-behind : (m : Member) (old new : OfDisk) (events : List journal.Event) (h : NodeHalt) → Begins m old new events (Err h) → IsBehind h
+begins-behind m old new events (halt.Refused line w) b = absurd b
+begins-behind m old new events halt.ReadFault b = absurd b
+begins-behind m old new events halt.WriteFault b = absurd b
+begins-behind m old new events halt.StoreFault b = tt
+begins-behind m old new events (halt.StoreBroken place byte) b = tt
+begins-behind m old new events halt.LinkFault b = absurd b
+begins-behind m old new events (halt.Exhausted next) b = tt
+begins-behind m old new events halt.OutOfMemory b = tt
+
+-- what was taken where the text was cut off
+pub cut-takes : (was now : Standing) (old new : OfDisk) (s : Stop BadWord) → IsUnfinished kit_judging kit.Start was now s → new ≡ old → Takes was now old new (Err (halt_of s))
+cut-takes was now old new (stop.Refused line w) h same = (h, same)
+cut-takes was now old new stop.ReadFault h same = (h, same)
+cut-takes was now old new stop.WriteFault h same = absurd (never-unwritten kit_judging kit.Start was now (h nothing))
+cut-takes was now old new stop.OutOfMemory h same = inl (h, same)
+
+-- what was taken where it was read whole
+pub whole-takes : (lines : List KitLine) (was between now : Standing) (old new : OfDisk) (result : Result (Unit {0}) NodeHalt) → IsWhole kit_judging kit.Start was between lines
+    → now.left ≡ between.left → now.read_faults ≡ between.read_faults → now.write_faults ≡ counted (is_write_fault result) between.write_faults
+    → IfErr result IsBehind → IfErr result (λ h. h ≡ halt.LinkFault → now ≡ between) → IfErr result (λ h. h ≡ halt.LinkFault → new ≡ old) → Takes was now old new result
+whole-takes lines was between now old new (Ok x) whole left reads writes behind same undone = record { lines = lines; between = between; whole = whole; left = left; reads = reads; writes = writes }
+whole-takes lines was between now old new (Err (halt.Refused line w)) whole left reads writes behind same undone = absurd behind
+whole-takes lines was between now old new (Err halt.ReadFault) whole left reads writes behind same undone = absurd behind
+whole-takes lines was between now old new (Err halt.WriteFault) whole left reads writes behind same undone = record { lines = lines; between = between; whole = whole; left = left; reads = reads; writes = writes }
+whole-takes lines was between now old new (Err halt.StoreFault) whole left reads writes behind same undone = record { lines = lines; between = between; whole = whole; left = left; reads = reads; writes = writes }
+whole-takes lines was between now old new (Err (halt.StoreBroken place byte)) whole left reads writes behind same undone = record { lines = lines; between = between; whole = whole; left = left; reads = reads; writes = writes }
+whole-takes lines was between now old new (Err halt.LinkFault) whole left reads writes behind same undone =
+    (record { lines = lines; whole = subst (λ x. IsWhole kit_judging kit.Start was x lines) (sym (same refl)) whole }, undone refl)
+whole-takes lines was between now old new (Err (halt.Exhausted next)) whole left reads writes behind same undone = record { lines = lines; between = between; whole = whole; left = left; reads = reads; writes = writes }
+whole-takes lines was between now old new (Err halt.OutOfMemory) whole left reads writes behind same undone = inr (record { lines = lines; between = between; whole = whole; left = left; reads = reads; writes = writes })
+
+-- what is as it was looks as it did
+pub same-out : {X Y : Type 0} (result : Result (Unit {0}) NodeHalt) (see : X → Y) (old new : X) → IfErr result (λ h. h ≡ halt.LinkFault → new ≡ old) → IfErr result (λ h. h ≡ halt.LinkFault → see new ≡ see old)
+same-out (Ok x) see old new same = tt
+same-out (Err h) see old new same = λ is. ap see (same is)

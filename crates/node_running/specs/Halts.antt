@@ -49,3 +49,9 @@ is_writable _ = true
 abbrev pub is_write_fault : Result (Unit {0}) NodeHalt → Bool
 is_write_fault (Err halt.WriteFault) = true
 is_write_fault _ = false
+
+-- what may stop a run behind its text: neither a line nor a read
+abbrev pub IsBehind : NodeHalt → Type 0
+IsBehind (halt.Refused line w) = ⊥
+IsBehind halt.ReadFault = ⊥
+IsBehind other = Unit {0}

@@ -1,5 +1,5 @@
 -- What the run of a member took, wrote, did and left, by its answer.
-use Rattle.std.specs.Prelude.{◌≡◌, ℕ, ◌<◌, ◌⊎◌, List, [], ◌++◌, Option, Some, Result, Ok, Err}
+use Rattle.std.specs.Prelude.{◌≡◌, ℕ, Bool, false, ◌<◌, ◌⊎◌, List, [], ◌++◌, Option, Some, Result, Ok, Err}
 use Rattle.std.specs.Io.KnownBytes.{Appends}
 use Rattle.epoch_store.specs.declared.Stored.{Stored}
 use Rattle.epoch_store.specs.Store.{IsSettled}
@@ -10,6 +10,7 @@ use Rattle.play.specs.Plays as play
 use Rattle.play.specs.declared.stop.Stop.{Stop}
 use Rattle.play.specs.declared.stop.Stop.TheVariants as stop
 use Rattle.signer.specs.Lives.{IsOnce}
+use Rattle.ports.specs.Count.{counted}
 use Rattle.ports.specs.Link.{LinkState}
 use Rattle.schedule_kit.specs.declared.kit.KitText.TheVariants as kit
 use Rattle.schedule_kit.specs.declared.line.KitLine.{KitLine}
@@ -23,6 +24,7 @@ use Rattle.node_loop.specs.Courses.{Course, served_from}
 use Rattle.node_running.specs.declared.halt.NodeHalt.{NodeHalt}
 use Rattle.node_running.specs.declared.halt.NodeHalt.TheVariants as halt
 use Rattle.node_running.specs.declared.kit.Member.{Member}
+use Rattle.node_running.specs.Halts.{is_write_fault}
 use Rattle.node_running.specs.Members.{IsMember, kit_judging, own_port, tag_of}
 use Rattle.node_running.specs.Opening.{Ends, IsBegun, IsBroken, IsFound, IsUnopened, IsUnstarted, IsUsedUp, OfDisk, OpeningFails, StartFails, Tells, setting_for, start_of}
 use Rattle.node_running.specs.Journal.{Around, Lives, around, bound_for, course_of, journal_of}
@@ -122,3 +124,28 @@ Runs feed was now old new (Err halt.ReadFault) = IsUnread was now old new stop.R
 Runs feed was now old new (Err halt.OutOfMemory) =
     IsUnread was now old new stop.OutOfMemory ⊎ IsUngathered was now old new ⊎ Went was now old new (λ m between after. RunsBehind m feed between after (Err halt.OutOfMemory))
 Runs feed was now old new result = Went was now old new (λ m between after. RunsBehind m feed between after result)
+
+-- ## What holds whatever link and clock tell
+
+-- The whole text was taken, none of whose lines is refused, and nothing was read behind it. Whether a write failed is said.
+pub record TookWhole (was now : play.Standing) (failed : Bool) : Type 0 where
+  pub lines : List KitLine
+  pub between : play.Standing
+  pub whole : IsWhole kit_judging kit.Start was between lines
+  pub left : now.left ≡ between.left
+  pub reads : now.read_faults ≡ between.read_faults
+  pub writes : now.write_faults ≡ counted failed between.write_faults
+
+-- The whole text was taken, none of whose lines is refused, and that was all.
+pub record TookAlone (was now : play.Standing) : Type 0 where
+  pub lines : List KitLine
+  pub whole : IsWhole kit_judging kit.Start was now lines
+
+-- What the run of a member took of its text, by its answer; and that it wrote and did nothing where the text was cut off, or the
+-- port not bound.
+abbrev pub Takes : play.Standing → play.Standing → OfDisk → OfDisk → Result (Unit {0}) NodeHalt → Type 0
+Takes was now old new (Err (halt.Refused line w)) = IsUnfinished kit_judging kit.Start was now (stop.Refused line w) × (new ≡ old)
+Takes was now old new (Err halt.ReadFault) = IsUnfinished kit_judging kit.Start was now stop.ReadFault × (new ≡ old)
+Takes was now old new (Err halt.LinkFault) = TookAlone was now × (new ≡ old)
+Takes was now old new (Err halt.OutOfMemory) = (IsUnfinished kit_judging kit.Start was now stop.OutOfMemory × (new ≡ old)) ⊎ TookWhole was now false
+Takes was now old new result = TookWhole was now (is_write_fault result)

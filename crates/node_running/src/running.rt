@@ -4,11 +4,11 @@ ghost use Rattle.std.specs.Prelude.{◌≡◌, ◌≢◌, ℕ, true, List, Some,
 ghost use Rattle.play.specs.Plays.{standing};
 ghost use Rattle.ports.specs.Count.{counted, next_count, Rose};
 ghost use Rattle.ports.specs.Link.{LinkState};
-ghost use Rattle.node_running.specs.Halts.{is_writable, is_write_fault};
+ghost use Rattle.node_running.specs.Halts.{IsBehind, is_writable, is_write_fault};
 ghost use Rattle.node_running.specs.Journal.{around, bound_for};
 ghost use Rattle.node_running.specs.Members.{IsSoundMember};
 ghost use Rattle.node_running.specs.Opening.{of_disk};
-ghost use Rattle.node_running.specs.Running.{Feed, Runs, RunsBehind, RunsOnce};
+ghost use Rattle.node_running.specs.Running.{Feed, Runs, RunsBehind, RunsOnce, Takes};
 
 use crate::halt::NodeHalt;
 use crate::kit::{Member, member_of};
@@ -39,6 +39,7 @@ fn begin_and_live<D: Disk, L: Link, C: Clock, O: Sink>(
     ensures calm { OnOk result (D.faults disk.new ≡ D.faults disk.old) }
     ensures store_fault { IfErr result (λ h. h ≡ NodeHalt.StoreFault → Rose (D.faults disk.old) (D.faults disk.new)) }
     ensures bound { IfErr result (λ h. h ≢ NodeHalt.LinkFault) }
+    ensures behind { IfErr result IsBehind }
     ensures runs { (feed : Feed) → L.contents link.old ≡ Some (bound_for member feed.link) → C.coming clock.old ≡ Some feed.readings
         → C.reading clock.old ≡ feed.reading → turns ≡ feed.turns
         → RunsOnce member feed
@@ -74,6 +75,9 @@ fn bind_and_live<D: Disk, L: Link, C: Clock, O: Sink>(
     ensures calm { OnOk result (D.faults disk.new ≡ D.faults disk.old) }
     ensures store_fault { IfErr result (λ h. h ≡ NodeHalt.StoreFault → Rose (D.faults disk.old) (D.faults disk.new)) }
     ensures link_fault { IfErr result (λ h. h ≡ NodeHalt.LinkFault → L.faults link.new ≡ next_count (L.faults link.old)) }
+    ensures behind { IfErr result IsBehind }
+    ensures unwritten { IfErr result (λ h. h ≡ NodeHalt.LinkFault → out.new ≡ out.old) }
+    ensures undone { IfErr result (λ h. h ≡ NodeHalt.LinkFault → disk.new ≡ disk.old) }
     ensures runs { (feed : Feed) → L.contents link.old ≡ Some feed.link → C.coming clock.old ≡ Some feed.readings
         → C.reading clock.old ≡ feed.reading → turns ≡ feed.turns
         → RunsBehind member feed
@@ -106,6 +110,11 @@ pub fn run_node<S: Source, O: Sink, D: Disk, L: Link, C: Clock>(
     ensures calm { OnOk result (D.faults disk.new ≡ D.faults disk.old) }
     ensures store_fault { IfErr result (λ h. h ≡ NodeHalt.StoreFault → Rose (D.faults disk.old) (D.faults disk.new)) }
     ensures link_fault { IfErr result (λ h. h ≡ NodeHalt.LinkFault → L.faults link.new ≡ next_count (L.faults link.old)) }
+    ensures takes { Takes
+        (standing (S.left input.old) (O.taken out.old) (S.faults input.old) (O.faults out.old))
+        (standing (S.left input.new) (O.taken out.new) (S.faults input.new) (O.faults out.new))
+        (of_disk (D.faults disk.old) (D.moments disk.old))
+        (of_disk (D.faults disk.new) (D.moments disk.new)) result }
     ensures runs { (feed : Feed) → L.contents link.old ≡ Some feed.link → C.coming clock.old ≡ Some feed.readings
         → C.reading clock.old ≡ feed.reading → turns ≡ feed.turns
         → Runs feed

@@ -108,9 +108,7 @@ fn run(
     let mut input = source(alloc, text)?;
     let mut out = sink(alloc)?;
     let mut clock = MemoryClock::new([0u64, 50, 250].to_vec(alloc)?);
-    let done = run_node(
-        alloc, NAME, 2, &mut input, &mut out, disk, link, &mut clock,
-    );
+    let done = run_node(alloc, NAME, 2, &mut input, &mut out, disk, link, &mut clock);
     Ok(Ran { done, out })
 }
 

@@ -4,21 +4,20 @@ use Rattle.node_running.specs.declared.halt.NodeHalt.{NodeHalt}
 use Rattle.node_running.specs.declared.halt.NodeHalt.TheVariants as halt
 use Rattle.node_running.specs.Halts.{is_writable, is_write_fault}
 use Rattle.node_running.specs.Opening.{of_disk}
-use Rattle.node_running.proofs.LiveLemmas.{bound-so, fault-so, open-so, rose-so, told-part, told-whole}
+use Rattle.node_running.proofs.LiveLemmas.{behind-so, bound-so, fault-so, open-so, rose-so, told-part, told-whole}
 use Rattle.node_running.proofs.living.live.Goals as goal
 
 pub returns-in-Ok-clause-lives : goal.returns-in-Ok-clause-lives
 returns-in-Ok-clause-lives g c = λ s n link_told readings is link_is coming_is.
     let t = told-whole s n c.args.node c.as_slice.result.now c.args.events.now link_told (g.L.Link.contents c.args.link.now) (g.O.Sink.taken c.args.out.now) (g.O.Sink.taken c.tell_all.new.out) (g.L.Link.contents c.tell_all.new.link)
-        (g.D.Disk.moments c.args.disk.now) 0 _ c.as_slice.ensures c.requires.unsent is link_is refl c.in-Ok.ensures.tells in
+    (g.D.Disk.moments c.args.disk.now) 0 _ c.as_slice.ensures c.requires.unsent is link_is refl c.in-Ok.ensures.tells in
     c.serve_to_end.ensures.lives s n link_told readings c.args.events.now (g.L.Link.contents c.args.link.now) (g.O.Sink.taken c.args.out.now) is t.given coming_is t.written
-
-
-
-
 
 pub returns-in-Err-clause-lives : goal.returns-in-Err-clause-lives
 returns-in-Err-clause-lives g c = λ s n link_told readings is link_is coming_is.
     rw c.from.ensures
     (told-part s n c.args.node c.as_slice.result.now c.args.events.now _ link_told (g.L.Link.contents c.args.link.now) (g.L.Link.contents c.tell_all.new.link) (g.O.Sink.taken c.args.out.now) (g.O.Sink.taken c.tell_all.new.out)
     (of_disk (g.D.Disk.faults c.args.disk.now) (g.D.Disk.moments c.args.disk.now)) 0 _ c.in-Err.fault c.as_slice.ensures c.requires.unsent is link_is refl c.in-Err.ensures.tells)
+
+pub returns-in-Err-clause-behind : goal.returns-in-Err-clause-behind
+returns-in-Err-clause-behind g c = rw c.from.ensures (behind-so c.in-Err.fault)

@@ -7,7 +7,7 @@ use Rattle.node_running.specs.declared.halt.NodeHalt.TheVariants as halt
 use Rattle.node_running.specs.Halts.{halt_served, is_writable, is_write_fault}
 use Rattle.node_running.specs.Journal.{around}
 use Rattle.node_running.specs.Opening.{of_disk}
-use Rattle.node_running.proofs.LiveLemmas.{IsTold, bound-so, fault-so, lived-whole, open-so, rose-so, served-part, unended}
+use Rattle.node_running.proofs.LiveLemmas.{IsTold, behind-so, bound-so, fault-so, lived-whole, open-so, rose-so, served-part, unended}
 use Rattle.node_running.proofs.living.serve_to_end.Goals as goal
 
 pub returns-in-Ok-write_all-clause-lives : goal.returns-in-Ok-write_all-clause-lives
@@ -26,10 +26,6 @@ returns-in-Ok-clause-lives g c = λ s n link_told readings told was taken is lin
     (around (g.O.Sink.taken c.write_all.new.out) (g.L.Link.contents c.serve.new.link) (of_disk (g.D.Disk.faults c.serve.new.disk) (g.D.Disk.moments c.serve.new.disk))) h.0
     (record { written = first; given = refl }) h.1 c.in-Err-write_all.ensures.wrote
 
-
-
-
-
 pub returns-clause-lives : goal.returns-clause-lives
 returns-clause-lives g c = λ s n link_told readings told was taken is link_is coming_is first.
     let h = c.in-Err.ensures.serves s n link_told readings is link_is coming_is in
@@ -38,3 +34,6 @@ returns-clause-lives g c = λ s n link_told readings told was taken is link_is c
     (of_disk (g.D.Disk.faults c.args.disk.now) (g.D.Disk.moments c.args.disk.now))
     (around (g.O.Sink.taken c.serve.new.out) (g.L.Link.contents c.serve.new.link) (of_disk (g.D.Disk.faults c.serve.new.disk) (g.D.Disk.moments c.serve.new.disk))) h.0 c.in-Err.fault
     (record { written = first; given = refl }) c.in-Err.ensures.store_fault h.1)
+
+pub returns-clause-behind : goal.returns-clause-behind
+returns-clause-behind g c = rw c.from.ensures (behind-so c.in-Err.fault)

@@ -42,8 +42,10 @@ returns-in-Ok-start g c =
     let next : c.state-next.result.next ≡ st.state.next = ap (λ (s : Stored). s.next) c.state-next.ensures.value in
     let seed : c.nonce_seed.result ≡ nonce_seed m.own.secret st.state.next = c.nonce_seed.ensures ∙ ap (nonce_seed m.own.secret) next in
     let e = c.in-Ok-start.ensures in
-    record { begins = started-from m st c.in-Ok-start.node c.start.new.events c.args.events.now old mid new c.open-signer.result c.nonce_seed.result h is seed c.requires.untold
-        c.open-signer.ensures.begins e.faults e.starts e.vouchable e.going e.closed e.spends }
+    record {
+      begins = started-from m st c.in-Ok-start.node c.start.new.events c.args.events.now old mid new c.open-signer.result c.nonce_seed.result h is seed c.requires.untold
+          c.open-signer.ensures.begins e.faults e.starts e.vouchable e.going e.closed e.spends;
+    }
 
 pub returns-in-Err-start : goal.returns-in-Err-start
 returns-in-Err-start g c =
@@ -56,5 +58,7 @@ returns-in-Err-start g c =
     let h = opened m c.store_tag.result st old mid tag c.in-Ok.ensures.faults c.in-Ok.ensures.settles c.in-Ok.ensures.store c.in-Ok.ensures.any_moment in
     let is : c.open-signer.result ≡ signer_of m st = c.open-signer.ensures.value ∙ ap (λ k. record (signer_of m st) { key = k }) c.split-tree.ensures.tree in
     let e = c.in-Err-start.ensures in
-    record { begins = rw c.from-in-Err-start.ensures
-        (not-started-from m st c.start.new.events old mid new c.open-signer.result c.in-Err-start.fault h is c.open-signer.ensures.begins e.faults e.cause e.spends) }
+    record {
+      begins = rw c.from-in-Err-start.ensures
+          (not-started-from m st c.start.new.events old mid new c.open-signer.result c.in-Err-start.fault h is c.open-signer.ensures.begins e.faults e.cause e.spends);
+    }

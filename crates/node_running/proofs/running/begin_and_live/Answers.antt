@@ -3,7 +3,7 @@ use Rattle.ports.specs.Count.{Rose, counted}
 use Rattle.node_running.specs.Halts.{is_writable, is_write_fault}
 use Rattle.node_running.specs.Journal.{around, bound_for}
 use Rattle.node_running.specs.Opening.{of_disk, setting_for, start_of}
-use Rattle.node_running.proofs.RunLemmas.{begins-bound, begins-rose, begins-writable, begun-unsent, calm-behind, lived-run, not-begun, rose-behind}
+use Rattle.node_running.proofs.RunLemmas.{begins-behind, begins-bound, begins-rose, begins-writable, begun-unsent, calm-behind, lived-run, not-begun, rose-behind}
 use Rattle.node_running.proofs.running.begin_and_live.Goals as goal
 
 pub live-requires-clause-unsent : goal.live-requires-clause-unsent
@@ -40,3 +40,6 @@ returns-clause-runs g c = λ feed link_is coming_is reading_is turns_is.
     not-begun c.args.member feed
     (around (g.O.Sink.taken c.args.out.now) (g.L.Link.contents c.args.link.now) (of_disk (g.D.Disk.faults c.args.disk.now) (g.D.Disk.moments c.args.disk.now)))
     (of_disk (g.D.Disk.faults c.begin.new.disk) (g.D.Disk.moments c.begin.new.disk)) c.begin.new.events c.in-Err.halt c.in-Err.ensures.begins
+
+pub returns-clause-behind : goal.returns-clause-behind
+returns-clause-behind g c = begins-behind c.args.member _ _ c.begin.new.events c.in-Err.halt c.in-Err.ensures.begins

@@ -6,7 +6,7 @@ use Rattle.node_running.specs.declared.halt.NodeHalt.TheVariants as halt
 use Rattle.node_running.specs.Halts.{is_writable}
 use Rattle.node_running.specs.Journal.{around}
 use Rattle.node_running.specs.Opening.{of_disk}
-use Rattle.node_running.proofs.RunLemmas.{stop-unlinked, stop-unstored, unread, unread-writable, went}
+use Rattle.node_running.proofs.RunLemmas.{cut-takes, same-out, stop-unlinked, stop-unstored, unread, unread-writable, went, whole-takes}
 use Rattle.node_running.proofs.running.run_node.Goals as goal
 
 pub member_of-requires : goal.member_of-requires
@@ -42,3 +42,20 @@ returns-in-Ok-member_of-clause-runs g c = λ feed link_is coming_is reading_is t
 pub returns-in-Err-member_of-clause-runs : goal.returns-in-Err-member_of-clause-runs
 returns-in-Err-member_of-clause-runs g c = λ feed link_is coming_is reading_is turns_is.
     inr (inl (record { lines = c.in-Ok.lines.items; whole = c.in-Ok.ensures.whole; link = refl; disk = refl }))
+
+pub returns-in-Err-clause-takes : goal.returns-in-Err-clause-takes
+returns-in-Err-clause-takes g c = rw c.from.ensures (cut-takes _ _ _ _ c.in-Err.stop c.in-Err.ensures.unfinished refl)
+
+pub returns-in-Ok-member_of-clause-takes : goal.returns-in-Ok-member_of-clause-takes
+returns-in-Ok-member_of-clause-takes g c =
+    let between = standing (g.S.Source.left c.read_whole.new.input) (g.O.Sink.taken c.read_whole.new.out) (g.S.Source.faults c.read_whole.new.input) (g.O.Sink.faults c.read_whole.new.out) in
+    let now = standing (g.S.Source.left c.read_whole.new.input) (g.O.Sink.taken c.bind_and_live.new.out) (g.S.Source.faults c.read_whole.new.input) (g.O.Sink.faults c.bind_and_live.new.out) in
+    whole-takes c.in-Ok.lines.items _ between now (of_disk (g.D.Disk.faults c.args.disk.now) (g.D.Disk.moments c.args.disk.now)) (of_disk (g.D.Disk.faults c.bind_and_live.new.disk) (g.D.Disk.moments c.bind_and_live.new.disk)) c.bind_and_live.result
+    c.in-Ok.ensures.whole refl refl c.bind_and_live.ensures.write_fault c.bind_and_live.ensures.behind
+    (same-out c.bind_and_live.result (λ (o : _). standing (g.S.Source.left c.read_whole.new.input) (g.O.Sink.taken o) (g.S.Source.faults c.read_whole.new.input) (g.O.Sink.faults o)) _ _ c.bind_and_live.ensures.unwritten)
+    (same-out c.bind_and_live.result (λ (d : _). of_disk (g.D.Disk.faults d) (g.D.Disk.moments d)) _ _ c.bind_and_live.ensures.undone)
+
+pub returns-in-Err-member_of-clause-takes : goal.returns-in-Err-member_of-clause-takes
+returns-in-Err-member_of-clause-takes g c =
+    let between = standing (g.S.Source.left c.read_whole.new.input) (g.O.Sink.taken c.read_whole.new.out) (g.S.Source.faults c.read_whole.new.input) (g.O.Sink.faults c.read_whole.new.out) in
+    inr (record { lines = c.in-Ok.lines.items; between = between; whole = c.in-Ok.ensures.whole; left = refl; reads = refl; writes = refl })
