@@ -1,12 +1,15 @@
 -- A run that took its whole text, and what it then wrote.
-use Rattle.std.proofs.Common.{◌≡◌, ℕ, Bool, true, false, length, Option, None, List, [], ◌++◌, refl, sym, subst, ap, ◌∙◌, inl, arith}
+use Rattle.std.proofs.Common.{◌≡◌, ◌≢◌, ◌<◌, ◌≤◌, ℕ, Bool, true, false, length, Option, Some, None, List, [], ◌∷◌, ◌++◌, Result, Ok, Err, refl, sym, subst, ap, ◌∙◌, inl, inr, arith, append-nil}
+use Rattle.std.specs.Prelude.{IfSome}
 use Rattle.std.specs.Io.KnownBytes.{Appends, Consumes}
 use Rattle.std.proofs.KnownBytes.{Appends-trans, Consumes-whole}
+use Rattle.line_text.specs.declared.bad_word.BadWord.{BadWord}
 use Rattle.ports.specs.Contents.{IsUsedUp}
 use Rattle.ports.specs.Count.{counted, next_count}
 use Rattle.play.specs.Plays.{Standing, Unfailed}
+use Rattle.text_trace.specs.Lines.{seen, text_lines}
 use Rattle.whole_text.specs.Gathered.{IsWhole, Judging, lines_from, owed_whole, told_of, unread}
-use Rattle.fireflies.specs.Causes.{Says}
+use Rattle.fireflies.specs.Causes.{IsFront, Says, cause_line}
 use Rattle.fireflies.specs.Ends.{Counts, Tells}
 use Rattle.fireflies.specs.TracedAs.{IsOwedBehind, TracedWhole}
 use Rattle.fireflies.proofs.EndLemmas.{none_shorter}
@@ -41,6 +44,7 @@ abbrev pub IsDone : Status → Type 0
 IsDone status.Ok = Unit {0}
 IsDone status.StoreFault = Unit {0}
 IsDone (status.StoreBroken place byte) = Unit {0}
+IsDone status.LinkFault = Unit {0}
 IsDone (status.Exhausted next) = Unit {0}
 IsDone status.OutOfMemory = Unit {0}
 IsDone (status.StoreTaken len) = Unit {0}
@@ -58,7 +62,7 @@ done-counts was mid now status.Usage done h r w = absurd done
 done-counts was mid now (status.BadInput line _) done h r w = absurd done
 done-counts was mid now status.ReadFault done h r w = absurd done
 done-counts was mid now status.WriteFault done h r w = absurd done
-done-counts was mid now status.LinkFault done h r w = absurd done
+done-counts was mid now status.LinkFault done h r w = record { reads = r ∙ h.reads; writes = w ∙ h.writes }
 
 pub done-by : (was mid now : Standing) (failed : Bool) (first : Status) (line : List ℕ) (s : Status) → IsDone first → Unfailed was mid → Says failed first line s → now.read_faults ≡ mid.read_faults → now.write_faults ≡ counted failed mid.write_faults → Counts was now s
 done-by was mid now false first line s done h says r w = subst (Counts was now) (sym says.0) (done-counts was mid now first done h r w)

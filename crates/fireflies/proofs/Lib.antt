@@ -7,3 +7,4 @@ pub mod UpheldLemmas
 pub mod BehindLemmas
 pub mod StoreLemmas
 pub mod EnrollLemmas
+pub mod NodeLemmas

@@ -7,6 +7,8 @@ use Rattle.play.specs.declared.stop.Stop.{Stop}
 use Rattle.play.specs.declared.stop.Stop.TheVariants as stop
 use Rattle.authority.specs.declared.halt.Halt.{Halt}
 use Rattle.authority.specs.declared.halt.Halt.TheVariants as halt
+use Rattle.node_running.specs.declared.halt.NodeHalt.{NodeHalt}
+use Rattle.node_running.specs.declared.halt.NodeHalt.TheVariants as node
 use Rattle.fireflies.specs.declared.status.Status.{Status}
 use Rattle.fireflies.specs.declared.status.Status.TheVariants as status
 
@@ -67,3 +69,15 @@ status_of_halt (Err (halt.StoreBroken place byte)) = status.StoreBroken place by
 status_of_halt (Err (halt.StoreTaken len)) = status.StoreTaken len
 status_of_halt (Err (halt.Exhausted next)) = status.Exhausted next
 status_of_halt (Err halt.OutOfMemory) = status.OutOfMemory
+
+-- The status of a member's run that ended so.
+abbrev pub status_of_node : Result (Unit {0}) NodeHalt → Status
+status_of_node (Ok _) = status.Ok
+status_of_node (Err (node.Refused line word)) = status.BadInput line word
+status_of_node (Err node.ReadFault) = status.ReadFault
+status_of_node (Err node.WriteFault) = status.WriteFault
+status_of_node (Err node.StoreFault) = status.StoreFault
+status_of_node (Err (node.StoreBroken place byte)) = status.StoreBroken place byte
+status_of_node (Err node.LinkFault) = status.LinkFault
+status_of_node (Err (node.Exhausted next)) = status.Exhausted next
+status_of_node (Err node.OutOfMemory) = status.OutOfMemory

@@ -1,8 +1,12 @@
 -- The commands: which words name them.
 use Rattle.std.specs.Prelude.{ℕ, Bool, true, false, ◌&&◌, not, ◌==◌, nat_le, List, [], ◌∷◌, length, Option, Some, None, codes, if◌then◌else◌}
 use Rattle.std.specs.Str.{bytes_eq}
+use Rattle.line_text.specs.declared.bad_word.BadWord.{BadWord}
+use Rattle.line_text.specs.Fields.{number, number_in}
+use Rattle.line_text.specs.Frame.{first_word}
+use Rattle.line_text.specs.Words.{words_of}
 use Rattle.fireflies.specs.declared.command.Command.{Command}
-use Rattle.fireflies.specs.declared.command.Command.TheVariants.{Replay, Verify, Store, Enroll}
+use Rattle.fireflies.specs.declared.command.Command.TheVariants.{Replay, Verify, Store, Enroll, Node}
 
 abbrev pub command_named : List ℕ → Option Command
 command_named word =
@@ -14,23 +18,46 @@ command_with word =
     if bytes_eq word (codes "store") then Some Store
     else (if bytes_eq word (codes "enroll") then Some Enroll else None)
 
+-- a number that no word is bad for
+abbrev pub unless_bad : Option BadWord → ℕ → Option ℕ
+unless_bad None n = Some n
+unless_bad (Some bad) n = None
+
+abbrev pub turns_among : Option (List (List ℕ)) → Option ℕ
+turns_among None = None
+turns_among (Some words) = if length words == 1 then unless_bad (number 1 1000000 (first_word words)) (number_in (first_word words)) else None
+
+-- The turns that a word spells: it is one word, without a space, and a number from 1 to 1,000,000, in decimal digits without
+-- a leading zero.
+abbrev pub turns_in : List ℕ → Option ℕ
+turns_in word = turns_among (words_of word)
+
+abbrev pub command_for : Option ℕ → Option Command
+command_for None = None
+command_for (Some turns) = Some (Node turns)
+
+abbrev pub command_over : List ℕ → List ℕ → Option Command
+command_over word turns = if bytes_eq word (codes "node") then command_for (turns_in turns) else None
+
 -- the name of a store has 1 to 255 bytes
 abbrev pub is_store_name : List ℕ → Bool
 is_store_name name = not (length name == 0) && nat_le (length name) 255
 
--- The command is one word, alone; or one behind which the name of a store stands.
+-- The command is one word, alone; or one behind which the name of a store stands, and for `node` a number of turns.
 abbrev pub command_of : List (List ℕ) → Option Command
 command_of [] = None
 command_of (word ∷ []) = command_named word
 command_of (word ∷ name ∷ []) = if is_store_name name then command_with word else None
-command_of (word ∷ name ∷ other ∷ words) = None
+command_of (word ∷ name ∷ turns ∷ []) = if is_store_name name then command_over word turns else None
+command_of (word ∷ name ∷ turns ∷ other ∷ words) = None
 
 -- the name of the store
 abbrev pub store_in : List (List ℕ) → List ℕ
 store_in [] = []
 store_in (word ∷ []) = []
 store_in (word ∷ name ∷ []) = name
-store_in (word ∷ name ∷ other ∷ words) = []
+store_in (word ∷ name ∷ turns ∷ []) = name
+store_in (word ∷ name ∷ turns ∷ other ∷ words) = []
 
 -- the command takes a store
 abbrev pub takes_store : Command → Bool
@@ -38,7 +65,17 @@ takes_store Replay = false
 takes_store Verify = false
 takes_store Store = true
 takes_store Enroll = true
+takes_store (Node turns) = true
 
 abbrev pub is_over_store : Option Command → Bool
 is_over_store None = false
 is_over_store (Some command) = takes_store command
+
+-- the command serves a link by a clock
+abbrev pub takes_link : Command → Bool
+takes_link (Node turns) = true
+takes_link other = false
+
+abbrev pub is_over_link : Option Command → Bool
+is_over_link None = false
+is_over_link (Some command) = takes_link command

@@ -1,8 +1,9 @@
 -- How a run over a text ends: what it took and wrote of it, and the line of the first cause that stopped it.
-use Rattle.std.specs.Prelude.{◌≡◌, ◌⊎◌, ℕ, Bool, List, Result}
+use Rattle.std.specs.Prelude.{◌≡◌, ◌⊎◌, ℕ, Bool, List, Option, Some, None, Result, OnOk, IfErr}
 use Rattle.std.specs.Io.KnownBytes.{Appends}
 use Rattle.line_text.specs.declared.bad_word.BadWord.{BadWord}
-use Rattle.ports.specs.Count.{counted, next_count}
+use Rattle.ports.specs.Count.{Rose, counted, next_count}
+use Rattle.ports.specs.Link.{LinkState}
 use Rattle.play.specs.Plays.{Standing, Unfailed, Finished, Refused, Unread, Unwritten, Starved}
 use Rattle.text_trace.specs.Lines.{text_lines}
 use Rattle.text_trace.specs.Trace.{Owed}
@@ -12,9 +13,14 @@ use Rattle.authority.specs.declared.halt.Halt.{Halt}
 use Rattle.authority.specs.OfDisk.{OfDisk}
 use Rattle.store_making.specs.Making.{Makes}
 use Rattle.enrolment.specs.Enrolling.{Enrols}
-use Rattle.fireflies.specs.Causes.{Says, status_of_halt}
+use Rattle.node_running.specs.declared.halt.NodeHalt.{NodeHalt}
+use Rattle.node_running.specs.declared.halt.NodeHalt.TheVariants as node
+use Rattle.node_running.specs.Journal.{around}
+use Rattle.node_running.specs.Opening as opening
+use Rattle.node_running.specs.Running.{Feed, Runs, Takes}
+use Rattle.fireflies.specs.Causes.{Says, status_of_halt, status_of_node}
 use Rattle.fireflies.specs.declared.command.Command.{Command}
-use Rattle.fireflies.specs.declared.command.Command.TheVariants.{Replay, Verify, Store, Enroll}
+use Rattle.fireflies.specs.declared.command.Command.TheVariants.{Replay, Verify, Store, Enroll, Node}
 use Rattle.fireflies.specs.declared.status.Status.{Status}
 use Rattle.fireflies.specs.declared.status.Status.TheVariants as status
 
@@ -68,12 +74,45 @@ StoreEnds name was now old new s = HaltEnds (λ between result. Makes name was b
 abbrev pub EnrollEnds : List ℕ → Standing → Standing → OfDisk → OfDisk → Status → Type 0
 EnrollEnds name was now old new s = HaltEnds (λ between result. Enrols name was between old new result) now s
 
--- How a run of the command ends, over a disk.
-abbrev pub EndsAs : Command → List ℕ → Standing → Standing → OfDisk → OfDisk → Status → Type 0
-EndsAs Replay name was now old new s = Ends replayed was now s × (new ≡ old)
-EndsAs Verify name was now old new s = Ends verified was now s × (new ≡ old)
-EndsAs Store name was now old new s = StoreEnds name was now old new s
-EndsAs Enroll name was now old new s = EnrollEnds name was now old new s
+-- What a node is served over: what the link holds and how often it failed, the clock's last reading and those to come.
+pub record Wires : Type 0 where
+  pub contents : Option LinkState
+  pub faults : ℕ
+  pub reading : ℕ
+  pub readings : Option (List ℕ)
+
+abbrev pub wires : Option LinkState → ℕ → ℕ → Option (List ℕ) → Wires
+wires contents faults reading readings = record { contents = contents; faults = faults; reading = reading; readings = readings }
+
+-- a disk as a node's run tells it: all but its calls
+abbrev pub as_run : OfDisk → opening.OfDisk
+as_run d = opening.of_disk d.faults d.moments
+
+-- What the run of a member took, wrote, did and left, where link and clock tell.
+abbrev pub RunsFed : ℕ → Standing → Standing → OfDisk → OfDisk → Wires → Wires → Result (Unit {0}) NodeHalt → Type 0
+RunsFed turns was between old new before after result =
+    (feed : Feed) → before.contents ≡ Some feed.link → before.readings ≡ Some feed.readings → before.reading ≡ feed.reading → turns ≡ feed.turns
+    → Runs feed was between (around was.taken before.contents (as_run old)) (around between.taken after.contents (as_run new)) result
+
+-- How the run of a member ends: it ended for some answer, and the line of its cause is the last that is written. What it took
+-- of its text, and which side failed, is said whatever link and clock tell.
+pub record NodeEnds (turns : ℕ) (was now : Standing) (old new : OfDisk) (before after : Wires) (s : Status) : Type 0 where
+  pub result : Result (Unit {0}) NodeHalt
+  pub between : Standing
+  pub takes : Takes was between (as_run old) (as_run new) result
+  pub calm : OnOk result (new.faults ≡ old.faults)
+  pub store_fault : IfErr result (λ h. h ≡ node.StoreFault → Rose old.faults new.faults)
+  pub link_fault : IfErr result (λ h. h ≡ node.LinkFault → after.faults ≡ next_count before.faults)
+  pub runs : RunsFed turns was between old new before after result
+  pub tells : Tells (status_of_node result) between now s
+
+-- How a run of the command ends, over a disk, a link and a clock.
+abbrev pub EndsAs : Command → List ℕ → Standing → Standing → OfDisk → OfDisk → Wires → Wires → Status → Type 0
+EndsAs Replay name was now old new before after s = Ends replayed was now s × (new ≡ old)
+EndsAs Verify name was now old new before after s = Ends verified was now s × (new ≡ old)
+EndsAs Store name was now old new before after s = StoreEnds name was now old new s
+EndsAs Enroll name was now old new before after s = EnrollEnds name was now old new s
+EndsAs (Node turns) name was now old new before after s = NodeEnds turns was now old new before after s
 
 -- The count of faults of the disk: a fault of the store raises it by one, and also where the line that says so can't be
 -- written; else it stays.
@@ -81,6 +120,23 @@ abbrev pub DiskCounts : OfDisk → OfDisk → Status → Type 0
 DiskCounts old new status.StoreFault = new.faults ≡ next_count old.faults
 DiskCounts old new status.WriteFault = (new.faults ≡ old.faults) ⊎ (new.faults ≡ next_count old.faults)
 DiskCounts old new _ = new.faults ≡ old.faults
+
+-- The same of a node's run: a fault of the store may be more than one of the disk.
+abbrev pub NodeCounts : OfDisk → OfDisk → Status → Type 0
+NodeCounts old new status.Ok = new.faults ≡ old.faults
+NodeCounts old new (status.BadInput line w) = new.faults ≡ old.faults
+NodeCounts old new status.ReadFault = new.faults ≡ old.faults
+NodeCounts old new status.StoreFault = Rose old.faults new.faults
+NodeCounts old new status.LinkFault = new.faults ≡ old.faults
+NodeCounts old new _ = Unit {0}
+
+abbrev pub DiskCountsAs : Command → OfDisk → OfDisk → Status → Type 0
+DiskCountsAs (Node turns) old new s = NodeCounts old new s
+DiskCountsAs other old new s = DiskCounts old new s
+
+abbrev pub FaultsAs : Option Command → OfDisk → OfDisk → Status → Type 0
+FaultsAs None old new s = DiskCounts old new s
+FaultsAs (Some command) old new s = DiskCountsAs command old new s
 
 -- The counts of faults after a run: a cause that is no fault leaves both, a fault raises its own by one. Where the line
 -- of a read fault can't be written, both rise.

@@ -4,6 +4,7 @@ pub mod Commands
 pub mod Causes
 pub mod Ends
 pub mod Traced
+pub mod Serving
 pub mod TracedAs
 pub mod Enrolment
 pub mod Headline

@@ -3,7 +3,7 @@ use Rattle.std.specs.Prelude.{◌≡◌, ℕ, ◌↔◌, List, None, IfSome, Res
 use Rattle.play.specs.Plays.{Standing}
 use Rattle.authority.specs.OfDisk.{OfDisk}
 use Rattle.fireflies.specs.Commands.{command_of, store_in}
-use Rattle.fireflies.specs.Ends.{Counts, DiskCounts, EndsAs}
+use Rattle.fireflies.specs.Ends.{Counts, EndsAs, FaultsAs, Wires}
 use Rattle.fireflies.specs.TracedAs.{CompletesAs, TracedAs}
 use Rattle.fireflies.specs.Upheld.{Upholds}
 use Rattle.fireflies.specs.declared.status.Status.{Status}
@@ -16,11 +16,11 @@ OnBoth (Ok was) (Err e) P = ⊥
 OnBoth (Err e) now P = Unit {0}
 
 -- The run of these words ended so.
-pub record Ran (words : List (List ℕ)) (was now : Standing) (old new : OfDisk) (s : Status) : Type 0 where
+pub record Ran (words : List (List ℕ)) (was now : Standing) (old new : OfDisk) (before after : Wires) (s : Status) : Type 0 where
   pub usage : (s ≡ status.Usage) ↔ (command_of words ≡ None)
-  pub ends : IfSome (command_of words) (λ command. EndsAs command (store_in words) was now old new s)
+  pub ends : IfSome (command_of words) (λ command. EndsAs command (store_in words) was now old new before after s)
   pub traced : IfSome (command_of words) (λ command. TracedAs command was now old new s)
   pub complete : IfSome (command_of words) (λ command. CompletesAs command was now old new s)
   pub upholds : IfSome (command_of words) (λ command. Upholds command was now old new s)
   pub counts : Counts was now s
-  pub faults : DiskCounts old new s
+  pub faults : FaultsAs (command_of words) old new s

@@ -1,5 +1,5 @@
 -- What was written, beside the trace of what was taken, for each command; and where all of a command is run.
-use Rattle.std.specs.Prelude.{◌≡◌, ◌≤◌, ◌⊎◌, ℕ, Bool, List, [], ◌∷◌, ◌++◌, length, Some, None, IfSome, Ok}
+use Rattle.std.specs.Prelude.{◌≡◌, ◌≤◌, ◌⊎◌, ℕ, Bool, List, [], ◌∷◌, ◌++◌, length, Option, Some, None, IfSome, Result, Ok}
 use Rattle.std.specs.Io.KnownBytes.{Appends, Consumes}
 use Rattle.line_text.specs.declared.bad_word.BadWord.{BadWord}
 use Rattle.play.specs.Plays.{Standing}
@@ -23,9 +23,10 @@ use Rattle.store_making.specs.Making.{stored}
 use Rattle.enrolment.specs.Enrolling.{IsEnough}
 use Rattle.enrolment.specs.Lines.{enrolled}
 use Rattle.fireflies.specs.Causes.{Says}
+use Rattle.fireflies.specs.Serving.{NodeTraced, OnUnrefused, IsNodeDone}
 use Rattle.fireflies.specs.Traced.{Completes, IsComplete, Traced}
 use Rattle.fireflies.specs.declared.command.Command.{Command}
-use Rattle.fireflies.specs.declared.command.Command.TheVariants.{Replay, Verify, Store, Enroll}
+use Rattle.fireflies.specs.declared.command.Command.TheVariants.{Replay, Verify, Store, Enroll, Node}
 use Rattle.fireflies.specs.declared.status.Status.{Status}
 use Rattle.fireflies.specs.declared.status.Status.TheVariants as status
 
@@ -84,6 +85,7 @@ TracedAs Replay was now old new s = Traced replayed was now s
 TracedAs Verify was now old new s = Traced verified was now s
 TracedAs Store was now old new s = TracedEither stored was now s
 TracedAs Enroll was now old new s = TracedRoster was now old s
+TracedAs (Node turns) was now old new s = NodeTraced was now s
 
 -- ## Where all of it is run
 
@@ -110,8 +112,14 @@ EnrollCompletes was now old new s = IfSome was.left (λ all. (lines : List Roste
     → OnImage old.moments (λ image. StoreOf (tag_of setting) image o) → IsEnough setting o.next (asked_in lines)
     → NoneFailed was now old new → IsComplete s)
 
+-- A node's life comes to its end, its store is found broken or used up, or its port can't be bound, where no line of its text
+-- is refused and nothing failed.
+abbrev pub NodeCompletes : Standing → Standing → OfDisk → OfDisk → Status → Type 0
+NodeCompletes was now old new s = OnUnrefused was.left (NoneFailed was now old new → IsNodeDone s)
+
 abbrev pub CompletesAs : Command → Standing → Standing → OfDisk → OfDisk → Status → Type 0
 CompletesAs Replay was now old new s = Completes replayed was now s
 CompletesAs Verify was now old new s = Completes verified was now s
 CompletesAs Store was now old new s = StoreCompletes was now old new s
 CompletesAs Enroll was now old new s = EnrollCompletes was now old new s
+CompletesAs (Node turns) was now old new s = NodeCompletes was now old new s

@@ -9,9 +9,10 @@ use Rattle.authority.specs.Texts.{IsSecret}
 use Rattle.store_making.specs.Making.{first_of}
 use Rattle.fireflies.specs.Enrolment.{Enrolment}
 use Rattle.fireflies.specs.Headline.{Headline}
+use Rattle.fireflies.specs.Serving.{NodeUpheld}
 use Rattle.fireflies.specs.Verification.{Verification}
 use Rattle.fireflies.specs.declared.command.Command.{Command}
-use Rattle.fireflies.specs.declared.command.Command.TheVariants.{Replay, Verify, Store, Enroll}
+use Rattle.fireflies.specs.declared.command.Command.TheVariants.{Replay, Verify, Store, Enroll, Node}
 use Rattle.fireflies.specs.declared.status.Status.{Status}
 use Rattle.fireflies.specs.declared.status.Status.TheVariants as status
 
@@ -32,3 +33,4 @@ Upholds Replay was now old new s = Headline was now s
 Upholds Verify was now old new s = Verification was now s
 Upholds Store was now old new s = OnMade s (IsStoreMade was old new)
 Upholds Enroll was now old new s = Enrolment was old new
+Upholds (Node turns) was now old new s = NodeUpheld was now old new s

@@ -1,10 +1,15 @@
 // The commands.
 
 ghost use Rattle.std.specs.Prelude.{◌≡◌, map, string_bytes};
-ghost use Rattle.fireflies.specs.Commands.{command_named, command_of, command_with, is_store_name, store_in};
+ghost use Rattle.fireflies.specs.Commands.{command_named, command_of, command_over, command_with, is_store_name, store_in, turns_in};
+
+use line_text::Words;
 
 /// How many bytes the name of a store may have.
 const STORE_NAME: usize = 255;
+
+/// How many turns a node may be served for.
+const TURNS: u64 = 1_000_000;
 
 /// What the program does.
 #[derive(Clone, Copy, Debug, PartialEq, Eq)]
@@ -17,6 +22,8 @@ pub enum Command {
     Store,
     /// `enroll STORE`: signs certificates with the authority's store.
     Enroll,
+    /// `node STORE TURNS`: runs a member with its store for some turns, and writes the journal of its life.
+    Node { turns: u32 },
 }
 
 /// Whether a store may have this name: any of 1 to 255 bytes.
@@ -26,12 +33,27 @@ fn is_store_name(name: &str) -> bool
     !name.is_empty() && name.len() <= STORE_NAME
 }
 
+/// The number of turns that the word spells, from 1 to 1,000,000.
+fn turns_in(word: &str) -> Option<u32>
+    ensures { result ≡ turns_in word.now }
+{
+    let mut words = Words::of(word.as_bytes())?;
+    if words.count() != 1 {
+        return None;
+    }
+    match words.number(1, TURNS) {
+        Ok(turns) => Some(turns as u32),
+        Err(_) => None,
+    }
+}
+
 /// The name of the store, behind the word of the command; nothing where there is no such word.
 pub(crate) fn store_in(words: &[String]) -> &str
     ensures { result.now ≡ store_in (map string_bytes words.now) }
 {
     match words {
         [_, name] => name.as_str(),
+        [_, name, _] => name.as_str(),
         _ => "",
     }
 }
@@ -62,6 +84,19 @@ impl Command {
         }
     }
 
+    /// The command of this word, behind which the name of a store and a number of turns stand.
+    fn over(word: &str, turns: &str) -> Option<Command>
+        ensures { result ≡ command_over word.now turns.now }
+    {
+        if word != "node" {
+            return None;
+        }
+        match turns_in(turns) {
+            Some(turns) => Some(Command::Node { turns }),
+            None => None,
+        }
+    }
+
     /// The command that the words name, if they name one.
     pub fn of(words: &[String]) -> Option<Command>
         ensures { result ≡ command_of (map string_bytes words.now) }
@@ -69,6 +104,9 @@ impl Command {
         match words {
             [word] => Command::named(word.as_str()),
             [word, name] if is_store_name(name.as_str()) => Command::with(word.as_str()),
+            [word, name, turns] if is_store_name(name.as_str()) => {
+                Command::over(word.as_str(), turns.as_str())
+            }
             _ => None,
         }
     }

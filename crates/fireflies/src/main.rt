@@ -12,7 +12,7 @@ mod tests;
 mod words;
 
 pub use command::Command;
-use edges::{FileDisk, StdSink, StdSource};
+use edges::{FileDisk, RealClock, StdSink, StdSource, UdpLink};
 pub use run::run;
 use start::start;
 pub use status::Status;
@@ -25,5 +25,16 @@ fn main(rt: HostRuntime) -> ExitCode {
     let mut input = StdSource::new(rt.alloc(), rt.reader());
     let mut out = StdSink::new(io::writer(&rt));
     let mut disk = FileDisk::new(&rt);
-    ExitCode::from(start(rt.alloc(), words, &mut input, &mut out, &mut disk).number())
+    let mut link = UdpLink::new(&rt);
+    let mut clock = RealClock::new(&rt);
+    let status = start(
+        rt.alloc(),
+        words,
+        &mut input,
+        &mut out,
+        &mut disk,
+        &mut link,
+        &mut clock,
+    );
+    ExitCode::from(status.number())
 }

@@ -5,8 +5,8 @@ ghost use Rattle.authority.specs.OfDisk.{of_disk};
 ghost use Rattle.play.specs.Plays.{standing};
 ghost use Rattle.trace.specs.Walk.{replayed};
 ghost use Rattle.verifier.specs.Answered.{verified};
-ghost use Rattle.fireflies.specs.Commands.{command_of, is_over_store, store_in, takes_store};
-ghost use Rattle.fireflies.specs.Ends.{Counts, DiskCounts, EndsAs, Ends, EnrollEnds, StoreEnds};
+ghost use Rattle.fireflies.specs.Commands.{command_of, is_over_link, is_over_store, store_in, takes_link, takes_store};
+ghost use Rattle.fireflies.specs.Ends.{Counts, DiskCountsAs, EndsAs, Ends, EnrollEnds, FaultsAs, NodeEnds, StoreEnds, wires};
 ghost use Rattle.fireflies.specs.TracedAs.{CompletesAs, TracedAs};
 ghost use Rattle.fireflies.specs.Upheld.{Upholds};
 
@@ -14,6 +14,7 @@ use crate::command::{Command, store_in};
 use crate::ending::conclude;
 use crate::status::Status;
 use enrolment::enroll;
+use node_running::run_node;
 use ports::{Clock, Disk, Link, Sink, Source};
 use replay::replay;
 use std::alloc::Global;
@@ -84,14 +85,41 @@ fn run_enroll<S: Source, O: Sink, D: Disk>(
     conclude(out, Status::from(ended))
 }
 
+/// Runs a member for so many turns, and answers how the run ended.
+fn run_member<S: Source, O: Sink, D: Disk, L: Link, C: Clock>(
+    alloc: Global,
+    name: &str,
+    turns: u32,
+    input: &mut S,
+    out: &mut O,
+    disk: &mut D,
+    link: &mut L,
+    clock: &mut C,
+) -> Status
+    requires source { S.is_open input.old ≡ true }
+    requires sink { O.is_open out.old ≡ true }
+    ensures ends { NodeEnds turns
+        (standing (S.left input.old) (O.taken out.old) (S.faults input.old) (O.faults out.old))
+        (standing (S.left input.new) (O.taken out.new) (S.faults input.new) (O.faults out.new))
+        (of_disk (D.faults disk.old) (D.calls disk.old) (D.moments disk.old))
+        (of_disk (D.faults disk.new) (D.calls disk.new) (D.moments disk.new))
+        (wires (L.contents link.old) (L.faults link.old) (C.reading clock.old) (C.coming clock.old))
+        (wires (L.contents link.new) (L.faults link.new) (C.reading clock.new) (C.coming clock.new)) result }
+{
+    let ended = run_node(alloc, name, turns, input, out, disk, link, clock);
+    conclude(out, Status::from(ended))
+}
+
 /// Does what the command says, and answers how the run ended.
-fn run_command<S: Source, O: Sink, D: Disk>(
+fn run_command<S: Source, O: Sink, D: Disk, L: Link, C: Clock>(
     alloc: Global,
     command: Command,
     name: &str,
     input: &mut S,
     out: &mut O,
     disk: &mut D,
+    link: &mut L,
+    clock: &mut C,
 ) -> Status
     requires source { S.is_open input.old ≡ true }
     requires sink { O.is_open out.old ≡ true }
@@ -99,25 +127,32 @@ fn run_command<S: Source, O: Sink, D: Disk>(
         (standing (S.left input.old) (O.taken out.old) (S.faults input.old) (O.faults out.old))
         (standing (S.left input.new) (O.taken out.new) (S.faults input.new) (O.faults out.new))
         (of_disk (D.faults disk.old) (D.calls disk.old) (D.moments disk.old))
-        (of_disk (D.faults disk.new) (D.calls disk.new) (D.moments disk.new)) result }
+        (of_disk (D.faults disk.new) (D.calls disk.new) (D.moments disk.new))
+        (wires (L.contents link.old) (L.faults link.old) (C.reading clock.old) (C.coming clock.old))
+        (wires (L.contents link.new) (L.faults link.new) (C.reading clock.new) (C.coming clock.new)) result }
     ensures disk { takes_store command ≡ false → disk.new ≡ disk.old }
+    ensures link { takes_link command ≡ false → link.new ≡ link.old }
+    ensures clock { takes_link command ≡ false → clock.new ≡ clock.old }
 {
     match command {
         Command::Replay => run_replay(alloc, input, out),
         Command::Verify => run_verify(alloc, input, out),
         Command::Store => run_store(alloc, name, input, out, disk),
         Command::Enroll => run_enroll(alloc, name, input, out, disk),
+        Command::Node { turns } => { run_member(alloc, name, turns, input, out, disk, link, clock) }
     }
 }
 
 /// The same, and what follows from how the run ended.
-fn run_named<S: Source, O: Sink, D: Disk>(
+fn run_named<S: Source, O: Sink, D: Disk, L: Link, C: Clock>(
     alloc: Global,
     command: Command,
     name: &str,
     input: &mut S,
     out: &mut O,
     disk: &mut D,
+    link: &mut L,
+    clock: &mut C,
 ) -> Status
     requires source { S.is_open input.old ≡ true }
     requires sink { O.is_open out.old ≡ true }
@@ -126,7 +161,9 @@ fn run_named<S: Source, O: Sink, D: Disk>(
         (standing (S.left input.old) (O.taken out.old) (S.faults input.old) (O.faults out.old))
         (standing (S.left input.new) (O.taken out.new) (S.faults input.new) (O.faults out.new))
         (of_disk (D.faults disk.old) (D.calls disk.old) (D.moments disk.old))
-        (of_disk (D.faults disk.new) (D.calls disk.new) (D.moments disk.new)) result }
+        (of_disk (D.faults disk.new) (D.calls disk.new) (D.moments disk.new))
+        (wires (L.contents link.old) (L.faults link.old) (C.reading clock.old) (C.coming clock.old))
+        (wires (L.contents link.new) (L.faults link.new) (C.reading clock.new) (C.coming clock.new)) result }
     ensures traced { TracedAs command
         (standing (S.left input.old) (O.taken out.old) (S.faults input.old) (O.faults out.old))
         (standing (S.left input.new) (O.taken out.new) (S.faults input.new) (O.faults out.new))
@@ -145,12 +182,14 @@ fn run_named<S: Source, O: Sink, D: Disk>(
     ensures counts { Counts
         (standing (S.left input.old) (O.taken out.old) (S.faults input.old) (O.faults out.old))
         (standing (S.left input.new) (O.taken out.new) (S.faults input.new) (O.faults out.new)) result }
-    ensures faults { DiskCounts
+    ensures faults { DiskCountsAs command
         (of_disk (D.faults disk.old) (D.calls disk.old) (D.moments disk.old))
         (of_disk (D.faults disk.new) (D.calls disk.new) (D.moments disk.new)) result }
     ensures disk { takes_store command ≡ false → disk.new ≡ disk.old }
+    ensures link { takes_link command ≡ false → link.new ≡ link.old }
+    ensures clock { takes_link command ≡ false → clock.new ≡ clock.old }
 {
-    run_command(alloc, command, name, input, out, disk)
+    run_command(alloc, command, name, input, out, disk, link, clock)
 }
 
 /// Runs the command that the words name, from the source to the sink. The first cause that comes in the run
@@ -176,7 +215,9 @@ pub fn run<S: Source, O: Sink, D: Disk, L: Link, C: Clock>(
         (standing (S.left input.old) (O.taken out.old) (S.faults input.old) (O.faults out.old))
         (standing (S.left input.new) (O.taken out.new) (S.faults input.new) (O.faults out.new))
         (of_disk (D.faults disk.old) (D.calls disk.old) (D.moments disk.old))
-        (of_disk (D.faults disk.new) (D.calls disk.new) (D.moments disk.new)) result) }
+        (of_disk (D.faults disk.new) (D.calls disk.new) (D.moments disk.new))
+        (wires (L.contents link.old) (L.faults link.old) (C.reading clock.old) (C.coming clock.old))
+        (wires (L.contents link.new) (L.faults link.new) (C.reading clock.new) (C.coming clock.new)) result) }
 
     // What is written is a front of the trace of what was taken, and behind it the line of the cause.
     ensures traced { IfSome (command_of (map string_bytes words.now)) (λ command. TracedAs command
@@ -207,16 +248,26 @@ pub fn run<S: Source, O: Sink, D: Disk, L: Link, C: Clock>(
         (standing (S.left input.old) (O.taken out.old) (S.faults input.old) (O.faults out.old))
         (standing (S.left input.new) (O.taken out.new) (S.faults input.new) (O.faults out.new)) result }
 
-    // So does the disk's, which a command without a store doesn't touch. No command uses a link or a clock yet.
-    ensures faults { DiskCounts
+    // So does the disk's, which a command without a store doesn't touch; a node served may raise it by more than one. A
+    // command that serves no node touches neither link nor clock.
+    ensures faults { FaultsAs (command_of (map string_bytes words.now))
         (of_disk (D.faults disk.old) (D.calls disk.old) (D.moments disk.old))
         (of_disk (D.faults disk.new) (D.calls disk.new) (D.moments disk.new)) result }
     ensures disk { is_over_store (command_of (map string_bytes words.now)) ≡ false → disk.new ≡ disk.old }
-    ensures link { link.new ≡ link.old }
-    ensures clock { clock.new ≡ clock.old }
+    ensures link { is_over_link (command_of (map string_bytes words.now)) ≡ false → link.new ≡ link.old }
+    ensures clock { is_over_link (command_of (map string_bytes words.now)) ≡ false → clock.new ≡ clock.old }
 {
     let Some(command) = Command::of(words) else {
         return Status::Usage;
     };
-    run_named(alloc, command, store_in(words), input, out, disk)
+    run_named(
+        alloc,
+        command,
+        store_in(words),
+        input,
+        out,
+        disk,
+        link,
+        clock,
+    )
 }

@@ -3,13 +3,14 @@
 ghost use Rattle.std.specs.Prelude.{◌≡◌, ◌≤◌, ◌++◌, ◌∷◌, [], codes, length};
 ghost use Rattle.std.specs.Fmt.{decimal};
 ghost use Rattle.line_text.specs.Texts.{bad_word_text};
-ghost use Rattle.fireflies.specs.Causes.{byte_text, cause_line, status_of, status_of_halt};
+ghost use Rattle.fireflies.specs.Causes.{byte_text, cause_line, status_of, status_of_halt, status_of_node};
 ghost use Rattle.fireflies.specs.Numbers.{status_number};
 
 use arrayvec::ArrayString;
 use authority::Halt;
 use itoa::Buffer;
 use line_text::BadWord;
+use node_running::NodeHalt;
 use play::Stop;
 
 /// How a run ended, and the number with which the program then exits. The first cause that comes in the run
@@ -168,6 +169,24 @@ impl From<Result<(), Halt>> for Status {
             Err(Halt::StoreTaken { len }) => Status::StoreTaken { len },
             Err(Halt::Exhausted { next }) => Status::Exhausted { next },
             Err(Halt::OutOfMemory) => Status::OutOfMemory,
+        }
+    }
+}
+
+impl From<Result<(), NodeHalt>> for Status {
+    ghost from_gives = { λ ended status. status ≡ status_of_node ended };
+
+    fn from(ended: Result<(), NodeHalt>) -> Status {
+        match ended {
+            Ok(()) => Status::Ok,
+            Err(NodeHalt::Refused { line, word }) => Status::BadInput { line, word },
+            Err(NodeHalt::ReadFault) => Status::ReadFault,
+            Err(NodeHalt::WriteFault) => Status::WriteFault,
+            Err(NodeHalt::StoreFault) => Status::StoreFault,
+            Err(NodeHalt::StoreBroken { place, byte }) => Status::StoreBroken { place, byte },
+            Err(NodeHalt::LinkFault) => Status::LinkFault,
+            Err(NodeHalt::Exhausted { next }) => Status::Exhausted { next },
+            Err(NodeHalt::OutOfMemory) => Status::OutOfMemory,
         }
     }
 }

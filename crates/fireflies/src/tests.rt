@@ -2,6 +2,7 @@
 
 ghost use Rattle.std.specs.Prelude.{◌≤◌};
 
+mod serving;
 mod storing;
 mod verifying;
 
@@ -354,7 +355,11 @@ fn words_that_name_no_command(rt: HostRuntime) -> Result<(), Fail> {
         "",
         "replay x",
         "verify x",
+        "node s",
         "node s 0",
+        "node s 1000001",
+        "node s 01",
+        "node s 1 2",
         "soak 7 2 1",
         "--help",
     ] {

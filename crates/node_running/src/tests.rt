@@ -8,7 +8,7 @@ use epoch_store::make;
 use ff_ids::{Group, Mask, MemberId};
 use line_text::BadWord;
 use lms_ots::OtsKind;
-use lms_tree::TreeKind;
+use lms_tree::{PublicKey, TreeKind};
 use node_scene::{AUTHORITY, Key, Kinds};
 use ports::{LinkAnswer, MemoryClock, MemoryDisk, MemoryLink, MemorySink, MemorySource};
 use records::{Body, CertBody};
@@ -28,10 +28,10 @@ const GROUP: Group = Group {
 
 const KINDS: Kinds = Kinds {
     tree: TreeKind::H5,
-    ots: OtsKind::W8,
+    ots: OtsKind::W1,
 };
 
-const HEAD: &str = "fireflies 1 kit\ngroup 1 4 1 2 00000000000000000000000000000000\nkinds 8 5\n";
+const HEAD: &str = "fireflies 1 kit\ngroup 1 4 1 2 00000000000000000000000000000000\nkinds 1 5\n";
 
 /// The journal of a life that hears nothing and is alone, in two turns, without its last line.
 const ALONE: &[u8] =
@@ -73,7 +73,7 @@ fn kit(alloc: Global, others: u16) -> Result<String, Fail>
 fn source(alloc: Global, text: &str) -> Result<MemorySource, Fail>
     ensures { IfOk result (λ s. s.is_open ≡ true) }
 {
-    Ok(MemorySource::new(text.as_bytes().to_vec(alloc)?, 64, [].to_vec(alloc)?))
+    Ok(MemorySource::new(text.as_bytes().to_vec(alloc)?, 4096, [].to_vec(alloc)?))
 }
 
 /// A sink with room.
@@ -83,11 +83,15 @@ fn sink(alloc: Global) -> Result<MemorySink, Fail>
     Ok(MemorySink::new(alloc, 4000, 64, [].to_vec(alloc)?)?)
 }
 
+/// The key of member 1.
+fn key_of_1(alloc: Global) -> Result<PublicKey, Fail> {
+    Ok(Key::of(alloc, &GROUP.tag, 1, KINDS)?.public())
+}
+
 /// A disk on which the store of member 1 was made, and that fails at the calls with these numbers behind that.
-fn disk(alloc: Global, fail: &[u64]) -> Result<MemoryDisk, Fail> {
+fn disk(alloc: Global, key: &PublicKey, fail: &[u64]) -> Result<MemoryDisk, Fail> {
     let mut disk = MemoryDisk::new(alloc, 700, 200, fail.to_vec(alloc)?).or(Err("no memory"))?;
-    let key = Key::of(alloc, &GROUP.tag, 1, KINDS)?.public();
-    make(&mut disk, NAME, &store_tag(&GROUP, &key), Mask(7)).or(Err("no store"))?;
+    make(&mut disk, NAME, &store_tag(&GROUP, key), Mask(7)).or(Err("no store"))?;
     Ok(disk)
 }
 
@@ -121,7 +125,7 @@ fn link(alloc: Global, fail_sends: &[u64], fail_bind: bool) -> Result<MemoryLink
 #[test]
 fn a_member_alone_writes_its_journal(rt: HostRuntime) -> Result<(), Fail> {
     let alloc = rt.alloc();
-    let mut disk = disk(alloc, &[])?;
+    let mut disk = disk(alloc, &key_of_1(alloc)?, &[])?;
     let mut link = link(alloc, &[], false)?;
     let ran = run(alloc, &kit(alloc, 0)?, &mut disk, &mut link)?;
     assert_eq!(rt; ran.done, Ok(()));
@@ -134,7 +138,7 @@ fn a_member_alone_writes_its_journal(rt: HostRuntime) -> Result<(), Fail> {
 #[test]
 fn a_port_that_is_taken_leaves_all(rt: HostRuntime) -> Result<(), Fail> {
     let alloc = rt.alloc();
-    let mut disk = disk(alloc, &[4])?;
+    let mut disk = disk(alloc, &key_of_1(alloc)?, &[4])?;
     let mut link = link(alloc, &[], true)?;
     let ran = run(alloc, &kit(alloc, 0)?, &mut disk, &mut link)?;
     assert_eq!(rt; ran.done, Err(NodeHalt::LinkFault));
@@ -146,16 +150,18 @@ fn a_port_that_is_taken_leaves_all(rt: HostRuntime) -> Result<(), Fail> {
 #[test]
 fn a_disk_that_fails_ends_the_life_before_it_begins(rt: HostRuntime) -> Result<(), Fail> {
     let alloc = rt.alloc();
-    for call in [4u64, 6, 9, 12] {
-        let mut disk = disk(alloc, &[call])?;
+    let key = key_of_1(alloc)?;
+    let text = kit(alloc, 0)?;
+    for call in [4u64, 12] {
+        let mut disk = disk(alloc, &key, &[call])?;
         let mut link = link(alloc, &[], false)?;
-        let ran = run(alloc, &kit(alloc, 0)?, &mut disk, &mut link)?;
+        let ran = run(alloc, &text, &mut disk, &mut link)?;
         assert_eq!(rt; ran.done, Err(NodeHalt::StoreFault));
         assert_eq!(rt; ran.out.bytes(), b"".as_slice());
     }
-    let mut disk = disk(alloc, &[13])?;
+    let mut disk = disk(alloc, &key, &[13])?;
     let mut link = link(alloc, &[], false)?;
-    let ran = run(alloc, &kit(alloc, 0)?, &mut disk, &mut link)?;
+    let ran = run(alloc, &text, &mut disk, &mut link)?;
     assert_eq!(rt; ran.done, Ok(()));
     Ok(())
 }
@@ -163,7 +169,7 @@ fn a_disk_that_fails_ends_the_life_before_it_begins(rt: HostRuntime) -> Result<(
 #[test]
 fn a_send_that_fails_is_lost(rt: HostRuntime) -> Result<(), Fail> {
     let alloc = rt.alloc();
-    let mut disk = disk(alloc, &[])?;
+    let mut disk = disk(alloc, &key_of_1(alloc)?, &[])?;
     let mut link = link(alloc, &[0], false)?;
     let ran = run(alloc, &kit(alloc, 1)?, &mut disk, &mut link)?;
     assert_eq!(rt; ran.done, Ok(()));
@@ -181,7 +187,7 @@ fn a_send_that_fails_is_lost(rt: HostRuntime) -> Result<(), Fail> {
 #[test]
 fn a_text_without_its_end_starts_nothing(rt: HostRuntime) -> Result<(), Fail> {
     let alloc = rt.alloc();
-    let mut disk = disk(alloc, &[4])?;
+    let mut disk = disk(alloc, &key_of_1(alloc)?, &[4])?;
     let mut link = link(alloc, &[], true)?;
     let ran = run(alloc, HEAD, &mut disk, &mut link)?;
     let refused = NodeHalt::Refused {

@@ -20,7 +20,7 @@ const KEY: &str =
     "0000000500000004a1a1a1a1a1a1a1a1a1a1a1a1a1a1a1a1b2b2b2b2b2b2b2b2b2b2b2b2b2b2b2b2b2b2b2b2b2b2b2b2b2b2b2b2b2b2b2b2";
 
 /// A disk whose calls with these numbers fail.
-fn disk(alloc: Global, fail: &[u64]) -> Result<MemoryDisk, Fail> {
+pub(super) fn disk(alloc: Global, fail: &[u64]) -> Result<MemoryDisk, Fail> {
     Ok(MemoryDisk::new(alloc, 700, 400, fail.to_vec(alloc)?).or(Err("no memory"))?)
 }
 
@@ -46,7 +46,7 @@ fn stands_at(text: &[u8], place: usize, part: &[u8]) -> bool {
 }
 
 /// The words of a command.
-fn words_of(alloc: Global, words: &[&str]) -> Result<Vec<String>, Fail> {
+pub(super) fn words_of(alloc: Global, words: &[&str]) -> Result<Vec<String>, Fail> {
     let mut all = Vec::new(alloc);
     for word in words {
         all.push(String::from_str(alloc, word)?)?;
@@ -55,7 +55,12 @@ fn words_of(alloc: Global, words: &[&str]) -> Result<Vec<String>, Fail> {
 }
 
 /// Runs the command over the text and the disk.
-fn run_over(alloc: Global, words: &[&str], text: &str, disk: &mut MemoryDisk) -> Result<Run, Fail> {
+pub(super) fn run_over(
+    alloc: Global,
+    words: &[&str],
+    text: &str,
+    disk: &mut MemoryDisk,
+) -> Result<Run, Fail> {
     let words = words_of(alloc, words)?;
     let mut input = MemorySource::new(text.as_bytes().to_vec(alloc)?, 4_096, Vec::new(alloc));
     let mut out = MemorySink::new(alloc, 400_000, 4_096, Vec::new(alloc))?;
@@ -81,7 +86,7 @@ fn enroll(alloc: Global, count: u16, disk: &mut MemoryDisk) -> Result<Run, Fail>
 }
 
 /// Compares the number of the answer and what was written.
-fn compare(rt: &impl Abort, got: &Run, number: u8, written: &[u8]) {
+pub(super) fn compare(rt: &impl Abort, got: &Run, number: u8, written: &[u8]) {
     assert_eq!(rt; got.number, number);
     assert_eq!(rt; got.written.as_slice(), written);
 }
