@@ -1,4 +1,4 @@
-// What no command uses yet: each call fails, and the clock stands still.
+// What stands in where a run needs no disk, link or clock: each call fails, and the clock stands still.
 
 ghost use Rattle.std.specs.Prelude.{◌≡◌, true, None, [], is_err};
 ghost use Rattle.ports.specs.Count.{next_count};

@@ -1,5 +1,5 @@
 //! The outside of the program: standard input as a source, standard output as a sink, a file as a disk, a UDP socket as a
-//! link, the monotonic clock, and what stands in for these three while no command uses them. The source and the sink tell
+//! link, the monotonic clock, and what stands in for these three where a run needs none. The source and the sink tell
 //! what their reader and writer tell: over the toolchain's own standard input and output that is nothing. A file, a
 //! socket and the clock tell nothing: their clauses say when a call fails and is counted, and tests move real bytes.
 #![tactic(auto)]
