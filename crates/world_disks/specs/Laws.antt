@@ -13,7 +13,7 @@ use Rattle.world_disks.specs.Held.{ComesAs, HoldsDisk, armed_as, crashed}
 abbrev pub OpensAsTold : Type 0
 OpensAsTold = (tag name : List ℕ) (indexes : ℕ) (d : DiskState) (e : Disk) → HoldsDisk tag indexes d e
     → ComesAs tag indexes (runs (gate_reads (length e.older + 2) ++ open_calls name) d) (lets_pass e.armed (opening_calls e))
-      (after_calls (opening_calls e) e) (stopped e)
+    (after_calls (opening_calls e) e) (stopped e)
 
 -- The calls that put an entry with the next index.
 abbrev pub PutsAsTold : Type 0
@@ -42,4 +42,4 @@ pub record IsNew (indexes : ℕ) (d : DiskState) : Type 0 where
 abbrev pub MakesAsTold : Type 0
 MakesAsTold = (tag name : List ℕ) (indexes : ℕ) (d : DiskState) (mask : Mask) → IsNew indexes d → length tag ≡ 32 → mask.0 < 2 ^ 31
     → let came = runs (make_calls name tag (first_entry mask)) d in
-      (came.failed ≡ false) × HoldsDisk tag indexes came.disk (made_disk mask)
+    (came.failed ≡ false) × HoldsDisk tag indexes came.disk (made_disk mask)
