@@ -2,7 +2,7 @@
 //! takes memory.
 #![tactic(auto)]
 
-ghost use Rattle.std.specs.Prelude.{◌≡◌, ◌<◌, ◌≤◌, ◌+◌, ◌*◌, ◌-◌, [], ◌∷◌, ◌++◌, ◌↔◌, length, map, All, IsNone, IfSome, option_map};
+ghost use Rattle.std.specs.Prelude.{◌≡◌, ◌<◌, ◌≤◌, ◌+◌, ◌*◌, ◌-◌, [], ◌∷◌, ◌++◌, ◌↔◌, length, map, All, IsNone, IfSome, option_map, get_or};
 ghost use Rattle.ff_ids.specs.Rings.{is_below, cyc, others, nearest_before as number_before, nearest_after as number_after};
 ghost use Rattle.ff_ids.specs.Views.{key_at};
 ghost use Rattle.ring_order.specs.Rows.{place_of_number, is_plain, tail_of};
@@ -100,8 +100,21 @@ impl Places {
                 .then(number.cmp(&other_number))
                 .is_lt();
         }
+        // Hashed places mostly differ here already.
+        let (head, other_head) = (self.head(ring), other.head(ring));
+        if head != other_head {
+            return head < other_head;
+        }
         self.spot(ring, number)
             .is_below(&other.spot(ring, other_number))
+    }
+
+    /// The first byte of the place on the ring.
+    fn head(&self, ring: RingNo) -> u8
+        requires { ring.0 < length self.now }
+        ensures { result ≡ get_or (get_or self.now ring.0 []) 0 0 }
+    {
+        self.rows[ring.0 as usize][0]
     }
 
     /// On how many rings the member has a place.
