@@ -34,6 +34,8 @@ use watch::{WATCHED, Watched, watch_all};
 pub struct Detector {
     group: Group,
     words: ChaCha20Rng,
+    /// Where this member's places were found last, by the ring.
+    near: [usize; WATCHED],
     watched: Vec<Watched>,
     probes: Vec<Probe>,
     spare: Vec<Probe>,
@@ -62,6 +64,7 @@ impl Detector {
         Ok(Detector {
             group: *group,
             words: ChaCha20Rng::from_seed(seed),
+            near: [0; WATCHED],
             watched: Vec::with_capacity(alloc, WATCHED)?,
             probes: Vec::with_capacity(alloc, WATCHED)?,
             spare: Vec::with_capacity(alloc, WATCHED)?,
@@ -82,7 +85,7 @@ impl Detector {
             → StandsFor self.new (ticked h due (watched_in self.old.group.t s me)) }
         ensures group { self.new.group ≡ self.old.group }
     {
-        watch_all(membership, me, &mut self.watched);
+        watch_all(membership, me, &mut self.near, &mut self.watched);
         carry_all(&self.probes, &self.watched, &mut self.spare);
         swap(&mut self.probes, &mut self.spare);
         out.list_silent(&self.probes, self.group.misses);

@@ -23,14 +23,20 @@ pub struct Watched {
     pub epoch: Epoch,
 }
 
-/// The successor of this member on the ring, where its newest note enables the ring.
-fn watched_on(membership: &Membership, ring: RingNo, me: MemberId) -> Option<Watched>
+/// The successor of this member on the ring, where its newest note enables the ring. This member's place there is looked
+/// for from where it was last.
+fn watched_on(
+    membership: &Membership,
+    ring: RingNo,
+    me: MemberId,
+    near: &mut usize,
+) -> Option<Watched>
     requires ring { ring.0 < ring_count membership.now.group.t }
     requires few { ring.0 < 32 }
     requires joined { has_joined membership.now me ≡ true }
     ensures { (s : State) → Holds membership.now s → result ≡ watched_by_successor s ring.0 me }
 {
-    let Some(member) = membership.successor(ring, me) else {
+    let Some(member) = membership.successor_near(ring, me, near) else {
         return None;
     };
     let Some(note) = membership.note_of(member) else {
@@ -67,8 +73,14 @@ fn put(list: &mut Vec<Watched>, watched: Watched)
     let _ = list.insert(place, watched);
 }
 
-/// Lists those that this member watches, in order of number.
-pub fn watch_all(membership: &Membership, me: MemberId, list: &mut Vec<Watched>)
+/// Lists those that this member watches, in order of number. Its own places on the rings are looked for from where they
+/// were last.
+pub fn watch_all(
+    membership: &Membership,
+    me: MemberId,
+    near: &mut [usize; WATCHED],
+    list: &mut Vec<Watched>,
+)
     requires few { membership.now.group.t ≤ 15 }
     requires joined { has_joined membership.now me ≡ true }
     requires room { WATCHED ≤ vec_capacity list.old }
@@ -83,7 +95,7 @@ pub fn watch_all(membership: &Membership, me: MemberId, list: &mut Vec<Watched>)
         return;
     }
     for ring in 0..2 * membership.group().t + 1 {
-        if let Some(watched) = watched_on(membership, RingNo(ring), me) {
+        if let Some(watched) = watched_on(membership, RingNo(ring), me, &mut near[ring as usize]) {
             put(list, watched);
         }
     }

@@ -166,6 +166,22 @@ impl Membership {
         self.rings.successor(ring, member, self.places_of(member))
     }
 
+    /// As `successor`. The member's place on the ring is looked for first where it was found last, at the index `near`,
+    /// and what is found is kept there: while the view stands, few members are looked at, however many it has.
+    pub fn successor_near(
+        &self,
+        ring: RingNo,
+        member: MemberId,
+        near: &mut usize,
+    ) -> Option<MemberId>
+        requires ring { ring.0 < ring_count self.now.group.t }
+        requires member { has_joined self.now member ≡ true }
+        ensures { (s : State) → Holds self.now s → result ≡ successor_of s ring.0 member }
+    {
+        self.rings
+            .successor_near(ring, member, self.places_of(member), near)
+    }
+
     /// Adds a member with its places. A number that has joined is refused as `AlreadyMember`.
     pub fn add_member(&mut self, member: MemberId, places: Places) -> Result<(), Fault>
         requires { length places ≡ ring_count self.old.group.t }

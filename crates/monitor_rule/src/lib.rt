@@ -112,6 +112,23 @@ impl Rings {
         self.successor_in::<Brand>(Blank::new(1), ring, member, places)
     }
 
+    /// As `successor`. The member's place on the ring is looked for first where it was found last, at the index `near`, and
+    /// what is found is kept there: so where nobody joined or left, few members are looked at, however many have joined.
+    pub fn successor_near(
+        &self,
+        ring: RingNo,
+        member: MemberId,
+        places: &Places,
+        near: &mut usize,
+    ) -> Option<MemberId>
+        requires ring { ring.0 < self.now.rings }
+        requires placed { length places.now ≡ self.now.rings }
+        ensures { result
+            ≡ number_after (keys_on ring.0 self.now.members) (key_at ring.0 places.now member) }
+    {
+        self.successor_near_in::<Brand>(Blank::new(1), ring, member, places, near)
+    }
+
     /// As `monitor`. Among n joined members d steps are counted, with `2^d <= 2n + 1` and `n + 2 <= 2 * 2^d`.
     pub fn monitor_counted<L: Ledger>(
         &self,
@@ -186,6 +203,27 @@ impl Rings {
             ≡ number_after (keys_on ring.0 self.now.members) (key_at ring.0 places.now member) }
     {
         self.successor_counted(ring, member, places, &mut Steps::<L>::open(blank))
+    }
+
+    /// The successor, found from an index on, counted in a ledger of its own.
+    fn successor_near_in<L: Ledger>(
+        &self,
+        blank: Blank,
+        ring: RingNo,
+        member: MemberId,
+        places: &Places,
+        near: &mut usize,
+    ) -> Option<MemberId>
+        requires name { blank.name ≡ L.name }
+        requires parts { blank.parts ≡ L.parts }
+        requires some { 0 < blank.parts }
+        requires ring { ring.0 < self.now.rings }
+        requires placed { length places.now ≡ self.now.rings }
+        ensures { result
+            ≡ number_after (keys_on ring.0 self.now.members) (key_at ring.0 places.now member) }
+    {
+        let mut steps = Steps::<L>::open(blank);
+        self.rows[ring.0 as usize].after_near(&self.slots, member, places, near, &mut steps)
     }
 }
 

@@ -1,7 +1,7 @@
 //! One ring: the joined members in order of their keys there, found by halving.
 
-ghost use Rattle.std.specs.Prelude.{◌≡◌, ℕ, ◌+◌, ◌-◌, ◌*◌, ◌^◌, ◌<◌, ◌≤◌, ◌==◌, true, None, Some, [], length, is_some, slice_index, slice_set, IfOk, if◌then◌else◌};
-ghost use Rattle.ff_ids.specs.Rings.{nearest_before as number_before, nearest_after as number_after};
+ghost use Rattle.std.specs.Prelude.{◌≡◌, ◌⊎◌, ℕ, List, Option, ◌+◌, ◌-◌, ◌*◌, ◌^◌, ◌<◌, ◌≤◌, ◌==◌, true, None, Some, [], length, is_some, slice_index, slice_set, IfOk, if◌then◌else◌};
+ghost use Rattle.ff_ids.specs.Rings.{Key, nearest_before as number_before, nearest_after as number_after};
 ghost use Rattle.ff_ids.specs.Views.{key_at};
 ghost use Rattle.monitor_rule.specs.Joined.{keys_on};
 ghost use Rattle.monitor_rule.specs.Sorted.{places_at, members_from, IsRow, IsBetween};
@@ -132,6 +132,34 @@ impl Row {
         ensures least { length self.now.order + 2 ≤ 2 * 2 ^ (steps.new - steps.old) }
     {
         let place = self.search(slots, member, places, steps);
+        self.behind(place, member)
+    }
+
+    /// As `after`, of which no step counts. The member's place is looked for where it was last, and told.
+    pub fn after_near<L: Ledger>(
+        &self,
+        slots: &[Option<Places>],
+        member: MemberId,
+        places: &Places,
+        near: &mut usize,
+        steps: &mut Steps<L>,
+    ) -> Option<MemberId>
+        requires in_order { IsRow slots.now self.now }
+        requires long { length slots.now ≡ 1024 }
+        requires placed { self.now.ring < length places.now }
+        ensures { result
+            ≡ number_after (keys_on self.now.ring (members_from 0 slots.now)) (key_at self.now.ring places.now member) }
+    {
+        *near = self.search_near(slots, *near, member, places, steps);
+        self.behind(*near, member)
+    }
+
+    /// The member from this place on, going round, that is another than this one.
+    fn behind(&self, place: usize, member: MemberId) -> Option<MemberId>
+        requires within { place ≤ length self.now.order }
+        ensures { (slots : List (Option (List (List ℕ)))) (q : Key) → IsRow slots self.now → IsBetween slots self.now q place place → q.number ≡ member
+            → result ≡ number_after (keys_on self.now.ring (members_from 0 slots)) q }
+    {
         if self.order.is_empty() {
             return None;
         }
@@ -225,16 +253,50 @@ impl Row {
         let mut low = 0;
         let mut high = self.order.len();
         while low < high {
-            (low, high) = self.narrow(slots, low, high, member, places, steps);
+            let middle = middle_of(low, high);
+            (low, high) = self.narrow(slots, low, middle, high, member, places, steps);
         }
         low
     }
 
-    /// The half in which the member's place is, of those between the two indexes.
-    fn narrow<L: Ledger>(
+    /// As `search`. Two steps are enough where this index is the place.
+    fn search_near<L: Ledger>(
+        &self,
+        slots: &[Option<Places>],
+        near: usize,
+        member: MemberId,
+        places: &Places,
+        steps: &mut Steps<L>,
+    ) -> usize
+        requires in_order { IsRow slots.now self.now }
+        requires long { length slots.now ≡ 1024 }
+        requires placed { self.now.ring < length places.now }
+        ensures { IsBetween slots.now self.now (key_at self.now.ring places.now member) result result }
+    {
+        let (low, high) = (0, self.order.len());
+        let (low, high) = self.narrow_at(
+            slots,
+            low,
+            near.saturating_sub(1),
+            high,
+            member,
+            places,
+            steps,
+        );
+        let (mut first, mut last) = self.narrow_at(slots, low, near, high, member, places, steps);
+        while first < last {
+            let middle = middle_of(first, last);
+            (first, last) = self.narrow(slots, first, middle, last, member, places, steps);
+        }
+        first
+    }
+
+    /// As `narrow`, where the index is one between the two.
+    fn narrow_at<L: Ledger>(
         &self,
         slots: &[Option<Places>],
         low: usize,
+        index: usize,
         high: usize,
         member: MemberId,
         places: &Places,
@@ -244,13 +306,36 @@ impl Row {
         requires long { length slots.now ≡ 1024 }
         requires placed { self.now.ring < length places.now }
         requires between { IsBetween slots.now self.now (key_at self.now.ring places.now member) low high }
-        requires some { low < high }
+        ensures { IsBetween slots.now self.now (key_at self.now.ring places.now member) result.0 result.1 }
+    {
+        if low <= index && index < high {
+            self.narrow(slots, low, index, high, member, places, steps)
+        } else {
+            (low, high)
+        }
+    }
+
+    /// The part in which the member's place is, of those between the two indexes: behind the middle one, or up to it.
+    fn narrow<L: Ledger>(
+        &self,
+        slots: &[Option<Places>],
+        low: usize,
+        middle: usize,
+        high: usize,
+        member: MemberId,
+        places: &Places,
+        steps: &mut Steps<L>,
+    ) -> (usize, usize)
+        requires in_order { IsRow slots.now self.now }
+        requires long { length slots.now ≡ 1024 }
+        requires placed { self.now.ring < length places.now }
+        requires between { IsBetween slots.now self.now (key_at self.now.ring places.now member) low high }
+        requires from { low ≤ middle }
+        requires until { middle < high }
         ensures between { IsBetween slots.now self.now (key_at self.now.ring places.now member) result.0 result.1 }
         ensures step { steps.new ≡ steps.old + 1 }
-        ensures most { 2 * (result.1 - result.0) ≤ high - low }
-        ensures least { high - low ≤ 2 * (result.1 - result.0) + 2 }
+        ensures part { (result ≡ (middle + 1, high)) ⊎ (result ≡ (low, middle)) }
     {
-        let middle = middle_of(low, high);
         let other = self.order[middle];
         let other_places = places_of(slots, other);
         if key_before(self.ring, other_places, other, places, member, steps) {
