@@ -186,7 +186,7 @@ watches s st m h =
     watches_by s st m (newest st.notes m) refl (not-true _ first.0) first.1 parts.1
 
 -- who is listed on the rings is in the view
-listed-viewed : (st : State) (ring v : ℕ) (k : Key) → In (map (key_of st ring) (view st)) k → k.number ≡ v → in_view st v ≡ true
+pub listed-viewed : (st : State) (ring v : ℕ) (k : Key) → In (map (key_of st ring) (view st)) k → k.number ≡ v → in_view st v ≡ true
 listed-viewed st ring v k i is =
     let who = In-from_map (key_of st ring) (view st) k i in
     subst (λ m. in_view st m ≡ true) (ap (λ (x : Key). x.number) who.1.1 ∙ is) (In-from_filter (in_view st) all_numbers who.0 who.1.0).1

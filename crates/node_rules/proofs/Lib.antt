@@ -24,4 +24,5 @@ mod OneExchange
 mod Walks
 mod Forms
 mod Sendable
+mod Addressing
 pub mod ExchangeRows

@@ -45,7 +45,7 @@ noted l inputs note correct ranges bytes is =
     let body : IsBody (Note note) = subst IsBody holds.is (formed.held (keys.Note note.member) holds.rec holds.place).body in
     body.has_epoch
 
-calls-append : (s : Setting) (n : Node) (xs ys : List Input) → after_calls s n (xs ++ ys) ≡ after_calls s (after_calls s n xs) ys
+pub calls-append : (s : Setting) (n : Node) (xs ys : List Input) → after_calls s n (xs ++ ys) ≡ after_calls s (after_calls s n xs) ys
 calls-append s n xs ys = fold-append (λ m i. (call_of s m i).node) n xs ys
 
 meets : (a b : Life) (made before between : List Input) → Meet a b made before between → Meets a.setting b.setting a.own b.own (node_after a made) (node_after b before) (begun (node_after b (before ++ between)))

@@ -81,7 +81,7 @@ pub record IsJoined (st next : State) (number : ℕ) : Type 0 where
   pub notes : next.notes ≡ st.notes
   pub member : (m : ℕ) → is_member next m ≡ cond (eqb number m) true (is_member st m)
 
-joins-member : (g : Group) (st : State) (number : ℕ) (places : List (List ℕ)) → IsJoined st (step g st (Joins number places)).state number
+pub joins-member : (g : Group) (st : State) (number : ℕ) (places : List (List ℕ)) → IsJoined st (step g st (Joins number places)).state number
 joins-member g st number places =
     cond_both (is_member st number) (unchanged st) (unchanged (joined st number places)) (λ x. IsJoined st x.state number)
     (λ old. record { notes = refl; member = λ m. already m old })
@@ -233,7 +233,7 @@ upholds-ticks s c h =
 
 -- ---- a certificate
 
-chosen-member : (b : Bool) (r : Record) (x : CertBody) (o : Option Record) (old : Bool) → r.body ≡ Certificate x → is_some (option_and_then (λ y. certificate_in y.body) o) ≡ old
+pub chosen-member : (b : Bool) (r : Record) (x : CertBody) (o : Option Record) (old : Bool) → r.body ≡ Certificate x → is_some (option_and_then (λ y. certificate_in y.body) o) ≡ old
     → is_some (option_and_then (λ y. certificate_in y.body) (cond b (Some r) o)) ≡ cond b true old
 chosen-member true r x o old is h = ap (λ y. is_some (certificate_in y)) is
 chosen-member false r x o old is h = h

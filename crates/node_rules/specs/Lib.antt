@@ -18,4 +18,5 @@ pub mod Sending
 pub mod Gaining
 pub mod OnRings
 pub mod OneExchange
+pub mod Addressing
 pub mod OnDisks

@@ -14,6 +14,7 @@ ghost use Rattle.node_rules.specs.Gaining.{RecordsAreLived, TicksAreLived};
 ghost use Rattle.node_rules.specs.OnRings.{RingForIsLowest, NeighboursAreSuccessors, AccusedAreAddressed};
 ghost use Rattle.node_rules.specs.OneExchange.{WhatIsHeldIsTheLife, WhatIsHeldCanBeSent, SummariesAreAnswered, OneExchangeIsEnough, NothingLackingIsEnough};
 ghost use Rattle.node_rules.specs.Known.{OnlyKnownIsSent, OnlyKnownIsSentUntil};
+ghost use Rattle.node_rules.specs.Addressing.{OnlyCertifiedAreAddressed, OnlyCertifiedAreAddressedUntil, AddresseesHavePorts};
 
 /// In every life of a node each member that leaves the view does so at a tick, and an accusation accepted earlier
 /// against it stood in each state between, for the timeout at least.
@@ -118,6 +119,14 @@ pub fn stopped_calls_end()
 pub fn only_known_is_sent()
     ensures whole { OnlyKnownIsSent }
     ensures stopped { OnlyKnownIsSentUntil }
+{}
+
+/// In every life each datagram of a call goes to another member, whose certificate the node holds; also in a call in
+/// which the disk fails. That certificate has a port, where the node is correct and what it is handed is bytes.
+pub fn only_certified_are_addressed()
+    ensures whole { OnlyCertifiedAreAddressed }
+    ensures stopped { OnlyCertifiedAreAddressedUntil }
+    ensures ports { AddresseesHavePorts }
 {}
 
 /// What a call tells as sent is what it sends, in order, each with its place among the datagrams of the call; also in a
