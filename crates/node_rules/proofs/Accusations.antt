@@ -145,7 +145,7 @@ one_number : (o : Option ℕ) (a b : ℕ) → is_number o a ≡ true → is_numb
 one_number None a b h k = cc
 one_number (Some v) a b h k = sym (eqb-true v a h) ∙ eqb-true v b k
 
-same_accuser : (st : State) (a b : AccBody) → stands st a ≡ true → stands st b ≡ true → a.accused ≡ b.accused → a.ring.0 ≡ b.ring.0 → a.accuser ≡ b.accuser
+pub same_accuser : (st : State) (a b : AccBody) → stands st a ≡ true → stands st b ≡ true → a.accused ≡ b.accused → a.ring.0 ≡ b.ring.0 → a.accuser ≡ b.accuser
 same_accuser st a b h k who ring =
     let ha = (IsStanding-from st a h).by_monitor in
     let hb = (IsStanding-from st b k).by_monitor in

@@ -32,7 +32,7 @@ use Rattle.node_rules.specs.Deliveries.{answer_to, answering_note}
 use Rattle.node_rules.specs.Starting.{blank, opened, started}
 use Rattle.node_rules.specs.Lives.{KeepsOwnNote, Input, call_of, after_calls, is_certificate_for}
 use Rattle.node_rules.specs.Vouching.{OwnSignaturesVerify, IsCertifiedBy}
-use Rattle.node_rules.specs.OneExchange.{Life, node_after, IsCorrect, IsSignedBy, HoldsItsLife}
+use Rattle.node_rules.specs.OneExchange.{Life, node_after, IsCorrect, IsSignedBy}
 use Rattle.node_rules.proofs.Small.{stored-takes, stored-signs}
 use Rattle.node_rules.proofs.OwnNote.{option_or-none, stored-lives, keeping, own-started, becomes_member, answer-fine}
 use Rattle.node_rules.proofs.Masks.{all_rings-good}
@@ -54,7 +54,7 @@ pub record Verifies (s : Setting) (author : Option PublicKey) (r : Record) : Typ
   pub author_is : author ≡ Some key
   pub verifies : s.verifies key r ≡ true
 
-verified : (s : Setting) (author : Option PublicKey) (r : Record) → signature_fault s author r ≡ None → Verifies s author r
+pub verified : (s : Setting) (author : Option PublicKey) (r : Record) → signature_fault s author r ≡ None → Verifies s author r
 verified s None r fine = cc
 verified s (Some key) r fine =
     elim (cases_Bool (s.verifies key r)) [
@@ -96,7 +96,7 @@ upholds-spends s b c h =
       good = h.good;
     }
 
-signed-spends : (s : Setting) (b : Body) (c : Call) (m : ℕ) (r : Record) → IsSignedBy s c.node m r → IsSignedBy s (spends s b c).node m r
+pub signed-spends : (s : Setting) (b : Body) (c : Call) (m : ℕ) (r : Record) → IsSignedBy s c.node m r → IsSignedBy s (spends s b c).node m r
 unfolding certificate_of
 signed-spends s b c m r k = record { key = k.key; author_is = k.author_is; verifies = k.verifies }
 
@@ -140,7 +140,7 @@ has_key (Some x) key e = (x, (refl, some_is x.key key e))
 pub certificate-of_key : (n : Node) (m : ℕ) (key : PublicKey) → public_key_of n m ≡ Some key → (x : CertBody) × ((certificate_of n m ≡ Some x) × (x.key ≡ key))
 certificate-of_key n m key e = has_key (certificate_of n m) key e
 
-key-follows : (s : Setting) (n later : Node) (m : ℕ) (key : PublicKey) → Follows s n later → public_key_of n m ≡ Some key → public_key_of later m ≡ Some key
+pub key-follows : (s : Setting) (n later : Node) (m : ℕ) (key : PublicKey) → Follows s n later → public_key_of n m ≡ Some key → public_key_of later m ≡ Some key
 key-follows s n later m key f e =
     let x = certificate-of_key n m key e in
     ap (option_map (λ c. c.key)) (f.certificates m x.0 x.1.0) ∙ ap (λ k. Some k) x.1.1
@@ -300,8 +300,3 @@ pub all-life : (l : Life) (inputs : List Input) → IsCorrect l → KeepsAll l.s
 all-life l inputs is =
     all-calls l.setting l.own (started l.setting l.seed l.certificates l.stored).node inputs is.rings.some is.signs
     (all-started l.setting l.own l.seed l.certificates l.stored is.kit.all is.kit.own is.certified is.signs is.left)
-
-pub holds-life : (l : Life) (inputs : List Input) → IsCorrect l → HoldsItsLife l.setting (node_after l inputs)
-holds-life l inputs is =
-    let u = (all-life l inputs is).upholds in
-    record { filed = u.filed; notes = u.notes; members = u.members; certificates = u.certificates; signed = u.signed }

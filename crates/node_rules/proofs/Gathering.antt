@@ -114,7 +114,7 @@ without-some (a ∷ gone) held k r e = unless (eq_by_cmp key_cmp k (key_of_accus
     unless true o x h = cc
     unless false o x h = h
 
-held-lives : (s : Setting) (e : Event) (c : Call) (k : RecordKey) (r : Record) → (lives s e c).node.held k ≡ Some r → c.node.held k ≡ Some r
+pub held-lives : (s : Setting) (e : Event) (c : Call) (k : RecordKey) (r : Record) → (lives s e c).node.held k ≡ Some r → c.node.held k ≡ Some r
 unfolding lives
 held-lives s e c k r h =
     let rep : Report = (step s.group (state_of s c.node) e).report in
@@ -132,7 +132,7 @@ knows-lives s known base e c h =
       sent = λ d i. fits-more s known c (lives s e c) d.1 g (h.sent d (subst (λ xs. In xs d) (sent-lives s e c) i));
     }
 
-held-takes : (s : Setting) (r : Record) (c : Call) (k : RecordKey) (x : Record) → (takes s r c).node.held k ≡ Some x → (r ≡ x) ⊎ (c.node.held k ≡ Some x)
+pub held-takes : (s : Setting) (r : Record) (c : Call) (k : RecordKey) (x : Record) → (takes s r c).node.held k ≡ Some x → (r ≡ x) ⊎ (c.node.held k ≡ Some x)
 unfolding takes
 held-takes s r c k x h = elim (by_test (eq_by_cmp key_cmp k (key_of r.body)) ((lives s (event_of s r.body) c).node.held k) h) [ inl e ↦ inl e | inr e ↦ inr (held-lives s (event_of s r.body) c k x e) ]
   where

@@ -164,7 +164,7 @@ unfolding certificate_of
 certificate-signs s b c m other =
     ap (option_and_then (λ x. certificate_in x.body)) (held-signs s b c (keys.Certificate m) tt) ∙ certificate-stays (own_record s c.node b) c.node.held b m refl (λ x is who. other x is)
 
-follows-signs : (s : Setting) (earlier : Node) (b : Body) (c : Call) → ((x : CertBody) → b ≡ Certificate x → ⊥) → Follows s earlier c.node → Follows s earlier (signs s b c).node
+pub follows-signs : (s : Setting) (earlier : Node) (b : Body) (c : Call) → ((x : CertBody) → b ≡ Certificate x → ⊥) → Follows s earlier c.node → Follows s earlier (signs s b c).node
 follows-signs s earlier b c other h =
     follows-step s earlier c.node (signs s b c).node (event_of s b) (state-signs s b c) (λ m x is. certificate-signs s b c m other ∙ is) h
 

@@ -18,6 +18,9 @@ pub mod GoingOn
 mod Growth
 mod Upholding
 mod Correctness
+mod Accusers
+mod KeptHeld
+mod KeptNodes
 mod Exchanges
 mod WholePages
 mod OneExchange

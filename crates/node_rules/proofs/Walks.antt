@@ -70,7 +70,7 @@ replied-keeps : (s : Setting) (P : Node → Type 0) (to : ℕ) (flag : Bool) (nu
 replied-keeps s P to true number c h = h
 replied-keeps s P to false number c h = sent-keeps s P (kinds.Summary s.me true (page c.node number)) c to h
 
-exchanged-keeps : (s : Setting) (P : Node → Type 0) (from : ℕ) (flag : Bool) (theirs : Summary) (c : Call) → P c.node → P (exchanges s from flag theirs c).node
+pub exchanged-keeps : (s : Setting) (P : Node → Type 0) (from : ℕ) (flag : Bool) (theirs : Summary) (c : Call) → P c.node → P (exchanges s from flag theirs c).node
 exchanged-keeps s P from flag theirs c h =
     let c1 : Call = tells s (told.Summary from theirs.page flag) c in
     let c2 : Call = gives s from (lacking c.node theirs) c1 in
@@ -78,7 +78,7 @@ exchanged-keeps s P from flag theirs c h =
     (λ yes. replied-keeps s P from flag theirs.page c2 (given-keeps s P from (lacking c.node theirs) c1 h))
     (λ no. h)
 
-pinged-keeps : (s : Setting) (P : Node → Type 0) (from nonce : ℕ) (c : Call) → P c.node → P (pinged s from nonce c).node
+pub pinged-keeps : (s : Setting) (P : Node → Type 0) (from nonce : ℕ) (c : Call) → P c.node → P (pinged s from nonce c).node
 pinged-keeps s P from nonce c h =
     let c1 : Call = tells s (told.Ping from nonce) c in
     cond_both (is_other s c.node from) (sends s (kinds.Pong s.me nonce) c1 from) c1 (λ x. P x.node) (λ yes. sent-keeps s P (kinds.Pong s.me nonce) c1 from h) (λ no. h)
@@ -117,11 +117,11 @@ walk-accuses_all : (s : Setting) (Given : Record → Type 0) (P : Node → Type 
 walk-accuses_all s Given P k [] c h = h
 walk-accuses_all s Given P k (m ∷ silent) c h = walk-accuses_all s Given P k silent (accuses true s c m) (walk-accuses s Given P k c m h)
 
-pings-keep : (s : Setting) (P : Node → Type 0) (sent : List (ℕ × ℕ)) (c : Call) → P c.node → P (pings_all s sent c).node
+pub pings-keep : (s : Setting) (P : Node → Type 0) (sent : List (ℕ × ℕ)) (c : Call) → P c.node → P (pings_all s sent c).node
 pings-keep s P [] c h = h
 pings-keep s P (p ∷ sent) c h = pings-keep s P sent (sends s (kinds.Ping s.me p.1) c p.0) (sent-keeps s P (kinds.Ping s.me p.1) c p.0 h)
 
-summary-keeps : (s : Setting) (P : Node → Type 0) (round : ℕ) (to : Option ℕ) (c : Call) → P c.node → P (summary_to s round to c).node
+pub summary-keeps : (s : Setting) (P : Node → Type 0) (round : ℕ) (to : Option ℕ) (c : Call) → P c.node → P (summary_to s round to c).node
 summary-keeps s P round None c h = h
 summary-keeps s P round (Some to) c h = sent-keeps s P (kinds.Summary s.me false (page c.node (page_number s c.node round))) c to h
 

@@ -1,7 +1,8 @@
 -- One exchange: what a node knows of a page once it was handed all that it lacked of it.
-use Rattle.std.specs.Prelude.{◌≡◌, ℕ, Bool, ◌^◌, ◌<◌, ◌≤◌, true, false, List, [], ◌∷◌, ◌++◌, length, slice_index, Some, filter_map}
+use Rattle.std.specs.Prelude.{◌≡◌, ℕ, Bool, ◌^◌, ◌<◌, ◌≤◌, true, false, List, [], ◌∷◌, ◌++◌, length, slice_index, Some, filter_map, ◌↔◌}
 use Rattle.std.specs.List.{AllByRecursion, slice_get}
 use Rattle.std.specs.Ordering.{is_lt}
+use Rattle.ff_ids.specs.declared.AccBody.{AccBody}
 use Rattle.ff_ids.specs.declared.NoteBody.{NoteBody}
 use Rattle.ff_ids.specs.declared.summary.RecordKey.{RecordKey}
 use Rattle.ff_ids.specs.declared.summary.RecordKey.TheVariants as keys
@@ -9,8 +10,10 @@ use Rattle.ff_ids.specs.declared.summary.Summary.{Summary}
 use Rattle.ff_ids.specs.Notes.{note_cmp, newest}
 use Rattle.ff_ids.specs.Summaries.{page_of_member}
 use Rattle.ff_ids.specs.Views.{is_member}
+use Rattle.ff_ids.specs.Faults.{is_kept}
 use Rattle.lms_tree.specs.declared.key.PublicKey.{PublicKey}
 use Rattle.records.specs.declared.CertBody.{CertBody}
+use Rattle.records.specs.declared.Body.TheVariants.{Accusation}
 use Rattle.records.specs.declared.Record.{Record}
 use Rattle.records.specs.Spelling.{HasLength}
 use Rattle.epoch_store.specs.declared.Stored.{Stored}
@@ -19,7 +22,7 @@ use Rattle.datagram.specs.declared.Datagram.TheVariants as kinds
 use Rattle.datagram.specs.Spelling.{datagram_bytes, IsSignedRecord, IsDatagram}
 use Rattle.gossip.specs.Differ.{differ}
 use Rattle.record_set.specs.Held.{key_of}
-use Rattle.node_rules.specs.Nodes.{Setting, Node, state_of, certificate_of, is_certified, public_key_of}
+use Rattle.node_rules.specs.Nodes.{Setting, Node, state_of, key_of_accusation, certificate_of, is_certified, public_key_of}
 use Rattle.node_rules.specs.Pages.{page, note_held, lacking}
 use Rattle.node_rules.specs.Deliveries.{is_other, delivered}
 use Rattle.node_rules.specs.Lives.{HasRings, IsKit, Input, Delivers, Ticks, life_of}
@@ -74,14 +77,22 @@ pub record IsSignedBy (s : Setting) (n : Node) (m : ℕ) (r : Record) : Type 0 w
   pub author_is : public_key_of n m ≡ Some key
   pub verifies : s.verifies key r ≡ true
 
--- What is held is what the life has come to: each record under its own key, the newest note of each member, and a
--- certificate of exactly those who have joined; and each certificate and note verifies.
+-- The accusation is held.
+pub record HoldsAccusation (n : Node) (a : AccBody) : Type 0 where
+  pub rec : Record
+  pub held : n.held (key_of_accusation a) ≡ Some rec
+  pub says : rec.body ≡ Accusation a
+
+-- What is held is what the life has come to: each record under its own key, the newest note of each member, a
+-- certificate of exactly those who have joined, and just the accusations that are kept; and each of them verifies.
 pub record HoldsItsLife (s : Setting) (n : Node) : Type 0 where
   pub filed : (k : RecordKey) (r : Record) → n.held k ≡ Some r → key_of r.body ≡ k
   pub notes : (m : ℕ) → note_held n.held m ≡ newest (state_of s n).notes m
   pub members : (m : ℕ) → is_certified n m ≡ is_member (state_of s n) m
   pub certificates : (m : ℕ) (r : Record) → n.held (keys.Certificate m) ≡ Some r → s.verifies s.authority r ≡ true
   pub signed : (m : ℕ) (r : Record) → n.held (keys.Note m) ≡ Some r → IsSignedBy s n m r
+  pub kept : (a : AccBody) → HoldsAccusation n a ↔ (is_kept (state_of s n) a ≡ true)
+  pub accused : (k : RecordKey) (r : Record) (a : AccBody) → n.held k ≡ Some r → r.body ≡ Accusation a → IsSignedBy s n a.accuser r
 
 abbrev pub WhatIsHeldIsTheLife : Type 0
 WhatIsHeldIsTheLife = (l : Life) (inputs : List Input) → IsCorrect l → HoldsItsLife l.setting (node_after l inputs)

@@ -165,7 +165,8 @@ pub fn neighbours_are_successors()
 {}
 
 /// A correct node holds what its life has come to: the newest note of each member, each verified under the key in its
-/// member's certificate, and a certificate, verified under the authority's key, of exactly those who have joined.
+/// member's certificate, and a certificate, verified under the authority's key, of exactly those who have joined. It holds
+/// just the accusations that it keeps, each verified under the key in its accuser's certificate.
 pub fn what_is_held_is_the_life()
     ensures { WhatIsHeldIsTheLife }
 {}
