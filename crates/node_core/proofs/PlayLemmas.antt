@@ -59,7 +59,7 @@ use Rattle.ff_ids.specs.Masks.{ring_count}
 use Rattle.ff_ids.proofs.MaskLemmas.{range_with_len-push}
 use Rattle.std.specs.List.{list_any, range_with_len}
 use Rattle.node_rules.proofs.Small.{state_of-lives}
-use Rattle.node_rules.proofs.Vouches.{ended-certificate}
+use Rattle.node_rules.proofs.OwnKey.{ended-certificate}
 use Rattle.node_core.specs.Told.{Tellings, Adds, with_event, with_report, with_sent}
 use Rattle.node_core.specs.Records.{without_all}
 use Rattle.node_core.specs.Playing.{Kept, HoldsRecords, setting_of, IsNode, IsAt, IsBehind, Plays, Stops, Extends, Grows}

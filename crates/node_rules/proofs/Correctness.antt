@@ -37,7 +37,7 @@ use Rattle.node_rules.proofs.Small.{stored-takes, stored-signs}
 use Rattle.node_rules.proofs.OwnNote.{option_or-none, stored-lives, keeping, own-started, becomes_member, answer-fine}
 use Rattle.node_rules.proofs.Masks.{all_rings-good}
 use Rattle.node_rules.proofs.Keeping.{Keeps, keeps-call}
-use Rattle.node_rules.proofs.Vouches.{vouches-started}
+use Rattle.node_rules.proofs.OwnKey.{key-started}
 use Rattle.node_rules.proofs.Growth.{certificate-signs, none-kept, held-takes, Follows, follows-itself, following, note-is_none, accusation-is_none}
 use Rattle.node_rules.proofs.Upholding.{some_is, none_some, certificate-note, Upholds, MayTake, upholds-takes, upholds-ticks}
 
@@ -280,7 +280,7 @@ unfolding started
 all-started s own seed certificates stored all mine good sign left =
     let c : Call = opened s seed certificates stored in
     let o : HasOpened s c.node = kit-opened s own certificates (begun (blank s seed stored)) all good (blank-opened s seed stored) in
-    let v = vouches-started s own seed certificates stored all mine good sign left in
+    let v = key-started s own seed certificates stored all mine good left in
     let x : NoteBody = record { member = s.me; epoch = stored.epoch + 1; mask = record { 0 = first_mask s.group.t stored.mask.0 } } in
     let within : (signs s (Note x) c).node.stored.next ≤ s.indexes = v.within in
     let index : c.node.stored.next < s.indexes = omega (arith, next-signs s (Note x) c, within) in

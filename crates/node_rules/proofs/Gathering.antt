@@ -47,8 +47,8 @@ abbrev pub IsIn : List Record → Setting → Call → Record → Type 0
 IsIn xs s c r = In xs r ⊎ In (signed_in s c) r
 
 -- What the one has signed the other has.
-record Grown (s : Setting) (c d : Call) : Type 0 where
-  signed : (r : Record) → In (signed_in s c) r → In (signed_in s d) r
+pub record Grown (s : Setting) (c d : Call) : Type 0 where
+  pub signed : (r : Record) → In (signed_in s c) r → In (signed_in s d) r
 
 signed-more : (s : Setting) (before news : List journal.Event) (r : Record) → In (filter_map (λ (e : journal.Event). made_by s e.what) before) r → In (filter_map (λ (e : journal.Event). made_by s e.what) (before ++ news)) r
 signed-more s before news r i = subst (λ xs. In xs r) (sym (filter_map-append (λ (e : journal.Event). made_by s e.what) before news)) (In-append_left _ _ r i)
@@ -56,22 +56,22 @@ signed-more s before news r i = subst (λ xs. In xs r) (sym (filter_map-append (
 signed-last : (s : Setting) (before news : List journal.Event) (r : Record) → In (filter_map (λ (e : journal.Event). made_by s e.what) news) r → In (filter_map (λ (e : journal.Event). made_by s e.what) (before ++ news)) r
 signed-last s before news r i = subst (λ xs. In xs r) (sym (filter_map-append (λ (e : journal.Event). made_by s e.what) before news)) (In-append_right _ _ r i)
 
-grown-tells : (s : Setting) (what : whats.What) (c : Call) → Grown s c (tells s what c)
+pub grown-tells : (s : Setting) (what : whats.What) (c : Call) → Grown s c (tells s what c)
 grown-tells s what c = record { signed = λ r i. signed-more s c.told _ r i }
 
-grown-lives : (s : Setting) (e : Event) (c : Call) → Grown s c (lives s e c)
+pub grown-lives : (s : Setting) (e : Event) (c : Call) → Grown s c (lives s e c)
 unfolding lives
 grown-lives s e c = record { signed = λ r i. signed-more s c.told _ r i }
 
-grown-takes : (s : Setting) (r : Record) (c : Call) → Grown s c (takes s r c)
+pub grown-takes : (s : Setting) (r : Record) (c : Call) → Grown s c (takes s r c)
 unfolding takes
 grown-takes s r c = record { signed = (grown-lives s (event_of s r.body) c).signed }
 
-grown-sends : (s : Setting) (d : Datagram) (c : Call) (to : ℕ) → Grown s c (sends s d c to)
+pub grown-sends : (s : Setting) (d : Datagram) (c : Call) (to : ℕ) → Grown s c (sends s d c to)
 unfolding sends
 grown-sends s d c to = record { signed = λ r i. signed-more s c.told _ r i }
 
-in-more : (s : Setting) (c d : Call) (xs : List Record) (r : Record) → Grown s c d → IsIn xs s c r → IsIn xs s d r
+pub in-more : (s : Setting) (c d : Call) (xs : List Record) (r : Record) → Grown s c d → IsIn xs s c r → IsIn xs s d r
 in-more s c d xs r g h = elim h [ inl i ↦ inl i | inr i ↦ inr (g.signed r i) ]
 
 -- ---- a call that holds and sends known records alone
@@ -158,7 +158,7 @@ knows-spends s known base body c h =
     knows-same s known base (tells s what c) (spends s body c) (λ k. refl) refl refl (knows-tells s known base what c h)
 
 -- the own record is among those that the call has signed
-own-signed : (s : Setting) (body : Body) (c : Call) → In (signed_in s (spends s body c)) (own_record s c.node body)
+pub own-signed : (s : Setting) (body : Body) (c : Call) → In (signed_in s (spends s body c)) (own_record s c.node body)
 own-signed s body c = signed-last s c.told (record { moment = (state_of s c.node).moment; what = told.Spent c.node.stored.next body } ∷ []) (own_record s c.node body) (inl refl)
 
 knows-signs : (s : Setting) (known base : List Record) (body : Body) (c : Call) → Knows s known base c → Knows s known base (signs s body c)
@@ -228,10 +228,10 @@ knows-handles : (s : Setting) (known base : List Record) (works : Bool) (c : Cal
 unfolding handles
 knows-handles s known base works c r here h = knows-judged s known base works (refusal s c.node r) r c here h
 
-accepted-here : (s : Setting) (n : Node) (r : Record) (records : List Record) → refusal s n r ≡ None → In (accepted_of s n (r ∷ records)) r
+pub accepted-here : (s : Setting) (n : Node) (r : Record) (records : List Record) → refusal s n r ≡ None → In (accepted_of s n (r ∷ records)) r
 accepted-here s n r records fine = rw fine (inl refl)
 
-accepted-later : (s : Setting) (n : Node) (r x : Record) (records : List Record) → In (accepted_of s (when_handled s n r) records) x → In (accepted_of s n (r ∷ records)) x
+pub accepted-later : (s : Setting) (n : Node) (r x : Record) (records : List Record) → In (accepted_of s (when_handled s n r) records) x → In (accepted_of s n (r ∷ records)) x
 accepted-later s n r x records i = In-append_right (cond (is_some (refusal s n r)) [] (r ∷ [])) (accepted_of s (when_handled s n r) records) x i
 
 knows-handles_all : (s : Setting) (known base : List Record) (records : List Record) (c : Call) → ((r : Record) → In (accepted_of s c.node records) r → In base r) → Knows s known base c → Knows s known base (handles_all s records c)
@@ -358,7 +358,7 @@ knows-call s known n (Delivers bytes) held =
     knows-delivered s known (known ++ accepted) bytes n held (λ r i. In-append_right known accepted r i) (knows-begun s known (known ++ accepted) n held (λ r i. In-append_left known accepted r i))
 knows-call s known n Ticks held = knows-ticked s known (known ++ []) n (knows-begun s known (known ++ []) n held (λ r i. In-append_left known [] r i))
 
-in-both : (xs : List Record) (s : Setting) (c : Call) (r : Record) → IsIn xs s c r → In (xs ++ signed_in s c) r
+pub in-both : (xs : List Record) (s : Setting) (c : Call) (r : Record) → IsIn xs s c r → In (xs ++ signed_in s c) r
 in-both xs s c r h = elim h [ inl i ↦ In-append_left xs (signed_in s c) r i | inr i ↦ In-append_right xs (signed_in s c) r i ]
 
 held-call : (s : Setting) (known base : List Record) (c : Call) → Knows s known base c → HeldIn (base ++ signed_in s c) c.node

@@ -6,7 +6,7 @@ pub mod Keeping
 pub mod Telling
 pub mod OwnNote
 pub mod Masks
-pub mod Vouches
+pub mod OwnKey
 pub mod Accusations
 pub mod Handling
 pub mod Ticks
@@ -18,6 +18,7 @@ pub mod GoingOn
 mod Growth
 mod Upholding
 mod Correctness
+mod Witnesses
 mod Accusers
 mod KeptHeld
 mod KeptNodes

@@ -1,5 +1,5 @@
 -- What vouches for the events of a node's life: records that verify under the keys of their authors.
-use Rattle.std.specs.Prelude.{◌≡◌, ℕ, ◌<◌, ◌≤◌, true, List, Option, Some}
+use Rattle.std.specs.Prelude.{◌≡◌, ℕ, ◌<◌, ◌≤◌, true, List, Option, Some, Contains}
 use Rattle.std.specs.List.{AllByRecursion}
 use Rattle.ff_ids.specs.Steps.{Event, Joins, Notes, Accuses, Ticks}
 use Rattle.lms_tree.specs.declared.key.PublicKey.{PublicKey}
@@ -10,6 +10,7 @@ use Rattle.records.specs.declared.Record.{Record}
 use Rattle.epoch_store.specs.declared.Stored.{Stored}
 use Rattle.node_rules.specs.Nodes.{Setting, Node, public_key_of}
 use Rattle.node_rules.specs.Lives.{HasRings, IsKit, Input, life_of}
+use Rattle.node_rules.specs.Known.{known_in}
 
 -- There is a record with this body, which verifies under the author's key.
 pub record IsVouchedFor (s : Setting) (author : Option PublicKey) (body : Body) : Type 0 where
@@ -19,13 +20,18 @@ pub record IsVouchedFor (s : Setting) (author : Option PublicKey) (body : Body) 
   pub author_is : author ≡ Some key
   pub verifies : s.verifies key witness ≡ true
 
+-- That record is one of these.
+pub record IsVouchedAmong (s : Setting) (known : List Record) (author : Option PublicKey) (body : Body) : Type 0 where
+  pub vouched : IsVouchedFor s author body
+  pub come_by : Contains known vouched.witness
+
 -- A certificate is the authority's, a note its member's, and an accusation its accuser's, by the certificates that
 -- the node holds.
-abbrev pub IsVouched : Setting → Node → Event → Type 0
-IsVouched s n (Joins number places) = (c : CertBody) × ((c.member ≡ number) × IsVouchedFor s (Some s.authority) (Certificate c))
-IsVouched s n (Notes note) = IsVouchedFor s (public_key_of n note.member) (Note note)
-IsVouched s n (Accuses a) = IsVouchedFor s (public_key_of n a.accuser) (Accusation a)
-IsVouched s n Ticks = Unit {0}
+abbrev pub IsVouched : Setting → List Record → Node → Event → Type 0
+IsVouched s known n (Joins number places) = (c : CertBody) × ((c.member ≡ number) × IsVouchedAmong s known (Some s.authority) (Certificate c))
+IsVouched s known n (Notes note) = IsVouchedAmong s known (public_key_of n note.member) (Note note)
+IsVouched s known n (Accuses a) = IsVouchedAmong s known (public_key_of n a.accuser) (Accusation a)
+IsVouched s known n Ticks = Unit {0}
 
 -- The own key, whatever is signed with it, at each index that it has.
 abbrev pub OwnSignaturesVerify : Setting → PublicKey → Type 0
@@ -40,8 +46,8 @@ abbrev pub NoIndexBeyondTheKey : Type 0
 NoIndexBeyondTheKey = (s : Setting) (seed : List ℕ) (certificates : List Record) (stored : Stored) (inputs : List Input)
     → stored.next < s.indexes → (life_of s seed certificates stored inputs).stored.next ≤ s.indexes
 
--- Each event of each life is vouched for, where the life starts with an index left.
+-- Each event of each life is vouched for by a record that the life has come by, where it starts with an index left.
 abbrev pub LivesAreVouchedFor : Type 0
 LivesAreVouchedFor = (s : Setting) (own : PublicKey) (seed : List ℕ) (certificates : List Record) (stored : Stored) (inputs : List Input)
     → HasRings s → IsKit s certificates → AllByRecursion (IsCertifiedBy s own) certificates → OwnSignaturesVerify s own → stored.next < s.indexes
-    → AllByRecursion (IsVouched s (life_of s seed certificates stored inputs)) (life_of s seed certificates stored inputs).lived
+    → AllByRecursion (IsVouched s (known_in s seed certificates stored inputs) (life_of s seed certificates stored inputs)) (life_of s seed certificates stored inputs).lived

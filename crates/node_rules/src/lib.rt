@@ -51,8 +51,8 @@ pub fn no_index_beyond_the_key()
 {}
 
 /// Each record that a life rests on verifies, where the life starts with an index of its key left: for each
-/// certificate, note and accusation among its events, own ones included, there is a record that verifies under its
-/// author's key, by the certificates that the node holds.
+/// certificate, note and accusation among its events, own ones included, there is a record that stands in the kit, or
+/// was accepted or signed in the life, and verifies under its author's key, by the certificates that the node holds.
 pub fn lives_are_vouched_for()
     ensures { LivesAreVouchedFor }
 {}

@@ -25,7 +25,7 @@ use Rattle.node_rules.specs.Calls.{Call, begun, lives, takes, spends, signs, own
 use Rattle.node_rules.specs.Starting.{blank, opened, first_note, started}
 use Rattle.node_rules.specs.Lives.{AreCertificates, is_certificate_for}
 use Rattle.node_rules.proofs.OwnNote.{option_or-none}
-use Rattle.node_rules.proofs.Vouches.{ended-certificate}
+use Rattle.node_rules.proofs.OwnKey.{ended-certificate}
 use Rattle.node_rules.proofs.Accusations.{In-range}
 use Rattle.world_rules.specs.Settings.{Setting, Signed, is_node, nodes, members, record_of, certificate, certified_from, by_authority, certificates}
 use Rattle.world_rules.specs.Laws.{IsSetting}
