@@ -1,6 +1,6 @@
 -- A member's text that is whole sets a member up, of whom a life may begin.
-use Rattle.std.proofs.Common.{◌≡◌, ◌≢◌, ℕ, ◌<◌, ◌≤◌, ◌==◌, ◌||◌, Bool, true, false, cond, eqb, nat_eq, List, [], ◌∷◌, ◌++◌, length, Option, Some, None, Result, Ok, Err, All, refl, sym, ap, subst, ◌∙◌, inl, inr, arith, fold, map, codes, length-take}
-use Rattle.std.specs.Prelude.{slice_set, slice_index_or}
+use Rattle.std.proofs.Common.{◌≡◌, ◌≢◌, ℕ, ◌<◌, ◌≤◌, ◌==◌, ◌||◌, Bool, true, false, cond, nat_eq, List, [], ◌∷◌, ◌++◌, length, Option, Some, None, Result, Ok, All, refl, sym, ap, subst, ◌∙◌, arith, fold, codes, length-take}
+use Rattle.std.specs.Prelude.{slice_set}
 use Rattle.std.specs.List.{AllByRecursion, list_any}
 use Rattle.std.proofs.lemmas.Bool.{false≢true}
 use Rattle.std.proofs.lemmas.List.{get_or-set_same, get_or-set_other, length-set, length-replicate}
@@ -37,8 +37,8 @@ use Rattle.whole_text.specs.Gathered.{lines_from, unread}
 use Rattle.whole_text.proofs.GatherLemmas.{line-is}
 use Rattle.whole_text.proofs.ShapeLemmas.{last-line, next-line}
 use Rattle.node_rules.specs.Lives.{is_certificate_for}
-use Rattle.node_core.specs.Begins.{AreCertificatesOf, HasKey, IsCheckedIn, IsGroup}
-use Rattle.node_core.specs.Rolls.{AreApart, IsApart, IsOfOther, recs_of}
+use Rattle.node_core.specs.Begins.{HasKey, IsCheckedIn, IsGroup}
+use Rattle.node_core.specs.Rolls.{AreApart, IsOfOther, recs_of}
 use Rattle.node_running.specs.declared.kit.Own.{Own}
 use Rattle.node_running.specs.declared.kit.Member.{Member}
 use Rattle.node_running.specs.Members.{IsSound, IsSoundMember, IsWholeSetUp, SetUp, SetsUp, kit_judging, nothing_up, set_by, sets}

@@ -2,3 +2,9 @@ pub mod KitLemmas
 pub mod OpenLemmas
 pub mod LiveLemmas
 pub mod RunLemmas
+pub mod LineLemmas
+pub mod OriginLemmas
+pub mod RemovalLemmas
+pub mod WrittenLemmas
+pub mod RestLemmas
+pub mod SpendLemmas

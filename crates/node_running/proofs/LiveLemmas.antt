@@ -1,12 +1,11 @@
 -- How a life is written and served.
-use Rattle.std.proofs.Common.{◌≡◌, ◌≢◌, ℕ, ◌⊎◌, Bool, true, false, List, [], ◌∷◌, ◌++◌, Option, Some, None, Result, Ok, Err, refl, sym, ap, subst, ◌∙◌, inl, inr, append_assoc, append-nil}
-use Rattle.std.specs.Prelude.{IfErr}
+use Rattle.std.proofs.Common.{◌≡◌, ℕ, List, [], ◌∷◌, ◌++◌, Option, Some, Result, Err, refl, sym, ap, subst, ◌∙◌, inl, inr, append_assoc, append-nil}
 use Rattle.std.specs.Io.KnownBytes.{Appends}
 use Rattle.std.specs.List.{AllByRecursion}
 use Rattle.std.proofs.KnownBytes.{Appends-trans}
 use Rattle.journal.specs.declared.event.Event as journal
 use Rattle.ports.specs.Contents.{TookFront}
-use Rattle.ports.specs.Count.{Rose, counted}
+use Rattle.ports.specs.Count.{Rose}
 use Rattle.ports.specs.Disk.{Moment}
 use Rattle.ports.specs.Link.{LinkState}
 use Rattle.node_rules.specs.Nodes.{Node, Setting}
@@ -20,10 +19,9 @@ use Rattle.node_loop.specs.Writing as loop
 use Rattle.node_loop.specs.Writing.{Before, IsAt, IsWithin, Standing, Stands, Tells, before_all, standing}
 use Rattle.node_loop.proofs.SendLemmas.{tells-writes}
 use Rattle.node_loop.proofs.TurnLemmas.{begins-at}
-use Rattle.node_running.specs.declared.halt.NodeHalt.{NodeHalt}
 use Rattle.node_running.specs.declared.halt.NodeHalt.TheVariants as halt
-use Rattle.node_running.specs.Halts.{IsBehind, halt_served, is_writable, is_write_fault}
-use Rattle.node_running.specs.Journal.{Around, HasStopped, IsLived, IsUnsent, IsUntold, Lives, end_line, lines_of}
+use Rattle.node_running.specs.Halts.{IsBehind, IsServed, halt_served, is_writable, is_write_fault}
+use Rattle.node_running.specs.Journal.{Around, IsLived, IsUnsent, IsUntold, Lives, end_line, lines_of}
 use Rattle.node_running.specs.Opening.{OfDisk}
 
 -- ## What the start tells
@@ -147,6 +145,11 @@ pub bound-so : (e : ServeFault) → halt_served e ≡ halt.LinkFault → ⊥
 bound-so serve.StoreFault is = cc
 bound-so serve.WriteFault is = cc
 bound-so serve.OutOfMemory is = cc
+
+pub served-so : (e : ServeFault) → IsServed (halt_served e)
+served-so serve.StoreFault = tt
+served-so serve.WriteFault = tt
+served-so serve.OutOfMemory = tt
 
 pub behind-so : (e : ServeFault) → IsBehind (halt_served e)
 behind-so serve.StoreFault = tt

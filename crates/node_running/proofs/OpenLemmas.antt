@@ -1,5 +1,5 @@
 -- How a member's store is opened and its life begun.
-use Rattle.std.proofs.Common.{◌≡◌, ◌≢◌, ℕ, ◌<◌, ◌≤◌, ◌⊎◌, true, false, List, [], ◌∷◌, ◌++◌, Result, Ok, Err, refl, sym, ap, subst, ◌∙◌, inl, inr, append-nil, arith}
+use Rattle.std.proofs.Common.{◌≡◌, ℕ, ◌≤◌, true, false, List, [], ◌∷◌, Result, Ok, Err, refl, sym, ap, subst, ◌∙◌, inl, inr, append-nil, arith}
 use Rattle.epoch_store.specs.declared.StoreError.{StoreError}
 use Rattle.epoch_store.specs.declared.StoreError.TheVariants as store
 use Rattle.epoch_store.specs.declared.Stored.{Stored}
@@ -11,8 +11,7 @@ use Rattle.lms_tree.specs.Lms.{public_of}
 use Rattle.lms_tree.specs.declared.key.PublicKey.{PublicKey}
 use Rattle.lms_tree.specs.declared.secret.Secret.{Secret}
 use Rattle.ports.specs.Count.{counted}
-use Rattle.ports.specs.Disk.{Fails, Moment, settled, stays}
-use Rattle.ports.proofs.SinceLemmas.{Fails-same}
+use Rattle.ports.specs.Disk.{Fails, Moment, stays}
 use Rattle.secrets.specs.Secrets.{nonce_seed}
 use Rattle.signer.specs.Lives.{EndsNow, IsLiving, Spent}
 use Rattle.signer.specs.Signing.{SignerState}
@@ -24,12 +23,12 @@ use Rattle.node_core.specs.declared.NodeFault.TheVariants as node
 use Rattle.node_core.specs.Begins.{MayRefuse, is_store_fault}
 use Rattle.node_core.specs.Playing.{Kept, setting_of}
 use Rattle.node_core.specs.Rolls.{recs_of}
-use Rattle.node_core.specs.Spending.{LivesOn, SpendsIn, SpendsUntold, TellsSo, spent_told}
+use Rattle.node_core.specs.Spending.{LivesOn, SpendsIn, SpendsUntold, spent_told}
 use Rattle.node_running.specs.declared.halt.NodeHalt.TheVariants as halt
 use Rattle.node_running.specs.declared.kit.Member.{Member}
 use Rattle.node_running.specs.Halts.{halt_by, halt_for}
 use Rattle.node_running.specs.Members.{tag_of}
-use Rattle.node_running.specs.Opening.{Begins, Ends, Fresh, IsBegun, IsFound, OfDisk, Tells, of_disk, setting_for, start_of}
+use Rattle.node_running.specs.Opening.{Begins, Ends, Fresh, IsFound, OfDisk, Tells, setting_for, start_of}
 
 -- ## The store
 
@@ -65,8 +64,13 @@ opened m tag st old mid tag_is faults settles is moments =
 pub found : (m : Member) (st : StoreState) (old mid : OfDisk) → Opened m st old mid → IsFound m st.state old
 found m st old mid h = (st.gate, held (tag_of m) st.state st.gate old.moments mid.moments h.settles h.settled)
 
+-- nothing is spent as the store is opened
+ends-opened : (m : Member) (st : StoreState) (old mid : OfDisk) → Opened m st old mid → Ends m [] old mid
+ends-opened m st old mid h = λ before spent ends.
+    subst (λ (xs : List Spent). EndsNow (tag_of m) before xs mid.moments) (sym (append-nil spent)) (kept_by_opening (tag_of m) before spent old.moments mid.moments ends h.moments).1
+
 pub used-up : (m : Member) (st : StoreState) (old mid : OfDisk) (told : List journal.Event) (next : ℕ) → Opened m st old mid → next ≡ st.state.next → leaf_count m.own.key.tree ≤ next → Begins m old mid told (Err (halt.Exhausted next))
-used-up m st old mid told next h is gone = record { faults = h.faults; stored = st.state; found = found m st old mid h; next_is = is; gone = gone }
+used-up m st old mid told next h is gone = record { faults = h.faults; stored = st.state; found = found m st old mid h; next_is = is; gone = gone; ends = ends-opened m st old mid h }
 
 -- ## The life
 
@@ -81,11 +85,11 @@ Begun m st mid = (tag before : List ℕ) (spent : List Spent) (moments : List Mo
 living : (m : Member) (st : StoreState) (old mid : OfDisk) → Opened m st old mid → Begun m st mid.moments → (before : List ℕ) (spent : List Spent) → EndsNow (tag_of m) before spent old.moments → IsLiving (tag_of m) before spent (signer_of m st) mid.moments
 living m st old mid h begun before spent ends = begun (tag_of m) before spent mid.moments h.settled (kept_by_opening (tag_of m) before spent old.moments mid.moments ends h.moments).1
 
-fresh-at : (m : Member) (st : StoreState) (old mid : List Moment) → Tells old → SettlesAs same old mid → IsSettled (tag_of m) st.state st.gate mid → Begun m st mid → (image : List ℕ) × IsLiving (tag_of m) image [] (signer_of m st) mid
+fresh-at : (m : Member) (st : StoreState) (old mid : List Moment) → Tells old → SettlesAs same old mid → IsSettled (tag_of m) st.state st.gate mid → Begun m st mid → Fresh m st.state [] (signer_of m st) mid
 fresh-at m st [] mid told settles is begun = absurd told
 fresh-at m st (was ∷ older) [] told settles is begun = absurd settles
 fresh-at m st (was ∷ older) (now ∷ past) told settles is begun =
-    (now.image, begun (tag_of m) now.image [] (now ∷ past) is (nothing_spent (tag_of m) now past is.0))
+    (now.image, (st.gate, is.1), begun (tag_of m) now.image [] (now ∷ past) is (nothing_spent (tag_of m) now past is.0))
 
 pub started-so : (m : Member) (st : StoreState) (kept : Kept) (told : List journal.Event) (old mid new : OfDisk) → Opened m st old mid → Begun m st mid.moments → new.faults ≡ mid.faults
     → Starts (setting_for m) (nonce_seed m.own.secret st.state.next) (recs_of m.certificates.items) st.state kept [] told
@@ -105,7 +109,7 @@ started-so m st kept told old mid new h begun faults starts vouchable going uncl
         unclosed = unclosed;
         lives = λ before spent ends. rw spent_is (spends.key.lives (tag_of m) before spent (living m st old mid h begun before spent ends));
         fresh = λ tells. let f = fresh-at m st old.moments mid.moments tells h.settles h.settled begun in
-            (f.0, rw spent_is (spends.key.lives (tag_of m) f.0 [] f.1));
+            (f.0, f.1, rw spent_is (spends.key.lives (tag_of m) f.0 [] f.2));
       },
     )
 
@@ -127,9 +131,18 @@ not-started m st told old mid new node.OutOfMemory h begun faults cause spends =
   found = found m st old mid h;
   spent = spends.spent;
   ends = ends-so m st old mid new spends.later spends.spent h begun spends.key;
+  signer = spends.later;
+  fresh = λ tells. let f = fresh-at m st old.moments mid.moments tells h.settles h.settled begun in (f.0, f.1, spends.key.lives (tag_of m) f.0 [] f.2);
 })
 not-started m st told old mid new (node.Exhausted next) h begun faults cause spends =
-    record { faults = faults ∙ h.faults; stored = st.state; found = found m st old mid h; next_is = cause.0; gone = omega (arith, cause.1) }
+    record {
+      faults = faults ∙ h.faults;
+      stored = st.state;
+      found = found m st old mid h;
+      next_is = cause.0;
+      gone = omega (arith, cause.1);
+      ends = ends-so m st old mid new spends.later [] h begun (subst (λ (xs : List Spent). LivesOn xs (signer_of m st) spends.later mid.moments new.moments) (sym spends.tells) spends.key);
+    }
 not-started m st told old mid new node.Ended h begun faults cause spends = absurd cause
 
 pub tree-of : (k : Secret) (p : PublicKey) → p ≡ public_of k → p.tree ≡ k.tree

@@ -1,10 +1,10 @@
 -- How a member is run, behind its text.
-use Rattle.std.proofs.Common.{◌≡◌, ◌≢◌, ℕ, ◌≤◌, ◌⊎◌, Bool, true, false, List, [], ◌∷◌, ◌++◌, length, Option, Some, None, Result, Ok, Err, refl, sym, ap, subst, ◌∙◌, inl, inr, append_assoc, map, fold, arith}
+use Rattle.std.proofs.Common.{◌≡◌, ℕ, ◌+◌, ◌<◌, ◌≤◌, true, false, List, [], ◌∷◌, ◌++◌, length, Option, Some, None, Result, Ok, Err, refl, sym, ap, subst, ◌∙◌, inl, inr, append_assoc, map, fold, arith}
 use Rattle.std.specs.Prelude.{IfErr, OnOk}
 use Rattle.std.specs.Io.KnownBytes.{Appends}
 use Rattle.std.specs.List.{AllByRecursion}
 use Rattle.epoch_store.specs.declared.Stored.{Stored}
-use Rattle.epoch_store.specs.Store.{IsSettled}
+use Rattle.epoch_store.specs.Store.{IsSettled, StoreOf}
 use Rattle.ff_ids.specs.Steps.{Report}
 use Rattle.journal.specs.declared.event.Event as journal
 use Rattle.journal.specs.declared.event.What as whats
@@ -21,27 +21,29 @@ use Rattle.schedule_kit.specs.declared.line.KitLine.{KitLine}
 use Rattle.whole_text.specs.Gathered.{IsUnfinished, IsWhole, nothing}
 use Rattle.whole_text.proofs.WholeLemmas.{never-unwritten}
 use Rattle.records.specs.declared.Record.{Record}
-use Rattle.ports.specs.Disk.{Leaves, Moment, settled}
+use Rattle.ports.specs.Disk.{Moment}
 use Rattle.secrets.specs.Secrets.{store_tag}
 use Rattle.sha2.proofs.Facts256.{length-sha256}
-use Rattle.signer.specs.Lives.{EndsNow, IsLiving, IsOnce, Spent}
+use Rattle.signer.specs.Lives.{EndsNow, IsLiving, Spent, indexes, note_epochs}
 use Rattle.signer.specs.Signing.{SignerState}
-use Rattle.signer.proofs.LivesLemmas.{spent_once}
+use Rattle.signer.proofs.LivesLemmas.{living_spend}
+use Rattle.signer.proofs.LivesLemmas.{Spends as SpendsTo}
 use Rattle.node_rules.specs.Nodes.{Setting}
-use Rattle.node_rules.specs.Calls.{Call, begun, lives, signs, takes, tells, told_of, whats_of}
-use Rattle.node_rules.specs.Starting.{blank, first_note, opened, started}
+use Rattle.node_rules.specs.Calls.{Call, begun, lives, signs, takes, whats_of}
+use Rattle.node_rules.specs.Starting.{blank, opened, started}
 use Rattle.node_core.specs.Playing.{Kept}
 use Rattle.node_core.specs.Spending.{spent_told}
 use Rattle.node_loop.specs.Turns.{life_acts}
-use Rattle.node_loop.specs.Courses.{Course, datagram_in, served, served_from}
+use Rattle.node_loop.specs.Courses.{datagram_in, served_from}
 use Rattle.node_running.specs.declared.halt.NodeHalt.{NodeHalt}
 use Rattle.node_running.specs.declared.halt.NodeHalt.TheVariants as halt
 use Rattle.node_running.specs.declared.kit.Member.{Member}
-use Rattle.node_running.specs.Halts.{IsBehind, halt_of, is_writable, is_write_fault}
+use Rattle.node_running.specs.Halts.{IsBehind, IsServed, halt_of, is_writable, is_write_fault}
 use Rattle.node_running.specs.Members.{IsMember, kit_judging, own_port, tag_of}
-use Rattle.node_running.specs.Opening.{Begins, IsBegun, OfDisk, Tells, setting_for, start_of}
+use Rattle.node_running.specs.Opening.{Begins, IsBegun, OfDisk, setting_for, start_of}
+use Rattle.node_running.specs.Spendings.{IsSpentFrom}
 use Rattle.node_running.specs.Journal.{Around, IsLived, IsUnsent, Lives, around, bound_for, end_line, lines_of}
-use Rattle.node_running.specs.Running.{Feed, HasRun, LivesOut, Runs, RunsBehind, RunsOnce, Takes, life_in}
+use Rattle.node_running.specs.Running.{Feed, HasRun, IsCaused, IsStoreCause, LivesOut, Runs, RunsBehind, RunsOnce, Takes, life_in}
 
 -- ## A life begins without a datagram
 
@@ -91,19 +93,28 @@ begun-unsent m node events old new h =
 
 -- ## What came of it
 
-tag-long : (m : Member) → length (tag_of m) ≡ 32
+pub tag-long : (m : Member) → length (tag_of m) ≡ 32
 unfolding store_tag
 tag-long m = length-sha256 _
 
-leaves-itself : (image : List ℕ) → Leaves (settled image) image
-leaves-itself image = record { no_shorter = omega arith; no_longer = omega arith; outside = λ i within whole. refl }
+at-least : (low high : ℕ) (xs : List ℕ) → AllByRecursion (λ x. (low ≤ x) × (x < high)) xs → AllByRecursion (λ x. low ≤ x) xs
+at-least low high [] all = tt
+at-least low high (x ∷ xs) all = (all.0.0, at-least low high xs all.1)
 
--- what lives spend that go on was spent once
-once-in : (m : Member) (image : List ℕ) (spent : List Spent) (s : SignerState) (moments : List Moment) → s.closed ≡ false → IsLiving (tag_of m) image spent s moments → IsOnce spent
-once-in m image spent s [] going living = absurd living.ends
-once-in m image spent s (now ∷ past) going living =
-    let leaves : Leaves now now.image = subst (λ (k : Moment). Leaves k now.image) (sym (living.settled going).0) (leaves-itself now.image) in
-    spent_once (tag_of m) image now.image spent (tag-long m) (living.ends now.image leaves)
+above : (low high : ℕ) (xs : List ℕ) → AllByRecursion (λ x. (low + 1 ≤ x) × (x < high)) xs → AllByRecursion (λ x. low < x) xs
+above low high [] all = tt
+above low high (x ∷ xs) all = (omega (arith, all.0.0), above low high xs all.1)
+
+-- what lives spend that go on from a store
+pub spent-from : (m : Member) (stored : Stored) (image : List ℕ) (spent : List Spent) (s : SignerState) (moments : List Moment) → StoreOf (tag_of m) image stored → IsLiving (tag_of m) image spent s moments → IsSpentFrom stored spent
+spent-from m stored image spent s moments store living =
+    let a = living_spend (tag_of m) image stored living.earlier living.opened living.bodies (tag-long m) store living.are living.found living.may_come in
+    let x = subst (λ (xs : List Spent). SpendsTo stored a.end xs) (sym living.spent_is) a.spends_so in
+    record {
+      once = record { indexes_rise = x.rising; epochs_rise = x.epochs_rising };
+      above = at-least stored.next a.end.next (indexes spent) x.within;
+      later = above stored.epoch (a.end.epoch + 1) (note_epochs spent) x.epochs_within;
+    }
 
 has-run : (m : Member) (feed : Feed) (stored : Stored) (node : Kept) (events : List journal.Event) (was now : Around) (mid : OfDisk) → IsBegun m stored node events was.disk mid
     → IsLived (setting_for m) node events (life_in m stored feed) (record was { disk = mid }) now → HasRun m feed was now
@@ -119,14 +130,14 @@ has-run m feed stored node events was now mid b l =
       gate = l.kept.signer.gate;
       left = λ tells.
           let f = b.fresh tells in
-          let living = l.key.lives (tag_of m) f.0 (spent_told (start_of m stored).told) f.1 in
+          let living = l.key.lives (tag_of m) f.0 (spent_told (start_of m stored).told) f.2 in
           subst (λ (k : Stored). IsSettled (tag_of m) k l.kept.signer.gate now.disk.moments) l.is.stored (living.settled (l.unclosed ∙ b.unclosed));
       ends = λ before spent ends.
           let living = l.key.lives (tag_of m) before (spent ++ spent_told (start_of m stored).told) (b.lives before spent ends) in
           subst (λ (xs : List Spent). EndsNow (tag_of m) before xs now.disk.moments) (append_assoc spent (spent_told (start_of m stored).told) r.spent) living.ends;
       once = λ tells.
           let f = b.fresh tells in
-          once-in m f.0 (spent_told (start_of m stored).told ++ r.spent) l.kept.signer now.disk.moments (l.unclosed ∙ b.unclosed) (l.key.lives (tag_of m) f.0 (spent_told (start_of m stored).told) f.1);
+          spent-from m stored f.0 (spent_told (start_of m stored).told ++ r.spent) l.kept.signer now.disk.moments f.1 (l.key.lives (tag_of m) f.0 (spent_told (start_of m stored).told) f.2);
     }
 
 lived-out : (m : Member) (feed : Feed) (stored : Stored) (node : Kept) (events : List journal.Event) (was now : Around) (mid : OfDisk) (result : Result (Unit {0}) NodeHalt) → IsBegun m stored node events was.disk mid
@@ -285,6 +296,50 @@ begins-behind m old new events (halt.StoreBroken place byte) b = tt
 begins-behind m old new events halt.LinkFault b = absurd b
 begins-behind m old new events (halt.Exhausted next) b = tt
 begins-behind m old new events halt.OutOfMemory b = tt
+
+-- ## The store
+
+-- it was not opened, or the life not begun
+pub begins-cause : (m : Member) (old new : OfDisk) (events : List journal.Event) (h : NodeHalt) → Begins m old new events (Err h) → IsStoreCause m old new (Err h)
+begins-cause m old new events (halt.Refused line w) b = tt
+begins-cause m old new events halt.ReadFault b = tt
+begins-cause m old new events halt.WriteFault b = tt
+begins-cause m old new events halt.StoreFault b = tt
+begins-cause m old new events (halt.StoreBroken place byte) b = b
+begins-cause m old new events halt.LinkFault b = tt
+begins-cause m old new events (halt.Exhausted next) b = b
+begins-cause m old new events halt.OutOfMemory b = tt
+
+-- the life had begun
+pub served-cause : (m : Member) (old new : OfDisk) (result : Result (Unit {0}) NodeHalt) → IfErr result IsServed → IsStoreCause m old new result
+served-cause m old new (Ok x) h = tt
+served-cause m old new (Err (halt.Refused line w)) h = absurd h
+served-cause m old new (Err halt.ReadFault) h = absurd h
+served-cause m old new (Err halt.WriteFault) h = tt
+served-cause m old new (Err halt.StoreFault) h = tt
+served-cause m old new (Err (halt.StoreBroken place byte)) h = absurd h
+served-cause m old new (Err halt.LinkFault) h = tt
+served-cause m old new (Err (halt.Exhausted next)) h = absurd h
+served-cause m old new (Err halt.OutOfMemory) h = tt
+
+-- the text was read
+pub read-cause : (was between : Standing) (m : Member) (old new : OfDisk) (result : Result (Unit {0}) NodeHalt) → IsMember was between m → IsStoreCause m old new result → IsCaused was old new result
+read-cause was between m old new (Ok x) read h = tt
+read-cause was between m old new (Err (halt.Refused line w)) read h = tt
+read-cause was between m old new (Err halt.ReadFault) read h = tt
+read-cause was between m old new (Err halt.WriteFault) read h = tt
+read-cause was between m old new (Err halt.StoreFault) read h = tt
+read-cause was between m old new (Err (halt.StoreBroken place byte)) read h = record { member = m; between = between; read = read; cause = h }
+read-cause was between m old new (Err halt.LinkFault) read h = tt
+read-cause was between m old new (Err (halt.Exhausted next)) read h = record { member = m; between = between; read = read; cause = h }
+read-cause was between m old new (Err halt.OutOfMemory) read h = tt
+
+-- it wasn't
+pub cut-cause : (was : Standing) (old new : OfDisk) (s : Stop BadWord) → IsCaused was old new (Err (halt_of s))
+cut-cause was old new (stop.Refused line w) = tt
+cut-cause was old new stop.ReadFault = tt
+cut-cause was old new stop.WriteFault = tt
+cut-cause was old new stop.OutOfMemory = tt
 
 -- what was taken where the text was cut off
 pub cut-takes : (was now : Standing) (old new : OfDisk) (s : Stop BadWord) → IsUnfinished kit_judging kit.Start was now s → new ≡ old → Takes was now old new (Err (halt_of s))

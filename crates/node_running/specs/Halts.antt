@@ -1,5 +1,5 @@
 -- Why the run of a member stopped, by what stopped in it.
-use Rattle.std.specs.Prelude.{Bool, true, false, Some, Result, Ok, Err}
+use Rattle.std.specs.Prelude.{Bool, true, false, Some, Result, Err}
 use Rattle.epoch_store.specs.declared.StoreError.{StoreError}
 use Rattle.epoch_store.specs.declared.StoreError.TheVariants as store
 use Rattle.line_text.specs.declared.bad_word.BadWord.{BadWord}
@@ -49,6 +49,13 @@ is_writable _ = true
 abbrev pub is_write_fault : Result (Unit {0}) NodeHalt → Bool
 is_write_fault (Err halt.WriteFault) = true
 is_write_fault _ = false
+
+-- what may stop a life that has begun
+abbrev pub IsServed : NodeHalt → Type 0
+IsServed halt.WriteFault = Unit {0}
+IsServed halt.StoreFault = Unit {0}
+IsServed halt.OutOfMemory = Unit {0}
+IsServed other = ⊥
 
 -- what may stop a run behind its text: neither a line nor a read
 abbrev pub IsBehind : NodeHalt → Type 0

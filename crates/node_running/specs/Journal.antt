@@ -1,13 +1,12 @@
 -- The journal of a life, and how the writing and serving of it went, by the answer.
-use Rattle.std.specs.Prelude.{◌≡◌, ℕ, ◌⊎◌, false, Bool, List, [], ◌∷◌, ◌++◌, flat_map, Option, Some, None, Result, Ok, Err, codes}
+use Rattle.std.specs.Prelude.{◌≡◌, ℕ, ◌⊎◌, List, ◌++◌, flat_map, Option, Some, None, Result, Ok, Err, codes}
 use Rattle.std.specs.Io.KnownBytes.{Appends}
-use Rattle.std.specs.List.{AllByRecursion}
 use Rattle.epoch_store.specs.declared.Stored.{Stored}
 use Rattle.journal.specs.declared.event.Event as journal
 use Rattle.ports.specs.Contents.{TookFront}
 use Rattle.ports.specs.Count.{Rose}
 use Rattle.ports.specs.Link.{LinkState}
-use Rattle.node_rules.specs.Nodes.{Node, Setting}
+use Rattle.node_rules.specs.Nodes.{Setting}
 use Rattle.node_core.specs.Playing.{IsNode, Kept}
 use Rattle.node_core.specs.Spending.{LivesOn}
 use Rattle.node_core.specs.Told.{IsFront}

@@ -3,6 +3,7 @@ use Rattle.std.specs.Prelude.{◌≡◌, ℕ, ◌<◌, ◌≤◌, ◌⊎◌, fal
 use Rattle.epoch_store.specs.declared.StoreError.{StoreError}
 use Rattle.epoch_store.specs.declared.Stored.{Stored}
 use Rattle.epoch_store.specs.Calls.{HoldsStore, OpensAs, SettlesAs, same}
+use Rattle.epoch_store.specs.Store.{StoreOf}
 use Rattle.journal.specs.declared.event.Event as journal
 use Rattle.lms_tree.specs.Kinds.{leaf_count}
 use Rattle.lms_tree.specs.Lms.{public_of}
@@ -60,23 +61,24 @@ pub record IsBroken (m : Member) (h : NodeHalt) (old new : OfDisk) : Type 0 wher
   pub settles : SettlesAs same old.moments new.moments
   pub moments : Fails stays old.moments new.moments
 
--- A store of the member's key is there, and the key has no index left: the file stays as it was.
+-- where crashes end the lives of the key so at first, each crash now ends them with these spent beside
+abbrev pub Ends : Member → List Spent → OfDisk → OfDisk → Type 0
+Ends m spent old new = (before : List ℕ) (spent_before : List Spent) → EndsNow (tag_of m) before spent_before old.moments
+    → EndsNow (tag_of m) before (spent_before ++ spent) new.moments
+
+-- A store of the member's key is there, and the key has no index left: nothing is spent.
 pub record IsUsedUp (m : Member) (next : ℕ) (old new : OfDisk) : Type 0 where
   pub faults : new.faults ≡ old.faults
   pub stored : Stored
   pub found : IsFound m stored old
   pub next_is : next ≡ stored.next
   pub gone : leaf_count m.own.key.tree ≤ next
+  pub ends : Ends m [] old new
 
 -- Memory was refused as the store was opened, or before.
 pub record IsUnopened (old new : OfDisk) : Type 0 where
   pub faults : new.faults ≡ old.faults
   pub moments : Fails stays old.moments new.moments
-
--- where crashes end the lives of the key so at first, each crash now ends them with these spent beside
-abbrev pub Ends : Member → List Spent → OfDisk → OfDisk → Type 0
-Ends m spent old new = (before : List ℕ) (spent_before : List Spent) → EndsNow (tag_of m) before spent_before old.moments
-    → EndsNow (tag_of m) before (spent_before ++ spent) new.moments
 
 -- The disk failed in the first signature: nothing is spent.
 pub record StartFails (m : Member) (old new : OfDisk) : Type 0 where
@@ -86,6 +88,15 @@ pub record StartFails (m : Member) (old new : OfDisk) : Type 0 where
   pub left : stored.next < leaf_count m.own.key.tree
   pub ends : Ends m [] old new
 
+-- the disk tells its moments
+abbrev pub Tells : List Moment → Type 0
+Tells [] = ⊥
+Tells (now ∷ past) = Unit {0}
+
+-- lives of the member's key, from a file that is a store with this state on: they have spent just this, and the last goes on
+abbrev pub Fresh : Member → Stored → List Spent → SignerState → List Moment → Type 0
+Fresh m stored spent signer moments = (image : List ℕ) × StoreOf (tag_of m) image stored × IsLiving (tag_of m) image spent signer moments
+
 -- Memory was refused as the life began: one index is spent at the most.
 pub record IsUnstarted (m : Member) (old new : OfDisk) : Type 0 where
   pub faults : new.faults ≡ old.faults
@@ -93,15 +104,8 @@ pub record IsUnstarted (m : Member) (old new : OfDisk) : Type 0 where
   pub found : IsFound m stored old
   pub spent : List Spent
   pub ends : Ends m spent old new
-
--- the disk tells its moments
-abbrev pub Tells : List Moment → Type 0
-Tells [] = ⊥
-Tells (now ∷ past) = Unit {0}
-
--- lives of the member's key that have spent just this, and of which the last goes on
-abbrev pub Fresh : Member → List Spent → SignerState → List Moment → Type 0
-Fresh m spent signer moments = (image : List ℕ) × IsLiving (tag_of m) image spent signer moments
+  pub signer : SignerState
+  pub fresh : Tells old.moments → Fresh m stored spent signer new.moments
 
 -- A store of the member's key with this state was found, and the life has begun that this is the start of: the node stands so,
 -- and the lives of the key go on with what it has spent.
@@ -115,7 +119,7 @@ pub record IsBegun (m : Member) (stored : Stored) (node : Kept) (told : List jou
   pub unclosed : node.signer.closed ≡ false
   pub lives : (before : List ℕ) (spent : List Spent) → EndsNow (tag_of m) before spent old.moments
       → IsLiving (tag_of m) before (spent ++ spent_told (start_of m stored).told) node.signer new.moments
-  pub fresh : Tells old.moments → Fresh m (spent_told (start_of m stored).told) node.signer new.moments
+  pub fresh : Tells old.moments → Fresh m stored (spent_told (start_of m stored).told) node.signer new.moments
 
 abbrev pub Begins : Member → OfDisk → OfDisk → List journal.Event → Result Kept NodeHalt → Type 0
 Begins m old new told (Ok node) = (stored : Stored) × IsBegun m stored node told old new

@@ -1,22 +1,20 @@
 -- What the run of a member took, wrote, did and left, by its answer.
-use Rattle.std.specs.Prelude.{◌≡◌, ℕ, Bool, false, ◌<◌, ◌⊎◌, List, [], ◌++◌, Option, Some, Result, Ok, Err}
+use Rattle.std.specs.Prelude.{◌≡◌, ℕ, Bool, false, ◌⊎◌, List, ◌++◌, Some, Result, Ok, Err}
 use Rattle.std.specs.Io.KnownBytes.{Appends}
 use Rattle.epoch_store.specs.declared.Stored.{Stored}
 use Rattle.epoch_store.specs.Store.{IsSettled}
 use Rattle.line_text.specs.declared.bad_word.BadWord.{BadWord}
-use Rattle.lms_tree.specs.Kinds.{leaf_count}
 use Rattle.lms_tree.specs.Lms.{public_of}
 use Rattle.play.specs.Plays as play
 use Rattle.play.specs.declared.stop.Stop.{Stop}
 use Rattle.play.specs.declared.stop.Stop.TheVariants as stop
-use Rattle.signer.specs.Lives.{IsOnce}
 use Rattle.ports.specs.Count.{counted}
 use Rattle.ports.specs.Link.{LinkState}
 use Rattle.schedule_kit.specs.declared.kit.KitText.TheVariants as kit
 use Rattle.schedule_kit.specs.declared.line.KitLine.{KitLine}
 use Rattle.whole_text.specs.Gathered.{IsUnfinished, IsWhole}
 use Rattle.node_core.specs.Begins.{IsVouchable}
-use Rattle.node_core.specs.Playing.{IsNode, Kept}
+use Rattle.node_core.specs.Playing.{Kept}
 use Rattle.node_core.specs.Rolls.{recs_of}
 use Rattle.node_core.specs.Spending.{spent_told}
 use Rattle.node_loop.specs.Turns.{life_acts}
@@ -25,9 +23,10 @@ use Rattle.node_running.specs.declared.halt.NodeHalt.{NodeHalt}
 use Rattle.node_running.specs.declared.halt.NodeHalt.TheVariants as halt
 use Rattle.node_running.specs.declared.kit.Member.{Member}
 use Rattle.node_running.specs.Halts.{is_write_fault}
-use Rattle.node_running.specs.Members.{IsMember, kit_judging, own_port, tag_of}
+use Rattle.node_running.specs.Members.{IsMember, kit_judging, tag_of}
 use Rattle.node_running.specs.Opening.{Ends, IsBegun, IsBroken, IsFound, IsUnopened, IsUnstarted, IsUsedUp, OfDisk, OpeningFails, StartFails, Tells, setting_for, start_of}
-use Rattle.node_running.specs.Journal.{Around, Lives, around, bound_for, course_of, journal_of}
+use Rattle.node_running.specs.Spendings.{IsSpentFrom}
+use Rattle.node_running.specs.Journal.{Around, Lives, bound_for, course_of, journal_of}
 
 -- The link and the clock as the run begins: what the link holds, the last reading, those to come; and how many turns are run.
 pub record Feed : Type 0 where
@@ -54,8 +53,8 @@ LivesOut m feed was now result =
     (served_from (start_of m stored).node (bound_for m feed.link)) (record was { disk = mid }) now result
 
 -- All was done: the journal was written, the link was given what the life gives it, and the store is settled with what the life
--- keeps, so that each crash leaves such a store; the lives of the key go on with what was spent, whose indexes rise, and the epochs of
--- whose notes.
+-- keeps, so that each crash leaves such a store; the lives of the key go on with what was spent, whose indexes rise from the next one
+-- found on, and the epochs of whose notes rise above the one found.
 pub record HasRun (m : Member) (feed : Feed) (was now : Around) : Type 0 where
   pub stored : Stored
   pub found : IsFound m stored was.disk
@@ -66,7 +65,7 @@ pub record HasRun (m : Member) (feed : Feed) (was now : Around) : Type 0 where
   pub gate : ℕ
   pub left : Tells was.disk.moments → IsSettled (tag_of m) (life_in m stored feed).node.stored gate now.disk.moments
   pub ends : Ends m (spent_told (start_of m stored).told ++ (life_in m stored feed).spent) was.disk now.disk
-  pub once : Tells was.disk.moments → IsOnce (spent_told (start_of m stored).told ++ (life_in m stored feed).spent)
+  pub once : Tells was.disk.moments → IsSpentFrom stored (spent_told (start_of m stored).told ++ (life_in m stored feed).spent)
 
 -- Nothing was written or sent.
 pub record IsUnwritten (was now : Around) : Type 0 where
@@ -126,6 +125,24 @@ Runs feed was now old new (Err halt.OutOfMemory) =
 Runs feed was now old new result = Went was now old new (λ m between after. RunsBehind m feed between after result)
 
 -- ## What holds whatever link and clock tell
+
+-- The store was found broken, or used up, where it is so by its reading.
+abbrev pub IsStoreCause : Member → OfDisk → OfDisk → Result (Unit {0}) NodeHalt → Type 0
+IsStoreCause m old new (Err (halt.StoreBroken place byte)) = IsBroken m (halt.StoreBroken place byte) old new
+IsStoreCause m old new (Err (halt.Exhausted next)) = IsUsedUp m next old new
+IsStoreCause m old new other = Unit {0}
+
+-- The same of the member that the text sets up.
+pub record IsCausedBy (was : play.Standing) (old new : OfDisk) (result : Result (Unit {0}) NodeHalt) : Type 0 where
+  pub member : Member
+  pub between : play.Standing
+  pub read : IsMember was between member
+  pub cause : IsStoreCause member old new result
+
+abbrev pub IsCaused : play.Standing → OfDisk → OfDisk → Result (Unit {0}) NodeHalt → Type 0
+IsCaused was old new (Err (halt.StoreBroken place byte)) = IsCausedBy was old new (Err (halt.StoreBroken place byte))
+IsCaused was old new (Err (halt.Exhausted next)) = IsCausedBy was old new (Err (halt.Exhausted next))
+IsCaused was old new other = Unit {0}
 
 -- The whole text was taken, none of whose lines is refused, and nothing was read behind it. Whether a write failed is said.
 pub record TookWhole (was now : play.Standing) (failed : Bool) : Type 0 where

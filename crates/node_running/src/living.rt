@@ -8,7 +8,7 @@ ghost use Rattle.node_core.specs.Playing.{IsNode};
 ghost use Rattle.node_rules.specs.Nodes.{Setting, Node as RulesNode};
 ghost use Rattle.node_loop.specs.Turns.{life_acts};
 ghost use Rattle.node_loop.specs.Courses.{served_from};
-ghost use Rattle.node_running.specs.Halts.{IsBehind, is_writable, is_write_fault};
+ghost use Rattle.node_running.specs.Halts.{IsBehind, IsServed, is_writable, is_write_fault};
 ghost use Rattle.std.specs.Io.KnownBytes.{Appends};
 ghost use Rattle.journal.specs.declared.event.Event as journal;
 ghost use Rattle.node_running.specs.Journal.{IsUnsent, Lives, around, lines_of};
@@ -47,6 +47,7 @@ fn serve_to_end<D: Disk, L: Link, C: Clock, O: Sink>(
     ensures store_fault { IfErr result (λ h. h ≡ NodeHalt.StoreFault → Rose (D.faults disk.old) (D.faults disk.new)) }
     ensures bound { IfErr result (λ h. h ≢ NodeHalt.LinkFault) }
     ensures behind { IfErr result IsBehind }
+    ensures served { IfErr result IsServed }
     ensures lives { (s : Setting) (n : RulesNode) (link_told : LinkState) (readings : List ℕ) (told : List journal.Event) (was : Option LinkState) (taken : Option (List ℕ))
         → IsNode s node n → L.contents link.old ≡ Some link_told → C.coming clock.old ≡ Some readings → Appends taken (O.taken out.old) (lines_of told)
         → Lives s node told (life_acts pace.millis pace.turns link_told.coming (C.reading clock.old) readings) (served_from n link_told)
@@ -93,6 +94,7 @@ pub fn live<D: Disk, L: Link, C: Clock, O: Sink>(
     ensures store_fault { IfErr result (λ h. h ≡ NodeHalt.StoreFault → Rose (D.faults disk.old) (D.faults disk.new)) }
     ensures bound { IfErr result (λ h. h ≢ NodeHalt.LinkFault) }
     ensures behind { IfErr result IsBehind }
+    ensures served { IfErr result IsServed }
     ensures lives { (s : Setting) (n : RulesNode) (link_told : LinkState) (readings : List ℕ)
         → IsNode s node n → L.contents link.old ≡ Some link_told → C.coming clock.old ≡ Some readings
         → Lives s node events.now (life_acts pace.millis pace.turns link_told.coming (C.reading clock.old) readings) (served_from n link_told)

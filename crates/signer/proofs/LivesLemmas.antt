@@ -7,7 +7,7 @@ use Rattle.epoch_store.specs.declared.Stored.{Stored}
 use Rattle.epoch_store.specs.Store.{StoreOf}
 use Rattle.epoch_store.proofs.FoundLemmas.{one_state}
 use Rattle.signer.specs.Signing.{stored_after, MayComeNext}
-use Rattle.signer.specs.Lives.{Spent, spent_by, state_after, MayCome, IsLeft, PastLife, AreLives, all_spent, epochs_of, indexes, note_epochs, IsRising, OnceOverLives, SpentOnce}
+use Rattle.signer.specs.Lives.{Spent, spent_by, state_after, MayCome, IsLeft, PastLife, AreLives, all_spent, epochs_of, indexes, left_by, note_epochs, IsRising, OnceOverLives, SpentOnce}
 
 -- each number is in this range
 abbrev Between : ℕ → ℕ → List ℕ → Type 0
@@ -139,3 +139,19 @@ once tag before (life ∷ later) size are =
 -- what was spent in all
 pub spent_once : SpentOnce
 spent_once tag before after spent size lived = rw lived.spent_is (once tag before lived.lives size lived.are)
+
+-- so does what a life spends that is not over, behind those that are
+pub living_spend : (tag before : List ℕ) (s : Stored) (earlier : List PastLife) (opened : Stored) (bodies : List Body) → length tag ≡ 32 → StoreOf tag before s → AreLives tag before earlier → StoreOf tag (left_by before earlier) opened → MayCome opened bodies → SpendsAbove s (all_spent earlier ++ spent_by opened bodies)
+living_spend tag before s [] opened bodies size store are found may =
+    let same : opened ≡ s = one_state tag before opened s size found store in
+    record { end = state_after opened bodies; spends_so = subst (λ (z : Stored). Spends z (state_after opened bodies) (spent_by opened bodies)) same (spends opened bodies may) }
+living_spend tag before s (life ∷ later) opened bodies size store are found may =
+    let this = are.0 in
+    let same : this.opened ≡ s = one_state tag before this.opened s size this.found store in
+    let mine = spends this.opened this.bodies this.may_come in
+    let left = left_at tag life.left (state_after this.opened this.bodies) this.left in
+    let rest = living_spend tag life.left left.state later opened bodies size left.store are.1 found may in
+    let spent : Spends this.opened (state_after this.opened this.bodies) life.spent = rw this.spent_is mine in
+    let others : List Spent = all_spent later ++ spent_by opened bodies in
+    let all : Spends this.opened rest.end (life.spent ++ others) = joined this.opened (state_after this.opened this.bodies) left.state rest.end life.spent others spent left.next left.epoch rest.spends_so in
+    record { end = rest.end; spends_so = subst (λ (xs : List Spent). Spends s rest.end xs) (sym (append_assoc life.spent (all_spent later) (spent_by opened bodies))) (subst (λ (z : Stored). Spends z rest.end (life.spent ++ others)) same all) }

@@ -52,13 +52,13 @@ among (p ∷ ps) (f ∷ earlier) line after a b here rest e =
     inr (among ps earlier line after a.1 b.1 here rest s.1)
 
 -- a whole line of a front of whole lines is one of them
-line-among : (ps : List (List ℕ)) (line written rest : List ℕ) → AllByRecursion IsWholeLine ps → concat ps ≡ written ++ rest → IsLineOf line written → In ps line
+pub line-among : (ps : List (List ℕ)) (line written rest : List ℕ) → AllByRecursion IsWholeLine ps → concat ps ≡ written ++ rest → IsLineOf line written → In ps line
 line-among ps line written rest all same l =
     among ps l.earlier line (l.after ++ rest) all l.whole l.here rest
     (same ∙ ap (λ (w : List ℕ). w ++ rest) l.parts ∙ append_assoc (concat l.earlier) (line ++ l.after) rest ∙ ap (λ (x : List ℕ). concat l.earlier ++ x) (append_assoc line l.after rest))
 
 -- one of the whole lines is a whole line of them
-split : (ps : List (List ℕ)) (line : List ℕ) → AllByRecursion IsWholeLine ps → In ps line → IsLineOf line (concat ps)
+pub split : (ps : List (List ℕ)) (line : List ℕ) → AllByRecursion IsWholeLine ps → In ps line → IsLineOf line (concat ps)
 split [] line all i = absurd i
 split (p ∷ ps) line all (inl e) = record { earlier = []; after = concat ps; whole = tt; here = subst IsWholeLine e all.0; parts = ap (λ (l : List ℕ). l ++ concat ps) e }
 split (p ∷ ps) line all (inr i) =
@@ -187,7 +187,7 @@ first-of [] after whole = absurd (no-line [] [] whole refl)
 first-of (b ∷ line) after whole = refl
 
 -- a whole line of whole lines and a tail is one of them, or begins as the tail
-among-tail : (ps earlier : List (List ℕ)) (line after last : List ℕ) → AllByRecursion IsWholeLine ps → AllByRecursion IsWholeLine earlier → IsWholeLine line → IsTail last → concat ps ++ last ≡ concat earlier ++ (line ++ after)
+pub among-tail : (ps earlier : List (List ℕ)) (line after last : List ℕ) → AllByRecursion IsWholeLine ps → AllByRecursion IsWholeLine earlier → IsWholeLine line → IsTail last → concat ps ++ last ≡ concat earlier ++ (line ++ after)
     → In ps line ⊎ (get_or last 0 0 ≡ get_or line 0 0)
 among-tail [] [] line after last a b here tail e = inr (ap (λ (x : List ℕ). get_or x 0 0) e ∙ first-of line after here)
 among-tail [] (f ∷ earlier) line after last a b here tail e =
@@ -220,7 +220,7 @@ clear-front (b ∷ front) (suc count) clear short =
 
 -- ## Each removal of a life is told
 
-in-map : {X Y : Type 0} (f : X → Y) (xs : List X) (x : X) → In xs x → In (map f xs) (f x)
+pub in-map : {X Y : Type 0} (f : X → Y) (xs : List X) (x : X) → In xs x → In (map f xs) (f x)
 in-map f [] x i = absurd i
 in-map f (y ∷ ys) x (inl e) = inl (ap f e)
 in-map f (y ∷ ys) x (inr i) = inr (in-map f ys x i)

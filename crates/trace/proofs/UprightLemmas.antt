@@ -24,9 +24,9 @@ use Rattle.trace.proofs.WalkLemmas.{are-of-lives}
 -- ## Who left the view in a step
 
 -- in the view before the step, and not after it
-record Left (s later : State) (m : ℕ) : Type 0 where
-  before : in_view s m ≡ true
-  after : in_view later m ≡ false
+pub record Left (s later : State) (m : ℕ) : Type 0 where
+  pub before : in_view s m ≡ true
+  pub after : in_view later m ≡ false
 
 left-between : (s later : State) (m : ℕ) → In (only_before s later) m → Left s later m
 left-between s later m h =
@@ -42,7 +42,7 @@ left-joined : (b : Bool) (s later : State) (m : ℕ) → In (cond b (unchanged s
 left-joined true s later m i = absurd i
 left-joined false s later m i = absurd i
 
-left-by : (g : Group) (s : State) (e : Event) (m : ℕ) → In (step g s e).report.removed m → Left s (step g s e).state m
+pub left-by : (g : Group) (s : State) (e : Event) (m : ℕ) → In (step g s e).report.removed m → Left s (step g s e).state m
 left-by g s (Joins number places) m i = left-joined (is_member s number) s (joined s number places) m i
 left-by g s (Notes n) m i = left-unless (note_fault g.t s n) s (after_note s n) m (λ h. left-between s (after_note s n).state m h) i
 left-by g s (Accuses a) m i = left-unless (accusation_fault g.t s a) s (unchanged (after_accusation s a)) m (λ h. absurd h) i

@@ -35,20 +35,20 @@ use Rattle.trace.proofs.TextLemmas.{clear-append, clear-decimal, clear-hex, clea
 -- ## What is written has no line feed inside its lines
 
 -- a text, a space and a number
-clear-then : (a : List ℕ) (n : ℕ) → has_no_feed a ≡ true → has_no_feed ((a ++ codes " ") ++ decimal n) ≡ true
+pub clear-then : (a : List ℕ) (n : ℕ) → has_no_feed a ≡ true → has_no_feed ((a ++ codes " ") ++ decimal n) ≡ true
 clear-then a n h = clear-append (a ++ codes " ") (decimal n) (clear-append a (codes " ") h refl) (clear-decimal n)
 
 clear-monitor : (m : Option ℕ) → has_no_feed (monitor_text m) ≡ true
 clear-monitor (Some m) = clear-decimal m
 clear-monitor None = refl
 
-clear-accusation : (a : AccBody) → has_no_feed (accusation_text a) ≡ true
+pub clear-accusation : (a : AccBody) → has_no_feed (accusation_text a) ≡ true
 clear-accusation a =
     let two = (decimal a.accuser ++ codes " ") ++ decimal a.accused in
     let three = (two ++ codes " ") ++ decimal a.epoch in
     clear-then three a.ring.0 (clear-then two a.epoch (clear-then (decimal a.accuser) a.accused (clear-decimal a.accuser)))
 
-clear-fault : (f : Fault) → has_no_feed (fault_text f) ≡ true
+pub clear-fault : (f : Fault) → has_no_feed (fault_text f) ≡ true
 clear-fault faults.AlreadyMember = refl
 clear-fault faults.UnknownMember = refl
 clear-fault faults.BadMask = refl
@@ -71,7 +71,7 @@ clear-fault (faults.OwnAhead stored seen) =
     let three = (two ++ codes " ") ++ decimal seen.epoch in
     clear-then three seen.mask.0 (clear-then two seen.epoch (clear-then one stored.mask.0 (clear-append (codes "own-ahead ") (decimal stored.epoch) refl (clear-decimal stored.epoch))))
 
-clear-what : (w : What) → has_no_feed (what_text w) ≡ true
+pub clear-what : (w : What) → has_no_feed (what_text w) ≡ true
 clear-what (what.Entered m) = clear-append (codes "entered ") (decimal m) refl (clear-decimal m)
 clear-what (what.Expired a) = clear-append (codes "expired ") (accusation_text a) refl (clear-accusation a)
 clear-what (what.Removed m) = clear-append (codes "removed ") (decimal m) refl (clear-decimal m)

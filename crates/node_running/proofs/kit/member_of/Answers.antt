@@ -1,5 +1,4 @@
-use Rattle.std.proofs.Common.{rules, ◌≡◌, ◌∙◌, length, List, [], ap, fold, sym, subst}
-use Rattle.schedule_kit.specs.declared.line.KitLine.{KitLine}
+use Rattle.std.proofs.Common.{rules, ◌≡◌, ◌∙◌, length, [], ap, fold, sym, subst}
 use Rattle.node_core.proofs.RollLemmas.{zero-empty}
 use Rattle.node_running.specs.Members.{set_by, sets}
 use Rattle.node_running.proofs.KitLemmas.{IsUp, sets-up, up-sound, up-whole}

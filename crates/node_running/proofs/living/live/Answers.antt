@@ -1,10 +1,6 @@
-use Rattle.std.proofs.Common.{◌≡◌, ◌∙◌, ap, sym, subst, Some, Err, refl}
-use Rattle.ports.specs.Count.{Rose, counted}
-use Rattle.node_running.specs.declared.halt.NodeHalt.{NodeHalt}
-use Rattle.node_running.specs.declared.halt.NodeHalt.TheVariants as halt
-use Rattle.node_running.specs.Halts.{is_writable, is_write_fault}
+use Rattle.std.proofs.Common.{refl}
 use Rattle.node_running.specs.Opening.{of_disk}
-use Rattle.node_running.proofs.LiveLemmas.{behind-so, bound-so, fault-so, open-so, rose-so, told-part, told-whole}
+use Rattle.node_running.proofs.LiveLemmas.{behind-so, served-so, told-part, told-whole}
 use Rattle.node_running.proofs.living.live.Goals as goal
 
 pub returns-in-Ok-clause-lives : goal.returns-in-Ok-clause-lives
@@ -21,3 +17,6 @@ returns-in-Err-clause-lives g c = λ s n link_told readings is link_is coming_is
 
 pub returns-in-Err-clause-behind : goal.returns-in-Err-clause-behind
 returns-in-Err-clause-behind g c = rw c.from.ensures (behind-so c.in-Err.fault)
+
+pub returns-in-Err-clause-served : goal.returns-in-Err-clause-served
+returns-in-Err-clause-served g c = rw c.from.ensures (served-so c.in-Err.fault)

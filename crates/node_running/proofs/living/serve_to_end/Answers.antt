@@ -1,13 +1,7 @@
-use Rattle.std.proofs.Common.{◌≡◌, ◌∙◌, ap, sym, subst, Some, Err, refl}
-use Rattle.std.specs.Prelude.{IfErr}
-use Rattle.ports.specs.Count.{Rose, counted}
-use Rattle.node_loop.specs.declared.fault.ServeFault.TheVariants as serve
-use Rattle.node_running.specs.declared.halt.NodeHalt.{NodeHalt}
-use Rattle.node_running.specs.declared.halt.NodeHalt.TheVariants as halt
-use Rattle.node_running.specs.Halts.{halt_served, is_writable, is_write_fault}
+use Rattle.std.proofs.Common.{refl}
 use Rattle.node_running.specs.Journal.{around}
 use Rattle.node_running.specs.Opening.{of_disk}
-use Rattle.node_running.proofs.LiveLemmas.{IsTold, behind-so, bound-so, fault-so, lived-whole, open-so, rose-so, served-part, unended}
+use Rattle.node_running.proofs.LiveLemmas.{behind-so, lived-whole, served-part, served-so, unended}
 use Rattle.node_running.proofs.living.serve_to_end.Goals as goal
 
 pub returns-in-Ok-write_all-clause-lives : goal.returns-in-Ok-write_all-clause-lives
@@ -37,3 +31,6 @@ returns-clause-lives g c = λ s n link_told readings told was taken is link_is c
 
 pub returns-clause-behind : goal.returns-clause-behind
 returns-clause-behind g c = rw c.from.ensures (behind-so c.in-Err.fault)
+
+pub returns-clause-served : goal.returns-clause-served
+returns-clause-served g c = rw c.from.ensures (served-so c.in-Err.fault)

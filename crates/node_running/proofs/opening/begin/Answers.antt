@@ -1,7 +1,5 @@
-use Rattle.std.proofs.Common.{◌≡◌, ◌≤◌, ◌∙◌, List, [], ap, sym, arith, ℕ}
+use Rattle.std.proofs.Common.{◌≡◌, ◌≤◌, ◌∙◌, [], ap, arith}
 use Rattle.lms_tree.specs.Kinds.{leaf_count}
-use Rattle.lms_tree.specs.Lms.{public_of}
-use Rattle.lms_tree.specs.declared.kind.TreeKind.{TreeKind}
 use Rattle.secrets.specs.Secrets.{nonce_seed, store_tag}
 use Rattle.epoch_store.specs.declared.Stored.{Stored}
 use Rattle.node_running.specs.Members.{tag_of}

@@ -1,9 +1,8 @@
-use Rattle.std.proofs.Common.{◌≡◌, ◌∙◌, ap, sym, subst, Some, Err, refl}
-use Rattle.ports.specs.Count.{Rose, counted}
-use Rattle.node_running.specs.Halts.{is_writable, is_write_fault}
+use Rattle.std.proofs.Common.{◌∙◌, ap, sym}
+use Rattle.ports.specs.Count.{counted}
 use Rattle.node_running.specs.Journal.{around, bound_for}
 use Rattle.node_running.specs.Opening.{of_disk, setting_for, start_of}
-use Rattle.node_running.proofs.RunLemmas.{begins-behind, begins-bound, begins-rose, begins-writable, begun-unsent, calm-behind, lived-run, not-begun, rose-behind}
+use Rattle.node_running.proofs.RunLemmas.{begins-behind, begins-bound, begins-cause, begins-rose, begins-writable, begun-unsent, calm-behind, lived-run, not-begun, rose-behind, served-cause}
 use Rattle.node_running.proofs.running.begin_and_live.Goals as goal
 
 pub live-requires-clause-unsent : goal.live-requires-clause-unsent
@@ -43,3 +42,10 @@ returns-clause-runs g c = λ feed link_is coming_is reading_is turns_is.
 
 pub returns-clause-behind : goal.returns-clause-behind
 returns-clause-behind g c = begins-behind c.args.member _ _ c.begin.new.events c.in-Err.halt c.in-Err.ensures.begins
+
+pub returns-in-Ok-clause-cause : goal.returns-in-Ok-clause-cause
+returns-in-Ok-clause-cause g c =
+    served-cause c.args.member (of_disk (g.D.Disk.faults c.args.disk.now) (g.D.Disk.moments c.args.disk.now)) (of_disk (g.D.Disk.faults c.live.new.disk) (g.D.Disk.moments c.live.new.disk)) c.live.result c.live.ensures.served
+
+pub returns-clause-cause : goal.returns-clause-cause
+returns-clause-cause g c = begins-cause c.args.member _ _ c.begin.new.events c.in-Err.halt c.in-Err.ensures.begins

@@ -1,7 +1,4 @@
-use Rattle.std.proofs.Common.{◌≡◌, ◌∙◌, ap, sym, subst, Some, Err, refl, inl}
-use Rattle.ports.specs.Link.{Binds, LinkState}
-use Rattle.ports.specs.declared.Opened as opened
-use Rattle.node_running.specs.Journal.{around, bound_for}
+use Rattle.std.proofs.Common.{inl}
 use Rattle.node_running.specs.Opening.{of_disk}
 use Rattle.node_running.proofs.RunLemmas.{bound, run-behind, unbound, unbound-starved}
 use Rattle.node_running.proofs.running.bind_and_live.Goals as goal

@@ -1,61 +1,25 @@
-use Rattle.std.proofs.Common.{◌≡◌, ◌∙◌, ap, sym, subst, Some, Err, refl, inl, inr}
+use Rattle.std.proofs.Common.{refl}
 use Rattle.play.specs.Plays.{standing}
-use Rattle.ports.specs.Count.{Rose, next_count}
-use Rattle.node_running.specs.declared.halt.NodeHalt.{NodeHalt}
-use Rattle.node_running.specs.declared.halt.NodeHalt.TheVariants as halt
-use Rattle.node_running.specs.Halts.{is_writable}
 use Rattle.node_running.specs.Journal.{around}
 use Rattle.node_running.specs.Opening.{of_disk}
-use Rattle.node_running.proofs.RunLemmas.{cut-takes, same-out, stop-unlinked, stop-unstored, unread, unread-writable, went, whole-takes}
+use Rattle.node_running.proofs.RestLemmas.{run-rests}
+use Rattle.node_running.proofs.SpendLemmas.{run-spends}
 use Rattle.node_running.proofs.running.run_node.Goals as goal
 
-pub member_of-requires : goal.member_of-requires
-member_of-requires g c = record { seen = c.in-Ok.ensures.whole.seen_lines; are = c.in-Ok.ensures.whole.are }
+pub returns-clause-removals : goal.returns-clause-removals
+returns-clause-removals g c = λ feed link_is coming_is reading_is turns_is.
+    run-rests feed
+    (standing (g.S.Source.left c.args.input.now) (g.O.Sink.taken c.args.out.now) (g.S.Source.faults c.args.input.now) (g.O.Sink.faults c.args.out.now))
+    (standing (g.S.Source.left c.read_and_run.new.input) (g.O.Sink.taken c.read_and_run.new.out) (g.S.Source.faults c.read_and_run.new.input) (g.O.Sink.faults c.read_and_run.new.out))
+    (around (g.O.Sink.taken c.args.out.now) (g.L.Link.contents c.args.link.now) (of_disk (g.D.Disk.faults c.args.disk.now) (g.D.Disk.moments c.args.disk.now)))
+    (around (g.O.Sink.taken c.read_and_run.new.out) (g.L.Link.contents c.read_and_run.new.link) (of_disk (g.D.Disk.faults c.read_and_run.new.disk) (g.D.Disk.moments c.read_and_run.new.disk)))
+    c.read_and_run.result refl (c.read_and_run.ensures.runs feed link_is coming_is reading_is turns_is)
 
-pub returns-in-Err-clause-sink : goal.returns-in-Err-clause-sink
-returns-in-Err-clause-sink g c =
-    c.in-Err.ensures.sink ∙ sym (ap (λ (h : NodeHalt). is_writable (Err h)) c.from.ensures ∙ unread-writable _ _ c.in-Err.stop c.in-Err.ensures.unfinished)
-
-pub returns-in-Err-clause-store_fault : goal.returns-in-Err-clause-store_fault
-returns-in-Err-clause-store_fault g c =
-    let older = g.D.Disk.faults c.args.disk.now in
-    subst (λ (h : NodeHalt). h ≡ halt.StoreFault → Rose older older) (sym c.from.ensures) (stop-unstored c.in-Err.stop (Rose older older))
-
-pub returns-in-Err-clause-link_fault : goal.returns-in-Err-clause-link_fault
-returns-in-Err-clause-link_fault g c =
-    let older = g.L.Link.faults c.args.link.now in
-    subst (λ (h : NodeHalt). h ≡ halt.LinkFault → older ≡ next_count older) (sym c.from.ensures) (stop-unlinked c.in-Err.stop (older ≡ next_count older))
-
-pub returns-in-Err-clause-runs : goal.returns-in-Err-clause-runs
-returns-in-Err-clause-runs g c = λ feed link_is coming_is reading_is turns_is.
-    rw c.from.ensures (unread feed _ _ _ _ c.in-Err.stop c.in-Err.ensures.unfinished refl refl)
-
-pub returns-in-Ok-member_of-clause-runs : goal.returns-in-Ok-member_of-clause-runs
-returns-in-Ok-member_of-clause-runs g c = λ feed link_is coming_is reading_is turns_is.
-    let m = c.in-Ok-member_of.member in
-    let between = standing (g.S.Source.left c.read_whole.new.input) (g.O.Sink.taken c.read_whole.new.out) (g.S.Source.faults c.read_whole.new.input) (g.O.Sink.faults c.read_whole.new.out) in
-    went feed _ between _
-    (around (g.O.Sink.taken c.args.out.now) (g.L.Link.contents c.args.link.now) (of_disk (g.D.Disk.faults c.args.disk.now) (g.D.Disk.moments c.args.disk.now))) _ m c.bind_and_live.result
-    (record { lines = c.in-Ok.lines.items; whole = c.in-Ok.ensures.whole; is = c.in-Ok-member_of.ensures.value; sound = c.in-Ok-member_of.ensures.sound }) refl refl
-    (c.bind_and_live.ensures.runs feed link_is coming_is reading_is turns_is)
-
-pub returns-in-Err-member_of-clause-runs : goal.returns-in-Err-member_of-clause-runs
-returns-in-Err-member_of-clause-runs g c = λ feed link_is coming_is reading_is turns_is.
-    inr (inl (record { lines = c.in-Ok.lines.items; whole = c.in-Ok.ensures.whole; link = refl; disk = refl }))
-
-pub returns-in-Err-clause-takes : goal.returns-in-Err-clause-takes
-returns-in-Err-clause-takes g c = rw c.from.ensures (cut-takes _ _ _ _ c.in-Err.stop c.in-Err.ensures.unfinished refl)
-
-pub returns-in-Ok-member_of-clause-takes : goal.returns-in-Ok-member_of-clause-takes
-returns-in-Ok-member_of-clause-takes g c =
-    let between = standing (g.S.Source.left c.read_whole.new.input) (g.O.Sink.taken c.read_whole.new.out) (g.S.Source.faults c.read_whole.new.input) (g.O.Sink.faults c.read_whole.new.out) in
-    let now = standing (g.S.Source.left c.read_whole.new.input) (g.O.Sink.taken c.bind_and_live.new.out) (g.S.Source.faults c.read_whole.new.input) (g.O.Sink.faults c.bind_and_live.new.out) in
-    whole-takes c.in-Ok.lines.items _ between now (of_disk (g.D.Disk.faults c.args.disk.now) (g.D.Disk.moments c.args.disk.now)) (of_disk (g.D.Disk.faults c.bind_and_live.new.disk) (g.D.Disk.moments c.bind_and_live.new.disk)) c.bind_and_live.result
-    c.in-Ok.ensures.whole refl refl c.bind_and_live.ensures.write_fault c.bind_and_live.ensures.behind
-    (same-out c.bind_and_live.result (λ (o : _). standing (g.S.Source.left c.read_whole.new.input) (g.O.Sink.taken o) (g.S.Source.faults c.read_whole.new.input) (g.O.Sink.faults o)) _ _ c.bind_and_live.ensures.unwritten)
-    (same-out c.bind_and_live.result (λ (d : _). of_disk (g.D.Disk.faults d) (g.D.Disk.moments d)) _ _ c.bind_and_live.ensures.undone)
-
-pub returns-in-Err-member_of-clause-takes : goal.returns-in-Err-member_of-clause-takes
-returns-in-Err-member_of-clause-takes g c =
-    let between = standing (g.S.Source.left c.read_whole.new.input) (g.O.Sink.taken c.read_whole.new.out) (g.S.Source.faults c.read_whole.new.input) (g.O.Sink.faults c.read_whole.new.out) in
-    inr (record { lines = c.in-Ok.lines.items; between = between; whole = c.in-Ok.ensures.whole; left = refl; reads = refl; writes = refl })
+pub returns-clause-spends : goal.returns-clause-spends
+returns-clause-spends g c = λ feed link_is coming_is reading_is turns_is.
+    run-spends feed
+    (standing (g.S.Source.left c.args.input.now) (g.O.Sink.taken c.args.out.now) (g.S.Source.faults c.args.input.now) (g.O.Sink.faults c.args.out.now))
+    (standing (g.S.Source.left c.read_and_run.new.input) (g.O.Sink.taken c.read_and_run.new.out) (g.S.Source.faults c.read_and_run.new.input) (g.O.Sink.faults c.read_and_run.new.out))
+    (around (g.O.Sink.taken c.args.out.now) (g.L.Link.contents c.args.link.now) (of_disk (g.D.Disk.faults c.args.disk.now) (g.D.Disk.moments c.args.disk.now)))
+    (around (g.O.Sink.taken c.read_and_run.new.out) (g.L.Link.contents c.read_and_run.new.link) (of_disk (g.D.Disk.faults c.read_and_run.new.disk) (g.D.Disk.moments c.read_and_run.new.disk)))
+    c.read_and_run.result (c.read_and_run.ensures.runs feed link_is coming_is reading_is turns_is)

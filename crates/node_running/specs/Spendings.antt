@@ -1,0 +1,35 @@
+-- What the run of a member has spent of its key.
+use Rattle.std.specs.Prelude.{ℕ, ◌≤◌, ◌<◌, ◌⊎◌, List}
+use Rattle.std.specs.List.{AllByRecursion}
+use Rattle.epoch_store.specs.declared.Stored.{Stored}
+use Rattle.play.specs.Plays.{Standing}
+use Rattle.signer.specs.Lives.{EndsNow, IsOnce, Spent, indexes, note_epochs}
+use Rattle.node_running.specs.declared.kit.Member.{Member}
+use Rattle.node_running.specs.Members.{IsMember}
+use Rattle.node_running.specs.Opening.{Ends, IsFound, OfDisk, Tells}
+
+-- The indexes rise, and so do the epochs of the notes; none of them is below the next index that was found, and no epoch is one
+-- that was stored before.
+pub record IsSpentFrom (found : Stored) (spent : List Spent) : Type 0 where
+  pub once : IsOnce spent
+  pub above : AllByRecursion (λ i. found.next ≤ i) (indexes spent)
+  pub later : AllByRecursion (λ e. found.epoch < e) (note_epochs spent)
+
+-- A member was read from the text, and a store of its key was found. Just this was spent from it on: wherever crashes ended lives
+-- of the key so at first, each crash now ends them with this spent beside.
+pub record HasSpent (was : Standing) (old new : OfDisk) : Type 0 where
+  pub member : Member
+  pub between : Standing
+  pub read : IsMember was between member
+  pub stored : Stored
+  pub found : IsFound member stored old
+  pub spent : List Spent
+  pub from : Tells old.moments → IsSpentFrom stored spent
+  pub ends : Ends member spent old new
+
+-- Nothing of any key was spent.
+abbrev pub SpendsNothing : OfDisk → OfDisk → Type 0
+SpendsNothing old new = (tag before : List ℕ) (spent : List Spent) → EndsNow tag before spent old.moments → EndsNow tag before spent new.moments
+
+abbrev pub Spends : Standing → OfDisk → OfDisk → Type 0
+Spends was old new = SpendsNothing old new ⊎ HasSpent was old new
