@@ -4,3 +4,5 @@ pub mod Idle
 pub mod Opening
 pub mod Puts
 pub mod Making
+pub mod Reading
+pub mod Calling

@@ -1,19 +1,18 @@
 -- The calls that make a store on a new disk.
-use Rattle.std.proofs.Common.{◌≡◌, inl, inr, ℕ, ◌+◌, ◌-◌, ◌*◌, ◌^◌, ◌<◌, ◌≤◌, Bool, true, false, List, [], ◌∷◌, ◌++◌, length, drop, Option, None, Some, refl, sym, ap, ◌∙◌, subst, arith, length-append, append-nil}
+use Rattle.std.proofs.Common.{◌≡◌, inl, inr, ℕ, ◌+◌, ◌^◌, ◌<◌, false, List, [], ◌∷◌, ◌++◌, length, drop, None, Some, refl, sym, ap, ◌∙◌, subst, arith, length-append, append-nil}
 use Rattle.std.proofs.lemmas.List.{drop_all}
 use Rattle.ff_ids.specs.declared.Mask.{Mask}
 use Rattle.ports.specs.Disk.{Moment, settled, written, wrote}
 use Rattle.ports.specs.declared.memory_disk.Arm.{Arm}
-use Rattle.ports.specs.DiskCalls.{DiskCall, ToOpen, ToMeasure, ToWrite, ToSync}
+use Rattle.ports.specs.DiskCalls.{ToOpen, ToMeasure, ToWrite, ToSync}
 use Rattle.ports.specs.DiskSteps.{Came, makes, runs}
-use Rattle.ports.specs.MemoryDisk.{DiskState, fits, is_settled, moment_of, with_write}
-use Rattle.epoch_store.specs.Asked.{make_calls}
+use Rattle.ports.specs.MemoryDisk.{DiskState, is_settled, moment_of, with_write}
 use Rattle.epoch_store.specs.Store.{IsChain, first_entry, front, made}
 use Rattle.epoch_store.proofs.FileLemmas.{written_within}
 use Rattle.world_rules.specs.Disks.{made_disk}
 use Rattle.world_disks.specs.Held.{HoldsDisk}
 use Rattle.world_disks.specs.Laws.{IsNew, MakesAsTold}
-use Rattle.world_disks.proofs.Turns.{Up, minus, pass_on, passes_next, up_next}
+use Rattle.world_disks.proofs.Turns.{Up, pass_on, passes_next, up_next}
 use Rattle.world_disks.proofs.Idle.{idle_runs, times_called}
 use Rattle.world_disks.proofs.Puts.{fits_is, length-front, not_one, sync_passes, with_synced, write_passes}
 

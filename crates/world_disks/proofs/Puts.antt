@@ -1,5 +1,5 @@
 -- The calls that put an entry.
-use Rattle.std.proofs.Common.{◌≡◌, ◌≢◌, ◌⊎◌, inl, inr, ℕ, zero, suc, ◌+◌, ◌-◌, ◌*◌, ◌<◌, ◌≤◌, Bool, true, false, ◌&&◌, not, cond, eqb, leb, ltb, List, [], ◌∷◌, ◌++◌, length, take, drop, Option, None, Some, refl, sym, ap, ◌∙◌, subst, arith, append_assoc, length-append}
+use Rattle.std.proofs.Common.{◌≡◌, ◌≢◌, ◌⊎◌, inl, inr, ℕ, ◌+◌, ◌*◌, ◌<◌, ◌≤◌, Bool, true, false, cond, eqb, List, [], ◌∷◌, ◌++◌, length, take, drop, Option, None, Some, refl, sym, ap, ◌∙◌, subst, arith, append_assoc, length-append}
 use Rattle.std.specs.Prelude.{◌%◌, nat_le, codes}
 use Rattle.std.proofs.lemmas.Bool.{cases_lt, cases_Bool, le-leb, lt-ltb, eqb-true, eq-eqb}
 use Rattle.std.proofs.lemmas.Bool.Decides.{nat_tests}
@@ -20,7 +20,7 @@ use Rattle.world_disks.specs.Held.{ComesAs, HoldsDisk, armed_as, crashed}
 use Rattle.world_disks.specs.Laws.{PutsAsTold}
 use Rattle.world_disks.proofs.Turns.{Up, Lets, Passing, Stopping, minus, minus_none, none_behind, pass_on, passes_next, stop_on, stops_next, up_next}
 use Rattle.world_disks.proofs.Garbling.{garbled_front, garbled_one}
-use Rattle.world_disks.proofs.Opening.{CameUp, FitsKey, LeftStore, comes_pass, comes_stop, fits_key, held_fresh, lets-test, minus-armed, up_of}
+use Rattle.world_disks.proofs.Opening.{CameUp, FitsKey, comes_pass, comes_stop, fits_key, held_fresh, lets-test, minus-armed, up_of}
 
 -- ---- one call
 
@@ -67,7 +67,7 @@ pub record Shape (tag : List ℕ) (e : Disk) (kept : Stored) (shut : ℕ) (image
   pub rest : List ℕ
   pub full : written (gate_of e + 1) (spelled kept ++ 0 ∷ []) image ≡ front tag (e.state ∷ e.older) ++ shut ∷ (spelled kept ++ 0 ∷ rest)
 
-place_of : (tag : List ℕ) (e : Disk) → length tag ≡ 32 → gate_of e ≡ length (front tag (e.state ∷ e.older))
+pub place_of : (tag : List ℕ) (e : Disk) → length tag ≡ 32 → gate_of e ≡ length (front tag (e.state ∷ e.older))
 place_of tag e long = omega (arith, long, length-front tag (e.state ∷ e.older))
 
 shape_of : (tag : List ℕ) (n : ℕ) (d : DiskState) (e : Disk) (kept : Stored) (h : HoldsDisk tag n d e) → Shape tag e kept h.shut (front tag (e.state ∷ e.older) ++ h.shut ∷ h.rest)

@@ -2,7 +2,7 @@
 //! and theorems alone. Each law is the contract of a function that does nothing.
 #![tactic(auto)]
 
-ghost use Rattle.world_disks.specs.Laws.{ArmsAsTold, CrashesAsTold, MakesAsTold, OpensAsTold, PutsAsTold};
+ghost use Rattle.world_disks.specs.Laws.{ArmsAsTold, CallsAsTold, CrashesAsTold, MakesAsTold, OpensAsTold, PutsAsTold, ReadsAsTold, StartsAsTold};
 
 /// The calls that make a store on a new disk pass, and leave it.
 pub fn stores_are_made_as_told()
@@ -12,6 +12,11 @@ pub fn stores_are_made_as_told()
 /// The calls that open a store pass or meet the armed stop as the rules say, and leave the store.
 pub fn stores_open_as_told()
     ensures { OpensAsTold }
+{}
+
+/// A store that is opened on such a disk is the one that the disk has; or the armed stop came.
+pub fn stores_are_read_as_told()
+    ensures { ReadsAsTold }
 {}
 
 /// The calls that put an entry pass or meet the armed stop as the rules say; and then the store has the entry or not, as
@@ -28,4 +33,15 @@ pub fn crashes_leave_the_store()
 /// A stop that is armed takes the place of one that was.
 pub fn stops_are_armed_as_told()
     ensures { ArmsAsTold }
+{}
+
+/// A call of a node comes as far over a disk in memory as over the disk of the rules, tells and sends the same, and leaves
+/// disks that stand for one another.
+pub fn calls_come_as_told()
+    ensures { CallsAsTold }
+{}
+
+/// What a life's first note leaves is put, or the armed stop comes, as the rules say.
+pub fn lives_begin_as_told()
+    ensures { StartsAsTold }
 {}

@@ -19,14 +19,14 @@ use Rattle.node_rules.specs.Deliveries.{handles, hears}
 use Rattle.node_rules.specs.Ticking.{accuses, gossips, is_due, passed, pings_all, pings_in, probed_at, round_of, silent_in}
 use Rattle.node_rules.specs.Lives.{Input, Delivers, Ticks}
 use Rattle.node_rules.specs.OnDisks.{Storage, OnDisk, takes_step, goes_on, steps_on, handles_on, hears_on, delivered_on, accuses_on, due_on, ticked_on, called_on}
-use Rattle.world_rules.proofs.CallSteps.{StepIs, SpendsNothing, SpendsOne, MayFollow, plain, signing, nothing-hears, nothing-gossips, nothing-probed_at, one-behind, one-signs_and_sends, step-handles, step-accuses}
+use Rattle.world_rules.proofs.CallSteps.{StepIs, SpendsNothing, SpendsOne, MaySign, plain, signing, nothing-hears, nothing-gossips, nothing-probed_at, one-behind, one-signs_and_sends, step-handles, step-accuses}
 
--- Two kinds of disk that take the same: where they stand alike for what the store keeps, they take the next entry or
--- fail in it alike, and stand alike behind it.
-pub record AreAlike {D E : Type 0} (a : Storage D) (b : Storage E) (Stand : Stored → D → E → Type 0) (Fell : D → E → Type 0) : Type 0 where
-  pub takes : (kept : Stored) (body : Body) (d : D) (e : E) → Stand kept d e → MayFollow kept body → a.takes (stored_after kept body) d ≡ b.takes (stored_after kept body) e
-  pub stand : (kept : Stored) (body : Body) (d : D) (e : E) → Stand kept d e → MayFollow kept body → a.takes (stored_after kept body) d ≡ true → Stand (stored_after kept body) (a.behind (stored_after kept body) d) (b.behind (stored_after kept body) e)
-  pub fell : (kept : Stored) (body : Body) (d : D) (e : E) → Stand kept d e → MayFollow kept body → a.takes (stored_after kept body) d ≡ false → Fell (a.behind (stored_after kept body) d) (b.behind (stored_after kept body) e)
+-- Two kinds of disk that take the same of a node: where they stand alike for what the store keeps, they take the next entry
+-- or fail in it alike, and stand alike behind it.
+pub record AreAlike {D E : Type 0} (s : Setting) (a : Storage D) (b : Storage E) (Stand : Stored → D → E → Type 0) (Fell : D → E → Type 0) : Type 0 where
+  pub takes : (kept : Stored) (body : Body) (d : D) (e : E) → Stand kept d e → MaySign s kept body → a.takes (stored_after kept body) d ≡ b.takes (stored_after kept body) e
+  pub stand : (kept : Stored) (body : Body) (d : D) (e : E) → Stand kept d e → MaySign s kept body → a.takes (stored_after kept body) d ≡ true → Stand (stored_after kept body) (a.behind (stored_after kept body) d) (b.behind (stored_after kept body) e)
+  pub fell : (kept : Stored) (body : Body) (d : D) (e : E) → Stand kept d e → MaySign s kept body → a.takes (stored_after kept body) d ≡ false → Fell (a.behind (stored_after kept body) d) (b.behind (stored_after kept body) e)
 
 -- The call is the same over both disks.
 pub record IsSame {D E : Type 0} (Stand : Stored → D → E → Type 0) (Fell : D → E → Type 0) (x : OnDisk D) (y : OnDisk E) : Type 0 where
@@ -57,7 +57,7 @@ same-plain s Stand Fell c next d e h going st =
       fell = λ over. absurd (false≢true (sym (h.ended ∙ going) ∙ over));
     }
 
-step-same : {D E : Type 0} (s : Setting) (a : Storage D) (b : Storage E) (Stand : Stored → D → E → Type 0) (Fell : D → E → Type 0) (f : Bool → Call) (c : Call) (d : D) (e : E) → AreAlike a b Stand Fell → StepIs s c f → c.ended ≡ false → Stand c.node.stored d e
+step-same : {D E : Type 0} (s : Setting) (a : Storage D) (b : Storage E) (Stand : Stored → D → E → Type 0) (Fell : D → E → Type 0) (f : Bool → Call) (c : Call) (d : D) (e : E) → AreAlike s a b Stand Fell → StepIs s c f → c.ended ≡ false → Stand c.node.stored d e
     → IsSame Stand Fell (takes_step a f (record { call = c; disk = d })) (takes_step b f (record { call = c; disk = e }))
 step-same s a b Stand Fell f c d e alike (plain h) going st =
     let test : eqb (f true).node.stored.next c.node.stored.next ≡ true = eq-eqb _ _ (ap (λ (k : Stored). k.next) h.stored) in
@@ -66,7 +66,7 @@ step-same s a b Stand Fell f c d e alike (signing m body to h may made stopped) 
     let one : SpendsOne s c (signs_and_sends s body to m) body = one-behind s c m (signs_and_sends s body to m) body h (one-signs_and_sends s body to m) in
     let kept : Stored = stored_after c.node.stored body in
     let is : (f true).node.stored ≡ kept = ap (λ (z : Call). z.node.stored) made ∙ one.stored in
-    let may2 : MayFollow c.node.stored body = subst (λ z. MayFollow z body) h.stored may in
+    let may2 : MaySign s c.node.stored body = subst (λ z. MaySign s z body) h.stored may in
     let apart : eqb kept.next c.node.stored.next ≡ false = next-apart c.node.stored.next kept.next (next_index c.node.stored body) in
     let alike_now : a.takes kept d ≡ b.takes kept e = alike.takes c.node.stored body d e st may2 in
     let on : (f true).ended ≡ false = ap (λ (z : Call). z.ended) made ∙ one.ended ∙ going in
@@ -89,7 +89,7 @@ over-same step o over = rw over refl
 going-same : {D : Type 0} (step : OnDisk D → OnDisk D) (o : OnDisk D) → o.call.ended ≡ false → goes_on step o ≡ step o
 going-same step o going = rw going refl
 
-steps-same : {D E X : Type 0} (s : Setting) (a : Storage D) (b : Storage E) (Stand : Stored → D → E → Type 0) (Fell : D → E → Type 0) (f : Bool → Call → X → Call) (c : Call) (d : D) (e : E) (z : X) → AreAlike a b Stand Fell → StepIs s c (λ works. f works c z)
+steps-same : {D E X : Type 0} (s : Setting) (a : Storage D) (b : Storage E) (Stand : Stored → D → E → Type 0) (Fell : D → E → Type 0) (f : Bool → Call → X → Call) (c : Call) (d : D) (e : E) (z : X) → AreAlike s a b Stand Fell → StepIs s c (λ works. f works c z)
     → IsSame Stand Fell (record { call = c; disk = d }) (record { call = c; disk = e }) → IsSame Stand Fell (steps_on a f (record { call = c; disk = d }) z) (steps_on b f (record { call = c; disk = e }) z)
 steps-same s a b Stand Fell f c d e z alike step same =
     elim (cases_Bool c.ended) [
@@ -102,26 +102,26 @@ steps-same s a b Stand Fell f c d e z alike step same =
 these-same : {D E : Type 0} (Stand : Stored → D → E → Type 0) (Fell : D → E → Type 0) (x : OnDisk D) (y : OnDisk E) → IsSame Stand Fell x y → IsSame Stand Fell (record { call = x.call; disk = x.disk }) (record { call = x.call; disk = y.disk })
 these-same Stand Fell x y h = record { call = refl; stand = h.stand; fell = h.fell }
 
-handles-same : {D E : Type 0} (s : Setting) (a : Storage D) (b : Storage E) (Stand : Stored → D → E → Type 0) (Fell : D → E → Type 0) (x : OnDisk D) (y : OnDisk E) (r : Record) → AreAlike a b Stand Fell → IsSame Stand Fell x y
+handles-same : {D E : Type 0} (s : Setting) (a : Storage D) (b : Storage E) (Stand : Stored → D → E → Type 0) (Fell : D → E → Type 0) (x : OnDisk D) (y : OnDisk E) (r : Record) → AreAlike s a b Stand Fell → IsSame Stand Fell x y
     → IsSame Stand Fell (handles_on a s x r) (handles_on b s y r)
 unfolding handles_on
 handles-same s a b Stand Fell x y r alike h =
     subst (λ (c : Call). IsSame Stand Fell (steps_on a (λ works c z. handles works s c z) x r) (steps_on b (λ works c z. handles works s c z) (record { call = c; disk = y.disk }) r)) h.call
     (steps-same s a b Stand Fell (λ works c z. handles works s c z) x.call x.disk y.disk r alike (step-handles s x.call r) (these-same Stand Fell x y h))
 
-all-same : {D E : Type 0} (s : Setting) (a : Storage D) (b : Storage E) (Stand : Stored → D → E → Type 0) (Fell : D → E → Type 0) (records : List Record) (x : OnDisk D) (y : OnDisk E) → AreAlike a b Stand Fell → IsSame Stand Fell x y
+all-same : {D E : Type 0} (s : Setting) (a : Storage D) (b : Storage E) (Stand : Stored → D → E → Type 0) (Fell : D → E → Type 0) (records : List Record) (x : OnDisk D) (y : OnDisk E) → AreAlike s a b Stand Fell → IsSame Stand Fell x y
     → IsSame Stand Fell (fold (handles_on a s) x records) (fold (handles_on b s) y records)
 all-same s a b Stand Fell [] x y alike h = h
 all-same s a b Stand Fell (r ∷ records) x y alike h = all-same s a b Stand Fell records (handles_on a s x r) (handles_on b s y r) alike (handles-same s a b Stand Fell x y r alike h)
 
-accuses-same : {D E : Type 0} (s : Setting) (a : Storage D) (b : Storage E) (Stand : Stored → D → E → Type 0) (Fell : D → E → Type 0) (x : OnDisk D) (y : OnDisk E) (m : ℕ) → AreAlike a b Stand Fell → IsSame Stand Fell x y
+accuses-same : {D E : Type 0} (s : Setting) (a : Storage D) (b : Storage E) (Stand : Stored → D → E → Type 0) (Fell : D → E → Type 0) (x : OnDisk D) (y : OnDisk E) (m : ℕ) → AreAlike s a b Stand Fell → IsSame Stand Fell x y
     → IsSame Stand Fell (accuses_on a s x m) (accuses_on b s y m)
 unfolding accuses_on
 accuses-same s a b Stand Fell x y m alike h =
     subst (λ (c : Call). IsSame Stand Fell (steps_on a (λ works c z. accuses works s c z) x m) (steps_on b (λ works c z. accuses works s c z) (record { call = c; disk = y.disk }) m)) h.call
     (steps-same s a b Stand Fell (λ works c z. accuses works s c z) x.call x.disk y.disk m alike (step-accuses s x.call m) (these-same Stand Fell x y h))
 
-all-accused-same : {D E : Type 0} (s : Setting) (a : Storage D) (b : Storage E) (Stand : Stored → D → E → Type 0) (Fell : D → E → Type 0) (silent : List ℕ) (x : OnDisk D) (y : OnDisk E) → AreAlike a b Stand Fell → IsSame Stand Fell x y
+all-accused-same : {D E : Type 0} (s : Setting) (a : Storage D) (b : Storage E) (Stand : Stored → D → E → Type 0) (Fell : D → E → Type 0) (silent : List ℕ) (x : OnDisk D) (y : OnDisk E) → AreAlike s a b Stand Fell → IsSame Stand Fell x y
     → IsSame Stand Fell (fold (accuses_on a s) x silent) (fold (accuses_on b s) y silent)
 all-accused-same s a b Stand Fell [] x y alike h = h
 all-accused-same s a b Stand Fell (m ∷ silent) x y alike h = all-accused-same s a b Stand Fell silent (accuses_on a s x m) (accuses_on b s y m) alike (accuses-same s a b Stand Fell x y m alike h)
@@ -131,7 +131,7 @@ all-accused-same s a b Stand Fell (m ∷ silent) x y alike h = all-accused-same 
 begun-same : {D E : Type 0} (Stand : Stored → D → E → Type 0) (Fell : D → E → Type 0) (c : Call) (d : D) (e : E) → c.ended ≡ false → Stand c.node.stored d e → IsSame Stand Fell (record { call = c; disk = d }) (record { call = c; disk = e })
 begun-same Stand Fell c d e going st = record { call = refl; stand = λ on. st; fell = λ over. absurd (false≢true (sym going ∙ over)) }
 
-heard-same : {D E : Type 0} (s : Setting) (a : Storage D) (b : Storage E) (Stand : Stored → D → E → Type 0) (Fell : D → E → Type 0) (heard : Result Datagram ℕ) (c : Call) (d : D) (e : E) → AreAlike a b Stand Fell → c.ended ≡ false → Stand c.node.stored d e
+heard-same : {D E : Type 0} (s : Setting) (a : Storage D) (b : Storage E) (Stand : Stored → D → E → Type 0) (Fell : D → E → Type 0) (heard : Result Datagram ℕ) (c : Call) (d : D) (e : E) → AreAlike s a b Stand Fell → c.ended ≡ false → Stand c.node.stored d e
     → IsSame Stand Fell (hears_on a s heard (record { call = c; disk = d })) (hears_on b s heard (record { call = c; disk = e }))
 heard-same s a b Stand Fell (Err place) c d e alike going st = same-plain s Stand Fell c (hears s (Err place) c) d e (nothing-hears s (Err place) c tt) going st
 heard-same s a b Stand Fell (Ok (kinds.Ping from nonce)) c d e alike going st = same-plain s Stand Fell c (hears s (Ok (kinds.Ping from nonce)) c) d e (nothing-hears s (Ok (kinds.Ping from nonce)) c tt) going st
@@ -140,7 +140,7 @@ heard-same s a b Stand Fell (Ok (kinds.Summary from flag theirs)) c d e alike go
 heard-same s a b Stand Fell (Ok (kinds.Records from records)) c d e alike going st =
     all-same s a b Stand Fell records (record { call = c; disk = d }) (record { call = c; disk = e }) alike (begun-same Stand Fell c d e going st)
 
-pub delivered-same : {D E : Type 0} (s : Setting) (a : Storage D) (b : Storage E) (Stand : Stored → D → E → Type 0) (Fell : D → E → Type 0) (n : Node) (bytes : List ℕ) (d : D) (e : E) → AreAlike a b Stand Fell → Stand n.stored d e
+pub delivered-same : {D E : Type 0} (s : Setting) (a : Storage D) (b : Storage E) (Stand : Stored → D → E → Type 0) (Fell : D → E → Type 0) (n : Node) (bytes : List ℕ) (d : D) (e : E) → AreAlike s a b Stand Fell → Stand n.stored d e
     → IsSame Stand Fell (delivered_on a s n bytes d) (delivered_on b s n bytes e)
 unfolding delivered_on
 delivered-same s a b Stand Fell n bytes d e alike st = heard-same s a b Stand Fell (read_of bytes) (begun n) d e alike refl st
@@ -156,7 +156,7 @@ behind-same {D = D} {E = E} s Stand Fell pings round c d e h =
       | inr going ↦ rw (going-same first (record { call = c; disk = d }) going, going-same second (record { call = c; disk = e }) going) (same-plain s Stand Fell c next d e (nothing-gossips s round pings c) going (h.stand going))
     ]
 
-due-same : {D E : Type 0} (s : Setting) (a : Storage D) (b : Storage E) (Stand : Stored → D → E → Type 0) (Fell : D → E → Type 0) (silent : List ℕ) (pings : List (ℕ × ℕ)) (round : ℕ) (c : Call) (d : D) (e : E) → AreAlike a b Stand Fell → c.ended ≡ false → Stand c.node.stored d e
+due-same : {D E : Type 0} (s : Setting) (a : Storage D) (b : Storage E) (Stand : Stored → D → E → Type 0) (Fell : D → E → Type 0) (silent : List ℕ) (pings : List (ℕ × ℕ)) (round : ℕ) (c : Call) (d : D) (e : E) → AreAlike s a b Stand Fell → c.ended ≡ false → Stand c.node.stored d e
     → IsSame Stand Fell (due_on a s silent pings round (record { call = c; disk = d })) (due_on b s silent pings round (record { call = c; disk = e }))
 unfolding due_on
 due-same s a b Stand Fell silent pings round c d e alike going st =
@@ -170,7 +170,7 @@ one-same : {D E : Type 0} (Stand : Stored → D → E → Type 0) (Fell : D → 
 one-same Stand Fell true x1 x2 y1 y2 h k = h refl
 one-same Stand Fell false x1 x2 y1 y2 h k = k refl
 
-pub ticked-same : {D E : Type 0} (s : Setting) (a : Storage D) (b : Storage E) (Stand : Stored → D → E → Type 0) (Fell : D → E → Type 0) (n : Node) (d : D) (e : E) → AreAlike a b Stand Fell → Stand n.stored d e
+pub ticked-same : {D E : Type 0} (s : Setting) (a : Storage D) (b : Storage E) (Stand : Stored → D → E → Type 0) (Fell : D → E → Type 0) (n : Node) (d : D) (e : E) → AreAlike s a b Stand Fell → Stand n.stored d e
     → IsSame Stand Fell (ticked_on a s n d) (ticked_on b s n e)
 unfolding ticked_on
 ticked-same {D = D} {E = E} s a b Stand Fell n d e alike st =
@@ -188,7 +188,7 @@ ticked-same {D = D} {E = E} s a b Stand Fell n d e alike st =
     (λ idle. begun-same Stand Fell (probed_at s n) d e none.ended st2)
 
 -- A call is the same over two kinds of disk that take the same.
-pub called-same : {D E : Type 0} (s : Setting) (a : Storage D) (b : Storage E) (Stand : Stored → D → E → Type 0) (Fell : D → E → Type 0) (n : Node) (i : Input) (d : D) (e : E) → AreAlike a b Stand Fell → Stand n.stored d e
+pub called-same : {D E : Type 0} (s : Setting) (a : Storage D) (b : Storage E) (Stand : Stored → D → E → Type 0) (Fell : D → E → Type 0) (n : Node) (i : Input) (d : D) (e : E) → AreAlike s a b Stand Fell → Stand n.stored d e
     → IsSame Stand Fell (called_on a s n i d) (called_on b s n i e)
 called-same s a b Stand Fell n (Delivers bytes) d e alike st = delivered-same s a b Stand Fell n bytes d e alike st
 called-same s a b Stand Fell n Ticks d e alike st = ticked-same s a b Stand Fell n d e alike st

@@ -1,11 +1,13 @@
 -- The small steps of a call: what each spends.
-use Rattle.std.proofs.Common.{◌≡◌, ◌⊎◌, ℕ, ◌+◌, Bool, true, false, eqb, cond, List, [], ◌∷◌, ◌++◌, Option, Some, None, inl, inr, refl, ap, sym, ◌∙◌, subst, map}
+use Rattle.std.proofs.Common.{◌≡◌, ◌⊎◌, ℕ, ◌+◌, ◌^◌, ◌<◌, Bool, true, false, eqb, cond, List, [], ◌∷◌, ◌++◌, Option, Some, None, inl, inr, refl, ap, sym, ◌∙◌, subst, map}
 use Rattle.std.specs.Prelude.{Result, Ok, Err}
 use Rattle.std.specs.List.{cons_option}
 use Rattle.std.proofs.lemmas.Bool.{cases_Bool, cond_both}
 use Rattle.std.proofs.lemmas.List.Elements.{filter_map-append}
+use Rattle.ff_ids.specs.declared.AccBody.{AccBody}
 use Rattle.ff_ids.specs.declared.Fault.{Fault}
 use Rattle.ff_ids.specs.declared.summary.Summary.{Summary}
+use Rattle.ff_ids.specs.Masks.{ring_count}
 use Rattle.ff_ids.specs.Views.{State}
 use Rattle.ff_ids.specs.Steps.{Event, Report, Ticks as Passes, step}
 use Rattle.records.specs.declared.Body.{Body}
@@ -22,6 +24,8 @@ use Rattle.journal.specs.declared.event.What as whats
 use Rattle.journal.specs.declared.event.What.TheVariants as told
 use Rattle.node_rules.specs.Nodes.{Setting, Node, state_of, event_of, neighbours, neighbours_and}
 use Rattle.node_rules.specs.Pages.{page, partner, page_number, lacking}
+use Rattle.record_set.proofs.BitLemmas.{bits-below}
+use Rattle.node_rules.specs.Replies.{answering_mask, is_enabled_by_answer}
 use Rattle.node_rules.specs.Refusals.{refusal}
 use Rattle.node_rules.specs.Calls.{Call, begun, tells, told_of, lives, takes, spends, signs, signs_and_sends, wants, stops, sends, sends_to_all, is_used_up, own_record}
 use Rattle.node_rules.specs.Deliveries.{answer_to, answers, judged, handles, is_other, gives, replies, exchanges, pinged, ponged_by, hears}
@@ -154,18 +158,30 @@ MayFollow kept (Certificate c) = Unit {0}
 MayFollow kept (Note n) = n.epoch ≡ kept.epoch + 1
 MayFollow kept (Accusation a) = Unit {0}
 
+-- A note enables no ring beyond those of a group of this tolerance.
+abbrev pub IsOnRings : ℕ → Body → Type 0
+IsOnRings t (Certificate c) = Unit {0}
+IsOnRings t (Note n) = n.mask.0 < 2 ^ ring_count t
+IsOnRings t (Accusation a) = Unit {0}
+
+-- What a node may sign next: it may follow what the store keeps, which has an index left.
+pub record MaySign (s : Setting) (kept : Stored) (body : Body) : Type 0 where
+  pub follows : MayFollow kept body
+  pub left : eqb kept.next s.indexes ≡ false
+  pub rings : IsOnRings s.group.t body
+
 -- A step spends nothing where the disk works, or it wants one signature: that is made where the disk works, and else the
 -- life is over.
 pub data StepIs (s : Setting) (c : Call) (f : Bool → Call) : Type 0 where
   plain : SpendsNothing s c (f true) → StepIs s c f
-  signing : (d : Call) (body : Body) (to : State → List ℕ) → SpendsNothing s c d → MayFollow d.node.stored body → f true ≡ signs_and_sends s body to d → f false ≡ stops s d → StepIs s c f
+  signing : (d : Call) (body : Body) (to : State → List ℕ) → SpendsNothing s c d → MaySign s d.node.stored body → f true ≡ signs_and_sends s body to d → f false ≡ stops s d → StepIs s c f
 
-step-wants : (s : Setting) (c d : Call) (body : Body) (to : State → List ℕ) → SpendsNothing s c d → MayFollow d.node.stored body → StepIs s c (λ works. wants works s body to d)
+step-wants : (s : Setting) (c d : Call) (body : Body) (to : State → List ℕ) → SpendsNothing s c d → MayFollow d.node.stored body → IsOnRings s.group.t body → StepIs s c (λ works. wants works s body to d)
 unfolding wants
-step-wants s c d body to h may =
+step-wants s c d body to h may rings =
     elim (cases_Bool (is_used_up s d.node)) [
       | inl up ↦ plain (subst (SpendsNothing s c) (sym (used _ _ _ up)) (nothing-then s c d _ h (nothing-tells s (told.Exhausted d.node.stored.next) d refl)))
-      | inr left ↦ signing d body to h may (unused _ _ _ left) (unused _ _ _ left)
+      | inr left ↦ signing d body to h (record { follows = may; left = left; rings = rings }) (unused _ _ _ left) (unused _ _ _ left)
     ]
   where
     used : (b : Bool) (x y : Call) → b ≡ true → cond b x y ≡ x
@@ -180,10 +196,14 @@ step-chosen : (s : Setting) (c d : Call) (b : Bool) (f : Bool → Call) → Spen
 step-chosen s c d true f h k = k
 step-chosen s c d false f h k = plain h
 
+answer-rings : (s : Setting) (kept : Stored) (a : AccBody) → IsOnRings s.group.t (answer_to s kept a)
+unfolding answering_mask
+answer-rings s kept a = bits-below (is_enabled_by_answer s.group.t kept.mask.0 a.ring.0) (ring_count s.group.t)
+
 step-answers : (s : Setting) (c d : Call) (body : Body) → SpendsNothing s c d → StepIs s c (λ works. answers works s body d)
 step-answers s c d (Certificate x) h = plain h
 step-answers s c d (Note x) h = plain h
-step-answers s c d (Accusation a) h = step-chosen s c d (eqb a.accused s.me) (λ works. wants works s (answer_to s d.node.stored a) (neighbours s) d) h (step-wants s c d (answer_to s d.node.stored a) (neighbours s) h refl)
+step-answers s c d (Accusation a) h = step-chosen s c d (eqb a.accused s.me) (λ works. wants works s (answer_to s d.node.stored a) (neighbours s) d) h (step-wants s c d (answer_to s d.node.stored a) (neighbours s) h refl (answer-rings s d.node.stored a))
 
 step-judged : (s : Setting) (c : Call) (fault : Option Fault) (r : Record) → StepIs s c (λ works. judged works s fault r c)
 step-judged s c (Some fault) r = plain (nothing-tells s (told.Took r.body (Some fault)) c refl)
@@ -197,7 +217,7 @@ step-handles s c r = step-judged s c (refusal s c.node r) r
 
 step-wants_accusation : (s : Setting) (c d : Call) (m : ℕ) (ring : Option ℕ) → SpendsNothing s c d → StepIs s c (λ works. wants_accusation works s m ring d)
 step-wants_accusation s c d m None h = plain h
-step-wants_accusation s c d m (Some ring) h = step-wants s c d (accusation_on s (state_of s d.node) m ring) (neighbours_and s m) h tt
+step-wants_accusation s c d m (Some ring) h = step-wants s c d (accusation_on s (state_of s d.node) m ring) (neighbours_and s m) h tt tt
 
 step-unless : (s : Setting) (c : Call) (b : Bool) (f : Bool → Call) → StepIs s c f → StepIs s c (λ works. cond b c (f works))
 step-unless s c true f k = plain (nothing-same s c)

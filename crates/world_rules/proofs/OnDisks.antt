@@ -134,7 +134,7 @@ sound-step s P f d x k going (signing c body to h may made stopped) sound =
     let after : (f true d.call x).node.stored ≡ stored_after d.call.node.stored body = ap (λ (z : Call). z.node.stored) made ∙ one.stored ∙ ap (λ z. stored_after z body) h.stored in
     let kept-is : (f true d.call x).node.stored ≡ stored_after d.disk.state body = after ∙ ap (λ z. stored_after z body) (sound.same going) in
     let at : steps_on f d x ≡ puts (λ works. f works d.call x) d = other d.call.ended d _ going ∙ takes-signing (λ works. f works d.call x) d body after in
-    let may2 : MayFollow d.disk.state body = subst (λ z. MayFollow z body) same may in
+    let may2 : MayFollow d.disk.state body = subst (λ z. MayFollow z body) same may.follows in
     let before : P d.disk.state (signed_in s.me c.told) = subst (P d.disk.state) (sym h.signed) sound.holds in
     let kept : Stored = (f true d.call x).node.stored in
     elim (cases_Bool (put_passes d.disk)) [
