@@ -330,12 +330,12 @@ image-opens tag image o (store.Taken len) long there reads fault memory = unread
 image-opens tag image o (store.Broken place byte) long there reads fault memory = unread-opened tag image o (store.Broken place byte) long there reads
 image-opens tag image o (store.OtherKey place byte) long there reads fault memory = unread-opened tag image o (store.OtherKey place byte) long there reads
 
-opens : (tag : List ℕ) (moments : List Moment) (o : Stored) (e : StoreError) → length tag ≡ 32 → OnImage moments (λ image. StoreOf tag image o) → OpensAs tag moments (failed e) → e ≢ store.Fault → e ≢ store.OutOfMemory → ⊥
+pub opens : (tag : List ℕ) (moments : List Moment) (o : Stored) (e : StoreError) → length tag ≡ 32 → OnImage moments (λ image. StoreOf tag image o) → OpensAs tag moments (failed e) → e ≢ store.Fault → e ≢ store.OutOfMemory → ⊥
 opens tag [] o e long there reads fault memory = there
 opens tag (m ∷ past) o e long there reads fault memory = image-opens tag m.image o e long there reads fault memory
 
 -- the state of a store that is there is what is found
-found-is : (tag : List ℕ) (moments : List Moment) (a o : Stored) (gate : ℕ) → length tag ≡ 32 → HoldsStore tag a gate moments → OnImage moments (λ image. StoreOf tag image o) → a ≡ o
+pub found-is : (tag : List ℕ) (moments : List Moment) (a o : Stored) (gate : ℕ) → length tag ≡ 32 → HoldsStore tag a gate moments → OnImage moments (λ image. StoreOf tag image o) → a ≡ o
 found-is tag [] a o gate long holds there = absurd there
 found-is tag (m ∷ past) a o gate long holds there = one_state tag m.image a o long (gate, holds) there
 

@@ -76,13 +76,13 @@ clear-word bad.OwnKey = refl
 clear-word bad.End = refl
 
 -- a line that begins otherwise than an event
-record IsOther (line : List ℕ) : Type 0 where
-  front : List ℕ
-  clear : has_no_feed front ≡ true
-  ended : line ≡ front ++ 10 ∷ []
-  begins : get_or line 0 0 ≡ 97 → ⊥
+pub record IsOther (line : List ℕ) : Type 0 where
+  pub front : List ℕ
+  pub clear : has_no_feed front ≡ true
+  pub ended : line ≡ front ++ 10 ∷ []
+  pub begins : get_or line 0 0 ≡ 97 → ⊥
 
-bad-line : (number : ℕ) (w : BadWord) → IsOther (cause_line (status.BadInput number w))
+pub bad-line : (number : ℕ) (w : BadWord) → IsOther (cause_line (status.BadInput number w))
 bad-line number w = record {
   front = codes "bad " ++ decimal number ++ 32 ∷ [] ++ bad_word_text w;
   clear = clear-append ((codes "bad " ++ decimal number) ++ 32 ∷ []) (bad_word_text w) (clear-append (codes "bad " ++ decimal number) (32 ∷ []) (clear-append (codes "bad ") (decimal number) refl (clear-decimal number)) refl) (clear-word w);
@@ -90,10 +90,10 @@ bad-line number w = record {
   begins = λ e. absurd (omega (arith, e));
 }
 
-fault-line : IsOther (cause_line status.ReadFault)
+pub fault-line : IsOther (cause_line status.ReadFault)
 fault-line = record { front = codes "read fault"; clear = refl; ended = refl; begins = λ e. absurd (omega (arith, e)) }
 
-begins-front : (text : List ℕ) (count : ℕ) → (get_or text 0 0 ≡ 97 → ⊥) → get_or (take count text) 0 0 ≡ 97 → ⊥
+pub begins-front : (text : List ℕ) (count : ℕ) → (get_or text 0 0 ≡ 97 → ⊥) → get_or (take count text) 0 0 ≡ 97 → ⊥
 begins-front text zero other e = absurd (omega (arith, e))
 begins-front [] (suc count) other e = absurd (omega (arith, e))
 begins-front (b ∷ text) (suc count) other e = other e

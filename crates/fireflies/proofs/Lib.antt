@@ -8,3 +8,5 @@ pub mod BehindLemmas
 pub mod StoreLemmas
 pub mod EnrollLemmas
 pub mod NodeLemmas
+pub mod JournalLemmas
+pub mod OpenedLemmas

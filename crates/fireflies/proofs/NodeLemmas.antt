@@ -17,12 +17,12 @@ use Rattle.node_running.specs.declared.halt.NodeHalt.{NodeHalt}
 use Rattle.node_running.specs.declared.halt.NodeHalt.TheVariants as halt
 use Rattle.node_running.specs.Members.{kit_judging}
 use Rattle.node_running.specs.Opening as opening
-use Rattle.node_running.specs.Running.{Takes, TookAlone, TookWhole}
+use Rattle.node_running.specs.Running.{IsCaused, Takes, TookAlone, TookWhole}
 use Rattle.fireflies.specs.Causes.{Says, cause_line, status_of_node}
-use Rattle.fireflies.specs.Ends.{Counts, NodeCounts, NodeEnds, RunsFed, Stands, Tells, Wires, as_run}
+use Rattle.fireflies.specs.Ends.{Counts, NodeCounts, NodeEnds, RestsFed, RunsFed, SpendsFed, Stands, Tells, Wires, as_run}
 use Rattle.fireflies.specs.Serving.{IsBehindText, IsNodeDone, IsUntouched, NodeTraced, NodeTraced.CutOff, NodeTraced.Whole, NodeUpheld, OnUnrefused, TakenWhole}
 use Rattle.fireflies.specs.Traced.{Traced}
-use Rattle.fireflies.specs.TracedAs.{NodeCompletes, NoneFailed}
+use Rattle.fireflies.specs.TracedAs.{NodeEndsWell, NoneFailed}
 use Rattle.fireflies.proofs.BehindLemmas.{cut-by, done-by, or-cut}
 use Rattle.fireflies.proofs.CompleteLemmas.{rose}
 use Rattle.fireflies.proofs.EndLemmas.{counts-by}
@@ -37,11 +37,11 @@ Answer = Result (Unit {0}) NodeHalt
 abbrev told_by : (List KitLine → List ℕ) → Owed BadWord
 told_by tell = owed_whole kit_judging kit.Start tell
 
-pub node-ends : (turns : ℕ) (was mid now : Standing) (old new : OfDisk) (before after : Wires) (r : Answer) (first s : Status) → Takes was mid (as_run old) (as_run new) r → OnOk r (new.faults ≡ old.faults)
+pub node-ends : (turns : ℕ) (was mid now : Standing) (old new : OfDisk) (before after : Wires) (r : Answer) (first s : Status) → Takes was mid (as_run old) (as_run new) r → IsCaused was (as_run old) (as_run new) r → OnOk r (new.faults ≡ old.faults)
     → IfErr r (λ h. h ≡ halt.StoreFault → Rose old.faults new.faults) → IfErr r (λ h. h ≡ halt.LinkFault → after.faults ≡ next_count before.faults) → RunsFed turns was mid old new before after r
-    → first ≡ status_of_node r → Tells first mid now s → NodeEnds turns was now old new before after s
-node-ends turns was mid now old new before after r first s takes calm store link runs is tells =
-    record { result = r; between = mid; takes = takes; calm = calm; store_fault = store; link_fault = link; runs = runs; tells = subst (λ f. Tells f mid now s) is tells }
+    → RestsFed turns was mid old before r → SpendsFed turns was old new before → first ≡ status_of_node r → Tells first mid now s → NodeEnds turns was now old new before after s
+node-ends turns was mid now old new before after r first s takes cause calm store link runs rests spends is tells =
+    record { result = r; between = mid; takes = takes; cause = cause; calm = calm; store_fault = store; link_fault = link; runs = runs; removals = rests; spends = spends; tells = subst (λ f. Tells f mid now s) is tells }
 
 -- ## What was taken
 
@@ -199,7 +199,7 @@ node-upheld was mid now old new (Err halt.OutOfMemory) s h t = or-cut t.failed s
 abbrev cause_in : Trace BadWord → Option BadWord
 cause_in t = t.cause
 
-node-whole : (was mid now : Standing) (old new : OfDisk) (r : Answer) (s : Status) (all : List ℕ) → was.left ≡ Some all → Takes was mid (as_run old) (as_run new) r → IfErr r (λ h. h ≡ halt.StoreFault → Rose old.faults new.faults) → Counts was now s
+pub node-whole : (was mid now : Standing) (old new : OfDisk) (r : Answer) (s : Status) (all : List ℕ) → was.left ≡ Some all → Takes was mid (as_run old) (as_run new) r → IfErr r (λ h. h ≡ halt.StoreFault → Rose old.faults new.faults) → Counts was now s
     → (told_by nothing (seen all)).cause ≡ None → NoneFailed was now old new → s ≡ status_of_node r → IsNodeDone (status_of_node r)
 node-whole was mid now old new (Ok _) s all left h store counts none fine is = tt
 node-whole was mid now old new (Err (halt.Refused line w)) s all left h store counts none fine is =
@@ -232,8 +232,8 @@ node-told None was mid now old new r s left h store t counts = tt
 node-told (Some all) was mid now old new r s left h store t counts = λ none fine.
     node-answered was now t.failed (status_of_node r) t.line s t.says counts fine.writes (node-whole was mid now old new r s all left h store counts none fine)
 
-pub node-completes : (was mid now : Standing) (old new : OfDisk) (r : Answer) (s : Status) → Takes was mid (as_run old) (as_run new) r → IfErr r (λ h. h ≡ halt.StoreFault → Rose old.faults new.faults) → Tells (status_of_node r) mid now s → Counts was now s → NodeCompletes was now old new s
-node-completes was mid now old new r s h store t counts = node-told was.left was mid now old new r s refl h store t counts
+pub node-unrefused : (was mid now : Standing) (old new : OfDisk) (r : Answer) (s : Status) → Takes was mid (as_run old) (as_run new) r → IfErr r (λ h. h ≡ halt.StoreFault → Rose old.faults new.faults) → Tells (status_of_node r) mid now s → Counts was now s → NodeEndsWell was now old new s
+node-unrefused was mid now old new r s h store t counts = node-told was.left was mid now old new r s refl h store t counts
 
 -- ## The command
 

@@ -18,7 +18,9 @@ use Rattle.fireflies.proofs.CompleteLemmas.{completes}
 use Rattle.fireflies.proofs.EndLemmas.{counts-by, not-usage}
 use Rattle.fireflies.proofs.EnrollLemmas.{enroll-completes, enroll-counts, enroll-disk, enroll-traced, enroll-upheld}
 use Rattle.fireflies.proofs.HeadlineLemmas.{headline}
-use Rattle.fireflies.proofs.NodeLemmas.{node-command, node-completes, node-counts, node-disk, node-traced, node-upheld}
+use Rattle.fireflies.proofs.NodeLemmas.{node-command, node-counts, node-disk, node-traced}
+use Rattle.fireflies.proofs.JournalLemmas.{node-upholds}
+use Rattle.fireflies.proofs.OpenedLemmas.{node-completes}
 use Rattle.fireflies.proofs.StoreLemmas.{store-completes, store-counts, store-disk, store-traced, store-upheld}
 use Rattle.fireflies.proofs.TraceLemmas.{of-text, traced}
 use Rattle.fireflies.proofs.VerificationLemmas.{verification}
@@ -28,11 +30,11 @@ use Rattle.fireflies.specs.declared.status.Status.{Status}
 use Rattle.fireflies.specs.declared.status.Status.TheVariants as status
 
 -- what holds of a run of the command
-pub record AllOf (c : Command) (was now : Standing) (old new : OfDisk) (s : Status) : Type 0 where
+pub record AllOf (c : Command) (was now : Standing) (old new : OfDisk) (before : Wires) (s : Status) : Type 0 where
   pub command : s ≢ status.Usage
   pub traced : TracedAs c was now old new s
   pub complete : CompletesAs c was now old new s
-  pub upholds : Upholds c was now old new s
+  pub upholds : Upholds c was now old new before s
   pub counts : Counts was now s
   pub faults : DiskCountsAs c old new s
 
@@ -76,7 +78,7 @@ halt-command : (failed : Bool) (r : Result (Unit {0}) Halt) (line : List ℕ) (s
 halt-command false r line s says e = halt-used r (sym says.0 ∙ e)
 halt-command true r line s says e = let same : status.WriteFault ≡ status.Usage = sym says.0 ∙ e in cc
 
-pub all-of : (c : Command) (name : List ℕ) (was now : Standing) (old new : OfDisk) (before after : Wires) (s : Status) → EndsAs c name was now old new before after s → AllOf c was now old new s
+pub all-of : (c : Command) (name : List ℕ) (was now : Standing) (old new : OfDisk) (before after : Wires) (s : Status) → EndsAs c name was now old new before after s → AllOf c was now old new before s
 all-of Replay name was now old new before after s h =
     let t = traced replayed was now s h.0 in
     let n = text-counts replayed was now s h.0 in
@@ -112,8 +114,8 @@ all-of (Node turns) name was now old new before after s h =
     record {
       command = node-command h.tells.failed h.result h.tells.line s h.tells.says;
       traced = node-traced was h.between now (as_run old) (as_run new) h.result s h.takes h.tells;
-      complete = node-completes was h.between now old new h.result s h.takes h.store_fault h.tells n;
-      upholds = node-upheld was h.between now old new h.result s h.takes h.tells;
+      complete = node-completes was h.between now old new h.result s h.takes h.store_fault h.cause h.tells n;
+      upholds = node-upholds turns was h.between now old new before h.result s h.takes h.removals h.spends h.tells;
       counts = n;
       faults = node-disk was h.between now old new h.result s h.takes h.calm h.store_fault h.tells;
     }

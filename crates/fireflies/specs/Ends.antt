@@ -17,7 +17,9 @@ use Rattle.node_running.specs.declared.halt.NodeHalt.{NodeHalt}
 use Rattle.node_running.specs.declared.halt.NodeHalt.TheVariants as node
 use Rattle.node_running.specs.Journal.{around}
 use Rattle.node_running.specs.Opening as opening
-use Rattle.node_running.specs.Running.{Feed, Runs, Takes}
+use Rattle.node_running.specs.Removals.{RemovalsRest}
+use Rattle.node_running.specs.Running.{Feed, IsCaused, Runs, Takes}
+use Rattle.node_running.specs.Spendings.{Spends}
 use Rattle.fireflies.specs.Causes.{Says, status_of_halt, status_of_node}
 use Rattle.fireflies.specs.declared.command.Command.{Command}
 use Rattle.fireflies.specs.declared.command.Command.TheVariants.{Replay, Verify, Store, Enroll, Node}
@@ -94,16 +96,31 @@ RunsFed turns was between old new before after result =
     (feed : Feed) → before.contents ≡ Some feed.link → before.readings ≡ Some feed.readings → before.reading ≡ feed.reading → turns ≡ feed.turns
     → Runs feed was between (around was.taken before.contents (as_run old)) (around between.taken after.contents (as_run new)) result
 
+-- What the removals rest on that the run of a member has written, where link and clock tell.
+abbrev pub RestsFed : ℕ → Standing → Standing → OfDisk → Wires → Result (Unit {0}) NodeHalt → Type 0
+RestsFed turns was between old before result =
+    (feed : Feed) → before.contents ≡ Some feed.link → before.readings ≡ Some feed.readings → before.reading ≡ feed.reading → turns ≡ feed.turns
+    → RemovalsRest feed was between (as_run old) result
+
+-- What it has spent.
+abbrev pub SpendsFed : ℕ → Standing → OfDisk → OfDisk → Wires → Type 0
+SpendsFed turns was old new before =
+    (feed : Feed) → before.contents ≡ Some feed.link → before.readings ≡ Some feed.readings → before.reading ≡ feed.reading → turns ≡ feed.turns
+    → Spends was (as_run old) (as_run new)
+
 -- How the run of a member ends: it ended for some answer, and the line of its cause is the last that is written. What it took
 -- of its text, and which side failed, is said whatever link and clock tell.
 pub record NodeEnds (turns : ℕ) (was now : Standing) (old new : OfDisk) (before after : Wires) (s : Status) : Type 0 where
   pub result : Result (Unit {0}) NodeHalt
   pub between : Standing
   pub takes : Takes was between (as_run old) (as_run new) result
+  pub cause : IsCaused was (as_run old) (as_run new) result
   pub calm : OnOk result (new.faults ≡ old.faults)
   pub store_fault : IfErr result (λ h. h ≡ node.StoreFault → Rose old.faults new.faults)
   pub link_fault : IfErr result (λ h. h ≡ node.LinkFault → after.faults ≡ next_count before.faults)
   pub runs : RunsFed turns was between old new before after result
+  pub removals : RestsFed turns was between old before result
+  pub spends : SpendsFed turns was old new before
   pub tells : Tells (status_of_node result) between now s
 
 -- How a run of the command ends, over a disk, a link and a clock.

@@ -8,6 +8,7 @@ pub mod Serving
 pub mod TracedAs
 pub mod Enrolment
 pub mod Headline
+pub mod Journals
 pub mod Verification
 pub mod Upheld
 pub mod Starts

@@ -56,6 +56,13 @@ IsNodeDone (status.Exhausted next) = Unit {0}
 IsNodeDone status.OutOfMemory = Unit {0}
 IsNodeDone _ = ⊥
 
+-- How one may end that is so, and whose store is one of its key with an index left.
+abbrev pub IsNodeWhole : Status → Type 0
+IsNodeWhole status.Ok = Unit {0}
+IsNodeWhole status.LinkFault = Unit {0}
+IsNodeWhole status.OutOfMemory = Unit {0}
+IsNodeWhole _ = ⊥
+
 -- Nothing was written but the line of this answer, and the disk is as it was.
 pub record IsUntouched (s : Status) (was now : Standing) (old new : OfDisk) : Type 0 where
   pub wrote : Appends was.taken now.taken (cause_line s)

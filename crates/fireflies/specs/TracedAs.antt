@@ -1,5 +1,5 @@
 -- What was written, beside the trace of what was taken, for each command; and where all of a command is run.
-use Rattle.std.specs.Prelude.{◌≡◌, ◌≤◌, ◌⊎◌, ℕ, Bool, List, [], ◌∷◌, ◌++◌, length, Option, Some, None, IfSome, Result, Ok}
+use Rattle.std.specs.Prelude.{◌≡◌, ◌≤◌, ◌<◌, ◌⊎◌, ℕ, Bool, List, [], ◌∷◌, ◌++◌, length, Option, Some, None, IfSome, Result, Ok}
 use Rattle.std.specs.Io.KnownBytes.{Appends, Consumes}
 use Rattle.line_text.specs.declared.bad_word.BadWord.{BadWord}
 use Rattle.play.specs.Plays.{Standing}
@@ -11,6 +11,9 @@ use Rattle.epoch_store.specs.Calls.{HoldsStore}
 use Rattle.epoch_store.specs.Store.{StoreOf}
 use Rattle.schedule_texts.specs.declared.line.RosterLine.{RosterLine}
 use Rattle.schedule_texts.specs.declared.roster.RosterText.TheVariants as roster
+use Rattle.schedule_kit.specs.declared.kit.KitText.TheVariants as kit
+use Rattle.schedule_kit.specs.declared.line.KitLine.{KitLine}
+use Rattle.lms_tree.specs.Kinds.{leaf_count}
 use Rattle.text_trace.specs.Lines.{seen, text_lines}
 use Rattle.text_trace.specs.Trace.{Owed}
 use Rattle.trace.specs.Walk.{replayed}
@@ -23,7 +26,10 @@ use Rattle.store_making.specs.Making.{stored}
 use Rattle.enrolment.specs.Enrolling.{IsEnough}
 use Rattle.enrolment.specs.Lines.{enrolled}
 use Rattle.fireflies.specs.Causes.{Says}
-use Rattle.fireflies.specs.Serving.{NodeTraced, OnUnrefused, IsNodeDone}
+use Rattle.node_running.specs.declared.kit.Member.{Member}
+use Rattle.node_running.specs.Members as node
+use Rattle.node_running.specs.Members.{SetsUp, kit_judging, set_by}
+use Rattle.fireflies.specs.Serving.{NodeTraced, OnUnrefused, IsNodeDone, IsNodeWhole}
 use Rattle.fireflies.specs.Traced.{Completes, IsComplete, Traced}
 use Rattle.fireflies.specs.declared.command.Command.{Command}
 use Rattle.fireflies.specs.declared.command.Command.TheVariants.{Replay, Verify, Store, Enroll, Node}
@@ -114,8 +120,20 @@ EnrollCompletes was now old new s = IfSome was.left (λ all. (lines : List Roste
 
 -- A node's life comes to its end, its store is found broken or used up, or its port can't be bound, where no line of its text
 -- is refused and nothing failed.
-abbrev pub NodeCompletes : Standing → Standing → OfDisk → OfDisk → Status → Type 0
-NodeCompletes was now old new s = OnUnrefused was.left (NoneFailed was now old new → IsNodeDone s)
+abbrev pub NodeEndsWell : Standing → Standing → OfDisk → OfDisk → Status → Type 0
+NodeEndsWell was now old new s = OnUnrefused was.left (NoneFailed was now old new → IsNodeDone s)
+
+-- Where the text sets up a member, and the file is a store of its key with an index left, the store is found neither broken nor
+-- used up.
+abbrev pub NodeOpens : Standing → Standing → OfDisk → OfDisk → Status → Type 0
+NodeOpens was now old new s = IfSome was.left (λ all. (lines : List KitLine) (m : Member) (o : Stored)
+    → lines_from kit_judging (unread kit.Start) (seen all) ≡ Ok lines → SetsUp (set_by lines) m
+    → OnImage old.moments (λ image. StoreOf (node.tag_of m) image o) → o.next < leaf_count m.own.key.tree
+    → NoneFailed was now old new → IsNodeWhole s)
+
+pub record NodeCompletes (was now : Standing) (old new : OfDisk) (s : Status) : Type 0 where
+  pub unrefused : NodeEndsWell was now old new s
+  pub opened : NodeOpens was now old new s
 
 abbrev pub CompletesAs : Command → Standing → Standing → OfDisk → OfDisk → Status → Type 0
 CompletesAs Replay was now old new s = Completes replayed was now s

@@ -9,7 +9,8 @@ use Rattle.authority.specs.Texts.{IsSecret}
 use Rattle.store_making.specs.Making.{first_of}
 use Rattle.fireflies.specs.Enrolment.{Enrolment}
 use Rattle.fireflies.specs.Headline.{Headline}
-use Rattle.fireflies.specs.Serving.{NodeUpheld}
+use Rattle.fireflies.specs.Ends.{Wires}
+use Rattle.fireflies.specs.Journals.{NodeUpholds}
 use Rattle.fireflies.specs.Verification.{Verification}
 use Rattle.fireflies.specs.declared.command.Command.{Command}
 use Rattle.fireflies.specs.declared.command.Command.TheVariants.{Replay, Verify, Store, Enroll, Node}
@@ -28,9 +29,9 @@ pub record IsStoreMade (was : Standing) (old new : OfDisk) : Type 0 where
   pub read : IsSecret was between setting
   pub image : SettlesAs (λ _. made (tag_of setting) (first_of setting)) old.moments new.moments
 
-abbrev pub Upholds : Command → Standing → Standing → OfDisk → OfDisk → Status → Type 0
-Upholds Replay was now old new s = Headline was now s
-Upholds Verify was now old new s = Verification was now s
-Upholds Store was now old new s = OnMade s (IsStoreMade was old new)
-Upholds Enroll was now old new s = Enrolment was old new
-Upholds (Node turns) was now old new s = NodeUpheld was now old new s
+abbrev pub Upholds : Command → Standing → Standing → OfDisk → OfDisk → Wires → Status → Type 0
+Upholds Replay was now old new before s = Headline was now s
+Upholds Verify was now old new before s = Verification was now s
+Upholds Store was now old new before s = OnMade s (IsStoreMade was old new)
+Upholds Enroll was now old new before s = Enrolment was old new
+Upholds (Node turns) was now old new before s = NodeUpholds turns was now old new before s

@@ -178,7 +178,8 @@ fn run_named<S: Source, O: Sink, D: Disk, L: Link, C: Clock>(
         (standing (S.left input.old) (O.taken out.old) (S.faults input.old) (O.faults out.old))
         (standing (S.left input.new) (O.taken out.new) (S.faults input.new) (O.faults out.new))
         (of_disk (D.faults disk.old) (D.calls disk.old) (D.moments disk.old))
-        (of_disk (D.faults disk.new) (D.calls disk.new) (D.moments disk.new)) result }
+        (of_disk (D.faults disk.new) (D.calls disk.new) (D.moments disk.new))
+        (wires (L.contents link.old) (L.faults link.old) (C.reading clock.old) (C.coming clock.old)) result }
     ensures counts { Counts
         (standing (S.left input.old) (O.taken out.old) (S.faults input.old) (O.faults out.old))
         (standing (S.left input.new) (O.taken out.new) (S.faults input.new) (O.faults out.new)) result }
@@ -241,7 +242,8 @@ pub fn run<S: Source, O: Sink, D: Disk, L: Link, C: Clock>(
         (standing (S.left input.old) (O.taken out.old) (S.faults input.old) (O.faults out.old))
         (standing (S.left input.new) (O.taken out.new) (S.faults input.new) (O.faults out.new))
         (of_disk (D.faults disk.old) (D.calls disk.old) (D.moments disk.old))
-        (of_disk (D.faults disk.new) (D.calls disk.new) (D.moments disk.new)) result) }
+        (of_disk (D.faults disk.new) (D.calls disk.new) (D.moments disk.new))
+        (wires (L.contents link.old) (L.faults link.old) (C.reading clock.old) (C.coming clock.old)) result) }
 
     // A cause that is no fault leaves both counts as they were; a fault raises its own by one.
     ensures counts { Counts

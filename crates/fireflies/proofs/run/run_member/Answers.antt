@@ -15,6 +15,6 @@ returns g c = record {
       (of_disk (g.D.Disk.faults c.run_node-ended.new.disk) (g.D.Disk.calls c.run_node-ended.new.disk) (g.D.Disk.moments c.run_node-ended.new.disk))
       (wires (g.L.Link.contents c.args.link.now) (g.L.Link.faults c.args.link.now) (g.C.Clock.reading c.args.clock.now) (g.C.Clock.coming c.args.clock.now))
       (wires (g.L.Link.contents c.run_node-ended.new.link) (g.L.Link.faults c.run_node-ended.new.link) (g.C.Clock.reading c.run_node-ended.new.clock) (g.C.Clock.coming c.run_node-ended.new.clock))
-      c.run_node-ended.result c.from.result c.conclude.result c.run_node-ended.ensures.takes c.run_node-ended.ensures.calm c.run_node-ended.ensures.store_fault c.run_node-ended.ensures.link_fault
-      c.run_node-ended.ensures.runs c.from.ensures (c.conclude.ensures _ _);
+      c.run_node-ended.result c.from.result c.conclude.result c.run_node-ended.ensures.takes c.run_node-ended.ensures.cause c.run_node-ended.ensures.calm c.run_node-ended.ensures.store_fault c.run_node-ended.ensures.link_fault
+      c.run_node-ended.ensures.runs c.run_node-ended.ensures.removals c.run_node-ended.ensures.spends c.from.ensures (c.conclude.ensures _ _);
 }
