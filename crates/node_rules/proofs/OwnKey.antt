@@ -1,5 +1,5 @@
 -- The own key of a life, and the indexes that it spends.
-use Rattle.std.proofs.Common.{◌≡◌, ℕ, true, false, inl, inr, List, [], ◌∷◌, ◌++◌, Some, refl, ap, sym, ◌∙◌, subst, map, arith, ◌⊎◌, ◌+◌, ◌<◌, ◌≤◌}
+use Rattle.std.proofs.Common.{◌≡◌, ℕ, true, false, inl, inr, List, Option, None, [], ◌∷◌, ◌++◌, Some, refl, ap, sym, ◌∙◌, subst, map, arith, ◌⊎◌, ◌+◌, ◌<◌, ◌≤◌}
 use Rattle.std.specs.Prelude.{fold, option_map}
 use Rattle.std.specs.List.{AllByRecursion, list_any}
 use Rattle.std.specs.Option.{option_and_then}
@@ -8,7 +8,7 @@ use Rattle.std.proofs.lemmas.Bool.{cases_Bool, eqb-true}
 use Rattle.std.proofs.lemmas.Bool.Decides.{nat_tests}
 use Rattle.ff_ids.specs.declared.AccBody.{AccBody}
 use Rattle.ff_ids.specs.declared.summary.RecordKey.TheVariants as keys
-use Rattle.ff_ids.specs.Steps.{Ticks, Report, step}
+use Rattle.ff_ids.specs.Steps.{Event, Ticks, Report, step}
 use Rattle.lms_tree.specs.declared.key.PublicKey.{PublicKey}
 use Rattle.records.specs.declared.CertBody.{CertBody}
 use Rattle.records.specs.declared.Body.{Body}
@@ -21,10 +21,12 @@ use Rattle.node_rules.specs.Nodes.{Setting, Node, Holding, state_of, event_of, w
 use Rattle.signer.specs.Signing.{stored_after}
 use Rattle.node_rules.specs.Calls.{Call, begun, lives, takes, spends, signs, sends, own_record, is_used_up}
 use Rattle.node_rules.specs.Deliveries.{answer_to}
+use Rattle.node_rules.specs.Refusals.{refusal, refusal_of}
+use Rattle.detector.specs.Silence.{History}
 use Rattle.node_rules.specs.Starting.{blank, opened, started, first_note}
 use Rattle.node_rules.specs.Lives.{is_certificate_for, Input, call_of, after_calls}
 use Rattle.node_rules.specs.Vouching.{IsCertifiedBy}
-use Rattle.node_rules.proofs.OwnNote.{or-second, stored-lives}
+use Rattle.node_rules.proofs.OwnNote.{option_or-none, or-second, stored-lives}
 use Rattle.node_rules.proofs.Small.{stored-takes, stored-signs}
 use Rattle.node_rules.proofs.Keeping.{Keeps, keeps-call}
 
@@ -60,6 +62,20 @@ certificate-with r held (Certificate c) m key is free h =
 
 -- ---- steps
 
+map-none : {X Y : Type 0} (f : X → Y) (o : Option X) → option_map f o ≡ None → o ≡ None
+map-none f None h = refl
+map-none f (Some x) h = cc
+
+none-some : {X Y : Type 0} (f : X → Y) (o : Option X) (y : Y) → o ≡ None → option_map f o ≡ Some y → ⊥
+none-some f o y none some = cc
+
+not_kept : (s : Setting) (n : Node) (r : Record) (c : CertBody) (k : ℕ) (key : PublicKey) → refusal s n r ≡ None → public_key_of n k ≡ Some key → r.body ≡ Certificate c → c.member ≡ k → ⊥
+unfolding refusal
+not_kept s n r c k key fine some is who =
+    let fine2 : refusal_of s n r (Certificate c) ≡ None = sym (ap (refusal_of s n r) is) ∙ fine in
+    let none : certificate_of n c.member ≡ None = map-none _ (certificate_of n c.member) (option_or-none _ _ fine2).0 in
+    none-some (λ x. x.key) (certificate_of n k) key (sym (ap (certificate_of n) who) ∙ none) some
+
 ended-key : (r : Report) (held : Holding) (m : ℕ) → option_map (λ c. c.key) (option_and_then (λ x. certificate_in x.body) (without_ended r held (keys.Certificate m))) ≡ option_map (λ c. c.key) (option_and_then (λ x. certificate_in x.body) (held (keys.Certificate m)))
 ended-key r held m = ap (λ o. option_map (λ c. c.key) (option_and_then (λ x. certificate_in x.body) o)) (ended-certificate r held m)
 
@@ -68,6 +84,10 @@ unfolding takes lives certificate_of
 stay-takes s r c free = λ k key h.
     let rep : Report = (step s.group (state_of s c.node) (event_of s r.body)).report in
     certificate-with r (without_ended rep c.node.held) r.body k key refl (λ x is who. free x k key h is who) (ended-key rep c.node.held k ∙ h)
+
+stay-lives : (s : Setting) (e : Event) (c : Call) → Stay c.node (lives s e c).node
+unfolding lives certificate_of
+stay-lives s e c = λ k key h. ended-key (step s.group (state_of s c.node) e).report c.node.held k ∙ h
 
 -- The own key is held, and no index is spent that it hasn't.
 pub record KeepsKey (s : Setting) (own : PublicKey) (n : Node) : Type 0 where
@@ -111,6 +131,40 @@ key-signs s own b c mine left h =
     let c1 : Call = spends s b c in
     let r : Record = own_record s c.node b in
     more s own c1.node (takes s r c1).node (stay-takes s r c1 (λ x k key some is who. not_own_certificate s b x mine is)) (stored-takes s r c1) (key-spends s own b c left h)
+
+-- ---- what each call keeps
+
+key-takes : (s : Setting) (own : PublicKey) (r : Record) (c : Call) → refusal s c.node r ≡ None → KeepsKey s own c.node → KeepsKey s own (takes s r c).node
+key-takes s own r c fine h = more s own c.node (takes s r c).node (stay-takes s r c (λ x k key some is who. not_kept s c.node r x k key fine some is who)) (stored-takes s r c) h
+
+key-sends : (s : Setting) (own : PublicKey) (d : Datagram) (c : Call) (to : ℕ) → KeepsKey s own c.node → KeepsKey s own (sends s d c to).node
+unfolding sends
+key-sends s own d c to h = h
+
+key-ticks : (s : Setting) (own : PublicKey) (c : Call) → KeepsKey s own c.node → KeepsKey s own (lives s Ticks c).node
+key-ticks s own c h = more s own c.node (lives s Ticks c).node (stay-lives s Ticks c) (stored-lives s Ticks c) h
+
+key-probed : (s : Setting) (own : PublicKey) (n : Node) (p : History) → KeepsKey s own n → KeepsKey s own (record n { probes = p })
+unfolding certificate_of
+key-probed s own n p h = record { own_key = h.own_key; within = h.within }
+
+keeping-key : (s : Setting) (own : PublicKey) → Keeps s (λ c. KeepsKey s own c.node)
+unfolding IsOwnBody
+keeping-key s own =
+    record {
+      told = λ what c other h. h;
+      sent = λ d c to h. key-sends s own d c to h;
+      taken = λ r c fine h. key-takes s own r c fine h;
+      answered = λ r a c fine is me left h. key-signs s own (answer_to s (takes s r c).node.stored a) (takes s r c) refl left (key-takes s own r c fine h);
+      accused = λ a c by left h. key-signs s own (Accusation a) c by left h;
+      stopped = λ c h. h;
+      passed = λ c h. key-ticks s own c h;
+      probed = λ p c h. key-probed s own c.node p h;
+    }
+
+pub key-calls : (s : Setting) (own : PublicKey) (n : Node) (inputs : List Input) → KeepsKey s own n → KeepsKey s own (after_calls s n inputs)
+key-calls s own n [] h = h
+key-calls s own n (i ∷ inputs) h = key-calls s own (call_of s n i).node inputs (keeps-call s (λ c. KeepsKey s own c.node) (keeping-key s own) n i h)
 
 -- ---- the start
 

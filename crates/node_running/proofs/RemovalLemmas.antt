@@ -41,7 +41,7 @@ use Rattle.node_rules.proofs.Gains.{lived-ticked}
 use Rattle.node_rules.proofs.Handling.{node-wants, unread}
 use Rattle.node_rules.proofs.Sendings.{ping-brings, pong-brings, summary-brings}
 use Rattle.node_rules.proofs.Telling.{call-tells, delivered_until-tells, ticked_until-tells}
-use Rattle.node_rules.proofs.Vouches.{Vouches}
+use Rattle.node_rules.proofs.OwnKey.{KeepsKey}
 use Rattle.node_loop.specs.Turns.{Act, Calls}
 use Rattle.node_loop.specs.Courses.{Course}
 use Rattle.node_loop.specs.Serving.{IsCut}
@@ -471,7 +471,7 @@ passes-not zero a e = cc
 passes-not (suc place) a e = cc
 
 -- What a tick among the acts removes rests on an accusation that was delivered or made.
-pub removes : (s : Setting) (own : PublicKey) (start : Course) (acts before behind : List Act) (at m : ℕ) → OwnSignaturesVerify s own → Vouches s own start.node → ((place : ℕ) (a : AccBody) → slice_get start.node.lived place ≡ Some (Accuses a) → ⊥)
+pub removes : (s : Setting) (own : PublicKey) (start : Course) (acts before behind : List Act) (at m : ℕ) → OwnSignaturesVerify s own → KeepsKey s own start.node → ((place : ℕ) (a : AccBody) → slice_get start.node.lived place ≡ Some (Accuses a) → ⊥)
     → acts ≡ before ++ Calls Ticks ∷ behind → TicksAway s (node_behind s start before) at m → Removes s start acts at m
 removes s own start acts before behind at m sign v none ticks away =
     let n = node_behind s start before in

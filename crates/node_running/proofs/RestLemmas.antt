@@ -19,7 +19,7 @@ use Rattle.whole_text.specs.Laws.{told-silent}
 use Rattle.whole_text.proofs.WholeLemmas.{never-unwritten}
 use Rattle.node_core.specs.Begins.{IsVouchable}
 use Rattle.node_core.specs.Rolls.{recs_of}
-use Rattle.node_rules.proofs.Vouches.{vouches-started}
+use Rattle.node_rules.proofs.OwnKey.{key-started}
 use Rattle.node_running.specs.declared.halt.NodeHalt.{NodeHalt}
 use Rattle.node_running.specs.declared.halt.NodeHalt.TheVariants as halt
 use Rattle.node_running.specs.declared.kit.Member.{Member}
@@ -40,7 +40,7 @@ founded m stored feed v =
     let recs = recs_of m.certificates.items in
     record {
       sign = v.signatures;
-      vouched = vouches-started (setting_for m) (public_of m.own.key) seed recs stored v.kit.all v.kit.own v.certified v.signatures v.left;
+      vouched = key-started (setting_for m) (public_of m.own.key) seed recs stored v.kit.all v.kit.own v.certified v.left;
       unaccused = start-unaccused (setting_for m) seed recs stored v.kit.all;
     }
 

@@ -23,7 +23,7 @@ use Rattle.node_rules.specs.Nodes.{Setting}
 use Rattle.node_rules.specs.Calls.{Call}
 use Rattle.node_rules.specs.Lives.{Input, Delivers, Ticks, call_of}
 use Rattle.node_rules.specs.Vouching.{OwnSignaturesVerify}
-use Rattle.node_rules.proofs.Vouches.{Vouches}
+use Rattle.node_rules.proofs.OwnKey.{KeepsKey}
 use Rattle.node_loop.specs.declared.fault.ServeFault.{ServeFault}
 use Rattle.node_loop.specs.declared.fault.ServeFault.TheVariants as serve
 use Rattle.node_loop.specs.Turns.{Act, Receives, Writes, Calls, Outlook, after_turn, delivery_of, life_acts, ticks_of, turn_acts, turn_in, turns_from}
@@ -116,7 +116,7 @@ IsOfTurn (Calls input) = Unit {0}
 -- What a life begins with, so that its removals rest on what is delivered and made in it.
 pub record IsFounded (s : Setting) (own : PublicKey) (start : Course) : Type 0 where
   pub sign : OwnSignaturesVerify s own
-  pub vouched : Vouches s own start.node
+  pub vouched : KeepsKey s own start.node
   pub unaccused : (place : ℕ) (a : AccBody) → slice_get start.node.lived place ≡ Some (Accuses a) → ⊥
 
 removes-now : (s : Setting) (own : PublicKey) (start : Course) (acts done later : List Act) (i : Input) (at m : ℕ) → IsFounded s own start → acts ≡ done ++ Calls i ∷ later → RemovesNow s (node_behind s start done) i at m → Removes s start acts at m

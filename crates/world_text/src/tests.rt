@@ -20,7 +20,10 @@ fn a_line_and_what_stands_behind_it(rt: HostRuntime) -> Result<(), Fail> {
         },
         &mut out,
     )?;
-    assert_eq!(rt; out.as_slice(), b"view 7refused exhausted 32@7 at 3 removed 1");
+    assert_eq!(rt;
+        out.as_slice(),
+        b"view 7refused exhausted 32@7 at 3 removed 1"
+    );
     out.clear();
     let seen = MemberList::from_vec(Vec::from_slice(rt.alloc(), &[MemberId::new(1), member])?);
     write_verdict(&Verdict::Sees(seen), &mut out)?;
