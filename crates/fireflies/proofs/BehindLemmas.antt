@@ -1,15 +1,12 @@
 -- A run that took its whole text, and what it then wrote.
-use Rattle.std.proofs.Common.{◌≡◌, ◌≢◌, ◌<◌, ◌≤◌, ℕ, Bool, true, false, length, Option, Some, None, List, [], ◌∷◌, ◌++◌, Result, Ok, Err, refl, sym, subst, ap, ◌∙◌, inl, inr, arith, append-nil}
-use Rattle.std.specs.Prelude.{IfSome}
+use Rattle.std.proofs.Common.{◌≡◌, ℕ, Bool, true, false, length, Option, None, List, [], ◌++◌, refl, sym, subst, ap, ◌∙◌, inl, arith}
 use Rattle.std.specs.Io.KnownBytes.{Appends, Consumes}
 use Rattle.std.proofs.KnownBytes.{Appends-trans, Consumes-whole}
-use Rattle.line_text.specs.declared.bad_word.BadWord.{BadWord}
 use Rattle.ports.specs.Contents.{IsUsedUp}
 use Rattle.ports.specs.Count.{counted, next_count}
 use Rattle.play.specs.Plays.{Standing, Unfailed}
-use Rattle.text_trace.specs.Lines.{seen, text_lines}
 use Rattle.whole_text.specs.Gathered.{IsWhole, Judging, lines_from, owed_whole, told_of, unread}
-use Rattle.fireflies.specs.Causes.{IsFront, Says, cause_line}
+use Rattle.fireflies.specs.Causes.{Says}
 use Rattle.fireflies.specs.Ends.{Counts, Tells}
 use Rattle.fireflies.specs.TracedAs.{IsOwedBehind, TracedWhole}
 use Rattle.fireflies.proofs.EndLemmas.{none_shorter}

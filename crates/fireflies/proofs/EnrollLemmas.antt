@@ -1,5 +1,5 @@
 -- What follows from how an enrolment ended.
-use Rattle.std.proofs.Common.{◌≡◌, ◌≢◌, ◌+◌, ◌<◌, ◌≤◌, ◌⊎◌, ℕ, Bool, true, false, length, take, drop, map, Option, Some, None, List, [], ◌∷◌, ◌++◌, Result, Ok, Err, refl, sym, subst, ap, ◌∙◌, inl, inr, arith, append-nil, append_assoc, length-append, take-append-drop, ltb, lt-ltb}
+use Rattle.std.proofs.Common.{◌≡◌, ◌≢◌, ◌+◌, ◌<◌, ◌≤◌, ◌⊎◌, ℕ, true, false, length, take, drop, map, Option, Some, None, List, [], ◌∷◌, ◌++◌, Result, Ok, Err, refl, sym, subst, ap, ◌∙◌, inl, inr, arith, append-nil, append_assoc, length-append, take-append-drop, ltb, lt-ltb}
 use Rattle.std.specs.Prelude.{IfSome}
 use Rattle.std.specs.List.{AllByRecursion}
 use Rattle.std.specs.Io.KnownBytes.{Appends}
@@ -9,14 +9,14 @@ use Rattle.secrets.proofs.StoreTags.{length-store_tag}
 use Rattle.line_text.specs.declared.bad_word.BadWord.{BadWord}
 use Rattle.lms_tree.specs.Kinds.{leaf_count}
 use Rattle.lms_tree.specs.Lms.{public_of}
-use Rattle.ports.specs.Count.{Rose, counted, next_count}
+use Rattle.ports.specs.Count.{next_count}
 use Rattle.ports.specs.Disk.{Fails, Moment, Since, stays}
 use Rattle.ports.proofs.SinceLemmas.{Since-same}
 use Rattle.epoch_store.specs.declared.StoreError.{StoreError}
 use Rattle.epoch_store.specs.declared.StoreError.TheVariants as store
 use Rattle.epoch_store.specs.declared.Stored.{Stored}
 use Rattle.epoch_store.specs.Calls.{AnswersAs, HoldsStore, OnRead, OpensAs, StoreState, answer_of}
-use Rattle.epoch_store.specs.Reading.{Reading, Finds}
+use Rattle.epoch_store.specs.Reading.{Finds}
 use Rattle.epoch_store.specs.Store.{StoreOf}
 use Rattle.epoch_store.proofs.FoundLemmas.{one_state, store_found}
 use Rattle.play.specs.Plays.{Standing, Unfailed}
@@ -39,11 +39,11 @@ use Rattle.authority.specs.Telling.{IsTold}
 use Rattle.authority.specs.Texts.{IsRoster}
 use Rattle.enrolment.specs.Lines.{enrolled, lines_for, lines_within, signed_line, signed_lines, told_at_end}
 use Rattle.enrolment.specs.Signing.{IsPart}
-use Rattle.enrolment.specs.Enrolling.{AreEnrolled, Enrols, EnrolsBehind, IsEnough, Spends, SpendsFronts}
-use Rattle.fireflies.specs.Causes.{Says, status_of_halt}
-use Rattle.fireflies.specs.Ends.{Counts, DiskCounts, Ends, Tells}
+use Rattle.enrolment.specs.Enrolling.{AreEnrolled, Enrols, IsEnough, Spends, SpendsFronts}
+use Rattle.fireflies.specs.Causes.{status_of_halt}
+use Rattle.fireflies.specs.Ends.{Counts, DiskCounts, Tells}
 use Rattle.fireflies.specs.Enrolment.{Enrolment}
-use Rattle.fireflies.specs.Traced.{IsComplete, Traced}
+use Rattle.fireflies.specs.Traced.{IsComplete}
 use Rattle.fireflies.specs.TracedAs.{EnrollCompletes, IsFound, IsOwedBehind, NoneFailed, OnImage, TracedRoster, TracedWhole}
 use Rattle.fireflies.specs.TracedAs as as_
 use Rattle.fireflies.proofs.BehindLemmas.{cut-by, done-by, or-cut, whole-traced}

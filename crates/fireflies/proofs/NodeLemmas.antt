@@ -9,7 +9,7 @@ use Rattle.ports.specs.Count.{Rose, next_count}
 use Rattle.play.specs.Plays.{Standing, Unfailed}
 use Rattle.schedule_kit.specs.declared.kit.KitText.TheVariants as kit
 use Rattle.schedule_kit.specs.declared.line.KitLine.{KitLine}
-use Rattle.text_trace.specs.Lines.{seen, text_lines}
+use Rattle.text_trace.specs.Lines.{seen}
 use Rattle.text_trace.specs.Trace.{Owed, Trace}
 use Rattle.whole_text.specs.Gathered.{IsWhole, lines_from, nothing, owed_whole, told_of, unread}
 use Rattle.authority.specs.OfDisk.{OfDisk}

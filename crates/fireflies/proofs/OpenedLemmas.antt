@@ -1,5 +1,5 @@
 -- Where the store of a member is neither broken nor used up.
-use Rattle.std.proofs.Common.{◌≡◌, ◌≢◌, ℕ, ◌<◌, Bool, true, false, List, Option, Some, None, Result, Ok, Err, refl, sym, subst, ap, ◌∙◌, arith}
+use Rattle.std.proofs.Common.{◌≡◌, ℕ, ◌<◌, Bool, true, false, List, Option, Some, None, Result, Ok, Err, refl, sym, subst, ap, ◌∙◌, arith}
 use Rattle.std.specs.Prelude.{IfErr, IfSome}
 use Rattle.std.proofs.KnownBytes.{Consumes-whole}
 use Rattle.epoch_store.specs.declared.Stored.{Stored}
@@ -28,7 +28,7 @@ use Rattle.node_running.proofs.RunLemmas.{tag-long}
 use Rattle.fireflies.specs.Causes.{Says, status_of_node}
 use Rattle.fireflies.specs.Ends.{Counts, Tells, as_run}
 use Rattle.fireflies.specs.Serving.{IsNodeDone, IsNodeWhole}
-use Rattle.fireflies.specs.TracedAs.{NodeCompletes, NodeOpens, NoneFailed, OnImage}
+use Rattle.fireflies.specs.TracedAs.{NodeCompletes, NoneFailed, OnImage}
 use Rattle.fireflies.proofs.CompleteLemmas.{rose}
 use Rattle.fireflies.proofs.EnrollLemmas.{found-is, opens}
 use Rattle.fireflies.proofs.NodeLemmas.{node-unrefused, node-whole}

@@ -1,32 +1,31 @@
 -- What follows from how the making of a store ended.
-use Rattle.std.proofs.Common.{◌≡◌, ◌≢◌, ◌<◌, ◌≤◌, ◌⊎◌, ℕ, Bool, true, false, length, take, drop, Option, Some, None, List, [], ◌∷◌, ◌++◌, Result, Ok, Err, refl, sym, subst, ap, ◌∙◌, inl, inr, arith, append-nil, take-append-drop}
+use Rattle.std.proofs.Common.{◌≡◌, ℕ, Bool, true, false, length, take, drop, Option, Some, None, List, [], ◌∷◌, Result, Ok, Err, refl, sym, subst, ap, ◌∙◌, inl, inr, append-nil, take-append-drop}
 use Rattle.std.specs.Prelude.{IfSome}
 use Rattle.std.specs.Io.KnownBytes.{Appends}
 use Rattle.std.proofs.KnownBytes.{Appends-nil}
 use Rattle.line_text.specs.declared.bad_word.BadWord.{BadWord}
-use Rattle.ports.specs.Count.{Rose, counted, next_count}
+use Rattle.ports.specs.Count.{Rose, next_count}
 use Rattle.ports.specs.Disk.{Moment}
 use Rattle.epoch_store.specs.Calls.{HasLength}
 use Rattle.play.specs.Plays.{Standing, Unfailed}
 use Rattle.schedule_texts.specs.declared.secret.SecretText.TheVariants as secret
 use Rattle.text_trace.specs.Lines.{seen}
 use Rattle.text_trace.specs.Trace.{Trace}
-use Rattle.whole_text.specs.Gathered.{IsWhole}
 use Rattle.authority.specs.declared.halt.Halt.{Halt}
 use Rattle.authority.specs.declared.halt.Halt.TheVariants as halt
 use Rattle.authority.specs.declared.setting.Setting.{Setting}
 use Rattle.authority.specs.OfDisk.{OfDisk}
-use Rattle.authority.specs.Settings.{secret_judging, secret_setting, told_for}
+use Rattle.authority.specs.Settings.{secret_judging, told_for}
 use Rattle.authority.specs.Texts.{IsSecret}
-use Rattle.store_making.specs.Making.{Makes, MakesBehind, key_line_of, stored, told_at_end}
+use Rattle.store_making.specs.Making.{Makes, key_line_of, stored, told_at_end}
 use Rattle.fireflies.specs.Causes.{Says, status_of_halt}
-use Rattle.fireflies.specs.Ends.{Counts, DiskCounts, Ends, StoreEnds, Tells}
-use Rattle.fireflies.specs.Traced.{IsComplete, Traced}
+use Rattle.fireflies.specs.Ends.{Counts, DiskCounts, Tells}
+use Rattle.fireflies.specs.Traced.{IsComplete}
 use Rattle.fireflies.specs.TracedAs.{NoneFailed, OnImage, StoreCompletes, TracedEither, IsOwedBehind}
 use Rattle.fireflies.specs.Upheld.{IsStoreMade, OnMade}
 use Rattle.fireflies.proofs.BehindLemmas.{cut-by, done-by, or-cut, whole-traced}
 use Rattle.fireflies.proofs.CompleteLemmas.{rose}
-use Rattle.fireflies.proofs.EndLemmas.{counts-by, none_shorter}
+use Rattle.fireflies.proofs.EndLemmas.{counts-by}
 use Rattle.fireflies.proofs.TraceLemmas.{refused-told, traced}
 use Rattle.fireflies.specs.declared.status.Status.{Status}
 use Rattle.fireflies.specs.declared.status.Status.TheVariants as status

@@ -8,7 +8,7 @@ use Rattle.line_text.specs.declared.bad_word.BadWord.{BadWord}
 use Rattle.ports.specs.Contents.{IsUsedUp}
 use Rattle.play.specs.Plays.{Standing, Lines, Starved, IsAdmitted, IsLast, bytes_of, Follows}
 use Rattle.text_trace.specs.Lines.{has_no_feed, line_bytes, seen, seen_bytes, text_lines, AreWhole, IsFed, IsNext}
-use Rattle.text_trace.specs.Trace.{Owed, Trace, Writes, Refuses, before}
+use Rattle.text_trace.specs.Trace.{Owed, Trace, Writes, Refuses}
 use Rattle.text_trace.proofs.TraceLemmas.{unrefused-as}
 use Rattle.text_trace.proofs.WholeLemmas.{whole-one, whole-join, rest-next, cut-next, fed-next}
 use Rattle.text_trace.proofs.LineLemmas.{lines_of-rest}

@@ -1,5 +1,5 @@
 -- What holds of each command, from how its run ended.
-use Rattle.std.proofs.Common.{◌≡◌, ◌≢◌, Bool, true, false, List, ℕ, refl, sym, subst, ◌∙◌, ap, inl, Result, Ok, Err}
+use Rattle.std.proofs.Common.{◌≡◌, ◌≢◌, Bool, true, false, List, ℕ, sym, ◌∙◌, ap, inl, Result, Ok, Err}
 use Rattle.line_text.specs.declared.bad_word.BadWord.{BadWord}
 use Rattle.play.specs.Plays.{Standing}
 use Rattle.text_trace.specs.Trace.{Owed}
