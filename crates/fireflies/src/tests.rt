@@ -2,6 +2,8 @@
 
 ghost use Rattle.std.specs.Prelude.{◌≤◌};
 
+mod members;
+mod refusing;
 mod serving;
 mod storing;
 mod verifying;

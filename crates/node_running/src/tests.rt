@@ -6,6 +6,7 @@ ghost use Rattle.ports.specs.MemoryClock.{NeverFalls};
 use crate::{NodeHalt, run_node};
 use epoch_store::make;
 use ff_ids::{Group, Mask, MemberId};
+use journal::{EventFault, read_event, read_turn, write_event, write_turn};
 use line_text::BadWord;
 use lms_ots::OtsKind;
 use lms_tree::{PublicKey, TreeKind};
@@ -132,6 +133,91 @@ fn a_member_alone_writes_its_journal(rt: HostRuntime) -> Result<(), Fail> {
     assert!(rt; ran.out.bytes().starts_with(ALONE));
     assert_eq!(rt; &ran.out.bytes()[ALONE.len()..], b"end\n".as_slice());
     assert_eq!(rt; link.sent().len(), 0);
+    Ok(())
+}
+
+/// What a line of a journal says.
+#[derive(Clone, Copy, Debug, PartialEq, Eq)]
+enum Said {
+    Event,
+    /// A turn of this number, with so many ticks.
+    Turn(u32, u8),
+    /// Something else.
+    Other,
+}
+
+/// What the line says, if it is the one text of that.
+fn said_by(alloc: Global, line: &str) -> Result<Said, Fail> {
+    let mut text = Vec::new(alloc);
+    let said = match read_event(alloc, line.as_bytes()) {
+        Ok(event) => {
+            write_event(&event, &mut text)?;
+            Said::Event
+        }
+        Err(EventFault::OutOfMemory) => return Err("no memory".into()),
+        Err(EventFault::BadEvent { .. }) => {
+            let Ok(turn) = read_turn(alloc, line.as_bytes()) else {
+                return Ok(Said::Other);
+            };
+            write_turn(&turn, &mut text)?;
+            Said::Turn(turn.number, turn.ticks)
+        }
+    };
+    if text.as_slice() != line.as_bytes() {
+        return Err("another text".into());
+    }
+    Ok(said)
+}
+
+/// What each line of the journal says.
+fn said_in(alloc: Global, journal: &[u8]) -> Result<Vec<Said>, Fail> {
+    let text = String::from_utf8(journal.to_vec(alloc)?).or(Err("no text"))?;
+    let mut said = Vec::new(alloc);
+    for line in text.as_str().lines() {
+        said.push(said_by(alloc, line)?)?;
+    }
+    Ok(said)
+}
+
+/// What the journal of member 1 says, of whom so many others are certified and whose first send fails.
+fn life_of_1(alloc: Global, others: u16) -> Result<Vec<Said>, Fail>
+    requires { others < 1000 }
+{
+    let mut disk = disk(alloc, &key_of_1(alloc)?, &[])?;
+    let mut link = link(alloc, &[0], false)?;
+    let ran = run(alloc, &kit(alloc, others)?, &mut disk, &mut link)?;
+    said_in(alloc, ran.out.bytes())
+}
+
+#[test]
+fn each_line_of_a_journal_is_read_back(rt: HostRuntime) -> Result<(), Fail> {
+    let alone = life_of_1(rt.alloc(), 0)?;
+    assert_eq!(rt;
+        alone.as_slice(),
+        [
+            Said::Event,
+            Said::Event,
+            Said::Turn(1, 0),
+            Said::Turn(2, 2),
+            Said::Other
+        ]
+        .as_slice()
+    );
+    let of_two = life_of_1(rt.alloc(), 1)?;
+    assert_eq!(rt;
+        of_two.as_slice(),
+        [
+            Said::Event,
+            Said::Event,
+            Said::Turn(1, 0),
+            Said::Turn(2, 2),
+            Said::Event,
+            Said::Event,
+            Said::Event,
+            Said::Other
+        ]
+        .as_slice()
+    );
     Ok(())
 }
 

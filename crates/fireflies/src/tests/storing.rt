@@ -3,18 +3,19 @@
 use super::super::run;
 use super::Run;
 use edges::{Absent, NoClock};
+use epoch_store::make;
+use ff_ids::{Group, Mask};
+use lms_ots::OtsKind;
+use lms_tree::TreeKind;
 use ports::{MemoryDisk, MemorySink, MemorySource};
+use secrets::{make_key, store_tag};
 use std::alloc::Global;
 use std::process::Abort;
 use std::test::Fail;
 
-const SECRET: &str = "fireflies 1 secret\n\
-    group 1 4 1 2 00000000000000000000000000000000\nkinds 2 5\n\
-    secret 5a5a5a5a5a5a5a5a5a5a5a5a5a5a5a5a5a5a5a5a5a5a5a5a5a5a5a5a5a5a5a5a\nend\n";
+const GROUP: &str = "group 1 4 1 2 00000000000000000000000000000000\nkinds 2 5\n";
 
-const ROSTER: &str = "fireflies 1 roster\n\
-    group 1 4 1 2 00000000000000000000000000000000\nkinds 2 5\n\
-    secret 5a5a5a5a5a5a5a5a5a5a5a5a5a5a5a5a5a5a5a5a5a5a5a5a5a5a5a5a5a5a5a5a\n";
+const SECRET: &str = "secret 5a5a5a5a5a5a5a5a5a5a5a5a5a5a5a5a5a5a5a5a5a5a5a5a5a5a5a5a5a5a5a5a\n";
 
 const KEY: &str =
     "0000000500000004a1a1a1a1a1a1a1a1a1a1a1a1a1a1a1a1b2b2b2b2b2b2b2b2b2b2b2b2b2b2b2b2b2b2b2b2b2b2b2b2b2b2b2b2b2b2b2b2";
@@ -24,9 +25,14 @@ pub(super) fn disk(alloc: Global, fail: &[u64]) -> Result<MemoryDisk, Fail> {
     Ok(MemoryDisk::new(alloc, 700, 400, fail.to_vec(alloc)?).or(Err("no memory"))?)
 }
 
+/// The text of the secret.
+fn secret(alloc: Global) -> Result<String, Fail> {
+    Ok(format!(in alloc; "fireflies 1 secret\n{GROUP}{SECRET}end\n")?)
+}
+
 /// A roster that asks for so many certificates.
 fn roster(alloc: Global, count: u16) -> Result<String, Fail> {
-    let mut text = String::from_str(alloc, ROSTER)?;
+    let mut text = format!(in alloc; "fireflies 1 roster\n{GROUP}{SECRET}")?;
     for member in 0..count {
         let line = format!(in alloc; "cert {member} 20000 {KEY}\n")?;
         text.push_str(line.as_str())?;
@@ -76,7 +82,8 @@ pub(super) fn run_over(
 
 /// Makes the store of the key in the disk's file.
 fn make_store(alloc: Global, disk: &mut MemoryDisk) -> Result<Run, Fail> {
-    run_over(alloc, &["store", "a.st"], SECRET, disk)
+    let text = secret(alloc)?;
+    run_over(alloc, &["store", "a.st"], text.as_str(), disk)
 }
 
 /// Asks the store in the disk's file for so many certificates.
@@ -91,15 +98,9 @@ pub(super) fn compare(rt: &impl Abort, got: &Run, number: u8, written: &[u8]) {
     assert_eq!(rt; got.written.as_slice(), written);
 }
 
-/// Whether the line of the certificate for this member stands where it belongs, with the index of the same number.
-fn is_signed(alloc: Global, written: &[u8], member: u8) -> Result<bool, Fail> {
-    let line = format!(in alloc; "cert {member} 20000 {KEY} 0000000{member}")?;
-    let length = line.len().wrapping_add(8_913);
-    Ok(stands_at(
-        written,
-        length.wrapping_mul(usize::from(member)),
-        line.as_bytes(),
-    ))
+/// What a line begins with that certifies this member with this index.
+fn signed_line(alloc: Global, member: u8, index: u8) -> Result<String, Fail> {
+    Ok(format!(in alloc; "cert {member} 20000 {KEY} 0000000{index}")?)
 }
 
 /// The number of lines.
@@ -133,8 +134,12 @@ fn each_certificate_has_the_next_index(rt: HostRuntime) -> Result<(), Fail> {
     let got = enroll(rt.alloc(), 2, &mut disk)?;
     assert_eq!(rt; got.number, 0);
     assert_eq!(rt; lines(&got.written), 2);
-    assert_eq!(rt; is_signed(rt.alloc(), &got.written, 0)?, true);
-    assert_eq!(rt; is_signed(rt.alloc(), &got.written, 1)?, true);
+    let length = got.written.len() / 2;
+    for (member, place) in [(0u8, 0usize), (1, length)] {
+        let line = signed_line(rt.alloc(), member, member)?;
+        assert_eq!(rt; stands_at(&got.written, place, line.as_bytes()), true);
+        assert_eq!(rt; length, line.len().wrapping_add(8_913));
+    }
     Ok(())
 }
 
@@ -149,11 +154,98 @@ fn a_key_is_used_up(rt: HostRuntime) -> Result<(), Fail> {
     Ok(())
 }
 
+/// Makes the store on a disk that fails at this call, of four. The same words then make it where nothing was written, and
+/// find it taken where only the sync failed.
+fn make_twice(rt: &impl Abort, alloc: Global, call: u64) -> Result<(), Fail> {
+    let mut disk = disk(alloc, &[call])?;
+    let first = make_store(alloc, &mut disk)?;
+    compare(rt, &first, 7, b"store fault\n");
+    assert_eq!(rt; disk.image().is_empty(), call < 3);
+    if call < 2 {
+        return Ok(());
+    }
+    let again = make_store(alloc, &mut disk)?;
+    if call == 3 {
+        compare(rt, &again, 12, b"store taken 58\n");
+        return Ok(());
+    }
+    assert_eq!(rt; again.number, 0);
+    assert_eq!(rt; disk.image().len(), 58);
+    Ok(())
+}
+
 #[test]
-fn a_disk_that_fails(rt: HostRuntime) -> Result<(), Fail> {
-    let mut disk = disk(rt.alloc(), &[0])?;
-    let got = make_store(rt.alloc(), &mut disk)?;
-    compare(&rt, &got, 7, b"store fault\n");
+fn a_disk_that_fails_at_each_call_of_a_making(rt: HostRuntime) -> Result<(), Fail> {
+    for call in 0..4u64 {
+        make_twice(&rt, rt.alloc(), call)?;
+    }
+    Ok(())
+}
+
+/// The mark of the authority's store.
+fn tag(alloc: Global) -> Result<[u8; 32], Fail> {
+    let key = make_key(alloc, OtsKind::W2, TreeKind::H5, &[0x5a; 32])?.public();
+    let group = Group {
+        tag: [0; 16],
+        t: 1,
+        timeout: 4,
+        period: 1,
+        misses: 2,
+    };
+    Ok(store_tag(&group, &key))
+}
+
+/// Enrolls two on a disk that fails at this call: four made the store, five open it, and four sign each. So many lines
+/// stand above that of the cause. Where an index is given, the next enrolment begins with it.
+fn enroll_failing(
+    rt: &impl Abort,
+    alloc: Global,
+    tag: &[u8; 32],
+    call: u64,
+    count: u32,
+    next: Option<u8>,
+) -> Result<(), Fail> {
+    let mut disk = disk(alloc, &[call])?;
+    make(&mut disk, "a.st", tag, Mask(7)).or(Err("no store is made"))?;
+    let got = enroll(alloc, 2, &mut disk)?;
+    assert_eq!(rt; got.number, 7);
+    assert_eq!(rt; lines(&got.written), count.wrapping_add(1));
+    assert!(rt; got.written.as_slice().ends_with(b"store fault\n"));
+    let Some(next) = next else {
+        return Ok(());
+    };
+    let again = enroll(alloc, 1, &mut disk)?;
+    let line = signed_line(alloc, 0, next)?;
+    assert_eq!(rt; again.number, 0);
+    assert!(rt; again.written.as_slice().starts_with(line.as_bytes()));
+    Ok(())
+}
+
+#[test]
+fn a_disk_that_fails_as_an_authoritys_store_is_opened(rt: HostRuntime) -> Result<(), Fail> {
+    let tag = tag(rt.alloc())?;
+    for call in 4..9u64 {
+        enroll_failing(&rt, rt.alloc(), &tag, call, 0, None)?;
+    }
+    Ok(())
+}
+
+/// Where the index may be stored, it is not used again.
+#[test]
+fn a_disk_that_fails_as_a_certificate_is_signed(rt: HostRuntime) -> Result<(), Fail> {
+    let tag = tag(rt.alloc())?;
+    for (call, next) in [(9u64, None), (10, None), (11, Some(0u8)), (12, Some(1))] {
+        enroll_failing(&rt, rt.alloc(), &tag, call, 0, next)?;
+    }
+    Ok(())
+}
+
+#[test]
+fn a_disk_that_fails_as_the_next_is_signed(rt: HostRuntime) -> Result<(), Fail> {
+    let tag = tag(rt.alloc())?;
+    for (call, next) in [(13u64, None), (14, None), (15, None), (16, Some(2u8))] {
+        enroll_failing(&rt, rt.alloc(), &tag, call, 1, next)?;
+    }
     Ok(())
 }
 
