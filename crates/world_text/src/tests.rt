@@ -27,6 +27,6 @@ fn a_line_and_what_stands_behind_it(rt: HostRuntime) -> Result<(), Fail> {
     out.clear();
     let seen = MemberList::from_vec(Vec::from_slice(rt.alloc(), &[MemberId::new(1), member])?);
     write_verdict(&Verdict::Sees(seen), &mut out)?;
-    assert_eq!(rt; out.as_slice(), b"1 7");
+    assert_eq!(rt; out.as_slice(), b"1 7".as_slice());
     Ok(())
 }

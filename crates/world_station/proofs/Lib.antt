@@ -1,0 +1,5 @@
+pub mod WorldLemmas
+pub mod SpentLemmas
+pub mod OpenLemmas
+pub mod CallLemmas
+pub mod StartLemmas

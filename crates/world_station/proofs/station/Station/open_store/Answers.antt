@@ -1,0 +1,27 @@
+use Rattle.std.proofs.Common.{Ok, Err, subst, sym, ap}
+use Rattle.ports.specs.MemoryDisk.{DiskState}
+use Rattle.world_disks.specs.Held.{HoldsDisk}
+use Rattle.world_disks.proofs.Reading.{read_as_told}
+use Rattle.world_rules.specs.Disks.{after_calls, opening_calls, stopped}
+use Rattle.world_station.specs.Stations.{StationState}
+use Rattle.world_station.proofs.OpenLemmas.{unopened}
+use Rattle.world_station.proofs.station.Station.open_store.Goals as goal
+
+pub returns-in-Ok-clause-opens : goal.returns-in-Ok-clause-opens
+returns-in-Ok-clause-opens c = λ indexes e h.
+    let inside = c.self.inside in
+    let held = subst (λ (x : StationState). HoldsDisk x.tag indexes x.disk e) (sym c.self.view_is) h in
+    let came = read_as_told inside.tag _ indexes inside.disk c.open.new.disk e (Ok c.in-Ok.store) held c.in-Ok.ensures.not_taken c.in-Ok.ensures.reads c.in-Ok.ensures.follows in
+    (came.0, came.1, subst (λ (x : StationState). HoldsDisk x.tag indexes c.open.new.disk (after_calls (opening_calls e) e)) c.self.view_is came.2)
+
+pub returns-in-Err : goal.returns-in-Err
+returns-in-Err c = record {
+  runs = tt;
+  opens = λ indexes e h.
+      let inside = c.self.inside in
+      let held = subst (λ (x : StationState). HoldsDisk x.tag indexes x.disk e) (sym c.self.view_is) h in
+      let came = unopened inside.tag indexes e c.open.new.disk c.in-Err.field-0 (read_as_told inside.tag _ indexes inside.disk c.open.new.disk e (Err c.in-Err.field-0) held c.in-Err.ensures.not_taken c.in-Err.ensures.reads c.in-Err.ensures.follows) in
+      let left = subst (λ (d : DiskState). HoldsDisk inside.tag indexes d (stopped e)) (sym c.crash.ensures.after) came.1 in
+      (came.0, subst (λ (x : StationState). HoldsDisk x.tag indexes c.crash.new.self (stopped e)) c.self.view_is left);
+  frame = ap (λ (x : StationState). record x { disk = c.crash.new.self }) c.self.view_is;
+}
