@@ -25,9 +25,18 @@ use Rattle.node_rules.specs.Ticking.{accusation_on, ring_for, has_accused, wants
 use Rattle.node_rules.specs.Verdicts.{is_apart}
 use Rattle.node_rules.specs.Lives.{Input, Delivers, Ticks as Tick, call_of}
 
+-- Told apart from the life and from datagrams, and no signature.
+abbrev pub is_beside : whats.What → Bool
+is_beside (told.Spent index body) = false
+is_beside other = is_apart other
+
+pub beside-apart : (what : whats.What) → is_beside what ≡ true → is_apart what ≡ true
+beside-apart (told.Spent index body) h = refl
+beside-apart other h = h
+
 -- Each step of a call carries it on.
 pub record Carries (s : Setting) (P : Call → Type 0) : Type 0 where
-  pub told : (what : whats.What) (c : Call) → is_apart what ≡ true → P c → P (tells s what c)
+  pub told : (what : whats.What) (c : Call) → is_beside what ≡ true → P c → P (tells s what c)
   pub sent : (d : Datagram) (c : Call) (to : ℕ) → P c → P (sends s d c to)
   pub taken : (r : Record) (c : Call) → refusal s c.node r ≡ None → P c → P (takes s r c)
   pub answered : (r : Record) (a : AccBody) (c : Call) → refusal s c.node r ≡ None → r.body ≡ Accusation a → eqb a.accused s.me ≡ true → is_used_up s (takes s r c).node ≡ false → P c → P (signs s (answer_to s (takes s r c).node.stored a) (takes s r c))

@@ -18,7 +18,7 @@ use Rattle.node_rules.specs.Deliveries.{answer_to, handles, handles_all, deliver
 use Rattle.node_rules.specs.Ticking.{accuses, accuses_all, probed_at, ticked, ticked_until}
 use Rattle.node_rules.specs.Lives.{is_of_life, Input, call_of}
 use Rattle.node_rules.specs.Verdicts.{is_apart}
-use Rattle.node_rules.proofs.Carrying.{Carries, carries-sends_to_all, carries-wants, carries-handles, carries-handles_all, carries-delivered, carries-delivered_until, carries-accuses, carries-accuses_all, carries-probed_at, carries-ticked, carries-ticked_until, carries-call}
+use Rattle.node_rules.proofs.Carrying.{Carries, beside-apart, carries-sends_to_all, carries-wants, carries-handles, carries-handles_all, carries-delivered, carries-delivered_until, carries-accuses, carries-accuses_all, carries-probed_at, carries-ticked, carries-ticked_until, carries-call}
 
 -- Each step of a call keeps it.
 pub record Keeps (s : Setting) (P : Call → Type 0) : Type 0 where
@@ -42,7 +42,7 @@ apart-other other h = refl
 carries : (s : Setting) (P : Call → Type 0) → Keeps s P → Carries s P
 carries s P k =
     record {
-      told = λ what c apart h. k.told what c (apart-other what apart) h;
+      told = λ what c beside h. k.told what c (apart-other what (beside-apart what beside)) h;
       sent = k.sent;
       taken = k.taken;
       answered = k.answered;

@@ -26,7 +26,7 @@ use Rattle.node_rules.specs.Verdicts.{all_at, told_that, is_apart}
 use Rattle.node_rules.specs.Sending.{is_sent, sendings, TellsSendings, Brings, given, reply}
 use Rattle.node_rules.proofs.Small.{node-sends}
 use Rattle.node_rules.proofs.Handling.{nil-right, that-tells, unlived, map-append, apart-over, that-sends}
-use Rattle.node_rules.proofs.Carrying.{Carries, carries-call, carries-delivered_until, carries-ticked_until}
+use Rattle.node_rules.proofs.Carrying.{Carries, beside-apart, carries-call, carries-delivered_until, carries-ticked_until}
 
 -- ---- what is told as sent
 
@@ -84,7 +84,7 @@ sendings-sends s d c to h =
 sending : (s : Setting) → Carries s TellsSendings
 sending s =
     record {
-      told = sendings-tells s;
+      told = λ what c beside h. sendings-tells s what c (beside-apart what beside) h;
       sent = sendings-sends s;
       taken = λ r c fine h. sendings-takes s r c h;
       answered = λ r a c fine is me left h. sendings-signs s (answer_to s (takes s r c).node.stored a) (takes s r c) (sendings-takes s r c h);

@@ -1,6 +1,7 @@
 pub mod KitLemmas
 pub mod OpenLemmas
 pub mod LiveLemmas
+pub mod KeptLemmas
 pub mod RunLemmas
 pub mod LineLemmas
 pub mod OriginLemmas

@@ -43,6 +43,7 @@ use Rattle.node_running.specs.Members.{IsMember, kit_judging, own_port, tag_of}
 use Rattle.node_running.specs.Opening.{Begins, IsBegun, OfDisk, setting_for, start_of}
 use Rattle.node_running.specs.Spendings.{IsSpentFrom}
 use Rattle.node_running.specs.Journal.{Around, IsLived, IsUnsent, Lives, around, bound_for, end_line, lines_of}
+use Rattle.node_running.proofs.KeptLemmas.{life-bound, life-kept}
 use Rattle.node_running.specs.Running.{Feed, HasRun, IsCaused, IsStoreCause, LivesOut, Runs, RunsBehind, RunsOnce, Takes, life_in}
 
 -- ## A life begins without a datagram
@@ -126,12 +127,14 @@ has-run m feed stored node events was now mid b l =
       vouchable = b.vouchable;
       written = subst (λ es. Appends was.taken now.taken (lines_of es ++ r.text ++ end_line)) b.told_is l.written;
       given = l.given;
+      bound = life-bound m stored feed;
       faults = l.faults ∙ b.faults;
       gate = l.kept.signer.gate;
       left = λ tells.
           let f = b.fresh tells in
           let living = l.key.lives (tag_of m) f.0 (spent_told (start_of m stored).told) f.2 in
           subst (λ (k : Stored). IsSettled (tag_of m) k l.kept.signer.gate now.disk.moments) l.is.stored (living.settled (l.unclosed ∙ b.unclosed));
+      kept = life-kept m stored feed;
       ends = λ before spent ends.
           let living = l.key.lives (tag_of m) before (spent ++ spent_told (start_of m stored).told) (b.lives before spent ends) in
           subst (λ (xs : List Spent). EndsNow (tag_of m) before xs now.disk.moments) (append_assoc spent (spent_told (start_of m stored).told) r.spent) living.ends;

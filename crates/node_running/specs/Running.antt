@@ -23,9 +23,9 @@ use Rattle.node_running.specs.declared.halt.NodeHalt.{NodeHalt}
 use Rattle.node_running.specs.declared.halt.NodeHalt.TheVariants as halt
 use Rattle.node_running.specs.declared.kit.Member.{Member}
 use Rattle.node_running.specs.Halts.{is_write_fault}
-use Rattle.node_running.specs.Members.{IsMember, kit_judging, tag_of}
+use Rattle.node_running.specs.Members.{IsMember, kit_judging, own_port, tag_of}
 use Rattle.node_running.specs.Opening.{Ends, IsBegun, IsBroken, IsFound, IsUnopened, IsUnstarted, IsUsedUp, OfDisk, OpeningFails, StartFails, Tells, setting_for, start_of}
-use Rattle.node_running.specs.Spendings.{IsSpentFrom}
+use Rattle.node_running.specs.Spendings.{IsSpentFrom, kept_behind}
 use Rattle.node_running.specs.Journal.{Around, Lives, bound_for, course_of, journal_of}
 
 -- The link and the clock as the run begins: what the link holds, the last reading, those to come; and how many turns are run.
@@ -52,8 +52,9 @@ LivesOut m feed was now result =
     × Lives (setting_for m) node (start_of m stored).told (life_acts m.millis feed.turns feed.link.coming feed.reading feed.readings)
     (served_from (start_of m stored).node (bound_for m feed.link)) (record was { disk = mid }) now result
 
--- All was done: the journal was written, the link was given what the life gives it, and the store is settled with what the life
--- keeps, so that each crash leaves such a store; the lives of the key go on with what was spent, whose indexes rise from the next one
+-- All was done: the journal was written, the link is bound to the own port and was given what the life gives it, and the store is
+-- settled with what the life keeps, so that each crash leaves such a store: its next index is one above that of the last signature,
+-- epoch and mask are those of the last note; the lives of the key go on with what was spent, whose indexes rise from the next one
 -- found on, and the epochs of whose notes rise above the one found.
 pub record HasRun (m : Member) (feed : Feed) (was now : Around) : Type 0 where
   pub stored : Stored
@@ -61,9 +62,11 @@ pub record HasRun (m : Member) (feed : Feed) (was now : Around) : Type 0 where
   pub vouchable : IsVouchable (setting_for m) (public_of m.own.key) (recs_of m.certificates.items) stored
   pub written : Appends was.taken now.taken (journal_of m stored feed.turns feed.link feed.reading feed.readings)
   pub given : now.link ≡ Some (life_in m stored feed).link
+  pub bound : (life_in m stored feed).link.bound ≡ Some (own_port m)
   pub faults : now.disk.faults ≡ was.disk.faults
   pub gate : ℕ
   pub left : Tells was.disk.moments → IsSettled (tag_of m) (life_in m stored feed).node.stored gate now.disk.moments
+  pub kept : (life_in m stored feed).node.stored ≡ kept_behind stored (spent_told (start_of m stored).told ++ (life_in m stored feed).spent)
   pub ends : Ends m (spent_told (start_of m stored).told ++ (life_in m stored feed).spent) was.disk now.disk
   pub once : Tells was.disk.moments → IsSpentFrom stored (spent_told (start_of m stored).told ++ (life_in m stored feed).spent)
 

@@ -1,8 +1,10 @@
 -- What the run of a member has spent of its key.
-use Rattle.std.specs.Prelude.{ℕ, ◌≤◌, ◌<◌, ◌⊎◌, List}
+use Rattle.std.specs.Prelude.{ℕ, ◌+◌, ◌≤◌, ◌<◌, ◌⊎◌, List, fold}
 use Rattle.std.specs.List.{AllByRecursion}
 use Rattle.epoch_store.specs.declared.Stored.{Stored}
 use Rattle.play.specs.Plays.{Standing}
+use Rattle.records.specs.declared.Body.{Body}
+use Rattle.records.specs.declared.Body.TheVariants.{Certificate, Note, Accusation}
 use Rattle.signer.specs.Lives.{EndsNow, IsOnce, Spent, indexes, note_epochs}
 use Rattle.node_running.specs.declared.kit.Member.{Member}
 use Rattle.node_running.specs.Members.{IsMember}
@@ -14,6 +16,19 @@ pub record IsSpentFrom (found : Stored) (spent : List Spent) : Type 0 where
   pub once : IsOnce spent
   pub above : AllByRecursion (λ i. found.next ≤ i) (indexes spent)
   pub later : AllByRecursion (λ e. found.epoch < e) (note_epochs spent)
+
+-- What a store keeps behind these signatures, that kept this before: the next index is one above that of the last, and epoch and mask
+-- are those of the last note among them.
+abbrev pub kept_for : Stored → Body → Stored
+kept_for kept (Certificate c) = kept
+kept_for kept (Note n) = record kept { epoch = n.epoch; mask = n.mask }
+kept_for kept (Accusation a) = kept
+
+abbrev pub kept_with : Stored → Spent → Stored
+kept_with kept s = kept_for (record kept { next = s.index + 1 }) s.body
+
+abbrev pub kept_behind : Stored → List Spent → Stored
+kept_behind kept spent = fold kept_with kept spent
 
 -- A member was read from the text, and a store of its key was found. Just this was spent from it on: wherever crashes ended lives
 -- of the key so at first, each crash now ends them with this spent beside.
