@@ -22,7 +22,7 @@ fn a_line_and_what_stands_behind_it(rt: HostRuntime) -> Result<(), Fail> {
     )?;
     assert_eq!(rt;
         out.as_slice(),
-        b"view 7refused exhausted 32@7 at 3 removed 1"
+        b"view 7refused exhausted 32@7 at 3 removed 1".as_slice()
     );
     out.clear();
     let seen = MemberList::from_vec(Vec::from_slice(rt.alloc(), &[MemberId::new(1), member])?);
