@@ -1,0 +1,52 @@
+-- A life that began in a world.
+use Rattle.std.proofs.Common.{◌≡◌, ℕ, ◌+◌, true, false, eqb, List, [], ◌∷◌, ◌++◌, length, Option, Some, Result, Ok, refl, ap, sym, ◌∙◌, subst, append-nil}
+use Rattle.std.specs.Prelude.{fold}
+use Rattle.std.proofs.Math.ListN.{set}
+use Rattle.journal.specs.declared.event.Event as journal
+use Rattle.node_rules.specs.Calls.{Call}
+use Rattle.world_rules.specs.Settings.{Setting}
+use Rattle.world_rules.specs.Disks.{lets_pass, opening_calls, put_passes}
+use Rattle.world_rules.specs.Counts.{counts_of, with_event}
+use Rattle.world_rules.specs.Steps.{Answer, Course, Told, begun, first_call, in_station, starts as begins_so, told_in, with_call}
+use Rattle.world_rules.specs.Verdicts as verdicts
+use Rattle.world_rules.specs.Walk.{behind_line}
+use Rattle.world_rules.specs.Worlds.{Station, World as Meant, spent_of}
+use Rattle.world_station.specs.declared.starting.Started.TheVariants as starts
+use Rattle.world_station.specs.Answers.{StartsNode, begun_place, opened_place, spent_in}
+use Rattle.world_station.specs.Holding.{HoldsStation}
+use Rattle.world_station.specs.Stations.{StationState}
+use Rattle.world.specs.declared.counts.Counts as counted
+use Rattle.world.specs.Counting.{AreKept}
+use Rattle.world.specs.Courses.{IsPlace, began_text, behind_text, starts_if_left}
+use Rattle.world.specs.Holding.{Holds, Kept}
+use Rattle.world.specs.Telling.{told_lines}
+use Rattle.world.proofs.CallLemmas.{holds-called}
+
+-- The answer of the rules, the world behind it, and what is written.
+pub record Begun (s : Setting) (w : Meant) (before : List Told) (v : Kept) (m at life : ℕ) (later : StationState) (events : List journal.Event) (kept : counted.Counts) : Type 0 where
+  pub answer : Answer
+  pub same : starts_if_left s m w ≡ answer
+  pub holds : Holds s answer.world (before ++ answer.told) (record v { stations = set v.stations at later; sent = v.sent; counts = kept })
+  pub text : behind_text answer ≡ began_text life m (length v.sent) events
+
+pub begun-so : (s : Setting) (w : Meant) (before : List Told) (v : Kept) (m at life : ℕ) (later : StationState) (events : List journal.Event) (kept : counted.Counts) → (h : Holds s w (before ++ []) v) → IsPlace v at m → later.member ≡ m
+    → StartsNode s h.ots h.tree (w.stations m) (spent_of w (Some m)) later (Ok (starts.Began life events)) → AreKept kept (fold (λ z e. with_event s z e.what) (counts_of s (before ++ [])) events) → Begun s w before v m at life later events kept
+unfolding begins_so
+begun-so s w before v m at life later events kept h there own st counts =
+    let opened : Station = opened_place (w.stations m) in
+    let call_by : ℕ → Call = λ k. first_call s k (w.stations m).disk.state in
+    let call : Call = call_by m in
+    let d : Course = in_station m (begun_place opened call) (with_call m call (begun w)) in
+    let told : events ≡ call.told = st.1.told ∙ ap (λ (k : ℕ). (call_by k).told) own in
+    let sent : call.sent ≡ [] = ap (λ (k : ℕ). (call_by k).sent) (sym own) ∙ st.1.sent in
+    let held : HoldsStation s h.ots h.tree (begun_place opened call) (spent_of w (Some m) ++ spent_in m call.told) later =
+    subst (λ (es : List journal.Event). HoldsStation s h.ots h.tree (begun_place opened call) (spent_of w (Some m) ++ spent_in m es) later) told
+    (subst (λ (k : ℕ). HoldsStation s h.ots h.tree (begun_place opened (call_by k)) (spent_of w (Some m) ++ spent_in k events) later) own st.1.holds) in
+    let line : ℕ → ℕ → List journal.Event → List ℕ = λ number n es. behind_line (Some (verdicts.Began number)) ++ 10 ∷ [] ++ told_lines (told_in m n es) in
+    record {
+      answer = record { world = d.world; verdict = Some (verdicts.Began (length opened.past + 1)); told = d.told };
+      same = rw st.1.left (rw st.0 (rw st.1.passes refl));
+      holds = holds-called s (begun w) before v m at later (begun_place opened call) call v.sent kept h there own held (sym (ap (λ (z : List (ℕ × List ℕ)). v.sent ++ z) sent ∙ append-nil v.sent))
+          (subst (λ (es : List journal.Event). AreKept kept (fold (λ z e. with_event s z e.what) (counts_of s (before ++ [])) es)) told counts);
+      text = ap (λ (n : ℕ). line n (length w.sent) call.told) (sym st.1.number) ∙ ap (λ (es : List journal.Event). line life (length w.sent) es) (sym told) ∙ ap (λ (z : List (ℕ × List ℕ)). line life (length z) events) (sym h.sent);
+    }

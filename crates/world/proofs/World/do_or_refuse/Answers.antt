@@ -1,0 +1,28 @@
+use Rattle.std.proofs.Common.{◌≡◌, ◌≢◌, ℕ, zero, suc, ◌+◌, ◌-◌, ◌<◌, ◌≤◌, Bool, true, false, not, cond, eqb, List, [], ◌∷◌, ◌++◌, Option, Some, None, take, drop, drop-cons, get_or, length, map, filter, refl, ap, sym, ◌∙◌, subst, arith, rules, append-nil, append_assoc, inl, inr}
+use Rattle.std.specs.Prelude.{is_err, is_some, Result, Ok, Err}
+use Rattle.std.specs.List.{slice_get}
+use Rattle.std.specs.Option.{option_map}
+use Rattle.std.proofs.lemmas.Option.{slice_get-map, slice_get_read}
+use Rattle.world_rules.specs.Settings.{Setting, nodes}
+use Rattle.world_rules.specs.Forgeries.{Forgery}
+use Rattle.world_rules.specs.Steps.{Course, Told, and_then, flows, flows_one, gives, gives_each, hands, hands_sent, tells_got}
+use Rattle.world_rules.specs.Worlds.{World as Meant, is_running}
+use Rattle.world.specs.declared.fault.WorldFault.{WorldFault}
+use Rattle.world.specs.declared.fault.WorldFault.TheVariants as faults
+use Rattle.world.specs.contracts.World.{the_view}
+use Rattle.world_station.specs.Stations.{StationState}
+use Rattle.world.specs.Holding.{Holds, Kept, numbers}
+use Rattle.world.specs.Courses.{At, FlowsOne, Goes, IsPlace, got_by, hands_each, hands_if}
+use Rattle.std.proofs.lemmas.Result.{err_from_is_err_and}
+use Rattle.world_text.specs.Verdicts.{why_of}
+use Rattle.world_rules.specs.Steps.{says, step}
+use Rattle.world_rules.specs.Verdicts as verdicts
+use Rattle.world.proofs.AnswerLemmas.{replies-same, says-replies}
+use Rattle.world.proofs.StepLemmas.{step-refused}
+use Rattle.world.proofs.World.do_or_refuse.Goals as goal
+
+pub returns-in-Some-clause-steps : goal.returns-in-Some-clause-steps
+returns-in-Some-clause-steps c = λ s w before h.
+    let said : verdicts.Verdict = verdicts.Refused (why_of c.in-Some.why) in
+    replies-same s before c.args.self.now c.args.out.now.items c.answer.new.out.items (step s w c.args.line.now) (Ok (says said w)) c.answer.result (step-refused s w c.args.line.now (why_of c.in-Some.why) (c.in-Some.ensures s w before h))
+    (says-replies s w before c.args.self.now c.args.out.now.items c.answer.new.out.items said c.answer.result h c.answer.ensures.ok c.answer.ensures.refused c.answer.ensures.cause)

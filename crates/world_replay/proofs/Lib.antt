@@ -1,0 +1,2 @@
+pub mod UnfedLemmas
+pub mod LineLemmas
