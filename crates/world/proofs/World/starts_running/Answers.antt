@@ -1,7 +1,0 @@
-use Rattle.std.proofs.Common.{◌≡◌, ◌≢◌, ℕ, zero, suc, ◌+◌, ◌-◌, ◌<◌, ◌≤◌, Bool, true, false, not, cond, eqb, List, [], ◌∷◌, ◌++◌, Option, Some, None, take, drop, get_or, length, map, filter, refl, ap, sym, ◌∙◌, subst, arith, rules, append-nil, append_assoc, inl, inr}
-use Rattle.world_rules.specs.Refusals.{holds_of}
-use Rattle.world_rules.specs.Worlds.{is_running}
-use Rattle.world.proofs.World.starts_running.Goals as goal
-
-pub returns-in-Some : goal.returns-in-Some
-returns-in-Some c = λ s w told h. c.is_running.ensures s w told h ∙ ap (holds_of (is_running w)) c.in-Some.ensures

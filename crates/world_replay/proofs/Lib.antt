@@ -1,2 +1,0 @@
-pub mod UnfedLemmas
-pub mod LineLemmas
