@@ -7,6 +7,3 @@ mod station;
 
 pub use starting::Started;
 pub use station::Station;
-
-#[cfg(test)]
-mod tests;
