@@ -11,6 +11,8 @@ mod Lawful
 mod Origins
 mod Verified
 mod Removing
+mod Written
+mod Answered
 mod Keyed
 mod Rows
 mod Walking

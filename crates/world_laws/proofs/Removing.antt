@@ -8,8 +8,8 @@ use Rattle.ff_ids.specs.declared.Group.{Group}
 use Rattle.ff_ids.specs.Views.{State, all_numbers, in_view, is_member, view}
 use Rattle.ff_ids.specs.Faults.{note_fault, accusation_fault}
 use Rattle.ff_ids.specs.Steps.{Event, Joins, Notes, Accuses, Ticks, Report, Stepped, joined, unchanged, only_before, after_note, after_accusation, unless_fault, step}
-use Rattle.ff_ids.specs.Lives.{opening, IsRemovedAt}
-use Rattle.life_laws.proofs.Lists.{In, In-append_cases, In-filter, In-from_filter, In-from_map, In-from_Contains, Contains-from_In}
+use Rattle.ff_ids.specs.Lives.{opening, state_at, IsRemovedAt}
+use Rattle.life_laws.proofs.Lists.{All-from_In, In, In-append_cases, In-filter, In-from_filter, In-from_map, In-from_Contains, Contains-from_In}
 use Rattle.life_laws.proofs.JustifiedLemmas.{justified}
 use Rattle.journal.specs.declared.event.Event as journal
 use Rattle.journal.specs.declared.event.What as whats
@@ -21,7 +21,7 @@ use Rattle.world_rules.specs.Worlds.{Life, World, lives_of}
 use Rattle.world_rules.specs.Steps.{Told}
 use Rattle.world_rules.specs.Laws.{IsSetting, Reached, tells_life}
 use Rattle.world_rules.proofs.Telling.{lives-justified}
-use Rattle.world_laws.specs.Laws.{RemovalsAreVerified, RestsOnVerified, SignaturesVerify}
+use Rattle.world_laws.specs.Laws.{IsVerifiedRemoval, RemovalsAreVerified, RemovesVerified, SignaturesVerify, ToldRemovalsAreVerified}
 use Rattle.world_laws.proofs.Signed.{in-mapped}
 use Rattle.world_laws.proofs.Verified.{IsVouchedAt, reached-verified, vouched}
 
@@ -95,32 +95,40 @@ told-removed moment r e m i is =
 
 -- ---- a life in which it is told
 
-record RemovedIn (g : Group) (st : State) (events : List Event) (m : ℕ) : Type 0 where
+-- The member is removed at a place of the life, which has this moment behind it.
+record RemovedIn (g : Group) (st : State) (events : List Event) (m moment : ℕ) : Type 0 where
   place : ℕ
   within : place < length events
   removed : IsRemovedAt g st events place m
+  behind : (state_at g st events (place + 1)).moment ≡ moment
 
-removed-later : (g : Group) (st : State) (e : Event) (events : List Event) (m : ℕ) → RemovedIn g (step g st e).state events m → RemovedIn g st (e ∷ events) m
-removed-later g st e events m h =
+removed-later : (g : Group) (st : State) (e : Event) (events : List Event) (m moment : ℕ) → RemovedIn g (step g st e).state events m moment → RemovedIn g st (e ∷ events) m moment
+removed-later g st e events m moment h =
     let same : suc h.place + 1 ≡ suc (h.place + 1) = omega arith in
     record {
       place = suc h.place;
       within = omega (arith, h.within);
       removed = record { before = h.removed.before; later = rw same h.removed.later };
+      behind = rw same h.behind;
     }
 
-removed-in : (g : Group) (st : State) (events : List Event) (e : journal.Event) (m : ℕ) → In (told_by g st events) e → e.what ≡ happened.Removed m → RemovedIn g st events m
+pub told-moment : (moment : ℕ) (r : Report) (e : journal.Event) → In (told_of moment r) e → moment ≡ e.moment
+told-moment moment r e i =
+    let x = In-from_map (λ what. let made : journal.Event = record { moment = moment; what = what } in made) (whats_of r) e i in
+    ap (λ (y : journal.Event). y.moment) x.1.1
+
+removed-in : (g : Group) (st : State) (events : List Event) (e : journal.Event) (m : ℕ) → In (told_by g st events) e → e.what ≡ happened.Removed m → RemovedIn g st events m e.moment
 removed-in g st [] e m i is = absurd i
 removed-in g st (x ∷ events) e m i is =
     let made : Stepped = step g st x in
     elim (In-append_cases (told_of made.state.moment made.report) (told_by g made.state events) e i) [
       | inl here ↦
           let gone = leaves-step g st x m (told-removed made.state.moment made.report e m here is) in
-          record { place = zero; within = omega arith; removed = record { before = gone.before; later = gone.later } }
-      | inr later ↦ removed-later g st x events m (removed-in g made.state events e m later is)
+          record { place = zero; within = omega arith; removed = record { before = gone.before; later = gone.later }; behind = told-moment made.state.moment made.report e here }
+      | inr later ↦ removed-later g st x events m e.moment (removed-in g made.state events e m later is)
     ]
 
-in-flat : {X Y : Type 0} (f : X → List Y) (xs : List X) (y : Y) → In (flat_map f xs) y → (x : X) × (In xs x × In (f x) y)
+pub in-flat : {X Y : Type 0} (f : X → List Y) (xs : List X) (y : Y) → In (flat_map f xs) y → (x : X) × (In xs x × In (f x) y)
 in-flat f [] y i = absurd i
 in-flat f (x ∷ xs) y i =
     elim (In-append_cases (f x) (flat_map f xs) y i) [
@@ -130,27 +138,36 @@ in-flat f (x ∷ xs) y i =
 
 -- ---- the law
 
-verified-at : (s : Setting) (w : World) (told : List Told) (who m : ℕ) (life : Life) → IsSetting s → SignaturesVerify s → Reached s w told → In (lives_of w who) life → RemovedIn s.group (opening []) life.node.lived m → RestsOnVerified s w who m
-verified-at s w told who m life fits verify reached i gone =
-    let rests = justified s.group [] life.node.lived gone.place m gone.within gone.removed in
+verified-at : (s : Setting) (w : World) (told : List Told) (who : ℕ) (life : Life) → IsSetting s → SignaturesVerify s → Reached s w told → In (lives_of w who) life → RemovesVerified s w who life
+verified-at s w told who life fits verify reached i place m within removed =
+    let rests = justified s.group [] life.node.lived place m within removed in
     let vouched-at : IsVouchedAt s w who life rests.0 rests.1 = vouched s w told who life rests.0 rests.1 fits verify reached (reached-verified s w told fits reached) i rests.2.accepted.event in
+    record { accepted = rests.0; accusation = rests.1; rests = rests.2; verified = vouched-at.verified; came = vouched-at.came }
+
+pub removals-verified : RemovalsAreVerified
+removals-verified s w told who fits verify reached = All-from_In _ (lives_of w who) (λ life i. verified-at s w told who life fits verify reached i)
+
+told-verified : (s : Setting) (w : World) (told : List Told) (t : Told) (m : ℕ) (life : Life) → IsSetting s → SignaturesVerify s → Reached s w told → In (lives_of w t.who) life → RemovedIn s.group (opening []) life.node.lived m t.event.moment → IsVerifiedRemoval s w t m
+told-verified s w told t m life fits verify reached i gone =
     record {
       life = life;
       lived = Contains-from_In _ _ i;
       place = gone.place;
       within = gone.within;
       removed = gone.removed;
-      accepted = rests.0;
-      accusation = rests.1;
-      rests = rests.2;
-      verified = vouched-at.verified;
-      came = vouched-at.came;
+      moment = gone.behind;
+      rests = verified-at s w told t.who life fits verify reached i gone.place m gone.within gone.removed;
     }
 
-pub removals-verified : RemovalsAreVerified
-removals-verified s w told t m fits verify reached among is =
-    let tells : tells_life t.who t ≡ true = and_from _ _ (eq-eqb t.who t.who refl) (ap is_of_life is) in
-    let i : In (map (λ (x : Told). x.event) (filter (tells_life t.who) told)) t.event = in-mapped (λ (x : Told). x.event) (filter (tells_life t.who) told) t (In-filter (tells_life t.who) told t (In-from_Contains _ _ among) tells) in
+-- What is told of a node's view or of accusations there is told by one of its lives.
+pub in-told : (s : Setting) (w : World) (told : List Told) (t : Told) → Reached s w told → In told t → is_of_life t.event.what ≡ true → (life : Life) × (In (lives_of w t.who) life × In (told_by s.group (opening []) life.node.lived) t.event)
+in-told s w told t reached among is =
+    let tells : tells_life t.who t ≡ true = and_from _ _ (eq-eqb t.who t.who refl) is in
+    let i : In (map (λ (x : Told). x.event) (filter (tells_life t.who) told)) t.event = in-mapped (λ (x : Told). x.event) (filter (tells_life t.who) told) t (In-filter (tells_life t.who) told t among tells) in
     let so = (lives-justified s w told t.who reached).told_so in
-    let life = in-flat (λ (life : Life). told_by s.group (opening []) life.node.lived) (lives_of w t.who) t.event (subst (λ xs. In xs t.event) so i) in
-    verified-at s w told t.who m life.0 fits verify reached life.1.0 (removed-in s.group (opening []) life.0.node.lived t.event m life.1.1 is)
+    in-flat (λ (life : Life). told_by s.group (opening []) life.node.lived) (lives_of w t.who) t.event (subst (λ xs. In xs t.event) so i)
+
+pub told-removals-verified : ToldRemovalsAreVerified
+told-removals-verified s w told t m fits verify reached among is =
+    let life = in-told s w told t reached (In-from_Contains _ _ among) (ap is_of_life is) in
+    told-verified s w told t m life.0 fits verify reached life.1.0 (removed-in s.group (opening []) life.0.node.lived t.event m life.1.1 is)

@@ -30,8 +30,10 @@ use Rattle.world_laws.specs.Texts.{IsComeTo, IsLawful, IsLawfulStage, IsPlayed, 
 use Rattle.world_rules.proofs.Once.{nodes-once}
 use Rattle.world_rules.proofs.Telling.{lives-justified}
 use Rattle.world_laws.proofs.Keyed.{keys-verify}
-use Rattle.world_laws.proofs.Lawful.{accepted-signed, accuse-silent, never-ahead, removed-signed}
-use Rattle.world_laws.proofs.Removing.{removals-verified}
+use Rattle.world_laws.proofs.Lawful.{accepted-signed, accuse-silent, never-ahead, removed-signed, rosters}
+use Rattle.world_laws.proofs.Removing.{removals-verified, told-removals-verified}
+use Rattle.world_laws.proofs.Written.{authority-once, sending-told, spending-told}
+use Rattle.world_laws.proofs.Answered.{answers-hold, expiries-lived}
 
 -- ---- rosters
 
@@ -210,9 +212,16 @@ played-lawful s w told h =
     let accepted = accepted-signed s w told h.fits h.reached in
     record {
       lives = λ m. lives-justified s w told m h.reached;
-      removals = λ t m among is. removals-verified s w told t m h.fits h.verify h.reached among is;
+      spending = λ m is. spending-told s w told m h.fits h.reached is;
+      sending = sending-told s w told h.reached;
+      rosters = λ who. rosters s w told who h.fits h.reached;
+      verified = λ who. removals-verified s w told who h.fits h.verify h.reached;
+      removals = λ t m among is. told-removals-verified s w told t m h.fits h.verify h.reached among is;
       once = λ m is. nodes-once s w told m h.fits h.reached is;
+      issued = authority-once s w told h.reached;
       none_ahead = never-ahead s w told h.fits h.reached;
+      answers = λ who. answers-hold s w who;
+      expiries = λ t a among is. expiries-lived s w told t a h.reached among is;
       had_signed = λ who. removed-signed s w told who h.fits h.reached;
       signed = λ m index a is spent. accuse-silent s w told m index a h.fits h.reached is spent;
       lived = accepted.0;

@@ -1,5 +1,5 @@
 -- What no liar brings about, in each world that lines lead to, none of which is forged.
-use Rattle.std.specs.Prelude.{◌≡◌, ℕ, ◌<◌, Bool, true, false, List, [], length, Contains, Some, None}
+use Rattle.std.specs.Prelude.{◌≡◌, ℕ, ◌+◌, ◌<◌, Bool, true, false, List, [], length, Contains, Some, None}
 use Rattle.std.specs.List.{AllByRecursion}
 use Rattle.ff_ids.specs.declared.AccBody.{AccBody}
 use Rattle.ff_ids.specs.declared.Group.{Group}
@@ -93,19 +93,32 @@ SignaturesVerify s = (who : Owner) (index : ℕ) (body : Body) → index < s.ind
 abbrev pub KeysVerify : Type 0
 KeysVerify = (g : Group) (ots : OtsKind) (tree : TreeKind) (correct liars : List ℕ) → SignaturesVerify (setting_for g ots tree correct liars)
 
--- In one of the node's lives the member is removed, and that rests on an accusation. The record of which the accusation
--- has come verifies under the key of the accuser's certificate, as the node keeps it.
-pub record RestsOnVerified (s : Setting) (w : World) (who m : ℕ) : Type 0 where
-  pub life : Life
-  pub lived : Contains (lives_of w who) life
-  pub place : ℕ
-  pub within : place < length life.node.lived
-  pub removed : IsRemovedAt s.group (opening []) life.node.lived place m
+-- The removal of the member at this place of the life rests on an accusation. The record of which the accusation has come
+-- verifies under the key of the accuser's certificate, as the node keeps it.
+pub record RestsOnVerified (s : Setting) (w : World) (who : ℕ) (life : Life) (place m : ℕ) : Type 0 where
   pub accepted : ℕ
   pub accusation : AccBody
   pub rests : RestsOn s.group (opening []) life.node.lived place m accepted accusation
   pub verified : IsVouchedFor (setting_of s who) (public_key_of life.node accusation.accuser) (Accusation accusation)
   pub came : HasComeOf s w who life accepted accusation verified.witness
 
+-- So does each removal in the life.
+abbrev pub RemovesVerified : Setting → World → ℕ → Life → Type 0
+RemovesVerified s w who life = (j m : ℕ) → j < length life.node.lived → IsRemovedAt s.group (opening []) life.node.lived j m → RestsOnVerified s w who life j m
+
 abbrev pub RemovalsAreVerified : Type 0
-RemovalsAreVerified = (s : Setting) (w : World) (told : List Told) (t : Told) (m : ℕ) → IsSetting s → SignaturesVerify s → Reached s w told → Contains told t → t.event.what ≡ happened.Removed m → RestsOnVerified s w t.who m
+RemovalsAreVerified = (s : Setting) (w : World) (told : List Told) (who : ℕ) → IsSetting s → SignaturesVerify s → Reached s w told → AllByRecursion (RemovesVerified s w who) (lives_of w who)
+
+-- What is told of the member is its removal at a place of one of the node's lives, which has the told moment behind it;
+-- and that rests on such a record.
+pub record IsVerifiedRemoval (s : Setting) (w : World) (t : Told) (m : ℕ) : Type 0 where
+  pub life : Life
+  pub lived : Contains (lives_of w t.who) life
+  pub place : ℕ
+  pub within : place < length life.node.lived
+  pub removed : IsRemovedAt s.group (opening []) life.node.lived place m
+  pub moment : (state_at s.group (opening []) life.node.lived (place + 1)).moment ≡ t.event.moment
+  pub rests : RestsOnVerified s w t.who life place m
+
+abbrev pub ToldRemovalsAreVerified : Type 0
+ToldRemovalsAreVerified = (s : Setting) (w : World) (told : List Told) (t : Told) (m : ℕ) → IsSetting s → SignaturesVerify s → Reached s w told → Contains told t → t.event.what ≡ happened.Removed m → IsVerifiedRemoval s w t m

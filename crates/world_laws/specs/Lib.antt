@@ -1,4 +1,6 @@
 pub mod Signing
 pub mod Origins
 pub mod Laws
+pub mod Telling
+pub mod Replies
 pub mod Texts

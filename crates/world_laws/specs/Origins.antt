@@ -35,8 +35,8 @@ pub record IsAcceptedBehind (s : Setting) (m : ℕ) (life : Life) (events : ℕ)
   pub at : length (node_behind s m life before earlier).lived ≡ events
   pub no_fault : refusal (setting_of s m) (node_behind s m life before earlier) r ≡ None
 
--- The accusation came in at this place of the life, at a tick, by the node itself, over its disk as it was then; and the
--- record has the signature of an index that the node's key has spent on it.
+-- The accusation came in at this place of the life, at a tick, by the node itself, over a disk that keeps what its store
+-- kept then; and the record has the signature of an index that the node's key has spent on it.
 pub record IsOwnRecord (s : Setting) (w : World) (m : ℕ) (life : Life) (place : ℕ) (a : AccBody) (r : Record) : Type 0 where
   pub by : a.accuser ≡ m
   pub before : List Input

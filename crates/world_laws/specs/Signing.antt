@@ -53,9 +53,9 @@ node_after s m found inputs = life_of (setting_of s m) (s.nonces m found.next) (
 abbrev pub TellsSpent : Call → ℕ → Body → Type 0
 TellsSpent c index body = (moment : ℕ) × Contains c.told (record { moment = moment; what = told.Spent index body })
 
--- The accuser has signed the accusation with this index, at a tick of one of its lives, over its disk as it was then. As it
--- came to that tick the accused was silent, and the accuser was its monitor on the ring in its own view, by the newest
--- note that it had of it, whose epoch the accusation has and which enables the ring.
+-- The accuser signs the accusation with this index, at a tick of one of its lives, over a disk that keeps what its store
+-- kept then. As it came to that tick the accused was silent, and the accuser was its monitor on the ring in its own view,
+-- by the newest note that it had of it, whose epoch the accusation has and which enables the ring.
 pub record SignedAtTick (s : Setting) (w : World) (index : ℕ) (a : AccBody) : Type 0 where
   pub life : Life
   pub lived : Contains (lives_of w a.accuser) life
@@ -67,7 +67,7 @@ pub record SignedAtTick (s : Setting) (w : World) (index : ℕ) (a : AccBody) : 
   pub signed : TellsSpent (called_on (setting_of s a.accuser) (node_after s a.accuser life.found before) Ticks disk).call index (Accusation a)
   pub silent : AccusesTheSilent (setting_of s a.accuser) (node_after s a.accuser life.found before) a
 
--- The accuser's key has spent an index on the accusation, at such a tick.
+-- The accuser's key has spent an index on the accusation, which is signed with it at such a tick.
 pub record WasSigned (s : Setting) (w : World) (a : AccBody) : Type 0 where
   pub index : ℕ
   pub spent : HasSpentOn w (Some a.accuser) index (Accusation a)

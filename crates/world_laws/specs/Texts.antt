@@ -17,8 +17,10 @@ use Rattle.world_rules.specs.Worlds.{World, lives_of, spent_of}
 use Rattle.world_rules.specs.Steps.{Told}
 use Rattle.world_rules.specs.Walk.{Grammar, Stage, Lists, Plays, events_in, setting_in, walk_over}
 use Rattle.world_rules.specs.Laws.{IsSetting, Reached, TellsLives}
-use Rattle.world_laws.specs.Signing.{HasSpentOn, SignedAtTick}
-use Rattle.world_laws.specs.Laws.{is_own_ahead, RemovesRightly, AccusesRightly, AcceptsRightly, RestsOnVerified, SignaturesVerify}
+use Rattle.world_laws.specs.Signing.{HasSpentOn, KeepsRoster, SignedAtTick}
+use Rattle.world_laws.specs.Laws.{is_own_ahead, RemovesRightly, AccusesRightly, AcceptsRightly, IsVerifiedRemoval, RemovesVerified, SignaturesVerify}
+use Rattle.world_laws.specs.Telling.{IsIssued, IsSentAsTold, IsSpentAsTold}
+use Rattle.world_laws.specs.Replies.{AnswersHold, IsExpiryInLife}
 
 -- The text may end only behind its last line.
 abbrev pub end_fault : Progress WorldText → Option BadWord
@@ -46,18 +48,31 @@ TextsComeToWorlds = (spelled : WorldLine → List ℕ) (text : List (List ℕ)) 
 
 -- ---- what holds of all of them
 
--- What was told of each node's view is what its lives tell, one after another, and each removal in a life rests on an
--- accusation that stood for the timeout. Each removal that was told of a node rests on such an accusation, and the record
--- that the node accepted of it, or made of it, verifies under the key of the accuser's certificate. What each node's key
--- spent, over all its lives, rises in index and, for notes, in epoch. No verdict told that a note was ahead of a node's
--- own. Where a node was removed anywhere, it had itself signed the note of the accusation's epoch with the accusation's
--- ring enabled. And each accusation of a node's, signed by it or accepted by anyone, was signed by it at a tick at which
--- the accused was silent there.
+-- What was told of each node's view is what its lives tell, one after another; what was told of it as spent is what its
+-- key has spent, in order; and what was told as sent is all datagrams, each with its number.
+--
+-- Each removal in a life rests on an accusation that stood for the timeout, and the record that the node accepted of it, or
+-- made of it, verifies under the key of the accuser's certificate. The certificates that a node keeps are the authority's.
+-- Each removal that was told is one of these, at the told moment. What each node's key spent, over all its lives, rises
+-- in index and, for notes, in epoch; and the authority's key has spent an index on each member's certificate alone. No
+-- verdict told that a note was ahead of a node's own. Behind an accepted note nothing that it answers expires unless it
+-- is accepted again, nothing older is accepted, and each expiry that was told is one in a life.
+--
+-- Where a node was removed anywhere, it had itself signed the note of the accusation's epoch with the accusation's ring
+-- enabled. And each accusation of a node's, signed by it or accepted by anyone, was signed by it at a tick at which the
+-- accused was silent there.
 pub record IsLawful (s : Setting) (w : World) (told : List Told) : Type 0 where
   pub lives : (m : ℕ) → TellsLives s w told m
-  pub removals : (t : Told) (m : ℕ) → Contains told t → t.event.what ≡ happened.Removed m → RestsOnVerified s w t.who m
+  pub spending : (m : ℕ) → is_node s m ≡ true → IsSpentAsTold w told m
+  pub sending : IsSentAsTold w told
+  pub rosters : (who : ℕ) → AllByRecursion (λ life. KeepsRoster s life.node) (lives_of w who)
+  pub verified : (who : ℕ) → AllByRecursion (RemovesVerified s w who) (lives_of w who)
+  pub removals : (t : Told) (m : ℕ) → Contains told t → t.event.what ≡ happened.Removed m → IsVerifiedRemoval s w t m
   pub once : (m : ℕ) → is_node s m ≡ true → IsOnce (spent_of w (Some m))
+  pub issued : IsIssued s w
   pub none_ahead : AllByRecursion (λ t. is_own_ahead t.event.what ≡ false) told
+  pub answers : (who : ℕ) → AllByRecursion (AnswersHold s) (lives_of w who)
+  pub expiries : (t : Told) (a : AccBody) → Contains told t → t.event.what ≡ happened.Expired a → IsExpiryInLife s w t a
   pub had_signed : (who : ℕ) → AllByRecursion (RemovesRightly s w) (lives_of w who)
   pub signed : (m index : ℕ) (a : AccBody) → is_node s m ≡ true → HasSpentOn w (Some m) index (Accusation a) → (a.accuser ≡ m) × SignedAtTick s w index a
   pub lived : (who : ℕ) → AllByRecursion (λ life. AllByRecursion (AccusesRightly s w) life.node.lived) (lives_of w who)

@@ -1,9 +1,11 @@
-//! What no liar brings about in a world of nodes, as theorems alone: which notes a member had signed that is removed, and
-//! at which ticks members sign their accusations. They speak of each world that lines lead to, none of which is forged.
-//! Each law is the contract of a function that does nothing.
+//! What no liar brings about in a world of nodes, as theorems alone: which notes a member had signed that is removed, at
+//! which ticks members sign their accusations, and that what is told is what was spent, sent and removed. They speak of
+//! each world that lines lead to, none of which is forged. Each law is the contract of a function that does nothing.
 #![tactic(auto)]
 
-ghost use Rattle.world_laws.specs.Laws.{RostersAreKept, OwnAheadNeverComes, TheRemovedHadSigned, NodesAccuseTheSilent, AcceptedAccusationsWereSigned, KeysVerify, RemovalsAreVerified};
+ghost use Rattle.world_laws.specs.Laws.{RostersAreKept, OwnAheadNeverComes, TheRemovedHadSigned, NodesAccuseTheSilent, AcceptedAccusationsWereSigned, KeysVerify, RemovalsAreVerified, ToldRemovalsAreVerified};
+ghost use Rattle.world_laws.specs.Telling.{AuthoritySpendsOnce, SendingIsTold, SpendingIsTold};
+ghost use Rattle.world_laws.specs.Replies.{AnswersHoldInWorlds, ToldExpiriesAreLived};
 ghost use Rattle.world_laws.specs.Texts.{TextsAreLawful, TextsComeToWorlds};
 
 /// In every life a node keeps the authority's certificates of the members, and no others.
@@ -35,13 +37,37 @@ pub fn keys_verify()
     ensures { KeysVerify }
 {}
 
-/// Each removal that a world tells of a node is one in a life of the node, and rests on an accusation that was accepted
-/// earlier in that life, by the node's monitor of the member, and stood so and unanswered for the timeout. The record of
-/// it verifies under the key of the accuser's certificate, as the node keeps it: the one of a delivered datagram that the
-/// node accepted there; or, where the node came to accuse there itself, at a tick, one with the signature of an index that
-/// its key spent on the accusation.
+/// Each removal in a life of a node rests on an accusation that was accepted earlier in that life, by the node's monitor
+/// of the member, and stood so and unanswered for the timeout. The record of it verifies under the key of the accuser's
+/// certificate, as the node keeps it: the one of a delivered datagram that the node accepted there; or, where the node came
+/// to accuse there itself, at a tick, one with the signature of an index that its key spent on the accusation. And each
+/// removal that is told of a node is one of these, at a place that has the told moment behind it.
 pub fn removals_are_verified()
-    ensures { RemovalsAreVerified }
+    ensures lived { RemovalsAreVerified }
+    ensures told { ToldRemovalsAreVerified }
+{}
+
+/// What is told as spent by a node, in order over all its lives, is what its key has spent.
+pub fn spending_is_told()
+    ensures { SpendingIsTold }
+{}
+
+/// What is told as sent is the list of all datagrams, each with its number there, counted from 0.
+pub fn sending_is_told()
+    ensures { SendingIsTold }
+{}
+
+/// The authority's key spends an index on each member's certificate, in order of number, and no index beside.
+pub fn the_authority_spends_once()
+    ensures { AuthoritySpendsOnce }
+{}
+
+/// In every life no accusation of an older epoch than an accepted note's is accepted behind it against its member, or
+/// expires; and what the note answers otherwise expires only where it was accepted again, and stood for the timeout since.
+/// Each expiry that is told of a node is one in a life of the node, at a place that has the told moment behind it.
+pub fn answers_hold()
+    ensures lived { AnswersHoldInWorlds }
+    ensures told { ToldExpiriesAreLived }
 {}
 
 /// Whatever a text in the world form is, and whatever ends it: as soon as its roster is whole, the lines that were taken
@@ -51,8 +77,9 @@ pub fn texts_come_to_worlds()
     ensures { TextsComeToWorlds }
 {}
 
-/// What holds of all worlds holds of what any text in the world form comes to: what is told of its nodes' views is what
-/// their lives tell, and its removals, what its nodes have signed and whom they have accused are as the other laws say.
+/// What holds of all worlds holds of what any text in the world form comes to: what is told of its nodes' views, of what
+/// they spend and of what they send is all of it; and its removals, what answers rule out, what its nodes and the authority
+/// have signed and whom its nodes have accused are as the other laws say.
 pub fn texts_are_lawful()
     ensures { TextsAreLawful }
 {}

@@ -1,0 +1,49 @@
+-- What was told of spending and sending is all that was spent and sent.
+use Rattle.std.specs.Prelude.{◌≡◌, ℕ, true, ◌==◌, if◌then◌else◌, List, Option, Some, None, filter, filter_map, map}
+use Rattle.signer.specs.Lives.{Spent, IsOnce}
+use Rattle.journal.specs.declared.event.What as whats
+use Rattle.journal.specs.declared.event.What.TheVariants as happened
+use Rattle.node_rules.specs.Sending.{is_sent, sendings}
+use Rattle.world_rules.specs.Settings.{Setting, Signed, by_authority, is_node}
+use Rattle.world_rules.specs.Worlds.{World, spent_of}
+use Rattle.world_rules.specs.Steps.{Told}
+use Rattle.world_rules.specs.Laws.{IsSetting, Reached}
+
+-- ---- what is spent
+
+-- What an event tells as spent.
+abbrev pub spent_in : whats.What → Option Spent
+spent_in (happened.Spent index body) = Some (record { index = index; body = body })
+spent_in what = None
+
+abbrev pub spent_if_told : ℕ → Told → Option Spent
+spent_if_told m t = if t.who == m then spent_in t.event.what else None
+
+-- What was told of a node as spent, in order over all its lives, is what its key has spent.
+abbrev pub IsSpentAsTold : World → List Told → ℕ → Type 0
+IsSpentAsTold w told m = filter_map (spent_if_told m) told ≡ spent_of w (Some m)
+
+abbrev pub SpendingIsTold : Type 0
+SpendingIsTold = (s : Setting) (w : World) (told : List Told) (m : ℕ) → IsSetting s → Reached s w told → is_node s m ≡ true → IsSpentAsTold w told m
+
+-- ---- what is sent
+
+-- What was told as sent, whoever sent it, is all datagrams in order, each with its number, from 0 on.
+abbrev pub IsSentAsTold : World → List Told → Type 0
+IsSentAsTold w told = map (λ t. t.event.what) (filter (λ t. is_sent t.event.what) told) ≡ sendings 0 w.sent
+
+abbrev pub SendingIsTold : Type 0
+SendingIsTold = (s : Setting) (w : World) (told : List Told) → Reached s w told → IsSentAsTold w told
+
+-- ---- what the authority has signed
+
+abbrev pub spent_as : Signed → Spent
+spent_as x = record { index = x.index; body = x.body }
+
+-- The authority's key has spent an index on each member's certificate, and nothing since; and each index once.
+pub record IsIssued (s : Setting) (w : World) : Type 0 where
+  pub certificates : spent_of w None ≡ map spent_as (by_authority s)
+  pub once : IsOnce (spent_of w None)
+
+abbrev pub AuthoritySpendsOnce : Type 0
+AuthoritySpendsOnce = (s : Setting) (w : World) (told : List Told) → Reached s w told → IsIssued s w
