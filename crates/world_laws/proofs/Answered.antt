@@ -25,9 +25,8 @@ use Rattle.journal.specs.declared.event.What.TheVariants as happened
 use Rattle.node_rules.specs.Calls.{told_of, whats_of}
 use Rattle.node_rules.specs.Lives.{is_of_life, told_by}
 use Rattle.world_rules.specs.Settings.{Setting}
-use Rattle.world_rules.specs.Worlds.{Life, World, lives_of}
-use Rattle.world_rules.specs.Steps.{Told}
-use Rattle.world_laws.specs.Replies.{AnswersHold, AnswersHoldInWorlds, EndsAcceptance, IsExpiryInLife, RulesOut, StoodSince, ToldExpiriesAreLived}
+use Rattle.world_rules.specs.Worlds.{Life, lives_of}
+use Rattle.world_laws.specs.Replies.{AnswersHold, AnswersHoldInWorlds, EndsAcceptance, RulesOut, StoodSince, ToldExpiriesAreLived}
 use Rattle.world_laws.proofs.Removing.{in-told, told-moment}
 
 -- ---- what expires

@@ -30,7 +30,7 @@ use Rattle.world_rules.specs.Calls.{called_on}
 use Rattle.world_rules.specs.Laws.{ComesSoFar}
 use Rattle.world_rules.proofs.SoFar.{so_far}
 
--- Beside verdicts on records, and what goes with a step of its own.
+-- Beside verdicts on records, what goes with a step of its own, and what no call of a node tells.
 abbrev pub is_plain : whats.What → Bool
 is_plain (happened.Entered m) = false
 is_plain (happened.Expired a) = false
@@ -39,6 +39,7 @@ is_plain (happened.Fell a) = false
 is_plain (happened.Sent place to bytes) = false
 is_plain (happened.Took body fault) = false
 is_plain (happened.Spent index body) = false
+is_plain (happened.Got number) = false
 is_plain what = true
 
 -- Each step of a call carries it on; the records that the call is handed are so.

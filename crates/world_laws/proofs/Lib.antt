@@ -13,6 +13,9 @@ mod Verified
 mod Removing
 mod Written
 mod Answered
+mod Flowing
+mod FlowWalks
+mod FirstForged
 mod Keyed
 mod Rows
 mod Walking

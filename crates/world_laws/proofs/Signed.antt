@@ -74,7 +74,7 @@ same_body-is (Accusation a) (Accusation b) it e = ap (λ x. Accusation x) (accus
 abbrev pub IsGenuine : Setting → World → Record → Type 0
 IsGenuine s w r = (who : Owner) → In (protected s) who → s.verifies (s.key who) r ≡ true → has_signed w who r.body ≡ true
 
-none-found : {X : Type 0} (p : X → Bool) (xs : List X) (x : X) → find p xs ≡ None → In xs x → p x ≡ false
+pub none-found : {X : Type 0} (p : X → Bool) (xs : List X) (x : X) → find p xs ≡ None → In xs x → p x ≡ false
 none-found p [] x none i = absurd i
 none-found {X} p (y ∷ ys) x none i =
     elim (cases_Bool (p y)) [
@@ -88,7 +88,7 @@ none-found {X} p (y ∷ ys) x none i =
     not-none : (z : X) → Some z ≡ None → ⊥
     not-none z e = cc
 
-map-none : {X Y : Type 0} (f : X → Y) (o : Option X) → option_map f o ≡ None → o ≡ None
+pub map-none : {X Y : Type 0} (f : X → Y) (o : Option X) → option_map f o ≡ None → o ≡ None
 map-none f None h = refl
 map-none f (Some x) h = cc
 
@@ -143,7 +143,7 @@ in-mapped f [] x i = absurd i
 in-mapped f (y ∷ ys) x (inl e) = inl (ap f e)
 in-mapped f (y ∷ ys) x (inr i) = inr (in-mapped f ys x i)
 
-node-protected : (s : Setting) (m : ℕ) → IsSetting s → is_node s m ≡ true → In (protected s) (Some m)
+pub node-protected : (s : Setting) (m : ℕ) → IsSetting s → is_node s m ≡ true → In (protected s) (Some m)
 node-protected s m fits is = inr (in-mapped (λ k. Some k) (nodes s) m (node-listed s m fits is))
 
 -- The note or accusation that verifies under a node's key was signed by it.

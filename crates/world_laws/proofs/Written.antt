@@ -1,5 +1,5 @@
 -- What was told of spending and sending is all that was spent and sent.
-use Rattle.std.proofs.Common.{◌≡◌, ◌⊎◌, ℕ, ◌+◌, ◌<◌, ◌≤◌, Bool, true, false, eqb, cond, List, [], ◌∷◌, ◌++◌, length, Option, Some, None, inl, inr, refl, ap, sym, ◌∙◌, subst, map, filter, arith}
+use Rattle.std.proofs.Common.{◌≡◌, ℕ, ◌+◌, ◌<◌, Bool, true, false, eqb, cond, List, [], ◌∷◌, ◌++◌, length, Some, None, inl, inr, refl, ap, sym, ◌∙◌, subst, map, filter, arith}
 use Rattle.std.specs.Prelude.{filter_map, fold}
 use Rattle.std.specs.List.{cons_option, AllByRecursion}
 use Rattle.std.proofs.lemmas.Bool.{cases_Bool, eqb-true, false≢true}
@@ -31,7 +31,7 @@ use Rattle.world_rules.proofs.OnDisks.{other}
 use Rattle.world_rules.proofs.SoFar.{so_far}
 use Rattle.world_rules.proofs.LineSteps.{Keeps, keeps-reached}
 use Rattle.world_rules.proofs.Once.{authority-spent}
-use Rattle.world_laws.specs.Telling.{AuthoritySpendsOnce, IsIssued, IsSentAsTold, IsSpentAsTold, SendingIsTold, SpendingIsTold, spent_as, spent_if_told}
+use Rattle.world_laws.specs.Telling.{AuthoritySpendsOnce, IsSentAsTold, IsSpentAsTold, SendingIsTold, SpendingIsTold, spent_as, spent_if_told}
 
 -- ---- spending
 

@@ -3,7 +3,7 @@ use Rattle.std.specs.Prelude.{◌≡◌, ℕ, true, false, if◌then◌else◌, 
 use Rattle.std.specs.List.{AllByRecursion}
 use Rattle.ff_ids.specs.declared.AccBody.{AccBody}
 use Rattle.records.specs.declared.Body.TheVariants.{Accusation}
-use Rattle.signer.specs.Lives.{IsOnce}
+use Rattle.signer.specs.Lives.{IsOnce, IsRising}
 use Rattle.journal.specs.declared.event.What.TheVariants as happened
 use Rattle.line_text.specs.declared.bad_word.BadWord.{BadWord}
 use Rattle.line_text.specs.declared.bad_word.BadWord.TheVariants as bad
@@ -20,6 +20,7 @@ use Rattle.world_rules.specs.Laws.{IsSetting, Reached, TellsLives}
 use Rattle.world_laws.specs.Signing.{HasSpentOn, KeepsRoster, SignedAtTick}
 use Rattle.world_laws.specs.Laws.{is_own_ahead, RemovesRightly, AccusesRightly, AcceptsRightly, IsVerifiedRemoval, RemovesVerified, SignaturesVerify}
 use Rattle.world_laws.specs.Telling.{IsIssued, IsSentAsTold, IsSpentAsTold}
+use Rattle.world_laws.specs.Flows.{HandsOverSent, flowed_in}
 use Rattle.world_laws.specs.Replies.{AnswersHold, IsExpiryInLife}
 
 -- The text may end only behind its last line.
@@ -49,7 +50,8 @@ TextsComeToWorlds = (spelled : WorldLine → List ℕ) (text : List (List ℕ)) 
 -- ---- what holds of all of them
 
 -- What was told of each node's view is what its lives tell, one after another; what was told of it as spent is what its
--- key has spent, in order; and what was told as sent is all datagrams, each with its number.
+-- key has spent, in order; what was told as sent is all datagrams, each with its number; and what was told as handed over
+-- is among these.
 --
 -- Each removal in a life rests on an accusation that stood for the timeout, and the record that the node accepted of it, or
 -- made of it, verifies under the key of the accuser's certificate. The certificates that a node keeps are the authority's.
@@ -65,6 +67,7 @@ pub record IsLawful (s : Setting) (w : World) (told : List Told) : Type 0 where
   pub lives : (m : ℕ) → TellsLives s w told m
   pub spending : (m : ℕ) → is_node s m ≡ true → IsSpentAsTold w told m
   pub sending : IsSentAsTold w told
+  pub handing : HandsOverSent w told
   pub rosters : (who : ℕ) → AllByRecursion (λ life. KeepsRoster s life.node) (lives_of w who)
   pub verified : (who : ℕ) → AllByRecursion (RemovesVerified s w who) (lives_of w who)
   pub removals : (t : Told) (m : ℕ) → Contains told t → t.event.what ≡ happened.Removed m → IsVerifiedRemoval s w t m
@@ -85,3 +88,7 @@ IsLawfulStage (Plays s w) told = IsLawful s w told
 -- So is what comes of any text.
 abbrev pub TextsAreLawful : Type 0
 TextsAreLawful = (spelled : WorldLine → List ℕ) (text : List (List ℕ)) → let w = walk_over (world_grammar spelled) setting_in text in IsLawfulStage w.stage (events_in w)
+
+-- Over a whole text the numbers of the datagrams that its flows hand over rise: each is handed over once.
+abbrev pub FlowsTakeEachOnce : Type 0
+FlowsTakeEachOnce = (spelled : WorldLine → List ℕ) (text : List (List ℕ)) → IsRising (flowed_in (walk_over (world_grammar spelled) setting_in text).taken)

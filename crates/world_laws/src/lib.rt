@@ -5,8 +5,10 @@
 
 ghost use Rattle.world_laws.specs.Laws.{RostersAreKept, OwnAheadNeverComes, TheRemovedHadSigned, NodesAccuseTheSilent, AcceptedAccusationsWereSigned, KeysVerify, RemovalsAreVerified, ToldRemovalsAreVerified};
 ghost use Rattle.world_laws.specs.Telling.{AuthoritySpendsOnce, SendingIsTold, SpendingIsTold};
+ghost use Rattle.world_laws.specs.Flows.{FlowsGoOn, OnlySentIsHandedOver, OthersTakeNone};
+ghost use Rattle.world_laws.specs.Forged.{ForgeriesAreFirst};
 ghost use Rattle.world_laws.specs.Replies.{AnswersHoldInWorlds, ToldExpiriesAreLived};
-ghost use Rattle.world_laws.specs.Texts.{TextsAreLawful, TextsComeToWorlds};
+ghost use Rattle.world_laws.specs.Texts.{FlowsTakeEachOnce, TextsAreLawful, TextsComeToWorlds};
 
 /// In every life a node keeps the authority's certificates of the members, and no others.
 pub fn rosters_are_kept()
@@ -57,6 +59,20 @@ pub fn sending_is_told()
     ensures { SendingIsTold }
 {}
 
+/// Each datagram that is told as handed over was sent, and flows took no more datagrams than were sent.
+pub fn only_sent_is_handed_over()
+    ensures { OnlySentIsHandedOver }
+{}
+
+/// A flow takes the datagrams from the first that no flow has taken, one after another, as many as it may, or all that
+/// were sent; it hands over none but these, in order, each to its addressee. No other line takes any. So over a whole text
+/// flows hand over each datagram at most once.
+pub fn flows_take_each_once()
+    ensures order { FlowsGoOn }
+    ensures others { OthersTakeNone }
+    ensures once { FlowsTakeEachOnce }
+{}
+
 /// The authority's key spends an index on each member's certificate, in order of number, and no index beside.
 pub fn the_authority_spends_once()
     ensures { AuthoritySpendsOnce }
@@ -68,6 +84,13 @@ pub fn the_authority_spends_once()
 pub fn answers_hold()
     ensures lived { AnswersHoldInWorlds }
     ensures told { ToldExpiriesAreLived }
+{}
+
+/// What is found to be forged in the bytes of a datagram is the first of its records that verifies under a key of the
+/// authority's or of a node's and whose body was never signed with that key; and it is forged for the first of these owners,
+/// the authority before all nodes, and a node before those of higher numbers.
+pub fn forgeries_are_first()
+    ensures { ForgeriesAreFirst }
 {}
 
 /// Whatever a text in the world form is, and whatever ends it: as soon as its roster is whole, the lines that were taken
