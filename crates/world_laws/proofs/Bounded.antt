@@ -23,7 +23,7 @@ use Rattle.node_rules.proofs.OwnNote.{stored-lives}
 use Rattle.world_rules.specs.Disks.{Disk, after_put, stopped_in_put, put_passes}
 use Rattle.world_rules.specs.Calls.{OnDisk, puts, takes_step, steps_on, accuses_on, hears_on, delivered_on, due_on, ticked_on, called_on}
 use Rattle.world_rules.proofs.OnDisks.{left-state, next-after}
-use Rattle.world_laws.proofs.Handing.{Hands, AnyRecord, IsHanded, hands-accuses, hands-called, hands-handles, hands-probed_at}
+use Rattle.world_laws.proofs.Handing.{Hands, AnyRecord, IsHanded, hands-accuses, hands-called, hands-handles, hands-probed_at, joined}
 
 -- ---- in a call
 
@@ -41,7 +41,7 @@ bounded-takes s r c h = subst (IsBounded s) (sym (stored-takes s r c)) h
 
 pub bounding : (s : node.Setting) → Hands s AnyRecord (λ c. IsBounded s c.node.stored)
 bounding s =
-    record {
+    joined s AnyRecord (λ c. IsBounded s c.node.stored) (record {
       told = λ what c plain h. h;
       judged = λ r c any h. h;
       sent = λ d c to h. subst (λ (n : Node). IsBounded s n.stored) (sym (node-sends s d c to)) h;
@@ -51,7 +51,7 @@ bounding s =
       stopped = λ c h. h;
       passed = λ c h. subst (IsBounded s) (sym (stored-lives s Passes c)) h;
       probed = λ p c h. h;
-    }
+    })
 
 any-handed : (i : Input) → IsHanded AnyRecord i
 any-handed (Delivers bytes) = λ from records is r i. tt

@@ -37,7 +37,7 @@ use Rattle.world_rules.specs.Steps.{Answer, Course, Told, accuses_at, and_then, 
 use Rattle.world_rules.specs.Laws.{goes, opens_so}
 use Rattle.world_rules.proofs.OnDisks.{chosen, other}
 use Rattle.world_laws.specs.Flows.{FlowsGoOn, Handed, HandsOverSent, IsSent, IsSentThere, OnlySentIsHandedOver, OthersTakeNone, got_in, handed_over, is_flow, numbers_of}
-use Rattle.world_laws.proofs.Handing.{AnyRecord, Hands, IsHanded, hands-called, is_plain}
+use Rattle.world_laws.proofs.Handing.{AnyRecord, Hands, IsHanded, hands-called, is_plain, joined}
 
 -- ---- a call hands over nothing
 
@@ -70,7 +70,7 @@ none-signs s body c h = that-signs is_got s body c got-over ∙ nil-right (told_
 
 none-hands : (s : node.Setting) → Hands s AnyRecord NoneGot
 none-hands s =
-    record {
+    joined s AnyRecord NoneGot (record {
       told = λ what c plain h. none-tells s what c (plain-got what plain) h;
       judged = λ r c any h. none-tells s _ c refl h;
       sent = λ d c to h. that-sends is_got s d c to got-over ∙ h;
@@ -80,7 +80,7 @@ none-hands s =
       stopped = λ c h. none-tells s happened.Stopped c refl h;
       passed = λ c h. that-lives is_got s _ c got-over ∙ h;
       probed = λ p c h. h;
-    }
+    })
 
 any-handed : (i : Input) → IsHanded AnyRecord i
 any-handed (Delivers bytes) = λ from records is r i. tt

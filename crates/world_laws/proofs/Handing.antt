@@ -42,8 +42,24 @@ is_plain (happened.Spent index body) = false
 is_plain (happened.Got number) = false
 is_plain what = true
 
+-- The record is accepted, which is told.
+abbrev pub accepts : Setting → Record → Call → Call
+accepts s r c = takes s r (tells s (happened.Took r.body None) c)
+
 -- Each step of a call carries it on; the records that the call is handed are so.
 pub record Hands (s : Setting) (Given : Record → Type 0) (P : Call → Type 0) : Type 0 where
+  pub told : (what : whats.What) (c : Call) → is_plain what ≡ true → P c → P (tells s what c)
+  pub refused : (r : Record) (fault : Fault) (c : Call) → Given r → refusal s c.node r ≡ Some fault → P c → P (tells s (happened.Took r.body (Some fault)) c)
+  pub sent : (d : Datagram) (c : Call) (to : ℕ) → P c → P (sends s d c to)
+  pub accepted : (r : Record) (c : Call) → Given r → refusal s c.node r ≡ None → P c → P (accepts s r c)
+  pub answered : (r : Record) (a : AccBody) (c : Call) → Given r → refusal s c.node r ≡ None → r.body ≡ Accusation a → eqb a.accused s.me ≡ true → is_used_up s (accepts s r c).node ≡ false → P c → P (signs s (answer_to s (accepts s r c).node.stored a) (accepts s r c))
+  pub accused : (a : AccBody) (c : Call) → a.accuser ≡ s.me → is_used_up s c.node ≡ false → P c → P (signs s (Accusation a) c)
+  pub stopped : (c : Call) → P c → P (stops s c)
+  pub passed : (c : Call) → P c → P (lives s Ticks c)
+  pub probed : (h : History) (c : Call) → P c → P (record c { node = record c.node { probes = h } })
+
+-- So does each with what is told of a record apart from its acceptance.
+pub record HandsApart (s : Setting) (Given : Record → Type 0) (P : Call → Type 0) : Type 0 where
   pub told : (what : whats.What) (c : Call) → is_plain what ≡ true → P c → P (tells s what c)
   pub judged : (r : Record) (c : Call) → Given r → P c → P (tells s (happened.Took r.body (refusal s c.node r)) c)
   pub sent : (d : Datagram) (c : Call) (to : ℕ) → P c → P (sends s d c to)
@@ -53,6 +69,20 @@ pub record Hands (s : Setting) (Given : Record → Type 0) (P : Call → Type 0)
   pub stopped : (c : Call) → P c → P (stops s c)
   pub passed : (c : Call) → P c → P (lives s Ticks c)
   pub probed : (h : History) (c : Call) → P c → P (record c { node = record c.node { probes = h } })
+
+pub joined : (s : Setting) (Given : Record → Type 0) (P : Call → Type 0) → HandsApart s Given P → Hands s Given P
+joined s Given P k =
+    record {
+      told = k.told;
+      refused = λ r fault c given e h. subst (λ f. P (tells s (happened.Took r.body f) c)) e (k.judged r c given h);
+      sent = k.sent;
+      accepted = λ r c given e h. k.taken r (tells s (happened.Took r.body None) c) given e (subst (λ f. P (tells s (happened.Took r.body f) c)) e (k.judged r c given h));
+      answered = λ r a c given e is me left h. k.answered r a (tells s (happened.Took r.body None) c) given e is me left (subst (λ f. P (tells s (happened.Took r.body f) c)) e (k.judged r c given h));
+      accused = k.accused;
+      stopped = k.stopped;
+      passed = k.passed;
+      probed = k.probed;
+    }
 
 abbrev pub AnyRecord : Record → Type 0
 AnyRecord r = Unit {0}
@@ -73,20 +103,18 @@ hands-wants s Given P k works body addressees c h signed =
 
 -- ---- records
 
-hands-answers : (s : Setting) (Given : Record → Type 0) (P : Call → Type 0) → Hands s Given P → (works : Bool) (r : Record) (b : Body) (c : Call) → r.body ≡ b → Given r → refusal s c.node r ≡ None → P c → P (answers works s b (takes s r c))
-hands-answers s Given P k works r (Certificate b) c e given fine h = k.taken r c given fine h
-hands-answers s Given P k works r (Note b) c e given fine h = k.taken r c given fine h
+hands-answers : (s : Setting) (Given : Record → Type 0) (P : Call → Type 0) → Hands s Given P → (works : Bool) (r : Record) (b : Body) (c : Call) → r.body ≡ b → Given r → refusal s c.node r ≡ None → P c → P (answers works s b (accepts s r c))
+hands-answers s Given P k works r (Certificate b) c e given fine h = k.accepted r c given fine h
+hands-answers s Given P k works r (Note b) c e given fine h = k.accepted r c given fine h
 hands-answers s Given P k works r (Accusation a) c e given fine h =
-    let c1 : Call = takes s r c in
+    let c1 : Call = accepts s r c in
     cond_both (eqb a.accused s.me) (wants works s (answer_to s c1.node.stored a) (neighbours s) c1) c1 P
-    (λ yes. hands-wants s Given P k works (answer_to s c1.node.stored a) (neighbours s) c1 (k.taken r c given fine h) (λ left. k.answered r a c given fine e yes left h))
-    (λ no. k.taken r c given fine h)
+    (λ yes. hands-wants s Given P k works (answer_to s c1.node.stored a) (neighbours s) c1 (k.accepted r c given fine h) (λ left. k.answered r a c given fine e yes left h))
+    (λ no. k.accepted r c given fine h)
 
 hands-judged : (s : Setting) (Given : Record → Type 0) (P : Call → Type 0) → Hands s Given P → (works : Bool) (f : Option Fault) (r : Record) (c : Call) → refusal s c.node r ≡ f → Given r → P c → P (judged works s f r c)
-hands-judged s Given P k works (Some fault) r c e given h = subst (λ f. P (tells s (happened.Took r.body f) c)) e (k.judged r c given h)
-hands-judged s Given P k works None r c e given h =
-    let c1 : Call = tells s (happened.Took r.body None) c in
-    hands-answers s Given P k works r r.body c1 refl given e (subst (λ f. P (tells s (happened.Took r.body f) c)) e (k.judged r c given h))
+hands-judged s Given P k works (Some fault) r c e given h = k.refused r fault c given e h
+hands-judged s Given P k works None r c e given h = hands-answers s Given P k works r r.body c refl given e h
 
 pub hands-handles : (s : Setting) (Given : Record → Type 0) (P : Call → Type 0) → Hands s Given P → (works : Bool) (c : Call) (r : Record) → Given r → P c → P (handles works s c r)
 unfolding handles

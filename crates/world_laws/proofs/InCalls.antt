@@ -36,7 +36,7 @@ use Rattle.world_rules.proofs.CallSteps.{MayFollow}
 use Rattle.world_rules.proofs.LineSteps.{IsFree}
 use Rattle.world_laws.specs.Signing.{KeepsRoster}
 use Rattle.world_laws.specs.Laws.{is_own_ahead}
-use Rattle.world_laws.proofs.Handing.{Hands, IsHanded, hands-called, is_plain}
+use Rattle.world_laws.proofs.Handing.{Hands, IsHanded, hands-called, is_plain, joined}
 use Rattle.world_laws.proofs.Rosters.{certificate-lives, certificate-takes, certificate-signs, kit-all}
 use Rattle.world_laws.proofs.Signed.{IsGenuine, OnlyCertifies, SignedIn, genuine}
 use Rattle.world_laws.proofs.Rightly.{HasNotesWithin, Knows, ahead-told, none-ahead, accepted-note, accepted-accusation, certificate-refused}
@@ -274,7 +274,7 @@ pub going-on : (s : Setting) (w : World) (m : ℕ) → IsOfWorld s w m → Hands
 going-on s w m of =
     let own : node.Setting = setting_of s m in
     let keep : Keeps own (λ c. KeepsOwnNote own c.node) = keeping own of.fits.some in
-    record {
+    joined (setting_of s m) (IsGenuine s w) (GoesOn s w m) (record {
       told = λ what c plain h. record { roster = h.roster; own = h.own; so_far = call-tells s w m what c (plain-right s w.signed what plain) h.so_far };
       judged = λ r c free h.
           let fault : Option Fault = refusal own c.node r in
@@ -298,7 +298,7 @@ going-on s w m of =
       stopped = λ c h. record { roster = h.roster; own = h.own; so_far = call-stops s w m c h.so_far };
       passed = λ c h. record { roster = λ k. certificate-lives own Passes c k ∙ h.roster k; own = keep.passed c h.own; so_far = call-passes s w m c h.so_far };
       probed = λ p c h. record { roster = roster-probed s c.node p h.roster; own = keep.probed p c h.own; so_far = call-probed s w m p c h.so_far };
-    }
+    })
 
 -- ---- a call
 

@@ -13,6 +13,7 @@ mod Verified
 mod Removing
 mod Written
 mod Answered
+mod Living
 mod Flowing
 mod FlowWalks
 mod FirstForged

@@ -28,7 +28,7 @@ use Rattle.world_rules.specs.Disks.{Disk}
 use Rattle.world_rules.specs.Calls.{called_on}
 use Rattle.world_rules.specs.Laws.{ComesSoFar}
 use Rattle.world_rules.proofs.SoFar.{so_far}
-use Rattle.world_laws.proofs.Handing.{Hands, hands-so_far}
+use Rattle.world_laws.proofs.Handing.{Hands, hands-so_far, joined}
 use Rattle.world_laws.proofs.Stopped.{split-at}
 
 -- ---- places in lists
@@ -245,7 +245,7 @@ passes-not m a e = cc
 
 adding : (s : Setting) (n : Node) → Hands s NoRecord (λ c. AddsOwn s n c.node)
 adding s n =
-    record {
+    joined s NoRecord (λ c. AddsOwn s n c.node) (record {
       told = λ what c plain h. h;
       judged = λ r c none h. absurd none;
       sent = λ d c to h. subst (AddsOwn s n) (sym (node-sends s d c to)) h;
@@ -255,7 +255,7 @@ adding s n =
       stopped = λ c h. h;
       passed = λ c h. adds-one s n c.node (lives s Passes c).node Passes (lived-passes s c) (λ a e. passes-not s.me a e) h;
       probed = λ p c h. record { longer = h.longer; each = h.each };
-    }
+    })
 
 -- ---- a call
 

@@ -22,7 +22,7 @@ use Rattle.node_rules.specs.Deliveries.{answer_to, answers, judged, handles, han
 use Rattle.node_rules.specs.Ticking.{accusation_on, ring_for, has_accused, wants_accusation, accuses, accuses_all, is_due, silent_in, pings_in, round_of, watched_by, passed, probed_at, due_tick, ticked, silent_at, ticked_until}
 use Rattle.node_rules.specs.Lives.{Input, Delivers, Ticks, call_of}
 use Rattle.world_rules.specs.Laws.{ComesSoFar, StopsAnswering, StopsAccusing}
-use Rattle.world_laws.proofs.Handing.{Hands, AnyRecord, hands-wants, hands-handles_all, hands-accuses_all, hands-gossips}
+use Rattle.world_laws.proofs.Handing.{Hands, AnyRecord, hands-wants, hands-handles_all, hands-accuses_all, hands-gossips, joined}
 
 -- ---- what was told and lived stays
 
@@ -65,7 +65,7 @@ grows-signs o p s b c h =
 
 pub growing : (o : Option journal.Event) (p : Option Event) (s : Setting) → Hands s AnyRecord (Holds o p)
 growing o p s =
-    record {
+    joined s AnyRecord (Holds o p) (record {
       told = λ what c plain h. grows-tells o p s what c h;
       judged = λ r c any h. grows-tells o p s _ c h;
       sent = λ d c to h. grows-sends o p s d c to h;
@@ -75,7 +75,7 @@ growing o p s =
       stopped = λ c h. let x = grows-tells o p s told.Stopped c h in record { told = x.told; lived = x.lived };
       passed = λ c h. grows-lives o p s Passes c h;
       probed = λ x c h. record { told = h.told; lived = h.lived };
-    }
+    })
 
 -- ---- a step in which the disk stops
 

@@ -33,6 +33,7 @@ use Rattle.world_laws.proofs.Keyed.{keys-verify}
 use Rattle.world_laws.proofs.Lawful.{accepted-signed, accuse-silent, never-ahead, removed-signed, rosters}
 use Rattle.world_laws.proofs.Removing.{removals-verified, told-removals-verified}
 use Rattle.world_laws.proofs.Written.{authority-once, sending-told, spending-told}
+use Rattle.world_laws.proofs.Living.{accepted-lived}
 use Rattle.world_laws.proofs.Flowing.{only-sent}
 use Rattle.world_laws.proofs.Answered.{answers-hold, expiries-lived}
 
@@ -213,6 +214,7 @@ played-lawful s w told h =
     let accepted = accepted-signed s w told h.fits h.reached in
     record {
       lives = λ m. lives-justified s w told m h.reached;
+      living = λ m. accepted-lived s w told m h.reached;
       spending = λ m is. spending-told s w told m h.fits h.reached is;
       sending = sending-told s w told h.reached;
       handing = only-sent s w told h.reached;

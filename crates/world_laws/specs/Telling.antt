@@ -1,11 +1,14 @@
--- What was told of spending and sending is all that was spent and sent.
-use Rattle.std.specs.Prelude.{◌≡◌, ℕ, true, ◌==◌, if◌then◌else◌, List, Option, Some, None, filter, filter_map, map}
+-- What was told of spending, sending and accepting is all that was spent, sent and accepted.
+use Rattle.std.specs.Prelude.{◌≡◌, ℕ, true, ◌==◌, if◌then◌else◌, List, Option, Some, None, filter, filter_map, flat_map, map}
+use Rattle.ff_ids.specs.Steps.{Event, Notes, Accuses}
+use Rattle.records.specs.declared.Body.{Body}
+use Rattle.records.specs.declared.Body.TheVariants.{Certificate, Note, Accusation}
 use Rattle.signer.specs.Lives.{Spent, IsOnce}
 use Rattle.journal.specs.declared.event.What as whats
 use Rattle.journal.specs.declared.event.What.TheVariants as happened
 use Rattle.node_rules.specs.Sending.{is_sent, sendings}
 use Rattle.world_rules.specs.Settings.{Setting, Signed, by_authority, is_node}
-use Rattle.world_rules.specs.Worlds.{World, spent_of}
+use Rattle.world_rules.specs.Worlds.{World, lives_of, spent_of}
 use Rattle.world_rules.specs.Steps.{Told}
 use Rattle.world_rules.specs.Laws.{IsSetting, Reached}
 
@@ -34,6 +37,34 @@ IsSentAsTold w told = map (λ t. t.event.what) (filter (λ t. is_sent t.event.wh
 
 abbrev pub SendingIsTold : Type 0
 SendingIsTold = (s : Setting) (w : World) (told : List Told) → Reached s w told → IsSentAsTold w told
+
+-- ---- what comes into lives
+
+-- The note or the accusation that an event of a life brings.
+abbrev pub said_in : Event → Option Body
+said_in (Notes n) = Some (Note n)
+said_in (Accuses a) = Some (Accusation a)
+said_in event = None
+
+abbrev pub statement : Body → Option Body
+statement (Certificate c) = None
+statement body = Some body
+
+-- The note or the accusation that is told as accepted, or as the node's own.
+abbrev pub took_in : whats.What → Option Body
+took_in (happened.Took body None) = statement body
+took_in (happened.Spent index body) = statement body
+took_in what = None
+
+abbrev pub took_if_told : ℕ → Told → Option Body
+took_if_told m t = if t.who == m then took_in t.event.what else None
+
+-- What was told of a node as accepted or as its own, in order, is what came into its lives, one after another.
+abbrev pub IsLivedAsTold : World → List Told → ℕ → Type 0
+IsLivedAsTold w told m = filter_map (took_if_told m) told ≡ flat_map (λ life. filter_map said_in life.node.lived) (lives_of w m)
+
+abbrev pub AcceptedIsLived : Type 0
+AcceptedIsLived = (s : Setting) (w : World) (told : List Told) (m : ℕ) → Reached s w told → IsLivedAsTold w told m
 
 -- ---- what the authority has signed
 

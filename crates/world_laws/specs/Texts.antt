@@ -19,7 +19,7 @@ use Rattle.world_rules.specs.Walk.{Grammar, Stage, Lists, Plays, events_in, sett
 use Rattle.world_rules.specs.Laws.{IsSetting, Reached, TellsLives}
 use Rattle.world_laws.specs.Signing.{HasSpentOn, KeepsRoster, SignedAtTick}
 use Rattle.world_laws.specs.Laws.{is_own_ahead, RemovesRightly, AccusesRightly, AcceptsRightly, IsVerifiedRemoval, RemovesVerified, SignaturesVerify}
-use Rattle.world_laws.specs.Telling.{IsIssued, IsSentAsTold, IsSpentAsTold}
+use Rattle.world_laws.specs.Telling.{IsIssued, IsLivedAsTold, IsSentAsTold, IsSpentAsTold}
 use Rattle.world_laws.specs.Flows.{HandsOverSent, flowed_in}
 use Rattle.world_laws.specs.Replies.{AnswersHold, IsExpiryInLife}
 
@@ -49,9 +49,10 @@ TextsComeToWorlds = (spelled : WorldLine → List ℕ) (text : List (List ℕ)) 
 
 -- ---- what holds of all of them
 
--- What was told of each node's view is what its lives tell, one after another; what was told of it as spent is what its
--- key has spent, in order; what was told as sent is all datagrams, each with its number; and what was told as handed over
--- is among these.
+-- What was told of each node's view is what its lives tell, one after another; the notes and accusations that were told of
+-- it as accepted or as its own are those that came into its lives, in order; what was told of it as spent is what its key
+-- has spent, in order; what was told as sent is all datagrams, each with its number; and what was told as handed over is
+-- among these.
 --
 -- Each removal in a life rests on an accusation that stood for the timeout, and the record that the node accepted of it, or
 -- made of it, verifies under the key of the accuser's certificate. The certificates that a node keeps are the authority's.
@@ -65,6 +66,7 @@ TextsComeToWorlds = (spelled : WorldLine → List ℕ) (text : List (List ℕ)) 
 -- accused was silent there.
 pub record IsLawful (s : Setting) (w : World) (told : List Told) : Type 0 where
   pub lives : (m : ℕ) → TellsLives s w told m
+  pub living : (m : ℕ) → IsLivedAsTold w told m
   pub spending : (m : ℕ) → is_node s m ≡ true → IsSpentAsTold w told m
   pub sending : IsSentAsTold w told
   pub handing : HandsOverSent w told

@@ -4,7 +4,7 @@
 #![tactic(auto)]
 
 ghost use Rattle.world_laws.specs.Laws.{RostersAreKept, OwnAheadNeverComes, TheRemovedHadSigned, NodesAccuseTheSilent, AcceptedAccusationsWereSigned, KeysVerify, RemovalsAreVerified, ToldRemovalsAreVerified};
-ghost use Rattle.world_laws.specs.Telling.{AuthoritySpendsOnce, SendingIsTold, SpendingIsTold};
+ghost use Rattle.world_laws.specs.Telling.{AcceptedIsLived, AuthoritySpendsOnce, SendingIsTold, SpendingIsTold};
 ghost use Rattle.world_laws.specs.Flows.{FlowsGoOn, OnlySentIsHandedOver, OthersTakeNone};
 ghost use Rattle.world_laws.specs.Forged.{ForgeriesAreFirst};
 ghost use Rattle.world_laws.specs.Replies.{AnswersHoldInWorlds, ToldExpiriesAreLived};
@@ -57,6 +57,12 @@ pub fn spending_is_told()
 /// What is told as sent is the list of all datagrams, each with its number there, counted from 0.
 pub fn sending_is_told()
     ensures { SendingIsTold }
+{}
+
+/// The notes and accusations that are told of a node as accepted, or as its own, are in this order those that came into its
+/// lives, one life after another.
+pub fn what_is_accepted_is_lived()
+    ensures { AcceptedIsLived }
 {}
 
 /// Each datagram that is told as handed over was sent, and flows took no more datagrams than were sent.
