@@ -23,7 +23,7 @@ use Rattle.node_rules.proofs.OwnNote.{stored-lives}
 use Rattle.world_rules.specs.Disks.{Disk, after_put, stopped_in_put, put_passes}
 use Rattle.world_rules.specs.Calls.{OnDisk, puts, takes_step, steps_on, accuses_on, hears_on, delivered_on, due_on, ticked_on, called_on}
 use Rattle.world_rules.proofs.OnDisks.{left-state, next-after}
-use Rattle.world_laws.proofs.Handing.{Hands, AnyRecord, IsHanded, hands-accuses, hands-called, hands-handles, hands-probed_at, joined}
+use Rattle.world_laws.proofs.Handing.{Hands, AnyRecord, any-handed, hands-accuses, hands-called, hands-handles, hands-probed_at, joined}
 
 -- ---- in a call
 
@@ -52,10 +52,6 @@ bounding s =
       passed = λ c h. subst (IsBounded s) (sym (stored-lives s Passes c)) h;
       probed = λ p c h. h;
     })
-
-any-handed : (i : Input) → IsHanded AnyRecord i
-any-handed (Delivers bytes) = λ from records is r i. tt
-any-handed Ticks = tt
 
 -- ---- over a disk
 

@@ -37,7 +37,8 @@ use Rattle.world_rules.specs.Steps.{Answer, Course, Told, accuses_at, and_then, 
 use Rattle.world_rules.specs.Laws.{goes, opens_so}
 use Rattle.world_rules.proofs.OnDisks.{chosen, other}
 use Rattle.world_laws.specs.Flows.{FlowsGoOn, Handed, HandsOverSent, IsSent, IsSentThere, OnlySentIsHandedOver, OthersTakeNone, got_in, handed_over, is_flow, numbers_of}
-use Rattle.world_laws.proofs.Handing.{AnyRecord, Hands, IsHanded, hands-called, is_plain, joined}
+use Rattle.world_laws.proofs.Handing.{AnyRecord, Hands, any-handed, hands-called, is_plain, joined}
+use Rattle.world_laws.proofs.InWorlds.{get-front}
 
 -- ---- a call hands over nothing
 
@@ -82,10 +83,6 @@ none-hands s =
       probed = λ p c h. h;
     })
 
-any-handed : (i : Input) → IsHanded AnyRecord i
-any-handed (Delivers bytes) = λ from records is r i. tt
-any-handed Ticks = tt
-
 none-called : (s : node.Setting) (n : node.Node) (i : Input) (d : Disk) → NoneGot (called_on s n i d).call
 none-called s n i d = hands-called s AnyRecord NoneGot (none-hands s) n i d (any-handed i) refl
 
@@ -122,11 +119,6 @@ all-append P (x ∷ xs) ys h k = (h.0, all-append P xs ys h.1 k)
 all-weaker : {X : Type 0} (P Q : X → Type 0) (xs : List X) → ((x : X) → P x → Q x) → AllByRecursion P xs → AllByRecursion Q xs
 all-weaker P Q [] f h = tt
 all-weaker P Q (x ∷ xs) f h = (f x h.0, all-weaker P Q xs f h.1)
-
-get-front : {X : Type 0} (xs ys : List X) (n : ℕ) (x : X) → slice_get xs n ≡ Some x → slice_get (xs ++ ys) n ≡ Some x
-get-front [] ys n x h = cc
-get-front (z ∷ xs) ys zero x h = h
-get-front (z ∷ xs) ys (suc n) x h = get-front xs ys n x h
 
 get-none : {X : Type 0} (xs : List X) (n : ℕ) → slice_get xs n ≡ None → length xs ≤ n
 get-none [] n h = omega arith

@@ -251,6 +251,10 @@ abbrev pub IsHanded : (Record → Type 0) → Input → Type 0
 IsHanded Given (Delivers bytes) = HasGiven Given (read_of bytes)
 IsHanded Given Tick = Unit {0}
 
+pub any-handed : (i : Input) → IsHanded AnyRecord i
+any-handed (Delivers bytes) = λ from records is r i. tt
+any-handed Tick = tt
+
 pub hands-so_far : (s : Setting) (Given : Record → Type 0) (P : Call → Type 0) → Hands s Given P → (n : Node) (i : Input) (c : Call) → ComesSoFar s n i c → IsHanded Given i → P (begun n) → P c
 hands-so_far s Given P k n (Delivers bytes) c (inl whole) given h = subst P (sym whole.is) (hands-delivered s Given P k n bytes given h)
 hands-so_far s Given P k n (Delivers bytes) c (inr cut) given h =

@@ -1,6 +1,7 @@
 -- What holds in each world that lines lead to, none of which is forged.
-use Rattle.std.proofs.Common.{◌≡◌, ℕ, true, List, [], ◌∷◌, ◌++◌, Some, None, inl, inr, refl, ap, sym, ◌∙◌, subst, arith}
+use Rattle.std.proofs.Common.{◌≡◌, ℕ, zero, suc, ◌≤◌, true, List, [], ◌∷◌, ◌++◌, length, Some, None, inl, inr, refl, ap, sym, ◌∙◌, subst, arith}
 use Rattle.std.specs.Prelude.{option_to_list}
+use Rattle.std.specs.List.{slice_get}
 use Rattle.std.proofs.lemmas.List.{append_assoc}
 use Rattle.ff_ids.specs.declared.AccBody.{AccBody}
 use Rattle.ff_ids.specs.declared.NoteBody.{NoteBody}
@@ -71,15 +72,22 @@ pub record IsThere (station : Station) (life : Life) : Type 0 where
   pub found : later.found ≡ life.found
   pub more : List Input
   pub inputs : later.inputs ≡ life.inputs ++ more
+  pub events : List Event
+  pub grew : later.node.lived ≡ life.node.lived ++ events
 
 pub nil-right : {A : Type 0} (xs : List A) → xs ++ [] ≡ xs
 nil-right [] = refl
 nil-right (x ∷ xs) = ap (λ ys. x ∷ ys) (nil-right xs)
 
 pub there-itself : (station : Station) (life : Life) → In (lives_at station) life → IsThere station life
-there-itself station life i = record { later = life; among = i; found = refl; more = []; inputs = sym (nil-right life.inputs) }
+there-itself station life i = record { later = life; among = i; found = refl; more = []; inputs = sym (nil-right life.inputs); events = []; grew = sym (nil-right life.node.lived) }
 
--- The accusation was signed with this index at a tick of one of these lives of the member.
+pub get-front : {X : Type 0} (xs ys : List X) (n : ℕ) (x : X) → slice_get xs n ≡ Some x → slice_get (xs ++ ys) n ≡ Some x
+get-front [] ys n x h = cc
+get-front (z ∷ xs) ys zero x h = h
+get-front (z ∷ xs) ys (suc n) x h = get-front xs ys n x h
+
+-- The accusation was signed with this index at a tick of one of these lives of the member, and came into the life there.
 pub record SignedBy (s : Setting) (lives : List Life) (m index : ℕ) (a : AccBody) : Type 0 where
   pub own : a.accuser ≡ m
   pub life : Life
@@ -91,6 +99,10 @@ pub record SignedBy (s : Setting) (lives : List Life) (m index : ℕ) (a : AccBo
   pub kept : disk.state ≡ (node_after s m life.found before).stored
   pub signed : TellsSpent (called_on (setting_of s m) (node_after s m life.found before) Ticks disk).call index (Accusation a)
   pub silent : AccusesTheSilent (setting_of s m) (node_after s m life.found before) a
+  pub place : ℕ
+  pub since : length (node_after s m life.found before).lived ≤ place
+  pub came_in : slice_get (called_on (setting_of s m) (node_after s m life.found before) Ticks disk).call.node.lived place ≡ Some (Accuses a)
+  pub stays : slice_get life.node.lived place ≡ Some (Accuses a)
 
 pub signed-later : (s : Setting) (m index : ℕ) (a : AccBody) (old new : Station) → ((life : Life) → In (lives_at old) life → IsThere new life) → SignedBy s (lives_at old) m index a → SignedBy s (lives_at new) m index a
 signed-later s m index a old new grows h =
@@ -106,6 +118,10 @@ signed-later s m index a old new grows h =
       kept = subst (λ k. h.disk.state ≡ (node_after s m k h.before).stored) (sym x.found) h.kept;
       signed = subst (λ k. TellsSpent (called_on (setting_of s m) (node_after s m k h.before) Ticks h.disk).call index (Accusation a)) (sym x.found) h.signed;
       silent = subst (λ k. AccusesTheSilent (setting_of s m) (node_after s m k h.before) a) (sym x.found) h.silent;
+      place = h.place;
+      since = subst (λ k. length (node_after s m k h.before).lived ≤ h.place) (sym x.found) h.since;
+      came_in = subst (λ k. slice_get (called_on (setting_of s m) (node_after s m k h.before) Ticks h.disk).call.node.lived h.place ≡ Some (Accuses a)) (sym x.found) h.came_in;
+      stays = subst (λ (es : List Event). slice_get es h.place ≡ Some (Accuses a)) (sym x.grew) (get-front h.life.node.lived x.events h.place (Accuses a) h.stays);
     }
 
 -- ---- a node's place in the world

@@ -116,7 +116,7 @@ removed-signed s w told who fits reached = All-from_In _ (lives_of w who) (remov
 at-tick : (s : Setting) (w : World) (m index : ℕ) (a : AccBody) → SignedBy s (lives_of w m) m index a → SignedAtTick s w index a
 at-tick s w m index a h =
     let x : SignedBy s (lives_of w a.accuser) a.accuser index a = subst (λ z. SignedBy s (lives_of w z) z index a) (sym h.own) h in
-    record { life = x.life; lived = Contains-from_In _ _ x.lived; before = x.before; behind = x.behind; at_tick = x.at_tick; disk = x.disk; kept = x.kept; signed = x.signed; silent = x.silent }
+    record { life = x.life; lived = Contains-from_In _ _ x.lived; before = x.before; behind = x.behind; at_tick = x.at_tick; disk = x.disk; kept = x.kept; signed = x.signed; silent = x.silent; place = x.place; since = x.since; came_in = x.came_in; stays = x.stays }
 
 pub accuse-silent : NodesAccuseTheSilent
 accuse-silent s w told m index a fits reached is spent =

@@ -5,6 +5,7 @@ mod Rightly
 mod InCalls
 mod Stopped
 mod InWorlds
+mod CameIn
 mod Reaching
 mod Bounded
 mod Lawful

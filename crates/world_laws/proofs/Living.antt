@@ -33,7 +33,7 @@ use Rattle.world_rules.proofs.OnDisks.{chosen, other}
 use Rattle.world_rules.proofs.LineSteps.{Keeps, keeps-reached}
 use Rattle.world_rules.proofs.Once.{at-station}
 use Rattle.world_laws.specs.Telling.{AcceptedIsLived, IsLivedAsTold, said_in, statement, took_if_told, took_in}
-use Rattle.world_laws.proofs.Handing.{AnyRecord, Hands, IsHanded, accepts, hands-called, is_plain}
+use Rattle.world_laws.proofs.Handing.{AnyRecord, Hands, any-handed, accepts, hands-called, is_plain}
 use Rattle.world_laws.proofs.InWorlds.{lives_at}
 use Rattle.world_laws.proofs.Reaching.{lives-idle, lives-over, lives-running}
 use Rattle.world_laws.proofs.Rosters.{kit-all}
@@ -151,10 +151,6 @@ saying s base =
       passed = λ c h. says-lives s base Passes c refl h;
       probed = λ p c h. record { more = h.more; lived = h.lived; same = h.same };
     }
-
-any-handed : (i : Input) → IsHanded AnyRecord i
-any-handed (Delivers bytes) = λ from records is r i. tt
-any-handed Ticks = tt
 
 says-called : (s : node.Setting) (n : node.Node) (i : Input) (d : Disk) → Says n.lived (called_on s n i d).call
 says-called s n i d = hands-called s AnyRecord (Says n.lived) (saying s n.lived) n i d (any-handed i) (record { more = []; lived = sym (nil-right n.lived); same = refl })

@@ -1,8 +1,10 @@
 -- Each step of a world keeps what holds of it.
-use Rattle.std.proofs.Common.{◌≡◌, ◌⊎◌, ℕ, Bool, true, false, eqb, List, [], ◌∷◌, ◌++◌, length, Option, Some, None, inl, inr, refl, ap, sym, ◌∙◌, subst}
+use Rattle.std.proofs.Common.{◌≡◌, ◌⊎◌, ℕ, ◌≤◌, Bool, true, false, eqb, List, [], ◌∷◌, ◌++◌, length, Option, Some, None, inl, inr, refl, ap, sym, ◌∙◌, subst}
 use Rattle.std.specs.Prelude.{fold, option_to_list}
+use Rattle.std.specs.List.{slice_get}
 use Rattle.std.proofs.lemmas.Bool.{cases_Bool, cond_both, eq-eqb, false≢true}
 use Rattle.ff_ids.specs.declared.AccBody.{AccBody}
+use Rattle.ff_ids.specs.Steps.{Event, Accuses}
 use Rattle.life_laws.proofs.Lists.{In, In-append_left, In-append_right, In-append_cases, In-from_map, Contains-from_In}
 use Rattle.records.specs.declared.Body.{Body}
 use Rattle.records.specs.declared.Body.TheVariants.{Certificate, Note, Accusation}
@@ -13,7 +15,7 @@ use Rattle.journal.specs.declared.event.What.TheVariants as happened
 use Rattle.node_rules.specs.Nodes as node
 use Rattle.node_rules.specs.Calls.{Call}
 use Rattle.node_rules.specs.Starting.{first_note}
-use Rattle.node_rules.specs.Lives.{Input, Delivers, Ticks, KeepsOwnNote, call_of}
+use Rattle.node_rules.specs.Lives.{Input, Delivers, Ticks, KeepsOwnNote, TellsItsLife, call_of}
 use Rattle.node_rules.specs.Accusing.{AccusesTheSilent}
 use Rattle.node_rules.proofs.Accusations.{In-from_filter_map}
 use Rattle.node_rules.proofs.Masks.{all_rings-good}
@@ -29,6 +31,7 @@ use Rattle.world_rules.proofs.OnDisks.{chosen, other}
 use Rattle.world_rules.proofs.SoFar.{so_far}
 use Rattle.world_rules.proofs.LineSteps.{IsFree, HasIndexLeft, Keeps, begins_life, keeps-reached}
 use Rattle.world_rules.proofs.Once.{Stands, at-station, one-started, stands-kept, stands-first}
+use Rattle.world_rules.proofs.Telling.{call-on-tells}
 use Rattle.world_laws.specs.Signing.{KeepsRoster, TellsSpent, node_after}
 use Rattle.world_laws.proofs.Rosters.{kit-all, kit-own, roster-started}
 use Rattle.world_laws.proofs.Signed.{authority-of, spent-in}
@@ -36,6 +39,7 @@ use Rattle.world_laws.proofs.Rightly.{IsNoteWithin}
 use Rattle.world_laws.proofs.InCalls.{ComesSigned, GoesOn, InCall, InLife, IsRight, called-goes_on, started-in_call}
 use Rattle.world_laws.proofs.InWorlds.{Fits, Holds, IsThere, NotesWithin, SignedBy, comes-behind, comes-more, fits-more, lives_at, nil-right, notes-rise, right-more, signed-later, step, there-itself}
 use Rattle.world_laws.proofs.Stopped.{within-whole}
+use Rattle.world_laws.proofs.CameIn.{Came, came-called}
 
 some-is : {X : Type 0} (x y : X) → Some x ≡ Some y → x ≡ y
 some-is x y e = cc
@@ -223,12 +227,12 @@ called-fits s signed m life i station w d made at running h g =
       ];
     }
 
-called-there : (station : Station) (life : Life) (i : Input) (n : node.Node) (d : OnDisk) → station.current ≡ Some life → (x : Life) → In (lives_at station) x → IsThere (station_after station (with_input life i n) d) x
-called-there station life i n d running x j =
+called-there : (station : Station) (life : Life) (i : Input) (n : node.Node) (events : List Event) (d : OnDisk) → n.lived ≡ life.node.lived ++ events → station.current ≡ Some life → (x : Life) → In (lives_at station) x → IsThere (station_after station (with_input life i n) d) x
+called-there station life i n events d grew running x j =
     let after : Life = with_input life i n in
     elim (in-last station.past life x (subst (λ xs. In xs x) (lives-running station life running) j)) [
       | inl old ↦ there-itself (station_after station after d) x (after-past station after d x old)
-      | inr is ↦ subst (IsThere (station_after station after d)) is (record { later = after; among = after-itself station after d; found = refl; more = i ∷ []; inputs = refl })
+      | inr is ↦ subst (IsThere (station_after station after d)) is (record { later = after; among = after-itself station after d; found = refl; more = i ∷ []; inputs = refl; events = events; grew = grew })
     ]
 
 called-signed : (s : Setting) (m index : ℕ) (a : AccBody) (life : Life) (i : Input) (station : Station) (moment : ℕ) → life.node ≡ node_after s m life.found life.inputs → life.node.stored ≡ station.disk.state
@@ -239,6 +243,7 @@ called-signed s m index a life i station moment after kept told =
     let d : OnDisk = called_on own life.node i station.disk in
     let whole = (within-whole own life.node i d.call (so_far own life.node i station.disk)).spent moment index (Accusation a) told in
     let silent = only-silent own life.node i a (moment, index, Contains-from_In _ _ whole) in
+    let came : Came (length life.node.lived) d.call a = came-called own life.node i station.disk moment index a told in
     record {
       own = silent.1.by_the_node;
       life = with_input life i d.call.node;
@@ -251,6 +256,11 @@ called-signed s m index a life i station moment after kept told =
       signed = subst (λ n. TellsSpent (called_on own n Ticks station.disk).call index (Accusation a)) after
           (subst (λ x. TellsSpent (called_on own life.node x station.disk).call index (Accusation a)) silent.0 (moment, Contains-from_In _ _ told));
       silent = subst (λ n. AccusesTheSilent own n a) after silent.1;
+      place = came.place;
+      since = subst (λ (n : node.Node). length n.lived ≤ came.place) after came.since;
+      came_in = subst (λ (n : node.Node). slice_get (called_on own n Ticks station.disk).call.node.lived came.place ≡ Some (Accuses a)) after
+          (subst (λ x. slice_get (called_on own life.node x station.disk).call.node.lived came.place ≡ Some (Accuses a)) silent.0 came.there);
+      stays = came.there;
     }
 
 -- Of the member whose place it is.
@@ -266,12 +276,13 @@ holds-called s fits m i life c running free h =
     let after : Station = station_after station (with_input life i d.call.node) d in
     let v : World = (comes m station life i d c).world in
     let made : List Signed = signed_in m d.call.told in
+    let tells : TellsItsLife (setting_of s m) life.node d.call = call-on-tells (setting_of s m) life.node i station.disk in
     let g : GoesOn s w m d.call = called-goes_on s w m life.node i station.disk (record { fits = fits; is = (h.stations m).is life running; only = h.only }) free (in-life s w c.told m life running h) in
     step s w v c.told (told_in m (length w.sent) d.call.told) made refl (not-nobody m d.call.told)
     (λ k is. (stands-kept NotesWithin notes-rise s k fits is).called m i life c running free (h.notes k is))
     (placed s m after w (w.signed ++ made) (called-fits s w.signed m life i station w d refl refl running (h.stations m) g) (λ k. fits-more s w.signed made k (w.stations k) (h.stations k)))
     (told-right s w.signed made m (length w.sent) d.call.told g.so_far.told)
-    (there m after w (called-there station life i d.call.node d running))
+    (there m after w (called-there station life i d.call.node tells.more d tells.grew running))
     (λ k index a is j.
     let t = told-as m d.call.told _ j in
     subst (λ z. SignedBy s (lives_of v z) z index a) (some-number k m t.who)

@@ -1,9 +1,10 @@
 -- What the members of a world have signed: which notes, and at which ticks their accusations.
-use Rattle.std.specs.Prelude.{◌≡◌, ℕ, true, ◌==◌, if◌then◌else◌, List, ◌∷◌, ◌++◌, Contains, Option, Some, None}
-use Rattle.std.specs.List.{list_any}
+use Rattle.std.specs.Prelude.{◌≡◌, ℕ, ◌≤◌, true, ◌==◌, if◌then◌else◌, List, ◌∷◌, ◌++◌, length, Contains, Option, Some, None}
+use Rattle.std.specs.List.{list_any, slice_get}
 use Rattle.ff_ids.specs.declared.NoteBody.{NoteBody}
 use Rattle.ff_ids.specs.declared.AccBody.{AccBody}
 use Rattle.ff_ids.specs.Masks.{enables}
+use Rattle.ff_ids.specs.Steps.{Accuses}
 use Rattle.records.specs.declared.CertBody.{CertBody}
 use Rattle.records.specs.declared.Body.{Body}
 use Rattle.records.specs.declared.Body.TheVariants.{Note, Accusation}
@@ -55,7 +56,8 @@ TellsSpent c index body = (moment : ℕ) × Contains c.told (record { moment = m
 
 -- The accuser signs the accusation with this index, at a tick of one of its lives, over a disk that keeps what its store
 -- kept then. As it came to that tick the accused was silent, and the accuser was its monitor on the ring in its own view,
--- by the newest note that it had of it, whose epoch the accusation has and which enables the ring.
+-- by the newest note that it had of it, whose epoch the accusation has and which enables the ring. The accusation came
+-- into the life there, as an event of that tick.
 pub record SignedAtTick (s : Setting) (w : World) (index : ℕ) (a : AccBody) : Type 0 where
   pub life : Life
   pub lived : Contains (lives_of w a.accuser) life
@@ -66,6 +68,10 @@ pub record SignedAtTick (s : Setting) (w : World) (index : ℕ) (a : AccBody) : 
   pub kept : disk.state ≡ (node_after s a.accuser life.found before).stored
   pub signed : TellsSpent (called_on (setting_of s a.accuser) (node_after s a.accuser life.found before) Ticks disk).call index (Accusation a)
   pub silent : AccusesTheSilent (setting_of s a.accuser) (node_after s a.accuser life.found before) a
+  pub place : ℕ
+  pub since : length (node_after s a.accuser life.found before).lived ≤ place
+  pub came_in : slice_get (called_on (setting_of s a.accuser) (node_after s a.accuser life.found before) Ticks disk).call.node.lived place ≡ Some (Accuses a)
+  pub stays : slice_get life.node.lived place ≡ Some (Accuses a)
 
 -- The accuser's key has spent an index on the accusation, which is signed with it at such a tick.
 pub record WasSigned (s : Setting) (w : World) (a : AccBody) : Type 0 where
