@@ -1,5 +1,5 @@
 -- Where a call spends an index on an accusation, the accusation comes into the life in that call.
-use Rattle.std.proofs.Common.{◌≡◌, ℕ, ◌+◌, zero, suc, ◌<◌, ◌≤◌, Bool, true, false, List, [], ◌∷◌, ◌++◌, length, filter, Some, None, inl, inr, refl, ap, sym, ◌∙◌, subst, arith, length-append}
+use Rattle.std.proofs.Common.{◌≡◌, ℕ, ◌≤◌, Bool, true, false, List, [], ◌∷◌, ◌++◌, length, filter, Some, None, inl, inr, refl, ap, sym, ◌∙◌, subst, arith, length-append}
 use Rattle.std.specs.List.{slice_get}
 use Rattle.std.proofs.lemmas.Bool.{false≢true}
 use Rattle.ff_ids.specs.declared.AccBody.{AccBody}
@@ -13,9 +13,9 @@ use Rattle.journal.specs.declared.event.Event as journal
 use Rattle.journal.specs.declared.event.What as whats
 use Rattle.journal.specs.declared.event.What.TheVariants as happened
 use Rattle.node_rules.specs.Nodes.{Setting, Node, state_of, event_of}
-use Rattle.node_rules.specs.Calls.{Call, lives, takes, tells, spends, signs, sends, stops, own_record, told_of}
+use Rattle.node_rules.specs.Calls.{Call, lives, takes, tells, spends, signs, sends, told_of}
 use Rattle.node_rules.specs.Deliveries.{answer_to}
-use Rattle.node_rules.specs.Lives.{Input, Delivers, Ticks, is_of_life}
+use Rattle.node_rules.specs.Lives.{Input, is_of_life}
 use Rattle.node_rules.proofs.Handling.{nil-right, unlived}
 use Rattle.world_rules.specs.Disks.{Disk}
 use Rattle.world_rules.specs.Calls.{called_on}

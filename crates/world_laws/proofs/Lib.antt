@@ -18,6 +18,7 @@ mod Living
 mod Flowing
 mod FlowWalks
 mod FirstForged
+mod ForgedLines
 mod Keyed
 mod Rows
 mod Walking

@@ -1,11 +1,10 @@
 -- What was told of a node as accepted or as its own is what came into its lives.
-use Rattle.std.proofs.Common.{◌≡◌, ℕ, Bool, true, false, eqb, cond, List, [], ◌∷◌, ◌++◌, length, filter, map, Option, Some, None, refl, ap, sym, ◌∙◌, subst, inl, inr}
-use Rattle.std.specs.Prelude.{filter_map, flat_map, fold, option_to_list}
+use Rattle.std.proofs.Common.{◌≡◌, ℕ, Bool, true, false, eqb, List, [], ◌∷◌, ◌++◌, length, filter, Some, None, refl, ap, sym, ◌∙◌, subst, inl, inr}
+use Rattle.std.specs.Prelude.{filter_map, flat_map, fold}
 use Rattle.std.specs.List.{cons_option}
 use Rattle.std.proofs.lemmas.Bool.{cases_Bool, cond_both, eq-eqb, false≢true}
 use Rattle.std.proofs.lemmas.List.{append_assoc}
 use Rattle.std.proofs.lemmas.List.Elements.{filter_map-append}
-use Rattle.ff_ids.specs.declared.AccBody.{AccBody}
 use Rattle.ff_ids.specs.Steps.{Event, Ticks as Passes, step}
 use Rattle.records.specs.declared.CertBody.{CertBody}
 use Rattle.records.specs.declared.Body.{Body}
@@ -18,21 +17,20 @@ use Rattle.journal.specs.declared.event.What as whats
 use Rattle.journal.specs.declared.event.What.TheVariants as happened
 use Rattle.node_rules.specs.Nodes as node
 use Rattle.node_rules.specs.Nodes.{state_of, event_of}
-use Rattle.node_rules.specs.Calls.{Call, begun, lives, takes, tells, spends, signs, sends, stops, own_record, told_of}
+use Rattle.node_rules.specs.Calls.{Call, begun, lives, takes, tells, spends, signs, sends, own_record, told_of}
 use Rattle.node_rules.specs.Deliveries.{answer_to}
 use Rattle.node_rules.specs.Starting.{blank, opened, first_note, started}
-use Rattle.node_rules.specs.Lives.{Input, Delivers, Ticks, AreCertificates, is_of_life}
+use Rattle.node_rules.specs.Lives.{Input, AreCertificates, is_of_life}
 use Rattle.node_rules.proofs.Handling.{nil-right, unlived}
 use Rattle.world_rules.specs.Settings.{Setting, certificates, setting_of}
 use Rattle.world_rules.specs.Disks.{Disk}
 use Rattle.world_rules.specs.Calls.{OnDisk, called_on}
 use Rattle.world_rules.specs.Worlds.{Life, Station, World, begun_world, with_station}
 use Rattle.world_rules.specs.Steps.{Told, first_call, first_life, life_over, numbered_from, station_after, told_in, with_disk, with_input}
-use Rattle.world_rules.specs.Laws.{Reached}
 use Rattle.world_rules.proofs.OnDisks.{chosen, other}
 use Rattle.world_rules.proofs.LineSteps.{Keeps, keeps-reached}
 use Rattle.world_rules.proofs.Once.{at-station}
-use Rattle.world_laws.specs.Telling.{AcceptedIsLived, IsLivedAsTold, said_in, statement, took_if_told, took_in}
+use Rattle.world_laws.specs.Telling.{AcceptedIsLived, said_in, statement, took_if_told, took_in}
 use Rattle.world_laws.proofs.Handing.{AnyRecord, Hands, any-handed, accepts, hands-called, is_plain}
 use Rattle.world_laws.proofs.InWorlds.{lives_at}
 use Rattle.world_laws.proofs.Reaching.{lives-idle, lives-over, lives-running}

@@ -1,12 +1,14 @@
 -- What the forged record in a datagram is: the first one that is forged, for the first of those whose keys are kept.
-use Rattle.std.specs.Prelude.{◌≡◌, ℕ, ◌<◌, true, false, List, ◌∷◌, ◌++◌, Some, None, Ok}
+use Rattle.std.specs.Prelude.{◌≡◌, ℕ, ◌<◌, true, false, List, ◌∷◌, ◌++◌, Some, None, Ok, Err}
 use Rattle.std.specs.List.{AllByRecursion}
 use Rattle.records.specs.declared.Record.{Record}
 use Rattle.datagram.specs.declared.Datagram.TheVariants as kinds
 use Rattle.datagram.specs.Grammar.{read_of}
-use Rattle.world_rules.specs.Settings.{Owner, Setting, is_node, same_body}
+use Rattle.schedule_world.specs.declared.line.WorldLine.{WorldLine}
+use Rattle.world_rules.specs.Settings.{Owner, Setting, Signed, is_node, same_body}
 use Rattle.world_rules.specs.Worlds.{World, spent_of}
 use Rattle.world_rules.specs.Forgeries.{Forgery, forgery}
+use Rattle.world_rules.specs.Steps.{step}
 use Rattle.world_rules.specs.Laws.{IsSetting}
 
 -- For the authority nobody else may sign, nor for a node.
@@ -46,3 +48,17 @@ pub record IsFirstForged (s : Setting) (w : World) (bytes : List ℕ) (f : Forge
 -- That is what is found to be forged in the bytes of a datagram, and nothing else is.
 abbrev pub ForgeriesAreFirst : Type 0
 ForgeriesAreFirst = (s : Setting) (w : World) (bytes : List ℕ) (f : Forgery) → IsSetting s → (forgery s w bytes ≡ Some f → IsFirstForged s w bytes f) × (IsFirstForged s w bytes f → forgery s w bytes ≡ Some f)
+
+-- ---- lines that end so
+
+-- This was found in bytes that were handed over, by when these signatures more were made than in the world.
+pub record IsForgedIn (s : Setting) (w : World) (f : Forgery) : Type 0 where
+  pub later : World
+  pub more : List Signed
+  pub signed : later.signed ≡ w.signed ++ more
+  pub bytes : List ℕ
+  pub first : IsFirstForged s later bytes f
+
+-- A line ends as forged only where it hands over such bytes.
+abbrev pub ForgedLinesHandItOver : Type 0
+ForgedLinesHandItOver = (s : Setting) (w : World) (line : WorldLine) (f : Forgery) → IsSetting s → step s w line ≡ Err f → IsForgedIn s w f

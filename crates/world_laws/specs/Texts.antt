@@ -14,13 +14,15 @@ use Rattle.schedule_world.specs.Rows.{is_ended}
 use Rattle.schedule_world.specs.Grammar.{behind, judge, opening}
 use Rattle.world_rules.specs.Settings.{Setting, is_node}
 use Rattle.world_rules.specs.Worlds.{World, lives_of, spent_of}
+use Rattle.world_rules.specs.Forgeries.{Forgery}
 use Rattle.world_rules.specs.Steps.{Told}
-use Rattle.world_rules.specs.Walk.{Grammar, Stage, Lists, Plays, events_in, setting_in, walk_over}
+use Rattle.world_rules.specs.Walk.{Forged, Grammar, Stage, Lists, Plays, events_in, setting_in, walk_over}
 use Rattle.world_rules.specs.Laws.{IsSetting, Reached, TellsLives}
 use Rattle.world_laws.specs.Signing.{HasSpentOn, KeepsRoster, SignedAtTick}
 use Rattle.world_laws.specs.Laws.{is_own_ahead, RemovesRightly, AccusesRightly, AcceptsRightly, IsVerifiedRemoval, RemovesVerified, SignaturesVerify}
 use Rattle.world_laws.specs.Telling.{IsIssued, IsLivedAsTold, IsSentAsTold, IsSpentAsTold}
 use Rattle.world_laws.specs.Flows.{HandsOverSent, flowed_in}
+use Rattle.world_laws.specs.Forged.{IsForgedIn}
 use Rattle.world_laws.specs.Replies.{AnswersHold, IsExpiryInLife}
 
 -- The text may end only behind its last line.
@@ -94,3 +96,11 @@ TextsAreLawful = (spelled : WorldLine → List ℕ) (text : List (List ℕ)) →
 -- Over a whole text the numbers of the datagrams that its flows hand over rise: each is handed over once.
 abbrev pub FlowsTakeEachOnce : Type 0
 FlowsTakeEachOnce = (spelled : WorldLine → List ℕ) (text : List (List ℕ)) → IsRising (flowed_in (walk_over (world_grammar spelled) setting_in text).taken)
+
+-- What ends a text as forged was found in bytes that a line of its world hands over.
+abbrev pub IsForgedAt : Stage → Forgery → Type 0
+IsForgedAt (Lists roster) f = ⊥
+IsForgedAt (Plays s w) f = IsForgedIn s w f
+
+abbrev pub ForgedTextsHandItOver : Type 0
+ForgedTextsHandItOver = (spelled : WorldLine → List ℕ) (text : List (List ℕ)) (f : Forgery) → let w = walk_over (world_grammar spelled) setting_in text in w.cause ≡ Some (Forged f) → IsForgedAt w.stage f

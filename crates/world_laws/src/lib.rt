@@ -6,9 +6,9 @@
 ghost use Rattle.world_laws.specs.Laws.{RostersAreKept, OwnAheadNeverComes, TheRemovedHadSigned, NodesAccuseTheSilent, AcceptedAccusationsWereSigned, KeysVerify, RemovalsAreVerified, ToldRemovalsAreVerified};
 ghost use Rattle.world_laws.specs.Telling.{AcceptedIsLived, AuthoritySpendsOnce, SendingIsTold, SpendingIsTold};
 ghost use Rattle.world_laws.specs.Flows.{FlowsGoOn, OnlySentIsHandedOver, OthersTakeNone};
-ghost use Rattle.world_laws.specs.Forged.{ForgeriesAreFirst};
+ghost use Rattle.world_laws.specs.Forged.{ForgedLinesHandItOver, ForgeriesAreFirst};
 ghost use Rattle.world_laws.specs.Replies.{AnswersHoldInWorlds, ToldExpiriesAreLived};
-ghost use Rattle.world_laws.specs.Texts.{FlowsTakeEachOnce, TextsAreLawful, TextsComeToWorlds};
+ghost use Rattle.world_laws.specs.Texts.{FlowsTakeEachOnce, ForgedTextsHandItOver, TextsAreLawful, TextsComeToWorlds};
 
 /// In every life a node keeps the authority's certificates of the members, and no others.
 pub fn rosters_are_kept()
@@ -97,6 +97,13 @@ pub fn answers_hold()
 /// the authority before all nodes, and a node before those of higher numbers.
 pub fn forgeries_are_first()
     ensures { ForgeriesAreFirst }
+{}
+
+/// A line ends as forged, and so a text does, only where bytes were handed over in which just that was found: it verifies
+/// under the named key, with which no signature of it was made until then.
+pub fn what_is_forged_is_handed_over()
+    ensures lines { ForgedLinesHandItOver }
+    ensures texts { ForgedTextsHandItOver }
 {}
 
 /// Whatever a text in the world form is, and whatever ends it: as soon as its roster is whole, the lines that were taken
