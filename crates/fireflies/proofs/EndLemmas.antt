@@ -6,14 +6,14 @@ use Rattle.play.specs.Plays.{Runs, Standing, Unfailed}
 use Rattle.play.specs.declared.stop.Stop.{Stop}
 use Rattle.play.specs.declared.stop.Stop.TheVariants as stop
 use Rattle.text_trace.specs.Lines.{text_lines}
-use Rattle.text_trace.specs.Trace.{Owed}
+use Rattle.text_trace.specs.Trace.{Every, Owed}
 use Rattle.authority.specs.declared.halt.Halt.{Halt}
 use Rattle.fireflies.specs.Causes.{IsFront, Says, cause_line, status_of, status_of_halt}
 use Rattle.fireflies.specs.Ends.{Counts, Ends, HaltEnds, Is, Stands, Tells}
 use Rattle.fireflies.specs.declared.status.Status.{Status}
 use Rattle.fireflies.specs.declared.status.Status.TheVariants as status
 
-stands : (owed : Owed BadWord) (was now : Standing) (r : Result (Unit {0}) (Stop BadWord)) → Runs BadWord (Is owed) text_lines was now r → Stands owed was now (status_of r)
+stands : (owed : Owed BadWord) (was now : Standing) (r : Result (Unit {0}) (Stop BadWord)) → Runs BadWord Every (Is owed) text_lines was now r → Stands owed was now (status_of r)
 stands owed was now (Ok _) ran = ran
 stands owed was now (Err (stop.Refused line refused)) ran = ran
 stands owed was now (Err stop.ReadFault) ran = ran
@@ -73,7 +73,7 @@ pub record Concluded (owed : Owed BadWord) (was now : Standing) (s : Status) : T
   pub counts : Counts was now s
   pub command : s ≢ status.Usage
 
-pub concluded : (owed : Owed BadWord) (was between now : Standing) (r : Result (Unit {0}) (Stop BadWord)) (first s : Status) → Runs BadWord (Is owed) text_lines was between r → first ≡ status_of r → Tells first between now s → Concluded owed was now s
+pub concluded : (owed : Owed BadWord) (was between now : Standing) (r : Result (Unit {0}) (Stop BadWord)) (first s : Status) → Runs BadWord Every (Is owed) text_lines was between r → first ≡ status_of r → Tells first between now s → Concluded owed was now s
 concluded owed was between now r first s ran is tells =
     let stood : Stands owed was between first = subst (Stands owed was between) (sym is) (stands owed was between r ran) in
     record {

@@ -8,8 +8,8 @@ use Rattle.line_text.specs.declared.bad_word.BadWord.{BadWord}
 use Rattle.ports.specs.Contents.{IsUsedUp}
 use Rattle.play.specs.Plays.{Standing, Lines, Starved, IsAdmitted, IsLast, bytes_of, Follows}
 use Rattle.text_trace.specs.Lines.{has_no_feed, line_bytes, seen, seen_bytes, text_lines, AreWhole, IsFed, IsNext}
-use Rattle.text_trace.specs.Trace.{Owed, Trace, Writes, Refuses}
-use Rattle.text_trace.proofs.TraceLemmas.{unrefused-as}
+use Rattle.text_trace.specs.Trace.{Every, Owed, Trace, Writes, Refuses}
+use Rattle.text_trace.proofs.TraceLemmas.{free-as}
 use Rattle.text_trace.proofs.WholeLemmas.{whole-one, whole-join, rest-next, cut-next, fed-next}
 use Rattle.text_trace.proofs.LineLemmas.{lines_of-rest}
 use Rattle.fireflies.specs.Causes.{Says}
@@ -230,7 +230,7 @@ unmoved owed was now same = record {
   unrefused = inl refl;
 }
 
-admitted : (owed : Owed BadWord) (lines : List (List ℕ)) (bytes : List ℕ) (last left : Option (List ℕ)) → AreWhole lines bytes → IsAdmitted BadWord (Is owed) lines last left → AreUnrefused owed (bytes ++ bytes_of last) ⊎ IsUnrefusedText owed (bytes ++ bytes_of last) left
+admitted : (owed : Owed BadWord) (lines : List (List ℕ)) (bytes : List ℕ) (last left : Option (List ℕ)) → AreWhole lines bytes → IsAdmitted BadWord Every (Is owed) lines last left → AreUnrefused owed (bytes ++ bytes_of last) ⊎ IsUnrefusedText owed (bytes ++ bytes_of last) left
 admitted owed lines bytes None left whole is =
     let same : seen (bytes ++ []) ≡ lines = whole.first [] ∙ append-nil lines in
     inr (record { used_up = is.0; none = rw same (is.1 owed refl) })
@@ -239,16 +239,16 @@ admitted owed lines bytes (Some line) left whole is =
     let same = seen-whole (lines ++ line ∷ []) (bytes ++ line) both in
     inl (record {
       whole = subst (λ (ls : List (List ℕ)). AreWhole ls (bytes ++ line)) (sym same) both;
-      unrefused = unrefused-as BadWord (λ rest. owed (seen (bytes ++ line) ++ rest)) (λ rest. owed (lines ++ line ∷ rest))
+      unrefused = free-as BadWord Every (λ rest. owed (seen (bytes ++ line) ++ rest)) (λ rest. owed (lines ++ line ∷ rest))
           (λ rest. ap (λ (ls : List (List ℕ)). (owed ls).cause) (ap (λ (ls : List (List ℕ)). ls ++ rest) same ∙ append_assoc lines (line ∷ []) rest))
           (is.1 owed refl);
     })
 
-upto-admitted : (owed : Owed BadWord) (lines : List (List ℕ)) (last left : Option (List ℕ)) → IsAdmitted BadWord (Is owed) lines last left → IsUpToLine (bytes_of last)
+upto-admitted : (owed : Owed BadWord) (lines : List (List ℕ)) (last left : Option (List ℕ)) → IsAdmitted BadWord Every (Is owed) lines last left → IsUpToLine (bytes_of last)
 upto-admitted owed lines None left is = inl (refl, lit≤ tt)
 upto-admitted owed lines (Some line) left is = inr is.0
 
-starved : (owed : Owed BadWord) (was now : Standing) → Starved BadWord (Is owed) text_lines was now → Fronted owed was now status.OutOfMemory
+starved : (owed : Owed BadWord) (was now : Standing) → Starved BadWord Every (Is owed) text_lines was now → Fronted owed was now status.OutOfMemory
 starved owed was now stood =
     let more = behind owed stood.lines stood.bytes (bytes_of stood.last) stood.text stood.taken.whole stood.writes in
     record {

@@ -6,7 +6,7 @@ use Rattle.ports.specs.Count.{Rose, counted, next_count}
 use Rattle.ports.specs.Link.{LinkState}
 use Rattle.play.specs.Plays.{Standing, Unfailed, Finished, Refused, Unread, Unwritten, Starved}
 use Rattle.text_trace.specs.Lines.{text_lines}
-use Rattle.text_trace.specs.Trace.{Owed}
+use Rattle.text_trace.specs.Trace.{Every, Owed}
 use Rattle.trace.specs.Walk.{replayed}
 use Rattle.verifier.specs.Answered.{verified}
 use Rattle.authority.specs.declared.halt.Halt.{Halt}
@@ -37,7 +37,7 @@ Stands owed was now status.Usage = ⊥
 Stands owed was now (status.BadInput line word) = Refused BadWord (Is owed) text_lines 1 line word was now
 Stands owed was now status.ReadFault = Unread BadWord (Is owed) text_lines was now
 Stands owed was now status.WriteFault = Unwritten BadWord (Is owed) text_lines was now
-Stands owed was now status.OutOfMemory = (now ≡ was) ⊎ Starved BadWord (Is owed) text_lines was now
+Stands owed was now status.OutOfMemory = (now ≡ was) ⊎ Starved BadWord Every (Is owed) text_lines was now
 Stands owed was now status.StoreFault = ⊥
 Stands owed was now (status.StoreBroken place byte) = ⊥
 Stands owed was now status.LinkFault = ⊥

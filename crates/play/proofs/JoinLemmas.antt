@@ -130,37 +130,37 @@ unwritten-join C A B first next room later was then now a b = record {
   kept = b.kept ∙ a.unfailed.reads;
 }
 
-admitted-join : (C : Type 0) (A B : Owed C → Type 0) (lines others : List (List ℕ)) (last left : Option (List ℕ)) (text : List ℕ) → Steps C A B lines text → IsAdmitted C B others last left → IsAdmitted C A (lines ++ others) last left
-admitted-join C A B lines others (Some line) left text steps is = (is.0, admits-join C A B lines others (Some line) text steps is.1)
-admitted-join C A B lines others None left text steps is = (is.0, admits-join C A B lines others None text steps is.1)
+admitted-join : (C : Type 0) (P : C → Type 0) (A B : Owed C → Type 0) (lines others : List (List ℕ)) (last left : Option (List ℕ)) (text : List ℕ) → Steps C A B lines text → IsAdmitted C P B others last left → IsAdmitted C P A (lines ++ others) last left
+admitted-join C P A B lines others (Some line) left text steps is = (is.0, admits-join C P A B lines others (Some line) text steps is.1)
+admitted-join C P A B lines others None left text steps is = (is.0, admits-join C P A B lines others None text steps is.1)
 
-starved-join : (C : Type 0) (A B : Owed C → Type 0) (first next room later : ℕ) (was then now : Standing) → Went C A B first next room later was then → Starved C B later then now → Starved C A room was now
-starved-join C A B first next room later was then now a b = record {
+starved-join : (C : Type 0) (P : C → Type 0) (A B : Owed C → Type 0) (first next room later : ℕ) (was then now : Standing) → Went C A B first next room later was then → Starved C P B later then now → Starved C P A room was now
+starved-join C P A B first next room later was then now a b = record {
   lines = a.lines ++ b.lines;
   bytes = a.bytes ++ b.bytes;
   last = b.last;
   text = a.text ++ b.text;
   taken = lines-join C A B first next room later was then b.lines b.bytes a b.taken;
   read = read-join was.left then.left now.left a.bytes b.bytes (bytes_of b.last) a.read b.read;
-  admitted = admitted-join C A B a.lines b.lines b.last now.left a.text a.steps b.admitted;
+  admitted = admitted-join C P A B a.lines b.lines b.last now.left a.text a.steps b.admitted;
   wrote = Appends-trans was.taken then.taken now.taken a.text b.text a.wrote b.wrote;
   writes = steps-join C A B (Waits C) a.lines b.lines a.text b.text a.steps b.writes;
   unfailed = unfailed-join was then now a.unfailed b.unfailed;
 }
 
 -- some lines, and then a turn that stops
-pub stops-join : (C : Type 0) (A B : Owed C → Type 0) (first next room later : ℕ) (was then now : Standing) (s : Stop C) → Went C A B first next room later was then → Stops C B next later then now s → Stops C A first room was now s
-stops-join C A B first next room later was then now (stop.Refused line cause) a b = refused-join C A B first next line room later cause was then now a b
-stops-join C A B first next room later was then now stop.ReadFault a b = unread-join C A B first next room later was then now a b
-stops-join C A B first next room later was then now stop.WriteFault a b = unwritten-join C A B first next room later was then now a b
-stops-join C A B first next room later was then now stop.OutOfMemory a b = starved-join C A B first next room later was then now a b
+pub stops-join : (C : Type 0) (P : C → Type 0) (A B : Owed C → Type 0) (first next room later : ℕ) (was then now : Standing) (s : Stop C) → Went C A B first next room later was then → Stops C P B next later then now s → Stops C P A first room was now s
+stops-join C P A B first next room later was then now (stop.Refused line cause) a b = refused-join C A B first next line room later cause was then now a b
+stops-join C P A B first next room later was then now stop.ReadFault a b = unread-join C A B first next room later was then now a b
+stops-join C P A B first next room later was then now stop.WriteFault a b = unwritten-join C A B first next room later was then now a b
+stops-join C P A B first next room later was then now stop.OutOfMemory a b = starved-join C P A B first next room later was then now a b
 
 -- the turns of a whole run
-pub run-stops : (C : Type 0) (A : Owed C → Type 0) (room : ℕ) (was now : Standing) (s : Stop C) → Stops C A 1 room was now s → StopsRun C A room was now s
-run-stops C A room was now (stop.Refused line cause) stops = stops
-run-stops C A room was now stop.ReadFault stops = stops
-run-stops C A room was now stop.WriteFault stops = stops
-run-stops C A room was now stop.OutOfMemory stops = inr stops
+pub run-stops : (C : Type 0) (P : C → Type 0) (A : Owed C → Type 0) (room : ℕ) (was now : Standing) (s : Stop C) → Stops C P A 1 room was now s → StopsRun C P A room was now s
+run-stops C P A room was now (stop.Refused line cause) stops = stops
+run-stops C P A room was now stop.ReadFault stops = stops
+run-stops C P A room was now stop.WriteFault stops = stops
+run-stops C P A room was now stop.OutOfMemory stops = inr stops
 
 -- no line was taken yet, and nothing learned
 pub came-none : (Reaches : List (List ℕ) → Type 0) (room : ℕ) (left : Option (List ℕ)) → Reaches [] → Came Reaches room room left left

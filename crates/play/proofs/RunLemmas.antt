@@ -13,27 +13,27 @@ follows-less : (C : Type 0) (A B : Owed C → Type 0) (lines : List (List ℕ)) 
 follows-less C A B lines (Some line) text less h = (h.0, λ f b. h.1 f (less f b))
 follows-less C A B lines None text less h = λ f b. h f (less f b)
 
-admitted-less : (C : Type 0) (A B : Owed C → Type 0) (lines : List (List ℕ)) (last left : Option (List ℕ)) → ((f : Owed C) → B f → A f) → IsAdmitted C A lines last left → IsAdmitted C B lines last left
-admitted-less C A B lines (Some line) left less h = (h.0, λ f b. h.1 f (less f b))
-admitted-less C A B lines None left less h = (h.0, λ f b. h.1 f (less f b))
+admitted-less : (C : Type 0) (P : C → Type 0) (A B : Owed C → Type 0) (lines : List (List ℕ)) (last left : Option (List ℕ)) → ((f : Owed C) → B f → A f) → IsAdmitted C P A lines last left → IsAdmitted C P B lines last left
+admitted-less C P A B lines (Some line) left less h = (h.0, λ f b. h.1 f (less f b))
+admitted-less C P A B lines None left less h = (h.0, λ f b. h.1 f (less f b))
 
-starved-less : (C : Type 0) (A B : Owed C → Type 0) (room : ℕ) (was now : Standing) → ((f : Owed C) → B f → A f) → Starved C A room was now → Starved C B room was now
-starved-less C A B room was now less h = record {
+starved-less : (C : Type 0) (P : C → Type 0) (A B : Owed C → Type 0) (room : ℕ) (was now : Standing) → ((f : Owed C) → B f → A f) → Starved C P A room was now → Starved C P B room was now
+starved-less C P A B room was now less h = record {
   lines = h.lines;
   bytes = h.bytes;
   last = h.last;
   text = h.text;
   taken = h.taken;
   read = h.read;
-  admitted = admitted-less C A B h.lines h.last now.left less h.admitted;
+  admitted = admitted-less C P A B h.lines h.last now.left less h.admitted;
   wrote = h.wrote;
   writes = λ f b. h.writes f (less f b);
   unfailed = h.unfailed;
 }
 
 -- what holds of all that A owes holds of all that B owes, where A owes it too
-pub runs-less : (C : Type 0) (A B : Owed C → Type 0) (room : ℕ) (was now : Standing) (result : Result (Unit {0}) (Stop C)) → ((f : Owed C) → B f → A f) → Runs C A room was now result → Runs C B room was now result
-runs-less C A B room was now (Ok _) less h = record {
+pub runs-less : (C : Type 0) (P : C → Type 0) (A B : Owed C → Type 0) (room : ℕ) (was now : Standing) (result : Result (Unit {0}) (Stop C)) → ((f : Owed C) → B f → A f) → Runs C P A room was now result → Runs C P B room was now result
+runs-less C P A B room was now (Ok _) less h = record {
   lines = h.lines;
   bytes = h.bytes;
   text = h.text;
@@ -44,7 +44,7 @@ runs-less C A B room was now (Ok _) less h = record {
   ends = λ f b. h.ends f (less f b);
   unfailed = h.unfailed;
 }
-runs-less C A B room was now (Err (stop.Refused line cause)) less h = record {
+runs-less C P A B room was now (Err (stop.Refused line cause)) less h = record {
   lines = h.lines;
   bytes = h.bytes;
   last = h.last;
@@ -57,7 +57,7 @@ runs-less C A B room was now (Err (stop.Refused line cause)) less h = record {
   refuses = refuses-less C A B h.lines h.last h.text cause less h.refuses;
   unfailed = h.unfailed;
 }
-runs-less C A B room was now (Err stop.ReadFault) less h = record {
+runs-less C P A B room was now (Err stop.ReadFault) less h = record {
   lines = h.lines;
   bytes = h.bytes;
   part = h.part;
@@ -71,7 +71,7 @@ runs-less C A B room was now (Err stop.ReadFault) less h = record {
   failed = h.failed;
   kept = h.kept;
 }
-runs-less C A B room was now (Err stop.WriteFault) less h = record {
+runs-less C P A B room was now (Err stop.WriteFault) less h = record {
   lines = h.lines;
   bytes = h.bytes;
   last = h.last;
@@ -88,4 +88,4 @@ runs-less C A B room was now (Err stop.WriteFault) less h = record {
   failed = h.failed;
   kept = h.kept;
 }
-runs-less C A B room was now (Err stop.OutOfMemory) less h = elim h [ inl same ↦ inl same | inr starved ↦ inr (starved-less C A B room was now less starved) ]
+runs-less C P A B room was now (Err stop.OutOfMemory) less h = elim h [ inl same ↦ inl same | inr starved ↦ inr (starved-less C P A B room was now less starved) ]

@@ -161,8 +161,8 @@ unwritten-end C A room was now line text by read none ends waits front failed ke
 }
 
 -- memory was refused for a line, before anything was written
-pub starved-line : (C : Type 0) (A : Owed C → Type 0) (room : ℕ) (was now : Standing) (line : List ℕ) (by : Ending) → Reads was.left now.left line by → has_line_feed line ≡ true → Admits C A [] (Some line) → ((f : Owed C) → A f → Waits C f) → Appends was.taken now.taken [] → Unfailed was now → Starved C A room was now
-starved-line C A room was now line by read fed admits waits same unfailed = record {
+pub starved-line : (C : Type 0) (P : C → Type 0) (A : Owed C → Type 0) (room : ℕ) (was now : Standing) (line : List ℕ) (by : Ending) → Reads was.left now.left line by → has_line_feed line ≡ true → Admits C P A [] (Some line) → ((f : Owed C) → A f → Waits C f) → Appends was.taken now.taken [] → Unfailed was now → Starved C P A room was now
+starved-line C P A room was now line by read fed admits waits same unfailed = record {
   lines = [];
   bytes = [];
   last = Some line;
@@ -176,8 +176,8 @@ starved-line C A room was now line by read fed admits waits same unfailed = reco
 }
 
 -- memory was refused at the end, before anything was written
-pub starved-end : (C : Type 0) (A : Owed C → Type 0) (room : ℕ) (was now : Standing) (line : List ℕ) (by : Ending) → Reads was.left now.left line by → length line ≡ 0 → Admits C A [] None → ((f : Owed C) → A f → Waits C f) → Appends was.taken now.taken [] → Unfailed was now → Starved C A room was now
-starved-end C A room was now line by read none admits waits same unfailed = record {
+pub starved-end : (C : Type 0) (P : C → Type 0) (A : Owed C → Type 0) (room : ℕ) (was now : Standing) (line : List ℕ) (by : Ending) → Reads was.left now.left line by → length line ≡ 0 → Admits C P A [] None → ((f : Owed C) → A f → Waits C f) → Appends was.taken now.taken [] → Unfailed was now → Starved C P A room was now
+starved-end C P A room was now line by read none admits waits same unfailed = record {
   lines = [];
   bytes = [];
   last = None;
@@ -213,5 +213,5 @@ came-end Reaches room before after line by read none same = record {
 }
 
 -- an end that was taken isn't refused
-pub ended-here : (C : Type 0) (A : Owed C → Type 0) (text : List ℕ) → Ends C A [] text → Admits C A [] None
-ended-here C A text ends = λ f owes. ap (λ (t : Trace C). t.cause) (ends f owes)
+pub ended-here : (C : Type 0) (P : C → Type 0) (A : Owed C → Type 0) (text : List ℕ) → Ends C A [] text → Admits C P A [] None
+ended-here C P A text ends = λ f owes. ap (λ (t : Trace C). t.cause) (ends f owes)

@@ -34,7 +34,7 @@ ends-somewhere : (room cause : ℕ) → (copied room []).cause ≡ Some cause �
 ends-somewhere room cause e = cc
 
 copied-waits : (room : ℕ) → Waits ℕ (copied room)
-copied-waits room = record { silent = copied-silent room; unrefused = λ cause all. ends-somewhere room cause (all []) }
+copied-waits room = record { silent = copied-silent room; unrefused = λ cause any all. ends-somewhere room cause (all []) }
 
 pub waits : (room : ℕ) (f : Owed ℕ) → f ≡ copied room → Waits ℕ f
 waits room f same = waits-same ℕ f (copied room) same (copied-waits room)

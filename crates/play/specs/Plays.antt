@@ -136,47 +136,48 @@ pub record Unwritten (C : Type 0) (A : Owed C → Type 0) (room : ℕ) (was now 
   pub failed : now.write_faults ≡ next_count was.write_faults
   pub kept : now.read_faults ≡ was.read_faults
 
--- The line behind whole lines has its line feed, and isn't refused; with none, the text is at its end, and that isn't.
-abbrev pub IsAdmitted : (C : Type 0) → (Owed C → Type 0) → List (List ℕ) → Option (List ℕ) → Option (List ℕ) → Type 0
-IsAdmitted C A lines (Some line) left = IsFed line × Admits C A lines (Some line)
-IsAdmitted C A lines None left = IsUsedUp left × Admits C A lines None
+-- The line behind whole lines has its line feed, and isn't refused for a cause that P holds of; with none, the text is at its
+-- end, and that isn't refused.
+abbrev pub IsAdmitted : (C : Type 0) → (C → Type 0) → (Owed C → Type 0) → List (List ℕ) → Option (List ℕ) → Option (List ℕ) → Type 0
+IsAdmitted C P A lines (Some line) left = IsFed line × Admits C P A lines (Some line)
+IsAdmitted C P A lines None left = IsUsedUp left × Admits C P A lines None
 
--- Memory was refused, for a line or an end that isn't refused: whole lines and then that line were taken; the trace of
+-- Memory was refused, for a line or an end that isn't refused for a cause that P holds of: whole lines and then that line were taken; the trace of
 -- the lines before it was written.
-pub record Starved (C : Type 0) (A : Owed C → Type 0) (room : ℕ) (was now : Standing) : Type 0 where
+pub record Starved (C : Type 0) (P : C → Type 0) (A : Owed C → Type 0) (room : ℕ) (was now : Standing) : Type 0 where
   pub lines : List (List ℕ)
   pub bytes : List ℕ
   pub last : Option (List ℕ)
   pub text : List ℕ
   pub taken : Lines room lines bytes
   pub read : Consumes was.left now.left (bytes ++ bytes_of last)
-  pub admitted : IsAdmitted C A lines last now.left
+  pub admitted : IsAdmitted C P A lines last now.left
   pub wrote : Appends was.taken now.taken text
   pub writes : Writes C A lines text
   pub unfailed : Unfailed was now
 
 -- How it stopped, by the cause, where the first line had this number.
-abbrev pub Stops : (C : Type 0) → (Owed C → Type 0) → ℕ → ℕ → Standing → Standing → Stop C → Type 0
-Stops C A first room was now (stop.Refused line cause) = Refused C A room first line cause was now
-Stops C A first room was now stop.ReadFault = Unread C A room was now
-Stops C A first room was now stop.WriteFault = Unwritten C A room was now
-Stops C A first room was now stop.OutOfMemory = Starved C A room was now
+abbrev pub Stops : (C : Type 0) → (C → Type 0) → (Owed C → Type 0) → ℕ → ℕ → Standing → Standing → Stop C → Type 0
+Stops C P A first room was now (stop.Refused line cause) = Refused C A room first line cause was now
+Stops C P A first room was now stop.ReadFault = Unread C A room was now
+Stops C P A first room was now stop.WriteFault = Unwritten C A room was now
+Stops C P A first room was now stop.OutOfMemory = Starved C P A room was now
 
 -- The same of a whole run, which may be refused memory before it takes or writes anything.
-abbrev pub StopsRun : (C : Type 0) → (Owed C → Type 0) → ℕ → Standing → Standing → Stop C → Type 0
-StopsRun C A room was now stop.OutOfMemory = (now ≡ was) ⊎ Starved C A room was now
-StopsRun C A room was now s = Stops C A 1 room was now s
+abbrev pub StopsRun : (C : Type 0) → (C → Type 0) → (Owed C → Type 0) → ℕ → Standing → Standing → Stop C → Type 0
+StopsRun C P A room was now stop.OutOfMemory = (now ≡ was) ⊎ Starved C P A room was now
+StopsRun C P A room was now s = Stops C P A 1 room was now s
 
 -- How a run over a text went that owes what A says, where so many lines could come, by its answer.
-abbrev pub Runs : (C : Type 0) → (Owed C → Type 0) → ℕ → Standing → Standing → Result (Unit {0}) (Stop C) → Type 0
-Runs C A room was now (Ok _) = Finished C A room was now
-Runs C A room was now (Err s) = StopsRun C A room was now s
+abbrev pub Runs : (C : Type 0) → (C → Type 0) → (Owed C → Type 0) → ℕ → Standing → Standing → Result (Unit {0}) (Stop C) → Type 0
+Runs C P A room was now (Ok _) = Finished C A room was now
+Runs C P A room was now (Err s) = StopsRun C P A room was now s
 
 -- How one turn went: behind a line that was taken the run goes on, and owes what B says.
-abbrev pub Turns : (C : Type 0) → (Owed C → Type 0) → (Owed C → Type 0) → ℕ → ℕ → ℕ → Standing → Standing → Result Bool (Stop C) → Type 0
-Turns C A B first room later was now (Ok true) = Went C A B first (first + 1) room later was now
-Turns C A B first room later was now (Ok false) = Finished C A room was now
-Turns C A B first room later was now (Err s) = Stops C A first room was now s
+abbrev pub Turns : (C : Type 0) → (C → Type 0) → (Owed C → Type 0) → (Owed C → Type 0) → ℕ → ℕ → ℕ → Standing → Standing → Result Bool (Stop C) → Type 0
+Turns C P A B first room later was now (Ok true) = Went C A B first (first + 1) room later was now
+Turns C P A B first room later was now (Ok false) = Finished C A room was now
+Turns C P A B first room later was now (Err s) = Stops C P A first room was now s
 
 -- No write failed, so that the sink may be written to.
 abbrev pub has_written : {T C : Type 0} → Result T (Stop C) → Bool

@@ -31,8 +31,8 @@ fn turn<P: Script, S: Source, O: Sink>(
     ensures source { result ≡ Ok true → S.is_open input.new ≡ true }
     ensures sink { O.is_open out.new ≡ has_written result }
     ensures came { OnOk result (Came (λ lines. P.reaches script.old lines script.new) (P.room script.old) (P.room script.new) (S.left input.old) (S.left input.new)) }
-    ensures ended { result ≡ Ok false → Admits P.Cause (P.owes script.new) [] None }
-    ensures turns { Turns P.Cause (P.owes script.old) (P.owes script.new) number (P.room script.old) (P.room script.new)
+    ensures ended { result ≡ Ok false → Admits P.Cause P.judged (P.owes script.new) [] None }
+    ensures turns { Turns P.Cause P.judged (P.owes script.old) (P.owes script.new) number (P.room script.old) (P.room script.new)
         (standing (S.left input.old) (O.taken out.old) (S.faults input.old) (O.faults out.old))
         (standing (S.left input.new) (O.taken out.new) (S.faults input.new) (O.faults out.new)) result }
 {
@@ -70,7 +70,7 @@ fn turn<P: Script, S: Source, O: Sink>(
 /// Plays the text that the source gives, to its end or up to the first cause that stops it, and writes its trace: of
 /// each line before the next is taken. Of the source nothing is taken behind a line that is refused, and nothing is
 /// read behind its end or a fault. At most 100,001 lines are taken. Memory is refused before anything is read, or for a
-/// line or an end that isn't refused.
+/// line that no judged cause refuses, or an end that isn't refused.
 pub fn play<P: Script, S: Source, O: Sink>(
     alloc: Global,
     script: &mut P,
@@ -84,8 +84,8 @@ pub fn play<P: Script, S: Source, O: Sink>(
     ensures sink { O.is_open out.new ≡ has_written result }
     // Where the text is at its end, what the script has learned of its lines.
     ensures came { OnOk result (Came (λ lines. P.reaches script.old lines script.new) (P.room script.old) (P.room script.new) (S.left input.old) (S.left input.new)) }
-    ensures ended { OnOk result (Admits P.Cause (P.owes script.new) [] None) }
-    ensures runs { Runs P.Cause (P.owes script.old) (P.room script.old)
+    ensures ended { OnOk result (Admits P.Cause P.judged (P.owes script.new) [] None) }
+    ensures runs { Runs P.Cause P.judged (P.owes script.old) (P.room script.old)
         (standing (S.left input.old) (O.taken out.old) (S.faults input.old) (O.faults out.old))
         (standing (S.left input.new) (O.taken out.new) (S.faults input.new) (O.faults out.new)) result }
 {

@@ -21,6 +21,10 @@ pub trait Script {
     /// What refuses a line.
     type Cause: Copy;
 
+    /// The causes that the lines alone tell: memory is refused for no line that has one of these. Others show only as the
+    /// line is played.
+    ghost judged: { Self.Cause → Type 0 };
+
     /// What is owed for the lines that are still to come.
     ghost owes: { Self → Owed Self.Cause → Type 0 };
 
@@ -33,7 +37,7 @@ pub trait Script {
     /// Takes a line, and puts what is written for it into the text, which is empty. The line has its line feed;
     /// or the input ends inside it, and it has some bytes; or it is the first 65,601 bytes of a line that has more
     /// than 65,600 before its line feed. Only a line with its line feed is taken. Memory is refused for no line that
-    /// is refused.
+    /// is refused for a judged cause.
     fn line(
         &mut self,
         alloc: Global,
@@ -44,14 +48,14 @@ pub trait Script {
         requires owing { Owing Self.Cause (owes self.old) }
         ensures room { OnOk result (room self.new < room self.old) }
         ensures reaches { OnOk result (reaches self.old (bytes.now ∷ []) self.new) }
-        ensures line { AnswersLine Self.Cause (owes self.old) (owes self.new) bytes.now text.new.items result };
+        ensures line { AnswersLine Self.Cause judged (owes self.old) (owes self.new) bytes.now text.new.items result };
 
     /// Ends the text, and puts what is written at its end into the text, which is empty. Memory is refused for no
     /// end that is refused.
     fn end(&self, alloc: Global, text: &mut Vec<u8>) -> Result<(), Refusal<Self::Cause>>
         requires empty { text.old.items ≡ [] }
         requires owing { Owing Self.Cause (owes self.now) }
-        ensures end { AnswersEnd Self.Cause (owes self.now) text.new.items result };
+        ensures end { AnswersEnd Self.Cause judged (owes self.now) text.new.items result };
 
     /// Nothing is written for a line without its line feed, nor for what follows it; and between two lines the text
     /// isn't refused yet.

@@ -1,6 +1,7 @@
 //! The loop at work, over a script that writes each line again.
 
 ghost use Rattle.std.specs.Prelude.{◌≡◌, true, IfOk};
+ghost use Rattle.text_trace.specs.Trace.{Every};
 ghost use Rattle.play.specs.Copying.{copied, waits};
 
 use crate::{Refusal, Script, Stop, play};
@@ -16,6 +17,8 @@ struct Copier {
 
 impl Script for Copier {
     type Cause = u8;
+
+    ghost judged = { Every };
 
     ghost owes = { λ s f. f ≡ copied s.room };
 

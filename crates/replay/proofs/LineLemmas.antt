@@ -12,8 +12,8 @@ use Rattle.schedule_direct.specs.Grammar as grammar
 use Rattle.schedule_direct.specs.Grammar.{spelled_words}
 use Rattle.schedule_direct.specs.Rows.{TakesMemory, is_ended}
 use Rattle.text_trace.specs.Lines.{has_line_feed}
-use Rattle.text_trace.specs.Trace.{Admits, Ends, Owed, Refuses, Steps, Trace, before}
-use Rattle.text_trace.proofs.TraceLemmas.{unrefused-as}
+use Rattle.text_trace.specs.Trace.{Admits, before, Ends, Every, Owed, Refuses, Steps, Trace}
+use Rattle.text_trace.proofs.TraceLemmas.{free-as}
 use Rattle.trace.specs.Answers.{Recorded, answer, told}
 use Rattle.trace.specs.Walk.{from_line, played, replayed, trace_in, walk}
 use Rattle.trace.proofs.UnfedLemmas.{played-unrefused}
@@ -56,10 +56,10 @@ pub line-refuses : (p : Progress Direct) (life : Option Life) (bytes : List ℕ)
 line-refuses p life bytes w judged = λ f owes rest. at-lines f (played p owes.recorded) (bytes ∷ rest) owes.same ∙ played-refused p owes.recorded bytes w rest judged
 
 -- memory is refused for a line that isn't
-pub line-admits : (p : Progress Direct) (life : Option Life) (bytes : List ℕ) (l : DirectLine) → grammar.judge p bytes ≡ Ok l → Admits BadWord (Owes p life) [] (Some bytes)
+pub line-admits : (p : Progress Direct) (life : Option Life) (bytes : List ℕ) (l : DirectLine) → grammar.judge p bytes ≡ Ok l → Admits BadWord Every (Owes p life) [] (Some bytes)
 line-admits p life bytes l judged = λ f owes.
     let r = owes.recorded in
-    unrefused-as BadWord (λ rest. f (bytes ∷ rest)) (played (grammar.behind p l) (answer r l).recorded)
+    free-as BadWord Every (λ rest. f (bytes ∷ rest)) (played (grammar.behind p l) (answer r l).recorded)
     (λ rest. ap (λ (t : Trace BadWord). t.cause) (at-lines f (played p r) (bytes ∷ rest) owes.same ∙ played-taken p r bytes l rest judged))
     (played-unrefused (grammar.behind p l) (answer r l).recorded)
 
@@ -80,7 +80,7 @@ judged-fed p bytes l judged =
     subst (λ (b : List ℕ). has_line_feed b ≡ true) (sym (spelled p bytes l judged).bytes_are) (fed_again (join_with_byte 32 (spelled_words l)))
 
 abbrev Starves : Progress Direct → Option Life → List ℕ → Type 0
-Starves p life bytes = (has_line_feed bytes ≡ true) × Admits BadWord (Owes p life) [] (Some bytes)
+Starves p life bytes = (has_line_feed bytes ≡ true) × Admits BadWord Every (Owes p life) [] (Some bytes)
 
 -- memory is refused behind reading it
 pub told-starved : (p : Progress Direct) (life : Option Life) (bytes : List ℕ) (l : DirectLine) → grammar.judge p bytes ≡ Ok l → Starves p life bytes

@@ -4,6 +4,7 @@ ghost use Rattle.std.specs.Prelude.{◌≡◌, ◌-◌, ◌+◌, ◌<◌, ◌≤
 ghost use Rattle.line_text.specs.declared.bad_word.BadWord.{BadWord};
 ghost use Rattle.play.specs.Plays.{Runs, has_written, standing};
 ghost use Rattle.text_trace.specs.Lines.{text_lines};
+ghost use Rattle.text_trace.specs.Trace.{Every};
 ghost use Rattle.trace.specs.Answers.{Recorded, answer as answer_to, told};
 ghost use Rattle.trace.specs.Walk.{replayed};
 ghost use Rattle.replay.specs.Plays.{Plays, FitsOn};
@@ -45,6 +46,8 @@ impl Script for Player {
     ghost use Rattle.replay.specs.Playing.{Owes, owes_waits};
 
     type Cause = BadWord;
+
+    ghost judged = { Every };
 
     ghost owes = { λ s f. Owes s.lines s.life f };
 
@@ -94,7 +97,7 @@ pub fn replay<S: Source, O: Sink>(
     requires source { S.is_open input.old ≡ true }
     requires sink { O.is_open out.old ≡ true }
     ensures sink { O.is_open out.new ≡ has_written result }
-    ensures runs { Runs BadWord (λ f. f ≡ replayed) text_lines
+    ensures runs { Runs BadWord Every (λ f. f ≡ replayed) text_lines
         (standing (S.left input.old) (O.taken out.old) (S.faults input.old) (O.faults out.old))
         (standing (S.left input.new) (O.taken out.new) (S.faults input.new) (O.faults out.new)) result }
 {

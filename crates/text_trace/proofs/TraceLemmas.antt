@@ -1,6 +1,6 @@
 -- How parts of a trace join.
 use Rattle.std.proofs.Common.{◌≡◌, ℕ, List, [], ◌∷◌, ◌++◌, Option, Some, None, refl, ap, sym, ◌∙◌, subst, append_assoc}
-use Rattle.text_trace.specs.Trace.{Trace, before, Owed, Steps, IsUnrefused, Waits, Writes, Ends, Refuses, Admits}
+use Rattle.text_trace.specs.Trace.{Trace, before, Owed, Steps, Every, IsFree, Waits, Writes, Ends, Refuses, Admits}
 
 before-before : {C : Type 0} → (a b : List ℕ) (t : Trace C) → before a (before b t) ≡ before (a ++ b) t
 before-before a b t = ap (λ (o : List ℕ). record { output = o; cause = t.cause }) (sym (append_assoc a b t.output))
@@ -47,17 +47,17 @@ pub waits-same : (C : Type 0) (f g : Owed C) → f ≡ g → Waits C g → Waits
 waits-same C f g same waits = subst (Waits C) (sym same) waits
 
 -- what is refused has its cause whatever comes
-pub unrefused-as : (C : Type 0) (f g : Owed C) → ((lines : List (List ℕ)) → (f lines).cause ≡ (g lines).cause) → IsUnrefused C g → IsUnrefused C f
-unrefused-as C f g same free = λ c all. free c (λ lines. sym (same lines) ∙ all lines)
+pub free-as : (C : Type 0) (P : C → Type 0) (f g : Owed C) → ((lines : List (List ℕ)) → (f lines).cause ≡ (g lines).cause) → IsFree C P g → IsFree C P f
+free-as C P f g same free = λ c p all. free c p (λ lines. sym (same lines) ∙ all lines)
 
 -- some lines, and then one that isn't refused, or an end
-pub admits-join : (C : Type 0) (A B : Owed C → Type 0) (lines others : List (List ℕ)) (last : Option (List ℕ)) (text : List ℕ) → Steps C A B lines text → Admits C B others last → Admits C A (lines ++ others) last
-admits-join C A B lines others (Some line) text first last = λ f owes.
+pub admits-join : (C : Type 0) (P : C → Type 0) (A B : Owed C → Type 0) (lines others : List (List ℕ)) (last : Option (List ℕ)) (text : List ℕ) → Steps C A B lines text → Admits C P B others last → Admits C P A (lines ++ others) last
+admits-join C P A B lines others (Some line) text first last = λ f owes.
     let one = first f owes in
-    unrefused-as C (λ rest. f ((lines ++ others) ++ line ∷ rest)) (λ rest. one.later (others ++ line ∷ rest))
+    free-as C P (λ rest. f ((lines ++ others) ++ line ∷ rest)) (λ rest. one.later (others ++ line ∷ rest))
     (λ rest. ap (λ (ls : List (List ℕ)). (f ls).cause) (append_assoc lines others (line ∷ rest)) ∙ ap (λ (t : Trace C). t.cause) (one.same (others ++ line ∷ rest)))
     (last one.later one.owes)
-admits-join C A B lines others None text first last = λ f owes.
+admits-join C P A B lines others None text first last = λ f owes.
     let one = first f owes in
     ap (λ (t : Trace C). t.cause) (one.same others) ∙ last one.later one.owes
 
@@ -65,5 +65,5 @@ admits-join C A B lines others None text first last = λ f owes.
 pub none-refused : (C : Type 0) (A : Owed C → Type 0) (earlier : List (List ℕ)) (line : List ℕ) (others : List (List ℕ)) (text early : List ℕ) (c : C) → Writes C A (earlier ++ line ∷ others) text → (f : Owed C) → A f → Refuses C (λ g. g ≡ f) earlier (Some line) early c → ⊥
 none-refused C A earlier line others text early c writes f owes refuses =
     let one = writes f owes in
-    one.owes.unrefused c (λ rest.
+    one.owes.unrefused c tt (λ rest.
     ap (λ (t : Trace C). t.cause) (sym (one.same rest) ∙ ap f (append_assoc earlier (line ∷ others) rest) ∙ refuses f refl (others ++ rest)))

@@ -25,9 +25,17 @@ pub record GoesOn (C : Type 0) (B : Owed C → Type 0) (f : Owed C) (lines : Lis
 abbrev pub Steps : (C : Type 0) → (Owed C → Type 0) → (Owed C → Type 0) → List (List ℕ) → List ℕ → Type 0
 Steps C A B lines text = (f : Owed C) → A f → GoesOn C B f lines text
 
+-- Any cause.
+abbrev pub Every : {C : Type 0} → C → Type 0
+Every c = Unit {0}
+
+-- No cause of those that P holds of refuses the text whatever comes.
+abbrev pub IsFree : (C : Type 0) → (C → Type 0) → Owed C → Type 0
+IsFree C P f = (c : C) → P c → ((lines : List (List ℕ)) → (f lines).cause ≡ Some c) → ⊥
+
 -- There is no cause that refuses the text whatever comes: so it isn't refused yet.
 abbrev pub IsUnrefused : (C : Type 0) → Owed C → Type 0
-IsUnrefused C f = (c : C) → ((lines : List (List ℕ)) → (f lines).cause ≡ Some c) → ⊥
+IsUnrefused C f = IsFree C Every f
 
 -- What is owed between two lines: nothing is written for a line that isn't ended, nor for what follows it; and the text
 -- isn't refused yet.
@@ -48,10 +56,10 @@ abbrev pub Refuses : (C : Type 0) → (Owed C → Type 0) → List (List ℕ) �
 Refuses C A lines (Some line) text c = (f : Owed C) → A f → (rest : List (List ℕ)) → f (lines ++ line ∷ rest) ≡ record { output = text; cause = Some c }
 Refuses C A lines None text c = (f : Owed C) → A f → f lines ≡ record { output = text; cause = Some c }
 
--- The line behind these isn't refused; or with none the end of the text isn't.
-abbrev pub Admits : (C : Type 0) → (Owed C → Type 0) → List (List ℕ) → Option (List ℕ) → Type 0
-Admits C A lines (Some line) = (f : Owed C) → A f → IsUnrefused C (λ rest. f (lines ++ line ∷ rest))
-Admits C A lines None = (f : Owed C) → A f → (f lines).cause ≡ None
+-- The line behind these isn't refused for a cause that P holds of; or with none the end of the text isn't refused.
+abbrev pub Admits : (C : Type 0) → (C → Type 0) → (Owed C → Type 0) → List (List ℕ) → Option (List ℕ) → Type 0
+Admits C P A lines (Some line) = (f : Owed C) → A f → IsFree C P (λ rest. f (lines ++ line ∷ rest))
+Admits C P A lines None = (f : Owed C) → A f → (f lines).cause ≡ None
 
 -- Something is owed.
 pub record Owing (C : Type 0) (A : Owed C → Type 0) : Type 0 where

@@ -42,7 +42,7 @@ apart true w e f = cc
 apart false w e f = cc
 
 pub played-unrefused : (p : Progress Direct) (recorded : Option Recorded) → IsUnrefused BadWord (played p recorded)
-played-unrefused p recorded = λ w all.
+played-unrefused p recorded = λ w any all.
     let empty : (played p recorded ([] ∷ [])).cause ≡ Some (empty_fault (is_ended p.form)) =
     ap (λ (j : Result DirectLine BadWord). (from_line recorded [] j (λ l. walk [] (grammar.behind p l) (answer recorded l).recorded)).cause) (judge-empty (next_line is_ended row_for p)) in
     apart (is_ended p.form) w (all []) (sym empty ∙ all ([] ∷ []))

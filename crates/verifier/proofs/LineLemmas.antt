@@ -8,8 +8,8 @@ use Rattle.line_text.specs.Answers.{AnswersBy, Progress}
 use Rattle.line_text.proofs.FrameLemmas.{line-fed}
 use Rattle.play.specs.Answers.{AnswersLine}
 use Rattle.text_trace.specs.Lines.{has_line_feed}
-use Rattle.text_trace.specs.Trace.{Admits, Owed, Trace}
-use Rattle.text_trace.proofs.TraceLemmas.{unrefused-as}
+use Rattle.text_trace.specs.Trace.{Admits, Every, Owed, Trace}
+use Rattle.text_trace.proofs.TraceLemmas.{free-as}
 use Rattle.verify_text.specs.declared.line.VerifyLine.{VerifyLine}
 use Rattle.verify_text.specs.declared.question.Asked.{Asked}
 use Rattle.verify_text.specs.declared.verify.Verify.{Verify}
@@ -24,18 +24,18 @@ answered-as p a bytes rest f r same judged =
     ap (λ (g : Owed BadWord). g (bytes ∷ rest)) same ∙ ap (λ (j : Result VerifyLine BadWord). from_judged j (λ l. answered (behind p l) (asked_after a l) rest)) judged
 
 -- memory is refused for a line that isn't
-starved : (p : Progress Verify) (a : Asked) (bytes : List ℕ) (r : Result VerifyLine BadWord) → judge p bytes ≡ r → IsOkAnd r TakesMemory → (has_line_feed bytes ≡ true) × Admits BadWord (λ f. f ≡ answered p a) [] (Some bytes)
+starved : (p : Progress Verify) (a : Asked) (bytes : List ℕ) (r : Result VerifyLine BadWord) → judge p bytes ≡ r → IsOkAnd r TakesMemory → (has_line_feed bytes ≡ true) × Admits BadWord Every (λ f. f ≡ answered p a) [] (Some bytes)
 starved p a bytes (Ok l) judged takes = (
   line-fed (is_ended p.form) p.number (IsVerify p.form) bytes l (line-is p bytes l judged),
   λ f same.
-      unrefused-as BadWord (λ rest. f (bytes ∷ rest)) (answered (behind p l) (asked_after a l))
+      free-as BadWord Every (λ rest. f (bytes ∷ rest)) (answered (behind p l) (asked_after a l))
       (λ rest. ap (λ (t : Trace BadWord). t.cause) (answered-as p a bytes rest f (Ok l) same judged))
       (answered-unrefused (behind p l) (asked_after a l)),
 )
 starved p a bytes (Err w) judged takes = absurd takes
 
 -- what a line that wasn't read answers
-pub line-untaken : (p : Progress Verify) (a : Asked) (bytes : List ℕ) (fault : LineFault) (answer : Result VerifyLine LineFault) → AnswersBy TakesMemory (judge p bytes) answer → answer ≡ Err fault → AnswersLine BadWord (λ f. f ≡ answered p a) (λ f. Unit {0}) bytes [] (Err (refusal_of fault))
+pub line-untaken : (p : Progress Verify) (a : Asked) (bytes : List ℕ) (fault : LineFault) (answer : Result VerifyLine LineFault) → AnswersBy TakesMemory (judge p bytes) answer → answer ≡ Err fault → AnswersLine BadWord Every (λ f. f ≡ answered p a) (λ f. Unit {0}) bytes [] (Err (refusal_of fault))
 line-untaken p a bytes fault (Ok l) answers is = cc
 line-untaken p a bytes (faults.Bad w) (Err (faults.Bad v)) answers is = λ f same rest. answered-as p a bytes rest f (Err w) same (cc (answers, is))
 line-untaken p a bytes faults.OutOfMemory (Err (faults.Bad v)) answers is = cc

@@ -14,7 +14,7 @@ use Rattle.play.specs.Plays.{Finished, Follows, IsLast, Runs, Standing, Starved,
 use Rattle.play.specs.declared.stop.Stop.{Stop}
 use Rattle.play.specs.declared.stop.Stop.TheVariants as stop
 use Rattle.text_trace.specs.Lines.{AreWhole, text_lines}
-use Rattle.text_trace.specs.Trace.{Owed, Refuses, Trace, Writes}
+use Rattle.text_trace.specs.Trace.{Every, Owed, Refuses, Trace, Writes}
 use Rattle.verify_text.specs.declared.line.VerifyLine.{VerifyLine}
 use Rattle.verify_text.specs.declared.line.VerifyLine.TheVariants as lines
 use Rattle.verify_text.specs.declared.question.Asked.{Asked}
@@ -314,13 +314,13 @@ cut was now lines bytes None text more count whole read stands none follows shor
   wrote = subst (λ (t : List ℕ). Appends was.taken now.taken (t ++ take count more)) none wrote;
 }
 
-starved : (was now : Standing) → Starved BadWord Asks text_lines was now → Appends was.taken now.taken []
+starved : (was now : Standing) → Starved BadWord Every Asks text_lines was now → Appends was.taken now.taken []
 starved was now h = nothing_written was.taken now.taken h.text h.wrote (written_silent h.lines h.text h.writes)
 
 unmoved : (was now : Standing) → now ≡ was → Appends was.taken now.taken []
 unmoved was now same = subst (λ (s : Standing). Appends was.taken s.taken []) (sym same) (Appends-nil was.taken)
 
-pub run-brings : (was now : Standing) (result : Result (Unit {0}) (Stop BadWord)) → Runs BadWord Asks text_lines was now result → Brings was now result
+pub run-brings : (was now : Standing) (result : Result (Unit {0}) (Stop BadWord)) → Runs BadWord Every Asks text_lines was now result → Brings was now result
 run-brings was now (Ok x) h = finished was now h
 run-brings was now (Err (stop.Refused line w)) h = nothing_written was.taken now.taken h.text h.wrote (refused_silent h.lines h.last h.text w h.refuses)
 run-brings was now (Err stop.ReadFault) h = nothing_written was.taken now.taken h.text h.wrote (written_silent h.lines h.text h.writes)

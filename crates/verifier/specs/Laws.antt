@@ -47,7 +47,7 @@ apart true (asked.Question q) w e f = cc
 
 -- There is no cause that refuses all that may come.
 pub answered-unrefused : (p : Progress Verify) (a : Asked) → IsUnrefused BadWord (answered p a)
-answered-unrefused p a = λ w all.
+answered-unrefused p a = λ w any all.
     let empty : (answered p a ([] ∷ [])).cause ≡ one (empty_fault (is_ended p.form)) =
     ap (λ (j : Result VerifyLine BadWord). (from_judged j (λ l. answered (behind p l) (asked_after a l) [])).cause) (judge-empty (next_line is_ended row_for p)) in
     apart (is_ended p.form) a w (all []) (sym empty ∙ all ([] ∷ []))

@@ -2,7 +2,7 @@
 
 ghost use Rattle.std.specs.Prelude.{◌≡◌, ◌-◌, ◌+◌};
 ghost use Rattle.text_trace.specs.Lines.{text_lines};
-ghost use Rattle.text_trace.specs.Trace.{Owed};
+ghost use Rattle.text_trace.specs.Trace.{Every, Owed};
 ghost use Rattle.verifier.specs.Answered.{answered, refusal_of};
 
 use line_text::{BadWord, LineFault, Reader};
@@ -45,6 +45,8 @@ impl Script for Verifier {
     ghost use Rattle.verifier.specs.Laws.{answered-waits};
 
     type Cause = BadWord;
+
+    ghost judged = { Every };
 
     ghost owes = { λ s f. f ≡ answered s.reader s.asked };
 

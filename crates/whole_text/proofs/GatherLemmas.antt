@@ -9,8 +9,8 @@ use Rattle.play.specs.Answers.{AnswersLine}
 use Rattle.play.specs.declared.script.Refusal.{Refusal}
 use Rattle.play.specs.declared.script.Refusal.TheVariants as refusal
 use Rattle.text_trace.specs.Lines.{has_line_feed}
-use Rattle.text_trace.specs.Trace.{Admits, Owed, Refuses, Steps, Trace, before}
-use Rattle.text_trace.proofs.TraceLemmas.{unrefused-as}
+use Rattle.text_trace.specs.Trace.{Admits, before, Every, Owed, Refuses, Steps, Trace}
+use Rattle.text_trace.proofs.TraceLemmas.{free-as}
 use Rattle.whole_text.specs.Gathered.{Judging, Leads, behind_these, judged_then, lines_from, nothing, owed_from, told_of}
 use Rattle.whole_text.specs.Laws.{owed-unrefused}
 
@@ -50,9 +50,9 @@ pub refused-one : {F L : Type 0} (j : Judging F L) (p : Progress F) (bytes : Lis
 refused-one j p bytes w is = λ f same rest.
     ap (λ (g : Owed BadWord). g (bytes ∷ rest)) same ∙ ap (told_of nothing) (one-line j p bytes (Err w) rest is)
 
-admits-one : {F L : Type 0} (j : Judging F L) (p : Progress F) (bytes : List ℕ) (l : L) → judged_at j p bytes ≡ Ok l → Admits BadWord (λ f. f ≡ owed_from j p nothing) [] (Some bytes)
+admits-one : {F L : Type 0} (j : Judging F L) (p : Progress F) (bytes : List ℕ) (l : L) → judged_at j p bytes ≡ Ok l → Admits BadWord Every (λ f. f ≡ owed_from j p nothing) [] (Some bytes)
 admits-one j p bytes l is = λ f same.
-    unrefused-as BadWord (λ rest. f (bytes ∷ rest)) (owed_from j (moved j.after p l) nothing)
+    free-as BadWord Every (λ rest. f (bytes ∷ rest)) (owed_from j (moved j.after p l) nothing)
     (λ rest. ap (λ (t : Trace BadWord). t.cause) (owed-one j p bytes l f same is rest))
     (owed-unrefused j (moved j.after p l) nothing)
 
@@ -64,19 +64,19 @@ pub line-is : {F L : Type 0} (j : Judging F L) (Spells : F → List (List ℕ) �
 line-is j Spells spelled p bytes l e = judge-spelled (next_line j.is_ended j.row p) (Spells p.form) (spelled p.form) bytes l e
 
 -- memory was refused for a line that is one
-pub starved-one : {F L : Type 0} (j : Judging F L) (Spells : F → List (List ℕ) → L → Type 0) (spelled : Spelled j Spells) (p : Progress F) (bytes : List ℕ) (l : L) → judged_at j p bytes ≡ Ok l → (has_line_feed bytes ≡ true) × Admits BadWord (λ f. f ≡ owed_from j p nothing) [] (Some bytes)
+pub starved-one : {F L : Type 0} (j : Judging F L) (Spells : F → List (List ℕ) → L → Type 0) (spelled : Spelled j Spells) (p : Progress F) (bytes : List ℕ) (l : L) → judged_at j p bytes ≡ Ok l → (has_line_feed bytes ≡ true) × Admits BadWord Every (λ f. f ≡ owed_from j p nothing) [] (Some bytes)
 starved-one j Spells spelled p bytes l is = (
   line-fed (j.is_ended p.form) p.number (Spells p.form) bytes l (line-is j Spells spelled p bytes l is),
   admits-one j p bytes l is,
 )
 
-pub starved-some : {F L : Type 0} (j : Judging F L) (Takes : L → Type 0) (Spells : F → List (List ℕ) → L → Type 0) (spelled : Spelled j Spells) (p : Progress F) (bytes : List ℕ) (r : Result L BadWord) → judged_at j p bytes ≡ r → IsOkAnd r Takes → (has_line_feed bytes ≡ true) × Admits BadWord (λ f. f ≡ owed_from j p nothing) [] (Some bytes)
+pub starved-some : {F L : Type 0} (j : Judging F L) (Takes : L → Type 0) (Spells : F → List (List ℕ) → L → Type 0) (spelled : Spelled j Spells) (p : Progress F) (bytes : List ℕ) (r : Result L BadWord) → judged_at j p bytes ≡ r → IsOkAnd r Takes → (has_line_feed bytes ≡ true) × Admits BadWord Every (λ f. f ≡ owed_from j p nothing) [] (Some bytes)
 starved-some j Takes Spells spelled p bytes (Ok l) is takes = starved-one j Spells spelled p bytes l is
 starved-some j Takes Spells spelled p bytes (Err w) is takes = absurd takes
 
 -- a line that was kept, or for which memory was refused
 pub kept-one : {F L : Type 0} (j : Judging F L) (Spells : F → List (List ℕ) → L → Type 0) (spelled : Spelled j Spells) (p q : Progress F) (bytes text : List ℕ) (l : L) (r : Result (Unit {0}) (Refusal BadWord))
-    → judged_at j p bytes ≡ Ok l → q ≡ moved j.after p l → text ≡ [] → IfErr r (λ e. e ≡ refusal.OutOfMemory) → AnswersLine BadWord (λ f. f ≡ owed_from j p nothing) (λ f. f ≡ owed_from j q nothing) bytes text r
+    → judged_at j p bytes ≡ Ok l → q ≡ moved j.after p l → text ≡ [] → IfErr r (λ e. e ≡ refusal.OutOfMemory) → AnswersLine BadWord Every (λ f. f ≡ owed_from j p nothing) (λ f. f ≡ owed_from j q nothing) bytes text r
 kept-one j Spells spelled p q bytes text l (Ok _) is to none memory = (
   line-fed (j.is_ended p.form) p.number (Spells p.form) bytes l (line-is j Spells spelled p bytes l is),
   subst (Steps BadWord (λ f. f ≡ owed_from j p nothing) (λ f. f ≡ owed_from j q nothing) (bytes ∷ [])) (sym none) (steps-one j p q bytes l is to),

@@ -9,8 +9,8 @@ use Rattle.play.specs.declared.stop.Stop.{Stop}
 use Rattle.play.specs.declared.stop.Stop.TheVariants as stop
 use Rattle.play.specs.Plays.{Came, Follows, IsAdmitted, Runs, Standing, Starved, Unwritten, has_written}
 use Rattle.text_trace.specs.Lines.{has_no_feed, text_lines}
-use Rattle.text_trace.specs.Trace.{Admits, Owed, Refuses, Trace, Writes, before}
-use Rattle.text_trace.proofs.TraceLemmas.{unrefused-as}
+use Rattle.text_trace.specs.Trace.{Admits, before, Every, Owed, Refuses, Trace, Writes}
+use Rattle.text_trace.proofs.TraceLemmas.{free-as}
 use Rattle.whole_text.specs.Gathered.{IsUnfinished, IsWhole, Judging, Leads, behind_these, judged_then, lines_from, nothing, owed_from, owed_whole, told_of, unread}
 use Rattle.whole_text.specs.Laws.{told-silent}
 use Rattle.whole_text.proofs.GatherLemmas.{Spelled, judged_at, line-is}
@@ -47,8 +47,8 @@ text-none : {L : Type 0} (r : Result (List L) BadWord) (text : List ℕ) (cause 
 text-none r text cause is = sym (ap output_of is) ∙ told-silent r
 
 pub whole : {F L : Type 0} (j : Judging F L) (form : F) (p q : Progress F) (known lines : List L) (later : ℕ) (was now : Standing)
-    → p ≡ unread form → known ≡ [] → Came (λ taken. Leads j p known taken q lines) (text_lines + 1 - p.number) later was.left now.left → Admits BadWord (λ f. f ≡ owed_from j q nothing) [] None
-    → Runs BadWord (λ f. f ≡ owed_from j p nothing) (text_lines + 1 - p.number) was now (Ok tt) → IsWhole j form was now lines
+    → p ≡ unread form → known ≡ [] → Came (λ taken. Leads j p known taken q lines) (text_lines + 1 - p.number) later was.left now.left → Admits BadWord Every (λ f. f ≡ owed_from j q nothing) [] None
+    → Runs BadWord Every (λ f. f ≡ owed_from j p nothing) (text_lines + 1 - p.number) was now (Ok tt) → IsWhole j form was now lines
 whole j form p q known lines later was now start none came ended finished =
     let first : p.number ≡ 1 = ap (λ x. x.number) start in
     let last = ended-none (j.is_ended q.form) (ended (owed_from j q nothing) refl) in
@@ -117,16 +117,16 @@ writes-told j Spells spelled form tell lines text writes = λ f same.
       later = λ rest. f (lines ++ rest);
       owes = record {
         silent = λ line rest clear. ap (λ (g : Owed BadWord). (g (lines ++ line ∷ rest)).output) same ∙ told-refused tell (lines_from j (unread form) (lines ++ line ∷ rest)) (unfed-refused j Spells spelled lines (unread form) line rest clear);
-        unrefused = unrefused-as BadWord (λ rest. f (lines ++ rest)) goes.later cause goes.owes.unrefused;
+        unrefused = free-as BadWord Every (λ rest. f (lines ++ rest)) goes.later cause goes.owes.unrefused;
       };
       same = λ rest. ap (λ (t : List ℕ). before t (f (lines ++ rest))) (sym none);
     }
 
-admitted-told : {F L : Type 0} (j : Judging F L) (form : F) (tell : List L → List ℕ) (lines : List (List ℕ)) (last left : Option (List ℕ)) → IsAdmitted BadWord (λ f. f ≡ owed_whole j form nothing) lines last left → IsAdmitted BadWord (λ f. f ≡ owed_whole j form tell) lines last left
+admitted-told : {F L : Type 0} (j : Judging F L) (form : F) (tell : List L → List ℕ) (lines : List (List ℕ)) (last left : Option (List ℕ)) → IsAdmitted BadWord Every (λ f. f ≡ owed_whole j form nothing) lines last left → IsAdmitted BadWord Every (λ f. f ≡ owed_whole j form tell) lines last left
 admitted-told j form tell lines (Some line) left is = (
   is.0,
   λ f same.
-      unrefused-as BadWord (λ rest. f (lines ++ line ∷ rest)) (λ rest. owed_whole j form nothing (lines ++ line ∷ rest))
+      free-as BadWord Every (λ rest. f (lines ++ line ∷ rest)) (λ rest. owed_whole j form nothing (lines ++ line ∷ rest))
       (λ rest. ap (λ (g : Owed BadWord). (g (lines ++ line ∷ rest)).cause) same ∙ same-cause tell (lines_from j (unread form) (lines ++ line ∷ rest)))
       (is.1 (owed_whole j form nothing) refl),
 )
@@ -135,7 +135,7 @@ admitted-told j form tell lines None left is = (
   λ f same. ap (λ (g : Owed BadWord). (g lines).cause) same ∙ same-cause tell (lines_from j (unread form) lines) ∙ is.1 (owed_whole j form nothing) refl,
 )
 
-starved-told : {F L : Type 0} (j : Judging F L) (Spells : F → List (List ℕ) → L → Type 0) (spelled : Spelled j Spells) (form : F) (tell : List L → List ℕ) (was now : Standing) → Starved BadWord (λ f. f ≡ owed_whole j form nothing) text_lines was now → Starved BadWord (λ f. f ≡ owed_whole j form tell) text_lines was now
+starved-told : {F L : Type 0} (j : Judging F L) (Spells : F → List (List ℕ) → L → Type 0) (spelled : Spelled j Spells) (form : F) (tell : List L → List ℕ) (was now : Standing) → Starved BadWord Every (λ f. f ≡ owed_whole j form nothing) text_lines was now → Starved BadWord Every (λ f. f ≡ owed_whole j form tell) text_lines was now
 starved-told j Spells spelled form tell was now h = record {
   lines = h.lines;
   bytes = h.bytes;
@@ -163,7 +163,7 @@ never-unwritten j form was now h =
     let zero : length h.more ≡ 0 = ap length none in
     omega arith
 
-unfinished-from : {F L : Type 0} (j : Judging F L) (Spells : F → List (List ℕ) → L → Type 0) (spelled : Spelled j Spells) (form : F) (was now : Standing) (s : Stop BadWord) → Runs BadWord (λ f. f ≡ owed_whole j form nothing) text_lines was now (Err s) → IsUnfinished j form was now s
+unfinished-from : {F L : Type 0} (j : Judging F L) (Spells : F → List (List ℕ) → L → Type 0) (spelled : Spelled j Spells) (form : F) (was now : Standing) (s : Stop BadWord) → Runs BadWord Every (λ f. f ≡ owed_whole j form nothing) text_lines was now (Err s) → IsUnfinished j form was now s
 unfinished-from j Spells spelled form was now (stop.Refused line cause) h = λ tell. record {
   lines = h.lines;
   bytes = h.bytes;
@@ -194,12 +194,12 @@ unfinished-from j Spells spelled form was now stop.ReadFault h = λ tell. record
 unfinished-from j Spells spelled form was now stop.WriteFault h = absurd (never-unwritten j form was now h)
 unfinished-from j Spells spelled form was now stop.OutOfMemory h = λ tell. elim h [ inl same ↦ inl same | inr starved ↦ inr (starved-told j Spells spelled form tell was now starved) ]
 
-pub unfinished : {F L : Type 0} (j : Judging F L) (Spells : F → List (List ℕ) → L → Type 0) (spelled : Spelled j Spells) (form : F) (p : Progress F) (was now : Standing) (s : Stop BadWord) → p ≡ unread form → Runs BadWord (λ f. f ≡ owed_from j p nothing) (text_lines + 1 - p.number) was now (Err s) → IsUnfinished j form was now s
+pub unfinished : {F L : Type 0} (j : Judging F L) (Spells : F → List (List ℕ) → L → Type 0) (spelled : Spelled j Spells) (form : F) (p : Progress F) (was now : Standing) (s : Stop BadWord) → p ≡ unread form → Runs BadWord Every (λ f. f ≡ owed_from j p nothing) (text_lines + 1 - p.number) was now (Err s) → IsUnfinished j form was now s
 unfinished j Spells spelled form p was now s start h =
-    unfinished-from j Spells spelled form was now s (subst (λ x. Runs BadWord (λ f. f ≡ owed_from j x nothing) (text_lines + 1 - x.number) was now (Err s)) start h)
+    unfinished-from j Spells spelled form was now s (subst (λ x. Runs BadWord Every (λ f. f ≡ owed_from j x nothing) (text_lines + 1 - x.number) was now (Err s)) start h)
 
 -- the sink may be written to
-pub writable : {F L : Type 0} (j : Judging F L) (form : F) (p : Progress F) (was now : Standing) (r : Result (Unit {0}) (Stop BadWord)) → p ≡ unread form → Runs BadWord (λ f. f ≡ owed_from j p nothing) (text_lines + 1 - p.number) was now r → has_written r ≡ true
+pub writable : {F L : Type 0} (j : Judging F L) (form : F) (p : Progress F) (was now : Standing) (r : Result (Unit {0}) (Stop BadWord)) → p ≡ unread form → Runs BadWord Every (λ f. f ≡ owed_from j p nothing) (text_lines + 1 - p.number) was now r → has_written r ≡ true
 writable j form p was now (Ok _) start h = refl
 writable j form p was now (Err (stop.Refused line cause)) start h = refl
 writable j form p was now (Err stop.ReadFault) start h = refl

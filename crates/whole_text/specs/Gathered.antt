@@ -9,7 +9,7 @@ use Rattle.play.specs.Plays.{Lines, Standing, StopsRun, Unfailed}
 use Rattle.play.specs.declared.stop.Stop.{Stop}
 use Rattle.ports.specs.Contents.{IsUsedUp}
 use Rattle.text_trace.specs.Lines.{text_lines}
-use Rattle.text_trace.specs.Trace.{Owed, Trace}
+use Rattle.text_trace.specs.Trace.{Every, Owed, Trace}
 
 -- how the lines of a form are judged: whether its last line was read, the row of a line's words, the form behind a line
 pub record Judging (F L : Type 0) : Type 0 where
@@ -72,4 +72,4 @@ pub record IsWhole {F L : Type 0} (j : Judging F L) (form : F) (was now : Standi
 -- The reading stopped before the end of the text, as it would whatever is told of its lines.
 abbrev pub IsUnfinished : {F L : Type 0} → Judging F L → F → Standing → Standing → Stop BadWord → Type 0
 IsUnfinished {L = L} j form was now stop =
-    (tell : List L → List ℕ) → StopsRun BadWord (λ f. f ≡ owed_whole j form tell) text_lines was now stop
+    (tell : List L → List ℕ) → StopsRun BadWord Every (λ f. f ≡ owed_whole j form tell) text_lines was now stop

@@ -22,7 +22,7 @@ apart tell false w e f = cc
 
 -- There is no cause that refuses all that may come.
 pub owed-unrefused : {F L : Type 0} (j : Judging F L) (p : Progress F) (tell : List L → List ℕ) → IsUnrefused BadWord (owed_from j p tell)
-owed-unrefused j p tell = λ w all.
+owed-unrefused j p tell = λ w any all.
     let empty : (owed_from j p tell ([] ∷ [])).cause ≡ one (empty_fault (j.is_ended p.form)) =
     ap (λ r. (told_of tell (judged_then r (λ l. lines_from j (record { number = p.number + 1; form = j.after p.form l }) []))).cause) (judge-empty (next_line j.is_ended j.row p)) in
     apart tell (j.is_ended p.form) w (all []) (sym empty ∙ all ([] ∷ []))

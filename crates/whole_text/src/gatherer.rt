@@ -2,6 +2,7 @@
 
 ghost use Rattle.std.specs.Prelude.{◌≡◌, ◌-◌, ◌+◌, ◌++◌, [], ◌∷◌, OnOk, IfErr};
 ghost use Rattle.text_trace.specs.Lines.{text_lines};
+ghost use Rattle.text_trace.specs.Trace.{Every};
 ghost use Rattle.whole_text.specs.Gathered.{Judging, Leads, owed_from, nothing};
 
 use line_text::{BadWord, Form, LineFault, Reader};
@@ -61,6 +62,8 @@ where
     ghost use Rattle.whole_text.specs.Laws.{owed-waits, leads-itself, leads-on};
 
     type Cause = BadWord;
+
+    ghost judged = { Every };
 
     ghost owes = { λ s f. f ≡ owed_from (record { is_ended = F.is_ended; row = F.row_for; after = F.after }) s.reader nothing };
 

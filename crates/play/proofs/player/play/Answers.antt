@@ -20,7 +20,7 @@ lines-init g c = record {
 pub returns-in_err-turn-clause-runs : goal.returns-in_err-turn-clause-runs
 returns-in_err-turn-clause-runs g c =
     let p = err_from_is_err_and c.from_residual.result c.from_residual.ensures.1 in
-    rw (p.1, p.2) (run-stops _ (g.P.Script.owes c.args.script.now) _ _ _ _ (stops-join _ (g.P.Script.owes c.args.script.now) (g.P.Script.owes c.lines.script) _ _ _ _ _ _ _ c.in_err-turn.field-0.0 c.lines.invariant.went c.in_err-turn.ensures.turns))
+    rw (p.1, p.2) (run-stops _ g.P.Script.judged (g.P.Script.owes c.args.script.now) _ _ _ _ (stops-join _ g.P.Script.judged (g.P.Script.owes c.args.script.now) (g.P.Script.owes c.lines.script) _ _ _ _ _ _ _ c.in_err-turn.field-0.0 c.lines.invariant.went c.in_err-turn.ensures.turns))
 
 pub lines-preserved : goal.lines-preserved
 lines-preserved g c =

@@ -26,7 +26,7 @@ returns-in-Err-Refused-clause-turns g c =
 pub returns-in-Err-OutOfMemory-clause-turns : goal.returns-in-Err-OutOfMemory-clause-turns
 returns-in-Err-OutOfMemory-clause-turns g c =
     let admits = rw c.in-Err-OutOfMemory.field-0-is at c.in-Err-OutOfMemory.ensures.end in
-    starved-end _ (g.P.Script.owes c.args.script.now) _ _ _ c.read_line.new.line.items c.in-Ok.field-0 c.in-Ok.ensures.reads (search rules) admits (g.met.P.Script.waits c.args.script.now) (Appends-nil (g.O.Sink.taken c.args.out.now)) (record { reads = c.in-Ok.ensures.faults; writes = refl })
+    starved-end _ g.P.Script.judged (g.P.Script.owes c.args.script.now) _ _ _ c.read_line.new.line.items c.in-Ok.field-0 c.in-Ok.ensures.reads (search rules) admits (g.met.P.Script.waits c.args.script.now) (Appends-nil (g.O.Sink.taken c.args.out.now)) (record { reads = c.in-Ok.ensures.faults; writes = refl })
 
 pub returns-in-Ok-write_all-2-clause-turns : goal.returns-in-Ok-write_all-2-clause-turns
 returns-in-Ok-write_all-2-clause-turns g c =
@@ -50,14 +50,14 @@ pub returns-in-Err-OutOfMemory-line-clause-turns : goal.returns-in-Err-OutOfMemo
 returns-in-Err-OutOfMemory-line-clause-turns g c =
     let answered = rw c.in-Err-OutOfMemory-line.field-0-is at c.in-Err-OutOfMemory-line.ensures.line in
     let admits = rw c.deref-2.ensures.value at answered in
-    starved-line _ (g.P.Script.owes c.args.script.now) _ _ _ c.read_line.new.line.items c.in-Ok.field-0 c.in-Ok.ensures.reads admits.0 admits.1 (g.met.P.Script.waits c.args.script.now) (Appends-nil (g.O.Sink.taken c.args.out.now)) (record { reads = c.in-Ok.ensures.faults; writes = refl })
+    starved-line _ g.P.Script.judged (g.P.Script.owes c.args.script.now) _ _ _ c.read_line.new.line.items c.in-Ok.field-0 c.in-Ok.ensures.reads admits.0 admits.1 (g.met.P.Script.waits c.args.script.now) (Appends-nil (g.O.Sink.taken c.args.out.now)) (record { reads = c.in-Ok.ensures.faults; writes = refl })
 
 pub returns-in-Ok-write_all-clause-came : goal.returns-in-Ok-write_all-clause-came
 returns-in-Ok-write_all-clause-came g c =
     came-end _ _ _ _ c.read_line.new.line.items c.in-Ok.field-0 c.in-Ok.ensures.reads (search rules) (g.met.P.Script.reaches_itself c.args.script.now)
 
 pub returns-in-Ok-write_all-clause-ended : goal.returns-in-Ok-write_all-clause-ended
-returns-in-Ok-write_all-clause-ended g c = λ _. ended-here _ (g.P.Script.owes c.args.script.now) c.end.new.text.items c.in-Ok-end.ensures.end
+returns-in-Ok-write_all-clause-ended g c = λ _. ended-here _ g.P.Script.judged (g.P.Script.owes c.args.script.now) c.end.new.text.items c.in-Ok-end.ensures.end
 
 pub returns-in-Ok-write_all-2-clause-came : goal.returns-in-Ok-write_all-2-clause-came
 returns-in-Ok-write_all-2-clause-came g c =

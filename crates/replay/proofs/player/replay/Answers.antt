@@ -3,7 +3,7 @@ use Rattle.line_text.specs.declared.bad_word.BadWord.{BadWord}
 use Rattle.line_text.specs.Answers.{Progress}
 use Rattle.schedule_direct.specs.declared.direct.Direct.{Direct}
 use Rattle.schedule_direct.specs.Grammar as grammar
-use Rattle.text_trace.specs.Trace.{Owed, Owing}
+use Rattle.text_trace.specs.Trace.{Every, Owed, Owing}
 use Rattle.play.proofs.RunLemmas.{runs-less}
 use Rattle.trace.specs.Walk.{replayed}
 use Rattle.replay.specs.Playing.{Owes}
@@ -18,4 +18,4 @@ play-requires-clause-owing g c =
 pub returns-clause-runs : goal.returns-clause-runs
 returns-clause-runs g c =
     let runs = rw c.open.ensures at c.play.ensures.runs in
-    runs-less BadWord (Owes grammar.opening None) (λ (f : Owed BadWord). f ≡ replayed) _ _ _ _ owes-first runs
+    runs-less BadWord Every (Owes grammar.opening None) (λ (f : Owed BadWord). f ≡ replayed) _ _ _ _ owes-first runs

@@ -1,3 +1,4 @@
+use Rattle.text_trace.specs.Trace.{Every}
 use Rattle.std.proofs.Common.{◌≡◌, ◌-◌, ◌+◌, Result, subst}
 use Rattle.line_text.specs.declared.bad_word.BadWord.{BadWord}
 use Rattle.line_text.specs.Answers.{Progress}
@@ -14,10 +15,10 @@ use Rattle.verifier.proofs.TextLemmas.{run-brings}
 use Rattle.verifier.proofs.input.verify_input.Goals as goal
 
 -- what a verifier that has read nothing owes
-opened : (v : Verifier) (was now : Standing) (result : Result (Unit {0}) (Stop BadWord)) → v.reader ≡ opening → v.asked ≡ asked.Nothing → Runs BadWord (λ f. f ≡ answered v.reader v.asked) (text_lines + 1 - v.reader.number) was now result → Runs BadWord (λ f. f ≡ verified) text_lines was now result
+opened : (v : Verifier) (was now : Standing) (result : Result (Unit {0}) (Stop BadWord)) → v.reader ≡ opening → v.asked ≡ asked.Nothing → Runs BadWord Every (λ f. f ≡ answered v.reader v.asked) (text_lines + 1 - v.reader.number) was now result → Runs BadWord Every (λ f. f ≡ verified) text_lines was now result
 opened v was now result reader asks h =
-    let P : Asked → Type 0 = λ a. Runs BadWord (λ f. f ≡ answered v.reader a) (text_lines + 1 - v.reader.number) was now result in
-    let Q : Progress Verify → Type 0 = λ p. Runs BadWord (λ f. f ≡ answered p asked.Nothing) (text_lines + 1 - p.number) was now result in
+    let P : Asked → Type 0 = λ a. Runs BadWord Every (λ f. f ≡ answered v.reader a) (text_lines + 1 - v.reader.number) was now result in
+    let Q : Progress Verify → Type 0 = λ p. Runs BadWord Every (λ f. f ≡ answered p asked.Nothing) (text_lines + 1 - p.number) was now result in
     subst Q reader (subst P asks h)
 
 pub returns-clause-runs : goal.returns-clause-runs

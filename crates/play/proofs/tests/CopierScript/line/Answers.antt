@@ -4,7 +4,7 @@ use Rattle.play.proofs.tests.CopierScript.line.Goals as goal
 pub returns-then-is_err-clause-line : goal.returns-then-is_err-clause-line
 returns-then-is_err-clause-line c = (
   search rules,
-  λ f same cause all.
+  λ f same cause judged all.
       let none = rw same at (all []) in
       search (rules, none),
 )
