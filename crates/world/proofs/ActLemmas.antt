@@ -1,0 +1,151 @@
+-- A call of a node, as a part of a line.
+use Rattle.std.proofs.Common.{◌≡◌, ℕ, zero, suc, List, [], ◌∷◌, ◌++◌, Option, Some, None, map, length, take, drop, refl, ap, sym, ◌∙◌, subst, append-nil, append_assoc}
+use Rattle.std.proofs.Math.ListN.{set}
+use Rattle.std.specs.Prelude.{fold, Ok}
+use Rattle.std.specs.List.{slice_get}
+use Rattle.std.proofs.lemmas.List.Concat.{flat_map-append}
+use Rattle.std.specs.Option.{option_map}
+use Rattle.std.proofs.lemmas.Option.{slice_get-map}
+use Rattle.journal.specs.declared.event.Event as journal
+use Rattle.signer.proofs.OnwardLemmas.{front-trans, front-after}
+use Rattle.node_core.specs.Told.{IsFront}
+use Rattle.node_rules.specs.Lives.{Input}
+use Rattle.world_rules.specs.Calls.{OnDisk, called_on}
+use Rattle.world_rules.specs.Counts.{counts_of, with_event}
+use Rattle.world_rules.specs.Settings.{Setting, setting_of}
+use Rattle.world_rules.specs.Worlds.{Life, World as Meant, spent_of}
+use Rattle.world_rules.specs.Steps.{Course, Told, calls, calls_running, station_after, told_in, with_input}
+use Rattle.world_station.specs.Stations.{StationState}
+use Rattle.lms_ots.specs.declared.OtsKind.{OtsKind}
+use Rattle.lms_tree.specs.declared.TreeKind.{TreeKind}
+use Rattle.world_station.specs.Answers.{Calls, CallsRunning, spent_in}
+use Rattle.world_station.specs.Holding.{HoldsStation}
+use Rattle.world.specs.declared.counts.Counts as counted
+use Rattle.world.specs.Counting.{AreKept}
+use Rattle.world.specs.Telling.{call_lines, told_line, told_lines}
+use Rattle.world.specs.Holding.{Holds, Kept}
+use Rattle.world.specs.Courses.{At, Falls, Goes, IsPlace}
+use Rattle.world.proofs.CallLemmas.{holds-called}
+use Rattle.world.proofs.ChangeLemmas.{number-at}
+use Rattle.world.proofs.CourseLemmas.{Lengthens, calls-longer, front-more, longer-ok, OkIs}
+use Rattle.world.proofs.StationLemmas.{numbers-set, station-at}
+use Rattle.world.proofs.WorldLemmas.{holds-recounted}
+
+-- What is kept behind a call of the node at this place.
+abbrev pub kept_after : Kept → ℕ → StationState → List (ℕ × List ℕ) → counted.Counts → Kept
+kept_after v at x sent k = record v { stations = set v.stations at x; sent = sent; counts = k }
+
+set-same : (xs : List StationState) (at : ℕ) (x : StationState) → slice_get xs at ≡ Some x → set xs at x ≡ xs
+set-same [] at x found = refl
+set-same (y ∷ xs) zero x found = ap (λ (z : StationState). z ∷ xs) (sym (same y x found))
+  where
+    same : (a b : StationState) → Some a ≡ Some b → a ≡ b
+    same a b e = cc
+set-same (y ∷ xs) (suc at) x found = ap (λ (zs : List StationState). y ∷ zs) (set-same xs at x found)
+
+abbrev counted_on : Setting → List Told → List journal.Event → counted.Counts → Type 0
+counted_on s told events k = AreKept k (fold (λ z e. with_event s z e.what) (counts_of s told) events)
+
+-- ---- what is kept
+
+running-holds : (s : Setting) (before : List Told) (v : Kept) (c : Course) (m at : ℕ) (x later : StationState) (sent : List (ℕ × List ℕ)) (k : counted.Counts) (i : Input) (events : List journal.Event) (current : Option Life) → (h : Holds s c.world (before ++ c.told) v)
+    → IsPlace v at m → slice_get v.stations at ≡ Some x → later.member ≡ m → (c.world.stations m).current ≡ current
+    → CallsRunning s h.ots h.tree i (c.world.stations m) (spent_of c.world (Some m)) current x later v.sent sent events → counted_on s (before ++ c.told) events k
+    → let d = calls_running s m i (c.world.stations m) current c in Holds s d.world (before ++ d.told) (kept_after v at later sent k)
+running-holds s before v c m at x later sent k i events None h is found own idle called counts =
+    let same : set v.stations at later ≡ v.stations = ap (set v.stations at) called.2 ∙ set-same v.stations at x found in
+    let kept : counted_on s (before ++ c.told) [] k = subst (λ (z : List journal.Event). counted_on s (before ++ c.told) z k) called.0 counts in
+    subst (λ (z : List StationState). Holds s c.world (before ++ c.told) (record v { stations = z; sent = sent; counts = k })) (sym same)
+    (subst (λ (z : List (ℕ × List ℕ)). Holds s c.world (before ++ c.told) (record v { sent = z; counts = k })) (sym called.1) (holds-recounted s c.world (before ++ c.told) v k kept h))
+running-holds s before v c m at x later sent k i events (Some life) h is found own runs called counts =
+    let d : OnDisk = called_on (setting_of s m) life.node i (c.world.stations m).disk in
+    let calls_own : Calls s h.ots h.tree i (c.world.stations m) (spent_of c.world (Some m)) life later v.sent sent events = called in
+    let told : events ≡ d.call.told = calls_own.told ∙ ap (λ (n : ℕ). (called_on (setting_of s n) life.node i (c.world.stations m).disk).call.told) own in
+    holds-called s c before v m at later (station_after (c.world.stations m) (with_input life i d.call.node) d) d.call sent k h is own
+    (subst (λ (es : List journal.Event). HoldsStation s h.ots h.tree (station_after (c.world.stations m) (with_input life i d.call.node) d) (spent_of c.world (Some m) ++ spent_in m es) later) told
+    (subst (λ (n : ℕ). let e = called_on (setting_of s n) life.node i (c.world.stations m).disk in HoldsStation s h.ots h.tree (station_after (c.world.stations m) (with_input life i e.call.node) e) (spent_of c.world (Some m) ++ spent_in n events) later) own calls_own.holds))
+    (calls_own.sent ∙ ap (λ (n : ℕ). v.sent ++ (called_on (setting_of s n) life.node i (c.world.stations m).disk).call.sent) own)
+    (subst (λ (es : List journal.Event). counted_on s (before ++ c.told) es k) told counts)
+
+-- the events of the call are what it tells
+running-told : (s : Setting) (v : Kept) (c : Course) (m : ℕ) (ots : OtsKind) (tree : TreeKind) (x later : StationState) (sent : List (ℕ × List ℕ)) (i : Input) (events : List journal.Event) (current : Option Life) → later.member ≡ m → v.sent ≡ c.world.sent
+    → CallsRunning s ots tree i (c.world.stations m) (spent_of c.world (Some m)) current x later v.sent sent events
+    → (calls_running s m i (c.world.stations m) current c).told ≡ c.told ++ told_in m (length v.sent) events
+running-told s v c m ots tree x later sent i events None own same called = sym (ap (λ (es : List journal.Event). c.told ++ told_in m (length v.sent) es) called.0 ∙ append-nil c.told)
+running-told s v c m ots tree x later sent i events (Some life) own same called =
+    let calls_own : Calls s ots tree i (c.world.stations m) (spent_of c.world (Some m)) life later v.sent sent events = called in
+    let told : events ≡ (called_on (setting_of s m) life.node i (c.world.stations m).disk).call.told = calls_own.told ∙ ap (λ (n : ℕ). (called_on (setting_of s n) life.node i (c.world.stations m).disk).call.told) own in
+    ap (λ (es : List journal.Event). c.told ++ told_in m (length c.world.sent) es) (sym told) ∙ ap (λ (z : List (ℕ × List ℕ)). c.told ++ told_in m (length z) events) (sym same)
+
+-- ---- what is written
+
+pub told-longer : (s : Setting) (m : ℕ) (i : Input) → Lengthens (λ c. Ok (calls s m i c))
+told-longer s m i = record { longer = λ c d is. longer-ok c (calls s m i c) d (calls-longer s m i c) is }
+
+lines-told : (base : List ℕ) (c d : Course) (m n : ℕ) (events : List journal.Event) → d.told ≡ c.told ++ told_in m n events → (base ++ told_lines c.told) ++ call_lines m n events ≡ base ++ told_lines d.told
+lines-told base c d m n events is =
+    append_assoc base (told_lines c.told) (call_lines m n events) ∙ ap (λ (z : List ℕ). base ++ z) (sym (ap told_lines is ∙ flat_map-append told_line c.told (told_in m n events)))
+
+-- the node was called, and what it told is written
+pub calls-goes : (s : Setting) (before : List Told) (base : List ℕ) (v : Kept) (out later_out : List ℕ) (c : Course) (m at : ℕ) (x later : StationState) (sent : List (ℕ × List ℕ)) (k : counted.Counts) (i : Input) (events : List journal.Event) → (h : At s before base v out c)
+    → IsPlace v at m → slice_get v.stations at ≡ Some x → later.member ≡ m → CallsRunning s h.holds.ots h.holds.tree i (c.world.stations m) (spent_of c.world (Some m)) (c.world.stations m).current x later v.sent sent events
+    → counted_on s (before ++ c.told) events k → later_out ≡ out ++ call_lines m (length v.sent) events → Goes s before base (kept_after v at later sent k) later_out (Ok (calls s m i c)) (Ok tt)
+unfolding calls
+calls-goes s before base v out later_out c m at x later sent k i events h is found own called counts written =
+    let current : Option Life = (c.world.stations m).current in
+    let d : Course = calls_running s m i (c.world.stations m) current c in
+    let told = running-told s v c m h.holds.ots h.holds.tree x later sent i events current own h.holds.sent called in (
+      d,
+      refl,
+      record {
+        holds = running-holds s before v c m at x later sent k i events current h.holds is found own refl called counts;
+        written = written ∙ ap (λ (z : List ℕ). z ++ call_lines m (length v.sent) events) h.written ∙ lines-told base c d m (length v.sent) events told;
+      },
+    )
+
+-- memory was refused as that was written
+pub calls-falls : (s : Setting) (before : List Told) (base : List ℕ) (v : Kept) (out later_out : List ℕ) (c : Course) (m : ℕ) (x later : StationState) (sent : List (ℕ × List ℕ)) (i : Input) (events : List journal.Event) → (h : At s before base v out c)
+    → later.member ≡ m → CallsRunning s h.holds.ots h.holds.tree i (c.world.stations m) (spent_of c.world (Some m)) (c.world.stations m).current x later v.sent sent events
+    → IsFront out later_out → IsFront later_out (out ++ call_lines m (length v.sent) events) → Falls base later_out (Ok (calls s m i c))
+unfolding calls
+calls-falls s before base v out later_out c m x later sent i events h own called stands due =
+    let current : Option Life = (c.world.stations m).current in
+    let d : Course = calls_running s m i (c.world.stations m) current c in
+    let told = running-told s v c m h.holds.ots h.holds.tree x later sent i events current own h.holds.sent called in
+    record {
+      stands = front-trans base out later_out (subst (IsFront base) (sym h.written) (front-more base (told_lines c.told))) stands;
+      due = λ e is. subst (λ (z : Course). IsFront later_out (base ++ told_lines z.told)) (the-same d e is)
+          (subst (IsFront later_out) (ap (λ (z : List ℕ). z ++ call_lines m (length v.sent) events) h.written ∙ lines-told base c d m (length v.sent) events told) due);
+    }
+  where
+    the-same : (a b : Course) → OkIs a b → a ≡ b
+    the-same a b e = cc
+
+split-at : (xs : List journal.Event) (i : ℕ) → xs ≡ take i xs ++ drop i xs
+split-at [] zero = refl
+split-at [] (suc i) = refl
+split-at (x ∷ xs) zero = refl
+split-at (x ∷ xs) (suc i) = ap (λ (ys : List journal.Event). x ∷ ys) (split-at xs i)
+
+told-append : (m n : ℕ) (xs ys : List journal.Event) → told_in m n (xs ++ ys) ≡ told_in m n xs ++ told_in m n ys
+told-append m n [] ys = refl
+told-append m n (x ∷ xs) ys = ap (λ (zs : List Told). told_in m n (x ∷ []) ++ zs) (told-append m n xs ys)
+
+lines-split : (m n : ℕ) (events : List journal.Event) (i : ℕ) → call_lines m n events ≡ call_lines m n (take i events) ++ call_lines m n (drop i events)
+lines-split m n events i =
+    ap (call_lines m n) (split-at events i) ∙ ap told_lines (told-append m n (take i events) (drop i events)) ∙ flat_map-append told_line (told_in m n (take i events)) (told_in m n (drop i events))
+
+pub lines-front : (old : List ℕ) (m n : ℕ) (events : List journal.Event) (i : ℕ) → IsFront (old ++ call_lines m n (take i events)) (old ++ call_lines m n events)
+lines-front old m n events i = front-after old (call_lines m n (take i events)) (call_lines m n events) (record { more = call_lines m n (drop i events); is = lines-split m n events i })
+
+-- the numbers stay where the one at this place keeps its own
+pub numbers-kept : (xs : List StationState) (at : ℕ) (x later : StationState) → slice_get xs at ≡ Some x → later.member ≡ x.member → map (λ y. y.member) (set xs at later) ≡ map (λ y. y.member) xs
+numbers-kept xs at x later found own = numbers-set xs at later (slice_get-map (λ (y : StationState). y.member) xs at ∙ ap (option_map (λ (y : StationState). y.member)) found ∙ ap (λ (k : ℕ). Some k) (sym own))
+
+-- the station at the member's place is as it is meant
+pub place-holds : (s : Setting) (w : Meant) (told : List Told) (v : Kept) (m at : ℕ) (x : StationState) → (h : Holds s w told v) → IsPlace v at m → slice_get v.stations at ≡ Some x → HoldsStation s h.ots h.tree (w.stations m) (spent_of w (Some m)) x
+place-holds s w told v m at x h is found =
+    subst (λ (k : ℕ). HoldsStation s h.ots h.tree (w.stations k) (spent_of w (Some k)) x) (number-at v.stations m at x is found) (station-at s h.ots h.tree w at v.stations x found h.stations)
+
+pub recounted : (s : Setting) (told : List Told) (k : counted.Counts) (es events : List journal.Event) → es ≡ events → AreKept k (fold (λ z e. with_event s z e.what) (counts_of s told) es) → AreKept k (fold (λ z e. with_event s z e.what) (counts_of s told) events)
+recounted s told k es events same h = subst (λ (z : List journal.Event). AreKept k (fold (λ z e. with_event s z e.what) (counts_of s told) z)) same h

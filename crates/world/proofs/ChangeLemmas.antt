@@ -1,0 +1,160 @@
+-- What is kept behind a change of one node's place in the world.
+use Rattle.std.proofs.Common.{◌≡◌, ℕ, false, eqb, List, [], ◌∷◌, ◌++◌, Option, Some, None, map, length, refl, ap, sym, ◌∙◌, subst, append-nil}
+use Rattle.std.proofs.Math.ListN.{set}
+use Rattle.std.specs.Prelude.{option_to_list, filter_map}
+use Rattle.std.specs.List.{AllByRecursion, slice_get}
+use Rattle.std.specs.Option.{option_map}
+use Rattle.std.proofs.lemmas.Option.{slice_get-map}
+use Rattle.std.proofs.lemmas.Bool.{eq-eqb, false≢true}
+use Rattle.lms_ots.specs.declared.OtsKind.{OtsKind}
+use Rattle.lms_tree.specs.declared.TreeKind.{TreeKind}
+use Rattle.signer.specs.Lives.{Spent}
+use Rattle.world_disks.specs.Held.{HoldsDisk, armed_as, crashed}
+use Rattle.world_disks.proofs.Opening.{crash_as_told, arm_as_told}
+use Rattle.world_rules.specs.Disks.{ArmedStop, Disk}
+use Rattle.node_core.specs.Playing as node
+use Rattle.node_rules.specs.OnRings.{Rises}
+use Rattle.world_rules.specs.Settings.{Setting, Signed, is_node}
+use Rattle.world_rules.specs.Worlds as worlds
+use Rattle.world_rules.specs.Worlds.{Life, World as Meant, lives_of, spent_if_by, spent_of, with_station}
+use Rattle.world_rules.specs.Steps.{Told, arms, life_over, stops, with_disk}
+use Rattle.world_rules.proofs.Once.{at-station}
+use Rattle.world_station.specs.Stations.{StationState}
+use Rattle.world_station.specs.Holding.{HoldsCurrent, HoldsStation}
+use Rattle.world.specs.declared.liar.Liar.{Liar}
+use Rattle.world.specs.Holding.{Holds, HoldsLiar, HoldsPlace, Kept, numbers}
+use Rattle.world.proofs.Clean.{all_clean_still}
+use Rattle.world.proofs.PlaceLemmas.{nodes-rise, place-node}
+use Rattle.world.proofs.StationLemmas.{StaysElse, station-changes, station-at, numbers-set}
+
+-- ---- a station by itself
+
+pub at-place : (s : Setting) (ots : OtsKind) (tree : TreeKind) (w : Meant) (place : worlds.Station) (x : StationState) → w.stations x.member ≡ place → HoldsStation s ots tree place (spent_of w (Some x.member)) x → HoldsPlace s ots tree w x
+at-place s ots tree w place x is h = subst (λ (z : worlds.Station). HoldsStation s ots tree z (spent_of w (Some x.member)) x) (sym is) h
+
+-- ---- a station stops, or is armed
+
+over-past : (past : List Life) (current : Option Life) (place : worlds.Station) → place.past ≡ past → place.current ≡ current
+    → length ((life_over place current).past ++ option_to_list (life_over place current).current) ≡ length (past ++ option_to_list current)
+over-past past None place p c = ap (λ (z : List Life). length (z ++ option_to_list place.current)) p ∙ ap (λ (z : Option Life). length (past ++ option_to_list z)) c
+over-past past (Some life) place p c = ap length (append-nil (place.past ++ life ∷ [])) ∙ ap (λ (z : List Life). length (z ++ life ∷ [])) p
+
+over-disk : (current : Option Life) (place : worlds.Station) → (life_over place current).disk ≡ place.disk
+over-disk None place = refl
+over-disk (Some life) place = refl
+
+over-current : (current : Option Life) (place : worlds.Station) → place.current ≡ current → (life_over place current).current ≡ None
+over-current None place is = is
+over-current (Some life) place is = refl
+
+stops-stands : (s : Setting) (ots : OtsKind) (tree : TreeKind) (place : worlds.Station) (spent : List Spent) (x : StationState) (outcome : ℕ) → HoldsStation s ots tree place spent x
+    → HoldsStation s ots tree (life_over place place.current) spent (record x { node = None; disk = crashed outcome x.disk })
+stops-stands s ots tree place spent x outcome h =
+    record {
+      public = h.public;
+      key = h.key;
+      tag = h.tag;
+      disk = subst (λ (e : Disk). HoldsDisk x.tag s.indexes (crashed outcome x.disk) e) (sym (over-disk place.current place)) (crash_as_told x.tag s.indexes outcome x.disk place.disk h.disk);
+      lives = h.lives ∙ sym (over-past place.past place.current place refl refl);
+      current = subst (λ (z : Option Life). HoldsCurrent s (life_over place place.current).disk x.member None z) (sym (over-current place.current place refl)) tt;
+      signed = h.signed;
+    }
+
+-- a stop that is armed is nothing to a life
+armed-current : (s : Setting) (e : Disk) (stop : ArmedStop) (m : ℕ) (v : Option node.Kept) (current : Option Life) → HoldsCurrent s e m v current → HoldsCurrent s (record e { armed = Some stop }) m v current
+armed-current s e stop m None None h = tt
+armed-current s e stop m (Some v) (Some life) h = record { is = h.is; going = h.going; open_ = h.open_; gate = h.gate; stored = h.stored }
+armed-current s e stop m None (Some life) h = h
+armed-current s e stop m (Some v) None h = h
+
+arms-stands : (s : Setting) (ots : OtsKind) (tree : TreeKind) (place : worlds.Station) (spent : List Spent) (x : StationState) (stop : ArmedStop) → HoldsStation s ots tree place spent x
+    → HoldsStation s ots tree (with_disk place (record place.disk { armed = Some stop })) spent (record x { disk = record x.disk { armed = armed_as (Some stop) } })
+arms-stands s ots tree place spent x stop h =
+    record {
+      public = h.public;
+      key = h.key;
+      tag = h.tag;
+      disk = arm_as_told x.tag s.indexes x.disk place.disk stop h.disk;
+      lives = h.lives;
+      current = armed-current s place.disk stop x.member x.node place.current h.current;
+      signed = h.signed;
+    }
+
+-- ---- the whole
+
+pub number-at : (xs : List StationState) (m at : ℕ) (x : StationState) → slice_get (map (λ y. y.member) xs) at ≡ Some m → slice_get xs at ≡ Some x → x.member ≡ m
+number-at xs m at x is found = some-same x.member m (sym (slice_get-map (λ (y : StationState). y.member) xs at ∙ ap (option_map (λ (y : StationState). y.member)) found) ∙ is)
+  where
+    some-same : (a b : ℕ) → Some a ≡ Some b → a ≡ b
+    some-same a b e = cc
+
+pub liars-stay : (s : Setting) (ots : OtsKind) (tree : TreeKind) (w later : Meant) (xs : List Liar) → later.signed ≡ w.signed → AllByRecursion (HoldsLiar s ots tree w) xs → AllByRecursion (HoldsLiar s ots tree later) xs
+liars-stay s ots tree w later [] same h = tt
+liars-stay s ots tree w later (x ∷ xs) same h = (
+  record {
+    key = h.0.key;
+    next = h.0.next ∙ sym (ap (λ (z : List Signed). length (filter_map (spent_if_by (Some x.member)) z)) same);
+    signed = h.0.signed ∙ sym (ap (λ (z : List Signed). map (λ y. y.body) (filter_map (spent_if_by (Some x.member)) z)) same);
+  },
+  liars-stay s ots tree w later xs same h.1,
+)
+
+other-number : (k m : ℕ) → eqb k m ≡ false → (k ≡ m → ⊥)
+other-number k m apart same = false≢true (sym apart ∙ eq-eqb k m same)
+
+pub at-own : (k m : ℕ) (place : worlds.Station) (w : Meant) → k ≡ m → (with_station m place w).stations k ≡ place
+at-own k m place w same = at-station k m place w (λ (z : worlds.Station). z ≡ place) (λ e. refl) (λ apart. absurd (other-number m k apart (sym same)))
+
+pub at-other : (k m : ℕ) (place : worlds.Station) (w : Meant) → eqb k m ≡ false → (with_station m place w).stations k ≡ w.stations k
+at-other k m place w apart = at-station k m place w (λ (z : worlds.Station). z ≡ w.stations k) (λ e. absurd (other-number k m apart (sym e))) (λ e. refl)
+
+pub changed-else : (m : ℕ) (place : worlds.Station) (w : Meant) → StaysElse w (with_station m place w) m
+changed-else m place w = record { others = λ k apart. record { station = at-other k m place w apart; spent = refl } }
+
+-- one place changes, and what was signed, sent and named stays
+pub holds-changed : (s : Setting) (w : Meant) (told : List Told) (v : Kept) (m at : ℕ) (x : StationState) (place : worlds.Station) → (h : Holds s w told v) → slice_get (numbers v) at ≡ Some m → x.member ≡ m
+    → HoldsStation s h.ots h.tree place (spent_of w (Some x.member)) x
+    → Holds s (with_station m place w) told (record v { stations = set v.stations at x })
+holds-changed s w told v m at x place h is own new =
+    let later : Meant = with_station m place w in
+    let numbers_rise = subst (Rises 0) (sym h.nodes) (nodes-rise s) in
+    record {
+      ots = h.ots;
+      tree = h.tree;
+      world = h.world;
+      authority = h.authority;
+      issued = h.issued;
+      apart = h.apart;
+      idle = λ k not. at-station k m place w (λ (z : worlds.Station). z.current ≡ None) (λ same. absurd (false≢true (sym not ∙ ap (is_node s) (sym same) ∙ place-node s (numbers v) m at h.nodes is))) (λ apart. h.idle k not);
+      silent = h.silent;
+      nodes = numbers-set v.stations at x (is ∙ ap (λ (k : ℕ). Some k) (sym own)) ∙ h.nodes;
+      stations = station-changes s h.ots h.tree w later m 0 at v.stations x numbers_rise is (changed-else m place w)
+          (at-place s h.ots h.tree later place x (at-own x.member m place w own) new) h.stations;
+      lying = h.lying;
+      liars = liars-stay s h.ots h.tree w later v.liars refl h.liars;
+      sent = h.sent;
+      flowed = h.flowed;
+      named = h.named;
+      tested = all_clean_still s w later v.tested (record { more = []; is = sym (append-nil w.signed) }) h.tested;
+      counts = h.counts;
+    }
+
+pub stops-holds : (s : Setting) (w : Meant) (told : List Told) (v : Kept) (m at outcome : ℕ) (x : StationState) → Holds s w told v → slice_get (numbers v) at ≡ Some m → slice_get v.stations at ≡ Some x
+    → Holds s (stops m w) told (record v { stations = set v.stations at (record x { node = None; disk = crashed outcome x.disk }) })
+stops-holds s w told v m at outcome x h is found =
+    let own : x.member ≡ m = number-at v.stations m at x is found in
+    let later : StationState = record x { node = None; disk = crashed outcome x.disk } in
+    let there = station-at s h.ots h.tree w at v.stations x found h.stations in
+    holds-changed s w told v m at later (life_over (w.stations m) (w.stations m).current) h is own
+    (subst (λ (k : ℕ). HoldsStation s h.ots h.tree (life_over (w.stations k) (w.stations k).current) (spent_of w (Some x.member)) later) own
+    (stops-stands s h.ots h.tree (w.stations x.member) (spent_of w (Some x.member)) x outcome there))
+
+pub arms-holds : (s : Setting) (w : Meant) (told : List Told) (v : Kept) (m at : ℕ) (stop : ArmedStop) (x : StationState) → Holds s w told v → slice_get (numbers v) at ≡ Some m → slice_get v.stations at ≡ Some x
+    → Holds s (arms m stop w) told (record v { stations = set v.stations at (record x { disk = record x.disk { armed = armed_as (Some stop) } }) })
+arms-holds s w told v m at stop x h is found =
+    let own : x.member ≡ m = number-at v.stations m at x is found in
+    let later : StationState = record x { disk = record x.disk { armed = armed_as (Some stop) } } in
+    let there = station-at s h.ots h.tree w at v.stations x found h.stations in
+    holds-changed s w told v m at later (with_disk (w.stations m) (record (w.stations m).disk { armed = Some stop })) h is own
+    (subst (λ (k : ℕ). HoldsStation s h.ots h.tree (with_disk (w.stations k) (record (w.stations k).disk { armed = Some stop })) (spent_of w (Some x.member)) later) own
+    (arms-stands s h.ots h.tree (w.stations x.member) (spent_of w (Some x.member)) x stop there))

@@ -1,0 +1,75 @@
+-- A world that is being opened.
+use Rattle.std.specs.Prelude.{◌≡◌, ℕ, ◌+◌, ◌==◌, ◌++◌, ◌∷◌, true, false, List, [], Some, None, filter, length, map}
+use Rattle.std.specs.List.{AllByRecursion, list_any, range_with_len}
+use Rattle.lms_ots.specs.declared.OtsKind.{OtsKind}
+use Rattle.lms_tree.specs.declared.TreeKind.{TreeKind}
+use Rattle.lms_tree.specs.declared.key.PublicKey.{PublicKey}
+use Rattle.lms_tree.specs.declared.secret.Secret.{Secret}
+use Rattle.lms_tree.specs.Leaves.{LeavesOf}
+use Rattle.lms_tree.specs.Lms.{public_of}
+use Rattle.records.specs.declared.Body.TheVariants.{Certificate}
+use Rattle.records.specs.Signing.{CheckedRecord}
+use Rattle.signer.specs.Signing.{signed_by}
+use Rattle.world.specs.declared.liar.Liar.{Liar}
+use Rattle.world_station.specs.Stations.{StationState}
+use Rattle.world_station.specs.Holding.{HoldsStation, IsWorld, made_place}
+use Rattle.world_keys.specs.Certifying.{Certifying}
+use Rattle.node_core.specs.Rolls.{recs_of}
+use Rattle.world_rules.specs.Counts.{nothing_counted}
+use Rattle.world_rules.specs.Keys.{owner_key}
+use Rattle.world_rules.specs.Settings.{Setting, certified_from, record_of}
+use Rattle.world_rules.specs.Worlds.{begun_world}
+use Rattle.world.specs.Counting.{AreKept}
+use Rattle.world.specs.Holding.{HoldsLiar, HoldsPlace, Kept}
+
+-- Those that are listed and have a number below this one, in order.
+abbrev pub listed_below : List ℕ → ℕ → List ℕ
+listed_below listed n = filter (λ m. list_any (λ x. x == m) listed) (range_with_len 0 n)
+
+-- Nobody is listed in both.
+abbrev pub IsApart : List ℕ → List ℕ → Type 0
+IsApart listed others = (m : ℕ) → list_any (λ x. x == m) listed ≡ true → list_any (λ x. x == m) others ≡ false
+
+-- The members below this number have their keys, their certificates and their places.
+pub record Builds (s : Setting) (ots : OtsKind) (tree : TreeKind) (n : ℕ) (signing : LeavesOf) (v : Kept) : Type 0 where
+  pub key : signing.key ≡ owner_key s.group ots tree None
+  pub next : signing.next ≡ length (listed_below (s.correct ++ s.liars) n)
+  pub group : v.authority.group ≡ s.group
+  pub authority : v.authority.key ≡ s.key None
+  pub certified : recs_of v.authority.certificates ≡ map (record_of s) (certified_from s 0 (listed_below (s.correct ++ s.liars) n))
+  pub nodes : map (λ x. x.member) v.stations ≡ listed_below s.correct n
+  pub stations : AllByRecursion (HoldsPlace s ots tree (begun_world s)) v.stations
+  pub lying : map (λ x. x.member) v.liars ≡ listed_below s.liars n
+  pub liars : AllByRecursion (HoldsLiar s ots tree (begun_world s)) v.liars
+  pub sent : v.sent ≡ []
+  pub flowed : v.flowed ≡ 0
+  pub named : v.named ≡ []
+  pub tested : v.tested ≡ []
+  pub counts : AreKept v.counts nothing_counted
+
+-- ---- members, one after another
+
+-- The certificate of the member with this key, by the next leaf.
+abbrev pub new_certificate : Certifying → LeavesOf → ℕ → PublicKey → CheckedRecord
+new_certificate a signing m key = signed_by a.group signing.key signing.next (Certificate (record { member = m; port = 20000 + m; key = key }))
+
+abbrev pub with_certificate : Kept → LeavesOf → ℕ → PublicKey → Kept
+with_certificate v signing m key = record v { authority = record v.authority { certificates = v.authority.certificates ++ new_certificate v.authority signing m key ∷ [] } }
+
+-- The member was certified, and has its station, where no life has begun.
+pub record AddsNode (older newer : Kept) (signing : LeavesOf) (m : ℕ) (secret : Secret) : Type 0 where
+  pub station : StationState
+  pub member : station.member ≡ m
+  pub holds : (s : Setting) (ots : OtsKind) (tree : TreeKind) → IsWorld s older.authority.group ots tree → secret ≡ owner_key older.authority.group ots tree (Some m) → HoldsStation s ots tree (made_place s) [] station
+  pub added : newer ≡ record (with_certificate older signing m (public_of secret)) { stations = older.stations ++ station ∷ [] }
+
+-- The liar with this key, which has signed nothing.
+pub record IsNewLiar (m : ℕ) (secret : Secret) (x : Liar) : Type 0 where
+  pub member : x.member ≡ m
+  pub key : x.key ≡ record { key = secret; next = 0 }
+  pub signed : x.signed.items ≡ []
+
+pub record AddsLiar (older newer : Kept) (signing : LeavesOf) (m : ℕ) (secret : Secret) : Type 0 where
+  pub liar : Liar
+  pub is_new : IsNewLiar m secret liar
+  pub added : newer ≡ record (with_certificate older signing m (public_of secret)) { liars = older.liars ++ liar ∷ [] }

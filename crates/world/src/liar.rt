@@ -1,0 +1,79 @@
+//! A liar: a member whose key the schedule uses.
+
+ghost use Rattle.std.specs.Prelude.{◌≡◌, ◌∷◌, [], IfOk, IfSome};
+ghost use Rattle.datagram.specs.declared.Datagram.TheVariants as kinds;
+ghost use Rattle.datagram.specs.Spelling.{datagram_bytes};
+ghost use Rattle.records.specs.Spelling.{HasPort};
+ghost use Rattle.signer.specs.Signing.{signed_by};
+ghost use Rattle.world.specs.Lying.{Lied};
+
+use datagram::records_head;
+use ff_ids::{Group, MemberId};
+use fields::{Bytes, NoMemory};
+use lms_tree::SecretKey;
+use records::{Body, Checked, write_record};
+use std::alloc::Global;
+use world_keys::SigningKey;
+
+/// A liar's key, and what it has signed.
+#[derive(Drop)]
+pub struct Liar {
+    pub member: MemberId,
+    pub key: SigningKey,
+    pub signed: Vec<Body>,
+}
+
+/// A datagram with one record of a liar's making.
+#[derive(Drop)]
+pub struct Given {
+    pub bytes: Bytes,
+}
+
+impl Given {
+    /// The datagram with this record, from this member.
+    pub fn of(alloc: Global, from: MemberId, checked: &Checked) -> Result<Given, NoMemory>
+        ensures { IfOk result (λ given. given.bytes ≡ datagram_bytes (kinds.Records from (checked.now.rec ∷ []))) }
+    {
+        let mut bytes = Vec::new(alloc);
+        bytes.extend_from_slice(&records_head(from, 1))?;
+        write_record(checked.rec(), &mut bytes)?;
+        Ok(Given {
+            bytes: Bytes::from_vec(bytes),
+        })
+    }
+}
+
+impl Liar {
+    /// A liar that has signed nothing.
+    pub fn open(alloc: Global, member: MemberId, key: SecretKey) -> Liar
+        ensures member { result.member ≡ member }
+        ensures key { result.key ≡ record { key = key; next = 0 } }
+        ensures signed { result.signed.items ≡ [] }
+    {
+        Liar {
+            member,
+            key: SigningKey::of(key),
+            signed: Vec::new(alloc),
+        }
+    }
+
+    /// Signs the body in the group; none where no leaf is left.
+    pub fn sign(
+        &mut self,
+        alloc: Global,
+        group: &Group,
+        body: Body,
+    ) -> Result<Option<Checked>, NoMemory>
+        requires { HasPort body }
+        ensures member { self.new.member ≡ self.old.member }
+        ensures signed { IfOk result (λ checked. IfSome checked (λ c. c ≡ signed_by group.now self.old.key.key self.old.key.next body)) }
+        ensures lied { IfOk result (λ checked. IfSome checked (λ _c. Lied self.old self.new body)) }
+    {
+        let signed = self.key.sign(alloc, group, body)?;
+        let Some(checked) = signed else {
+            return Ok(None);
+        };
+        self.signed.push(checked.rec().body)?;
+        Ok(Some(checked))
+    }
+}

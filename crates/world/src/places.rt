@@ -1,0 +1,35 @@
+//! Where nodes and liars have their places.
+
+ghost use Rattle.std.specs.Prelude.{◌≡◌, ◌<◌, IfSome, length};
+ghost use Rattle.ff_ids.specs.declared.TheConstants.{MEMBERS};
+ghost use Rattle.node_rules.specs.Nodes.{in_order};
+ghost use Rattle.world_rules.specs.Settings.{Setting, nodes};
+ghost use Rattle.world.specs.Courses.{IsLiarPlace, IsNodePlace};
+ghost use Rattle.world.specs.Holding.{liar_numbers, numbers};
+
+use crate::World;
+use ff_ids::MemberId;
+
+impl World {
+    /// The station of the member, if it is a node.
+    pub(crate) fn station_of(&self, member: MemberId) -> Option<usize>
+        ensures within { IfSome result (λ at. at < length self.now.stations) }
+        ensures place { (s : Setting) → numbers self.now ≡ nodes s → IsNodePlace s self.now member result }
+    {
+        let number = member.get();
+        self.stations
+            .iter()
+            .position(|station| station.member().get() == number)
+    }
+
+    /// The place of the member, if it is a liar.
+    pub(crate) fn liar_of(&self, member: MemberId) -> Option<usize>
+        ensures within { IfSome result (λ at. at < length self.now.liars) }
+        ensures place { (s : Setting) → liar_numbers self.now ≡ in_order s.liars → IsLiarPlace s self.now member result }
+    {
+        let number = member.get();
+        self.liars
+            .iter()
+            .position(|liar| liar.member.get() == number)
+    }
+}

@@ -1,0 +1,306 @@
+//! A line that is played.
+
+ghost use Rattle.std.specs.Prelude.{◌≡◌, ◌<◌, ◌++◌, ◌∷◌, if◌then◌else◌, [], ℕ, List, true, Ok, Some, None, IfOk, IfErr, IfSome, OnOk, OnErr, length};
+ghost use Rattle.ff_ids.specs.Views.{State, monitor as monitor_in, view};
+ghost use Rattle.membership.specs.Holds.{Holds as Stands};
+ghost use Rattle.world_rules.specs.Refusals.{node_named as node_in, why_not as refusal};
+ghost use Rattle.world_rules.specs.Settings.{Setting, is_liar};
+ghost use Rattle.world_rules.specs.Steps.{Course, Told, answered, asks, begun, does, flows, gives_each, monitored, step, ticks as ticks_of, viewed};
+ghost use Rattle.world_rules.specs.Walk.{behind_line};
+ghost use Rattle.world_rules.specs.Worlds.{World as Meant, named_so, running};
+ghost use Rattle.world_text.specs.Lines.{Began};
+ghost use Rattle.world_text.specs.Verdicts.{verdict_of};
+ghost use Rattle.world.specs.declared.fault.WorldFault.TheVariants as faults;
+ghost use Rattle.world.specs.Answers.{PlaysLine};
+ghost use Rattle.world.specs.Courses.{At, CanStart, Goes, IsPlace, NamesLiar, Replies, before_opening, body_in, course_of, does_or_opens, signs};
+ghost use Rattle.world.specs.Holding.{Holds, numbers};
+
+use crate::refusing::node_named;
+use crate::{World, WorldFault};
+use ff_ids::{MEMBERS, MemberId, RingNo};
+use fields::{Name, NoMemory};
+use membership::Membership;
+use schedule_world::WorldLine;
+use std::alloc::Global;
+use world_text::{MemberList, Verdict, write_line, write_verdict};
+
+/// Adds the member, if it is to be there.
+fn add_if(there: bool, member: MemberId, members: &mut Vec<MemberId>) -> Result<(), NoMemory>
+    ensures { OnOk result (members.new.items ≡ members.old.items ++ (if there then member ∷ [] else [])) }
+{
+    if there {
+        members.push(member)?;
+    }
+    Ok(())
+}
+
+/// The members of the view, in order of number.
+fn members_in_view(alloc: Global, membership: &Membership) -> Result<MemberList, NoMemory>
+    ensures { IfOk result (λ members. (st : State) → Stands membership.now st → members ≡ view st) }
+{
+    let mut members = Vec::new(alloc);
+    for number in 0..MEMBERS {
+        let member = MemberId::new(number);
+        add_if(membership.in_view(member), member, &mut members)?;
+    }
+    Ok(MemberList::from_vec(members))
+}
+
+/// The monitor of the member on the ring. Whoever has a certificate has joined, and lines have no other ring than the
+/// group's.
+fn monitor_of(
+    membership: &Membership,
+    ring: RingNo,
+    member: MemberId,
+) -> Result<Option<MemberId>, NoMemory>
+    ensures { IfOk result (λ monitor. (st : State) → Stands membership.now st → monitor ≡ monitor_in st ring.0 member) }
+{
+    let rings = 2 * u16::from(membership.group().t) + 1;
+    if membership.is_member(member) && u16::from(ring.0) < rings {
+        Ok(membership.monitor(ring, member))
+    } else {
+        Err(NoMemory)
+    }
+}
+
+fn end_line(out: &mut Vec<u8>) -> Result<(), WorldFault>
+    ensures ok { OnOk result (out.new.items ≡ out.old.items ++ 10 ∷ []) }
+    ensures refused { OnErr result (out.new.items ≡ out.old.items) }
+    ensures cause { IfErr result (λ fault. fault ≡ faults.OutOfMemory) }
+{
+    out.push(b'\n')?;
+    Ok(())
+}
+
+/// Adds what stands behind a line with this verdict. Where memory is refused, a part of it may be there.
+fn add_answer(verdict: &Verdict, out: &mut Vec<u8>) -> Result<(), NoMemory>
+    ensures ok { OnOk result (out.new.items ≡ out.old.items ++ (behind_line (Some (verdict_of verdict.now)) ++ 10 ∷ [])) }
+    ensures refused { OnErr result (Began out.old.items out.new.items) }
+{
+    out.extend_from_slice(b" : ")?;
+    write_verdict(verdict, out)?;
+    out.push(b'\n')?;
+    Ok(())
+}
+
+impl World {
+    /// Ends the line with its verdict. Where memory is refused, `out` is as it was.
+    pub(crate) fn answer(&self, verdict: &Verdict, out: &mut Vec<u8>) -> Result<(), WorldFault>
+        ensures ok { OnOk result (out.new.items ≡ out.old.items ++ (behind_line (Some (verdict_of verdict.now)) ++ 10 ∷ [])) }
+        ensures refused { OnErr result (out.new.items ≡ out.old.items) }
+        ensures cause { IfErr result (λ fault. fault ≡ faults.OutOfMemory) }
+    {
+        let held = out.len();
+        if add_answer(verdict, out).is_err() {
+            out.truncate(held);
+            return Err(WorldFault::OutOfMemory);
+        }
+        Ok(())
+    }
+
+    /// So many ticks of the node at this station, while it runs.
+    fn tick(&mut self, at: usize, ticks: u32, out: &mut Vec<u8>) -> Result<(), WorldFault>
+        requires { at < length self.old.stations }
+        ensures numbers { numbers self.new ≡ numbers self.old }
+        ensures ticks { (s : Setting) (before : List Told) (base : List ℕ) (c : Course) (m : ℕ) → At s before base self.old out.old.items c → IsPlace self.old at m
+            → Goes s before base self.new out.new.items (Ok (ticks_of s m ticks c)) result }
+    {
+        for _tick in 0..ticks {
+            let went = self.tick_once(at, out);
+            if went.is_err() {
+                return went;
+            }
+        }
+        Ok(())
+    }
+
+    /// The line `view`.
+    fn see(&self, at: usize, out: &mut Vec<u8>) -> Result<(), WorldFault>
+        requires { at < length self.now.stations }
+        ensures { (s : Setting) (w : Meant) (before : List Told) (m : ℕ) → Holds s w before self.now → IsPlace self.now at m
+            → Replies s before self.now out.old.items out.new.items (Ok (asks s m viewed w)) result }
+    {
+        match self.stations[at].node() {
+            Some(node) => {
+                let members = members_in_view(self.alloc, node.membership())?;
+                self.answer(&Verdict::Sees(members), out)
+            }
+            None => end_line(out),
+        }
+    }
+
+    /// The line `monitor`.
+    fn see_monitor(
+        &self,
+        at: usize,
+        ring: RingNo,
+        of: MemberId,
+        out: &mut Vec<u8>,
+    ) -> Result<(), WorldFault>
+        requires { at < length self.now.stations }
+        ensures { (s : Setting) (w : Meant) (before : List Told) (m : ℕ) → Holds s w before self.now → IsPlace self.now at m
+            → Replies s before self.now out.old.items out.new.items (Ok (asks s m (monitored ring.0 of) w)) result }
+    {
+        match self.stations[at].node() {
+            Some(node) => {
+                let monitor = monitor_of(node.membership(), ring, of)?;
+                self.answer(&Verdict::MonitoredBy(monitor), out)
+            }
+            None => end_line(out),
+        }
+    }
+
+    /// What a line does that names this station's node, and has no verdict.
+    fn go_at(&mut self, at: usize, line: &WorldLine, out: &mut Vec<u8>) -> Result<(), WorldFault>
+        requires { at < length self.old.stations }
+        ensures numbers { numbers self.new ≡ numbers self.old }
+        ensures goes { (s : Setting) (before : List Told) (base : List ℕ) (c : Course) (m : ℕ) → At s before base self.old out.old.items c → IsPlace self.old at m
+            → node_in line.now ≡ Some m → Goes s before base self.new out.new.items (course_of s line.now c) result }
+    {
+        match line {
+            WorldLine::Stop { outcome, .. } => {
+                self.stop(at, *outcome);
+                Ok(())
+            }
+            WorldLine::Arm { calls, outcome, .. } => {
+                self.arm(at, *calls, *outcome);
+                Ok(())
+            }
+            WorldLine::Tick { ticks, .. } => self.tick(at, *ticks, out),
+            WorldLine::Deliver { datagram, .. } => self.deliver(at, *datagram, out),
+            WorldLine::Raw { bytes, .. } => self.hand(at, bytes.as_slice(), out),
+            WorldLine::Give { name, .. } => self.give(at, name.as_slice(), out),
+            _ => Ok(()),
+        }
+    }
+
+    /// The same, behind the line's end.
+    fn end_and_go(
+        &mut self,
+        at: usize,
+        line: &WorldLine,
+        out: &mut Vec<u8>,
+    ) -> Result<(), WorldFault>
+        requires { at < length self.old.stations }
+        ensures numbers { numbers self.new ≡ numbers self.old }
+        ensures goes { (s : Setting) (w : Meant) (before : List Told) (m : ℕ) → Holds s w before self.old → IsPlace self.old at m → node_in line.now ≡ Some m
+            → Replies s before self.new out.old.items out.new.items (answered (course_of s line.now (begun w))) result }
+    {
+        match end_line(out) {
+            Ok(()) => self.go_at(at, line, out),
+            Err(fault) => Err(fault),
+        }
+    }
+
+    /// What a line does that names this station's node.
+    fn do_at(&mut self, at: usize, line: &WorldLine, out: &mut Vec<u8>) -> Result<(), WorldFault>
+        requires { at < length self.old.stations }
+        ensures numbers { numbers self.new ≡ numbers self.old }
+        ensures does { (s : Setting) (w : Meant) (before : List Told) (m : ℕ) → Holds s w before self.old → IsPlace self.old at m → node_in line.now ≡ Some m → CanStart w line.now
+            → Replies s before self.new out.old.items out.new.items (does_or_opens s w line.now) result }
+    {
+        match line {
+            WorldLine::Start { .. } => self.start(at, out),
+            WorldLine::View { .. } => self.see(at, out),
+            WorldLine::Monitor { ring, of, .. } => self.see_monitor(at, *ring, *of, out),
+            _ => self.end_and_go(at, line, out),
+        }
+    }
+
+    /// The liar with this key signs the body that the line has it sign, which is kept under the name.
+    fn sign(
+        &mut self,
+        key: MemberId,
+        name: &Name,
+        line: &WorldLine,
+        out: &mut Vec<u8>,
+    ) -> Result<(), WorldFault>
+        ensures numbers { numbers self.new ≡ numbers self.old }
+        ensures signs { (s : Setting) (w : Meant) (before : List Told) → Holds s w before self.old → is_liar s key ≡ true
+            → Replies s before self.new out.old.items out.new.items (Ok (signs s key name.now w (body_in w line.now))) result }
+    {
+        let Some(body) = self.body_meant(line) else {
+            return end_line(out);
+        };
+        let Some(at) = self.liar_of(key) else {
+            return end_line(out);
+        };
+        let index = self.lie(at, body, name)?;
+        self.answer(&Verdict::Spends { index }, out)
+    }
+
+    /// The line `flow`, behind its end.
+    fn end_and_flow(&mut self, most: u32, out: &mut Vec<u8>) -> Result<(), WorldFault>
+        ensures numbers { numbers self.new ≡ numbers self.old }
+        ensures flows { (s : Setting) (w : Meant) (before : List Told) → Holds s w before self.old → Replies s before self.new out.old.items out.new.items (answered (flows s most (begun w))) result }
+    {
+        match end_line(out) {
+            Ok(()) => self.flow(most, out),
+            Err(fault) => Err(fault),
+        }
+    }
+
+    /// The line `give-all`, behind its end.
+    fn end_and_give(&mut self, name: &[u8], out: &mut Vec<u8>) -> Result<(), WorldFault>
+        ensures numbers { numbers self.new ≡ numbers self.old }
+        ensures gives { (s : Setting) (w : Meant) (before : List Told) → Holds s w before self.old
+            → Replies s before self.new out.old.items out.new.items (answered (gives_each s (running s w) (named_so w name.now) (begun w))) result }
+    {
+        match end_line(out) {
+            Ok(()) => self.give_all(name, out),
+            Err(fault) => Err(fault),
+        }
+    }
+
+    /// What a line does that names no node.
+    fn do_other(&mut self, line: &WorldLine, out: &mut Vec<u8>) -> Result<(), WorldFault>
+        ensures numbers { numbers self.new ≡ numbers self.old }
+        ensures does { (s : Setting) (w : Meant) (before : List Told) → Holds s w before self.old → node_in line.now ≡ None → NamesLiar s line.now
+            → Replies s before self.new out.old.items out.new.items (does s w line.now) result }
+    {
+        match line {
+            WorldLine::SignNote { key, name, .. } | WorldLine::SignAccusation { key, name, .. } =>
+                self.sign(*key, name, line, out),
+            WorldLine::Flow { most } => self.end_and_flow(*most, out),
+            WorldLine::GiveAll { name } => self.end_and_give(name.as_slice(), out),
+            _ => end_line(out),
+        }
+    }
+
+    /// What a line does that can be done.
+    fn do_line(&mut self, line: &WorldLine, out: &mut Vec<u8>) -> Result<(), WorldFault>
+        ensures numbers { numbers self.new ≡ numbers self.old }
+        ensures does { (s : Setting) (w : Meant) (before : List Told) → Holds s w before self.old → before_opening line.now (refusal s w line.now) ≡ None
+            → Replies s before self.new out.old.items out.new.items (step s w line.now) result }
+    {
+        if let Some(member) = node_named(line) {
+            return match self.station_of(member) {
+                Some(at) => self.do_at(at, line, out),
+                None => end_line(out),
+            };
+        }
+        self.do_other(line, out)
+    }
+
+    /// Answers the line, whose own text is written.
+    fn do_or_refuse(&mut self, line: &WorldLine, out: &mut Vec<u8>) -> Result<(), WorldFault>
+        ensures numbers { numbers self.new ≡ numbers self.old }
+        ensures steps { (s : Setting) (w : Meant) (before : List Told) → Holds s w before self.old
+            → Replies s before self.new out.old.items out.new.items (step s w line.now) result }
+    {
+        match self.why_not(line) {
+            Some(why) => self.answer(&Verdict::Refused(why), out),
+            None => self.do_line(line, out),
+        }
+    }
+
+    /// Plays the line, and appends its trace.
+    pub(crate) fn play(&mut self, line: &WorldLine, out: &mut Vec<u8>) -> Result<(), WorldFault>
+        ensures numbers { numbers self.new ≡ numbers self.old }
+        ensures plays { (s : Setting) (w : Meant) (before : List Told) → Holds s w before self.old
+            → PlaysLine s before line.now self.new out.old.items out.new.items (step s w line.now) result }
+    {
+        write_line(line, out)?;
+        self.do_or_refuse(line, out)
+    }
+}
