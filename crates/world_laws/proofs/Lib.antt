@@ -21,4 +21,4 @@ mod FirstForged
 mod ForgedLines
 mod Keyed
 mod Rows
-mod Walking
+pub mod Walking

@@ -1,0 +1,3 @@
+pub mod UnfedLemmas
+pub mod RosterLemmas
+pub mod LineLemmas

@@ -1,0 +1,4 @@
+pub mod Causes
+pub mod Rosters
+pub mod Unfed
+pub mod Owing

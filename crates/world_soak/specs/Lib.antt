@@ -1,0 +1,3 @@
+pub mod Soaking
+pub mod Summaries
+pub mod Turning
