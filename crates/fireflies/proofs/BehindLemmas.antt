@@ -36,9 +36,10 @@ whole-traced j form tell lines was between mid now cause s text rest whole wrote
       owing = owing;
     }
 
--- the statuses that may come behind a whole text, but that a write failed
+-- the statuses that may come behind a whole text, or of a workload, but that a write failed
 abbrev pub IsDone : Status → Type 0
 IsDone status.Ok = Unit {0}
+IsDone (status.Forged line who body) = Unit {0}
 IsDone status.StoreFault = Unit {0}
 IsDone (status.StoreBroken place byte) = Unit {0}
 IsDone status.LinkFault = Unit {0}
@@ -57,6 +58,7 @@ done-counts was mid now status.OutOfMemory done h r w = record { reads = r ∙ h
 done-counts was mid now (status.StoreTaken len) done h r w = record { reads = r ∙ h.reads; writes = w ∙ h.writes }
 done-counts was mid now status.Usage done h r w = absurd done
 done-counts was mid now (status.BadInput line _) done h r w = absurd done
+done-counts was mid now (status.Forged line who body) done h r w = record { reads = r ∙ h.reads; writes = w ∙ h.writes }
 done-counts was mid now status.ReadFault done h r w = absurd done
 done-counts was mid now status.WriteFault done h r w = absurd done
 done-counts was mid now status.LinkFault done h r w = record { reads = r ∙ h.reads; writes = w ∙ h.writes }

@@ -20,6 +20,7 @@ use Rattle.epoch_store.specs.Reading.{Finds}
 use Rattle.epoch_store.specs.Store.{StoreOf}
 use Rattle.epoch_store.proofs.FoundLemmas.{one_state, store_found}
 use Rattle.play.specs.Plays.{Standing, Unfailed}
+use Rattle.play.specs.declared.stop.Stop.TheVariants as stop
 use Rattle.records.specs.declared.Body.TheVariants.{Certificate}
 use Rattle.records.specs.declared.CertBody.{CertBody}
 use Rattle.schedule_texts.specs.declared.line.RosterLine.{RosterLine}
@@ -27,7 +28,7 @@ use Rattle.schedule_texts.specs.declared.roster.RosterText.TheVariants as roster
 use Rattle.signer.specs.Lives.{EndsLives, EndsNow, IsRising, Spent, indexes, spent_by}
 use Rattle.signer.proofs.LivingLemmas.{kept_by_opening}
 use Rattle.text_trace.specs.Lines.{seen}
-use Rattle.text_trace.specs.Trace.{Trace}
+use Rattle.text_trace.specs.Trace.{Every, Trace}
 use Rattle.whole_text.specs.Gathered.{lines_from, told_of, unread}
 use Rattle.authority.specs.declared.halt.Halt.{Halt}
 use Rattle.authority.specs.declared.halt.Halt.TheVariants as halt
@@ -40,7 +41,7 @@ use Rattle.authority.specs.Texts.{IsRoster}
 use Rattle.enrolment.specs.Lines.{enrolled, lines_for, lines_within, signed_line, signed_lines, told_at_end}
 use Rattle.enrolment.specs.Signing.{IsPart}
 use Rattle.enrolment.specs.Enrolling.{AreEnrolled, Enrols, IsEnough, Spends, SpendsFronts}
-use Rattle.fireflies.specs.Causes.{status_of_halt}
+use Rattle.fireflies.specs.Causes.{for_word, status_of_halt}
 use Rattle.fireflies.specs.Ends.{Counts, DiskCounts, Tells}
 use Rattle.fireflies.specs.Enrolment.{Enrolment}
 use Rattle.fireflies.specs.Traced.{IsComplete}
@@ -48,7 +49,7 @@ use Rattle.fireflies.specs.TracedAs.{EnrollCompletes, IsFound, IsOwedBehind, Non
 use Rattle.fireflies.specs.TracedAs as as_
 use Rattle.fireflies.proofs.BehindLemmas.{cut-by, done-by, or-cut, whole-traced}
 use Rattle.fireflies.proofs.CompleteLemmas.{rose}
-use Rattle.fireflies.proofs.EndLemmas.{counts-by}
+use Rattle.fireflies.proofs.EndLemmas.{counts-by, for-words}
 use Rattle.fireflies.proofs.StoreLemmas.{first-answered}
 use Rattle.fireflies.proofs.TraceLemmas.{at-end, refused-told, seen-whole, traced}
 use Rattle.fireflies.specs.declared.status.Status.{Status}
@@ -108,8 +109,8 @@ enroll-traced name was mid now old new (Ok _) s h t =
     let e = h.rest in
     as_.Opened e.opened (found-of name h.setting (asked_in h.lines) e.opened old new e.enrolled)
     (written was h.between mid now h.setting h.lines e.opened.next status.Ok s (lines_for e.opened.next (asked_in h.lines) h.setting) [] h.read e.told (sym (append-nil (lines_for e.opened.next (asked_in h.lines) h.setting))) refl t)
-enroll-traced name was mid now old new (Err (halt.Refused line w)) s h t = as_.CutOff (λ next. traced (enrolled next) was now s (record { first = status.BadInput line w; between = mid; stands = h.0 (told_at_end next); tells = t }))
-enroll-traced name was mid now old new (Err halt.ReadFault) s h t = as_.CutOff (λ next. traced (enrolled next) was now s (record { first = status.ReadFault; between = mid; stands = h.0 (told_at_end next); tells = t }))
+enroll-traced name was mid now old new (Err (halt.Refused line w)) s h t = as_.CutOff (λ next. traced Every for_word (enrolled next) was now s (record { result = Err (stop.Refused line w); between = mid; runs = h.0 (told_at_end next); tells = t }))
+enroll-traced name was mid now old new (Err halt.ReadFault) s h t = as_.CutOff (λ next. traced Every for_word (enrolled next) was now s (record { result = Err stop.ReadFault; between = mid; runs = h.0 (told_at_end next); tells = t }))
 enroll-traced name was mid now old new (Err halt.WriteFault) s h t =
     let e = h.rest in
     let cut = e.cut.wrote in
@@ -138,7 +139,7 @@ enroll-traced name was mid now old new (Err (halt.Exhausted next)) s h t =
     (written was h.between mid now h.setting h.lines e.opened.next (status.Exhausted next) s (lines_for e.opened.next (asked_in h.lines) h.setting) [] h.read e.told (sym (append-nil (lines_for e.opened.next (asked_in h.lines) h.setting))) refl t)
 enroll-traced name was mid now old new (Err halt.OutOfMemory) s h t =
     elim h [
-      | inl cut ↦ as_.CutOff (λ next. traced (enrolled next) was now s (record { first = status.OutOfMemory; between = mid; stands = cut.0 (told_at_end next); tells = t }))
+      | inl cut ↦ as_.CutOff (λ next. traced Every for_word (enrolled next) was now s (record { result = Err stop.OutOfMemory; between = mid; runs = cut.0 (told_at_end next); tells = t }))
       | inr w ↦ elim w.rest [
         | inl opening ↦ as_.Unopened (silent was w.between mid now w.setting w.lines status.OutOfMemory s w.read opening.0 (λ rest. tt) t)
         | inr e ↦ as_.Opened e.opened (found-either name w.setting e.done (e.done ++ e.one ∷ []) e.opened old new e.enrolled) (first-written was w.between mid now w.setting w.lines e.opened.next e.done e.one e.part status.OutOfMemory s w.read e.within e.told (λ rest. tt) t)
@@ -155,8 +156,8 @@ told-unfailed was between mid s lines text read told = record { reads = told.unf
 
 pub enroll-counts : (name : List ℕ) (was mid now : Standing) (old new : OfDisk) (r : Answer) (s : Status) → Enrols name was mid old new r → Tells (status_of_halt r) mid now s → Counts was now s
 enroll-counts name was mid now old new (Ok _) s h t = done-by was mid now t.failed status.Ok t.line s tt (told-unfailed was h.between mid h.setting h.lines _ h.read h.rest.told) t.says t.reads t.writes
-enroll-counts name was mid now old new (Err (halt.Refused line w)) s h t = counts-by (enrolled 0) was mid now t.failed (status.BadInput line w) t.line s (h.0 (told_at_end 0)) t.says t.reads t.writes
-enroll-counts name was mid now old new (Err halt.ReadFault) s h t = counts-by (enrolled 0) was mid now t.failed status.ReadFault t.line s (h.0 (told_at_end 0)) t.says t.reads t.writes
+enroll-counts name was mid now old new (Err (halt.Refused line w)) s h t = counts-by Every for_word (enrolled 0) was mid now t.failed (Err (stop.Refused line w)) t.line s for-words (h.0 (told_at_end 0)) t.says t.reads t.writes
+enroll-counts name was mid now old new (Err halt.ReadFault) s h t = counts-by Every for_word (enrolled 0) was mid now t.failed (Err stop.ReadFault) t.line s for-words (h.0 (told_at_end 0)) t.says t.reads t.writes
 enroll-counts name was mid now old new (Err halt.WriteFault) s h t =
     let e = h.rest in
     let before = told-unfailed was h.between e.mid h.setting h.lines _ h.read e.told in
@@ -174,7 +175,7 @@ enroll-counts name was mid now old new (Err (halt.Exhausted next)) s h t =
     done-by was mid now t.failed (status.Exhausted next) t.line s tt (told-unfailed was h.between mid h.setting h.lines _ h.read h.rest.told) t.says t.reads t.writes
 enroll-counts name was mid now old new (Err halt.OutOfMemory) s h t =
     elim h [
-      | inl cut ↦ counts-by (enrolled 0) was mid now t.failed status.OutOfMemory t.line s (cut.0 (told_at_end 0)) t.says t.reads t.writes
+      | inl cut ↦ counts-by Every for_word (enrolled 0) was mid now t.failed (Err stop.OutOfMemory) t.line s for-words (cut.0 (told_at_end 0)) t.says t.reads t.writes
       | inr w ↦
           let before : Unfailed was mid = elim w.rest [
             | inl opening ↦ whole-unfailed was w.between mid w.setting w.lines w.read opening.0

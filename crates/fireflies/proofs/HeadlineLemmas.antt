@@ -1,26 +1,30 @@
 -- What a replay upholds, from how it ended.
-use Rattle.std.proofs.Common.{◌≡◌, ◌<◌, ℕ, zero, suc, true, length, List, [], ◌∷◌, ◌++◌, refl, sym, subst, ◌∙◌, ap, inl, inr, arith, append-nil}
-use Rattle.std.specs.Prelude.{Bool, true, false, take, codes, get_or}
-use Rattle.std.specs.Fmt.{decimal}
-use Rattle.line_text.specs.Texts.{bad_word_text}
-use Rattle.line_text.specs.declared.bad_word.BadWord.{BadWord}
-use Rattle.line_text.specs.declared.bad_word.BadWord.TheVariants as bad
+use Rattle.std.proofs.Common.{◌≡◌, ℕ, Bool, true, false, List, [], ◌∷◌, ◌++◌, Result, Ok, Err, refl, sym, subst, ◌∙◌, ap, append-nil}
 use Rattle.play.specs.Plays.{Standing}
-use Rattle.text_trace.specs.Lines.{seen, has_no_feed}
+use Rattle.play.specs.declared.stop.Stop.TheVariants as stop
+use Rattle.text_trace.specs.Lines.{seen}
 use Rattle.text_trace.specs.Trace.{Owed}
-use Rattle.trace.specs.Walk.{replayed}
-use Rattle.trace.specs.Written.{IsJustified, IsTold, IsWholeLine}
+use Rattle.trace.specs.Walk as direct
+use Rattle.trace.specs.Written.{IsJustified, IsTold}
 use Rattle.trace.proofs.AnswerLemmas.{rule-out}
-use Rattle.trace.proofs.JustifiedLemmas.{clear-front, justified-behind, justified-written, told-written}
+use Rattle.trace.proofs.JustifiedLemmas.{justified-behind, justified-written, told-written}
 use Rattle.trace.proofs.SinceLemmas.{ends-acceptance}
-use Rattle.trace.proofs.TextLemmas.{clear-append, clear-decimal}
-use Rattle.trace.proofs.UnfedLemmas.{unfed-adds-nothing}
 use Rattle.trace.proofs.UprightLemmas.{justified-walk}
-use Rattle.fireflies.specs.Causes.{IsWritten, cause_line}
-use Rattle.fireflies.specs.Ends.{Ends}
+use Rattle.world_laws.proofs.Walking.{texts-come, texts-lawful}
+use Rattle.world_text.specs.Lines.{line_text}
+use Rattle.world_trace.specs.Written.{GivesAll, GivesTold, output, told_in}
+use Rattle.world_trace.proofs.ToldLemmas.{all-written, behind-told, front-told}
+use Rattle.world_replay.specs.declared.cause.Cause.{Cause}
+use Rattle.world_replay.specs.declared.cause.Cause.TheVariants as causes
+use Rattle.world_replay.specs.Causes.{IsJudged}
+use Rattle.any_replay.specs.Replayed.{is_world, replayed, replayed_as}
+use Rattle.any_replay.proofs.WaitLemmas.{unfed-adds-nothing}
+use Rattle.fireflies.specs.Causes.{IsWritten, RunEnd, cause_line, for_cause, status_by}
+use Rattle.fireflies.specs.Ends.{EndsBy}
+use Rattle.fireflies.specs.Headline.{DirectHeadline, Headline, HeadlineAs, OnWhole, WorldHeadline}
+use Rattle.fireflies.specs.Traced.{EndsSilently, IsOwed}
+use Rattle.fireflies.proofs.CauseLines.{IsOther, bad-line, begins-other, fault-line, forged-line, tail-of, unsigned-other}
 use Rattle.fireflies.proofs.EndLemmas.{none_shorter}
-use Rattle.fireflies.specs.Headline.{Headline, OnWhole}
-use Rattle.fireflies.specs.Traced.{EndsSilently, IsOfText, IsOwed}
 use Rattle.fireflies.proofs.TraceLemmas.{traced}
 use Rattle.fireflies.specs.declared.status.Status.{Status}
 use Rattle.fireflies.specs.declared.status.Status.TheVariants as status
@@ -28,120 +32,99 @@ use Rattle.fireflies.specs.declared.status.Status.TheVariants as status
 silently : EndsSilently replayed
 silently = unfed-adds-nothing
 
-whole : (owed : Owed BadWord) (rest : List ℕ) (first : Status) → EndsSilently owed → IsOwed owed rest first → OnWhole first (rest ≡ [])
-whole owed rest status.Ok quiet none = none
-whole owed rest status.Usage quiet none = tt
-whole owed rest (status.BadInput line refused) quiet none = none
-whole owed rest status.ReadFault quiet none = none quiet
-whole owed rest status.WriteFault quiet none = tt
-whole owed rest status.OutOfMemory quiet none = tt
-whole owed rest status.StoreFault quiet none = tt
-whole owed rest (status.StoreBroken place byte) quiet none = tt
-whole owed rest status.LinkFault quiet none = tt
-whole owed rest (status.Exhausted next) quiet none = tt
-whole owed rest (status.StoreTaken len) quiet none = tt
+whole : {C : Type 0} → (owed : Owed C) (rest : List ℕ) (r : RunEnd C) → EndsSilently owed → IsOwed owed rest r → OnWhole r (rest ≡ [])
+whole owed rest (Ok _) quiet none = none
+whole owed rest (Err (stop.Refused line cause)) quiet none = none
+whole owed rest (Err stop.ReadFault) quiet none = none quiet
+whole owed rest (Err stop.WriteFault) quiet none = tt
+whole owed rest (Err stop.OutOfMemory) quiet none = tt
 
-on-whole : (s : Status) (P Q : Type 0) → (P → Q) → OnWhole s P → OnWhole s Q
-on-whole status.Ok P Q f p = f p
-on-whole status.Usage P Q f p = tt
-on-whole (status.BadInput line refused) P Q f p = f p
-on-whole status.ReadFault P Q f p = f p
-on-whole status.WriteFault P Q f p = tt
-on-whole status.OutOfMemory P Q f p = tt
-on-whole status.StoreFault P Q f p = tt
-on-whole (status.StoreBroken place byte) P Q f p = tt
-on-whole status.LinkFault P Q f p = tt
-on-whole (status.Exhausted next) P Q f p = tt
-on-whole (status.StoreTaken len) P Q f p = tt
+on-whole : {C : Type 0} → (r : RunEnd C) (P Q : Type 0) → (P → Q) → OnWhole r P → OnWhole r Q
+on-whole (Ok _) P Q f p = f p
+on-whole (Err (stop.Refused line cause)) P Q f p = f p
+on-whole (Err stop.ReadFault) P Q f p = f p
+on-whole (Err stop.WriteFault) P Q f p = tt
+on-whole (Err stop.OutOfMemory) P Q f p = tt
 
--- ## The line of a cause gives no removal
+-- ## A text of the direct form
 
-clear-word : (w : BadWord) → has_no_feed (bad_word_text w) ≡ true
-clear-word bad.AfterEnd = refl
-clear-word bad.Long = refl
-clear-word bad.LineFeed = refl
-clear-word bad.Lines = refl
-clear-word bad.Spaces = refl
-clear-word bad.Header = refl
-clear-word bad.Word = refl
-clear-word bad.NotBuilt = refl
-clear-word bad.Order = refl
-clear-word bad.Count = refl
-clear-word bad.Number = refl
-clear-word bad.Hex = refl
-clear-word bad.Name = refl
-clear-word bad.Limit = refl
-clear-word bad.Cert = refl
-clear-word bad.OwnKey = refl
-clear-word bad.End = refl
-
--- a line that begins otherwise than an event
-pub record IsOther (line : List ℕ) : Type 0 where
-  pub front : List ℕ
-  pub clear : has_no_feed front ≡ true
-  pub ended : line ≡ front ++ 10 ∷ []
-  pub begins : get_or line 0 0 ≡ 97 → ⊥
-
-pub bad-line : (number : ℕ) (w : BadWord) → IsOther (cause_line (status.BadInput number w))
-bad-line number w = record {
-  front = codes "bad " ++ decimal number ++ 32 ∷ [] ++ bad_word_text w;
-  clear = clear-append ((codes "bad " ++ decimal number) ++ 32 ∷ []) (bad_word_text w) (clear-append (codes "bad " ++ decimal number) (32 ∷ []) (clear-append (codes "bad ") (decimal number) refl (clear-decimal number)) refl) (clear-word w);
-  ended = refl;
-  begins = λ e. absurd (omega (arith, e));
-}
-
-pub fault-line : IsOther (cause_line status.ReadFault)
-fault-line = record { front = codes "read fault"; clear = refl; ended = refl; begins = λ e. absurd (omega (arith, e)) }
-
-pub begins-front : (text : List ℕ) (count : ℕ) → (get_or text 0 0 ≡ 97 → ⊥) → get_or (take count text) 0 0 ≡ 97 → ⊥
-begins-front text zero other e = absurd (omega (arith, e))
-begins-front [] (suc count) other e = absurd (omega (arith, e))
-begins-front (b ∷ text) (suc count) other e = other e
-
--- all of it, or a front of it
-other-behind : (ls : List (List ℕ)) (text whole line : List ℕ) (failed : Bool) → (replayed ls).output ≡ text → IsOther whole → IsWritten failed whole line → IsJustified ls (text ++ line)
-other-behind ls text whole line false same other is =
-    let tail : IsWholeLine whole = record { front = other.front; clear = other.clear; ended = other.ended } in
-    subst (λ (t : List ℕ). IsJustified ls (t ++ line)) same (subst (λ (l : List ℕ). IsJustified ls ((replayed ls).output ++ l)) (sym is) (justified-behind ls whole (inr tail) other.begins))
-other-behind ls text whole line true same other is =
-    let short : is.count < length (other.front ++ 10 ∷ []) = subst (λ (l : List ℕ). is.count < length l) other.ended is.short in
-    let clear : has_no_feed (take is.count whole) ≡ true = subst (λ (l : List ℕ). has_no_feed (take is.count l) ≡ true) (sym other.ended) (clear-front other.front is.count other.clear short) in
-    subst (λ (t : List ℕ). IsJustified ls (t ++ line)) same
-    (subst (λ (l : List ℕ). IsJustified ls ((replayed ls).output ++ l)) (sym is.same) (justified-behind ls (take is.count whole) (inl clear) (begins-front whole is.count other.begins)))
+-- the line of a cause gives no removal, nor does a front of it
+justified-cause : (lines : List (List ℕ)) (text whole line : List ℕ) (failed : Bool) → (direct.replayed lines).output ≡ text → IsOther whole → IsWritten failed whole line → IsJustified lines (text ++ line)
+justified-cause lines text whole line failed same other is =
+    subst (λ (t : List ℕ). IsJustified lines (t ++ line)) same (justified-behind lines line (tail-of whole line failed other is) (begins-other whole line failed other is))
 
 -- where there is no line
-none-behind : (ls : List (List ℕ)) (text rest line : List ℕ) (failed : Bool) → (replayed ls).output ≡ text ++ rest → IsWritten failed [] line → IsJustified ls (text ++ line)
-none-behind ls text rest line false same is =
-    subst (IsJustified ls) (sym (ap (λ (l : List ℕ). text ++ l) is ∙ append-nil text)) (justified-written ls text rest same)
-none-behind ls text rest line true same is = absurd (none_shorter _ is.short)
+justified-alone : (lines : List (List ℕ)) (text rest line : List ℕ) (failed : Bool) → (direct.replayed lines).output ≡ text ++ rest → IsWritten failed [] line → IsJustified lines (text ++ line)
+justified-alone lines text rest line false same is =
+    subst (IsJustified lines) (sym (ap (λ (l : List ℕ). text ++ l) is ∙ append-nil text)) (justified-written lines text rest same)
+justified-alone lines text rest line true same is = absurd (none_shorter _ is.short)
 
-written : (ls : List (List ℕ)) (text rest line : List ℕ) (failed : Bool) (first : Status) → IsOfText first → (replayed ls).output ≡ text ++ rest → OnWhole first (rest ≡ []) → IsWritten failed (cause_line first) line → IsJustified ls (text ++ line)
-written ls text rest line failed status.Ok of same none is = none-behind ls text rest line failed same is
-written ls text rest line failed status.Usage of same none is = absurd of
-written ls text rest line failed (status.BadInput number w) of same none is =
-    other-behind ls text (cause_line (status.BadInput number w)) line failed (same ∙ ap (λ (r : List ℕ). text ++ r) none ∙ append-nil text) (bad-line number w) is
-written ls text rest line failed status.ReadFault of same none is =
-    other-behind ls text (cause_line status.ReadFault) line failed (same ∙ ap (λ (r : List ℕ). text ++ r) none ∙ append-nil text) fault-line is
-written ls text rest line failed status.WriteFault of same none is = none-behind ls text rest line failed same is
-written ls text rest line failed status.OutOfMemory of same none is = none-behind ls text rest line failed same is
-written ls text rest line failed status.StoreFault of same none is = absurd of
-written ls text rest line failed (status.StoreBroken place byte) of same none is = absurd of
-written ls text rest line failed status.LinkFault of same none is = absurd of
-written ls text rest line failed (status.Exhausted next) of same none is = absurd of
-written ls text rest line failed (status.StoreTaken len) of same none is = absurd of
+-- all of what is owed
+all-of : (owed text rest : List ℕ) → owed ≡ text ++ rest → rest ≡ [] → owed ≡ text
+all-of owed text rest same none = same ∙ ap (λ (r : List ℕ). text ++ r) none ∙ append-nil text
 
-pub headline : (was now : Standing) (s : Status) → Ends replayed was now s → Headline was now s
+justified : (lines : List (List ℕ)) (text rest line : List ℕ) (failed : Bool) (r : RunEnd Cause) → (direct.replayed lines).output ≡ text ++ rest → OnWhole r (rest ≡ []) → IsWritten failed (cause_line (status_by for_cause r)) line → IsJustified lines (text ++ line)
+justified lines text rest line failed (Ok _) same none is = justified-alone lines text rest line failed same is
+justified lines text rest line failed (Err (stop.Refused number (causes.Bad w))) same none is =
+    justified-cause lines text (cause_line (status.BadInput number w)) line failed (all-of (direct.replayed lines).output text rest same none) (bad-line number w) is
+justified lines text rest line failed (Err (stop.Refused number (causes.Forged who body))) same none is =
+    justified-cause lines text (cause_line (status.Forged number who body)) line failed (all-of (direct.replayed lines).output text rest same none) (forged-line number who body) is
+justified lines text rest line failed (Err stop.ReadFault) same none is =
+    justified-cause lines text (cause_line status.ReadFault) line failed (all-of (direct.replayed lines).output text rest same none) fault-line is
+justified lines text rest line failed (Err stop.WriteFault) same none is = justified-alone lines text rest line failed same is
+justified lines text rest line failed (Err stop.OutOfMemory) same none is = justified-alone lines text rest line failed same is
+
+direct-headline : (lines : List (List ℕ)) (text rest line : List ℕ) (failed : Bool) (r : RunEnd Cause) → (direct.replayed lines).output ≡ text ++ rest → OnWhole r (rest ≡ []) → IsWritten failed (cause_line (status_by for_cause r)) line → DirectHeadline lines text line r
+direct-headline lines text rest line failed r same whole is = record {
+  written = justified lines text rest line failed r same whole is;
+  taken = justified-walk lines;
+  told =
+      on-whole r (rest ≡ []) (IsTold lines text)
+      (λ none. subst (IsTold lines) (all-of (direct.replayed lines).output text rest same none) (told-written lines)) whole;
+  rule_out = rule-out lines;
+  ends_acceptance = ends-acceptance lines;
+}
+
+-- ## A schedule of a world
+
+-- the line of a cause gives no event, nor does a front of it
+told-cause : (lines : List (List ℕ)) (text whole line : List ℕ) (failed : Bool) → output lines ≡ text → IsOther whole → IsWritten failed whole line → GivesTold (told_in lines) (text ++ line)
+told-cause lines text whole line failed same other is =
+    subst (λ (t : List ℕ). GivesTold (told_in lines) (t ++ line)) same (behind-told lines line (tail-of whole line failed other is) (unsigned-other whole line failed other is))
+
+-- where there is no line
+told-alone : (lines : List (List ℕ)) (text rest line : List ℕ) (failed : Bool) → output lines ≡ text ++ rest → IsWritten failed [] line → GivesTold (told_in lines) (text ++ line)
+told-alone lines text rest line false same is =
+    subst (GivesTold (told_in lines)) (sym (ap (λ (l : List ℕ). text ++ l) is ∙ append-nil text)) (front-told lines text rest same)
+told-alone lines text rest line true same is = absurd (none_shorter _ is.short)
+
+told : (lines : List (List ℕ)) (text rest line : List ℕ) (failed : Bool) (r : RunEnd Cause) → output lines ≡ text ++ rest → OnWhole r (rest ≡ []) → IsWritten failed (cause_line (status_by for_cause r)) line → GivesTold (told_in lines) (text ++ line)
+told lines text rest line failed (Ok _) same none is = told-alone lines text rest line failed same is
+told lines text rest line failed (Err (stop.Refused number (causes.Bad w))) same none is = told-cause lines text (cause_line (status.BadInput number w)) line failed (all-of (output lines) text rest same none) (bad-line number w) is
+told lines text rest line failed (Err (stop.Refused number (causes.Forged who body))) same none is =
+    told-cause lines text (cause_line (status.Forged number who body)) line failed (all-of (output lines) text rest same none) (forged-line number who body) is
+told lines text rest line failed (Err stop.ReadFault) same none is = told-cause lines text (cause_line status.ReadFault) line failed (all-of (output lines) text rest same none) fault-line is
+told lines text rest line failed (Err stop.WriteFault) same none is = told-alone lines text rest line failed same is
+told lines text rest line failed (Err stop.OutOfMemory) same none is = told-alone lines text rest line failed same is
+
+world-headline : (lines : List (List ℕ)) (text rest line : List ℕ) (failed : Bool) (r : RunEnd Cause) → output lines ≡ text ++ rest → OnWhole r (rest ≡ []) → IsWritten failed (cause_line (status_by for_cause r)) line → WorldHeadline lines text line r
+world-headline lines text rest line failed r same whole is = record {
+  played = texts-come line_text lines;
+  lawful = texts-lawful line_text lines;
+  written = told lines text rest line failed r same whole is;
+  told =
+      on-whole r (rest ≡ []) (GivesAll (told_in lines) text)
+      (λ none. subst (GivesAll (told_in lines)) (all-of (output lines) text rest same none) (all-written lines)) whole;
+}
+
+-- ## Either
+
+headline-as : (of_world : Bool) (lines : List (List ℕ)) (text rest line : List ℕ) (failed : Bool) (r : RunEnd Cause) → (replayed_as of_world lines).output ≡ text ++ rest → OnWhole r (rest ≡ []) → IsWritten failed (cause_line (status_by for_cause r)) line → HeadlineAs of_world lines text line r
+headline-as true lines text rest line failed r same whole is = world-headline lines text rest line failed r same whole is
+headline-as false lines text rest line failed r same whole is = direct-headline lines text rest line failed r same whole is
+
+pub headline : (was now : Standing) (s : Status) → EndsBy IsJudged for_cause replayed was now s → Headline was now s
 headline was now s ends =
-    let t = traced replayed was now s ends in
-    let all = whole replayed t.rest t.cause silently t.whole in
-    record {
-      trace = t;
-      whole = all;
-      written = written (seen t.bytes) t.text t.rest t.line t.failed t.cause t.of_text t.front all t.says.1;
-      taken = justified-walk (seen t.bytes);
-      told =
-          on-whole t.cause (t.rest ≡ []) (IsTold (seen t.bytes) t.text)
-          (λ none. subst (IsTold (seen t.bytes)) (t.front ∙ ap (λ (rest : List ℕ). t.text ++ rest) none ∙ append-nil t.text) (told-written (seen t.bytes))) all;
-      rule_out = rule-out (seen t.bytes);
-      ends_acceptance = ends-acceptance (seen t.bytes);
-    }
+    let t = traced IsJudged for_cause replayed was now s ends in
+    let all = whole replayed t.rest t.result silently t.whole in
+    record { trace = t; whole = all; upheld = headline-as (is_world (seen t.bytes)) (seen t.bytes) t.text t.rest t.line t.failed t.result t.front all t.says.1 }

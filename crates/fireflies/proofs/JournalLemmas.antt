@@ -17,40 +17,10 @@ use Rattle.fireflies.specs.Causes.{IsWritten, byte_text, cause_line, status_of_n
 use Rattle.fireflies.specs.Ends.{RestsFed, SpendsFed, Tells, Wires, as_run}
 use Rattle.fireflies.specs.Journals.{JournalRests, NodeUpholds}
 use Rattle.fireflies.proofs.EndLemmas.{none_shorter}
-use Rattle.fireflies.proofs.HeadlineLemmas.{IsOther, bad-line, begins-front, fault-line}
+use Rattle.fireflies.proofs.CauseLines.{IsOther, bad-line, begins-other, broken-line, fault-line, link-line, store-line, tail-of, used-line}
 use Rattle.fireflies.proofs.NodeLemmas.{node-upheld}
 use Rattle.fireflies.specs.declared.status.Status.{Status}
 use Rattle.fireflies.specs.declared.status.Status.TheVariants as status
-
--- ## The lines of causes
-
-store-line : IsOther (cause_line status.StoreFault)
-store-line = record { front = codes "store fault"; clear = refl; ended = refl; begins = λ e. absurd (omega (arith, e)) }
-
-link-line : IsOther (cause_line status.LinkFault)
-link-line = record { front = codes "link fault"; clear = refl; ended = refl; begins = λ e. absurd (omega (arith, e)) }
-
-used-line : (next : ℕ) → IsOther (cause_line (status.Exhausted next))
-used-line next = record {
-  front = codes "exhausted " ++ decimal next;
-  clear = clear-append (codes "exhausted ") (decimal next) refl (clear-decimal next);
-  ended = refl;
-  begins = λ e. absurd (omega (arith, e));
-}
-
-clear-byte : (byte : Option ℕ) → has_no_feed (byte_text byte) ≡ true
-clear-byte None = refl
-clear-byte (Some byte) = clear-decimal byte
-
-broken-line : (place : ℕ) (byte : Option ℕ) → IsOther (cause_line (status.StoreBroken place byte))
-broken-line place byte = record {
-  front = codes "store broken " ++ decimal place ++ 32 ∷ [] ++ byte_text byte;
-  clear =
-      clear-append ((codes "store broken " ++ decimal place) ++ 32 ∷ []) (byte_text byte)
-      (clear-append (codes "store broken " ++ decimal place) (32 ∷ []) (clear-append (codes "store broken ") (decimal place) refl (clear-decimal place)) refl) (clear-byte byte);
-  ended = refl;
-  begins = λ e. absurd (omega (arith, e));
-}
 
 -- ## Behind the journal
 
@@ -58,23 +28,12 @@ broken-line place byte = record {
 abbrev Rests : (List ℕ → Type 0) → List ℕ → Type 0
 Rests P text = (moment m : ℕ) → IsLineOf (removal_line moment m) text → P (removal_line moment m)
 
-tail-of : (whole line : List ℕ) (failed : Bool) → IsOther whole → IsWritten failed whole line → IsTail line
-tail-of whole line false other is = inr (subst IsWholeLine (sym is) (record { front = other.front; clear = other.clear; ended = other.ended }))
-tail-of whole line true other is =
-    let short : is.count < length (other.front ++ 10 ∷ []) = subst (λ (l : List ℕ). is.count < length l) other.ended is.short in
-    let clear : has_no_feed (take is.count whole) ≡ true = subst (λ (l : List ℕ). has_no_feed (take is.count l) ≡ true) (sym other.ended) (clear-front other.front is.count other.clear short) in
-    inl (subst (λ (l : List ℕ). has_no_feed l ≡ true) (sym is.same) clear)
-
-begins-of : (whole line : List ℕ) (failed : Bool) → IsOther whole → IsWritten failed whole line → get_or line 0 0 ≡ 97 → ⊥
-begins-of whole line false other is e = other.begins (sym (ap (λ (l : List ℕ). get_or l 0 0) is) ∙ e)
-begins-of whole line true other is e = begins-front whole is.count other.begins (sym (ap (λ (l : List ℕ). get_or l 0 0) is.same) ∙ e)
-
 -- the line of a cause gives none
 other-behind : (P : List ℕ → Type 0) (text whole line : List ℕ) (failed : Bool) → Rests P text → AreWholeLines text → IsOther whole → IsWritten failed whole line → Rests P (text ++ line)
 other-behind P text whole line failed h lines other is moment m of =
     elim (among-tail lines.lines of.earlier (removal_line moment m) of.after line lines.whole of.whole of.here (tail-of whole line failed other is) (ap (λ (t : List ℕ). t ++ line) (sym lines.joined) ∙ of.parts)) [
       | inl i ↦ h moment m (subst (IsLineOf (removal_line moment m)) (sym lines.joined) (split lines.lines (removal_line moment m) lines.whole i))
-      | inr begins ↦ absurd (begins-of whole line failed other is begins)
+      | inr begins ↦ absurd (begins-other whole line failed other is begins)
     ]
 
 -- where there is no line

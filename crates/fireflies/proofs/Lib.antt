@@ -1,4 +1,5 @@
 pub mod EndLemmas
+pub mod CauseLines
 pub mod TraceLemmas
 pub mod CompleteLemmas
 pub mod HeadlineLemmas
@@ -10,3 +11,4 @@ pub mod EnrollLemmas
 pub mod NodeLemmas
 pub mod JournalLemmas
 pub mod OpenedLemmas
+pub mod SoakLemmas

@@ -6,11 +6,13 @@ use Rattle.std.proofs.KnownBytes.{Appends-trans, Consumes-whole}
 use Rattle.line_text.specs.declared.bad_word.BadWord.{BadWord}
 use Rattle.ports.specs.Contents.{IsUsedUp}
 use Rattle.ports.specs.Count.{Rose, next_count}
+use Rattle.play.specs.Plays as plays
 use Rattle.play.specs.Plays.{Standing, Unfailed}
+use Rattle.play.specs.declared.stop.Stop.TheVariants as stop
 use Rattle.schedule_kit.specs.declared.kit.KitText.TheVariants as kit
 use Rattle.schedule_kit.specs.declared.line.KitLine.{KitLine}
-use Rattle.text_trace.specs.Lines.{seen}
-use Rattle.text_trace.specs.Trace.{Owed, Trace}
+use Rattle.text_trace.specs.Lines.{seen, text_lines}
+use Rattle.text_trace.specs.Trace.{Every, Owed, Trace}
 use Rattle.whole_text.specs.Gathered.{IsWhole, lines_from, nothing, owed_whole, told_of, unread}
 use Rattle.authority.specs.OfDisk.{OfDisk}
 use Rattle.node_running.specs.declared.halt.NodeHalt.{NodeHalt}
@@ -18,14 +20,14 @@ use Rattle.node_running.specs.declared.halt.NodeHalt.TheVariants as halt
 use Rattle.node_running.specs.Members.{kit_judging}
 use Rattle.node_running.specs.Opening as opening
 use Rattle.node_running.specs.Running.{IsCaused, Takes, TookAlone, TookWhole}
-use Rattle.fireflies.specs.Causes.{Says, cause_line, status_of_node}
-use Rattle.fireflies.specs.Ends.{Counts, NodeCounts, NodeEnds, RestsFed, RunsFed, SpendsFed, Stands, Tells, Wires, as_run}
+use Rattle.fireflies.specs.Causes.{RunEnd, Says, cause_line, for_word, status_of, status_of_node}
+use Rattle.fireflies.specs.Ends.{Counts, Is, NodeCounts, NodeEnds, RestsFed, RunsFed, SpendsFed, Tells, Wires, as_run}
 use Rattle.fireflies.specs.Serving.{IsBehindText, IsNodeDone, IsUntouched, NodeTraced, NodeTraced.CutOff, NodeTraced.Whole, NodeUpheld, OnUnrefused, TakenWhole}
 use Rattle.fireflies.specs.Traced.{Traced}
 use Rattle.fireflies.specs.TracedAs.{NodeEndsWell, NoneFailed}
 use Rattle.fireflies.proofs.BehindLemmas.{cut-by, done-by, or-cut}
 use Rattle.fireflies.proofs.CompleteLemmas.{rose}
-use Rattle.fireflies.proofs.EndLemmas.{counts-by}
+use Rattle.fireflies.proofs.EndLemmas.{counts-by, for-words}
 use Rattle.fireflies.proofs.TraceLemmas.{at-end, refused-told, seen-whole, traced}
 use Rattle.fireflies.specs.declared.status.Status.{Status}
 use Rattle.fireflies.specs.declared.status.Status.TheVariants as status
@@ -46,8 +48,8 @@ node-ends turns was mid now old new before after r first s takes cause calm stor
 -- ## What was taken
 
 -- where the text was cut off
-cut-off : (was mid now : Standing) (first s : Status) → ((tell : List KitLine → List ℕ) → Stands (told_by tell) was mid first) → Tells first mid now s → NodeTraced was now s
-cut-off was mid now first s stood tells = CutOff (λ tell. traced (told_by tell) was now s (record { first = first; between = mid; stands = stood tell; tells = tells }))
+cut-off : (was mid now : Standing) (r : RunEnd BadWord) (s : Status) → ((tell : List KitLine → List ℕ) → plays.Runs BadWord Every (Is (told_by tell)) text_lines was mid r) → Tells (status_of r) mid now s → NodeTraced was now s
+cut-off was mid now r s stood tells = CutOff (λ tell. traced Every for_word (told_by tell) was now s (record { result = r; between = mid; runs = stood tell; tells = tells }))
 
 whole-taken : (lines : List KitLine) (was between mid now : Standing) (cause s : Status) → IsWhole kit_judging kit.Start was between lines → mid.left ≡ between.left → IsBehindText cause → Tells cause mid now s → TakenWhole was now s
 whole-taken lines was between mid now cause s whole left behind tells =
@@ -73,8 +75,8 @@ took-traced was mid now failed cause s t behind tells = Whole (whole-taken t.lin
 
 pub node-traced : (was mid now : Standing) (old new : opening.OfDisk) (r : Answer) (s : Status) → Takes was mid old new r → Tells (status_of_node r) mid now s → NodeTraced was now s
 node-traced was mid now old new (Ok _) s h t = took-traced was mid now false status.Ok s h tt t
-node-traced was mid now old new (Err (halt.Refused line w)) s h t = cut-off was mid now (status.BadInput line w) s h.0 t
-node-traced was mid now old new (Err halt.ReadFault) s h t = cut-off was mid now status.ReadFault s h.0 t
+node-traced was mid now old new (Err (halt.Refused line w)) s h t = cut-off was mid now (Err (stop.Refused line w)) s h.0 t
+node-traced was mid now old new (Err halt.ReadFault) s h t = cut-off was mid now (Err stop.ReadFault) s h.0 t
 node-traced was mid now old new (Err halt.WriteFault) s h t = took-traced was mid now true status.WriteFault s h tt t
 node-traced was mid now old new (Err halt.StoreFault) s h t = took-traced was mid now false status.StoreFault s h tt t
 node-traced was mid now old new (Err (halt.StoreBroken place byte)) s h t = took-traced was mid now false (status.StoreBroken place byte) s h tt t
@@ -82,7 +84,7 @@ node-traced was mid now old new (Err halt.LinkFault) s h t = Whole (whole-taken 
 node-traced was mid now old new (Err (halt.Exhausted next)) s h t = took-traced was mid now false (status.Exhausted next) s h tt t
 node-traced was mid now old new (Err halt.OutOfMemory) s h t =
     elim h [
-      | inl unread ↦ cut-off was mid now status.OutOfMemory s unread.0 t
+      | inl unread ↦ cut-off was mid now (Err stop.OutOfMemory) s unread.0 t
       | inr whole ↦ took-traced was mid now false status.OutOfMemory s whole tt t
     ]
 
@@ -92,13 +94,13 @@ took-unfailed : (was mid : Standing) → TookWhole was mid false → Unfailed wa
 took-unfailed was mid t = record { reads = t.reads ∙ t.whole.unfailed.reads; writes = t.writes ∙ t.whole.unfailed.writes }
 
 -- the text was cut off
-cut-counts : (was mid now : Standing) (first s : Status) → Stands (told_by nothing) was mid first → Tells first mid now s → Counts was now s
-cut-counts was mid now first s stood t = counts-by (told_by nothing) was mid now t.failed first t.line s stood t.says t.reads t.writes
+cut-counts : (was mid now : Standing) (r : RunEnd BadWord) (s : Status) → plays.Runs BadWord Every (Is (told_by nothing)) text_lines was mid r → Tells (status_of r) mid now s → Counts was now s
+cut-counts was mid now r s stood t = counts-by Every for_word (told_by nothing) was mid now t.failed r t.line s for-words stood t.says t.reads t.writes
 
 pub node-counts : (was mid now : Standing) (old new : opening.OfDisk) (r : Answer) (s : Status) → Takes was mid old new r → Tells (status_of_node r) mid now s → Counts was now s
 node-counts was mid now old new (Ok _) s h t = done-by was mid now t.failed status.Ok t.line s tt (took-unfailed was mid h) t.says t.reads t.writes
-node-counts was mid now old new (Err (halt.Refused line w)) s h t = cut-counts was mid now (status.BadInput line w) s (h.0 nothing) t
-node-counts was mid now old new (Err halt.ReadFault) s h t = cut-counts was mid now status.ReadFault s (h.0 nothing) t
+node-counts was mid now old new (Err (halt.Refused line w)) s h t = cut-counts was mid now (Err (stop.Refused line w)) s (h.0 nothing) t
+node-counts was mid now old new (Err halt.ReadFault) s h t = cut-counts was mid now (Err stop.ReadFault) s (h.0 nothing) t
 node-counts was mid now old new (Err halt.WriteFault) s h t =
     cut-by was mid now t.failed t.line s (h.reads ∙ h.whole.unfailed.reads) (h.writes ∙ ap next_count h.whole.unfailed.writes) t.says t.reads t.writes
 node-counts was mid now old new (Err halt.StoreFault) s h t = done-by was mid now t.failed status.StoreFault t.line s tt (took-unfailed was mid h) t.says t.reads t.writes
@@ -107,7 +109,7 @@ node-counts was mid now old new (Err halt.LinkFault) s h t = done-by was mid now
 node-counts was mid now old new (Err (halt.Exhausted next)) s h t = done-by was mid now t.failed (status.Exhausted next) t.line s tt (took-unfailed was mid h) t.says t.reads t.writes
 node-counts was mid now old new (Err halt.OutOfMemory) s h t =
     elim h [
-      | inl unread ↦ cut-counts was mid now status.OutOfMemory s (unread.0 nothing) t
+      | inl unread ↦ cut-counts was mid now (Err stop.OutOfMemory) s (unread.0 nothing) t
       | inr whole ↦ done-by was mid now t.failed status.OutOfMemory t.line s tt (took-unfailed was mid whole) t.says t.reads t.writes
     ]
 
@@ -146,13 +148,13 @@ wrote-line was now s t other = by t.failed t.says
     wrote : Appends was.taken now.taken t.line
     wrote = subst (λ x. Appends was.taken now.taken (x ++ t.line)) (front-empty t.text t.rest (sym (told-nothing (lines_from kit_judging (unread kit.Start) (seen t.bytes))) ∙ t.front)) t.wrote
 
-    by : (failed : Bool) → Says failed t.cause t.line s → Appends was.taken now.taken (cause_line s)
+    by : (failed : Bool) → Says failed (status_of t.result) t.line s → Appends was.taken now.taken (cause_line s)
     by false says = subst (λ x. Appends was.taken now.taken x) (says.1 ∙ ap cause_line (sym says.0)) wrote
     by true says = absurd (other says.0)
 
-untouched-cut : (was mid now : Standing) (old new : OfDisk) (first s : Status) → Stands (told_by nothing) was mid first → as_run new ≡ as_run old → Tells first mid now s → s ≢ status.WriteFault → IsUntouched s was now old new
-untouched-cut was mid now old new first s stood same tells other = record {
-  wrote = wrote-line was now s (traced (told_by nothing) was now s (record { first = first; between = mid; stands = stood; tells = tells })) other;
+untouched-cut : (was mid now : Standing) (old new : OfDisk) (r : RunEnd BadWord) (s : Status) → plays.Runs BadWord Every (Is (told_by nothing)) text_lines was mid r → as_run new ≡ as_run old → Tells (status_of r) mid now s → s ≢ status.WriteFault → IsUntouched s was now old new
+untouched-cut was mid now old new r s stood same tells other = record {
+  wrote = wrote-line was now s (traced Every for_word (told_by nothing) was now s (record { result = r; between = mid; runs = stood; tells = tells })) other;
   faults = same-faults old new same;
   moments = same-moments old new same;
 }
@@ -176,12 +178,12 @@ node-upheld was mid now old new (Ok _) s h t = or-cut t.failed status.Ok t.line 
 node-upheld was mid now old new (Err (halt.Refused line w)) s h t = by t.failed t.says
   where
     by : (failed : Bool) → Says failed (status.BadInput line w) t.line s → NodeUpheld was now old new s
-    by false says = subst (NodeUpheld was now old new) (sym says.0) (untouched-cut was mid now old new (status.BadInput line w) (status.BadInput line w) (h.0 nothing) h.1 (subst (λ x. Tells (status.BadInput line w) mid now x) says.0 t) (refused-other line w))
+    by false says = subst (NodeUpheld was now old new) (sym says.0) (untouched-cut was mid now old new (Err (stop.Refused line w)) (status.BadInput line w) (h.0 nothing) h.1 (subst (λ x. Tells (status.BadInput line w) mid now x) says.0 t) (refused-other line w))
     by true says = subst (NodeUpheld was now old new) (sym says.0) tt
 node-upheld was mid now old new (Err halt.ReadFault) s h t = by t.failed t.says
   where
     by : (failed : Bool) → Says failed status.ReadFault t.line s → NodeUpheld was now old new s
-    by false says = subst (NodeUpheld was now old new) (sym says.0) (untouched-cut was mid now old new status.ReadFault status.ReadFault (h.0 nothing) h.1 (subst (λ x. Tells status.ReadFault mid now x) says.0 t) read-other)
+    by false says = subst (NodeUpheld was now old new) (sym says.0) (untouched-cut was mid now old new (Err stop.ReadFault) status.ReadFault (h.0 nothing) h.1 (subst (λ x. Tells status.ReadFault mid now x) says.0 t) read-other)
     by true says = subst (NodeUpheld was now old new) (sym says.0) tt
 node-upheld was mid now old new (Err halt.WriteFault) s h t = or-cut t.failed status.WriteFault t.line s t.says (NodeUpheld was now old new) tt tt
 node-upheld was mid now old new (Err halt.StoreFault) s h t = or-cut t.failed status.StoreFault t.line s t.says (NodeUpheld was now old new) tt tt

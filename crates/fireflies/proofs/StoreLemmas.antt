@@ -8,9 +8,10 @@ use Rattle.ports.specs.Count.{Rose, next_count}
 use Rattle.ports.specs.Disk.{Moment}
 use Rattle.epoch_store.specs.Calls.{HasLength}
 use Rattle.play.specs.Plays.{Standing, Unfailed}
+use Rattle.play.specs.declared.stop.Stop.TheVariants as stop
 use Rattle.schedule_texts.specs.declared.secret.SecretText.TheVariants as secret
 use Rattle.text_trace.specs.Lines.{seen}
-use Rattle.text_trace.specs.Trace.{Trace}
+use Rattle.text_trace.specs.Trace.{Every, Trace}
 use Rattle.authority.specs.declared.halt.Halt.{Halt}
 use Rattle.authority.specs.declared.halt.Halt.TheVariants as halt
 use Rattle.authority.specs.declared.setting.Setting.{Setting}
@@ -18,14 +19,14 @@ use Rattle.authority.specs.OfDisk.{OfDisk}
 use Rattle.authority.specs.Settings.{secret_judging, told_for}
 use Rattle.authority.specs.Texts.{IsSecret}
 use Rattle.store_making.specs.Making.{Makes, key_line_of, stored, told_at_end}
-use Rattle.fireflies.specs.Causes.{Says, status_of_halt}
+use Rattle.fireflies.specs.Causes.{Says, for_word, status_of_halt}
 use Rattle.fireflies.specs.Ends.{Counts, DiskCounts, Tells}
 use Rattle.fireflies.specs.Traced.{IsComplete}
 use Rattle.fireflies.specs.TracedAs.{NoneFailed, OnImage, StoreCompletes, TracedEither, IsOwedBehind}
 use Rattle.fireflies.specs.Upheld.{IsStoreMade, OnMade}
 use Rattle.fireflies.proofs.BehindLemmas.{cut-by, done-by, or-cut, whole-traced}
 use Rattle.fireflies.proofs.CompleteLemmas.{rose}
-use Rattle.fireflies.proofs.EndLemmas.{counts-by}
+use Rattle.fireflies.proofs.EndLemmas.{counts-by, for-words}
 use Rattle.fireflies.proofs.TraceLemmas.{refused-told, traced}
 use Rattle.fireflies.specs.declared.status.Status.{Status}
 use Rattle.fireflies.specs.declared.status.Status.TheVariants as status
@@ -46,8 +47,8 @@ pub store-traced : (name : List ℕ) (was mid now : Standing) (old new : OfDisk)
 store-traced name was mid now old new (Ok _) s h tells =
     inr (whole-traced secret_judging secret.Start told_at_end h.read.lines was h.between mid now status.Ok s (key_line_of h.setting) [] h.read.whole h.rest.1.wrote h.rest.1.left
     (told-line was h.between h.setting h.read ∙ sym (append-nil (key_line_of h.setting))) refl tells)
-store-traced name was mid now old new (Err (halt.Refused line w)) s h tells = inl (traced stored was now s (record { first = status.BadInput line w; between = mid; stands = h.0 told_at_end; tells = tells }))
-store-traced name was mid now old new (Err halt.ReadFault) s h tells = inl (traced stored was now s (record { first = status.ReadFault; between = mid; stands = h.0 told_at_end; tells = tells }))
+store-traced name was mid now old new (Err (halt.Refused line w)) s h tells = inl (traced Every for_word stored was now s (record { result = Err (stop.Refused line w); between = mid; runs = h.0 told_at_end; tells = tells }))
+store-traced name was mid now old new (Err halt.ReadFault) s h tells = inl (traced Every for_word stored was now s (record { result = Err stop.ReadFault; between = mid; runs = h.0 told_at_end; tells = tells }))
 store-traced name was mid now old new (Err halt.WriteFault) s h tells =
     let line = key_line_of h.setting in
     let cut = h.rest.1.wrote in
@@ -59,7 +60,7 @@ store-traced name was mid now old new (Err (halt.StoreTaken len)) s h tells = si
 store-traced name was mid now old new (Err (halt.Exhausted next)) s h tells = absurd h.rest
 store-traced name was mid now old new (Err halt.OutOfMemory) s h tells =
     elim h [
-      | inl unread ↦ inl (traced stored was now s (record { first = status.OutOfMemory; between = mid; stands = unread.0 told_at_end; tells = tells }))
+      | inl unread ↦ inl (traced Every for_word stored was now s (record { result = Err stop.OutOfMemory; between = mid; runs = unread.0 told_at_end; tells = tells }))
       | inr went ↦ silent was went.between mid now went.setting status.OutOfMemory s went.read went.rest.0 tt tells
     ]
 
@@ -71,8 +72,8 @@ whole-unfailed was between mid s read same = subst (Unfailed was) (sym same) rea
 pub store-counts : (name : List ℕ) (was mid now : Standing) (old new : OfDisk) (r : Answer) (s : Status) → Makes name was mid old new r → Tells (status_of_halt r) mid now s → Counts was now s
 store-counts name was mid now old new (Ok _) s h t =
     done-by was mid now t.failed status.Ok t.line s tt (record { reads = h.rest.1.unfailed.reads ∙ h.read.whole.unfailed.reads; writes = h.rest.1.unfailed.writes ∙ h.read.whole.unfailed.writes }) t.says t.reads t.writes
-store-counts name was mid now old new (Err (halt.Refused line w)) s h t = counts-by stored was mid now t.failed (status.BadInput line w) t.line s (h.0 told_at_end) t.says t.reads t.writes
-store-counts name was mid now old new (Err halt.ReadFault) s h t = counts-by stored was mid now t.failed status.ReadFault t.line s (h.0 told_at_end) t.says t.reads t.writes
+store-counts name was mid now old new (Err (halt.Refused line w)) s h t = counts-by Every for_word stored was mid now t.failed (Err (stop.Refused line w)) t.line s for-words (h.0 told_at_end) t.says t.reads t.writes
+store-counts name was mid now old new (Err halt.ReadFault) s h t = counts-by Every for_word stored was mid now t.failed (Err stop.ReadFault) t.line s for-words (h.0 told_at_end) t.says t.reads t.writes
 store-counts name was mid now old new (Err halt.WriteFault) s h t =
     cut-by was mid now t.failed t.line s (h.rest.1.reads ∙ h.read.whole.unfailed.reads) (h.rest.1.writes ∙ ap next_count h.read.whole.unfailed.writes) t.says t.reads t.writes
 store-counts name was mid now old new (Err halt.StoreFault) s h t = done-by was mid now t.failed status.StoreFault t.line s tt (whole-unfailed was h.between mid h.setting h.read h.rest.0) t.says t.reads t.writes
@@ -81,7 +82,7 @@ store-counts name was mid now old new (Err (halt.StoreTaken len)) s h t = done-b
 store-counts name was mid now old new (Err (halt.Exhausted next)) s h t = absurd h.rest
 store-counts name was mid now old new (Err halt.OutOfMemory) s h t =
     elim h [
-      | inl unread ↦ counts-by stored was mid now t.failed status.OutOfMemory t.line s (unread.0 told_at_end) t.says t.reads t.writes
+      | inl unread ↦ counts-by Every for_word stored was mid now t.failed (Err stop.OutOfMemory) t.line s for-words (unread.0 told_at_end) t.says t.reads t.writes
       | inr went ↦ done-by was mid now t.failed status.OutOfMemory t.line s tt (whole-unfailed was went.between mid went.setting went.read went.rest.0) t.says t.reads t.writes
     ]
 

@@ -1,22 +1,21 @@
 -- What was written, beside the trace of what was taken.
-use Rattle.std.proofs.Common.{◌≡◌, ◌<◌, ◌≤◌, ℕ, length, Option, Some, None, List, [], ◌∷◌, ◌++◌, take, drop, refl, sym, subst, ◌∙◌, ap, inl, inr, arith, append-nil, append_assoc, take-append-drop, lit≤, Bool, true, false, ◌⊎◌, ◌+◌, map, length-append}
+use Rattle.std.proofs.Common.{◌≡◌, ◌<◌, ◌≤◌, ℕ, length, Option, Some, None, Result, Ok, Err, List, [], ◌∷◌, ◌++◌, take, drop, refl, sym, subst, ◌∙◌, ap, inl, inr, arith, append-nil, append_assoc, take-append-drop, lit≤, Bool, true, false, ◌⊎◌, ◌+◌, map, length-append}
 use Rattle.std.specs.Prelude.{IfSome}
 use Rattle.std.specs.Io.KnownBytes.{Appends, Consumes, IsAtEnd}
 use Rattle.std.proofs.KnownBytes.{Appends-nil, Appends-trans, Consumes-nil, Consumes-whole}
 use Rattle.std.proofs.lemmas.List.{append_cancel_left, take_all}
-use Rattle.line_text.specs.declared.bad_word.BadWord.{BadWord}
 use Rattle.ports.specs.Contents.{IsUsedUp}
-use Rattle.play.specs.Plays.{Standing, Lines, Starved, IsAdmitted, IsLast, bytes_of, Follows}
+use Rattle.play.specs.Plays.{Standing, Lines, Runs, Starved, IsAdmitted, IsLast, bytes_of, Follows}
+use Rattle.play.specs.declared.stop.Stop.TheVariants as stop
 use Rattle.text_trace.specs.Lines.{has_no_feed, line_bytes, seen, seen_bytes, text_lines, AreWhole, IsFed, IsNext}
-use Rattle.text_trace.specs.Trace.{Every, Owed, Trace, Writes, Refuses}
+use Rattle.text_trace.specs.Trace.{Owed, Trace, Writes, Refuses}
 use Rattle.text_trace.proofs.TraceLemmas.{free-as}
 use Rattle.text_trace.proofs.WholeLemmas.{whole-one, whole-join, rest-next, cut-next, fed-next}
 use Rattle.text_trace.proofs.LineLemmas.{lines_of-rest}
-use Rattle.fireflies.specs.Causes.{Says}
-use Rattle.fireflies.specs.Ends.{Ends, Is, Stands}
-use Rattle.fireflies.specs.Traced.{AreUnrefused, EndsSilently, IsCause, IsEarly, IsFirst, IsNumber, IsOfText, IsOwed, IsTrace, IsUnread, IsUnrefusedText, SpeaksAtEnd, Traced}
+use Rattle.fireflies.specs.Causes.{RunEnd}
+use Rattle.fireflies.specs.Ends.{EndsBy, Is}
+use Rattle.fireflies.specs.Traced.{AreUnrefused, EndsSilently, IsCause, IsEarly, IsFirst, IsNumber, IsOwed, IsTrace, IsUnread, IsUnrefusedText, SpeaksAtEnd, TracedBy}
 use Rattle.fireflies.specs.declared.status.Status.{Status}
-use Rattle.fireflies.specs.declared.status.Status.TheVariants as status
 
 none-shorter : {A : Type 0} (n : ℕ) → n < 0 → A
 none-shorter n h = absurd (omega arith)
@@ -26,20 +25,20 @@ at-end None none = tt
 at-end (Some left) none = none
 
 -- Before the line of the cause: these bytes were taken, and a front of their trace was written.
-record Fronted (owed : Owed BadWord) (was now : Standing) (first : Status) : Type 0 where
+record Fronted {C : Type 0} (P : C → Type 0) (owed : Owed C) (was now : Standing) (result : RunEnd C) : Type 0 where
   bytes : List ℕ
   text : List ℕ
   rest : List ℕ
   read : Consumes was.left now.left bytes
   few : length (seen bytes) ≤ text_lines + 1
-  number : IsNumber bytes now.left first
+  number : IsNumber bytes now.left result
   wrote : Appends was.taken now.taken text
   front : (owed (seen bytes)).output ≡ text ++ rest
-  whole : IsOwed owed rest first
-  refusal : IsCause (owed (seen bytes)).cause first
-  exact : IsTrace owed was.left text first
-  early : IsEarly owed text first
-  unrefused : IsFirst owed bytes text now.left first
+  whole : IsOwed owed rest result
+  refused : IsCause (owed (seen bytes)).cause result
+  exact : IsTrace owed was.left text result
+  early : IsEarly owed text result
+  first : IsFirst P owed bytes text now.left result
 
 -- whole lines, as they are seen
 pub seen-whole : (lines : List (List ℕ)) (bytes : List ℕ) → AreWhole lines bytes → seen bytes ≡ lines
@@ -90,21 +89,21 @@ few-lines lines bytes part taken is =
     let all = ap length (taken.whole.first part) ∙ length-append lines (seen part) in
     omega (arith, all, upto-one part is, taken.few)
 
-numbered : (lines : List (List ℕ)) (bytes : List ℕ) (last left : Option (List ℕ)) (line : ℕ) (refusal : BadWord) → AreWhole lines bytes → IsLast last left → line ≡ 1 + length lines
-    → IsNumber (bytes ++ bytes_of last) left (status.BadInput line refusal)
-numbered lines bytes None left line refusal whole is counted =
+numbered : {C : Type 0} → (lines : List (List ℕ)) (bytes : List ℕ) (last left : Option (List ℕ)) (line : ℕ) (refusal : C) → AreWhole lines bytes → IsLast last left → line ≡ 1 + length lines
+    → IsNumber (bytes ++ bytes_of last) left (Err (stop.Refused line refusal))
+numbered {C} lines bytes None left line refusal whole is counted =
     let all = ap length (whole.first []) ∙ length-append lines [] in
     inr (omega (arith, all, counted), is)
-numbered lines bytes (Some one) left line refusal whole is counted =
+numbered {C} lines bytes (Some one) left line refusal whole is counted =
     let all = ap length (whole.first one ∙ ap (λ (x : List (List ℕ)). lines ++ x) (last-only one left is)) ∙ length-append lines (one ∷ []) in
     inl (omega (arith, all, counted))
 
-refused : (owed : Owed BadWord) (lines : List (List ℕ)) (bytes text : List ℕ) (refusal : BadWord) (last : Option (List ℕ)) (left : Option (List ℕ))
-    → AreWhole lines bytes → IsLast last left → Refuses BadWord (Is owed) lines last text refusal → owed (seen (bytes ++ bytes_of last)) ≡ record { output = text; cause = Some refusal }
-refused owed lines bytes text refusal None left whole is refuses =
+refused : {C : Type 0} → (owed : Owed C) (lines : List (List ℕ)) (bytes text : List ℕ) (refusal : C) (last : Option (List ℕ)) (left : Option (List ℕ))
+    → AreWhole lines bytes → IsLast last left → Refuses C (Is owed) lines last text refusal → owed (seen (bytes ++ bytes_of last)) ≡ record { output = text; cause = Some refusal }
+refused {C} owed lines bytes text refusal None left whole is refuses =
     let same : seen (bytes ++ []) ≡ lines = whole.first [] ∙ append-nil lines in
     rw same (refuses owed refl)
-refused owed lines bytes text refusal (Some line) left whole is refuses =
+refused {C} owed lines bytes text refusal (Some line) left whole is refuses =
     let same : seen (bytes ++ line) ≡ lines ++ line ∷ [] = whole.first line ∙ ap (λ (others : List (List ℕ)). lines ++ others) (last-only line left is) in
     rw same (refuses owed refl [])
 
@@ -120,51 +119,51 @@ begins line rest is =
     ]
 
 -- the trace of a text that a line refuses is known, whatever stands behind the line
-refused-all : (owed : Owed BadWord) (lines : List (List ℕ)) (bytes text rest : List ℕ) (refusal : BadWord) (last : Option (List ℕ))
-    → AreWhole lines bytes → IsLast last (Some rest) → Refuses BadWord (Is owed) lines last text refusal → owed (seen ((bytes ++ bytes_of last) ++ rest)) ≡ record { output = text; cause = Some refusal }
-refused-all owed lines bytes text rest refusal None whole is refuses =
+refused-all : {C : Type 0} → (owed : Owed C) (lines : List (List ℕ)) (bytes text rest : List ℕ) (refusal : C) (last : Option (List ℕ))
+    → AreWhole lines bytes → IsLast last (Some rest) → Refuses C (Is owed) lines last text refusal → owed (seen ((bytes ++ bytes_of last) ++ rest)) ≡ record { output = text; cause = Some refusal }
+refused-all {C} owed lines bytes text rest refusal None whole is refuses =
     let none : (bytes ++ []) ++ rest ≡ bytes ++ [] = ap (λ (behind : List ℕ). (bytes ++ []) ++ behind) is ∙ append-nil (bytes ++ []) in
     let same : seen ((bytes ++ []) ++ rest) ≡ lines = ap seen none ∙ whole.first [] ∙ append-nil lines in
     rw same (refuses owed refl)
-refused-all owed lines bytes text rest refusal (Some line) whole is refuses =
+refused-all {C} owed lines bytes text rest refusal (Some line) whole is refuses =
     let next = begins line rest is in
     let same : seen ((bytes ++ line) ++ rest) ≡ lines ++ line ∷ next.others =
     ap seen (append_assoc bytes line rest) ∙ whole.first (line ++ rest) ∙ ap (λ (x : List (List ℕ)). lines ++ x) next.same in
     rw same (refuses owed refl next.others)
 
-pub refused-told : (owed : Owed BadWord) (lines : List (List ℕ)) (bytes text : List ℕ) (refusal : BadWord) (last before after : Option (List ℕ))
-    → Consumes before after (bytes ++ bytes_of last) → AreWhole lines bytes → IsLast last after → Refuses BadWord (Is owed) lines last text refusal
+pub refused-told : {C : Type 0} → (owed : Owed C) (lines : List (List ℕ)) (bytes text : List ℕ) (refusal : C) (last before after : Option (List ℕ))
+    → Consumes before after (bytes ++ bytes_of last) → AreWhole lines bytes → IsLast last after → Refuses C (Is owed) lines last text refusal
     → IfSome before (λ all. owed (seen all) ≡ record { output = text; cause = Some refusal })
-refused-told owed lines bytes text refusal last None after took whole is refuses = tt
-refused-told owed lines bytes text refusal last (Some all) None took whole is refuses = absurd took
-refused-told owed lines bytes text refusal last (Some all) (Some rest) took whole is refuses =
+refused-told {C} owed lines bytes text refusal last None after took whole is refuses = tt
+refused-told {C} owed lines bytes text refusal last (Some all) None took whole is refuses = absurd took
+refused-told {C} owed lines bytes text refusal last (Some all) (Some rest) took whole is refuses =
     rw took (refused-all owed lines bytes text rest refusal last whole is refuses)
 
 -- a front of what is owed, of which more is owed
-record OwedBehind (owed : Owed BadWord) (bytes text : List ℕ) : Type 0 where
+record OwedBehind {C : Type 0} (owed : Owed C) (bytes text : List ℕ) : Type 0 where
   rest : List ℕ
   same : (owed (seen bytes)).output ≡ text ++ rest
 
-abbrev behind : (owed : Owed BadWord) (lines : List (List ℕ)) (bytes part text : List ℕ) → AreWhole lines bytes → Writes BadWord (Is owed) lines text → OwedBehind owed (bytes ++ part) text
-behind owed lines bytes part text whole writes =
+abbrev behind : {C : Type 0} → (owed : Owed C) (lines : List (List ℕ)) (bytes part text : List ℕ) → AreWhole lines bytes → Writes C (Is owed) lines text → OwedBehind owed (bytes ++ part) text
+behind {C} owed lines bytes part text whole writes =
     let goes = writes owed refl in
     record {
       rest = (goes.later (seen part)).output;
-      same = rw (whole.first part) (ap (λ (t : Trace BadWord). t.output) (goes.same (seen part)));
+      same = rw (whole.first part) (ap (λ (t : Trace C). t.output) (goes.same (seen part)));
     }
 
-follows : (owed : Owed BadWord) (lines : List (List ℕ)) (bytes text : List ℕ) (last : Option (List ℕ)) → AreWhole lines bytes → Follows BadWord (Is owed) lines last text → OwedBehind owed (bytes ++ bytes_of last) text
-follows owed lines bytes text None whole ends =
+follows : {C : Type 0} → (owed : Owed C) (lines : List (List ℕ)) (bytes text : List ℕ) (last : Option (List ℕ)) → AreWhole lines bytes → Follows C (Is owed) lines last text → OwedBehind owed (bytes ++ bytes_of last) text
+follows {C} owed lines bytes text None whole ends =
     let same : seen (bytes ++ []) ≡ lines = whole.first [] ∙ append-nil lines in
-    record { rest = []; same = rw same (ap (λ (t : Trace BadWord). t.output) (ends owed refl) ∙ sym (append-nil text)) }
-follows owed lines bytes text (Some line) whole writes =
+    record { rest = []; same = rw same (ap (λ (t : Trace C). t.output) (ends owed refl) ∙ sym (append-nil text)) }
+follows {C} owed lines bytes text (Some line) whole writes =
     let both = whole-join lines (line ∷ []) bytes line whole (whole-one line writes.0) in
     let more = behind owed (lines ++ line ∷ []) (bytes ++ line) [] text both writes.1 in
     record { rest = more.rest; same = subst (λ (b : List ℕ). (owed (seen b)).output ≡ text ++ more.rest) (append-nil (bytes ++ line)) more.same }
 
 -- a front of a text that is owed
-shorter : (owed : Owed BadWord) (bytes text more : List ℕ) (count : ℕ) → OwedBehind owed bytes (text ++ more) → OwedBehind owed bytes (text ++ take count more)
-shorter owed bytes text more count is = record {
+shorter : {C : Type 0} → (owed : Owed C) (bytes text more : List ℕ) (count : ℕ) → OwedBehind owed bytes (text ++ more) → OwedBehind owed bytes (text ++ take count more)
+shorter {C} owed bytes text more count is = record {
   rest = drop count more ++ is.rest;
   same =
       is.same ∙ append_assoc text more is.rest ∙ ap (λ (x : List ℕ). text ++ (x ++ is.rest)) (sym (take-append-drop count more))
@@ -172,17 +171,17 @@ shorter owed bytes text more count is = record {
 }
 
 -- behind whole lines and a part of a line nothing is owed, where nothing is written at the end alone
-silent : (owed : Owed BadWord) (lines : List (List ℕ)) (part text : List ℕ) (writes : Writes BadWord (Is owed) lines text) → has_no_feed part ≡ true → length part ≤ line_bytes → EndsSilently owed
+silent : {C : Type 0} → (owed : Owed C) (lines : List (List ℕ)) (part text : List ℕ) (writes : Writes C (Is owed) lines text) → has_no_feed part ≡ true → length part ≤ line_bytes → EndsSilently owed
     → ((writes owed refl).later (seen part)).output ≡ []
-silent owed lines [] text writes clear short quiet =
+silent {C} owed lines [] text writes clear short quiet =
     let goes = writes owed refl in
     let one : List (List ℕ) = (97 ∷ []) ∷ [] in
-    let out : Trace BadWord → List ℕ = λ t. t.output in
+    let out : Trace C → List ℕ = λ t. t.output in
     let waits : (goes.later one).output ≡ [] = goes.owes.silent (97 ∷ []) [] refl in
     let short : (owed lines).output ≡ text ++ (goes.later []).output = ap (λ (l : List (List ℕ)). out (owed l)) (sym (append-nil lines)) ∙ ap out (goes.same []) in
     let long : (owed (lines ++ one)).output ≡ text ++ (goes.later one).output = ap out (goes.same one) in
     append_cancel_left text _ _ (sym short ∙ sym (quiet lines (97 ∷ []) refl) ∙ long) ∙ waits
-silent owed lines (b ∷ part) text writes clear short quiet =
+silent {C} owed lines (b ∷ part) text writes clear short quiet =
     let goes = writes owed refl in
     let next = rest-next (b ∷ part) clear (omega arith) short in
     ap (λ (l : List (List ℕ)). (goes.later l).output) next.same ∙ goes.owes.silent (b ∷ part) next.others clear
@@ -192,16 +191,16 @@ no-front [] rest none = refl
 no-front (b ∷ front) rest none = cc
 
 -- where nothing is written before the end of a text, no whole lines have a trace
-nothing-early : (owed : Owed BadWord) (lines : List (List ℕ)) (text : List ℕ) → Writes BadWord (Is owed) lines text → SpeaksAtEnd owed → text ≡ []
-nothing-early owed lines text writes late =
+nothing-early : {C : Type 0} → (owed : Owed C) (lines : List (List ℕ)) (text : List ℕ) → Writes C (Is owed) lines text → SpeaksAtEnd owed → text ≡ []
+nothing-early {C} owed lines text writes late =
     let goes = writes owed refl in
     let one : List (List ℕ) = (97 ∷ []) ∷ [] in
-    let long : (owed (lines ++ one)).output ≡ text ++ (goes.later one).output = ap (λ (t : Trace BadWord). t.output) (goes.same one) in
+    let long : (owed (lines ++ one)).output ≡ text ++ (goes.later one).output = ap (λ (t : Trace C). t.output) (goes.same one) in
     no-front text (goes.later one).output (sym long ∙ late lines (97 ∷ []) refl)
 
 -- whole lines and a part of a line, where a read failed
-unread : (owed : Owed BadWord) (lines : List (List ℕ)) (bytes part text : List ℕ) → AreWhole lines bytes → has_no_feed part ≡ true → Writes BadWord (Is owed) lines text → IsUnread owed (bytes ++ part) text
-unread owed lines bytes part text whole clear writes =
+unread : {C : Type 0} → (owed : Owed C) (lines : List (List ℕ)) (bytes part text : List ℕ) → AreWhole lines bytes → has_no_feed part ≡ true → Writes C (Is owed) lines text → IsUnread owed (bytes ++ part) text
+unread {C} owed lines bytes part text whole clear writes =
     let same = sym (seen-whole lines bytes whole) in
     record {
       front = bytes;
@@ -209,12 +208,12 @@ unread owed lines bytes part text whole clear writes =
       parts = refl;
       whole = subst (λ (ls : List (List ℕ)). AreWhole ls bytes) same whole;
       clear = clear;
-      writes = subst (λ (ls : List (List ℕ)). Writes BadWord (Is owed) ls text) same writes;
+      writes = subst (λ (ls : List (List ℕ)). Writes C (Is owed) ls text) same writes;
     }
 
 -- nothing was taken or written
-unmoved : (owed : Owed BadWord) (was now : Standing) → now ≡ was → Fronted owed was now status.OutOfMemory
-unmoved owed was now same = record {
+unmoved : {C : Type 0} → (P : C → Type 0) (owed : Owed C) (was now : Standing) → now ≡ was → Fronted P owed was now (Err stop.OutOfMemory)
+unmoved {C} P owed was now same = record {
   bytes = [];
   text = [];
   rest = (owed (seen [])).output;
@@ -224,51 +223,51 @@ unmoved owed was now same = record {
   wrote = subst (λ (n : Standing). Appends was.taken n.taken []) (sym same) (Appends-nil was.taken);
   front = refl;
   whole = tt;
-  refusal = tt;
+  refused = tt;
   exact = tt;
   early = λ late. refl;
-  unrefused = inl refl;
+  first = inl refl;
 }
 
-admitted : (owed : Owed BadWord) (lines : List (List ℕ)) (bytes : List ℕ) (last left : Option (List ℕ)) → AreWhole lines bytes → IsAdmitted BadWord Every (Is owed) lines last left → AreUnrefused owed (bytes ++ bytes_of last) ⊎ IsUnrefusedText owed (bytes ++ bytes_of last) left
-admitted owed lines bytes None left whole is =
+admitted : {C : Type 0} → (P : C → Type 0) (owed : Owed C) (lines : List (List ℕ)) (bytes : List ℕ) (last left : Option (List ℕ)) → AreWhole lines bytes → IsAdmitted C P (Is owed) lines last left → AreUnrefused P owed (bytes ++ bytes_of last) ⊎ IsUnrefusedText owed (bytes ++ bytes_of last) left
+admitted {C} P owed lines bytes None left whole is =
     let same : seen (bytes ++ []) ≡ lines = whole.first [] ∙ append-nil lines in
     inr (record { used_up = is.0; none = rw same (is.1 owed refl) })
-admitted owed lines bytes (Some line) left whole is =
+admitted {C} P owed lines bytes (Some line) left whole is =
     let both = whole-join lines (line ∷ []) bytes line whole (whole-one line is.0) in
     let same = seen-whole (lines ++ line ∷ []) (bytes ++ line) both in
     inl (record {
       whole = subst (λ (ls : List (List ℕ)). AreWhole ls (bytes ++ line)) (sym same) both;
-      unrefused = free-as BadWord Every (λ rest. owed (seen (bytes ++ line) ++ rest)) (λ rest. owed (lines ++ line ∷ rest))
+      unrefused = free-as C P (λ rest. owed (seen (bytes ++ line) ++ rest)) (λ rest. owed (lines ++ line ∷ rest))
           (λ rest. ap (λ (ls : List (List ℕ)). (owed ls).cause) (ap (λ (ls : List (List ℕ)). ls ++ rest) same ∙ append_assoc lines (line ∷ []) rest))
           (is.1 owed refl);
     })
 
-upto-admitted : (owed : Owed BadWord) (lines : List (List ℕ)) (last left : Option (List ℕ)) → IsAdmitted BadWord Every (Is owed) lines last left → IsUpToLine (bytes_of last)
-upto-admitted owed lines None left is = inl (refl, lit≤ tt)
-upto-admitted owed lines (Some line) left is = inr is.0
+upto-admitted : {C : Type 0} → (P : C → Type 0) (owed : Owed C) (lines : List (List ℕ)) (last left : Option (List ℕ)) → IsAdmitted C P (Is owed) lines last left → IsUpToLine (bytes_of last)
+upto-admitted {C} P owed lines None left is = inl (refl, lit≤ tt)
+upto-admitted {C} P owed lines (Some line) left is = inr is.0
 
-starved : (owed : Owed BadWord) (was now : Standing) → Starved BadWord Every (Is owed) text_lines was now → Fronted owed was now status.OutOfMemory
-starved owed was now stood =
+starved : {C : Type 0} → (P : C → Type 0) (owed : Owed C) (was now : Standing) → Starved C P (Is owed) text_lines was now → Fronted P owed was now (Err stop.OutOfMemory)
+starved {C} P owed was now stood =
     let more = behind owed stood.lines stood.bytes (bytes_of stood.last) stood.text stood.taken.whole stood.writes in
     record {
       bytes = stood.bytes ++ bytes_of stood.last;
       text = stood.text;
       rest = more.rest;
       read = stood.read;
-      few = few-lines stood.lines stood.bytes (bytes_of stood.last) stood.taken (upto-admitted owed stood.lines stood.last now.left stood.admitted);
+      few = few-lines stood.lines stood.bytes (bytes_of stood.last) stood.taken (upto-admitted P owed stood.lines stood.last now.left stood.admitted);
       number = tt;
       wrote = stood.wrote;
       front = more.same;
       whole = tt;
-      refusal = tt;
+      refused = tt;
       exact = tt;
       early = λ late. nothing-early owed stood.lines stood.text stood.writes late;
-      unrefused = inr (admitted owed stood.lines stood.bytes stood.last now.left stood.taken.whole stood.admitted);
+      first = inr (admitted P owed stood.lines stood.bytes stood.last now.left stood.taken.whole stood.admitted);
     }
 
-fronted : (owed : Owed BadWord) (was now : Standing) (first : Status) → Stands owed was now first → Fronted owed was now first
-fronted owed was now status.Ok stood = record {
+fronted : {C : Type 0} → (P : C → Type 0) (owed : Owed C) (was now : Standing) (result : RunEnd C) → Runs C P (Is owed) text_lines was now result → Fronted P owed was now result
+fronted {C} P owed was now (Ok _) stood = record {
   bytes = stood.bytes;
   text = stood.text;
   rest = [];
@@ -276,17 +275,16 @@ fronted owed was now status.Ok stood = record {
   few = let all = ap length (seen-whole stood.lines stood.bytes stood.taken.whole) in omega (arith, all, stood.taken.few);
   number = stood.used_up;
   wrote = stood.wrote;
-  front = rw (seen-whole stood.lines stood.bytes stood.taken.whole) (ap (λ (t : Trace BadWord). t.output) (stood.ends owed refl) ∙ sym (append-nil stood.text));
+  front = rw (seen-whole stood.lines stood.bytes stood.taken.whole) (ap (λ (t : Trace C). t.output) (stood.ends owed refl) ∙ sym (append-nil stood.text));
   whole = refl;
-  refusal = rw (seen-whole stood.lines stood.bytes stood.taken.whole) (ap (λ (t : Trace BadWord). t.cause) (stood.ends owed refl));
+  refused = rw (seen-whole stood.lines stood.bytes stood.taken.whole) (ap (λ (t : Trace C). t.cause) (stood.ends owed refl));
   exact =
       Consumes-whole was.left now.left stood.bytes (λ all. owed (seen all) ≡ record { output = stood.text; cause = None }) stood.read
       (at-end now.left stood.used_up) (rw (seen-whole stood.lines stood.bytes stood.taken.whole) (stood.ends owed refl));
   early = tt;
-  unrefused = tt;
+  first = tt;
 }
-fronted owed was now status.Usage stood = absurd stood
-fronted owed was now (status.BadInput line refusal) stood =
+fronted {C} P owed was now (Err (stop.Refused line refusal)) stood =
     let trace = refused owed stood.lines stood.bytes stood.text refusal stood.last now.left stood.taken.whole stood.stands stood.refuses in
     record {
       bytes = stood.bytes ++ bytes_of stood.last;
@@ -296,14 +294,14 @@ fronted owed was now (status.BadInput line refusal) stood =
       few = few-lines stood.lines stood.bytes (bytes_of stood.last) stood.taken (upto-last stood.last now.left stood.stands);
       number = numbered stood.lines stood.bytes stood.last now.left line refusal stood.taken.whole stood.stands stood.counted;
       wrote = stood.wrote;
-      front = ap (λ (t : Trace BadWord). t.output) trace ∙ sym (append-nil stood.text);
+      front = ap (λ (t : Trace C). t.output) trace ∙ sym (append-nil stood.text);
       whole = refl;
-      refusal = ap (λ (t : Trace BadWord). t.cause) trace;
+      refused = ap (λ (t : Trace C). t.cause) trace;
       exact = refused-told owed stood.lines stood.bytes stood.text refusal stood.last was.left now.left stood.read stood.taken.whole stood.stands stood.refuses;
       early = tt;
-      unrefused = tt;
+      first = tt;
     }
-fronted owed was now status.ReadFault stood =
+fronted {C} P owed was now (Err stop.ReadFault) stood =
     let more = behind owed stood.lines stood.bytes stood.part stood.text stood.taken.whole stood.writes in
     record {
       bytes = stood.bytes ++ stood.part;
@@ -315,12 +313,12 @@ fronted owed was now status.ReadFault stood =
       wrote = stood.wrote;
       front = more.same;
       whole = λ quiet. silent owed stood.lines stood.part stood.text stood.writes stood.clear stood.short quiet;
-      refusal = tt;
+      refused = tt;
       exact = tt;
       early = λ late. nothing-early owed stood.lines stood.text stood.writes late;
-      unrefused = unread owed stood.lines stood.bytes stood.part stood.text stood.taken.whole stood.clear stood.writes;
+      first = unread owed stood.lines stood.bytes stood.part stood.text stood.taken.whole stood.clear stood.writes;
     }
-fronted owed was now status.WriteFault stood =
+fronted {C} P owed was now (Err stop.WriteFault) stood =
     let more = shorter owed _ stood.text stood.more stood.count (follows owed stood.lines stood.bytes (stood.text ++ stood.more) stood.last stood.taken.whole stood.follows) in
     record {
       bytes = stood.bytes ++ bytes_of stood.last;
@@ -332,57 +330,33 @@ fronted owed was now status.WriteFault stood =
       wrote = stood.wrote;
       front = more.same;
       whole = tt;
-      refusal = tt;
+      refused = tt;
       exact = tt;
       early = tt;
-      unrefused = tt;
+      first = tt;
     }
-fronted owed was now status.OutOfMemory stood = elim stood [ inl same ↦ unmoved owed was now same | inr wanting ↦ starved owed was now wanting ]
-fronted owed was now status.StoreFault stood = absurd stood
-fronted owed was now (status.StoreBroken place byte) stood = absurd stood
-fronted owed was now status.LinkFault stood = absurd stood
-fronted owed was now (status.Exhausted next) stood = absurd stood
-fronted owed was now (status.StoreTaken len) stood = absurd stood
+fronted {C} P owed was now (Err stop.OutOfMemory) stood = elim stood [ inl same ↦ unmoved P owed was now same | inr wanting ↦ starved P owed was now wanting ]
 
-pub of-text : (owed : Owed BadWord) (was now : Standing) (first : Status) → Stands owed was now first → IsOfText first
-of-text owed was now status.Ok stood = tt
-of-text owed was now status.Usage stood = absurd stood
-of-text owed was now (status.BadInput line w) stood = tt
-of-text owed was now status.ReadFault stood = tt
-of-text owed was now status.WriteFault stood = tt
-of-text owed was now status.OutOfMemory stood = tt
-of-text owed was now status.StoreFault stood = absurd stood
-of-text owed was now (status.StoreBroken place byte) stood = absurd stood
-of-text owed was now status.LinkFault stood = absurd stood
-of-text owed was now (status.Exhausted next) stood = absurd stood
-of-text owed was now (status.StoreTaken len) stood = absurd stood
-
-pub traced : (owed : Owed BadWord) (was now : Standing) (s : Status) → Ends owed was now s → Traced owed was now s
-traced owed was now s ends =
-    let f = fronted owed was ends.between ends.first ends.stands in
+pub traced : {C : Type 0} → (P : C → Type 0) (refusal : ℕ → C → Status) (owed : Owed C) (was now : Standing) (s : Status) → EndsBy P refusal owed was now s → TracedBy P refusal owed was now s
+traced {C} P refusal owed was now s ends =
+    let f = fronted P owed was ends.between ends.result ends.runs in
     let t = ends.tells in
     record {
-      cause = ends.first;
+      result = ends.result;
       failed = t.failed;
       bytes = f.bytes;
       text = f.text;
       rest = f.rest;
       line = t.line;
       says = t.says;
-      of_text = of-text owed was ends.between ends.first ends.stands;
       read = subst (λ (o : Option (List ℕ)). Consumes was.left o f.bytes) (sym t.left) f.read;
       few = f.few;
-      number = subst (λ (o : Option (List ℕ)). IsNumber f.bytes o ends.first) (sym t.left) f.number;
+      number = subst (λ (o : Option (List ℕ)). IsNumber f.bytes o ends.result) (sym t.left) f.number;
       wrote = Appends-trans was.taken ends.between.taken now.taken f.text t.line f.wrote t.wrote;
       front = f.front;
       whole = f.whole;
-      refusal = f.refusal;
+      refused = f.refused;
       exact = f.exact;
       early = f.early;
-      first = subst (λ (o : Option (List ℕ)). IsFirst owed f.bytes f.text o ends.first) (sym t.left) f.unrefused;
+      first = subst (λ (o : Option (List ℕ)). IsFirst P owed f.bytes f.text o ends.result) (sym t.left) f.first;
     }
-
--- what is known of the first cause is known of the answer
-pub at-answer : (P : Status → Type 0) (failed : Bool) (first : Status) (line : List ℕ) (s : Status) → Says failed first line s → P first → P status.WriteFault → P s
-at-answer P false first line s says known none = subst P (sym says.0) known
-at-answer P true first line s says known none = subst P (sym says.0) none

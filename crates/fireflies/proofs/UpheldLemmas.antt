@@ -1,31 +1,34 @@
 -- What holds of each command, from how its run ended.
 use Rattle.std.proofs.Common.{◌≡◌, ◌≢◌, Bool, true, false, List, ℕ, sym, ◌∙◌, ap, inl, Result, Ok, Err}
-use Rattle.line_text.specs.declared.bad_word.BadWord.{BadWord}
 use Rattle.play.specs.Plays.{Standing}
-use Rattle.text_trace.specs.Trace.{Owed}
-use Rattle.trace.specs.Walk.{replayed}
+use Rattle.play.specs.declared.stop.Stop.TheVariants as stop
+use Rattle.text_trace.specs.Trace.{Every, Owed}
+use Rattle.world_replay.specs.Causes.{IsJudged}
+use Rattle.any_replay.specs.Replayed.{replayed}
 use Rattle.verifier.specs.Answered.{verified}
 use Rattle.authority.specs.declared.halt.Halt.{Halt}
 use Rattle.authority.specs.declared.halt.Halt.TheVariants as halt
 use Rattle.authority.specs.OfDisk.{OfDisk}
-use Rattle.fireflies.specs.Causes.{Says, status_of_halt}
-use Rattle.fireflies.specs.Ends.{Counts, DiskCounts, DiskCountsAs, Ends, EndsAs, Wires, as_run}
+use Rattle.fireflies.specs.Causes.{RunEnd, Says, for_cause, for_word, status_by, status_of_halt}
+use Rattle.fireflies.specs.Ends.{Counts, DiskCounts, DiskCountsAs, EndsBy, Wires, as_run}
+use Rattle.fireflies.specs.EndsAs.{EndsAs}
 use Rattle.fireflies.specs.TracedAs.{CompletesAs, TracedAs}
-use Rattle.fireflies.specs.Traced.{IsOfText}
+use Rattle.fireflies.specs.Traced.{Completes, TracedBy}
 use Rattle.fireflies.specs.Upheld.{Upholds}
 use Rattle.fireflies.proofs.BehindLemmas.{or-cut}
 use Rattle.fireflies.proofs.CompleteLemmas.{completes}
-use Rattle.fireflies.proofs.EndLemmas.{counts-by, not-usage}
+use Rattle.fireflies.proofs.EndLemmas.{AreRefusals, IsRefusal, ends-counts, for-causes, for-words, not-usage}
 use Rattle.fireflies.proofs.EnrollLemmas.{enroll-completes, enroll-counts, enroll-disk, enroll-traced, enroll-upheld}
 use Rattle.fireflies.proofs.HeadlineLemmas.{headline}
 use Rattle.fireflies.proofs.NodeLemmas.{node-command, node-counts, node-disk, node-traced}
 use Rattle.fireflies.proofs.JournalLemmas.{node-upholds}
 use Rattle.fireflies.proofs.OpenedLemmas.{node-completes}
+use Rattle.fireflies.proofs.SoakLemmas.{soak-command, soak-completes, soak-counts, soak-disk, soak-traced, soak-upheld}
 use Rattle.fireflies.proofs.StoreLemmas.{store-completes, store-counts, store-disk, store-traced, store-upheld}
-use Rattle.fireflies.proofs.TraceLemmas.{of-text, traced}
+use Rattle.fireflies.proofs.TraceLemmas.{traced}
 use Rattle.fireflies.proofs.VerificationLemmas.{verification}
 use Rattle.fireflies.specs.declared.command.Command.{Command}
-use Rattle.fireflies.specs.declared.command.Command.TheVariants.{Replay, Verify, Store, Enroll, Node}
+use Rattle.fireflies.specs.declared.command.Command.TheVariants.{Replay, Verify, Store, Enroll, Node, Soak}
 use Rattle.fireflies.specs.declared.status.Status.{Status}
 use Rattle.fireflies.specs.declared.status.Status.TheVariants as status
 
@@ -38,29 +41,42 @@ pub record AllOf (c : Command) (was now : Standing) (old new : OfDisk) (before :
   pub counts : Counts was now s
   pub faults : DiskCountsAs c old new s
 
-text-counts : (owed : Owed BadWord) (was now : Standing) (s : Status) → Ends owed was now s → Counts was now s
-text-counts owed was now s e = counts-by owed was e.between now e.tells.failed e.first e.tells.line s e.stands e.tells.says e.tells.reads e.tells.writes
-
-text-command : (owed : Owed BadWord) (was now : Standing) (s : Status) → Ends owed was now s → s ≢ status.Usage
-text-command owed was now s e = not-usage owed was e.between e.tells.failed e.first e.tells.line s e.stands e.tells.says
-
 -- a cause of a run over a text is no fault of a disk
-text-faults : (old new : OfDisk) (first : Status) → IsOfText first → new ≡ old → DiskCounts old new first
-text-faults old new status.Ok of same = ap (λ d. d.faults) same
-text-faults old new status.Usage of same = absurd of
-text-faults old new (status.BadInput line w) of same = ap (λ d. d.faults) same
-text-faults old new status.ReadFault of same = ap (λ d. d.faults) same
-text-faults old new status.WriteFault of same = inl (ap (λ d. d.faults) same)
-text-faults old new status.StoreFault of same = absurd of
-text-faults old new (status.StoreBroken place byte) of same = absurd of
-text-faults old new status.LinkFault of same = absurd of
-text-faults old new (status.Exhausted next) of same = absurd of
-text-faults old new status.OutOfMemory of same = ap (λ d. d.faults) same
-text-faults old new (status.StoreTaken len) of same = absurd of
+refused-faults : (old new : OfDisk) (first : Status) → IsRefusal first → new ≡ old → DiskCounts old new first
+refused-faults old new (status.BadInput line w) is same = ap (λ d. d.faults) same
+refused-faults old new (status.Forged line who body) is same = ap (λ d. d.faults) same
+refused-faults old new _ is same = absurd is
 
-text-disk : (owed : Owed BadWord) (was now : Standing) (old new : OfDisk) (s : Status) → Ends owed was now s → new ≡ old → DiskCounts old new s
-text-disk owed was now old new s e same =
-    or-cut e.tells.failed e.first e.tells.line s e.tells.says (DiskCounts old new) (text-faults old new e.first (of-text owed was e.between e.first e.stands) same) (inl (ap (λ d. d.faults) same))
+text-faults : {C : Type 0} → (refusal : ℕ → C → Status) (old new : OfDisk) (r : RunEnd C) → AreRefusals refusal → new ≡ old → DiskCounts old new (status_by refusal r)
+text-faults refusal old new (Ok _) are same = ap (λ d. d.faults) same
+text-faults refusal old new (Err (stop.Refused line c)) are same = refused-faults old new (refusal line c) (are line c) same
+text-faults refusal old new (Err stop.ReadFault) are same = ap (λ d. d.faults) same
+text-faults refusal old new (Err stop.WriteFault) are same = inl (ap (λ d. d.faults) same)
+text-faults refusal old new (Err stop.OutOfMemory) are same = ap (λ d. d.faults) same
+
+text-disk : {C : Type 0} → (P : C → Type 0) (refusal : ℕ → C → Status) (owed : Owed C) (was now : Standing) (old new : OfDisk) (s : Status) → AreRefusals refusal → EndsBy P refusal owed was now s → new ≡ old → DiskCounts old new s
+text-disk P refusal owed was now old new s are e same =
+    or-cut e.tells.failed (status_by refusal e.result) e.tells.line s e.tells.says (DiskCounts old new) (text-faults refusal old new e.result are same) (inl (ap (λ d. d.faults) same))
+
+-- what holds of a run over a text
+record OfText {C : Type 0} (P : C → Type 0) (refusal : ℕ → C → Status) (owed : Owed C) (was now : Standing) (old new : OfDisk) (s : Status) : Type 0 where
+  command : s ≢ status.Usage
+  traced_by : TracedBy P refusal owed was now s
+  complete : Completes owed was now s
+  counts : Counts was now s
+  faults : DiskCounts old new s
+
+of-text : {C : Type 0} → (P : C → Type 0) (refusal : ℕ → C → Status) (owed : Owed C) (was now : Standing) (old new : OfDisk) (s : Status) → AreRefusals refusal → EndsBy P refusal owed was now s → new ≡ old → OfText P refusal owed was now old new s
+of-text P refusal owed was now old new s are e same =
+    let t = traced P refusal owed was now s e in
+    let n = ends-counts P refusal owed was now s are e in
+    record {
+      command = not-usage refusal e.tells.failed e.result e.tells.line s are e.tells.says;
+      traced_by = t;
+      complete = completes P refusal owed was now s n t;
+      counts = n;
+      faults = text-disk P refusal owed was now old new s are e same;
+    }
 
 -- how a command of an authority ends is no want of a command
 halt-used : (r : Result (Unit {0}) Halt) → status_of_halt r ≢ status.Usage
@@ -80,15 +96,11 @@ halt-command true r line s says e = let same : status.WriteFault ≡ status.Usag
 
 pub all-of : (c : Command) (name : List ℕ) (was now : Standing) (old new : OfDisk) (before after : Wires) (s : Status) → EndsAs c name was now old new before after s → AllOf c was now old new before s
 all-of Replay name was now old new before after s h =
-    let t = traced replayed was now s h.0 in
-    let n = text-counts replayed was now s h.0 in
-    let u = text-command replayed was now s h.0 in
-    record { command = u; traced = t; complete = completes replayed was now s u n t; upholds = headline was now s h.0; counts = n; faults = text-disk replayed was now old new s h.0 h.1 }
+    let t = of-text IsJudged for_cause replayed was now old new s for-causes h.0 h.1 in
+    record { command = t.command; traced = t.traced_by; complete = t.complete; upholds = headline was now s h.0; counts = t.counts; faults = t.faults }
 all-of Verify name was now old new before after s h =
-    let t = traced verified was now s h.0 in
-    let n = text-counts verified was now s h.0 in
-    let u = text-command verified was now s h.0 in
-    record { command = u; traced = t; complete = completes verified was now s u n t; upholds = verification was now s h.0; counts = n; faults = text-disk verified was now old new s h.0 h.1 }
+    let t = of-text Every for_word verified was now old new s for-words h.0 h.1 in
+    record { command = t.command; traced = t.traced_by; complete = t.complete; upholds = verification was now s h.0; counts = t.counts; faults = t.faults }
 all-of Store name was now old new before after s h =
     let n = store-counts name was h.between now old new h.result s h.stands h.tells in
     record {
@@ -119,3 +131,11 @@ all-of (Node turns) name was now old new before after s h =
       counts = n;
       faults = node-disk was h.between now old new h.result s h.takes h.calm h.store_fault h.tells;
     }
+all-of (Soak seed members rounds) name was now old new before after s h = record {
+  command = soak-command seed members rounds was now s h.0;
+  traced = soak-traced seed members rounds was now s h.0;
+  complete = soak-completes seed members rounds was now s h.0;
+  upholds = soak-upheld seed members rounds was now s h.0;
+  counts = soak-counts seed members rounds was now s h.0;
+  faults = soak-disk seed members rounds was now old new s h.0 h.1;
+}

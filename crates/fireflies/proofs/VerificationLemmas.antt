@@ -3,8 +3,9 @@ use Rattle.std.proofs.Common.{◌≡◌, ℕ, Bool, true, false, List, [], ◌�
 use Rattle.line_text.specs.declared.bad_word.BadWord.{BadWord}
 use Rattle.line_text.specs.Answers.{Progress}
 use Rattle.play.specs.Plays.{Standing}
+use Rattle.play.specs.declared.stop.Stop.TheVariants as stop
 use Rattle.text_trace.specs.Lines.{seen}
-use Rattle.text_trace.specs.Trace.{Trace}
+use Rattle.text_trace.specs.Trace.{Every, Trace}
 use Rattle.verify_text.specs.declared.line.VerifyLine.{VerifyLine}
 use Rattle.verify_text.specs.declared.question.Asked.{Asked}
 use Rattle.verify_text.specs.declared.question.Asked.TheVariants as asked
@@ -14,12 +15,12 @@ use Rattle.verify_text.specs.Grammar.{behind, judge, opening}
 use Rattle.verify_text.specs.Rows.{is_ended}
 use Rattle.verifier.specs.Answered.{answered, answer_to, at_end, from_judged, verified}
 use Rattle.verifier.specs.Laws.{unfed-silent}
+use Rattle.fireflies.specs.Causes.{RunEnd, for_word}
 use Rattle.fireflies.specs.Ends.{Ends}
 use Rattle.fireflies.specs.Traced.{IsCause, IsEarly, SpeaksAtEnd, Traced}
 use Rattle.fireflies.specs.Verification.{OnStopped, Verification}
 use Rattle.fireflies.proofs.TraceLemmas.{no-front, traced}
 use Rattle.fireflies.specs.declared.status.Status.{Status}
-use Rattle.fireflies.specs.declared.status.Status.TheVariants as status
 
 late : SpeaksAtEnd verified
 late lines line clear = unfed-silent lines opening asked.Nothing line [] clear
@@ -47,20 +48,14 @@ refused-silent [] p a w is = refused-end (is_ended p.form) a w is
 refused-silent (bytes ∷ lines) p a w is =
     refused-judged (judge p bytes) (λ l. answered (behind p l) (asked_after a l) lines) (λ l. refused-silent lines (behind p l) (asked_after a l)) w is
 
-silent : (was now : Standing) (s first : Status) (t : Traced verified was now s) → IsCause (verified (seen t.bytes)).cause first → IsEarly verified t.text first → OnStopped first (t.text ≡ [])
-silent was now s status.Ok t refusal early = tt
-silent was now s status.Usage t refusal early = tt
-silent was now s (status.BadInput line refused) t refusal early = no-front t.text t.rest (sym t.front ∙ refused-silent (seen t.bytes) opening asked.Nothing refused refusal)
-silent was now s status.ReadFault t refusal early = early late
-silent was now s status.WriteFault t refusal early = tt
-silent was now s status.OutOfMemory t refusal early = early late
-silent was now s status.StoreFault t refusal early = tt
-silent was now s (status.StoreBroken place byte) t refusal early = tt
-silent was now s status.LinkFault t refusal early = tt
-silent was now s (status.Exhausted next) t refusal early = tt
-silent was now s (status.StoreTaken len) t refusal early = tt
+silent : (was now : Standing) (s : Status) (r : RunEnd BadWord) (t : Traced verified was now s) → IsCause (verified (seen t.bytes)).cause r → IsEarly verified t.text r → OnStopped r (t.text ≡ [])
+silent was now s (Ok _) t refused early = tt
+silent was now s (Err (stop.Refused line word)) t refused early = no-front t.text t.rest (sym t.front ∙ refused-silent (seen t.bytes) opening asked.Nothing word refused)
+silent was now s (Err stop.ReadFault) t refused early = early late
+silent was now s (Err stop.WriteFault) t refused early = tt
+silent was now s (Err stop.OutOfMemory) t refused early = early late
 
 pub verification : (was now : Standing) (s : Status) → Ends verified was now s → Verification was now s
 verification was now s ends =
-    let t = traced verified was now s ends in
-    record { trace = t; silent = silent was now s t.cause t t.refusal t.early }
+    let t = traced Every for_word verified was now s ends in
+    record { trace = t; silent = silent was now s t.result t t.refused t.early }

@@ -1,6 +1,7 @@
 -- How a run may stop, and the line that says so.
 use Rattle.std.specs.Prelude.{◌≡◌, ℕ, ◌<◌, Bool, true, false, List, [], ◌∷◌, ◌++◌, length, take, codes, Option, Some, None, Result, Ok, Err}
 use Rattle.std.specs.Fmt.{decimal}
+use Rattle.journal.specs.Texts.{body_text}
 use Rattle.line_text.specs.Texts.{bad_word_text}
 use Rattle.line_text.specs.declared.bad_word.BadWord.{BadWord}
 use Rattle.play.specs.declared.stop.Stop.{Stop}
@@ -9,6 +10,9 @@ use Rattle.authority.specs.declared.halt.Halt.{Halt}
 use Rattle.authority.specs.declared.halt.Halt.TheVariants as halt
 use Rattle.node_running.specs.declared.halt.NodeHalt.{NodeHalt}
 use Rattle.node_running.specs.declared.halt.NodeHalt.TheVariants as node
+use Rattle.world_rules.specs.Walk.{owner_text}
+use Rattle.world_replay.specs.declared.cause.Cause.{Cause}
+use Rattle.world_replay.specs.declared.cause.Cause.TheVariants as causes
 use Rattle.fireflies.specs.declared.status.Status.{Status}
 use Rattle.fireflies.specs.declared.status.Status.TheVariants as status
 
@@ -21,6 +25,7 @@ byte_text (Some byte) = decimal byte
 -- is none.
 abbrev pub cause_line : Status → List ℕ
 cause_line (status.BadInput line word) = codes "bad " ++ decimal line ++ 32 ∷ [] ++ bad_word_text word ++ 10 ∷ []
+cause_line (status.Forged line who body) = codes "forged " ++ decimal line ++ codes " " ++ owner_text who ++ codes " " ++ body_text body ++ 10 ∷ []
 cause_line status.ReadFault = codes "read fault" ++ 10 ∷ []
 cause_line status.StoreFault = codes "store fault" ++ 10 ∷ []
 cause_line (status.StoreBroken place byte) = codes "store broken " ++ decimal place ++ 32 ∷ [] ++ byte_text byte ++ 10 ∷ []
@@ -50,13 +55,30 @@ answer_for true first = status.WriteFault
 abbrev pub Says : Bool → Status → List ℕ → Status → Type 0
 Says failed first line s = (s ≡ answer_for failed first) × IsWritten failed (cause_line first) line
 
--- The status of a run over a text that ended so.
-abbrev pub status_of : Result (Unit {0}) (Stop BadWord) → Status
-status_of (Ok _) = status.Ok
-status_of (Err (stop.Refused line word)) = status.BadInput line word
-status_of (Err stop.ReadFault) = status.ReadFault
-status_of (Err stop.WriteFault) = status.WriteFault
-status_of (Err stop.OutOfMemory) = status.OutOfMemory
+-- How the loop over a text ended.
+abbrev pub RunEnd : Type 0 → Type 0
+RunEnd C = Result (Unit {0}) (Stop C)
+
+-- The status of a run over a text that ended so, where a line that is refused has this one, by its number and its cause.
+abbrev pub status_by : {C : Type 0} → (ℕ → C → Status) → RunEnd C → Status
+status_by refusal (Ok _) = status.Ok
+status_by refusal (Err (stop.Refused line cause)) = refusal line cause
+status_by refusal (Err stop.ReadFault) = status.ReadFault
+status_by refusal (Err stop.WriteFault) = status.WriteFault
+status_by refusal (Err stop.OutOfMemory) = status.OutOfMemory
+
+-- The status of a line that is refused for a bad word.
+abbrev pub for_word : ℕ → BadWord → Status
+for_word line word = status.BadInput line word
+
+-- The status of a line that a recorded text refuses.
+abbrev pub for_cause : ℕ → Cause → Status
+for_cause line (causes.Bad word) = status.BadInput line word
+for_cause line (causes.Forged who body) = status.Forged line who body
+
+-- The status of a run over a text that is refused for nothing else than bad words.
+abbrev pub status_of : RunEnd BadWord → Status
+status_of ended = status_by for_word ended
 
 -- The status of a command of an authority that ended so.
 abbrev pub status_of_halt : Result (Unit {0}) Halt → Status

@@ -4,11 +4,10 @@ use Rattle.std.specs.Io.KnownBytes.{Appends}
 use Rattle.line_text.specs.declared.bad_word.BadWord.{BadWord}
 use Rattle.ports.specs.Count.{Rose, counted, next_count}
 use Rattle.ports.specs.Link.{LinkState}
-use Rattle.play.specs.Plays.{Standing, Unfailed, Finished, Refused, Unread, Unwritten, Starved}
+use Rattle.play.specs.Plays as plays
+use Rattle.play.specs.Plays.{Standing, Unfailed}
 use Rattle.text_trace.specs.Lines.{text_lines}
 use Rattle.text_trace.specs.Trace.{Every, Owed}
-use Rattle.trace.specs.Walk.{replayed}
-use Rattle.verifier.specs.Answered.{verified}
 use Rattle.authority.specs.declared.halt.Halt.{Halt}
 use Rattle.authority.specs.OfDisk.{OfDisk}
 use Rattle.store_making.specs.Making.{Makes}
@@ -20,29 +19,15 @@ use Rattle.node_running.specs.Opening as opening
 use Rattle.node_running.specs.Removals.{RemovalsRest}
 use Rattle.node_running.specs.Running.{Feed, IsCaused, Runs, Takes}
 use Rattle.node_running.specs.Spendings.{Spends}
-use Rattle.fireflies.specs.Causes.{Says, status_of_halt, status_of_node}
+use Rattle.fireflies.specs.Causes.{RunEnd, Says, for_word, status_by, status_of_halt, status_of_node}
 use Rattle.fireflies.specs.declared.command.Command.{Command}
-use Rattle.fireflies.specs.declared.command.Command.TheVariants.{Replay, Verify, Store, Enroll, Node}
+use Rattle.fireflies.specs.declared.command.Command.TheVariants.{Node}
 use Rattle.fireflies.specs.declared.status.Status.{Status}
 use Rattle.fireflies.specs.declared.status.Status.TheVariants as status
 
 -- Just this is owed.
-abbrev pub Is : Owed BadWord → Owed BadWord → Type 0
+abbrev pub Is : {C : Type 0} → Owed C → Owed C → Type 0
 Is owed f = f ≡ owed
-
--- How a run over a text stands that owes this, before the line of the cause for which it stopped.
-abbrev pub Stands : Owed BadWord → Standing → Standing → Status → Type 0
-Stands owed was now status.Ok = Finished BadWord (Is owed) text_lines was now
-Stands owed was now status.Usage = ⊥
-Stands owed was now (status.BadInput line word) = Refused BadWord (Is owed) text_lines 1 line word was now
-Stands owed was now status.ReadFault = Unread BadWord (Is owed) text_lines was now
-Stands owed was now status.WriteFault = Unwritten BadWord (Is owed) text_lines was now
-Stands owed was now status.OutOfMemory = (now ≡ was) ⊎ Starved BadWord Every (Is owed) text_lines was now
-Stands owed was now status.StoreFault = ⊥
-Stands owed was now (status.StoreBroken place byte) = ⊥
-Stands owed was now status.LinkFault = ⊥
-Stands owed was now (status.Exhausted next) = ⊥
-Stands owed was now (status.StoreTaken len) = ⊥
 
 -- A run that stopped for the first status says so and no more, and answers this status; a write of the line may fail.
 pub record Tells (first : Status) (was now : Standing) (s : Status) : Type 0 where
@@ -54,12 +39,18 @@ pub record Tells (first : Status) (was now : Standing) (s : Status) : Type 0 whe
   pub reads : now.read_faults ≡ was.read_faults
   pub writes : now.write_faults ≡ counted failed was.write_faults
 
--- A run that owes this ends so: it stopped for a first cause, and the line of that cause is the last that is written.
-pub record Ends (owed : Owed BadWord) (was now : Standing) (s : Status) : Type 0 where
-  pub first : Status
+-- A run over a text that owes this ends so: the loop stopped for a first cause, or came to the end, and the line of that
+-- cause is the last that is written. A line that is refused has this status; memory is refused for none that a cause refuses
+-- of which P holds.
+pub record EndsBy {C : Type 0} (P : C → Type 0) (refusal : ℕ → C → Status) (owed : Owed C) (was now : Standing) (s : Status) : Type 0 where
+  pub result : RunEnd C
   pub between : Standing
-  pub stands : Stands owed was between first
-  pub tells : Tells first between now s
+  pub runs : plays.Runs C P (Is owed) text_lines was between result
+  pub tells : Tells (status_by refusal result) between now s
+
+-- The same where a line is refused for a bad word alone.
+abbrev pub Ends : Owed BadWord → Standing → Standing → Status → Type 0
+Ends owed was now s = EndsBy Every for_word owed was now s
 
 -- A command of an authority ended for some answer, with P of how it then stood; and the line of its cause is the last that
 -- is written.
@@ -122,14 +113,6 @@ pub record NodeEnds (turns : ℕ) (was now : Standing) (old new : OfDisk) (befor
   pub removals : RestsFed turns was between old before result
   pub spends : SpendsFed turns was old new before
   pub tells : Tells (status_of_node result) between now s
-
--- How a run of the command ends, over a disk, a link and a clock.
-abbrev pub EndsAs : Command → List ℕ → Standing → Standing → OfDisk → OfDisk → Wires → Wires → Status → Type 0
-EndsAs Replay name was now old new before after s = Ends replayed was now s × (new ≡ old)
-EndsAs Verify name was now old new before after s = Ends verified was now s × (new ≡ old)
-EndsAs Store name was now old new before after s = StoreEnds name was now old new s
-EndsAs Enroll name was now old new before after s = EnrollEnds name was now old new s
-EndsAs (Node turns) name was now old new before after s = NodeEnds turns was now old new before after s
 
 -- The count of faults of the disk: a fault of the store raises it by one, and also where the line that says so can't be
 -- written; else it stays.

@@ -1,31 +1,57 @@
--- What a replay upholds: what the removals that it took and wrote rest on, and what an accepted note rules out.
-use Rattle.std.specs.Prelude.{◌≡◌, [], ◌++◌}
+-- What a replay upholds: what the removals that it took and wrote rest on, and what an accepted note rules out; of a schedule
+-- of a world, what no liar brought about.
+use Rattle.std.specs.Prelude.{◌≡◌, ℕ, Bool, true, false, List, [], ◌++◌, Ok, Err}
 use Rattle.play.specs.Plays.{Standing}
+use Rattle.play.specs.declared.stop.Stop.TheVariants as stop
 use Rattle.text_trace.specs.Lines.{seen}
 use Rattle.trace.specs.Lives.{IsJustifiedWalk}
 use Rattle.trace.specs.Replies.{EndsAcceptance, RuleOut}
-use Rattle.trace.specs.Walk.{replayed, walk_over}
+use Rattle.trace.specs.Walk.{walk_over}
 use Rattle.trace.specs.Written.{IsJustified, IsTold}
-use Rattle.fireflies.specs.Traced.{Traced}
+use Rattle.world_laws.specs.Texts.{IsComeTo, IsLawfulStage}
+use Rattle.world_trace.specs.Written.{GivesAll, GivesTold, told_in, world_walk}
+use Rattle.world_replay.specs.declared.cause.Cause.{Cause}
+use Rattle.world_replay.specs.Causes.{IsJudged}
+use Rattle.any_replay.specs.Replayed.{is_world, replayed}
+use Rattle.fireflies.specs.Causes.{RunEnd, for_cause}
+use Rattle.fireflies.specs.Traced.{TracedBy}
 use Rattle.fireflies.specs.declared.status.Status.{Status}
-use Rattle.fireflies.specs.declared.status.Status.TheVariants as status
 
 -- The whole trace of what was taken is written, unless a write of it failed or memory was refused: of a read fault too.
-abbrev pub OnWhole : Status → Type 0 → Type 0
-OnWhole status.Ok P = P
-OnWhole (status.BadInput line refused) P = P
-OnWhole status.ReadFault P = P
-OnWhole _ P = Unit {0}
+abbrev pub OnWhole : {C : Type 0} → RunEnd C → Type 0 → Type 0
+OnWhole (Ok _) P = P
+OnWhole (Err (stop.Refused line cause)) P = P
+OnWhole (Err stop.ReadFault) P = P
+OnWhole (Err stop.WriteFault) P = Unit {0}
+OnWhole (Err stop.OutOfMemory) P = Unit {0}
 
--- Each whole line that was written, and each event of what was taken, that gives a removal is the report of a tick of a life,
--- and rests on an accusation that was accepted in it and stood in each state between, for the timeout; and each removal
--- of a life is told. Behind an accepted note no older accusation is accepted or expires in that life, and one that it
--- answers expires only where it was accepted again, and stood for the timeout since.
+-- A text of the direct form. Each whole line that was written, and each event of what was taken, that gives a removal is the
+-- report of a tick of a life, and rests on an accusation that was accepted in it and stood in each state between, for the
+-- timeout; and each removal of a life is told. Behind an accepted note no older accusation is accepted or expires in that
+-- life, and one that it answers expires only where it was accepted again, and stood for the timeout since.
+pub record DirectHeadline (lines : List (List ℕ)) (text line : List ℕ) (result : RunEnd Cause) : Type 0 where
+  pub written : IsJustified lines (text ++ line)
+  pub taken : IsJustifiedWalk (walk_over lines)
+  pub told : OnWhole result (IsTold lines text)
+  pub rule_out : RuleOut (walk_over lines)
+  pub ends_acceptance : EndsAcceptance (walk_over lines)
+
+-- A schedule of a world. The lines that were taken lead to a world, none of them is forged, and what its nodes told is as no
+-- liar can help: each removal rests on a verified accusation that stood for the timeout, and each key spends once. Each whole
+-- line that was written that gives an event gives one that was told, and each event that was told is written.
+pub record WorldHeadline (lines : List (List ℕ)) (text line : List ℕ) (result : RunEnd Cause) : Type 0 where
+  pub played : IsComeTo (world_walk lines).stage (told_in lines)
+  pub lawful : IsLawfulStage (world_walk lines).stage (told_in lines)
+  pub written : GivesTold (told_in lines) (text ++ line)
+  pub told : OnWhole result (GivesAll (told_in lines) text)
+
+-- By whether the first line heads a schedule of a world.
+abbrev pub HeadlineAs : Bool → List (List ℕ) → List ℕ → List ℕ → RunEnd Cause → Type 0
+HeadlineAs true lines text line result = WorldHeadline lines text line result
+HeadlineAs false lines text line result = DirectHeadline lines text line result
+
+-- Of the text that was taken, what was written of its trace, and the line of the cause behind it.
 pub record Headline (was now : Standing) (s : Status) : Type 0 where
-  pub trace : Traced replayed was now s
-  pub whole : OnWhole trace.cause (trace.rest ≡ [])
-  pub written : IsJustified (seen trace.bytes) (trace.text ++ trace.line)
-  pub taken : IsJustifiedWalk (walk_over (seen trace.bytes))
-  pub told : OnWhole trace.cause (IsTold (seen trace.bytes) trace.text)
-  pub rule_out : RuleOut (walk_over (seen trace.bytes))
-  pub ends_acceptance : EndsAcceptance (walk_over (seen trace.bytes))
+  pub trace : TracedBy IsJudged for_cause replayed was now s
+  pub whole : OnWhole trace.result (trace.rest ≡ [])
+  pub upheld : HeadlineAs (is_world (seen trace.bytes)) (seen trace.bytes) trace.text trace.line trace.result

@@ -4,6 +4,8 @@ pub mod Commands
 pub mod Causes
 pub mod Ends
 pub mod Traced
+pub mod Soaking
+pub mod EndsAs
 pub mod Serving
 pub mod TracedAs
 pub mod Enrolment

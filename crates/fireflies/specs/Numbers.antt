@@ -7,6 +7,7 @@ abbrev pub status_number : Status → ℕ
 status_number status.Ok = 0
 status_number status.Usage = 2
 status_number (status.BadInput line _) = 3
+status_number (status.Forged line who body) = 4
 status_number status.ReadFault = 5
 status_number status.WriteFault = 6
 status_number status.StoreFault = 7

@@ -18,6 +18,7 @@ use Rattle.fireflies.specs.declared.status.Status.TheVariants as status
 abbrev pub IsBehindText : Status → Type 0
 IsBehindText status.Usage = ⊥
 IsBehindText (status.BadInput line w) = ⊥
+IsBehindText (status.Forged line who body) = ⊥
 IsBehindText status.ReadFault = ⊥
 IsBehindText (status.StoreTaken len) = ⊥
 IsBehindText _ = Unit {0}

@@ -3,7 +3,8 @@ use Rattle.std.specs.Prelude.{◌≡◌, ℕ, ◌↔◌, List, None, IfSome, Res
 use Rattle.play.specs.Plays.{Standing}
 use Rattle.authority.specs.OfDisk.{OfDisk}
 use Rattle.fireflies.specs.Commands.{command_of, store_in}
-use Rattle.fireflies.specs.Ends.{Counts, EndsAs, FaultsAs, Wires}
+use Rattle.fireflies.specs.Ends.{Counts, FaultsAs, Wires}
+use Rattle.fireflies.specs.EndsAs.{EndsAs}
 use Rattle.fireflies.specs.TracedAs.{CompletesAs, TracedAs}
 use Rattle.fireflies.specs.Upheld.{Upholds}
 use Rattle.fireflies.specs.declared.status.Status.{Status}

@@ -16,7 +16,8 @@ use Rattle.schedule_kit.specs.declared.line.KitLine.{KitLine}
 use Rattle.lms_tree.specs.Kinds.{leaf_count}
 use Rattle.text_trace.specs.Lines.{seen, text_lines}
 use Rattle.text_trace.specs.Trace.{Owed}
-use Rattle.trace.specs.Walk.{replayed}
+use Rattle.world_replay.specs.Causes.{IsJudged}
+use Rattle.any_replay.specs.Replayed.{replayed}
 use Rattle.verifier.specs.Answered.{verified}
 use Rattle.whole_text.specs.Gathered.{lines_from, unread}
 use Rattle.authority.specs.declared.setting.Setting.{Setting}
@@ -25,14 +26,15 @@ use Rattle.authority.specs.Settings.{asked_in, roster_judging, roster_setting, t
 use Rattle.store_making.specs.Making.{stored}
 use Rattle.enrolment.specs.Enrolling.{IsEnough}
 use Rattle.enrolment.specs.Lines.{enrolled}
-use Rattle.fireflies.specs.Causes.{Says}
+use Rattle.fireflies.specs.Causes.{Says, for_cause}
 use Rattle.node_running.specs.declared.kit.Member.{Member}
 use Rattle.node_running.specs.Members as node
 use Rattle.node_running.specs.Members.{SetsUp, kit_judging, set_by}
 use Rattle.fireflies.specs.Serving.{NodeTraced, OnUnrefused, IsNodeDone, IsNodeWhole}
-use Rattle.fireflies.specs.Traced.{Completes, IsComplete, Traced}
+use Rattle.fireflies.specs.Soaking.{SoakCompletes, TracedSoak}
+use Rattle.fireflies.specs.Traced.{Completes, IsComplete, Traced, TracedBy}
 use Rattle.fireflies.specs.declared.command.Command.{Command}
-use Rattle.fireflies.specs.declared.command.Command.TheVariants.{Replay, Verify, Store, Enroll, Node}
+use Rattle.fireflies.specs.declared.command.Command.TheVariants.{Replay, Verify, Store, Enroll, Node, Soak}
 use Rattle.fireflies.specs.declared.status.Status.{Status}
 use Rattle.fireflies.specs.declared.status.Status.TheVariants as status
 
@@ -42,6 +44,7 @@ abbrev pub IsOwedBehind : List ℕ → Status → Type 0
 IsOwedBehind rest status.Ok = rest ≡ []
 IsOwedBehind rest status.Usage = ⊥
 IsOwedBehind rest (status.BadInput line w) = ⊥
+IsOwedBehind rest (status.Forged line who body) = ⊥
 IsOwedBehind rest status.ReadFault = ⊥
 IsOwedBehind rest status.WriteFault = Unit {0}
 IsOwedBehind rest status.StoreFault = Unit {0}
@@ -87,11 +90,12 @@ pub data TracedRoster (was now : Standing) (old : OfDisk) (s : Status) : Type 0 
   Opened : (o : Stored) → IsFound o old → TracedWhole (enrolled o.next) was now s → TracedRoster was now old s
 
 abbrev pub TracedAs : Command → Standing → Standing → OfDisk → OfDisk → Status → Type 0
-TracedAs Replay was now old new s = Traced replayed was now s
+TracedAs Replay was now old new s = TracedBy IsJudged for_cause replayed was now s
 TracedAs Verify was now old new s = Traced verified was now s
 TracedAs Store was now old new s = TracedEither stored was now s
 TracedAs Enroll was now old new s = TracedRoster was now old s
 TracedAs (Node turns) was now old new s = NodeTraced was now s
+TracedAs (Soak seed members rounds) was now old new s = TracedSoak seed members rounds was now s
 
 -- ## Where all of it is run
 
@@ -141,3 +145,4 @@ CompletesAs Verify was now old new s = Completes verified was now s
 CompletesAs Store was now old new s = StoreCompletes was now old new s
 CompletesAs Enroll was now old new s = EnrollCompletes was now old new s
 CompletesAs (Node turns) was now old new s = NodeCompletes was now old new s
+CompletesAs (Soak seed members rounds) was now old new s = SoakCompletes seed members rounds was now s

@@ -11,9 +11,10 @@ use Rattle.fireflies.specs.Enrolment.{Enrolment}
 use Rattle.fireflies.specs.Headline.{Headline}
 use Rattle.fireflies.specs.Ends.{Wires}
 use Rattle.fireflies.specs.Journals.{NodeUpholds}
+use Rattle.fireflies.specs.Soaking.{SoakUpheld}
 use Rattle.fireflies.specs.Verification.{Verification}
 use Rattle.fireflies.specs.declared.command.Command.{Command}
-use Rattle.fireflies.specs.declared.command.Command.TheVariants.{Replay, Verify, Store, Enroll, Node}
+use Rattle.fireflies.specs.declared.command.Command.TheVariants.{Replay, Verify, Store, Enroll, Node, Soak}
 use Rattle.fireflies.specs.declared.status.Status.{Status}
 use Rattle.fireflies.specs.declared.status.Status.TheVariants as status
 
@@ -35,3 +36,4 @@ Upholds Verify was now old new before s = Verification was now s
 Upholds Store was now old new before s = OnMade s (IsStoreMade was old new)
 Upholds Enroll was now old new before s = Enrolment was old new
 Upholds (Node turns) was now old new before s = NodeUpholds turns was now old new before s
+Upholds (Soak seed members rounds) was now old new before s = SoakUpheld seed members rounds was now s

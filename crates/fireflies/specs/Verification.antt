@@ -1,18 +1,21 @@
 -- What `verify` upholds: nothing but the line of a cause is written before the end of the text.
-use Rattle.std.specs.Prelude.{◌≡◌, []}
+use Rattle.std.specs.Prelude.{◌≡◌, [], Ok, Err}
+use Rattle.line_text.specs.declared.bad_word.BadWord.{BadWord}
 use Rattle.play.specs.Plays.{Standing}
+use Rattle.play.specs.declared.stop.Stop.TheVariants as stop
 use Rattle.verifier.specs.Answered.{verified}
+use Rattle.fireflies.specs.Causes.{RunEnd}
 use Rattle.fireflies.specs.Traced.{Traced}
 use Rattle.fireflies.specs.declared.status.Status.{Status}
-use Rattle.fireflies.specs.declared.status.Status.TheVariants as status
 
 -- The run stopped before the end of the text, and for no failed write.
-abbrev pub OnStopped : Status → Type 0 → Type 0
-OnStopped (status.BadInput line refused) P = P
-OnStopped status.ReadFault P = P
-OnStopped status.OutOfMemory P = P
-OnStopped _ P = Unit {0}
+abbrev pub OnStopped : RunEnd BadWord → Type 0 → Type 0
+OnStopped (Ok _) P = Unit {0}
+OnStopped (Err (stop.Refused line refused)) P = P
+OnStopped (Err stop.ReadFault) P = P
+OnStopped (Err stop.WriteFault) P = Unit {0}
+OnStopped (Err stop.OutOfMemory) P = P
 
 pub record Verification (was now : Standing) (s : Status) : Type 0 where
   pub trace : Traced verified was now s
-  pub silent : OnStopped trace.cause (trace.text ≡ [])
+  pub silent : OnStopped trace.result (trace.text ≡ [])

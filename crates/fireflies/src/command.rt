@@ -1,7 +1,7 @@
 // The commands.
 
-ghost use Rattle.std.specs.Prelude.{◌≡◌, map, string_bytes};
-ghost use Rattle.fireflies.specs.Commands.{command_named, command_of, command_over, command_with, is_store_name, store_in, turns_in};
+ghost use Rattle.std.specs.Prelude.{◌≡◌, ◌≤◌, map, string_bytes, IfSome};
+ghost use Rattle.fireflies.specs.Commands.{FitsCommand, command_drawn, command_named, command_of, command_over, command_with, is_store_name, spelled_in, store_in, turns_in};
 
 use line_text::Words;
 
@@ -10,6 +10,12 @@ const STORE_NAME: usize = 255;
 
 /// How many turns a node may be served for.
 const TURNS: u64 = 1_000_000;
+
+/// How many members a workload may have.
+const MEMBERS: u64 = 32;
+
+/// How many rounds a workload may have.
+const ROUNDS: u64 = 1_000;
 
 /// What the program does.
 #[derive(Clone, Copy, Debug, PartialEq, Eq)]
@@ -24,6 +30,8 @@ pub enum Command {
     Enroll,
     /// `node STORE TURNS`: runs a member with its store for some turns, and writes the journal of its life.
     Node { turns: u32 },
+    /// `soak SEED NODES ROUNDS`: plays a seeded attack on a world, and writes what was counted in it.
+    Soak { seed: u64, members: u16, rounds: u16 },
 }
 
 /// Whether a store may have this name: any of 1 to 255 bytes.
@@ -33,17 +41,28 @@ fn is_store_name(name: &str) -> bool
     !name.is_empty() && name.len() <= STORE_NAME
 }
 
-/// The number of turns that the word spells, from 1 to 1,000,000.
-fn turns_in(word: &str) -> Option<u32>
-    ensures { result ≡ turns_in word.now }
+/// The number that the word spells, from the least to the most.
+fn number_in(word: &str, least: u64, most: u64) -> Option<u64>
+    ensures number { result ≡ spelled_in least most word.now }
+    ensures range { IfSome result (λ n. (least ≤ n) × (n ≤ most)) }
 {
     let mut words = Words::of(word.as_bytes())?;
     if words.count() != 1 {
         return None;
     }
-    match words.number(1, TURNS) {
-        Ok(turns) => Some(turns as u32),
+    match words.number(least, most) {
+        Ok(number) => Some(number),
         Err(_) => None,
+    }
+}
+
+/// The number of turns that the word spells, from 1 to 1,000,000.
+fn turns_in(word: &str) -> Option<u32>
+    ensures { result ≡ turns_in word.now }
+{
+    match number_in(word, 1, TURNS) {
+        Some(turns) => Some(turns as u32),
+        None => None,
     }
 }
 
@@ -97,9 +116,28 @@ impl Command {
         }
     }
 
+    /// The command of this word, behind which a seed, a number of members and one of rounds stand.
+    fn drawn(word: &str, seed: &str, members: &str, rounds: &str) -> Option<Command>
+        ensures command { result ≡ command_drawn word.now seed.now members.now rounds.now }
+        ensures fits { IfSome result FitsCommand }
+    {
+        if word != "soak" {
+            return None;
+        }
+        let seed = number_in(seed, 0, u64::MAX)?;
+        let members = number_in(members, 3, MEMBERS)?;
+        let rounds = number_in(rounds, 1, ROUNDS)?;
+        Some(Command::Soak {
+            seed,
+            members: members as u16,
+            rounds: rounds as u16,
+        })
+    }
+
     /// The command that the words name, if they name one.
     pub fn of(words: &[String]) -> Option<Command>
-        ensures { result ≡ command_of (map string_bytes words.now) }
+        ensures command { result ≡ command_of (map string_bytes words.now) }
+        ensures fits { IfSome result FitsCommand }
     {
         match words {
             [word] => Command::named(word.as_str()),
@@ -107,6 +145,12 @@ impl Command {
             [word, name, turns] if is_store_name(name.as_str()) => {
                 Command::over(word.as_str(), turns.as_str())
             }
+            [word, seed, members, rounds] => Command::drawn(
+                word.as_str(),
+                seed.as_str(),
+                members.as_str(),
+                rounds.as_str(),
+            ),
             _ => None,
         }
     }

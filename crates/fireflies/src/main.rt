@@ -4,7 +4,9 @@
 
 mod command;
 mod ending;
+mod forged;
 mod run;
+mod soak;
 mod start;
 mod status;
 #[cfg(test)]

@@ -3,29 +3,33 @@
 ghost use Rattle.std.specs.Prelude.{◌≡◌, ◌≢◌, ◌↔◌, true, false, map, IfSome, string_bytes};
 ghost use Rattle.authority.specs.OfDisk.{of_disk};
 ghost use Rattle.play.specs.Plays.{standing};
-ghost use Rattle.trace.specs.Walk.{replayed};
+ghost use Rattle.world_replay.specs.Causes.{IsJudged};
+ghost use Rattle.any_replay.specs.Replayed.{replayed};
 ghost use Rattle.verifier.specs.Answered.{verified};
-ghost use Rattle.fireflies.specs.Commands.{command_of, is_over_link, is_over_store, store_in, takes_link, takes_store};
-ghost use Rattle.fireflies.specs.Ends.{Counts, DiskCountsAs, EndsAs, Ends, EnrollEnds, FaultsAs, NodeEnds, StoreEnds, wires};
+ghost use Rattle.fireflies.specs.Causes.{for_cause};
+ghost use Rattle.fireflies.specs.Commands.{FitsCommand, command_of, is_over_link, is_over_store, is_over_text, store_in, takes_link, takes_store, takes_text};
+ghost use Rattle.fireflies.specs.Ends.{Counts, DiskCountsAs, EndsBy, Ends, EnrollEnds, FaultsAs, NodeEnds, StoreEnds, wires};
+ghost use Rattle.fireflies.specs.EndsAs.{EndsAs};
 ghost use Rattle.fireflies.specs.TracedAs.{CompletesAs, TracedAs};
 ghost use Rattle.fireflies.specs.Upheld.{Upholds};
 
 use crate::command::{Command, store_in};
 use crate::ending::conclude;
+use crate::soak::run_soak;
 use crate::status::Status;
+use any_replay::replay;
 use enrolment::enroll;
 use node_running::run_node;
 use ports::{Clock, Disk, Link, Sink, Source};
-use replay::replay;
 use std::alloc::Global;
 use store_making::make_store;
 use verifier::verify_input;
 
-/// Does what a command does with a text alone, and answers how the run ended.
+/// Plays a recorded text, and answers how the run ended.
 fn run_replay<S: Source, O: Sink>(alloc: Global, input: &mut S, out: &mut O) -> Status
     requires source { S.is_open input.old ≡ true }
     requires sink { O.is_open out.old ≡ true }
-    ensures ends { Ends replayed
+    ensures ends { EndsBy IsJudged for_cause replayed
         (standing (S.left input.old) (O.taken out.old) (S.faults input.old) (O.faults out.old))
         (standing (S.left input.new) (O.taken out.new) (S.faults input.new) (O.faults out.new)) result }
 {
@@ -121,6 +125,7 @@ fn run_command<S: Source, O: Sink, D: Disk, L: Link, C: Clock>(
     link: &mut L,
     clock: &mut C,
 ) -> Status
+    requires fits { FitsCommand command }
     requires source { S.is_open input.old ≡ true }
     requires sink { O.is_open out.old ≡ true }
     ensures ends { EndsAs command name.now
@@ -130,6 +135,7 @@ fn run_command<S: Source, O: Sink, D: Disk, L: Link, C: Clock>(
         (of_disk (D.faults disk.new) (D.calls disk.new) (D.moments disk.new))
         (wires (L.contents link.old) (L.faults link.old) (C.reading clock.old) (C.coming clock.old))
         (wires (L.contents link.new) (L.faults link.new) (C.reading clock.new) (C.coming clock.new)) result }
+    ensures input { takes_text command ≡ false → input.new ≡ input.old }
     ensures disk { takes_store command ≡ false → disk.new ≡ disk.old }
     ensures link { takes_link command ≡ false → link.new ≡ link.old }
     ensures clock { takes_link command ≡ false → clock.new ≡ clock.old }
@@ -140,6 +146,11 @@ fn run_command<S: Source, O: Sink, D: Disk, L: Link, C: Clock>(
         Command::Store => run_store(alloc, name, input, out, disk),
         Command::Enroll => run_enroll(alloc, name, input, out, disk),
         Command::Node { turns } => { run_member(alloc, name, turns, input, out, disk, link, clock) }
+        Command::Soak {
+            seed,
+            members,
+            rounds,
+        } => run_soak(alloc, seed, members, rounds, out),
     }
 }
 
@@ -154,6 +165,7 @@ fn run_named<S: Source, O: Sink, D: Disk, L: Link, C: Clock>(
     link: &mut L,
     clock: &mut C,
 ) -> Status
+    requires fits { FitsCommand command }
     requires source { S.is_open input.old ≡ true }
     requires sink { O.is_open out.old ≡ true }
     ensures command { result ≢ Status.Usage }
@@ -186,6 +198,7 @@ fn run_named<S: Source, O: Sink, D: Disk, L: Link, C: Clock>(
     ensures faults { DiskCountsAs command
         (of_disk (D.faults disk.old) (D.calls disk.old) (D.moments disk.old))
         (of_disk (D.faults disk.new) (D.calls disk.new) (D.moments disk.new)) result }
+    ensures input { takes_text command ≡ false → input.new ≡ input.old }
     ensures disk { takes_store command ≡ false → disk.new ≡ disk.old }
     ensures link { takes_link command ≡ false → link.new ≡ link.old }
     ensures clock { takes_link command ≡ false → clock.new ≡ clock.old }
@@ -255,6 +268,7 @@ pub fn run<S: Source, O: Sink, D: Disk, L: Link, C: Clock>(
     ensures faults { FaultsAs (command_of (map string_bytes words.now))
         (of_disk (D.faults disk.old) (D.calls disk.old) (D.moments disk.old))
         (of_disk (D.faults disk.new) (D.calls disk.new) (D.moments disk.new)) result }
+    ensures input { is_over_text (command_of (map string_bytes words.now)) ≡ false → input.new ≡ input.old }
     ensures disk { is_over_store (command_of (map string_bytes words.now)) ≡ false → disk.new ≡ disk.old }
     ensures link { is_over_link (command_of (map string_bytes words.now)) ≡ false → link.new ≡ link.old }
     ensures clock { is_over_link (command_of (map string_bytes words.now)) ≡ false → clock.new ≡ clock.old }

@@ -3,15 +3,19 @@
 ghost use Rattle.std.specs.Prelude.{◌≡◌, ◌≤◌, ◌++◌, ◌∷◌, [], codes, length};
 ghost use Rattle.std.specs.Fmt.{decimal};
 ghost use Rattle.line_text.specs.Texts.{bad_word_text};
-ghost use Rattle.fireflies.specs.Causes.{byte_text, cause_line, status_of, status_of_halt, status_of_node};
+ghost use Rattle.fireflies.specs.Causes.{byte_text, cause_line, for_cause, status_by, status_of, status_of_halt, status_of_node};
 ghost use Rattle.fireflies.specs.Numbers.{status_number};
 
 use arrayvec::ArrayString;
 use authority::Halt;
+use crate::forged::forged_line;
+use ff_ids::MemberId;
 use itoa::Buffer;
 use line_text::BadWord;
 use node_running::NodeHalt;
 use play::Stop;
+use records::Body;
+use world_replay::Cause;
 
 /// How a run ended, and the number with which the program then exits. The first cause that comes in the run
 /// ends it.
@@ -23,6 +27,9 @@ pub enum Status {
     Usage,
     /// This line was refused, for this word.
     BadInput { line: u32, word: BadWord },
+    /// A record that this line hands over is forged: whose key seems to have signed it, none for the authority's, and what
+    /// it says.
+    Forged { line: u32, who: Option<MemberId>, body: Body },
     /// A read failed.
     ReadFault,
     /// A write failed.
@@ -50,6 +57,7 @@ impl Status {
             Status::Ok => 0,
             Status::Usage => 2,
             Status::BadInput { .. } => 3,
+            Status::Forged { .. } => 4,
             Status::ReadFault => 5,
             Status::WriteFault => 6,
             Status::StoreFault => 7,
@@ -62,11 +70,12 @@ impl Status {
     }
 
     /// The line that gives the cause, with its line feed; nothing where there is none. It takes no memory.
-    pub fn line(self) -> ArrayString<64>
+    pub fn line(self) -> ArrayString<256>
         ensures { result.bytes ≡ cause_line self }
     {
         match self {
             Status::BadInput { line, word } => refusal_line(line, word),
+            Status::Forged { line, who, body } => forged_line(line, who, &body),
             Status::ReadFault => fixed_line("read fault\n"),
             Status::StoreFault => fixed_line("store fault\n"),
             Status::StoreBroken { place, byte } => broken_line(place, byte),
@@ -80,8 +89,8 @@ impl Status {
     }
 }
 
-fn fixed_line(line: &str) -> ArrayString<64>
-    requires { length line.now ≤ 64 }
+fn fixed_line(line: &str) -> ArrayString<256>
+    requires { length line.now ≤ 256 }
     ensures { result.bytes ≡ line.now }
 {
     let mut text = ArrayString::new();
@@ -90,7 +99,7 @@ fn fixed_line(line: &str) -> ArrayString<64>
 }
 
 /// The line of these words and a number.
-fn numbered_line(words: &str, number: u64) -> ArrayString<64>
+fn numbered_line(words: &str, number: u64) -> ArrayString<256>
     requires { length words.now ≤ 20 }
     ensures { result.bytes ≡ words.now ++ decimal number ++ 10 ∷ [] }
 {
@@ -114,7 +123,7 @@ fn byte_word(digits: &mut Buffer, byte: Option<u8>) -> &str
 }
 
 /// The line that says where a file is no store.
-fn broken_line(place: u64, byte: Option<u8>) -> ArrayString<64>
+fn broken_line(place: u64, byte: Option<u8>) -> ArrayString<256>
     ensures { result.bytes ≡ codes "store broken " ++ decimal place ++ 32 ∷ [] ++ byte_text byte ++ 10 ∷ [] }
 {
     let mut digits = Buffer::new();
@@ -128,7 +137,7 @@ fn broken_line(place: u64, byte: Option<u8>) -> ArrayString<64>
 }
 
 /// The line that says which line is refused, and for which word.
-fn refusal_line(line: u32, word: BadWord) -> ArrayString<64>
+fn refusal_line(line: u32, word: BadWord) -> ArrayString<256>
     ensures { result.bytes ≡ codes "bad " ++ decimal line ++ 32 ∷ [] ++ bad_word_text word ++ 10 ∷ [] }
 {
     let mut digits = Buffer::new();
@@ -148,6 +157,27 @@ impl From<Result<(), Stop<BadWord>>> for Status {
         match ended {
             Ok(()) => Status::Ok,
             Err(Stop::Refused { line, cause }) => Status::BadInput { line, word: cause },
+            Err(Stop::ReadFault) => Status::ReadFault,
+            Err(Stop::WriteFault) => Status::WriteFault,
+            Err(Stop::OutOfMemory) => Status::OutOfMemory,
+        }
+    }
+}
+
+impl From<Result<(), Stop<Cause>>> for Status {
+    ghost from_gives = { λ ended status. status ≡ status_by for_cause ended };
+
+    fn from(ended: Result<(), Stop<Cause>>) -> Status {
+        match ended {
+            Ok(()) => Status::Ok,
+            Err(Stop::Refused {
+                line,
+                cause: Cause::Bad(word),
+            }) => Status::BadInput { line, word },
+            Err(Stop::Refused {
+                line,
+                cause: Cause::Forged { who, body },
+            }) => Status::Forged { line, who, body },
             Err(Stop::ReadFault) => Status::ReadFault,
             Err(Stop::WriteFault) => Status::WriteFault,
             Err(Stop::OutOfMemory) => Status::OutOfMemory,

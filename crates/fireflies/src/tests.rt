@@ -7,6 +7,7 @@ mod refusing;
 mod serving;
 mod storing;
 mod verifying;
+mod worlds;
 
 use super::run;
 use edges::{Absent, NoClock};
@@ -121,7 +122,12 @@ const TEXTS: [Row; 36] = [
     (Front::Head, "end", "bad 3 line-feed\n", 3),
     (Front::Head, "end\nx\n", "end\nbad 4 after-end\n", 3),
     (Front::Head, "", "bad 3 end\n", 3),
-    (Front::None, "fireflies 1 world\n", "bad 1 not-built\n", 3),
+    (
+        Front::None,
+        "fireflies 1 world\n",
+        "fireflies 1 world\nbad 2 end\n",
+        3,
+    ),
     (Front::None, "fireflies 2 direct\n", "bad 1 header\n", 3),
     (
         Front::None,
@@ -363,6 +369,12 @@ fn words_that_name_no_command(rt: HostRuntime) -> Result<(), Fail> {
         "node s 01",
         "node s 1 2",
         "soak 7 2 1",
+        "soak 7 33 1",
+        "soak 7 3 0",
+        "soak 7 3 1001",
+        "soak 7 3",
+        "soak 18446744073709551616 3 1",
+        "soak 7 3 1 1",
         "--help",
     ] {
         let got = run_failing(rt.alloc(), words, SHORT, 1, &[], &[])?;

@@ -31,7 +31,7 @@ use Rattle.node_running.specs.Removals.{removal_line}
 
 -- ## No line has a line feed inside it
 
-clear-body : (b : Body) → has_no_feed (body_text b) ≡ true
+pub clear-body : (b : Body) → has_no_feed (body_text b) ≡ true
 clear-body (Certificate c) =
     let two = (codes "cert " ++ decimal c.member) ++ codes " " ++ decimal c.port in
     clear-append (two ++ codes " ") (encode_lower (key_bytes c.key))

@@ -5,7 +5,7 @@ mod life;
 mod player;
 mod report;
 
-pub use player::replay;
+pub use player::Player;
 
 #[cfg(test)]
 mod tests;

@@ -1,27 +1,38 @@
 //! A run over a text, as a script of its lines.
 
-ghost use Rattle.std.specs.Prelude.{◌≡◌, ◌-◌, ◌+◌, ◌<◌, ◌≤◌, [], true, OnOk, Option, length};
-ghost use Rattle.line_text.specs.declared.bad_word.BadWord.{BadWord};
-ghost use Rattle.play.specs.Plays.{Runs, has_written, standing};
+ghost use Rattle.std.specs.Prelude.{◌≡◌, ◌<◌, [], OnOk, Option, length};
 ghost use Rattle.text_trace.specs.Lines.{text_lines};
 ghost use Rattle.text_trace.specs.Trace.{Every};
 ghost use Rattle.trace.specs.Answers.{Recorded, answer as answer_to, told};
 ghost use Rattle.trace.specs.Walk.{replayed};
 ghost use Rattle.replay.specs.Plays.{Plays, FitsOn};
+ghost use Rattle.replay.specs.Playing.{OwedBy, lines_left};
 
 use crate::life::{Life, answer};
 use fields::NoMemory;
 use line_text::{BadWord, LineFault, Reader};
-use play::{Refusal, Script, Stop, play};
-use ports::{Sink, Source};
+use play::{Refusal, Script};
 use schedule_direct::{Direct, DirectLine};
 use std::alloc::Global;
 
 /// What a run has between two lines: what was read of the text, and the life that is being recorded.
 #[derive(Drop)]
-struct Player {
+pub struct Player {
     lines: Reader<Direct>,
     life: Option<Life>,
+}
+
+impl Player {
+    /// Nothing was read.
+    pub fn new() -> Player
+        ensures owes { OwedBy result replayed }
+        ensures room { lines_left result ≡ text_lines }
+    {
+        Player {
+            lines: Reader::open(Direct::Start),
+            life: None,
+        }
+    }
 }
 
 /// Puts what is written for a line into the text.
@@ -43,15 +54,15 @@ fn tell(
 }
 
 impl Script for Player {
-    ghost use Rattle.replay.specs.Playing.{Owes, owes_waits};
+    ghost use Rattle.replay.specs.Playing.{OwedBy, lines_left, owed_waits};
 
     type Cause = BadWord;
 
     ghost judged = { Every };
 
-    ghost owes = { λ s f. Owes s.lines s.life f };
+    ghost owes = { OwedBy };
 
-    ghost room = { λ s. text_lines + 1 - s.lines.number };
+    ghost room = { lines_left };
 
     ghost reaches = { λ _ _ _. Unit {0} };
 
@@ -80,30 +91,9 @@ impl Script for Player {
         }
     }
 
-    ghost waits = { λ s f owes. owes_waits s.lines s.life f owes };
+    ghost waits = { owed_waits };
 
     ghost reaches_itself = { λ _. tt };
 
     ghost reaches_on = { λ _ _ _ _ _ _ _. tt };
-}
-
-/// Plays the text that the source gives, from its header on, and writes its trace: of each line before the next is
-/// taken. At most 100,001 lines are taken, of each no more than its first 65,601 bytes.
-pub fn replay<S: Source, O: Sink>(
-    alloc: Global,
-    input: &mut S,
-    out: &mut O,
-) -> Result<(), Stop<BadWord>>
-    requires source { S.is_open input.old ≡ true }
-    requires sink { O.is_open out.old ≡ true }
-    ensures sink { O.is_open out.new ≡ has_written result }
-    ensures runs { Runs BadWord Every (λ f. f ≡ replayed) text_lines
-        (standing (S.left input.old) (O.taken out.old) (S.faults input.old) (O.faults out.old))
-        (standing (S.left input.new) (O.taken out.new) (S.faults input.new) (O.faults out.new)) result }
-{
-    let mut player = Player {
-        lines: Reader::open(Direct::Start),
-        life: None,
-    };
-    play(alloc, &mut player, input, out)
 }

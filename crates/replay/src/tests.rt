@@ -2,9 +2,9 @@
 
 ghost use Rattle.std.specs.Prelude.{◌≡◌, true, IfOk};
 
-use crate::replay;
+use crate::Player;
 use line_text::BadWord;
-use play::Stop;
+use play::{Stop, play};
 use ports::{MemorySink, MemorySource};
 use std::alloc::Global;
 use std::test::Fail;
@@ -36,7 +36,7 @@ fn sink(alloc: Global) -> Result<MemorySink, Fail>
 fn a_schedule_is_played_to_its_end(rt: HostRuntime) -> Result<(), Fail> {
     let mut input = source(rt.alloc(), SCHEDULE)?;
     let mut out = sink(rt.alloc())?;
-    assert_eq!(rt; replay(rt.alloc(), &mut input, &mut out), Ok(()));
+    assert_eq!(rt; play(rt.alloc(), &mut Player::new(), &mut input, &mut out), Ok(()));
     assert_eq!(rt; out.bytes(), TRACE.as_bytes());
     Ok(())
 }
@@ -49,7 +49,7 @@ fn a_refused_line_ends_the_run(rt: HostRuntime) -> Result<(), Fail> {
         line: 2,
         cause: BadWord::Number,
     };
-    assert_eq!(rt; replay(rt.alloc(), &mut input, &mut out), Err(refused));
+    assert_eq!(rt; play(rt.alloc(), &mut Player::new(), &mut input, &mut out), Err(refused));
     assert_eq!(rt; out.bytes(), b"fireflies 1 direct\n".as_slice());
     Ok(())
 }

@@ -1,0 +1,4 @@
+pub mod Replayed
+pub mod Answers
+pub mod Owing
+pub mod Laws

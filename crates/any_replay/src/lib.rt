@@ -1,0 +1,10 @@
+//! Plays a recorded text of either form: its first line tells which.
+#![tactic(auto)]
+
+mod form;
+mod player;
+
+pub use player::replay;
+
+#[cfg(test)]
+mod tests;

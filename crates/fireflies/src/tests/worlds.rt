@@ -1,0 +1,101 @@
+// Worlds, by `replay` and by `soak`.
+
+use super::run_failing;
+use ff_ids::{Epoch, Group, Mask, MemberId, NoteBody};
+use fields::Bytes;
+use lms_ots::OtsKind;
+use lms_tree::TreeKind;
+use records::{Body, Record, signed_bytes, write_record};
+use secrets::{make_key, world_secret};
+use std::alloc::Global;
+use std::process::Abort;
+use std::test::Fail;
+
+/// A node that runs, and a liar.
+const WORLD: &str = "fireflies 1 world\ngroup 1 4 1 2 00000000000000000000000000000000\nkinds 8 5\nnode 1\nliar 2\nbegin\nstart 1\n";
+
+const WORLD_TRACE: &str = "fireflies 1 world\ngroup 1 4 1 2 00000000000000000000000000000000\nkinds 8 5\nnode 1\nliar 2\nbegin\n\
+        start 1 : life 1\n@1 at 0 spent 0 note 1 1 7\n@1 at 0 entered 1\n";
+
+/// Replays what stands behind the world, and compares what was written behind its trace, and the number.
+fn replays(
+    rt: &impl Abort,
+    alloc: Global,
+    rest: &str,
+    trace: &str,
+    number: u8,
+) -> Result<(), Fail> {
+    let text = format!(in alloc; "{WORLD}{rest}")?;
+    let wanted = format!(in alloc; "{WORLD_TRACE}{trace}")?;
+    let got = run_failing(alloc, "replay", text.as_str(), 65_536, &[], &[])?;
+    assert_eq!(rt; got.written.as_slice(), wanted.as_bytes(), "for {rest}");
+    assert_eq!(rt; got.number, number, "for {rest}");
+    Ok(())
+}
+
+#[test]
+fn any_bytes_are_handed_to_a_node(rt: HostRuntime) -> Result<(), Fail> {
+    replays(
+        &rt,
+        rt.alloc(),
+        "raw 1 4646010100020000000000000102\nraw 1 4646\nraw 2 00\nend\n",
+        "raw 1 4646010100020000000000000102\n@1 at 0 ping 2 258\n\
+            @1 at 0 sent 0 2 4646010200010000000000000102\nraw 1 4646\n@1 at 0 bad-form 2\n\
+            raw 2 00 : refused not-node\nend\n",
+        0,
+    )?;
+    replays(&rt, rt.alloc(), "raw 1 4\n", "bad 8 hex\n", 3)
+}
+
+/// A datagram with a note of node 1 that the schedule never signed, as digits.
+fn forged_note(alloc: Global) -> Result<String, Fail> {
+    let group = Group {
+        tag: [0; 16],
+        t: 1,
+        timeout: 4,
+        period: 1,
+        misses: 2,
+    };
+    let body = Body::Note(NoteBody {
+        member: MemberId::new(1),
+        epoch: Epoch::new(9),
+        mask: Mask(7),
+    });
+    let secret = world_secret(&group.tag, 1);
+    let (tree, mut leaves) = make_key(alloc, OtsKind::W8, TreeKind::H5, &secret)?.split();
+    leaves.skip_to(5);
+    let mut signature = vec![in alloc; 0; tree.public().signature_length()]?;
+    let Some(leaf) = leaves.take() else {
+        return Err("no leaf".into());
+    };
+    tree.sign(leaf, signed_bytes(&group, &body).as_slice(), &mut signature);
+    let forged = Record {
+        body,
+        signature: Bytes::from_vec(signature),
+    };
+    let mut bytes = [0x46, 0x46, 1, 4, 0, 2, 0, 1].to_vec(alloc)?;
+    write_record(&forged, &mut bytes)?;
+    Ok(hex::encode(alloc, bytes.as_slice())?)
+}
+
+#[test]
+fn a_forged_record_ends_the_run(rt: HostRuntime) -> Result<(), Fail> {
+    let digits = forged_note(rt.alloc())?;
+    let rest = format!(in rt.alloc(); "raw 1 {digits}\nend\n")?;
+    replays(
+        &rt,
+        rt.alloc(),
+        rest.as_str(),
+        "forged 8 1 note 1 9 7\n",
+        4,
+    )
+}
+
+#[test]
+fn a_workload_is_counted(rt: HostRuntime) -> Result<(), Fail> {
+    let got = run_failing(rt.alloc(), "soak 7 3 1", "", 65_536, &[0], &[])?;
+    assert_eq!(rt; got.number, 0);
+    assert!(rt; got.written.starts_with(b"soak 7 3 1\nlines 15\nsent "));
+    assert!(rt; got.written.ends_with(b"removed 0 correct 0\nspent 3\nend\n"));
+    Ok(())
+}

@@ -1,0 +1,16 @@
+//! What is written for a schedule of a world, as theorems alone: which of its lines give an event, and that each event
+//! that is told has one. Each theorem is the contract of a function that does nothing.
+#![tactic(auto)]
+
+ghost use Rattle.world_trace.specs.Written.{ToldEventsAreWritten, WrittenLinesAreTold};
+
+/// Each whole line of a front of what is written for a schedule that begins as that of an event gives an event that was
+/// told; and one that gives a removal, a removal.
+pub fn written_lines_are_told()
+    ensures { WrittenLinesAreTold }
+{}
+
+/// Each event that was told is a whole line of what is written.
+pub fn told_events_are_written()
+    ensures { ToldEventsAreWritten }
+{}
