@@ -368,6 +368,8 @@ fn words_that_name_no_command(rt: HostRuntime) -> Result<(), Fail> {
         "node s 1000001",
         "node s 01",
         "node s 1 2",
+        "soak",
+        "soak x 3 1",
         "soak 7 2 1",
         "soak 7 33 1",
         "soak 7 3 0",

@@ -1,10 +1,16 @@
 // Worlds, by `replay` and by `soak`.
 
+use super::super::run;
 use super::run_failing;
+use super::storing::{disk, words_of};
 use ff_ids::{Epoch, Group, Mask, MemberId, NoteBody};
 use fields::Bytes;
+use journal::{read_event, write_event};
 use lms_ots::OtsKind;
 use lms_tree::TreeKind;
+use ports::{
+    Clock, Disk, Link, LinkAnswer, MemoryClock, MemoryLink, MemorySink, MemorySource, Received,
+};
 use records::{Body, Record, signed_bytes, write_record};
 use secrets::{make_key, world_secret};
 use std::alloc::Global;
@@ -12,9 +18,11 @@ use std::process::Abort;
 use std::test::Fail;
 
 /// A node that runs, and a liar.
-const WORLD: &str = "fireflies 1 world\ngroup 1 4 1 2 00000000000000000000000000000000\nkinds 8 5\nnode 1\nliar 2\nbegin\nstart 1\n";
+const WORLD: &str =
+    "fireflies 1 world\ngroup 1 4 1 2 00000000000000000000000000000000\nkinds 8 5\nnode 1\nliar 2\nbegin\nstart 1\n";
 
-const WORLD_TRACE: &str = "fireflies 1 world\ngroup 1 4 1 2 00000000000000000000000000000000\nkinds 8 5\nnode 1\nliar 2\nbegin\n\
+const WORLD_TRACE: &str =
+    "fireflies 1 world\ngroup 1 4 1 2 00000000000000000000000000000000\nkinds 8 5\nnode 1\nliar 2\nbegin\n\
         start 1 : life 1\n@1 at 0 spent 0 note 1 1 7\n@1 at 0 entered 1\n";
 
 /// Replays what stands behind the world, and compares what was written behind its trace, and the number.
@@ -45,6 +53,36 @@ fn any_bytes_are_handed_to_a_node(rt: HostRuntime) -> Result<(), Fail> {
         0,
     )?;
     replays(&rt, rt.alloc(), "raw 1 4\n", "bad 8 hex\n", 3)
+}
+
+/// Whether the text is an event's, which is written as it is read.
+fn is_event(alloc: Global, text: &str) -> bool {
+    let mut out = Vec::new(alloc);
+    match read_event(alloc, text.as_bytes()) {
+        Ok(event) => write_event(&event, &mut out).is_ok() && out.as_slice() == text.as_bytes(),
+        Err(_) => false,
+    }
+}
+
+/// A liar accuses a node three times, of which two stand, and are answered.
+const LIES: &str = "sign-note 2 2 1 7 a\ngive a 1\nsign-accusation 2 2 1 1 0 b\ngive b 1\n\
+        sign-accusation 2 2 1 2 1 c\ngive c 1\nsign-accusation 2 2 1 now 1 d\ngive d 1\nend\n";
+
+#[test]
+fn what_is_told_in_a_world_is_read(rt: HostRuntime) -> Result<(), Fail> {
+    let alloc = rt.alloc();
+    let text = format!(in alloc; "{WORLD}{LIES}")?;
+    let got = run_failing(alloc, "replay", text.as_str(), 65_536, &[], &[])?;
+    assert_eq!(rt; got.number, 0);
+    let mut events = 0u32;
+    for line in std::str::from_utf8(&got.written).unwrap_or("").lines() {
+        if let Some(event) = line.strip_prefix("@1 ") {
+            assert!(rt; is_event(alloc, event), "{line}");
+            events = events.wrapping_add(1);
+        }
+    }
+    assert_eq!(rt; events, 13);
+    Ok(())
 }
 
 /// A datagram with a note of node 1 that the schedule never signed, as digits.
@@ -82,13 +120,32 @@ fn forged_note(alloc: Global) -> Result<String, Fail> {
 fn a_forged_record_ends_the_run(rt: HostRuntime) -> Result<(), Fail> {
     let digits = forged_note(rt.alloc())?;
     let rest = format!(in rt.alloc(); "raw 1 {digits}\nend\n")?;
-    replays(
-        &rt,
-        rt.alloc(),
-        rest.as_str(),
-        "forged 8 1 note 1 9 7\n",
-        4,
-    )
+    replays(&rt, rt.alloc(), rest.as_str(), "forged 8 1 note 1 9 7\n", 4)
+}
+
+#[test]
+fn a_forged_record_leaves_the_outside(rt: HostRuntime) -> Result<(), Fail> {
+    let alloc = rt.alloc();
+    let digits = forged_note(alloc)?;
+    let text = format!(in alloc; "{WORLD}raw 1 {digits}\nend\n")?;
+    let words = words_of(alloc, &["replay"])?;
+    let mut input = MemorySource::new(text.as_bytes().to_vec(alloc)?, 4_096, Vec::new(alloc));
+    let mut out = MemorySink::new(alloc, 4_000, 4_096, Vec::new(alloc))?;
+    // At their first call the disk fails, something comes on the link, and the clock reads 7.
+    let mut disk = disk(alloc, &[0])?;
+    let answers = vec![in alloc; LinkAnswer::Failed]?;
+    let mut link = MemoryLink::new(alloc, answers, Vec::new(alloc), false);
+    let mut clock = MemoryClock::new([7u64, 9].to_vec(alloc)?);
+    let status = run(
+        alloc, &words, &mut input, &mut out, &mut disk, &mut link, &mut clock,
+    );
+    assert_eq!(rt; status.number(), 4);
+    assert!(rt; out.bytes().ends_with(b"\nforged 8 1 note 1 9 7\n"));
+    assert!(rt; disk.len().is_err());
+    assert!(rt; matches!(link.receive(&mut [0; 8]), Received::Failed));
+    assert!(rt; link.sent().is_empty());
+    assert_eq!(rt; clock.now(), 7);
+    Ok(())
 }
 
 #[test]
@@ -96,6 +153,9 @@ fn a_workload_is_counted(rt: HostRuntime) -> Result<(), Fail> {
     let got = run_failing(rt.alloc(), "soak 7 3 1", "", 65_536, &[0], &[])?;
     assert_eq!(rt; got.number, 0);
     assert!(rt; got.written.starts_with(b"soak 7 3 1\nlines 15\nsent "));
-    assert!(rt; got.written.ends_with(b"removed 0 correct 0\nspent 3\nend\n"));
+    assert!(rt;
+        got.written
+            .ends_with(b"removed 0 correct 0\nspent 3\nend\n")
+    );
     Ok(())
 }
