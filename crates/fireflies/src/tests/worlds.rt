@@ -86,6 +86,7 @@ fn what_is_told_in_a_world_is_read(rt: HostRuntime) -> Result<(), Fail> {
 }
 
 /// A datagram with a note of node 1 that the schedule never signed, as digits.
+#[tactic(auto, unfolding(lms_tree::specs::Lms::public_of))]
 fn forged_note(alloc: Global) -> Result<String, Fail> {
     let group = Group {
         tag: [0; 16],
