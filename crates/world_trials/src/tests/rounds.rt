@@ -36,7 +36,9 @@ fn verdicts(alloc: Global, trace: &[u8]) -> Result<Vec<u8>, AllocError> {
 #[test]
 fn three_nodes_see_one_another_come_and_go(rt: HostRuntime) -> Result<(), Fail> {
     let alloc = rt.alloc();
-    let mut text = format!(in alloc; "{HEAD}node 1\nnode 2\nnode 3\nbegin\nstart 1\nstart 2\nstart 3\n")?;
+    let mut text = format!(in alloc;
+        "{HEAD}node 1\nnode 2\nnode 3\nbegin\nstart 1\nstart 2\nstart 3\n"
+    )?;
     add_rounds(alloc, 3, &[1, 2, 3], &mut text)?;
     text.push_str("view 1\nview 2\nview 3\nstop 3 0\n")?;
     add_rounds(alloc, 12, &[1, 2], &mut text)?;

@@ -16,10 +16,13 @@ fn stops_answering(
     plays(
         rt,
         alloc,
-        format!(in alloc; "{PAIR}start 1\nsign-note 2 2 1 7 a\ngive a 1\nsign-accusation 2 2 1 1 0 b\n\
-arm 1 {calls} {outcome}\ngive b 1\nstart 1\n")?
+        format!(in alloc;
+            "{PAIR}start 1\nsign-note 2 2 1 7 a\ngive a 1\nsign-accusation 2 2 1 1 0 b\n\
+arm 1 {calls} {outcome}\ngive b 1\nstart 1\n"
+        )?
         .as_str(),
-        format!(in alloc; "{PAIR}{STARTED}sign-note 2 2 1 7 a : signed 0\n\
+        format!(in alloc;
+            "{PAIR}{STARTED}sign-note 2 2 1 7 a : signed 0\n\
 give a 1\n\
 @1 at 0 took note 2 1 7 : accepted\n\
 @1 at 0 entered 2\n\
@@ -30,7 +33,8 @@ give b 1\n\
 @1 at 0 stopped\n\
 start 1 : life 2\n\
 @1 at 0 spent {first}\n\
-@1 at 0 entered 1\n")?
+@1 at 0 entered 1\n"
+        )?
         .as_str(),
     )
 }
@@ -63,9 +67,11 @@ fn stops_starting(
         rt,
         alloc,
         format!(in alloc; "{PAIR}arm 1 {calls} {outcome}\nstart 1\nstart 1\n")?.as_str(),
-        format!(in alloc; "{PAIR}arm 1 {calls} {outcome}\nstart 1 : stopped\nstart 1 : life 1\n\
+        format!(in alloc;
+            "{PAIR}arm 1 {calls} {outcome}\nstart 1 : stopped\nstart 1 : life 1\n\
 @1 at 0 spent {first}\n\
-@1 at 0 entered 1\n")?
+@1 at 0 entered 1\n"
+        )?
         .as_str(),
     )
 }
@@ -86,7 +92,8 @@ fn a_stop_in_a_start_leaves_the_store_of_before_or_after(rt: HostRuntime) -> Res
     Ok(())
 }
 
-const TWO: &str = "node 1\nnode 2\nbegin\nstart 1\nstart 2\ntick 1 1\nflow 100\nstop 2 0\ntick 1 2\n";
+const TWO: &str =
+    "node 1\nnode 2\nbegin\nstart 1\nstart 2\ntick 1 1\nflow 100\nstop 2 0\ntick 1 2\n";
 
 /// A stop in an accusation: the next life begins with this index.
 fn stops_accusing(
@@ -96,10 +103,15 @@ fn stops_accusing(
     outcome: u16,
     first: u32,
 ) -> Result<(), Fail> {
-    let text = format!(in alloc; "{}{TWO}arm 1 {calls} {outcome}\ntick 1 1\nstart 1\nend\n", super::HEAD)?;
+    let text = format!(in alloc;
+        "{}{TWO}arm 1 {calls} {outcome}\ntick 1 1\nstart 1\nend\n",
+        super::HEAD
+    )?;
     let played = crate::play(alloc, text.as_bytes())?;
-    let tail = format!(in alloc; "tick 1 1\n@1 at 4 silent 2\n@1 at 4 stopped\nstart 1 : life 2\n\
-@1 at 0 spent {first} note 1 2 7\n@1 at 0 entered 1\nend\n")?;
+    let tail = format!(in alloc;
+        "tick 1 1\n@1 at 4 silent 2\n@1 at 4 stopped\nstart 1 : life 2\n\
+@1 at 0 spent {first} note 1 2 7\n@1 at 0 entered 1\nend\n"
+    )?;
     assert!(rt; played.trace.ends_with(tail.as_bytes()));
     Ok(())
 }
@@ -130,11 +142,11 @@ fn a_key_is_used_up_by_lives(rt: HostRuntime) -> Result<(), Fail> {
     for life in 2..33u32 {
         text.push_str("stop 1 0\nstart 1\n")?;
         let index = life - 1;
-        wanted.push_str(
-            format!(in alloc; "stop 1 0\nstart 1 : life {life}\n\
-@1 at 0 spent {index} note 1 {life} 7\n@1 at 0 entered 1\n")?
-            .as_str(),
-        )?;
+        wanted.push_str(format!(in alloc;
+            "stop 1 0\nstart 1 : life {life}\n\
+@1 at 0 spent {index} note 1 {life} 7\n@1 at 0 entered 1\n"
+        )?
+        .as_str())?;
     }
     text.push_str(
         "sign-note 2 2 1 7 a\ngive a 1\nsign-accusation 2 2 1 32 0 b\ngive b 1\nstop 1 0\nstart 1\n",
