@@ -1,7 +1,9 @@
 -- What a replay upholds, from how it ended.
-use Rattle.std.proofs.Common.{◌≡◌, ℕ, Bool, true, false, List, [], ◌∷◌, ◌++◌, Result, Ok, Err, refl, sym, subst, ◌∙◌, ap, append-nil}
+use Rattle.std.proofs.Common.{◌≡◌, ℕ, Bool, true, false, List, [], ◌∷◌, ◌++◌, Option, Some, None, Result, Ok, Err, refl, sym, subst, ◌∙◌, ap, append-nil}
+use Rattle.std.specs.Option.{option_map}
 use Rattle.play.specs.Plays.{Standing}
 use Rattle.play.specs.declared.stop.Stop.TheVariants as stop
+use Rattle.records.specs.declared.Body.{Body}
 use Rattle.text_trace.specs.Lines.{seen}
 use Rattle.text_trace.specs.Trace.{Owed}
 use Rattle.trace.specs.Walk as direct
@@ -10,19 +12,25 @@ use Rattle.trace.proofs.AnswerLemmas.{rule-out}
 use Rattle.trace.proofs.JustifiedLemmas.{justified-behind, justified-written, told-written}
 use Rattle.trace.proofs.SinceLemmas.{ends-acceptance}
 use Rattle.trace.proofs.UprightLemmas.{justified-walk}
+use Rattle.world_rules.specs.Forgeries.{Forgery}
+use Rattle.world_rules.specs.Walk as walk
+use Rattle.world_laws.specs.Texts.{IsForgedAt}
+use Rattle.world_laws.proofs.FlowWalks.{each-once}
+use Rattle.world_laws.proofs.ForgedLines.{texts-hand-over}
 use Rattle.world_laws.proofs.Walking.{texts-come, texts-lawful}
 use Rattle.world_text.specs.Lines.{line_text}
-use Rattle.world_trace.specs.Written.{GivesAll, GivesTold, output, told_in}
+use Rattle.world_trace.specs.Written.{GivesAll, GivesTold, output, told_in, world_walk}
 use Rattle.world_trace.proofs.ToldLemmas.{all-written, behind-told, front-told}
 use Rattle.world_replay.specs.declared.cause.Cause.{Cause}
 use Rattle.world_replay.specs.declared.cause.Cause.TheVariants as causes
-use Rattle.world_replay.specs.Causes.{IsJudged}
+use Rattle.world_replay.specs.Causes as world
+use Rattle.world_replay.specs.Causes.{IsJudged, cause_of}
 use Rattle.any_replay.specs.Replayed.{is_world, replayed, replayed_as}
 use Rattle.any_replay.proofs.WaitLemmas.{unfed-adds-nothing}
 use Rattle.fireflies.specs.Causes.{IsWritten, RunEnd, cause_line, for_cause, status_by}
 use Rattle.fireflies.specs.Ends.{EndsBy}
-use Rattle.fireflies.specs.Headline.{DirectHeadline, Headline, HeadlineAs, OnWhole, WorldHeadline}
-use Rattle.fireflies.specs.Traced.{EndsSilently, IsOwed}
+use Rattle.fireflies.specs.Headline.{DirectHeadline, Headline, HeadlineAs, OnForged, OnWhole, WorldHeadline}
+use Rattle.fireflies.specs.Traced.{EndsSilently, IsCause, IsOwed}
 use Rattle.fireflies.proofs.CauseLines.{IsOther, bad-line, begins-other, fault-line, forged-line, tail-of, unsigned-other}
 use Rattle.fireflies.proofs.EndLemmas.{none_shorter}
 use Rattle.fireflies.proofs.TraceLemmas.{traced}
@@ -107,10 +115,29 @@ told lines text rest line failed (Err stop.ReadFault) same none is = told-cause 
 told lines text rest line failed (Err stop.WriteFault) same none is = told-alone lines text rest line failed same is
 told lines text rest line failed (Err stop.OutOfMemory) same none is = told-alone lines text rest line failed same is
 
-world-headline : (lines : List (List ℕ)) (text rest line : List ℕ) (failed : Bool) (r : RunEnd Cause) → output lines ≡ text ++ rest → OnWhole r (rest ≡ []) → IsWritten failed (cause_line (status_by for_cause r)) line → WorldHeadline lines text line r
-world-headline lines text rest line failed r same whole is = record {
+-- a cause that is a forged record is that of the walk
+found : (o : Option walk.Cause) (who : Option ℕ) (body : Body) → option_map cause_of o ≡ Some (causes.Forged who body) → o ≡ Some (walk.Forged (record { who = who; body = body }))
+found None who body e = cc
+found (Some (walk.Bad word)) who body e = cc
+found (Some (walk.Forged f)) who body e = same_forgery f who body cc cc
+  where
+    same_forgery : (f : Forgery) (who : Option ℕ) (body : Body) → f.who ≡ who → f.body ≡ body → Some (walk.Forged f) ≡ Some (walk.Forged (record { who = who; body = body }))
+    same_forgery f who body a b = ap (λ (x : Option ℕ). Some (walk.Forged (record { who = x; body = f.body }))) a ∙ ap (λ (y : Body). Some (walk.Forged (record { who = who; body = y }))) b
+
+forged : (lines : List (List ℕ)) (r : RunEnd Cause) → IsCause (world.replayed lines).cause r → OnForged r (IsForgedAt (world_walk lines).stage)
+forged lines (Ok _) is = tt
+forged lines (Err (stop.Refused number (causes.Bad w))) is = tt
+forged lines (Err (stop.Refused number (causes.Forged who body))) is = texts-hand-over line_text lines (record { who = who; body = body }) (found (world_walk lines).cause who body is)
+forged lines (Err stop.ReadFault) is = tt
+forged lines (Err stop.WriteFault) is = tt
+forged lines (Err stop.OutOfMemory) is = tt
+
+world-headline : (lines : List (List ℕ)) (text rest line : List ℕ) (failed : Bool) (r : RunEnd Cause) → output lines ≡ text ++ rest → IsCause (world.replayed lines).cause r → OnWhole r (rest ≡ []) → IsWritten failed (cause_line (status_by for_cause r)) line → WorldHeadline lines text line r
+world-headline lines text rest line failed r same cause whole is = record {
   played = texts-come line_text lines;
   lawful = texts-lawful line_text lines;
+  flowed = each-once line_text lines;
+  forged = forged lines r cause;
   written = told lines text rest line failed r same whole is;
   told =
       on-whole r (rest ≡ []) (GivesAll (told_in lines) text)
@@ -119,12 +146,12 @@ world-headline lines text rest line failed r same whole is = record {
 
 -- ## Either
 
-headline-as : (of_world : Bool) (lines : List (List ℕ)) (text rest line : List ℕ) (failed : Bool) (r : RunEnd Cause) → (replayed_as of_world lines).output ≡ text ++ rest → OnWhole r (rest ≡ []) → IsWritten failed (cause_line (status_by for_cause r)) line → HeadlineAs of_world lines text line r
-headline-as true lines text rest line failed r same whole is = world-headline lines text rest line failed r same whole is
-headline-as false lines text rest line failed r same whole is = direct-headline lines text rest line failed r same whole is
+headline-as : (of_world : Bool) (lines : List (List ℕ)) (text rest line : List ℕ) (failed : Bool) (r : RunEnd Cause) → (replayed_as of_world lines).output ≡ text ++ rest → IsCause (replayed_as of_world lines).cause r → OnWhole r (rest ≡ []) → IsWritten failed (cause_line (status_by for_cause r)) line → HeadlineAs of_world lines text line r
+headline-as true lines text rest line failed r same cause whole is = world-headline lines text rest line failed r same cause whole is
+headline-as false lines text rest line failed r same cause whole is = direct-headline lines text rest line failed r same whole is
 
 pub headline : (was now : Standing) (s : Status) → EndsBy IsJudged for_cause replayed was now s → Headline was now s
 headline was now s ends =
     let t = traced IsJudged for_cause replayed was now s ends in
     let all = whole replayed t.rest t.result silently t.whole in
-    record { trace = t; whole = all; upheld = headline-as (is_world (seen t.bytes)) (seen t.bytes) t.text t.rest t.line t.failed t.result t.front all t.says.1 }
+    record { trace = t; whole = all; upheld = headline-as (is_world (seen t.bytes)) (seen t.bytes) t.text t.rest t.line t.failed t.result t.front t.refused all t.says.1 }

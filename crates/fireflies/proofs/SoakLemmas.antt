@@ -6,6 +6,9 @@ use Rattle.play.specs.Plays.{Standing, Unfailed}
 use Rattle.ports.specs.Contents.{TookFront}
 use Rattle.ports.specs.Count.{Rose, counted}
 use Rattle.authority.specs.OfDisk.{OfDisk}
+use Rattle.world_laws.specs.Texts.{IsForgedAt}
+use Rattle.world_laws.proofs.FlowWalks.{each-once}
+use Rattle.world_laws.proofs.ForgedLines.{texts-hand-over}
 use Rattle.world_laws.proofs.Walking.{texts-come, texts-lawful}
 use Rattle.world_rules.specs.Walk as walk
 use Rattle.world_soak.specs.Soaking.{spelled_lines, workload_walk}
@@ -13,7 +16,7 @@ use Rattle.soak_lines.specs.Workload.{workload}
 use Rattle.world_text.specs.Lines.{line_text}
 use Rattle.fireflies.specs.Causes.{Says}
 use Rattle.fireflies.specs.Ends.{Counts, DiskCounts, Tells}
-use Rattle.fireflies.specs.Soaking.{IsSoaked, SoakCompletes, SoakEnds, SoakUpheld, Soaks, TracedSoak}
+use Rattle.fireflies.specs.Soaking.{IsSoaked, OnForged, SoakCompletes, SoakEnds, SoakUpheld, Soaks, TracedSoak}
 use Rattle.fireflies.specs.Traced.{IsComplete}
 use Rattle.fireflies.proofs.BehindLemmas.{cut-by, done-by, or-cut}
 use Rattle.fireflies.proofs.CompleteLemmas.{rose}
@@ -108,9 +111,18 @@ pub soak-completes : (seed members rounds : ℕ) (was now : Standing) (s : Statu
 soak-completes seed members rounds was now s e =
     complete-from seed members rounds was e.between now e.tells.failed e.first e.tells.line s e.soaks e.tells.says (soak-counts seed members rounds was now s e)
 
+forged-from : (seed members rounds : ℕ) (text : List ℕ) (first : Status) → IsSoaked seed members rounds text first → OnForged first (IsForgedAt (workload_walk seed members rounds).stage)
+forged-from seed members rounds text (status.Forged line who body) h =
+    texts-hand-over line_text (spelled_lines (workload seed members rounds)) (record { who = who; body = body }) h.0.cause
+forged-from seed members rounds text _ h = tt
+
 pub soak-upheld : (seed members rounds : ℕ) (was now : Standing) (s : Status) → SoakEnds seed members rounds was now s → SoakUpheld seed members rounds was now s
-soak-upheld seed members rounds was now s e = record {
-  trace = soak-traced seed members rounds was now s e;
-  played = texts-come line_text (spelled_lines (workload seed members rounds));
-  lawful = texts-lawful line_text (spelled_lines (workload seed members rounds));
-}
+soak-upheld seed members rounds was now s e =
+    let t = soak-traced seed members rounds was now s e in
+    record {
+      trace = t;
+      played = texts-come line_text (spelled_lines (workload seed members rounds));
+      lawful = texts-lawful line_text (spelled_lines (workload seed members rounds));
+      flowed = each-once line_text (spelled_lines (workload seed members rounds));
+      forged = forged-from seed members rounds t.text t.first t.soaked;
+    }

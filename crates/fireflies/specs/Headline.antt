@@ -3,14 +3,18 @@
 use Rattle.std.specs.Prelude.{◌≡◌, ℕ, Bool, true, false, List, [], ◌++◌, Ok, Err}
 use Rattle.play.specs.Plays.{Standing}
 use Rattle.play.specs.declared.stop.Stop.TheVariants as stop
+use Rattle.signer.specs.Lives.{IsRising}
 use Rattle.text_trace.specs.Lines.{seen}
 use Rattle.trace.specs.Lives.{IsJustifiedWalk}
 use Rattle.trace.specs.Replies.{EndsAcceptance, RuleOut}
 use Rattle.trace.specs.Walk.{walk_over}
 use Rattle.trace.specs.Written.{IsJustified, IsTold}
-use Rattle.world_laws.specs.Texts.{IsComeTo, IsLawfulStage}
+use Rattle.world_rules.specs.Forgeries.{Forgery}
+use Rattle.world_laws.specs.Flows.{flowed_in}
+use Rattle.world_laws.specs.Texts.{IsComeTo, IsForgedAt, IsLawfulStage}
 use Rattle.world_trace.specs.Written.{GivesAll, GivesTold, told_in, world_walk}
 use Rattle.world_replay.specs.declared.cause.Cause.{Cause}
+use Rattle.world_replay.specs.declared.cause.Cause.TheVariants as causes
 use Rattle.world_replay.specs.Causes.{IsJudged}
 use Rattle.any_replay.specs.Replayed.{is_world, replayed}
 use Rattle.fireflies.specs.Causes.{RunEnd, for_cause}
@@ -36,12 +40,25 @@ pub record DirectHeadline (lines : List (List ℕ)) (text line : List ℕ) (resu
   pub rule_out : RuleOut (walk_over lines)
   pub ends_acceptance : EndsAcceptance (walk_over lines)
 
+-- P of what a line handed over that is forged, where that stopped the run.
+abbrev pub OnForged : RunEnd Cause → (Forgery → Type 0) → Type 0
+OnForged (Err (stop.Refused line (causes.Forged who body))) P = P (record { who = who; body = body })
+OnForged (Err (stop.Refused line (causes.Bad bad))) P = Unit {0}
+OnForged (Err stop.ReadFault) P = Unit {0}
+OnForged (Err stop.WriteFault) P = Unit {0}
+OnForged (Err stop.OutOfMemory) P = Unit {0}
+OnForged (Ok _) P = Unit {0}
+
 -- A schedule of a world. The lines that were taken lead to a world, none of them is forged, and what its nodes told is as no
--- liar can help: each removal rests on a verified accusation that stood for the timeout, and each key spends once. Each whole
--- line that was written that gives an event gives one that was told, and each event that was told is written.
+-- liar can help: each removal rests on a verified accusation that stood for the timeout, and each key spends once. Flows hand
+-- over each datagram at most once. What is named as forged was handed over by the line that the run stopped at, and verifies
+-- under a key that never signed it. Each whole line that was written that gives an event gives one that was told, and each
+-- event that was told is written.
 pub record WorldHeadline (lines : List (List ℕ)) (text line : List ℕ) (result : RunEnd Cause) : Type 0 where
   pub played : IsComeTo (world_walk lines).stage (told_in lines)
   pub lawful : IsLawfulStage (world_walk lines).stage (told_in lines)
+  pub flowed : IsRising (flowed_in (world_walk lines).taken)
+  pub forged : OnForged result (IsForgedAt (world_walk lines).stage)
   pub written : GivesTold (told_in lines) (text ++ line)
   pub told : OnWhole result (GivesAll (told_in lines) text)
 

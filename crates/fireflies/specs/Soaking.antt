@@ -5,8 +5,11 @@ use Rattle.play.specs.Plays.{Standing}
 use Rattle.ports.specs.Count.{Rose}
 use Rattle.authority.specs.Telling.{IsCut, IsTold}
 use Rattle.soak_lines.specs.Workload.{workload}
-use Rattle.world_laws.specs.Texts.{IsComeTo, IsLawfulStage}
+use Rattle.signer.specs.Lives.{IsRising}
+use Rattle.world_rules.specs.Forgeries.{Forgery}
 use Rattle.world_rules.specs.Walk.{events_in}
+use Rattle.world_laws.specs.Flows.{flowed_in}
+use Rattle.world_laws.specs.Texts.{IsComeTo, IsForgedAt, IsLawfulStage}
 use Rattle.world_soak.specs.declared.summary.Summary.{Summary}
 use Rattle.world_soak.specs.Soaking.{IsFoundForged, IsSummary, workload_walk}
 use Rattle.world_soak.specs.Summaries.{summary_text}
@@ -63,9 +66,16 @@ pub record TracedSoak (seed members rounds : ℕ) (was now : Standing) (s : Stat
 abbrev pub SoakCompletes : ℕ → ℕ → ℕ → Standing → Standing → Status → Type 0
 SoakCompletes seed members rounds was now s = (workload_walk seed members rounds).cause ≡ None → ¬ (Rose was.write_faults now.write_faults) → IsComplete s
 
+-- P of what a line handed over that is forged, where that stopped the run.
+abbrev pub OnForged : Status → (Forgery → Type 0) → Type 0
+OnForged (status.Forged line who body) P = P (record { who = who; body = body })
+OnForged _ P = Unit {0}
+
 -- What the workload came to, of which the summary counts, is a world in which no line is forged, and what was told of it is as
--- no liar can help.
+-- no liar can help. What is named as forged was handed over, and verifies under a key that never signed it.
 pub record SoakUpheld (seed members rounds : ℕ) (was now : Standing) (s : Status) : Type 0 where
   pub trace : TracedSoak seed members rounds was now s
   pub played : IsComeTo (workload_walk seed members rounds).stage (events_in (workload_walk seed members rounds))
   pub lawful : IsLawfulStage (workload_walk seed members rounds).stage (events_in (workload_walk seed members rounds))
+  pub flowed : IsRising (flowed_in (workload_walk seed members rounds).taken)
+  pub forged : OnForged trace.first (IsForgedAt (workload_walk seed members rounds).stage)

@@ -16,9 +16,9 @@ mod Written
 mod Answered
 mod Living
 mod Flowing
-mod FlowWalks
+pub mod FlowWalks
 mod FirstForged
-mod ForgedLines
+pub mod ForgedLines
 mod Keyed
 mod Rows
 pub mod Walking
