@@ -119,10 +119,10 @@ told lines text rest line failed (Err stop.OutOfMemory) same none is = told-alon
 found : (o : Option walk.Cause) (who : Option ℕ) (body : Body) → option_map cause_of o ≡ Some (causes.Forged who body) → o ≡ Some (walk.Forged (record { who = who; body = body }))
 found None who body e = cc
 found (Some (walk.Bad word)) who body e = cc
-found (Some (walk.Forged f)) who body e = same_forgery f who body cc cc
-  where
-    same_forgery : (f : Forgery) (who : Option ℕ) (body : Body) → f.who ≡ who → f.body ≡ body → Some (walk.Forged f) ≡ Some (walk.Forged (record { who = who; body = body }))
-    same_forgery f who body a b = ap (λ (x : Option ℕ). Some (walk.Forged (record { who = x; body = f.body }))) a ∙ ap (λ (y : Body). Some (walk.Forged (record { who = who; body = y }))) b
+found (Some (walk.Forged f)) who body e =
+    let owner : f.who ≡ who = cc in
+    let said : f.body ≡ body = cc in
+    ap (λ (x : Option ℕ). Some (walk.Forged (record { who = x; body = f.body }))) owner ∙ ap (λ (y : Body). Some (walk.Forged (record { who = who; body = y }))) said
 
 forged : (lines : List (List ℕ)) (r : RunEnd Cause) → IsCause (world.replayed lines).cause r → OnForged r (IsForgedAt (world_walk lines).stage)
 forged lines (Ok _) is = tt
