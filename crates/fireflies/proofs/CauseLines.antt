@@ -14,7 +14,6 @@ use Rattle.trace.proofs.TextLemmas.{clear-append, clear-decimal}
 use Rattle.node_running.proofs.LineLemmas.{clear-body}
 use Rattle.world_rules.specs.Walk.{owner_text}
 use Rattle.fireflies.specs.Causes.{IsWritten, byte_text, cause_line}
-use Rattle.fireflies.specs.declared.status.Status.{Status}
 use Rattle.fireflies.specs.declared.status.Status.TheVariants as status
 
 -- a line that begins otherwise than that of an event, be it in a life or in a world

@@ -1,5 +1,5 @@
 -- A text that no line refuses is run to its end, where neither side failed and memory is not refused.
-use Rattle.std.proofs.Common.{◌≡◌, ℕ, Bool, true, false, Option, Some, None, Result, Ok, Err, List, refl, sym, subst, ap, ◌∙◌, inl, inr, arith}
+use Rattle.std.proofs.Common.{◌≡◌, ℕ, Bool, true, false, Option, Some, None, Ok, Err, List, refl, sym, subst, ap, ◌∙◌, inl, inr, arith}
 use Rattle.std.specs.Prelude.{IfSome}
 use Rattle.ports.specs.Count.{Rose, next_count}
 use Rattle.play.specs.Plays.{Standing}

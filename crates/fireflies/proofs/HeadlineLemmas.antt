@@ -1,5 +1,5 @@
 -- What a replay upholds, from how it ended.
-use Rattle.std.proofs.Common.{◌≡◌, ℕ, Bool, true, false, List, [], ◌∷◌, ◌++◌, Option, Some, None, Result, Ok, Err, refl, sym, subst, ◌∙◌, ap, append-nil}
+use Rattle.std.proofs.Common.{◌≡◌, ℕ, Bool, true, false, List, [], ◌++◌, Option, Some, None, Ok, Err, sym, subst, ◌∙◌, ap, append-nil}
 use Rattle.std.specs.Option.{option_map}
 use Rattle.play.specs.Plays.{Standing}
 use Rattle.play.specs.declared.stop.Stop.TheVariants as stop
@@ -12,7 +12,6 @@ use Rattle.trace.proofs.AnswerLemmas.{rule-out}
 use Rattle.trace.proofs.JustifiedLemmas.{justified-behind, justified-written, told-written}
 use Rattle.trace.proofs.SinceLemmas.{ends-acceptance}
 use Rattle.trace.proofs.UprightLemmas.{justified-walk}
-use Rattle.world_rules.specs.Forgeries.{Forgery}
 use Rattle.world_rules.specs.Walk as walk
 use Rattle.world_laws.specs.Texts.{IsForgedAt}
 use Rattle.world_laws.proofs.FlowWalks.{each-once}

@@ -1,19 +1,15 @@
 -- What the run of a member upholds of its journal, behind which the line of a cause may stand.
-use Rattle.std.proofs.Common.{◌≡◌, ℕ, ◌<◌, Bool, true, false, List, [], ◌∷◌, ◌++◌, length, take, get_or, Option, Some, None, Result, Ok, Err, refl, sym, subst, ap, ◌∙◌, inl, inr, arith, append-nil}
-use Rattle.std.specs.Prelude.{codes}
-use Rattle.std.specs.Fmt.{decimal}
+use Rattle.std.proofs.Common.{ℕ, Bool, true, false, List, [], ◌++◌, Result, Ok, Err, sym, subst, ap, ◌∙◌, inl, inr, append-nil}
 use Rattle.std.proofs.KnownBytes.{Appends-trans}
 use Rattle.play.specs.Plays.{Standing}
-use Rattle.text_trace.specs.Lines.{has_no_feed}
-use Rattle.trace.specs.Written.{IsLineOf, IsWholeLine}
-use Rattle.trace.proofs.JustifiedLemmas.{IsTail, among-tail, clear-front, split}
-use Rattle.trace.proofs.TextLemmas.{clear-append, clear-decimal}
+use Rattle.trace.specs.Written.{IsLineOf}
+use Rattle.trace.proofs.JustifiedLemmas.{among-tail, split}
 use Rattle.authority.specs.OfDisk.{OfDisk}
 use Rattle.node_running.specs.declared.halt.NodeHalt.{NodeHalt}
 use Rattle.node_running.specs.declared.halt.NodeHalt.TheVariants as halt
 use Rattle.node_running.specs.Removals.{AreWholeLines, IsReported, RemovalsRest, removal_line}
 use Rattle.node_running.specs.Running.{Feed, Takes}
-use Rattle.fireflies.specs.Causes.{IsWritten, byte_text, cause_line, status_of_node}
+use Rattle.fireflies.specs.Causes.{IsWritten, cause_line, status_of_node}
 use Rattle.fireflies.specs.Ends.{RestsFed, SpendsFed, Tells, Wires, as_run}
 use Rattle.fireflies.specs.Journals.{JournalRests, NodeUpholds}
 use Rattle.fireflies.proofs.EndLemmas.{none_shorter}

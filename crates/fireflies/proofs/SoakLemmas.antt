@@ -1,10 +1,9 @@
 -- What follows from how the run of a workload ended.
-use Rattle.std.proofs.Common.{◌≡◌, ◌≢◌, ℕ, Bool, true, false, length, take, List, [], ◌∷◌, ◌++◌, Option, Some, None, refl, sym, subst, ap, ◌∙◌, inl, inr}
+use Rattle.std.proofs.Common.{◌≡◌, ◌≢◌, ℕ, Bool, true, false, List, [], Some, None, refl, sym, subst, ap, ◌∙◌, inl, inr}
 use Rattle.std.specs.Io.KnownBytes.{Appends}
 use Rattle.std.proofs.KnownBytes.{Appends-nil, Appends-trans}
 use Rattle.play.specs.Plays.{Standing, Unfailed}
-use Rattle.ports.specs.Contents.{TookFront}
-use Rattle.ports.specs.Count.{Rose, counted}
+use Rattle.ports.specs.Count.{Rose}
 use Rattle.authority.specs.OfDisk.{OfDisk}
 use Rattle.world_laws.specs.Texts.{IsForgedAt}
 use Rattle.world_laws.proofs.FlowWalks.{each-once}

@@ -1,5 +1,5 @@
 -- How a workload is run: nothing is read, and what was counted is written, or what it hands over that is forged is named.
-use Rattle.std.specs.Prelude.{◌≡◌, ◌<◌, ℕ, Bool, List, [], ◌++◌, length, take, None}
+use Rattle.std.specs.Prelude.{◌≡◌, ℕ, Bool, List, [], ◌++◌, None}
 use Rattle.std.specs.Io.KnownBytes.{Appends}
 use Rattle.play.specs.Plays.{Standing}
 use Rattle.ports.specs.Count.{Rose}

@@ -1,12 +1,11 @@
 -- The lines of a schedule as they are written back: none has a line feed inside it, or begins as that of an event.
-use Rattle.std.proofs.Common.{◌≡◌, ℕ, Bool, true, false, List, [], ◌∷◌, ◌++◌, get_or, Option, Some, None, refl, ap, sym, ◌∙◌, subst, append_assoc, arith}
+use Rattle.std.proofs.Common.{◌≡◌, ℕ, true, List, [], ◌∷◌, ◌++◌, get_or, Option, Some, None, refl, ap, sym, ◌∙◌, subst, append_assoc, arith}
 use Rattle.std.specs.Prelude.{codes, flat_map}
 use Rattle.std.specs.Fmt.{decimal}
-use Rattle.std.specs.List.{join_with_byte, list_all}
+use Rattle.std.specs.List.{list_all}
 use Rattle.hex.specs.Hex.{encode_lower}
 use Rattle.ff_ids.specs.declared.Group.{Group}
 use Rattle.ff_ids.specs.Texts.{monitor_text}
-use Rattle.lms_ots.specs.Ots.{width}
 use Rattle.line_text.specs.Words.{is_word}
 use Rattle.life_events.specs.Events.{members_text}
 use Rattle.schedule_world.specs.declared.line.WorldLine.{WorldLine}

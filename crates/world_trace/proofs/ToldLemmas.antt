@@ -1,10 +1,9 @@
 -- What the whole lines of what is written for a schedule of a world give.
-use Rattle.std.proofs.Common.{◌≡◌, ℕ, true, List, [], ◌∷◌, ◌++◌, get_or, Option, Some, None, Result, Ok, Err, inl, inr, refl, ap, sym, ◌∙◌, subst, append_assoc, append-nil, drop, arith}
+use Rattle.std.proofs.Common.{◌≡◌, ℕ, true, List, [], ◌∷◌, ◌++◌, get_or, Option, Some, None, Result, Ok, Err, inl, inr, refl, ap, sym, ◌∙◌, subst, append_assoc, append-nil, drop}
 use Rattle.std.specs.Prelude.{codes, flat_map}
 use Rattle.std.specs.List.{AllByRecursion, concat, list_all}
 use Rattle.std.proofs.lemmas.List.Folds.{concat-append}
 use Rattle.std.specs.Fmt.{decimal}
-use Rattle.journal.specs.declared.event.Event.{Event}
 use Rattle.journal.specs.declared.event.What.{What}
 use Rattle.journal.specs.declared.event.What.TheVariants as what
 use Rattle.journal.specs.Texts.{event_text}
@@ -15,7 +14,7 @@ use Rattle.line_text.specs.Words.{is_word}
 use Rattle.line_text.proofs.FrameLemmas.{judge-spelled}
 use Rattle.schedule_world.specs.declared.line.WorldLine.{WorldLine}
 use Rattle.schedule_world.specs.declared.text.WorldText.{WorldText}
-use Rattle.schedule_world.specs.Grammar.{IsWorld, behind, judge, opening, spelled_words}
+use Rattle.schedule_world.specs.Grammar.{IsWorld, behind, judge, opening}
 use Rattle.schedule_world.specs.Laws.{world-spelled}
 use Rattle.schedule_world.specs.Rows.{is_ended, row_for}
 use Rattle.text_trace.specs.Lines.{has_no_feed}
@@ -27,7 +26,7 @@ use Rattle.world_rules.specs.Forgeries.{Forgery}
 use Rattle.world_rules.specs.Steps.{Told}
 use Rattle.world_rules.specs.Walk.{Brought, Lists, Stage, Taken, Walk, at_end, brought, from_answer, from_line, no_roster, output_of, setting_in, taken_text, told_text, walk}
 use Rattle.world_text.specs.Lines.{line_text}
-use Rattle.world_trace.specs.Written.{GivesAll, GivesTold, IsOfEvent, IsRemovalTold, IsTold, ToldEventsAreWritten, WrittenLinesAreTold, grammar, output, removal, told_in, told_line}
+use Rattle.world_trace.specs.Written.{GivesTold, IsOfEvent, IsRemovalTold, IsTold, ToldEventsAreWritten, WrittenLinesAreTold, grammar, output, removal, told_in, told_line}
 use Rattle.world_trace.proofs.LineLemmas.{clear-line, line-other, line_of, whole-line}
 
 -- ## The lines that are taken are spelled by the grammar

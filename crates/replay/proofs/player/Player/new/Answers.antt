@@ -1,7 +1,6 @@
 use Rattle.std.proofs.Common.{None, refl, sym, subst}
 use Rattle.line_text.specs.Answers.{Progress}
 use Rattle.schedule_direct.specs.declared.direct.Direct.{Direct}
-use Rattle.schedule_direct.specs.Grammar as grammar
 use Rattle.trace.specs.Walk.{replayed}
 use Rattle.replay.specs.Playing.{Owes}
 use Rattle.replay.proofs.LineLemmas.{owes-first}
