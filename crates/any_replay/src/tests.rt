@@ -12,7 +12,8 @@ use world_replay::Cause;
 
 const DIRECT: &str = "fireflies 1 direct\ngroup 1 1\nend\n";
 
-const WORLD: &str = "fireflies 1 world\ngroup 1 4 1 2 000102030405060708090a0b0c0d0e0f\nkinds 2 5\nnode 1\nbegin\nend\n";
+const WORLD: &str =
+    "fireflies 1 world\ngroup 1 4 1 2 000102030405060708090a0b0c0d0e0f\nkinds 2 5\nnode 1\nbegin\nend\n";
 
 /// A source of the text.
 fn source(alloc: Global, text: &str) -> Result<MemorySource, Fail>
@@ -43,10 +44,12 @@ fn texts_of_both_forms_are_played(rt: HostRuntime) -> Result<(), Fail> {
 fn a_text_of_neither_form_is_refused(rt: HostRuntime) -> Result<(), Fail> {
     let mut input = source(rt.alloc(), "fireflies 1 worlds\ngroup 1 1\nend\n")?;
     let mut out = sink(rt.alloc())?;
-    let Err(Stop::Refused {
-        line: 1,
-        cause: Cause::Bad(BadWord::Header),
-    }) = replay(rt.alloc(), &mut input, &mut out)
+    let Err(
+        Stop::Refused {
+            line: 1,
+            cause: Cause::Bad(BadWord::Header),
+        },
+    ) = replay(rt.alloc(), &mut input, &mut out)
     else {
         return Err("not refused so".into());
     };

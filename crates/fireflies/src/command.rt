@@ -29,9 +29,15 @@ pub enum Command {
     /// `enroll STORE`: signs certificates with the authority's store.
     Enroll,
     /// `node STORE TURNS`: runs a member with its store for some turns, and writes the journal of its life.
-    Node { turns: u32 },
+    Node {
+        turns: u32,
+    },
     /// `soak SEED NODES ROUNDS`: plays a seeded attack on a world, and writes what was counted in it.
-    Soak { seed: u64, members: u16, rounds: u16 },
+    Soak {
+        seed: u64,
+        members: u16,
+        rounds: u16,
+    },
 }
 
 /// Whether a store may have this name: any of 1 to 255 bytes.

@@ -6,9 +6,9 @@ ghost use Rattle.line_text.specs.Texts.{bad_word_text};
 ghost use Rattle.fireflies.specs.Causes.{byte_text, cause_line, for_cause, status_by, status_of, status_of_halt, status_of_node};
 ghost use Rattle.fireflies.specs.Numbers.{status_number};
 
+use crate::forged::forged_line;
 use arrayvec::ArrayString;
 use authority::Halt;
-use crate::forged::forged_line;
 use ff_ids::MemberId;
 use itoa::Buffer;
 use line_text::BadWord;
@@ -26,10 +26,17 @@ pub enum Status {
     /// The words are no command. Nothing was read or written.
     Usage,
     /// This line was refused, for this word.
-    BadInput { line: u32, word: BadWord },
+    BadInput {
+        line: u32,
+        word: BadWord,
+    },
     /// A record that this line hands over is forged: whose key seems to have signed it, none for the authority's, and what
     /// it says.
-    Forged { line: u32, who: Option<MemberId>, body: Body },
+    Forged {
+        line: u32,
+        who: Option<MemberId>,
+        body: Body,
+    },
     /// A read failed.
     ReadFault,
     /// A write failed.
@@ -37,15 +44,22 @@ pub enum Status {
     /// The disk failed.
     StoreFault,
     /// The file is no store of the key: it breaks, or differs, at this place, where this byte stands, or none past the end.
-    StoreBroken { place: u64, byte: Option<u8> },
+    StoreBroken {
+        place: u64,
+        byte: Option<u8>,
+    },
     /// The port could not be bound.
     LinkFault,
     /// The key has no leaf from this number on.
-    Exhausted { next: u32 },
+    Exhausted {
+        next: u32,
+    },
     /// Memory was refused.
     OutOfMemory,
     /// The file has so many bytes already.
-    StoreTaken { len: u64 },
+    StoreTaken {
+        len: u64,
+    },
 }
 
 impl Status {
@@ -170,14 +184,18 @@ impl From<Result<(), Stop<Cause>>> for Status {
     fn from(ended: Result<(), Stop<Cause>>) -> Status {
         match ended {
             Ok(()) => Status::Ok,
-            Err(Stop::Refused {
-                line,
-                cause: Cause::Bad(word),
-            }) => Status::BadInput { line, word },
-            Err(Stop::Refused {
-                line,
-                cause: Cause::Forged { who, body },
-            }) => Status::Forged { line, who, body },
+            Err(
+                Stop::Refused {
+                    line,
+                    cause: Cause::Bad(word),
+                },
+            ) => Status::BadInput { line, word },
+            Err(
+                Stop::Refused {
+                    line,
+                    cause: Cause::Forged { who, body },
+                },
+            ) => Status::Forged { line, who, body },
             Err(Stop::ReadFault) => Status::ReadFault,
             Err(Stop::WriteFault) => Status::WriteFault,
             Err(Stop::OutOfMemory) => Status::OutOfMemory,

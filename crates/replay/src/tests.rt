@@ -36,7 +36,10 @@ fn sink(alloc: Global) -> Result<MemorySink, Fail>
 fn a_schedule_is_played_to_its_end(rt: HostRuntime) -> Result<(), Fail> {
     let mut input = source(rt.alloc(), SCHEDULE)?;
     let mut out = sink(rt.alloc())?;
-    assert_eq!(rt; play(rt.alloc(), &mut Player::new(), &mut input, &mut out), Ok(()));
+    assert_eq!(rt;
+        play(rt.alloc(), &mut Player::new(), &mut input, &mut out),
+        Ok(())
+    );
     assert_eq!(rt; out.bytes(), TRACE.as_bytes());
     Ok(())
 }
@@ -49,7 +52,10 @@ fn a_refused_line_ends_the_run(rt: HostRuntime) -> Result<(), Fail> {
         line: 2,
         cause: BadWord::Number,
     };
-    assert_eq!(rt; play(rt.alloc(), &mut Player::new(), &mut input, &mut out), Err(refused));
+    assert_eq!(rt;
+        play(rt.alloc(), &mut Player::new(), &mut input, &mut out),
+        Err(refused)
+    );
     assert_eq!(rt; out.bytes(), b"fireflies 1 direct\n".as_slice());
     Ok(())
 }
