@@ -51,7 +51,7 @@ OnForged (Ok _) P = Unit {0}
 
 -- A schedule of a world. The lines that were taken lead to a world, none of them is forged, and what its nodes told is as no
 -- liar can help: each removal rests on a verified accusation that stood for the timeout, and each key spends once. Flows hand
--- over each datagram at most once. What is named as forged was handed over by the line that the run stopped at, and verifies
+-- over each datagram at most once. What is named as forged is handed over by a line that ends so in this world, and verifies
 -- under a key that never signed it. Each whole line that was written that gives an event gives one that was told, and each
 -- event that was told is written.
 pub record WorldHeadline (lines : List (List ℕ)) (text line : List ℕ) (result : RunEnd Cause) : Type 0 where

@@ -467,7 +467,7 @@ others-none s w line a other is =
     let none : x.taken ≡ 0 = x.none other in
     omega (arith, x.goes.until, none)
 
-flow-done : (s : Setting) (w : World) (most : ℕ) → step s w (lines.Flow most) ≡ answered (flows s most (begun w))
+pub flow-done : (s : Setting) (w : World) (most : ℕ) → step s w (lines.Flow most) ≡ answered (flows s most (begun w))
 unfolding step why_not
 flow-done s w most = refl
 

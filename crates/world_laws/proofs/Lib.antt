@@ -18,6 +18,7 @@ mod Living
 mod Flowing
 pub mod FlowWalks
 mod FirstForged
+mod Spared
 pub mod ForgedLines
 mod Keyed
 mod Rows

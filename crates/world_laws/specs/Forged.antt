@@ -1,14 +1,15 @@
 -- What the forged record in a datagram is: the first one that is forged, for the first of those whose keys are kept.
-use Rattle.std.specs.Prelude.{◌≡◌, ℕ, ◌<◌, true, false, List, ◌∷◌, ◌++◌, Some, None, Ok, Err}
-use Rattle.std.specs.List.{AllByRecursion}
+use Rattle.std.specs.Prelude.{◌≡◌, ℕ, ◌<◌, ◌≤◌, true, false, List, ◌∷◌, ◌++◌, Some, None, Ok, Err}
+use Rattle.std.specs.List.{AllByRecursion, slice_get}
 use Rattle.records.specs.declared.Record.{Record}
 use Rattle.datagram.specs.declared.Datagram.TheVariants as kinds
 use Rattle.datagram.specs.Grammar.{read_of}
 use Rattle.schedule_world.specs.declared.line.WorldLine.{WorldLine}
+use Rattle.schedule_world.specs.declared.line.WorldLine.TheVariants as lines
 use Rattle.world_rules.specs.Settings.{Owner, Setting, Signed, is_node, same_body}
-use Rattle.world_rules.specs.Worlds.{World, spent_of}
+use Rattle.world_rules.specs.Worlds.{Named, World, is_running, named_so, spent_of}
 use Rattle.world_rules.specs.Forgeries.{Forgery, forgery}
-use Rattle.world_rules.specs.Steps.{step}
+use Rattle.world_rules.specs.Steps.{Answer, given_bytes, step}
 use Rattle.world_rules.specs.Laws.{IsSetting}
 
 -- For the authority nobody else may sign, nor for a node.
@@ -51,14 +52,39 @@ ForgeriesAreFirst = (s : Setting) (w : World) (bytes : List ℕ) (f : Forgery) �
 
 -- ---- lines that end so
 
--- This was found in bytes that were handed over, by when these signatures more were made than in the world.
-pub record IsForgedIn (s : Setting) (w : World) (f : Forgery) : Type 0 where
+-- The bytes are those of the datagram that comes next behind a shorter flow, in which nothing is forged; no flow had taken
+-- it, and its addressee runs there.
+pub record FlowsNext (s : Setting) (w v : World) (most : ℕ) (bytes : List ℕ) : Type 0 where
+  pub before : ℕ
+  pub fewer : before < most
+  pub flown : Answer
+  pub flows : step s w (lines.Flow before) ≡ Ok flown
+  pub there : v ≡ flown.world
+  pub untaken : w.flowed ≤ v.flowed
+  pub to : ℕ
+  pub next : slice_get v.sent v.flowed ≡ Some (to, bytes)
+  pub runs : is_running v to ≡ true
+
+-- The line hands over the bytes while the world is v: those that it says; those of the datagram that was sent under its
+-- number; those of a datagram that a flow takes; or those of what is kept under its name, where all nodes are given the same,
+-- and nothing is forged in it for a later one if it isn't for the first. No other line hands over anything.
+abbrev pub HandsOver : Setting → World → World → WorldLine → List ℕ → Type 0
+HandsOver s w v (lines.Raw m said) bytes = (v ≡ w) × (bytes ≡ said)
+HandsOver s w v (lines.Deliver number m) bytes = (v ≡ w) × (to : ℕ) × (slice_get w.sent number ≡ Some (to, bytes))
+HandsOver s w v (lines.Flow most) bytes = FlowsNext s w v most bytes
+HandsOver s w v (lines.Give name m) bytes = (v ≡ w) × (x : Named) × (named_so w name ≡ Some x) × (bytes ≡ given_bytes x)
+HandsOver s w v (lines.GiveAll name) bytes = (v ≡ w) × (x : Named) × (named_so w name ≡ Some x) × (bytes ≡ given_bytes x)
+HandsOver s w v line bytes = ⊥
+
+-- This was found in bytes that the line hands over, by when these signatures more were made than in the world.
+pub record IsForgedIn (s : Setting) (w : World) (line : WorldLine) (f : Forgery) : Type 0 where
   pub later : World
   pub more : List Signed
   pub signed : later.signed ≡ w.signed ++ more
   pub bytes : List ℕ
+  pub handed : HandsOver s w later line bytes
   pub first : IsFirstForged s later bytes f
 
 -- A line ends as forged only where it hands over such bytes.
 abbrev pub ForgedLinesHandItOver : Type 0
-ForgedLinesHandItOver = (s : Setting) (w : World) (line : WorldLine) (f : Forgery) → IsSetting s → step s w line ≡ Err f → IsForgedIn s w f
+ForgedLinesHandItOver = (s : Setting) (w : World) (line : WorldLine) (f : Forgery) → IsSetting s → step s w line ≡ Err f → IsForgedIn s w line f

@@ -1,5 +1,5 @@
 -- Whole texts in the world form: what comes of one is a world to which its lines lead.
-use Rattle.std.specs.Prelude.{◌≡◌, ℕ, true, false, if◌then◌else◌, List, [], Contains, Option, Some, None}
+use Rattle.std.specs.Prelude.{◌≡◌, ℕ, true, false, if◌then◌else◌, List, [], Contains, Option, Some, None, Err}
 use Rattle.std.specs.List.{AllByRecursion}
 use Rattle.ff_ids.specs.declared.AccBody.{AccBody}
 use Rattle.records.specs.declared.Body.TheVariants.{Accusation}
@@ -15,7 +15,7 @@ use Rattle.schedule_world.specs.Grammar.{behind, judge, opening}
 use Rattle.world_rules.specs.Settings.{Setting, is_node}
 use Rattle.world_rules.specs.Worlds.{World, lives_of, spent_of}
 use Rattle.world_rules.specs.Forgeries.{Forgery}
-use Rattle.world_rules.specs.Steps.{Told}
+use Rattle.world_rules.specs.Steps.{Told, step}
 use Rattle.world_rules.specs.Walk.{Forged, Grammar, Stage, Lists, Plays, events_in, setting_in, walk_over}
 use Rattle.world_rules.specs.Laws.{IsSetting, Reached, TellsLives}
 use Rattle.world_laws.specs.Signing.{HasSpentOn, KeepsRoster, SignedAtTick}
@@ -97,10 +97,11 @@ TextsAreLawful = (spelled : WorldLine → List ℕ) (text : List (List ℕ)) →
 abbrev pub FlowsTakeEachOnce : Type 0
 FlowsTakeEachOnce = (spelled : WorldLine → List ℕ) (text : List (List ℕ)) → IsRising (flowed_in (walk_over (world_grammar spelled) setting_in text).taken)
 
--- What ends a text as forged was found in bytes that a line of its world hands over.
+-- What ends a text as forged was found in bytes that a line hands over, which so ends in the world that the text has come
+-- to.
 abbrev pub IsForgedAt : Stage → Forgery → Type 0
 IsForgedAt (Lists roster) f = ⊥
-IsForgedAt (Plays s w) f = IsForgedIn s w f
+IsForgedAt (Plays s w) f = (line : WorldLine) × (step s w line ≡ Err f) × IsForgedIn s w line f
 
 abbrev pub ForgedTextsHandItOver : Type 0
 ForgedTextsHandItOver = (spelled : WorldLine → List ℕ) (text : List (List ℕ)) (f : Forgery) → let w = walk_over (world_grammar spelled) setting_in text in w.cause ≡ Some (Forged f) → IsForgedAt w.stage f

@@ -99,8 +99,9 @@ pub fn forgeries_are_first()
     ensures { ForgeriesAreFirst }
 {}
 
-/// A line ends as forged, and so a text does, only where bytes were handed over in which just that was found: it verifies
-/// under the named key, with which no signature of it was made until then.
+/// A line ends as forged, and so a text does, only where it hands over bytes in which just that is found: those that it
+/// says, those of the datagram of its number or of one that no flow had taken, or those of what is kept under its name. What
+/// is found verifies under the named key, with which no signature of it was made until then.
 pub fn what_is_forged_is_handed_over()
     ensures lines { ForgedLinesHandItOver }
     ensures texts { ForgedTextsHandItOver }
