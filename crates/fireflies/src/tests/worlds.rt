@@ -132,7 +132,7 @@ fn a_forged_record_leaves_the_outside(rt: HostRuntime) -> Result<(), Fail> {
     let words = words_of(alloc, &["replay"])?;
     let mut input = MemorySource::new(text.as_bytes().to_vec(alloc)?, 4_096, Vec::new(alloc));
     let mut out = MemorySink::new(alloc, 4_000, 4_096, Vec::new(alloc))?;
-    // At their first call the disk fails, something comes on the link, and the clock reads 7.
+    // At their first call disk and link fail, and the clock reads 7; at a second they do not.
     let mut disk = disk(alloc, &[0])?;
     let answers = vec![in alloc; LinkAnswer::Failed]?;
     let mut link = MemoryLink::new(alloc, answers, Vec::new(alloc), false);
@@ -146,6 +146,87 @@ fn a_forged_record_leaves_the_outside(rt: HostRuntime) -> Result<(), Fail> {
     assert!(rt; matches!(link.receive(&mut [0; 8]), Received::Failed));
     assert!(rt; link.sent().is_empty());
     assert_eq!(rt; clock.now(), 7);
+    Ok(())
+}
+
+/// The head of a world with small keys.
+const SMALL: &str =
+    "fireflies 1 world\ngroup 1 4 1 2 00000000000000000000000000000000\nkinds 2 5\n";
+
+/// Lines behind the head, which are written back, and those of a line that is refused behind them.
+const REFUSED: [(&str, &str, &str); 16] = [
+    ("", "kinds 2 5\n", "bad 4 order\n"),
+    ("node 1\n", "node 1\n", "bad 5 limit\n"),
+    ("node 1\n", "node 1024\n", "bad 5 limit\n"),
+    ("node 1\n", "start 1\n", "bad 5 order\n"),
+    ("liar 1\n", "begin\n", "bad 5 order\n"),
+    ("node 1\nbegin\n", "liar 2\n", "bad 6 order\n"),
+    ("node 1\nbegin\n", "leave 1\n", "bad 6 word\n"),
+    ("node 1\nbegin\n", "start\n", "bad 6 count\n"),
+    ("node 1\nbegin\n", "stop 1 65536\n", "bad 6 limit\n"),
+    ("node 1\nbegin\n", "arm 1 1001 0\n", "bad 6 limit\n"),
+    ("node 1\nbegin\n", "flow 0\n", "bad 6 limit\n"),
+    ("node 1\nbegin\n", "monitor 1 3 1\n", "bad 6 limit\n"),
+    ("node 1\nbegin\n", "give A 1\n", "bad 6 name\n"),
+    (
+        "node 1\nbegin\n",
+        "give a23456789-123456789-123456789-123 1\n",
+        "bad 6 name\n",
+    ),
+    (
+        "node 1\nbegin\n",
+        "sign-accusation 1 1 then 0 a 1\n",
+        "bad 6 number\n",
+    ),
+    ("node 1\nbegin\n", "", "bad 6 end\n"),
+];
+
+#[test]
+fn lines_that_a_world_refuses(rt: HostRuntime) -> Result<(), Fail> {
+    let alloc = rt.alloc();
+    for (kept, line, refusal) in &REFUSED {
+        let text = format!(in alloc; "{SMALL}{kept}{line}")?;
+        let wanted = format!(in alloc; "{SMALL}{kept}{refusal}")?;
+        let got = run_failing(alloc, "replay", text.as_str(), 65_536, &[], &[])?;
+        assert_eq!(rt; got.written.as_slice(), wanted.as_bytes(), "for {line}");
+        assert_eq!(rt; got.number, 3, "for {line}");
+    }
+    Ok(())
+}
+
+/// The words so many times.
+fn repeated(alloc: Global, words: &str, times: u32) -> Result<String, Fail> {
+    let mut text = String::new(alloc);
+    for _ in 0..times {
+        text.push_str(words)?;
+    }
+    Ok(text)
+}
+
+#[test]
+fn a_world_at_its_limits(rt: HostRuntime) -> Result<(), Fail> {
+    let alloc = rt.alloc();
+    let mut members = String::new(alloc);
+    for member in 0..32u8 {
+        members.push_str(format!(in alloc; "node {member}\n")?.as_str())?;
+    }
+    let text = format!(in alloc; "{SMALL}{members}liar 32\n")?;
+    let got = run_failing(alloc, "replay", text.as_str(), 65_536, &[], &[])?;
+    assert!(rt; got.written.ends_with(b"node 31\nbad 36 limit\n"));
+    let ticks = repeated(alloc, "tick 1 10000\n", 10)?;
+    let text = format!(in alloc; "{SMALL}node 1\nbegin\n{ticks}tick 1 1\n")?;
+    let got = run_failing(alloc, "replay", text.as_str(), 65_536, &[], &[])?;
+    assert!(rt;
+        got.written
+            .ends_with(b"tick 1 10000 : refused stopped\nbad 16 limit\n")
+    );
+    let bytes = repeated(alloc, "00", 32_769)?;
+    let text = format!(in alloc; "{WORLD}raw 1 {bytes}\nraw 1 {bytes}00\n")?;
+    let got = run_failing(alloc, "replay", text.as_str(), 65_536, &[], &[])?;
+    assert!(rt;
+        got.written
+            .ends_with(b"00\n@1 at 0 bad-form 32768\nbad 9 limit\n")
+    );
     Ok(())
 }
 
