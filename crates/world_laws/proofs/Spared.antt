@@ -65,8 +65,8 @@ spared-by : (s : Setting) (w v : World) (more : List Signed) (r : Record) → v.
 spared-by s w v more r grown h =
     let g : Owner → Forgery = λ who. record { who = who; body = r.body } in
     ap (option_map g) (none-later (is_forged_for s w r) (is_forged_for s v r) (protected s)
-        (λ who fine. still (s.verifies (s.key who) r) (has_signed w who r.body) (has_signed v who r.body) (still-signed w v more who r grown) fine)
-        (map-none g (find (is_forged_for s w r) (protected s)) h))
+    (λ who fine. still (s.verifies (s.key who) r) (has_signed w who r.body) (has_signed v who r.body) (still-signed w v more who r grown) fine)
+    (map-none g (find (is_forged_for s w r) (protected s)) h))
 
 spared-first : (s : Setting) (w v : World) (more : List Signed) (records : List Record) → v.signed ≡ w.signed ++ more → first_forgery s w records ≡ None → first_forgery s v records ≡ None
 spared-first s w v more [] grown h = refl
