@@ -1,4 +1,5 @@
-//! Plays a recorded text of either form: its first line tells which.
+//! Floor: program. Plays a recorded text of either form, as one script of the loop: its first line decides which.
+//! `fireflies` calls it, for the command `replay`.
 #![tactic(auto)]
 
 mod form;

@@ -1,5 +1,6 @@
-//! What an authority's texts set up: its group, the kinds and the secret of its key, and the certificates that are asked of
-//! it. Each text is read whole before anything comes of it.
+//! Floor: program. What the texts of an authority set up: its group, the kinds and the secret of its key, and the
+//! certificates that are asked of it; and why a command over them stops. Each text is read whole before anything is
+//! done. `store_making` and `enrolment` call it.
 #![tactic(auto)]
 
 mod halt;

@@ -1,4 +1,5 @@
-//! A value for each member that has one.
+//! Floor: membership. A value for each member that has one, as a finite map by number. `membership` and `validate` keep
+//! their members in it.
 #![tactic(auto)]
 
 ghost use Rattle.std.specs.Prelude.{◌≡◌, ◌<◌, IfOk, is_some};

@@ -1,4 +1,5 @@
-//! Datagrams: what one member sends to another in one piece, of at most 32,768 bytes. Their bytes, both ways.
+//! Floor: node. Datagrams: what one member sends to another in one piece, of at most 32,768 bytes. Their bytes, both
+//! ways. `node_core` calls it, and `world` to look for forged records.
 #![tactic(auto)]
 
 pub use reading::read;

@@ -1,6 +1,6 @@
-//! The failure detector of one life: it pings the members that this one watches, each with a nonce of its own, and
-//! finds those silent that left the last pings unanswered. Contracts speak of the whole list of the life's pings and
-//! pongs, of which far less is kept. After opening no call takes memory.
+//! Floor: node. The failure detector of one life: it pings the members that this one watches, each with a nonce of its
+//! own, and finds those silent that left the last pings unanswered. Contracts speak of all pings and pongs of the life,
+//! of which far less is kept. After opening no call takes memory. `node_core` calls it.
 #![tactic(auto)]
 
 ghost use Rattle.std.specs.Prelude.{◌≡◌, ◌≤◌, true, false, IfOk};

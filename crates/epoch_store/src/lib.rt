@@ -1,5 +1,6 @@
-//! The store of a key: in a file, the next index of the key and the newest epoch and mask that were signed
-//! under it, in a form that stands for the old state or the new one whatever stops a change.
+//! Floor: keys. The store of a key: a file with the next index of the key and the newest epoch and mask that were
+//! signed under it, in a form that is the old state or the new one whatever stops a change. `signer` puts into it;
+//! commands and worlds make and open it.
 //!
 //! The file begins with `FFSTORE1` and a tag of 32 bytes. Entries follow, each behind a gate byte: the next
 //! index in 4 bytes, the epoch in 8 and the mask in 4, most significant byte first. A gate is open where it

@@ -28,6 +28,7 @@ note_fault_by t has_joined kept n =
     else (if not (good_mask t n.mask.0) then Some faults.BadMask
     else fault_after kept n)
 
+-- The first fault of a note in a state, or none.
 abbrev pub note_fault : ℕ → State → NoteBody → Option Fault
 note_fault t s n = note_fault_by t (is_member s n.member) (newest s.notes n.member) n
 
@@ -58,6 +59,7 @@ accusation_fault_by t f a =
     else (if nat_le (ring_count t) a.ring.0 then Some faults.BadRing
     else fault_under f a f.newest_note))
 
+-- The two say the same.
 abbrev pub same_accusation : AccBody → AccBody → Bool
 same_accusation a b = (a.accuser == b.accuser) && (a.accused == b.accused) && (a.epoch == b.epoch) && (a.ring.0 == b.ring.0)
 
@@ -65,6 +67,7 @@ same_accusation a b = (a.accuser == b.accuser) && (a.accused == b.accused) && (a
 abbrev pub is_kept : State → AccBody → Bool
 is_kept s a = list_any (λ p. same_accusation p.0 a) s.kept
 
+-- The facts of a state.
 abbrev pub facts_of : State → AccBody → Facts
 facts_of s a =
     record {
@@ -75,6 +78,7 @@ facts_of s a =
       is_standing = is_kept s a;
     }
 
+-- The first fault of an accusation in a state, or none.
 abbrev pub accusation_fault : ℕ → State → AccBody → Option Fault
 accusation_fault t s a = accusation_fault_by t (facts_of s a) a
 

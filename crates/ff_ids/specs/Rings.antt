@@ -10,9 +10,11 @@ pub record Key : Type 0 where
   pub place : List ℕ
   pub number : ℕ
 
+-- The order of a ring: by the bytes of the places, and where these are equal by number.
 abbrev pub key_cmp : Key → Key → Ordering
 key_cmp a b = ordering_then (slice_cmp nat_cmp a.place b.place) (nat_cmp a.number b.number)
 
+-- The first comes before the second in that order.
 abbrev pub is_below : Key → Key → Bool
 is_below a b = is_lt (key_cmp a b)
 

@@ -15,6 +15,7 @@ monitor_text None = codes "none"
 abbrev pub accusation_text : AccBody → List ℕ
 accusation_text a = decimal a.accuser ++ codes " " ++ decimal a.accused ++ codes " " ++ decimal a.epoch ++ codes " " ++ decimal a.ring.0
 
+-- How a fault is written, with what it gives.
 abbrev pub fault_text : Fault → List ℕ
 fault_text faults.AlreadyMember = codes "already-member"
 fault_text faults.UnknownMember = codes "unknown-member"

@@ -28,6 +28,7 @@ abbrev pub places_of : List Member → ℕ → List (List ℕ)
 places_of [] m = []
 places_of (x ∷ members) m = if x.number == m then x.places else places_of members m
 
+-- The number has joined.
 abbrev pub is_member : State → ℕ → Bool
 is_member s m = list_any (λ x. x.number == m) s.members
 

@@ -1,5 +1,5 @@
-//! The plain types of the membership protocol, and in `specs/` its definitions: masks, the order on a
-//! ring, notes, the view, faults, steps and lives. No call takes memory.
+//! Floor: base. The plain types of the membership protocol, and in `specs/` its whole model: masks, the order on a
+//! ring, notes, the view, faults, steps and lives. Reading begins here. No call takes memory. Any crate may call it.
 #![tactic(auto)]
 
 ghost use Rattle.std.specs.Prelude.{◌≡◌, ◌<◌, ◌≤◌, length};

@@ -1,3 +1,4 @@
+-- Names: which bytes a name has.
 use Rattle.std.specs.Prelude.{ℕ, ◌==◌, ◌&&◌, ◌||◌, nat_le, Bool, List, length}
 use Rattle.std.specs.List.{list_all}
 

@@ -1,3 +1,4 @@
+-- Reading: how far a reader has come.
 use Rattle.std.specs.Prelude.{ℕ, ◌+◌, List, drop}
 
 -- what a reader has done and has before it: how many bytes it took, and the bytes left

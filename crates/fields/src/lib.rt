@@ -1,4 +1,5 @@
-//! Big-endian fields, and the one error of calls that can only fail for want of memory.
+//! Floor: base. Reads and writes big-endian numbers and bytes, one field after the other, and has the one error of
+//! calls that can fail only for want of memory. It does not know what the fields mean. Any crate may call it.
 #![tactic(auto)]
 
 ghost use Rattle.std.specs.Prelude.{◌≡◌, ◌<◌, ◌↔◌, ◌∷◌, ◌++◌, [], length, take, slice_index, IsTrue, IsErr, IfOk, IfErr, OnOk, OnErr};

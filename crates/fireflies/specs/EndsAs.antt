@@ -12,6 +12,7 @@ use Rattle.fireflies.specs.declared.command.Command.{Command}
 use Rattle.fireflies.specs.declared.command.Command.TheVariants.{Replay, Verify, Store, Enroll, Node, Soak}
 use Rattle.fireflies.specs.declared.status.Status.{Status}
 
+-- How a run of each command ends.
 abbrev pub EndsAs : Command → List ℕ → Standing → Standing → OfDisk → OfDisk → Wires → Wires → Status → Type 0
 EndsAs Replay name was now old new before after s = EndsBy IsJudged for_cause replayed was now s × (new ≡ old)
 EndsAs Verify name was now old new before after s = Ends verified was now s × (new ≡ old)

@@ -39,5 +39,6 @@ pub record SpendsOnce (was : Standing) (old new : OfDisk) : Type 0 where
   pub lives : Spends setting opened certs old new
   pub any_moment : SpendsFronts setting opened certs old new
 
+-- What `enroll` upholds: it spends nothing, or the indexes from the next one of the store that it found, each once.
 abbrev pub Enrolment : Standing → OfDisk → OfDisk → Type 0
 Enrolment was old new = SpendsNothing old new ⊎ SpendsOnce was old new

@@ -89,6 +89,7 @@ pub data TracedRoster (was now : Standing) (old : OfDisk) (s : Status) : Type 0 
   Unopened : ((next : ℕ) → TracedWhole (enrolled next) was now s) → TracedRoster was now old s
   Opened : (o : Stored) → IsFound o old → TracedWhole (enrolled o.next) was now s → TracedRoster was now old s
 
+-- What was written beside the trace of what was taken, for each command.
 abbrev pub TracedAs : Command → Standing → Standing → OfDisk → OfDisk → Status → Type 0
 TracedAs Replay was now old new s = TracedBy IsJudged for_cause replayed was now s
 TracedAs Verify was now old new s = Traced verified was now s
@@ -139,6 +140,7 @@ pub record NodeCompletes (was now : Standing) (old new : OfDisk) (s : Status) : 
   pub unrefused : NodeEndsWell was now old new s
   pub opened : NodeOpens was now old new s
 
+-- When all of a command is run: where no line refuses the text and nothing failed.
 abbrev pub CompletesAs : Command → Standing → Standing → OfDisk → OfDisk → Status → Type 0
 CompletesAs Replay was now old new s = Completes replayed was now s
 CompletesAs Verify was now old new s = Completes verified was now s

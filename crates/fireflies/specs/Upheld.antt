@@ -30,6 +30,7 @@ pub record IsStoreMade (was : Standing) (old new : OfDisk) : Type 0 where
   pub read : IsSecret was between setting
   pub image : SettlesAs (λ _. made (tag_of setting) (first_of setting)) old.moments new.moments
 
+-- What each command upholds beyond its trace.
 abbrev pub Upholds : Command → Standing → Standing → OfDisk → OfDisk → Wires → Status → Type 0
 Upholds Replay was now old new before s = Headline was now s
 Upholds Verify was now old new before s = Verification was now s

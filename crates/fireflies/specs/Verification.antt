@@ -16,6 +16,7 @@ OnStopped (Err stop.ReadFault) P = P
 OnStopped (Err stop.WriteFault) P = Unit {0}
 OnStopped (Err stop.OutOfMemory) P = P
 
+-- What `verify` upholds: where it stopped otherwise than at a write, nothing but the line of the cause was written.
 pub record Verification (was now : Standing) (s : Status) : Type 0 where
   pub trace : Traced verified was now s
   pub silent : OnStopped trace.result (trace.text ≡ [])

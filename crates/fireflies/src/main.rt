@@ -1,5 +1,5 @@
-//! The program: it makes the objects of the outside, runs the command of its words, and exits with the number of the
-//! status.
+//! Floor: program. The program: it makes the objects of the outside, runs the command of its words, and exits with the
+//! number of the status. The clauses of `run` are what the whole promises. Nothing stands on it.
 #![tactic(auto)]
 
 mod command;

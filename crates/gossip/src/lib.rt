@@ -1,5 +1,5 @@
-//! Gossip: with whom a node exchanges summaries in a round, of which page, and what the other side lacks by the
-//! summaries of both.
+//! Floor: node. With whom a node exchanges summaries in a round, of which page, and what the other side lacks by the
+//! summaries of both. `node_core` calls it.
 #![tactic(auto)]
 
 pub use lacking::lacks;

@@ -1,4 +1,5 @@
-//! The journal of a node: what happens to it, as values and as lines of text, both ways.
+//! Floor: node. The journal of a node: what happens to it, as values and as lines of text, both ways. `node_core` makes
+//! the events; `node_loop` and the crates of worlds write them.
 #![tactic(auto)]
 
 mod digits;

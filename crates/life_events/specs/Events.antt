@@ -6,6 +6,7 @@ use Rattle.life_events.specs.declared.event.Event.{Event}
 use Rattle.life_events.specs.declared.event.What.{What}
 use Rattle.life_events.specs.declared.event.What.TheVariants as kinds
 
+-- How an event of a life is written, without its moment.
 abbrev pub what_text : What → List ℕ
 what_text (kinds.Entered m) = codes "entered " ++ decimal m
 what_text (kinds.Expired a) = codes "expired " ++ accusation_text a

@@ -5,6 +5,7 @@ use Rattle.ff_ids.specs.Texts.{fault_text, monitor_text}
 use Rattle.life_events.specs.declared.verdict.Verdict.{Verdict}
 use Rattle.life_events.specs.declared.verdict.Verdict.TheVariants as verdicts
 
+-- How a verdict is written.
 abbrev pub verdict_words : Verdict → List ℕ
 verdict_words verdicts.Joined = codes "joined"
 verdict_words verdicts.Accepted = codes "accepted"

@@ -1,5 +1,6 @@
-//! The texts of events, faults and member lists, as a trace writes them. Each call adds one text to the end
-//! of a list of bytes; where memory is refused, that list is as it was.
+//! Floor: node. The texts of the events of a life, of verdicts, faults and lists of members. Each call adds one text to
+//! the end of a list of bytes; where memory is refused, that list is as it was. The crates that write traces and
+//! journals call it.
 #![tactic(auto)]
 
 ghost use Rattle.std.specs.Prelude.{◌≡◌, ◌++◌, OnOk, OnErr};

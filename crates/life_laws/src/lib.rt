@@ -1,5 +1,5 @@
-//! Laws that hold in every life, whatever its events are. Each is the contract of a function that does
-//! nothing.
+//! Floor: membership. Theorems on the rules that hold in every life, whatever its events are. Each is the contract of a
+//! function that does nothing. The theorems on traces, nodes and worlds cite them.
 #![tactic(auto)]
 
 ghost use Rattle.life_laws.specs.Newest.{NewestIsGreatest, OrderOfNotes, OrderOfGoodNotes};

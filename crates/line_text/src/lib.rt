@@ -1,6 +1,6 @@
-//! The lines of a text: words with one space between two, numbers, hexadecimal digits and names; the table of
-//! bad words, of which the first that holds refuses a line; and what all forms of text share. A form says which
-//! lines it has, where they may stand, and what their words must be.
+//! Floor: base. What all texts share: words with one space between two, numbers, hexadecimal digits and names, and the
+//! table of bad words, of which the first that holds refuses a line. The forms of the floor `texts` are built on it,
+//! and the scripts that read them call it.
 #![tactic(auto)]
 
 mod bad_word;

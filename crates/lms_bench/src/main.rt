@@ -1,5 +1,5 @@
-//! Times keys, signatures and verifications beside as many plain calls of SHA-256 as they have compressions.
-//! With the word `run` it prints a line for each; else it says so, and exits with 2.
+//! Floor: checks. Times keys, signatures and verifications beside as many plain calls of SHA-256 as they have
+//! compressions. With the word `run` it prints a line for each; else it says so, and exits with 2. `bench/lms` runs it.
 #![tactic(auto)]
 
 mod compressions;

@@ -1,4 +1,5 @@
-//! LM-OTS one-time signatures of RFC 8554 (section 4) over SHA-256 with n = 32. No call takes memory.
+//! Floor: keys. LM-OTS one-time signatures of RFC 8554 (section 4) over SHA-256 with n = 32. No call takes memory.
+//! `lms_tree` signs and verifies with it; other crates take the kinds alone.
 #![tactic(auto)]
 
 ghost use Rattle.std.specs.Prelude.{IsOk, ◌≡◌, ◌≢◌, ◌-◌, ◌<◌, ◌≤◌, ◌↔◌, length};

@@ -1,6 +1,7 @@
-//! The plain side of the times of a node that is served: with the words `plain PORT TURNS` it binds the port, and in each
-//! of so many turns receives, and writes the lines that a node writes for a ping or for a note that it knows; with the
-//! words `hash COUNT` it prints how long so many plain calls of SHA-256 take. Else it says so, and exits with 2.
+//! Floor: checks. The plain side of the times of a node that is served: with the words `plain PORT TURNS` it binds the
+//! port, and in each of so many turns receives, and writes the lines that a node writes for a ping or for a note that
+//! it knows; with the words `hash COUNT` it prints how long so many plain calls of SHA-256 take. Else it says so, and
+//! exits with 2. `bench/node_loop` runs it.
 #![tactic(auto)]
 
 mod hashing;

@@ -1,6 +1,7 @@
-//! One observer's membership in one life: who has joined, the newest note of each, what expired, and the
-//! view. Contracts speak of the state of the life with every note accepted and every accusation that expired,
-//! of which far less is kept. After opening no call takes memory.
+//! Floor: membership. One observer's membership in one life: who has joined, the newest note of each, what expired, and
+//! the view. Each call is one step of the model in `ff_ids`; contracts speak of every note accepted and every
+//! accusation expired, of which far less is kept. After opening no call takes memory. A node calls it, and the replay
+//! of plain records.
 #![tactic(auto)]
 
 ghost use Rattle.std.specs.Prelude.{◌≡◌, ℕ, ◌<◌, ◌≤◌, ◌+◌, ◌-◌, ◌*◌, ◌^◌, true, not, [], Option, None, Some, length, if◌then◌else◌, map, filter, slice_index_or, IfOk, OnOk, OnErr};

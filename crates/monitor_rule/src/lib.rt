@@ -1,5 +1,5 @@
-//! Who monitors whom among the members that have joined the rings. Each ring is kept in order, and a
-//! question is answered by halving. After opening no call takes memory.
+//! Floor: membership. Who monitors whom among the members that are on the rings. Each ring is kept in order, and a
+//! question is answered by halving. After opening no call takes memory. `membership` alone calls it.
 #![tactic(auto)]
 
 ghost use Rattle.std.specs.Prelude.{◌≡◌, ℕ, ◌+◌, ◌-◌, ◌*◌, ◌^◌, ◌<◌, ◌≤◌, true, false, None, Some, List, [], length, map, All, is_some, slice_set, IfOk};

@@ -1,6 +1,6 @@
-//! Times a node among 10, 100 and 1,000 members: deliveries of notes, and ticks. With the word `run` it prints a line
-//! for each; with the word `hold` it keeps a node among 1,000 members until a line comes, so that its memory can be
-//! read; else it says so, and exits with 2.
+//! Floor: checks. Times a node among 10, 100 and 1,000 members: deliveries of notes, and ticks. With the word `run` it
+//! prints a line for each; with the word `hold` it keeps a node among 1,000 members until a line comes, so that its
+//! memory can be read; else it says so, and exits with 2. `bench/node` runs it.
 #![tactic(auto)]
 
 mod compressions;

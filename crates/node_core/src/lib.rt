@@ -1,5 +1,5 @@
-//! A correct member of the group: bytes in, events and datagrams out. Each call is exactly one step of the
-//! definitions of a node's life.
+//! Floor: node. A correct member of the group as one value: bytes in, events and datagrams out. Each call is exactly
+//! one step of the definitions in `node_rules`. `node_loop` and the crates of worlds call it.
 #![tactic(auto)]
 
 ghost use Rattle.std.specs.Prelude.{◌≡◌, ℕ, ◌≤◌, ◌<◌, false, List, []};

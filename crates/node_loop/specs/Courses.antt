@@ -99,5 +99,6 @@ acted s r Receives = record r { link = received_from r.link }
 acted s r (Writes line) = writes (with_feed line) r
 acted s r (Calls input) = called s input r
 
+-- The course of a life behind these acts.
 unfoldable pub served : Setting → List Act → Course → Course
 served s acts r = fold (acted s) r acts

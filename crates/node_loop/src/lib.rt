@@ -1,5 +1,5 @@
-//! The loop that runs a node: turn after turn it hears the link and reads the clock, calls the node, writes what that
-//! tells as the journal of the life, and sends what it sends.
+//! Floor: node. The loop that runs a node: turn after turn it hears the link and reads the clock, calls the node,
+//! writes the node's events as the journal of the life, and sends its datagrams. `node_running` calls it.
 #![tactic(auto)]
 
 mod calls;

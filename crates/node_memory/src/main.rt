@@ -1,6 +1,7 @@
-//! One call of a node, by which a script sees what stands where memory is refused in it: the word `records`, `summary`
-//! or `tick` says which. It prints the answer, what the call told and sent, and what a later call answers and tells; or
-//! that memory was refused before the call. With another word it says so, and exits with 2.
+//! Floor: checks. One call of a node, by which a script sees what stands where memory is refused in it: the word
+//! `records`, `summary` or `tick` says which. It prints the answer, what the call reported and sent, and what a later
+//! call does; or that memory was refused before the call. With another word it says so, and exits with 2.
+//! `bench/memory` runs it.
 #![tactic(auto)]
 
 mod scene;

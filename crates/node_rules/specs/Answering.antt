@@ -70,6 +70,7 @@ answer_sent s n later (Some a) =
     if is_used_up s n then []
     else to_each (neighbours s (state_of s later)) (kinds.Records s.me (own_record s n (answer_to s n.stored a) ∷ []))
 
+-- What the answers to delivered records send, in order.
 abbrev pub answers_sent : Setting → Node → List Record → List (ℕ × List ℕ)
 answers_sent s n [] = []
 answers_sent s n (r ∷ records) = answer_sent s n (when_handled s n r) (asked_by s n r) ++ answers_sent s (when_handled s n r) records

@@ -14,6 +14,7 @@ use Rattle.journal.specs.declared.event.What as whats
 use Rattle.journal.specs.declared.event.What.TheVariants as told
 use Rattle.node_rules.specs.Nodes.{Setting, Node, state_of, event_of, with_record, without_ended}
 
+-- A call so far: the node, the events, the datagrams, and whether the disk failed in it.
 pub record Call : Type 0 where
   pub node : Node
   pub told : List journal.Event
@@ -54,6 +55,7 @@ sends_bytes s bytes c to =
     let c1 = tells s (told.Sent (length c.sent) to bytes) c in
     record c1 { sent = c1.sent ++ (to, bytes) ∷ [] }
 
+-- A datagram is sent to a member, and reported as sent.
 unfoldable pub sends : Setting → Datagram → Call → ℕ → Call
 sends s d c to = sends_bytes s (datagram_bytes d) c to
 

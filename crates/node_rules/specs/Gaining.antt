@@ -35,6 +35,7 @@ abbrev pub answer_event : Setting → Node → Option AccBody → List Event
 answer_event s n None = []
 answer_event s n (Some a) = if is_used_up s n then [] else Notes (answering_note s n.stored a) ∷ []
 
+-- The events that delivered records add to the life, with those of the answers.
 abbrev pub gained : Setting → Node → List Record → List Event
 gained s n [] = []
 gained s n (r ∷ records) = accepted_event s (refusal s n r) r.body ++ answer_event s n (asked_by s n r) ++ gained s (when_handled s n r) records

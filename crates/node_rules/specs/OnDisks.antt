@@ -69,6 +69,7 @@ ticked_on storage s n disk =
     let d : OnDisk _ = record { call = probed_at s n; disk = disk } in
     if is_due s st then due_on storage s (silent_in s p st) (pings_in s p st) (round_of s st) d else d
 
+-- A call of a node over a disk.
 abbrev pub called_on : {D : Type 0} → Storage D → Setting → Node → Input → D → OnDisk D
 called_on storage s n (Delivers bytes) disk = delivered_on storage s n bytes disk
 called_on storage s n Ticks disk = ticked_on storage s n disk

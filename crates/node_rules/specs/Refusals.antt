@@ -35,5 +35,6 @@ refusal_of s n r (Note note) =
     (option_or (signature_fault s (public_key_of n note.member) r) (own_ahead s.me (newest (state_of s n).notes s.me) note))
 refusal_of s n r (Accusation a) = option_or (accusation_fault s.group.t (state_of s n) a) (signature_fault s (public_key_of n a.accuser) r)
 
+-- The first fault of a delivered record at a node, or none: the node's ordered table.
 unfoldable pub refusal : Setting → Node → Record → Option Fault
 refusal s n r = refusal_of s n r r.body

@@ -15,6 +15,7 @@ abbrev pub is_enabled_by_answer : ℕ → ℕ → ℕ → ℕ → Bool
 is_enabled_by_answer t mask accused_on ring =
     not (ring == accused_on) && (enables mask ring || ((disabled_count t mask == t) && is_lowest_disabled mask ring))
 
+-- The mask of the note that answers an accusation on a ring, by the mask before it.
 unfoldable pub answering_mask : ℕ → ℕ → ℕ → ℕ
 answering_mask t mask accused_on = bits_where (is_enabled_by_answer t mask accused_on) (ring_count t)
 

@@ -1,5 +1,6 @@
-//! What a node does with each call, as definitions and theorems alone: one step of a node's life, the events that it
-//! tells and the datagrams that it sends. Each law is the contract of a function that does nothing.
+//! Floor: node. What a node does with each call, as definitions and theorems alone: the steps of a node's life, the
+//! events that it reports and the datagrams that it sends. Each theorem is the contract of a function that does
+//! nothing. The contracts of all nodes and worlds cite it.
 #![tactic(auto)]
 
 ghost use Rattle.node_rules.specs.Lives.{EachLifeIsJustified, AnswersHoldInLives, EachCallTellsItsLife, StoppedCallsTellTheirLife, OwnNoteIsKept, OwnAnswersAreAccepted};

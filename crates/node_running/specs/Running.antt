@@ -142,6 +142,7 @@ pub record IsCausedBy (was : play.Standing) (old new : OfDisk) (result : Result 
   pub read : IsMember was between member
   pub cause : IsStoreCause member old new result
 
+-- A store is answered as broken, or as used up, only where it is so by its reading.
 abbrev pub IsCaused : play.Standing → OfDisk → OfDisk → Result (Unit {0}) NodeHalt → Type 0
 IsCaused was old new (Err (halt.StoreBroken place byte)) = IsCausedBy was old new (Err (halt.StoreBroken place byte))
 IsCaused was old new (Err (halt.Exhausted next)) = IsCausedBy was old new (Err (halt.Exhausted next))

@@ -27,6 +27,7 @@ kept_for kept (Accusation a) = kept
 abbrev pub kept_with : Stored → Spent → Stored
 kept_with kept s = kept_for (record kept { next = s.index + 1 }) s.body
 
+-- What the store keeps behind these signatures.
 abbrev pub kept_behind : Stored → List Spent → Stored
 kept_behind kept spent = fold kept_with kept spent
 
@@ -46,5 +47,6 @@ pub record HasSpent (was : Standing) (old new : OfDisk) : Type 0 where
 abbrev pub SpendsNothing : OfDisk → OfDisk → Type 0
 SpendsNothing old new = (tag before : List ℕ) (spent : List Spent) → EndsNow tag before spent old.moments → EndsNow tag before spent new.moments
 
+-- What a run does to the lives of the key: it spends nothing, or what rises from the store that it found.
 abbrev pub Spends : Standing → OfDisk → OfDisk → Type 0
 Spends was old new = SpendsNothing old new ⊎ HasSpent was old new

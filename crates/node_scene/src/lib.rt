@@ -1,5 +1,5 @@
-//! Members of a small world, for trials and benches: keys from stated secrets, certificates, and nodes over disks in
-//! memory.
+//! Floor: checks. Members of a small group, for tests and timings: keys from stated secrets, certificates, and nodes
+//! over disks in memory. Tests and benches of nodes call it, and no product code.
 #![tactic(auto)]
 
 mod crew;

@@ -1,4 +1,5 @@
-//! Trials of nodes, call by call: what they tell and send, beside values that were worked out without them.
+//! Floor: checks. Tests of nodes, call by call: what they report and send, beside values that were worked out without
+//! them. Nothing stands on it.
 #![tactic(auto)]
 
 #[cfg(test)]

@@ -1,5 +1,5 @@
-//! The one loop over a text: takes a line from the source, hands it to a script, writes what the script makes of it,
-//! and then takes the next.
+//! Floor: base. The one loop over a text: takes a line from the source, hands it to a script, writes what the script
+//! makes of it, and then takes the next. Each command that reads a text runs it, with a script of its own.
 #![tactic(auto)]
 
 mod player;

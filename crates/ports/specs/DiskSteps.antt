@@ -37,6 +37,7 @@ abbrev pub runs_on : List DiskCall → Option DiskState → Option Came
 runs_on calls None = None
 runs_on calls (Some disk) = Some (runs calls disk)
 
+-- A disk of a known state, and whether a call of it failed.
 abbrev pub came_to : Option DiskState → Bool → Option Came
 came_to None failed = None
 came_to (Some disk) failed = Some (record { disk = disk; failed = failed })

@@ -57,6 +57,7 @@ pub record TakesNext (link : LinkState) (after : Option LinkState) (buffer fille
   pub lies : filled ≡ buffer_of (next_of link.coming) buffer
   pub taken : after ≡ Some (received_from link)
 
+-- What a receive does to a link, by its answer; unknown contents stay unknown.
 abbrev pub Receives : Option LinkState → Option LinkState → List ℕ → List ℕ → received.Received → Type 0
 Receives None after buffer filled answer = after ≡ None
 Receives (Some link) after buffer filled answer = TakesNext link after buffer filled answer
@@ -84,6 +85,7 @@ pub record GivesOne (port : ℕ) (bytes : List ℕ) (link : LinkState) (after : 
   pub ends : EndsSend (is_failing link.failing (length link.given)) answer
   pub told : after ≡ Some (after_send port bytes link answer)
 
+-- What a send does to a link, by its answer; unknown contents stay unknown.
 abbrev pub Sends : ℕ → List ℕ → Option LinkState → Option LinkState → sent.Sent → Type 0
 Sends port bytes None after answer = after ≡ None
 Sends port bytes (Some link) after answer = GivesOne port bytes link after answer

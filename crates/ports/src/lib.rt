@@ -1,4 +1,5 @@
-//! The outside as traits: where bytes come from and go to, a disk, a link and a clock.
+//! Floor: base. The outside as traits: where bytes come from and go to, a disk, a link and a clock; and one of each in
+//! memory. Code that reads, writes, stores or sends is generic over these traits; `edges` has the real ones.
 //!
 //! Each but the clock has a count of faults that contracts see: a call that answers `Failed` raises it
 //! by one, or finds it at the end of its type, and any other answer leaves it. Objects may tell their

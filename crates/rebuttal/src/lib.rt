@@ -1,5 +1,5 @@
-//! How a member answers an accusation: by a note of a greater epoch that disables the accusation's ring. No call
-//! takes memory.
+//! Floor: node. The mask of the note with which a member answers an accusation: it disables the accusation's ring, and
+//! enables more than t others. No call takes memory. `node_core` calls it.
 #![tactic(auto)]
 
 ghost use Rattle.std.specs.Prelude.{◌≡◌, ℕ, ◌^◌, ◌<◌, ◌≤◌, ◌↔◌, true, false, bit_xor, MatchOption};

@@ -23,6 +23,7 @@ key_cmp a b = slice_cmp nat_cmp (key_numbers a) (key_numbers b)
 abbrev pub Held : Type 0
 Held = map.FinMap key_cmp CheckedRecord
 
+-- The record that is held under the key, or none.
 abbrev pub held_under : Held → RecordKey → Option CheckedRecord
 held_under held k = map.get held k
 

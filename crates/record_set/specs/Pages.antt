@@ -42,6 +42,7 @@ entry_with m note rings =
 unfoldable pub rings_of : Held → ℕ → ℕ
 rings_of held m = bits_where (λ r. contains_key held (keys.Accusation m (record { 0 = r }))) 31
 
+-- The entry of a member in the summary of its page, by what is held.
 abbrev pub entry_of : Held → ℕ → SummaryEntry
 entry_of held m = entry_with m (note_in (held_under held (keys.Note m))) (rings_of held m)
 

@@ -1,5 +1,6 @@
-//! The signed records that a node holds: the last that was put under each key, the summaries of pages, which are
-//! kept ready, and the bytes of as many as fit a room. Only records whose signature was checked are held.
+//! Floor: node. The signed records that a node holds: the last that was put under each key, the summaries of pages,
+//! which are kept ready, and the bytes of as many as fit a room. Only records whose signature was checked are held.
+//! `node_core` calls it.
 #![tactic(auto)]
 
 ghost use Rattle.std.specs.Prelude.{◌≡◌, ◌<◌, ◌≤◌, ◌++◌, IfOk, OnErr, IsSome, Some, All, take};

@@ -21,6 +21,7 @@ note_bytes n = 2 ∷ (to_be_bytes w16 n.member ++ (to_be_bytes w64 n.epoch ++ to
 unfoldable pub accusation_bytes : AccBody → List ℕ
 accusation_bytes a = 3 ∷ (to_be_bytes w16 a.accuser ++ (to_be_bytes w16 a.accused ++ (to_be_bytes w64 a.epoch ++ a.ring.0 ∷ [])))
 
+-- The one spelling of a body.
 abbrev pub body_bytes : Body → List ℕ
 body_bytes (Certificate c) = certificate_bytes c
 body_bytes (Note n) = note_bytes n

@@ -1,5 +1,5 @@
-//! Records: certificates, notes and accusations with their signatures. Their bytes, what is signed of them,
-//! and records whose signature was checked.
+//! Floor: keys. Certificates, notes and accusations with their signatures: their bytes both ways, what is signed of
+//! them, and as a type of its own the record whose signature was checked. Any crate above may call it.
 #![tactic(auto)]
 
 ghost use Rattle.std.specs.Prelude.{◌≡◌};

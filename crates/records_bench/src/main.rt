@@ -1,6 +1,6 @@
-//! Times checks of records beside the work that they can't do without. With the word `run` it prints a line for
-//! each; with the word `read` it reads a datagram's worth of records and prints how many it could; else it says so,
-//! and exits with 2.
+//! Floor: checks. Times checks of records beside the work that they can't do without. With the word `run` it prints a
+//! line for each; with the word `read` it reads a datagram's worth of records and prints how many it could; else it
+//! says so, and exits with 2. `bench/records` runs it.
 #![tactic(auto)]
 
 mod reading;

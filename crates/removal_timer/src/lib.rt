@@ -1,5 +1,6 @@
-//! For each member and ring the accusation that stands there, and since when: which of them have stood for
-//! the timeout. All memory is taken at opening; each call costs what it touches, and not what is kept.
+//! Floor: membership. For each member and ring the accusation that is kept there, and since when; and which of them
+//! were kept for the timeout. All memory is taken at opening, and each call costs what it touches, not what is kept.
+//! `membership` alone calls it.
 #![tactic(auto)]
 
 ghost use Rattle.std.specs.Prelude.{◌≡◌, ℕ, ◌+◌, ◌*◌, ◌<◌, ◌≤◌, true, false, [], ◌++◌, ◌==◌, not, IfOk, IfSome, IsNone, None, Some, is_some, List, length, filter, map, vec_len, vec_capacity, slice_set};

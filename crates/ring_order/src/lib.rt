@@ -1,5 +1,5 @@
-//! The places of members on the rings, the order of members there, and who is nearest to whom. No call
-//! takes memory.
+//! Floor: membership. The places of members on the rings, given or hashed, the order of members there, and who is
+//! nearest to whom. No call takes memory. The crates of the rules call it, and a node for the places of its members.
 #![tactic(auto)]
 
 ghost use Rattle.std.specs.Prelude.{◌≡◌, ◌<◌, ◌≤◌, ◌+◌, ◌*◌, ◌-◌, [], ◌∷◌, ◌++◌, ◌↔◌, length, map, All, IsNone, IfSome, option_map, get_or};

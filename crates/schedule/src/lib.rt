@@ -1,5 +1,5 @@
-//! The lines of every text that a command reads: the command says which form the text has, and each form stands in a
-//! crate of its own below.
+//! Floor: texts. The lines of both forms of schedules and of the text of `verify` as one type, for a caller that reads
+//! any of them. Each form is a crate of its own. The commands call these, so nothing here stands on this crate.
 #![tactic(auto)]
 
 mod lines;

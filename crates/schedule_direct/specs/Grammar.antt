@@ -63,6 +63,7 @@ abbrev pub ticked : ℕ → Direct → Direct
 ticked n (direct.Body t ticks) = direct.Body t (ticks + n)
 ticked n d = d
 
+-- What has been read of the text, with this line behind it.
 abbrev pub after : Direct → DirectLine → Direct
 after d lines.Header = direct.Headed
 after d (lines.Group t timeout) = direct.Body t 0

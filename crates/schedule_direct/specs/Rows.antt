@@ -131,7 +131,8 @@ line_word word = word_among word_text line_words word
 abbrev pub row_of : Direct → LineWord → Row DirectLine
 row_of d word = record { stands = may_stand d word; fields = fields_of d word; line = line_of word }
 
--- The header of the world form isn't read yet.
+-- The header of the world form has a word of its own: this form does not read it. No command shows the word, since a text
+-- that begins so is read in the world form.
 abbrev pub start_row : List (List ℕ) → Result (Row DirectLine) BadWord
 start_row ws =
     if is_header (codes "direct") ws then Ok (header_row lines.Header)

@@ -1,5 +1,5 @@
-//! The lines of a schedule in the direct form: what each may be, where it may stand, and how it is read. Only the
-//! places of a `member` line take memory.
+//! Floor: texts. The lines of a schedule of plain records (`fireflies 1 direct`): what each may be, where it may stand,
+//! and how it is read. Only the places of a `member` line take memory. `replay` calls it.
 #![tactic(auto)]
 
 mod direct;

@@ -1,5 +1,6 @@
-//! The texts of an authority: the one that makes its key's store, and the one that asks for certificates. What their
-//! lines share with the text of a member stands here too. No line takes memory.
+//! Floor: texts. The text that makes a key's store, and the text that asks an authority for certificates; and what
+//! their lines share with the text of a member. No line takes memory. `authority`, `enrolment` and `schedule_kit` call
+//! it.
 #![tactic(auto)]
 
 mod line;

@@ -310,6 +310,7 @@ row_of w word = record { stands = may_stand w word; fields = fields_of w word; l
 abbrev pub start_row : List (List ℕ) → Result (Row WorldLine) BadWord
 start_row ws = if is_header (codes "world") ws then Ok (header_row lines.Header) else Err bad.Header
 
+-- The row of a line with these words, or the bad word where there is none.
 abbrev pub row_for : WorldText → List (List ℕ) → Result (Row WorldLine) BadWord
 row_for w ws = if is_start w then start_row ws else known_row (row_of w) (line_word (first_word ws))
 

@@ -1,5 +1,5 @@
-//! The lines of a schedule in the world form: what each may be, where it may stand, and how it is read. Only raw
-//! bytes and names take memory.
+//! Floor: texts. The lines of a schedule of a world (`fireflies 1 world`): what each may be, where it may stand, and
+//! how it is read. Only raw bytes and names take memory. The crates of worlds and of their workload call it.
 #![tactic(auto)]
 
 mod line;

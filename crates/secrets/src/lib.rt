@@ -1,5 +1,5 @@
-//! What a secret of 32 bytes gives: a key, and the seed of a life's nonces; what marks a store as that of a key in a
-//! group; and the secrets of a recorded world.
+//! Floor: keys. What a secret of 32 bytes gives: a key, the seed of a life's nonces, and the mark of the key's store in
+//! a group; and the secrets of a recorded world. The crates of commands with keys and those of worlds call it.
 #![tactic(auto)]
 
 ghost use Rattle.std.specs.Prelude.{◌≡◌, IfOk};

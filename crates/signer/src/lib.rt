@@ -1,5 +1,6 @@
-//! A signer: records signed under one key, each with an index of its own, whatever stops it. The next index is
-//! in the store before the leaf that has the index is spent.
+//! Floor: keys. A signer: records signed under one key, each with an index of its own, whatever stops it. The next
+//! index is in the store before the leaf that has the index is spent. A node signs with it, and `enrolment` with the
+//! authority's key.
 #![tactic(auto)]
 
 ghost use Rattle.std.specs.Prelude.{◌≡◌, ℕ, ◌+◌, ◌<◌, ◌≤◌, ◌^◌, ◌++◌, List, length, true, false, OnOk, IfOk, IfErr};

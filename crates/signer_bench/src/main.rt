@@ -1,5 +1,6 @@
-//! Times signing through a signer over a disk in memory beside the tree's signing alone, of the same body by the
-//! same leaves. With the word `run` it prints a line; else it says so, and exits with 2.
+//! Floor: checks. Times signing through a signer over a disk in memory beside the tree's signing alone, of the same
+//! body by the same leaves. With the word `run` it prints a line; else it says so, and exits with 2. `bench/signer`
+//! runs it.
 #![tactic(auto)]
 
 mod work;

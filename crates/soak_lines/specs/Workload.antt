@@ -111,6 +111,7 @@ lines_by p words =
     lines.Header ∷ lines.Group (group_of p) ∷ lines.Kinds W4 H10
     ∷ (map lines.Node (nodes p) ++ (map lines.Liar (liars p) ++ (lines.Begin ∷ (map lines.Start (nodes p) ++ rounds_from p 1 p.rounds words))))
 
+-- The lines of the workload of a seed, a number of members and a number of rounds.
 unfoldable pub workload : ℕ → ℕ → ℕ → List WorldLine
 workload seed members rounds = lines_by (plan_of seed members rounds) (words_of (of_seed (drawing_seed seed)))
 

@@ -1,4 +1,5 @@
-//! Makes the store of a key: reads the text of its secret whole, makes the key and its store, and writes the key's public half.
+//! Floor: program. Makes the store of a key: reads the text of its secret whole, makes the key and its store, and
+//! writes the key's public half. `fireflies` calls it, for the command `store`.
 #![tactic(auto)]
 
 mod making;

@@ -1,4 +1,5 @@
-//! Trials of disks, stores and signers together: each stop, each outcome of a crash, and each changed byte.
+//! Floor: checks. Tests of disks, stores and signers together: each stop, each outcome of a crash, and each changed
+//! byte. Nothing stands on it.
 #![tactic(auto)]
 
 #[cfg(test)]

@@ -1,5 +1,6 @@
-//! What a run over the lines of a text is to write: the lines of a text, the trace of them, and how one part of a
-//! trace follows another, as definitions; and the limits of every text.
+//! Floor: base. What a run over the lines of a text is to write, as definitions alone: the lines of a text, its trace,
+//! and how one part of a trace follows another; and the limits of every text. The loop (`play`) and its scripts cite
+//! it.
 #![tactic(auto)]
 
 /// How many bytes a line may have in front of its line feed.

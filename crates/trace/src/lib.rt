@@ -1,2 +1,4 @@
-//! What a recorded text plays, as definitions alone: its lines, the answer to each, and the whole trace.
+//! Floor: program. What a recorded schedule of plain records plays, as definitions and theorems alone: the answer to
+//! each line, the one walk over a text, and what each removal that is written rests on. `replay` cites it, and the
+//! headline in `fireflies`.
 #![tactic(auto)]

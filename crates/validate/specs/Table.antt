@@ -60,6 +60,7 @@ FirstFaultOf g authority certificates s own r (Note n) answer =
 FirstFaultOf g authority certificates s own r (Accusation a) answer =
     FirstOf (accusation_fault g.t s a) (DecidesUnder (key_of certificates a.accuser) g r None answer) answer
 
+-- The answer is the first fault of a signed record, by the ordered table, or none.
 abbrev pub FirstFault : Group → PublicKey → Certificates → State → ℕ → Record → Option Fault → Type 0
 FirstFault g authority certificates s own r answer = FirstFaultOf g authority certificates s own r r.body answer
 

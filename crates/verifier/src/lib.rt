@@ -1,5 +1,5 @@
-//! Reads a text that asks whether a signature is good, and answers it. The text is read whole before its answer, one
-//! line, is written.
+//! Floor: program. Reads a text that asks whether a signature is good, and answers it. The text is read whole before
+//! its answer, one line, is written. `fireflies` calls it, for the command `verify`.
 #![tactic(auto)]
 
 mod input;

@@ -1,4 +1,5 @@
-//! Reads a text to its end, and only then gives its lines: nothing of it is told before the whole was read and good.
+//! Floor: base. A script of the loop that reads a text to its end and only then gives its lines, so that nothing is
+//! done for a text that is not good as a whole. `authority` and `node_running` call it.
 #![tactic(auto)]
 
 mod gatherer;

@@ -10,6 +10,7 @@ use Rattle.world.specs.declared.counts.Counts.{Counts}
 abbrev pub kept : ℕ → ℕ
 kept n = min n 18446744073709551615
 
+-- The counts are kept, each up to the top of its type.
 pub record AreKept (k : Counts) (c : Counted) : Type 0 where
   pub sent : k.sent ≡ kept c.sent
   pub notes : k.notes ≡ kept c.notes

@@ -1,4 +1,5 @@
-//! A world of nodes and liars, which a schedule plays: deliveries, ticks, stops and starts, and records that liars sign.
+//! Floor: world. A world of nodes and liars as one value, which a schedule plays: deliveries, ticks, stops and starts,
+//! and records that liars sign. `world_stage`, `world_replay` and `world_soak` call it.
 #![tactic(auto)]
 
 ghost use Rattle.std.specs.Prelude.{◌≡◌, List};

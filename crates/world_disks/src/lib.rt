@@ -1,5 +1,5 @@
-//! Disks in memory that each have a node's store, and the disks of a world's rules for which they stand, as definitions
-//! and theorems alone. Each law is the contract of a function that does nothing.
+//! Floor: world. When a disk in memory with a node's store matches a disk of the rules of worlds, as definitions and
+//! theorems alone. Each theorem is the contract of a function that does nothing. `world_station` cites them.
 #![tactic(auto)]
 
 ghost use Rattle.world_disks.specs.Laws.{ArmsAsTold, CallsAsTold, CrashesAsTold, MakesAsTold, OpensAsTold, PutsAsTold, ReadsAsTold, StartsAsTold};

@@ -1,4 +1,5 @@
-//! The keys of a world, what they sign, and the authority that certifies its members.
+//! Floor: world. The keys of a world, what they have signed, and the authority that certifies its members. `world` and
+//! `world_station` call it.
 #![tactic(auto)]
 
 mod authority;

@@ -72,5 +72,6 @@ OthersTakeNone = (s : Setting) (w : World) (line : WorldLine) (a : Answer) → i
 abbrev pub flowed_by : Taken → List ℕ
 flowed_by t = if is_flow t.line then numbers_of (handed_over t.brought.told) else []
 
+-- The numbers of the datagrams that the flows among these lines handed over, in order.
 abbrev pub flowed_in : List Taken → List ℕ
 flowed_in taken = flat_map flowed_by taken

@@ -36,6 +36,7 @@ abbrev pub is_own_ahead : whats.What → Bool
 is_own_ahead (happened.Took body (Some (faults.OwnAhead stored seen))) = true
 is_own_ahead what = false
 
+-- No verdict says that a note is ahead of the node's own.
 abbrev pub OwnAheadNeverComes : Type 0
 OwnAheadNeverComes = (s : Setting) (w : World) (told : List Told) → IsSetting s → Reached s w told → AllByRecursion (λ t. is_own_ahead t.event.what ≡ false) told
 
@@ -54,6 +55,7 @@ pub record RestsOnOwnNote (s : Setting) (w : World) (events : List Event) (j m :
 abbrev pub RemovesRightly : Setting → World → Life → Type 0
 RemovesRightly s w life = (j m : ℕ) → j < length life.node.lived → IsRemovedAt s.group (opening []) life.node.lived j m → is_node s m ≡ true → RestsOnOwnNote s w life.node.lived j m
 
+-- Each node that is removed from a view had itself signed the note of the accusation's epoch, with its ring enabled.
 abbrev pub TheRemovedHadSigned : Type 0
 TheRemovedHadSigned = (s : Setting) (w : World) (told : List Told) (who : ℕ) → IsSetting s → Reached s w told → AllByRecursion (RemovesRightly s w) (lives_of w who)
 

@@ -103,5 +103,6 @@ abbrev pub IsForgedAt : Stage → Forgery → Type 0
 IsForgedAt (Lists roster) f = ⊥
 IsForgedAt (Plays s w) f = (line : WorldLine) × (step s w line ≡ Err f) × IsForgedIn s w line f
 
+-- Where a text ends as forged, some line ends so in the world that the text has come to, and hands the forged record over.
 abbrev pub ForgedTextsHandItOver : Type 0
 ForgedTextsHandItOver = (spelled : WorldLine → List ℕ) (text : List (List ℕ)) (f : Forgery) → let w = walk_over (world_grammar spelled) setting_in text in w.cause ≡ Some (Forged f) → IsForgedAt w.stage f

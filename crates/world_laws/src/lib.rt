@@ -1,6 +1,7 @@
-//! What no liar brings about in a world of nodes, as theorems alone: which notes a member had signed that is removed, at
-//! which ticks members sign their accusations, and that what is told is what was spent, sent and removed. They speak of
-//! each world that lines lead to, none of which is forged. Each law is the contract of a function that does nothing.
+//! Floor: world. What no liar brings about in a world, as theorems alone, on each world that lines lead to, none of
+//! which is forged: which notes a removed node had signed, at which ticks nodes sign accusations, and that what is
+//! written is what was spent, sent and removed. Each is the contract of a function that does nothing. The headline in
+//! `fireflies` cites them.
 #![tactic(auto)]
 
 ghost use Rattle.world_laws.specs.Laws.{RostersAreKept, OwnAheadNeverComes, TheRemovedHadSigned, NodesAccuseTheSilent, AcceptedAccusationsWereSigned, KeysVerify, RemovalsAreVerified, ToldRemovalsAreVerified};

@@ -44,6 +44,7 @@ abbrev pub hears_on : node.Setting → Result Datagram ℕ → OnDisk → OnDisk
 hears_on s (Ok (kinds.Records from records)) d = fold (handles_on s) d records
 hears_on s heard d = record d { call = hears s heard d.call }
 
+-- A delivery over a disk: as far as the disk lets it come.
 unfoldable pub delivered_on : node.Setting → node.Node → List ℕ → Disk → OnDisk
 delivered_on s n bytes disk = hears_on s (read_of bytes) (record { call = begun n; disk = disk })
 
@@ -56,6 +57,7 @@ accuses_on s d m = steps_on (λ works c x. accuses works s c x) d m
 unfoldable pub due_on : node.Setting → List ℕ → List (ℕ × ℕ) → ℕ → OnDisk → OnDisk
 due_on s accused pings round d = goes_on (λ e. record e { call = gossips s round (pings_all s pings e.call) }) (fold (accuses_on s) d accused)
 
+-- A tick over a disk: as far as the disk lets it come.
 unfoldable pub ticked_on : node.Setting → node.Node → Disk → OnDisk
 ticked_on s n disk =
     let p = (passed s n).node in

@@ -63,6 +63,7 @@ abbrev pub ComesSoFar : node.Setting → node.Node → Input → Call → Type 0
 ComesSoFar s n (Delivers bytes) c = IsWhole c (delivered s n bytes) ⊎ StopsAnswering s n bytes c
 ComesSoFar s n Ticks c = IsWhole c (ticked s n) ⊎ StopsAccusing s n c
 
+-- A call over a disk is the node's call, whole or up to the signature at which the disk stops.
 abbrev pub CallsComeSoFar : Type 0
 CallsComeSoFar = (s : node.Setting) (n : node.Node) (i : Input) (d : Disk) → ComesSoFar s n i (called_on s n i d).call
 
@@ -78,6 +79,8 @@ pub record TellsLives (s : Setting) (w : World) (told : List Told) (m : ℕ) : T
   pub told_so : map (λ t. t.event) (filter (tells_life m) told) ≡ flat_map (λ life. told_by s.group (opening []) life.node.lived) (lives_of w m)
   pub justified : AllByRecursion (λ life. IsJustified s.group (opening []) life.node.lived) (lives_of w m)
 
+-- In each world that lines lead to, each removal in each life rests on an accusation, and what nodes report of the view is
+-- what their lives report.
 abbrev pub EachRemovalIsJustified : Type 0
 EachRemovalIsJustified = (s : Setting) (w : World) (told : List Told) (m : ℕ) → Reached s w told → TellsLives s w told m
 

@@ -1,6 +1,6 @@
-//! What a world of nodes does with each line of a schedule, as definitions and theorems alone: the disks and calls of its
-//! nodes, its lines with their verdicts and events, and the one walk over a text. Each law is the contract of a function
-//! that does nothing.
+//! Floor: world. What a world of nodes does with each line of a schedule, as definitions and theorems alone: the disks
+//! and calls of its nodes, its lines with their verdicts and events, and the one walk over a text. Each theorem is the
+//! contract of a function that does nothing. The contracts of all crates of worlds cite it.
 #![tactic(auto)]
 
 ghost use Rattle.world_rules.specs.Laws.{CallsComeSoFar, EachRemovalIsJustified, NodesSpendOnce};

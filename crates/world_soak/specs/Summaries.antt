@@ -18,5 +18,6 @@ taken_text c = count_line (codes "notes") c.notes ++ count_line (codes "accusati
 abbrev pub counts_text : Counts → List ℕ
 counts_text c = count_line (codes "sent") c.sent ++ taken_text c ++ (removed_line c.removed c.removed_correct ++ count_line (codes "spent") c.spent)
 
+-- The summary of a workload, line by line.
 abbrev pub summary_text : ℕ → ℕ → ℕ → ℕ → Counts → List ℕ
 summary_text seed nodes rounds lines c = (workload_line seed nodes rounds ++ count_line (codes "lines") lines) ++ counts_text c ++ (codes "end" ++ 10 ∷ [])

@@ -1,4 +1,5 @@
-//! A seeded attack on a world, and what is counted in it.
+//! Floor: world. A seeded attack on a world, played to its end, and what is counted in it. `fireflies` calls it, for
+//! the command `soak`.
 #![tactic(auto)]
 
 mod attack;

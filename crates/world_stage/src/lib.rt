@@ -1,4 +1,5 @@
-//! What has come of a schedule in the world form: its roster, as far as it was read, or the world that plays.
+//! Floor: world. What a schedule of a world has led to so far: its roster, as far as it was read, or the world that
+//! plays. `world_replay` and `world_soak` call it.
 #![tactic(auto)]
 
 ghost use Rattle.std.specs.Prelude.{[], List};

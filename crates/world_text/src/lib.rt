@@ -1,5 +1,6 @@
-//! The texts of a world's trace: its lines as they are written back, the verdicts on them, and what its nodes tell. Each
-//! call adds one text to the end of a list of bytes; where memory is refused, that list is as it was.
+//! Floor: world. The texts of a world's trace: its lines as they are written back, the verdicts on them, and the events
+//! of its nodes. Each call adds one text to the end of a list of bytes; where memory is refused, that list is as it
+//! was. `world` and `world_stage` call it.
 #![tactic(auto)]
 
 ghost use Rattle.world_text.specs.Lines.{LinesAreSpelled};

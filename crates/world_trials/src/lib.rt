@@ -1,4 +1,4 @@
-//! Schedules of worlds, played line by line, and their traces.
+//! Floor: checks. Tests of worlds: schedules that are played line by line, and their traces. Nothing stands on it.
 #![tactic(auto)]
 
 mod player;
