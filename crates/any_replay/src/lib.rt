@@ -6,5 +6,3 @@ mod player;
 
 pub use player::replay;
 
-#[cfg(test)]
-mod tests;

@@ -2,5 +2,3 @@
 #![tactic(auto)]
 
 pub mod play;
-#[cfg(test)]
-mod tests;

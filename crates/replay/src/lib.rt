@@ -7,5 +7,3 @@ mod report;
 
 pub use player::Player;
 
-#[cfg(test)]
-mod tests;

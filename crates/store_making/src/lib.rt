@@ -5,5 +5,3 @@ mod making;
 
 pub use making::make_store;
 
-#[cfg(test)]
-mod tests;

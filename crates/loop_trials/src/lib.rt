@@ -1,7 +1,0 @@
-//! Trials of the loop that runs a node, over a link, a clock, a disk and a sink in memory.
-#![tactic(auto)]
-
-#[cfg(test)]
-mod scene;
-#[cfg(test)]
-mod tests;
