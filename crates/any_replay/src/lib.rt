@@ -7,5 +7,3 @@ mod player;
 
 pub use player::replay;
 
-#[cfg(test)]
-mod tests;

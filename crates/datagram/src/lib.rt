@@ -8,8 +8,6 @@ pub use writing::{records_head, write};
 mod fields_in;
 pub mod laws;
 mod reading;
-#[cfg(test)]
-mod tests;
 mod writing;
 
 use ff_ids::{MemberId, Summary};

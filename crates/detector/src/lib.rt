@@ -108,5 +108,3 @@ impl Detector {
     }
 }
 
-#[cfg(test)]
-mod tests;

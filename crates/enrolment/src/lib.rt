@@ -7,5 +7,3 @@ mod signing;
 
 pub use enrolling::enroll;
 
-#[cfg(test)]
-mod tests;

@@ -2,25 +2,11 @@
 //! number of the status. The clauses of `run` are what the whole promises. Nothing stands on it.
 #![tactic(auto)]
 
-mod command;
-mod ending;
-mod forged;
-mod run;
-mod soak;
-mod start;
-mod status;
-#[cfg(test)]
-mod tests;
-mod words;
-
-pub use command::Command;
+pub use command_line::{Command, Status, run};
+use command_line::{start, words_of};
 use edges::{FileDisk, RealClock, StdSink, StdSource, UdpLink};
-pub use run::run;
-use start::start;
-pub use status::Status;
 use std::io;
 use std::process::ExitCode;
-use words::words_of;
 
 fn main(rt: HostRuntime) -> ExitCode {
     let words = words_of(rt.alloc(), std::env::args(&rt));

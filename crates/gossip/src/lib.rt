@@ -7,5 +7,3 @@ pub use partners::{in_turn, page_of, partner};
 
 mod lacking;
 mod partners;
-#[cfg(test)]
-mod tests;

@@ -18,5 +18,3 @@ pub use reading::read_event;
 pub use turn::{Heard, Turn, read_turn, write_turn};
 pub use writing::write_event;
 
-#[cfg(test)]
-mod tests;

@@ -3,5 +3,3 @@
 #![tactic(auto)]
 
 pub mod play;
-#[cfg(test)]
-mod tests;

@@ -17,5 +17,3 @@ pub use form::Form;
 pub use reader::Reader;
 pub use words::Words;
 
-#[cfg(test)]
-mod tests;

@@ -16,8 +16,6 @@ mod chain;
 mod digits;
 mod kind;
 pub mod places;
-#[cfg(test)]
-mod tests;
 
 /// What a hash of chain ends begins with, after the identifier and the leaf's number.
 const D_PBLC: u16 = 0x8080;

@@ -17,6 +17,4 @@ mod nodes;
 mod secret;
 mod signing;
 mod spending;
-#[cfg(test)]
-mod tests;
 mod verifying;

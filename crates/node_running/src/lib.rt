@@ -11,5 +11,3 @@ mod running;
 pub use halt::NodeHalt;
 pub use running::run_node;
 
-#[cfg(test)]
-mod tests;

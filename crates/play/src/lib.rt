@@ -11,5 +11,3 @@ pub use player::play;
 pub use script::{Refusal, Script};
 pub use stop::Stop;
 
-#[cfg(test)]
-mod tests;

@@ -144,5 +144,3 @@ pub fn write_all<O: Sink>(out: &mut O, bytes: &[u8]) -> Result<(), Failed>
     Ok(())
 }
 
-#[cfg(test)]
-mod tests;

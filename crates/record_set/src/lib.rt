@@ -13,8 +13,6 @@ ghost use Rattle.record_set.specs.Picks.{HasRing, held_all, spelled, fitting, Is
 
 pub mod laws;
 mod slots;
-#[cfg(test)]
-mod tests;
 
 use ff_ids::{MemberId, RecordKey, RingNo, Summary, SummaryEntry};
 use fields::NoMemory;

@@ -83,5 +83,3 @@ impl RecordList {
     }
 }
 
-#[cfg(test)]
-mod tests;

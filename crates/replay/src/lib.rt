@@ -8,5 +8,3 @@ mod report;
 
 pub use player::Player;
 
-#[cfg(test)]
-mod tests;

@@ -8,5 +8,3 @@ mod text;
 pub use lines::Lines;
 pub use text::{Command, Line, Text};
 
-#[cfg(test)]
-mod tests;

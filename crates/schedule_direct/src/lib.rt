@@ -10,5 +10,3 @@ mod read;
 pub use direct::Direct;
 pub use line::{DirectLine, PlaceList};
 
-#[cfg(test)]
-mod tests;

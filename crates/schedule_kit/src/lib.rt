@@ -11,5 +11,3 @@ mod read;
 pub use kit::{KitText, Owner};
 pub use line::KitLine;
 
-#[cfg(test)]
-mod tests;

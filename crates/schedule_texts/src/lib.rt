@@ -13,5 +13,3 @@ pub use roster::RosterText;
 pub use secret::SecretText;
 pub use shared::{read_group, read_kinds, read_secret, take_key, take_port};
 
-#[cfg(test)]
-mod tests;

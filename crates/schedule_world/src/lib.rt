@@ -14,5 +14,3 @@ pub use line::WorldLine;
 pub use named::Named;
 pub use text::WorldText;
 
-#[cfg(test)]
-mod tests;

@@ -12,8 +12,6 @@ use lms_tree::{PublicKey, SecretKey, TreeKind};
 use sha2::{Digest, Sha256};
 use std::alloc::Global;
 
-#[cfg(test)]
-mod tests;
 
 /// The identifier of the secret's key: the first 16 bytes of the SHA-256 of `FFLMSI` and the secret.
 #[tactic(auto, unfolding(crate::specs::Secrets::key_id))]

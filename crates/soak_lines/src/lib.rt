@@ -12,5 +12,3 @@ mod turn;
 
 pub use soak::Soak;
 
-#[cfg(test)]
-mod tests;

@@ -6,5 +6,3 @@ mod making;
 
 pub use making::make_store;
 
-#[cfg(test)]
-mod tests;

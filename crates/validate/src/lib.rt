@@ -10,5 +10,3 @@ mod table;
 pub use roster::Roster;
 pub use table::check;
 
-#[cfg(test)]
-mod tests;

@@ -7,5 +7,3 @@ mod verifier;
 
 pub use input::verify_input;
 
-#[cfg(test)]
-mod tests;

@@ -11,5 +11,3 @@ pub use line::VerifyLine;
 pub use question::{Asked, Question, answer_line};
 pub use verify::Verify;
 
-#[cfg(test)]
-mod tests;

@@ -10,5 +10,3 @@ pub use authority::Authority;
 pub use bodies::{is_among, is_same, newest_of};
 pub use keys::{AUTHORITY, Kinds, SigningKey, key_of};
 
-#[cfg(test)]
-mod tests;

@@ -8,5 +8,3 @@ mod player;
 pub use cause::Cause;
 pub use player::Player;
 
-#[cfg(test)]
-mod tests;

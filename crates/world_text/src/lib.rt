@@ -18,5 +18,3 @@ pub fn lines_are_spelled()
     ensures { LinesAreSpelled }
 {}
 
-#[cfg(test)]
-mod tests;

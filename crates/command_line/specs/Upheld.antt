@@ -1,0 +1,40 @@
+-- What each command upholds, beside how its run ends.
+use Rattle.play.specs.Plays.{Standing}
+use Rattle.epoch_store.specs.Calls.{SettlesAs}
+use Rattle.epoch_store.specs.Store.{made}
+use Rattle.authority.specs.declared.setting.Setting.{Setting}
+use Rattle.authority.specs.OfDisk.{OfDisk}
+use Rattle.authority.specs.Settings.{tag_of}
+use Rattle.authority.specs.Texts.{IsSecret}
+use Rattle.store_making.specs.Making.{first_of}
+use Rattle.command_line.specs.Enrolment.{Enrolment}
+use Rattle.command_line.specs.Headline.{Headline}
+use Rattle.command_line.specs.Ends.{Wires}
+use Rattle.command_line.specs.Journals.{NodeUpholds}
+use Rattle.command_line.specs.Soaking.{SoakUpheld}
+use Rattle.command_line.specs.Verification.{Verification}
+use Rattle.command_line.specs.declared.command.Command.{Command}
+use Rattle.command_line.specs.declared.command.Command.TheVariants.{Replay, Verify, Store, Enroll, Node, Soak}
+use Rattle.command_line.specs.declared.status.Status.{Status}
+use Rattle.command_line.specs.declared.status.Status.TheVariants as status
+
+-- what holds where a store was made
+abbrev pub OnMade : Status → Type 0 → Type 0
+OnMade status.Ok P = P
+OnMade _ P = Unit {0}
+
+-- The whole text was taken, and sets this up; the file is just the store of that key, settled: each crash leaves it.
+pub record IsStoreMade (was : Standing) (old new : OfDisk) : Type 0 where
+  pub setting : Setting
+  pub between : Standing
+  pub read : IsSecret was between setting
+  pub image : SettlesAs (λ _. made (tag_of setting) (first_of setting)) old.moments new.moments
+
+-- What each command upholds beyond its trace.
+abbrev pub Upholds : Command → Standing → Standing → OfDisk → OfDisk → Wires → Status → Type 0
+Upholds Replay was now old new before s = Headline was now s
+Upholds Verify was now old new before s = Verification was now s
+Upholds Store was now old new before s = OnMade s (IsStoreMade was old new)
+Upholds Enroll was now old new before s = Enrolment was old new
+Upholds (Node turns) was now old new before s = NodeUpholds turns was now old new before s
+Upholds (Soak seed members rounds) was now old new before s = SoakUpheld seed members rounds was now s

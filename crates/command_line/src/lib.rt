@@ -1,0 +1,18 @@
+//! The commands of the program, from the words of its command line to its status, over any objects of the outside. The
+//! program itself gives it the real ones; tests give it objects in memory.
+#![tactic(auto)]
+
+mod command;
+mod ending;
+mod forged;
+mod run;
+mod soak;
+mod start;
+mod status;
+mod words;
+
+pub use command::Command;
+pub use run::run;
+pub use start::start;
+pub use status::Status;
+pub use words::words_of;

@@ -1,9 +1,0 @@
-use Rattle.std.proofs.Common.{◌≡◌, ◌+◌, ◌*◌, ◌++◌, length, take}
-use Rattle.hex.specs.Hex.{encode_lower}
-use Rattle.fireflies.proofs.forged.add_digits.Given as goal
-
-abbrev pub invariant-loop-byte : goal.invariant-loop-byte
-invariant-loop-byte l = record {
-  written : l.text.bytes ≡ l.initial.text.bytes ++ encode_lower (take l.byte-index l.bytes);
-  short : length l.text.bytes ≡ length l.initial.text.bytes + 2 * l.byte-index;
-}

@@ -1,8 +1,0 @@
-use Rattle.world_replay.specs.Causes.{IsJudged}
-use Rattle.any_replay.specs.Replayed.{replayed}
-use Rattle.fireflies.specs.Causes.{for_cause}
-use Rattle.fireflies.proofs.EndLemmas.{concluded}
-use Rattle.fireflies.proofs.run.run_replay.Goals as goal
-
-pub returns : goal.returns
-returns g c = record { ends = concluded IsJudged for_cause replayed _ _ _ c.replay-ended.result _ _ c.replay-ended.ensures.runs c.from.ensures (c.conclude.ensures _ _) }

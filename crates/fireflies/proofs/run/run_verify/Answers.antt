@@ -1,8 +1,0 @@
-use Rattle.text_trace.specs.Trace.{Every}
-use Rattle.verifier.specs.Answered.{verified}
-use Rattle.fireflies.specs.Causes.{for_word}
-use Rattle.fireflies.proofs.EndLemmas.{concluded}
-use Rattle.fireflies.proofs.run.run_verify.Goals as goal
-
-pub returns : goal.returns
-returns g c = record { ends = concluded Every for_word verified _ _ _ c.verify_input-ended.result _ _ c.verify_input-ended.ensures.runs c.from.ensures (c.conclude.ensures _ _) }

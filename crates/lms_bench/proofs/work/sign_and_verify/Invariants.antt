@@ -1,5 +1,0 @@
-use Rattle.std.proofs.Common.{◌≡◌}
-use Rattle.lms_bench.proofs.work.sign_and_verify.Given as goal
-
-abbrev pub invariant-leaves : goal.invariant-leaves
-invariant-leaves g l = l.leaves.key ≡ l.tree

@@ -1,0 +1,21 @@
+//! Tests of the membership's rules, of failure detection, of gossip and of datagrams.
+#![tactic(auto)]
+
+#[cfg(test)]
+mod answering;
+#[cfg(test)]
+mod datagrams;
+#[cfg(test)]
+mod detecting;
+#[cfg(test)]
+mod held_records;
+#[cfg(test)]
+mod monitors;
+#[cfg(test)]
+mod partners;
+#[cfg(test)]
+mod places;
+#[cfg(test)]
+mod timers;
+#[cfg(test)]
+mod views;

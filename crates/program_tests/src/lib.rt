@@ -1,0 +1,19 @@
+//! Tests of the commands, run over objects in memory: worked texts to the byte, each bad word, and each call that fails.
+#![tactic(auto)]
+
+#[cfg(test)]
+mod members;
+#[cfg(test)]
+mod refusing;
+#[cfg(test)]
+mod replaying;
+#[cfg(test)]
+mod runs;
+#[cfg(test)]
+mod serving;
+#[cfg(test)]
+mod storing;
+#[cfg(test)]
+mod verifying;
+#[cfg(test)]
+mod worlds;

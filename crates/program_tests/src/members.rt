@@ -1,0 +1,158 @@
+//! A group of two members with their texts, stores and records, made without a run. Its keys are of the least kinds.
+
+use epoch_store::{Store, make};
+use ff_ids::{AccBody, Epoch, Group, Mask, MemberId, RingNo};
+use fields::Bytes;
+use fixtures::disk;
+use lms_ots::OtsKind;
+use lms_tree::{PublicKey, SecretKey, TreeKind};
+use ports::{LinkAnswer, MemoryDisk};
+use records::{CertBody, Checked, write_record};
+use secrets::{make_key, store_tag};
+use signer::Signer;
+use std::alloc::Global;
+use std::test::Fail;
+
+const GROUP: Group = Group {
+    tag: [0; 16],
+    t: 1,
+    timeout: 4,
+    period: 1,
+    misses: 2,
+};
+
+const HEAD: &str = "fireflies 1 kit\ngroup 1 4 1 2 00000000000000000000000000000000\nkinds 2 5\n\
+        self 1 a5a5a5a5a5a5a5a5a5a5a5a5a5a5a5a5a5a5a5a5a5a5a5a5a5a5a5a5a5a5a5a5\n";
+
+/// Of which each byte of a secret is.
+const AUTHORITY: u8 = 0x5a;
+
+const FIRST: u8 = 0xa5;
+
+const SECOND: u8 = 0x77;
+
+/// What a datagram of 2 with one record begins with.
+const RECORD: [u8; 8] = *b"\x46\x46\x01\x04\x00\x02\x00\x01";
+
+/// The key of a secret of this byte.
+fn key_of(alloc: Global, byte: u8) -> Result<SecretKey, Fail> {
+    Ok(make_key(alloc, OtsKind::W2, TreeKind::H5, &[byte; 32])?)
+}
+
+/// A signer with the key over a store that is made on the disk.
+fn signer_of(key: SecretKey, disk: &mut MemoryDisk) -> Result<Signer, Fail> {
+    let tag = store_tag(&GROUP, &key.public());
+    let (tree, leaves) = key.split();
+    make(disk, "s.st", &tag, Mask(7)).or(Err("no store is made"))?;
+    let store = Store::open(disk, "s.st", &tag).or(Err("no store"))?;
+    if leaves.next() > 0 || store.state().next > 0 {
+        return Err("a leaf is spent".into());
+    }
+    Ok(Signer::open(GROUP, tree, leaves, store))
+}
+
+/// The line of a certificate of this member.
+fn cert_line(
+    alloc: Global,
+    authority: &mut Signer,
+    disk: &mut MemoryDisk,
+    member: u8,
+    key: PublicKey,
+) -> Result<String, Fail> {
+    let cert = CertBody {
+        member: MemberId::new(u16::from(member)),
+        port: 20_000 + u16::from(member),
+        key,
+    };
+    let signed = authority
+        .sign_certificate(alloc, disk, cert)
+        .or(Err("no certificate"))?;
+    let digits = hex::encode(alloc, key.write().as_slice())?;
+    let signature = hex::encode(alloc, signed.rec().signature.as_slice())?;
+    Ok(format!(in alloc; "cert {member} 2000{member} {digits} {signature}\n")?)
+}
+
+/// Member 1: its text, with the certificates of those that are there, and its key.
+#[derive(Drop)]
+pub struct First {
+    pub text: String,
+    pub key: PublicKey,
+}
+
+/// Member 1, with certificates of it and of these others.
+fn first_beside(alloc: Global, others: &[(u8, PublicKey)]) -> Result<First, Fail> {
+    let mut disk = disk(alloc, &[])?;
+    let key = key_of(alloc, FIRST)?.public();
+    let own = key_of(alloc, AUTHORITY)?;
+    let digits = hex::encode(alloc, own.public().write().as_slice())?;
+    let mut authority = signer_of(own, &mut disk)?;
+    let mut text = format!(in alloc; "{HEAD}authority {digits}\ntick 100\n")?;
+    text.push_str(&cert_line(alloc, &mut authority, &mut disk, 1, key)?)?;
+    for (member, other) in others {
+        text.push_str(&cert_line(alloc, &mut authority, &mut disk, *member, *other)?)?;
+    }
+    text.push_str("end\n")?;
+    Ok(First { text, key })
+}
+
+/// Member 1, which is alone.
+pub fn first_alone(alloc: Global) -> Result<First, Fail> {
+    first_beside(alloc, &[])
+}
+
+/// Member 1, and the key of member 2, which is certified too.
+pub fn first_of_two(alloc: Global) -> Result<(First, SecretKey), Fail> {
+    let second = key_of(alloc, SECOND)?;
+    let first = first_beside(alloc, &[(2, second.public())])?;
+    Ok((first, second))
+}
+
+/// A disk with the store of this key, which four calls made, and that fails at the calls with these numbers.
+pub fn own_disk(alloc: Global, key: &PublicKey, fail: &[u64]) -> Result<MemoryDisk, Fail> {
+    let mut own = disk(alloc, fail)?;
+    make(&mut own, "n.st", &store_tag(&GROUP, key), Mask(7)).or(Err("no store is made"))?;
+    Ok(own)
+}
+
+/// A datagram of 2 with this record.
+fn datagram_with(alloc: Global, record: &Checked) -> Result<LinkAnswer, Fail> {
+    let mut bytes = RECORD.to_vec(alloc)?;
+    write_record(record.rec(), &mut bytes)?;
+    Ok(LinkAnswer::Got(Bytes::from_vec(bytes)))
+}
+
+/// The first note of 2, and its accusation of 1, as datagrams.
+#[derive(Drop)]
+pub struct OfSecond {
+    pub note: Checked,
+    pub accusation: Checked,
+}
+
+impl OfSecond {
+    /// Signed by this key.
+    pub fn signed(alloc: Global, key: SecretKey) -> Result<OfSecond, Fail> {
+        let mut disk = disk(alloc, &[])?;
+        let mut signer = signer_of(key, &mut disk)?;
+        let accusation = AccBody {
+            accuser: MemberId::new(2),
+            accused: MemberId::new(1),
+            epoch: Epoch::new(1),
+            ring: RingNo(0),
+        };
+        let note = signer
+            .sign_note(alloc, &mut disk, MemberId::new(2), Mask(7))
+            .or(Err("no note"))?;
+        let accusation = signer
+            .sign_accusation(alloc, &mut disk, accusation)
+            .or(Err("no accusation"))?;
+        Ok(OfSecond { note, accusation })
+    }
+
+    /// They come one after the other.
+    pub fn answers(&self, alloc: Global) -> Result<Vec<LinkAnswer>, Fail> {
+        let mut answers = Vec::new(alloc);
+        answers.push(datagram_with(alloc, &self.note)?)?;
+        answers.push(datagram_with(alloc, &self.accusation)?)?;
+        Ok(answers)
+    }
+}

@@ -1,0 +1,236 @@
+//! Texts of operators that are refused, each for its first bad word. No disk is touched for them.
+
+use crate::runs::run_failing;
+use std::alloc::Global;
+use std::process::Abort;
+use std::test::Fail;
+
+const GROUP: &str = "group 1 4 1 2 00000000000000000000000000000000\n";
+
+const SECRET: &str = "secret 5a5a5a5a5a5a5a5a5a5a5a5a5a5a5a5a5a5a5a5a5a5a5a5a5a5a5a5a5a5a5a5a\n";
+
+const KEY: &str =
+    "0000000500000002a1a1a1a1a1a1a1a1a1a1a1a1a1a1a1a1b2b2b2b2b2b2b2b2b2b2b2b2b2b2b2b2b2b2b2b2b2b2b2b2b2b2b2b2b2b2b2b2";
+
+/// What stands behind the front, and the line that is answered.
+type Refused = (&'static str, &'static str);
+
+/// The text with a key for each `#`.
+fn filled(alloc: Global, text: &str) -> Result<String, Fail> {
+    let mut filled = String::new(alloc);
+    for letter in text.chars() {
+        if letter == '#' {
+            filled.push_str(KEY)?;
+        } else {
+            filled.push(letter)?;
+        }
+    }
+    Ok(filled)
+}
+
+/// Each text is refused, with its line and nothing before it.
+fn refuse(
+    rt: &impl Abort,
+    alloc: Global,
+    words: &str,
+    front: &str,
+    rows: &[Refused],
+) -> Result<(), Fail> {
+    for (rest, wanted) in rows {
+        let rest = filled(alloc, rest)?;
+        let text = format!(in alloc; "{front}{rest}")?;
+        let got = run_failing(alloc, words, text.as_str(), 65_536, &[], &[])?;
+        assert_eq!(rt; got.written.as_slice(), wanted.as_bytes(), "for {text}");
+        assert_eq!(rt; got.number, 3, "for {text}");
+    }
+    Ok(())
+}
+
+/// The head of a text up to its kinds.
+fn head(alloc: Global, kind: &str) -> Result<String, Fail> {
+    Ok(format!(in alloc; "fireflies 1 {kind}\n{GROUP}kinds 2 5\n")?)
+}
+
+#[test]
+fn what_each_text_begins_with(rt: HostRuntime) -> Result<(), Fail> {
+    for (words, kind) in [
+        ("store a.st", "secret"),
+        ("enroll a.st", "roster"),
+        ("node n.st 2", "kit"),
+    ] {
+        refuse(&rt, rt.alloc(), words, "", &NO_HEADER)?;
+        let header = format!(in rt.alloc(); "fireflies 1 {kind}\n")?;
+        refuse(&rt, rt.alloc(), words, header.as_str(), &NO_GROUP)?;
+        let grouped = format!(in rt.alloc(); "{header}{GROUP}")?;
+        refuse(&rt, rt.alloc(), words, grouped.as_str(), &NO_KINDS)?;
+    }
+    Ok(())
+}
+
+const NO_HEADER: [Refused; 3] = [
+    ("", "bad 1 end\n"),
+    ("fireflies 1 direct\n", "bad 1 header\n"),
+    ("fireflies  1 secret\n", "bad 1 spaces\n"),
+];
+
+const NO_GROUP: [Refused; 12] = [
+    ("", "bad 2 end\n"),
+    ("end\n", "bad 2 order\n"),
+    ("kinds 2 5\n", "bad 2 order\n"),
+    ("view\n", "bad 2 word\n"),
+    ("group 1 4 1 2\n", "bad 2 count\n"),
+    ("group 1 4 01 2 00\n", "bad 2 number\n"),
+    ("group 1 4 1 2 0\n", "bad 2 hex\n"),
+    ("group 1 4 1 2 00\n", "bad 2 limit\n"),
+    (
+        "group 16 4 1 2 00000000000000000000000000000000\n",
+        "bad 2 limit\n",
+    ),
+    (
+        "group 1 4 1001 2 00000000000000000000000000000000\n",
+        "bad 2 limit\n",
+    ),
+    (
+        "group 1 4 1 17 00000000000000000000000000000000\n",
+        "bad 2 limit\n",
+    ),
+    (
+        "group 1 4 1 2 0000000000000000000000000000000g\n",
+        "bad 2 hex\n",
+    ),
+];
+
+const NO_KINDS: [Refused; 6] = [
+    ("end\n", "bad 3 order\n"),
+    ("kinds 2\n", "bad 3 count\n"),
+    ("kinds 3 5\n", "bad 3 limit\n"),
+    ("kinds 2 20\n", "bad 3 limit\n"),
+    ("kinds x 5\n", "bad 3 number\n"),
+    ("kinds 2 5", "bad 3 line-feed\n"),
+];
+
+#[test]
+fn the_text_of_a_secret(rt: HostRuntime) -> Result<(), Fail> {
+    let head = head(rt.alloc(), "secret")?;
+    refuse(&rt, rt.alloc(), "store a.st", head.as_str(), &SECRETS)?;
+    let whole = format!(in rt.alloc(); "{head}{SECRET}")?;
+    refuse(
+        &rt,
+        rt.alloc(),
+        "store a.st",
+        whole.as_str(),
+        &BEHIND_SECRET,
+    )
+}
+
+/// A secret of 31 bytes, one of 33, and others that are none.
+const SECRETS: [Refused; 6] = [
+    (
+        "secret 5a5a5a5a5a5a5a5a5a5a5a5a5a5a5a5a5a5a5a5a5a5a5a5a5a5a5a5a5a5a5a\n",
+        "bad 4 limit\n",
+    ),
+    (
+        "secret 5a5a5a5a5a5a5a5a5a5a5a5a5a5a5a5a5a5a5a5a5a5a5a5a5a5a5a5a5a5a5a5a5a\n",
+        "bad 4 limit\n",
+    ),
+    ("secret 5\n", "bad 4 hex\n"),
+    ("secret -\n", "bad 4 hex\n"),
+    ("secret\n", "bad 4 count\n"),
+    ("end\n", "bad 4 order\n"),
+];
+
+const BEHIND_SECRET: [Refused; 6] = [
+    ("", "bad 5 end\n"),
+    ("end", "bad 5 line-feed\n"),
+    ("end\nx", "bad 6 after-end\n"),
+    ("end\n\n", "bad 6 after-end\n"),
+    ("secret 00\n", "bad 5 order\n"),
+    ("cert 1 20001 #\n", "bad 5 word\n"),
+];
+
+#[test]
+fn the_text_of_a_roster(rt: HostRuntime) -> Result<(), Fail> {
+    let head = head(rt.alloc(), "roster")?;
+    let front = format!(in rt.alloc(); "{head}{SECRET}")?;
+    refuse(&rt, rt.alloc(), "enroll a.st", head.as_str(), &SECRETS)?;
+    refuse(&rt, rt.alloc(), "enroll a.st", front.as_str(), &ASKED)
+}
+
+const ASKED: [Refused; 13] = [
+    ("", "bad 5 end\n"),
+    ("secret 00\n", "bad 5 order\n"),
+    ("self 1 00\n", "bad 5 word\n"),
+    ("cert 1 20001\n", "bad 5 count\n"),
+    ("cert 1 20001 # 00\n", "bad 5 count\n"),
+    ("cert -1 20001 #\n", "bad 5 number\n"),
+    ("cert 1024 20001 #\n", "bad 5 limit\n"),
+    ("cert 1 0 #\n", "bad 5 limit\n"),
+    ("cert 1 65536 #\n", "bad 5 limit\n"),
+    ("cert 1 20001 0\n", "bad 5 hex\n"),
+    ("cert 1 20001 #00\n", "bad 5 limit\n"),
+    ("cert 1 20001 #\ncert 1 20002 #\n", "bad 6 limit\n"),
+    ("cert 1 20001 #\nend\nx", "bad 7 after-end\n"),
+];
+
+/// The text of a member up to its secret, of which a key is made at once.
+fn owned(alloc: Global) -> Result<String, Fail> {
+    let head = head(alloc, "kit")?;
+    let own = SECRET.strip_prefix("secret ").ok_or("no secret")?;
+    Ok(format!(in alloc; "{head}self 1 {own}")?)
+}
+
+#[test]
+fn the_text_of_a_member(rt: HostRuntime) -> Result<(), Fail> {
+    let head = head(rt.alloc(), "kit")?;
+    refuse(&rt, rt.alloc(), "node n.st 2", head.as_str(), &OWN)?;
+    let owned = owned(rt.alloc())?;
+    refuse(&rt, rt.alloc(), "node n.st 2", owned.as_str(), &BEHIND_OWN)
+}
+
+const OWN: [Refused; 5] = [
+    ("authority #\n", "bad 4 order\n"),
+    ("secret 00\n", "bad 4 word\n"),
+    ("self 1 00\n", "bad 4 limit\n"),
+    ("self 1024 00\n", "bad 4 limit\n"),
+    ("self 1\n", "bad 4 count\n"),
+];
+
+const BEHIND_OWN: [Refused; 4] = [
+    ("tick 100\n", "bad 5 order\n"),
+    ("authority 00\n", "bad 5 limit\n"),
+    ("authority #\ntick 60001\n", "bad 6 limit\n"),
+    ("authority #\ntick 1x\n", "bad 6 number\n"),
+];
+
+#[test]
+fn the_certificates_of_a_member(rt: HostRuntime) -> Result<(), Fail> {
+    let owned = owned(rt.alloc())?;
+    let front = format!(in rt.alloc(); "{owned}authority {KEY}\ntick 100\n")?;
+    refuse(&rt, rt.alloc(), "node n.st 2", front.as_str(), &CERTIFIED)
+}
+
+const CERTIFIED: [Refused; 4] = [
+    ("", "bad 7 end\n"),
+    ("end\n", "bad 7 self\n"),
+    ("cert 1 20001 # -\n", "bad 7 hex\n"),
+    ("cert 1 20001 # 00\n", "bad 7 cert\n"),
+];
+
+#[test]
+fn a_line_that_is_too_long(rt: HostRuntime) -> Result<(), Fail> {
+    let mut line = String::new(rt.alloc());
+    for _ in 0..65_601u32 {
+        line.push('v')?;
+    }
+    for (words, kind) in [
+        ("store a.st", "secret"),
+        ("enroll a.st", "roster"),
+        ("node n.st 2", "kit"),
+    ] {
+        let text = format!(in rt.alloc(); "fireflies 1 {kind}\n{line}\n")?;
+        let got = run_failing(rt.alloc(), words, text.as_str(), 65_536, &[], &[])?;
+        assert_eq!(rt; got.written.as_slice(), b"bad 2 long\n".as_slice());
+        assert_eq!(rt; got.number, 3);
+    }
+    Ok(())
+}

@@ -1,0 +1,227 @@
+//! Stores that are made and used, over objects in memory.
+
+use crate::runs::{Run, compare, run_over};
+use epoch_store::make;
+use ff_ids::{Group, Mask};
+use fixtures::disk;
+use lms_ots::OtsKind;
+use lms_tree::TreeKind;
+use ports::MemoryDisk;
+use secrets::{make_key, store_tag};
+use std::alloc::Global;
+use std::process::Abort;
+use std::test::Fail;
+
+const GROUP: &str = "group 1 4 1 2 00000000000000000000000000000000\nkinds 2 5\n";
+
+const SECRET: &str = "secret 5a5a5a5a5a5a5a5a5a5a5a5a5a5a5a5a5a5a5a5a5a5a5a5a5a5a5a5a5a5a5a5a\n";
+
+const KEY: &str =
+    "0000000500000004a1a1a1a1a1a1a1a1a1a1a1a1a1a1a1a1b2b2b2b2b2b2b2b2b2b2b2b2b2b2b2b2b2b2b2b2b2b2b2b2b2b2b2b2b2b2b2b2";
+
+/// The text of the secret.
+fn secret(alloc: Global) -> Result<String, Fail> {
+    Ok(format!(in alloc; "fireflies 1 secret\n{GROUP}{SECRET}end\n")?)
+}
+
+/// A roster that asks for so many certificates.
+fn roster(alloc: Global, count: u16) -> Result<String, Fail> {
+    let mut text = format!(in alloc; "fireflies 1 roster\n{GROUP}{SECRET}")?;
+    for member in 0..count {
+        let line = format!(in alloc; "cert {member} 20000 {KEY}\n")?;
+        text.push_str(line.as_str())?;
+    }
+    text.push_str("end\n")?;
+    Ok(text)
+}
+
+/// Whether the part stands at this place.
+fn stands_at(text: &[u8], place: usize, part: &[u8]) -> bool {
+    for (index, byte) in part.iter().enumerate() {
+        if text.get(place.wrapping_add(index)) != Some(byte) {
+            return false;
+        }
+    }
+    true
+}
+
+/// Makes the store of the key in the disk's file.
+fn make_store(alloc: Global, disk: &mut MemoryDisk) -> Result<Run, Fail> {
+    let text = secret(alloc)?;
+    run_over(alloc, &["store", "a.st"], text.as_str(), disk)
+}
+
+/// Asks the store in the disk's file for so many certificates.
+fn enroll(alloc: Global, count: u16, disk: &mut MemoryDisk) -> Result<Run, Fail> {
+    let text = roster(alloc, count)?;
+    run_over(alloc, &["enroll", "a.st"], text.as_str(), disk)
+}
+
+/// What a line begins with that certifies this member with this index.
+fn signed_line(alloc: Global, member: u8, index: u8) -> Result<String, Fail> {
+    Ok(format!(in alloc; "cert {member} 20000 {KEY} 0000000{index}")?)
+}
+
+/// The number of lines.
+fn lines(text: &[u8]) -> u32 {
+    let mut lines = 0u32;
+    for byte in text {
+        if *byte == b'\n' {
+            lines = lines.wrapping_add(1);
+        }
+    }
+    lines
+}
+
+#[test]
+fn a_store_is_made_once(rt: HostRuntime) -> Result<(), Fail> {
+    let mut disk = disk(rt.alloc(), &[])?;
+    let made = make_store(rt.alloc(), &mut disk)?;
+    assert_eq!(rt; made.number, 0);
+    assert_eq!(rt; made.written.len(), 117);
+    assert_eq!(rt; stands_at(&made.written, 0, b"key 0000000500000002"), true);
+    assert_eq!(rt; disk.image().len(), 58);
+    let again = make_store(rt.alloc(), &mut disk)?;
+    compare(&rt, &again, 12, b"store taken 58\n");
+    Ok(())
+}
+
+#[test]
+fn each_certificate_has_the_next_index(rt: HostRuntime) -> Result<(), Fail> {
+    let mut disk = disk(rt.alloc(), &[])?;
+    make_store(rt.alloc(), &mut disk)?;
+    let got = enroll(rt.alloc(), 2, &mut disk)?;
+    assert_eq!(rt; got.number, 0);
+    assert_eq!(rt; lines(&got.written), 2);
+    let length = got.written.len() / 2;
+    for (member, place) in [(0u8, 0usize), (1, length)] {
+        let line = signed_line(rt.alloc(), member, member)?;
+        assert_eq!(rt; stands_at(&got.written, place, line.as_bytes()), true);
+        assert_eq!(rt; length, line.len().wrapping_add(8_913));
+    }
+    Ok(())
+}
+
+#[test]
+fn a_key_is_used_up(rt: HostRuntime) -> Result<(), Fail> {
+    let mut disk = disk(rt.alloc(), &[])?;
+    make_store(rt.alloc(), &mut disk)?;
+    let got = enroll(rt.alloc(), 33, &mut disk)?;
+    assert_eq!(rt; got.number, 10);
+    assert_eq!(rt; lines(&got.written), 33);
+    assert_eq!(rt; got.written.as_slice().ends_with(b"\nexhausted 32\n"), true);
+    Ok(())
+}
+
+/// Makes the store on a disk that fails at this call, of four. The same words then make it where nothing was written, and
+/// find it taken where only the sync failed.
+fn make_twice(rt: &impl Abort, alloc: Global, call: u64) -> Result<(), Fail> {
+    let mut disk = disk(alloc, &[call])?;
+    let first = make_store(alloc, &mut disk)?;
+    compare(rt, &first, 7, b"store fault\n");
+    assert_eq!(rt; disk.image().is_empty(), call < 3);
+    if call < 2 {
+        return Ok(());
+    }
+    let again = make_store(alloc, &mut disk)?;
+    if call == 3 {
+        compare(rt, &again, 12, b"store taken 58\n");
+        return Ok(());
+    }
+    assert_eq!(rt; again.number, 0);
+    assert_eq!(rt; disk.image().len(), 58);
+    Ok(())
+}
+
+#[test]
+fn a_disk_that_fails_at_each_call_of_a_making(rt: HostRuntime) -> Result<(), Fail> {
+    for call in 0..4u64 {
+        make_twice(&rt, rt.alloc(), call)?;
+    }
+    Ok(())
+}
+
+/// The mark of the authority's store.
+fn tag(alloc: Global) -> Result<[u8; 32], Fail> {
+    let key = make_key(alloc, OtsKind::W2, TreeKind::H5, &[0x5a; 32])?.public();
+    let group = Group {
+        tag: [0; 16],
+        t: 1,
+        timeout: 4,
+        period: 1,
+        misses: 2,
+    };
+    Ok(store_tag(&group, &key))
+}
+
+/// Enrolls two on a disk that fails at this call: four made the store, five open it, and four sign each. So many lines
+/// stand above that of the cause. Where an index is given, the next enrolment begins with it.
+fn enroll_failing(
+    rt: &impl Abort,
+    alloc: Global,
+    tag: &[u8; 32],
+    call: u64,
+    count: u32,
+    next: Option<u8>,
+) -> Result<(), Fail> {
+    let mut disk = disk(alloc, &[call])?;
+    make(&mut disk, "a.st", tag, Mask(7)).or(Err("no store is made"))?;
+    let got = enroll(alloc, 2, &mut disk)?;
+    assert_eq!(rt; got.number, 7);
+    assert_eq!(rt; lines(&got.written), count.wrapping_add(1));
+    assert!(rt; got.written.as_slice().ends_with(b"store fault\n"));
+    let Some(next) = next else {
+        return Ok(());
+    };
+    let again = enroll(alloc, 1, &mut disk)?;
+    let line = signed_line(alloc, 0, next)?;
+    assert_eq!(rt; again.number, 0);
+    assert!(rt; again.written.as_slice().starts_with(line.as_bytes()));
+    Ok(())
+}
+
+#[test]
+fn a_disk_that_fails_as_an_authoritys_store_is_opened(rt: HostRuntime) -> Result<(), Fail> {
+    let tag = tag(rt.alloc())?;
+    for call in 4..9u64 {
+        enroll_failing(&rt, rt.alloc(), &tag, call, 0, None)?;
+    }
+    Ok(())
+}
+
+/// Where the index may be stored, it is not used again.
+#[test]
+fn a_disk_that_fails_as_a_certificate_is_signed(rt: HostRuntime) -> Result<(), Fail> {
+    let tag = tag(rt.alloc())?;
+    for (call, next) in [(9u64, None), (10, None), (11, Some(0u8)), (12, Some(1))] {
+        enroll_failing(&rt, rt.alloc(), &tag, call, 0, next)?;
+    }
+    Ok(())
+}
+
+#[test]
+fn a_disk_that_fails_as_the_next_is_signed(rt: HostRuntime) -> Result<(), Fail> {
+    let tag = tag(rt.alloc())?;
+    for (call, next) in [(13u64, None), (14, None), (15, None), (16, Some(2u8))] {
+        enroll_failing(&rt, rt.alloc(), &tag, call, 1, next)?;
+    }
+    Ok(())
+}
+
+#[test]
+fn an_empty_file_is_no_store(rt: HostRuntime) -> Result<(), Fail> {
+    let mut disk = disk(rt.alloc(), &[])?;
+    let got = enroll(rt.alloc(), 1, &mut disk)?;
+    compare(&rt, &got, 8, b"store broken 0 none\n");
+    Ok(())
+}
+
+#[test]
+fn words_that_name_no_command(rt: HostRuntime) -> Result<(), Fail> {
+    let mut disk = disk(rt.alloc(), &[])?;
+    for words in [["store", ""], ["enrol", "a.st"], ["replay", "x"]] {
+        let got = run_over(rt.alloc(), &words, SECRET, &mut disk)?;
+        compare(&rt, &got, 2, b"");
+    }
+    Ok(())
+}

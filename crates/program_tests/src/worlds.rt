@@ -1,0 +1,243 @@
+//! Worlds, by `replay` and by `soak`.
+
+use crate::runs::{run_failing, words_of};
+use command_line::run;
+use ff_ids::{Epoch, Group, Mask, MemberId, NoteBody};
+use fields::Bytes;
+use fixtures::disk;
+use journal::{read_event, write_event};
+use lms_ots::OtsKind;
+use lms_tree::TreeKind;
+use ports::{
+    Clock, Disk, Link, LinkAnswer, MemoryClock, MemoryLink, MemorySink, MemorySource, Received,
+};
+use records::{Body, Record, signed_bytes, write_record};
+use secrets::{make_key, world_secret};
+use std::alloc::Global;
+use std::process::Abort;
+use std::test::Fail;
+
+/// A node that runs, and a liar.
+const WORLD: &str =
+    "fireflies 1 world\ngroup 1 4 1 2 00000000000000000000000000000000\nkinds 8 5\nnode 1\nliar 2\nbegin\nstart 1\n";
+
+const WORLD_TRACE: &str =
+    "fireflies 1 world\ngroup 1 4 1 2 00000000000000000000000000000000\nkinds 8 5\nnode 1\nliar 2\nbegin\n\
+        start 1 : life 1\n@1 at 0 spent 0 note 1 1 7\n@1 at 0 entered 1\n";
+
+/// Replays what stands behind the world, and compares what was written behind its trace, and the number.
+fn replays(
+    rt: &impl Abort,
+    alloc: Global,
+    rest: &str,
+    trace: &str,
+    number: u8,
+) -> Result<(), Fail> {
+    let text = format!(in alloc; "{WORLD}{rest}")?;
+    let wanted = format!(in alloc; "{WORLD_TRACE}{trace}")?;
+    let got = run_failing(alloc, "replay", text.as_str(), 65_536, &[], &[])?;
+    assert_eq!(rt; got.written.as_slice(), wanted.as_bytes(), "for {rest}");
+    assert_eq!(rt; got.number, number, "for {rest}");
+    Ok(())
+}
+
+#[test]
+fn any_bytes_are_handed_to_a_node(rt: HostRuntime) -> Result<(), Fail> {
+    replays(
+        &rt,
+        rt.alloc(),
+        "raw 1 4646010100020000000000000102\nraw 1 4646\nraw 2 00\nend\n",
+        "raw 1 4646010100020000000000000102\n@1 at 0 ping 2 258\n\
+            @1 at 0 sent 0 2 4646010200010000000000000102\nraw 1 4646\n@1 at 0 bad-form 2\n\
+            raw 2 00 : refused not-node\nend\n",
+        0,
+    )?;
+    replays(&rt, rt.alloc(), "raw 1 4\n", "bad 8 hex\n", 3)
+}
+
+/// Whether the text is an event's, which is written as it is read.
+fn is_event(alloc: Global, text: &str) -> bool {
+    let mut out = Vec::new(alloc);
+    match read_event(alloc, text.as_bytes()) {
+        Ok(event) => write_event(&event, &mut out).is_ok() && out.as_slice() == text.as_bytes(),
+        Err(_) => false,
+    }
+}
+
+/// A liar accuses a node three times, of which two stand, and are answered.
+const LIES: &str = "sign-note 2 2 1 7 a\ngive a 1\nsign-accusation 2 2 1 1 0 b\ngive b 1\n\
+        sign-accusation 2 2 1 2 1 c\ngive c 1\nsign-accusation 2 2 1 now 1 d\ngive d 1\nend\n";
+
+#[test]
+fn what_is_told_in_a_world_is_read(rt: HostRuntime) -> Result<(), Fail> {
+    let alloc = rt.alloc();
+    let text = format!(in alloc; "{WORLD}{LIES}")?;
+    let got = run_failing(alloc, "replay", text.as_str(), 65_536, &[], &[])?;
+    assert_eq!(rt; got.number, 0);
+    let mut events = 0u32;
+    for line in std::str::from_utf8(&got.written).unwrap_or("").lines() {
+        if let Some(event) = line.strip_prefix("@1 ") {
+            assert!(rt; is_event(alloc, event), "{line}");
+            events = events.wrapping_add(1);
+        }
+    }
+    assert_eq!(rt; events, 13);
+    Ok(())
+}
+
+/// A datagram with a note of node 1 that the schedule never signed, as digits.
+#[tactic(auto, unfolding(lms_tree::specs::Lms::public_of))]
+fn forged_note(alloc: Global) -> Result<String, Fail> {
+    let group = Group {
+        tag: [0; 16],
+        t: 1,
+        timeout: 4,
+        period: 1,
+        misses: 2,
+    };
+    let body = Body::Note(NoteBody {
+        member: MemberId::new(1),
+        epoch: Epoch::new(9),
+        mask: Mask(7),
+    });
+    let secret = world_secret(&group.tag, 1);
+    let (tree, mut leaves) = make_key(alloc, OtsKind::W8, TreeKind::H5, &secret)?.split();
+    leaves.skip_to(5);
+    let mut signature = vec![in alloc; 0; tree.public().signature_length()]?;
+    let Some(leaf) = leaves.take() else {
+        return Err("no leaf".into());
+    };
+    tree.sign(leaf, signed_bytes(&group, &body).as_slice(), &mut signature);
+    let forged = Record {
+        body,
+        signature: Bytes::from_vec(signature),
+    };
+    let mut bytes = [0x46, 0x46, 1, 4, 0, 2, 0, 1].to_vec(alloc)?;
+    write_record(&forged, &mut bytes)?;
+    Ok(hex::encode(alloc, bytes.as_slice())?)
+}
+
+#[test]
+fn a_forged_record_ends_the_run(rt: HostRuntime) -> Result<(), Fail> {
+    let digits = forged_note(rt.alloc())?;
+    let rest = format!(in rt.alloc(); "raw 1 {digits}\nend\n")?;
+    replays(&rt, rt.alloc(), rest.as_str(), "forged 8 1 note 1 9 7\n", 4)
+}
+
+#[test]
+fn a_forged_record_leaves_the_outside(rt: HostRuntime) -> Result<(), Fail> {
+    let alloc = rt.alloc();
+    let digits = forged_note(alloc)?;
+    let text = format!(in alloc; "{WORLD}raw 1 {digits}\nend\n")?;
+    let words = words_of(alloc, &["replay"])?;
+    let mut input = MemorySource::new(text.as_bytes().to_vec(alloc)?, 4_096, Vec::new(alloc));
+    let mut out = MemorySink::new(alloc, 4_000, 4_096, Vec::new(alloc))?;
+    // At their first call disk and link fail, and the clock reads 7; at a second they do not.
+    let mut disk = disk(alloc, &[0])?;
+    let answers = vec![in alloc; LinkAnswer::Failed]?;
+    let mut link = MemoryLink::new(alloc, answers, Vec::new(alloc), false);
+    let mut clock = MemoryClock::new([7u64, 9].to_vec(alloc)?);
+    let status = run(
+        alloc, &words, &mut input, &mut out, &mut disk, &mut link, &mut clock,
+    );
+    assert_eq!(rt; status.number(), 4);
+    assert!(rt; out.bytes().ends_with(b"\nforged 8 1 note 1 9 7\n"));
+    assert!(rt; disk.len().is_err());
+    assert!(rt; matches!(link.receive(&mut [0; 8]), Received::Failed));
+    assert!(rt; link.sent().is_empty());
+    assert_eq!(rt; clock.now(), 7);
+    Ok(())
+}
+
+/// The head of a world with small keys.
+const SMALL: &str =
+    "fireflies 1 world\ngroup 1 4 1 2 00000000000000000000000000000000\nkinds 2 5\n";
+
+/// Lines behind the head, which are written back, and those of a line that is refused behind them.
+const REFUSED: [(&str, &str, &str); 16] = [
+    ("", "kinds 2 5\n", "bad 4 order\n"),
+    ("node 1\n", "node 1\n", "bad 5 limit\n"),
+    ("node 1\n", "node 1024\n", "bad 5 limit\n"),
+    ("node 1\n", "start 1\n", "bad 5 order\n"),
+    ("liar 1\n", "begin\n", "bad 5 order\n"),
+    ("node 1\nbegin\n", "liar 2\n", "bad 6 order\n"),
+    ("node 1\nbegin\n", "leave 1\n", "bad 6 word\n"),
+    ("node 1\nbegin\n", "start\n", "bad 6 count\n"),
+    ("node 1\nbegin\n", "stop 1 65536\n", "bad 6 limit\n"),
+    ("node 1\nbegin\n", "arm 1 1001 0\n", "bad 6 limit\n"),
+    ("node 1\nbegin\n", "flow 0\n", "bad 6 limit\n"),
+    ("node 1\nbegin\n", "monitor 1 3 1\n", "bad 6 limit\n"),
+    ("node 1\nbegin\n", "give A 1\n", "bad 6 name\n"),
+    (
+        "node 1\nbegin\n",
+        "give a23456789-123456789-123456789-123 1\n",
+        "bad 6 name\n",
+    ),
+    (
+        "node 1\nbegin\n",
+        "sign-accusation 1 1 then 0 a 1\n",
+        "bad 6 number\n",
+    ),
+    ("node 1\nbegin\n", "", "bad 6 end\n"),
+];
+
+#[test]
+fn lines_that_a_world_refuses(rt: HostRuntime) -> Result<(), Fail> {
+    let alloc = rt.alloc();
+    for (kept, line, refusal) in &REFUSED {
+        let text = format!(in alloc; "{SMALL}{kept}{line}")?;
+        let wanted = format!(in alloc; "{SMALL}{kept}{refusal}")?;
+        let got = run_failing(alloc, "replay", text.as_str(), 65_536, &[], &[])?;
+        assert_eq!(rt; got.written.as_slice(), wanted.as_bytes(), "for {line}");
+        assert_eq!(rt; got.number, 3, "for {line}");
+    }
+    Ok(())
+}
+
+/// The words so many times.
+fn repeated(alloc: Global, words: &str, times: u32) -> Result<String, Fail> {
+    let mut text = String::new(alloc);
+    for _ in 0..times {
+        text.push_str(words)?;
+    }
+    Ok(text)
+}
+
+#[test]
+fn a_world_at_its_limits(rt: HostRuntime) -> Result<(), Fail> {
+    let alloc = rt.alloc();
+    let mut members = String::new(alloc);
+    for member in 0..32u8 {
+        members.push_str(format!(in alloc; "node {member}\n")?.as_str())?;
+    }
+    let text = format!(in alloc; "{SMALL}{members}liar 32\n")?;
+    let got = run_failing(alloc, "replay", text.as_str(), 65_536, &[], &[])?;
+    assert!(rt; got.written.ends_with(b"node 31\nbad 36 limit\n"));
+    let ticks = repeated(alloc, "tick 1 10000\n", 10)?;
+    let text = format!(in alloc; "{SMALL}node 1\nbegin\n{ticks}tick 1 1\n")?;
+    let got = run_failing(alloc, "replay", text.as_str(), 65_536, &[], &[])?;
+    assert!(rt;
+        got.written
+            .ends_with(b"tick 1 10000 : refused stopped\nbad 16 limit\n")
+    );
+    let bytes = repeated(alloc, "00", 32_769)?;
+    let text = format!(in alloc; "{WORLD}raw 1 {bytes}\nraw 1 {bytes}00\n")?;
+    let got = run_failing(alloc, "replay", text.as_str(), 65_536, &[], &[])?;
+    assert!(rt;
+        got.written
+            .ends_with(b"00\n@1 at 0 bad-form 32768\nbad 9 limit\n")
+    );
+    Ok(())
+}
+
+#[test]
+fn a_workload_is_counted(rt: HostRuntime) -> Result<(), Fail> {
+    let got = run_failing(rt.alloc(), "soak 7 3 1", "", 65_536, &[0], &[])?;
+    assert_eq!(rt; got.number, 0);
+    assert!(rt; got.written.starts_with(b"soak 7 3 1\nlines 15\nsent "));
+    assert!(rt;
+        got.written
+            .ends_with(b"removed 0 correct 0\nspent 3\nend\n")
+    );
+    Ok(())
+}

@@ -1,0 +1,37 @@
+//! Tests of lines, texts and journals, and of the commands that read a text, over objects in memory.
+#![tactic(auto)]
+
+#[cfg(test)]
+mod commands;
+#[cfg(test)]
+mod copying;
+#[cfg(test)]
+mod direct_lines;
+#[cfg(test)]
+mod enrolling;
+#[cfg(test)]
+mod field_bytes;
+#[cfg(test)]
+mod journals;
+#[cfg(test)]
+mod kit_lines;
+#[cfg(test)]
+mod life_lines;
+#[cfg(test)]
+mod making;
+#[cfg(test)]
+mod memory_ports;
+#[cfg(test)]
+mod replaying;
+#[cfg(test)]
+mod roster_lines;
+#[cfg(test)]
+mod soaks;
+#[cfg(test)]
+mod verify_lines;
+#[cfg(test)]
+mod verifying;
+#[cfg(test)]
+mod words;
+#[cfg(test)]
+mod world_lines;
