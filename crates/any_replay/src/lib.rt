@@ -1,5 +1,5 @@
 //! Floor: program. Plays a recorded text of either form, as one script of the loop: its first line decides which.
-//! `fireflies` calls it, for the command `replay`.
+//! `command_line` calls it, for the command `replay`.
 #![tactic(auto)]
 
 mod form;

@@ -1,7 +1,8 @@
-//! All benches, of which the words pick one: `lms`, `records`, `signer` and `node` print times; `read` reads a datagram's
-//! worth of records and prints how many it could; `hold` keeps a node among 1,000 members until a line comes;
-//! `receive PORT TURNS` is the plain side of the times of a node that is served, and `hash COUNT` prints the time of so
-//! many plain calls of SHA-256; `call WORD` makes one call of a node. With other words it says so, and exits with 2.
+//! Floor: checks. All benches, of which the words pick one: `lms`, `records`, `signer` and `node` print times; `read`
+//! reads a datagram's worth of records and prints how many it could; `hold` keeps a node among 1,000 members until a
+//! line comes; `receive PORT TURNS` is the plain side of the times of a node that is served, and `hash COUNT` prints
+//! the time of so many plain calls of SHA-256; `call WORD` makes one call of a node. With other words it says so, and
+//! exits with 2. The scripts in `bench/` run it.
 #![tactic(auto)]
 
 mod call;

@@ -1,5 +1,5 @@
-//! The commands of the program, from the words of its command line to its status, over any objects of the outside. The
-//! program itself gives it the real ones; tests give it objects in memory.
+//! Floor: program. The commands of the program, from the words of its command line to its status, over any objects of
+//! the outside. `fireflies` gives it the real ones; `program_tests` gives it objects in memory.
 #![tactic(auto)]
 
 mod command;

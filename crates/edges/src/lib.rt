@@ -1,6 +1,6 @@
 //! Floor: program. The outside of the program: standard input as a source, standard output as a sink, a file as a disk,
 //! a UDP socket as a link, the monotonic clock, and what is there in place of these three where a run needs none. The
-//! program and `loop_bench` alone make them.
+//! program and `bench` alone make them.
 //!
 //! The source and the sink reveal what their reader and writer reveal: over the toolchain's own standard input and
 //! output that is nothing. A file, a socket and the clock reveal nothing: their clauses say when a call fails and is

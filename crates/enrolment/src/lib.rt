@@ -1,5 +1,5 @@
 //! Floor: program. Signs certificates with an authority's store: reads a roster whole, opens the store, and then signs
-//! and writes each certificate that is asked for, in turn. `fireflies` calls it, for the command `enroll`.
+//! and writes each certificate that is asked for, in turn. `command_line` calls it, for the command `enroll`.
 #![tactic(auto)]
 
 mod enrolling;

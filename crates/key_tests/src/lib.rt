@@ -1,5 +1,5 @@
-//! Tests of keys, signed records, stores and signers: values of other implementations, each fault beside each later
-//! one, each stop, each outcome of a crash and each changed byte.
+//! Floor: checks. Tests of keys, signed records, stores and signers: values of other implementations, each fault beside
+//! each later one, each stop, each outcome of a crash and each changed byte. Nothing stands on it.
 #![tactic(auto)]
 
 #[cfg(test)]

@@ -1,5 +1,5 @@
-//! How many compressions of SHA-256 the definition of LMS has (RFC 8554, sections 4 and 5, and appendix A): what benches
-//! compare times with.
+//! Floor: checks. How many compressions of SHA-256 the definition of LMS has (RFC 8554, sections 4 and 5, and appendix
+//! A). `bench` compares times with it, and `key_tests` checks it.
 #![tactic(auto)]
 
 use lms_ots::OtsKind;

@@ -1,4 +1,5 @@
-//! Tests of the membership's rules, of failure detection, of gossip and of datagrams.
+//! Floor: checks. Tests of the membership's rules, of failure detection, of gossip and of datagrams. Nothing stands on
+//! it.
 #![tactic(auto)]
 
 #[cfg(test)]

@@ -1,5 +1,5 @@
 //! Floor: program. Runs one member: reads its text whole, binds its port, opens its store, begins a life, and serves it
-//! for some turns. What is written is the journal of that life. `fireflies` calls it, for the command `node`.
+//! for some turns. What is written is the journal of that life. `command_line` calls it, for the command `node`.
 #![tactic(auto)]
 
 mod halt;

@@ -1,5 +1,5 @@
-//! Tests of nodes: call by call, served over a link and a clock in memory, and run from a text. What they tell and send
-//! stands beside values that were worked out without them.
+//! Floor: checks. Tests of nodes: call by call, served over a link and a clock in memory, and run from a text. What
+//! they report and send stands beside values that were worked out without them. Nothing stands on it.
 #![tactic(auto)]
 
 #[cfg(test)]

@@ -1,4 +1,5 @@
-//! Tests of the commands, run over objects in memory: worked texts to the byte, each bad word, and each call that fails.
+//! Floor: checks. Tests of the commands, run over objects in memory: worked texts to the byte, each bad word, and each
+//! call that fails. Nothing stands on it.
 #![tactic(auto)]
 
 #[cfg(test)]

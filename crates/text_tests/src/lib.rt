@@ -1,4 +1,5 @@
-//! Tests of lines, texts and journals, and of the commands that read a text, over objects in memory.
+//! Floor: checks. Tests of lines, texts and journals, and of the commands that read a text, over objects in memory.
+//! Nothing stands on it.
 #![tactic(auto)]
 
 #[cfg(test)]

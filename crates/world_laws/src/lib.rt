@@ -1,7 +1,7 @@
 //! Floor: world. What no liar brings about in a world, as theorems alone, on each world that lines lead to, none of
 //! which is forged: which notes a removed node had signed, at which ticks nodes sign accusations, and that what is
 //! written is what was spent, sent and removed. Each is the contract of a function that does nothing. The headline in
-//! `fireflies` cites them.
+//! `command_line` cites them.
 #![tactic(auto)]
 
 ghost use Rattle.world_laws.specs.Laws.{RostersAreKept, OwnAheadNeverComes, TheRemovedHadSigned, NodesAccuseTheSilent, AcceptedAccusationsWereSigned, KeysVerify, RemovalsAreVerified, ToldRemovalsAreVerified};

@@ -1,4 +1,4 @@
-//! Floor: world. A seeded attack on a world, played to its end, and what is counted in it. `fireflies` calls it, for
+//! Floor: world. A seeded attack on a world, played to its end, and what is counted in it. `command_line` calls it, for
 //! the command `soak`.
 #![tactic(auto)]
 

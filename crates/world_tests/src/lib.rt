@@ -1,4 +1,5 @@
-//! Tests of worlds: schedules that are played line by line and their traces, and the parts that these stand on.
+//! Floor: checks. Tests of worlds: schedules that are played line by line and their traces, and the parts that these
+//! stand on. Nothing stands on it.
 #![tactic(auto)]
 
 #[cfg(test)]

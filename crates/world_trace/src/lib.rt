@@ -1,6 +1,6 @@
 //! Floor: program. What is written for a schedule of a world, as theorems alone: which of its lines give an event, and
 //! that each event of a node has its line. Each theorem is the contract of a function that does nothing. The headline
-//! in `fireflies` cites them.
+//! in `command_line` cites them.
 #![tactic(auto)]
 
 ghost use Rattle.world_trace.specs.Written.{ToldEventsAreWritten, WrittenLinesAreTold};
