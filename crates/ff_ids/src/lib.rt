@@ -14,6 +14,18 @@ pub use summary::{EntryList, RecordKey, Summary, SummaryEntry};
 /// How many member numbers there are: they are 0 to 1,023.
 pub const MEMBERS: u16 = 1024;
 
+/// The greatest tolerance of a group. Those on rings, on bits of a mask and on accusations follow from it.
+pub const MAX_TOLERANCE: u8 = 15;
+
+/// How many rings a group has at most: 2t+1 at the greatest tolerance.
+pub const MAX_RINGS: u8 = 2 * MAX_TOLERANCE + 1;
+
+/// How many bits a mask has: one for each ring, and one above them.
+pub const MASK_BITS: u8 = MAX_RINGS + 1;
+
+/// How many accusations stand at once at most: one against each member on each ring.
+pub const MAX_ACCUSATIONS: u16 = MEMBERS * MAX_RINGS as u16;
+
 /// The number of a member, 0 to 1,023. Contracts see it as that number.
 #[derive(Clone, Copy, Debug, PartialEq, Eq, PartialOrd, Ord)]
 pub struct MemberId {
@@ -163,7 +175,7 @@ pub enum Fault {
 impl Mask {
     /// Whether the ring is enabled.
     pub fn enables(self, ring: RingNo) -> bool
-        requires { ring.0 < 32 }
+        requires { ring.0 < MASK_BITS }
         ensures { result ≡ enables self.0 ring.0 }
     {
         (self.0 >> ring.0) % 2 == 1
@@ -172,7 +184,7 @@ impl Mask {
 
 /// How many of the first rings the mask enables.
 fn enabled_below(mask: Mask, rings: u8) -> u8
-    requires { rings < 32 }
+    requires { rings < MASK_BITS }
     ensures { result ≡ length (enabled rings mask.0) }
 {
     let mut count = 0u8;
@@ -187,7 +199,7 @@ fn enabled_below(mask: Mask, rings: u8) -> u8
 /// Whether a note may carry this mask in a group of tolerance `t`: no ring at or above 2t+1 is enabled,
 /// and at least t+1 rings are.
 pub fn good_mask(t: u8, mask: Mask) -> bool
-    requires { t ≤ 15 }
+    requires { t ≤ MAX_TOLERANCE }
     ensures { result ≡ is_good t mask.0 }
 {
     let rings = 2 * t + 1;
