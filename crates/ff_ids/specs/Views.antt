@@ -35,9 +35,14 @@ is_member s m = list_any (λ x. x.number == m) s.members
 abbrev pub has_expired : List AccBody → NoteBody → Bool
 has_expired expired n = list_any (λ a. (a.accused == n.member) && nat_le n.epoch a.epoch) expired
 
--- The member has a note, and its newest has not expired.
+-- Whether a member is in the view, given its newest note and whether an accusation at the epoch of that note or a
+-- later one has expired. `proofs/ViewLemmas` has its laws: no proof elsewhere unfolds it.
+unfoldable pub in_view_by : NoteBody → Bool → Bool
+in_view_by n expired = not expired
+
+-- The member has a note, and is in the view by its newest.
 abbrev pub in_view : State → ℕ → Bool
-in_view s m = option_map_or (λ n. not (has_expired s.expired n)) (newest s.notes m) false
+in_view s m = option_map_or (λ n. in_view_by n (has_expired s.expired n)) (newest s.notes m) false
 
 -- Every member number, in order.
 unfoldable pub all_numbers : List ℕ

@@ -4,6 +4,7 @@
 
 ghost use Rattle.std.specs.Prelude.{◌≡◌, ◌<◌, ◌≤◌, length};
 ghost use Rattle.ff_ids.specs.Masks.{enables, enabled, good_mask as is_good};
+ghost use Rattle.ff_ids.specs.Views.{in_view_by};
 
 mod summary;
 mod text;
@@ -14,16 +15,28 @@ pub use summary::{EntryList, RecordKey, Summary, SummaryEntry};
 /// How many member numbers there are: they are 0 to 1,023.
 pub const MEMBERS: u16 = 1024;
 
-/// The greatest tolerance of a group. Those on rings, on bits of a mask and on accusations follow from it.
+/// The greatest number of a member.
+pub const LAST_MEMBER: u16 = MEMBERS - 1;
+
+/// How many pages the member numbers have.
+pub const PAGES: u8 = 32;
+
+/// How many members a page has.
+pub const PAGE_MEMBERS: u8 = (MEMBERS / PAGES as u16) as u8;
+
+/// The greatest tolerance of a group. The rings, the bits of a mask and the accusations at most follow from it.
 pub const MAX_TOLERANCE: u8 = 15;
 
 /// How many rings a group has at most: 2t+1 at the greatest tolerance.
 pub const MAX_RINGS: u8 = 2 * MAX_TOLERANCE + 1;
 
-/// How many bits a mask has: one for each ring, and one above them.
+/// How many bits a mask has: one for each ring, and one more.
 pub const MASK_BITS: u8 = MAX_RINGS + 1;
 
-/// How many accusations stand at once at most: one against each member on each ring.
+/// A bit for each ring.
+pub type Bits = u32;
+
+/// How many accusations are kept at most: one against each member on each ring.
 pub const MAX_ACCUSATIONS: u16 = MEMBERS * MAX_RINGS as u16;
 
 /// The number of a member, 0 to 1,023. Contracts see it as that number.
@@ -101,14 +114,14 @@ pub struct RingNo(pub u8);
 
 /// The rings that a note enables: bit r stands for ring r. The type holds any value.
 #[derive(Clone, Copy, Debug, PartialEq, Eq, PartialOrd, Ord)]
-pub struct Mask(pub u32);
+pub struct Mask(pub Bits);
 
 /// What the members of one group agree on.
 #[derive(Clone, Copy, Debug, PartialEq, Eq)]
 pub struct Group {
     /// Tells this group's records from those of any other.
     pub tag: [u8; 16],
-    /// How many of the 2t+1 rings a mask may disable, 1 to 15.
+    /// How many of the 2t+1 rings a mask may disable, 1 to `MAX_TOLERANCE`.
     pub t: u8,
     /// For how many ticks an accusation stands before it removes, 1 to 10,000.
     pub timeout: u32,
@@ -172,6 +185,16 @@ pub enum Fault {
     OwnAhead { stored: NoteBody, seen: NoteBody },
 }
 
+impl NoteBody {
+    /// Whether its member is in the view where this is its newest note, given whether an accusation at its epoch
+    /// or a later one has expired.
+    pub fn in_view(&self, has_expired: bool) -> bool
+        ensures { result ≡ in_view_by self.now has_expired }
+    {
+        !has_expired
+    }
+}
+
 impl Mask {
     /// Whether the ring is enabled.
     pub fn enables(self, ring: RingNo) -> bool
@@ -203,5 +226,5 @@ pub fn good_mask(t: u8, mask: Mask) -> bool
     ensures { result ≡ is_good t mask.0 }
 {
     let rings = 2 * t + 1;
-    mask.0 < 1u32 << rings && enabled_below(mask, rings) > t
+    mask.0 < (1 as Bits) << rings && enabled_below(mask, rings) > t
 }
