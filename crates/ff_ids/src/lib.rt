@@ -2,8 +2,8 @@
 //! ring, notes, the view, faults, steps and lives. No call takes memory.
 #![tactic(auto)]
 
-ghost use Rattle.std.specs.Prelude.{◌≡◌, ◌<◌, ◌≤◌, length};
-ghost use Rattle.ff_ids.specs.Masks.{enables, enabled, good_mask as is_good};
+ghost use Rattle.std.specs.Prelude.{◌≡◌, ◌<◌, ◌≤◌, ◌^◌, length};
+ghost use Rattle.ff_ids.specs.Masks.{enables, enabled, good_mask as is_good, all_rings as mask_of_all};
 ghost use Rattle.ff_ids.specs.Views.{in_view_by};
 
 mod summary;
@@ -21,8 +21,11 @@ pub const LAST_MEMBER: u16 = MEMBERS - 1;
 /// How many pages the member numbers have.
 pub const PAGES: u8 = 32;
 
+/// The greatest number of a page.
+pub const LAST_PAGE: u8 = PAGES - 1;
+
 /// How many members a page has.
-pub const PAGE_MEMBERS: u8 = (MEMBERS / PAGES as u16) as u8;
+pub const PAGE_MEMBERS: u16 = MEMBERS / PAGES as u16;
 
 /// The greatest tolerance of a group. The rings, the bits of a mask and the accusations at most follow from it.
 pub const MAX_TOLERANCE: u8 = 15;
@@ -35,6 +38,9 @@ pub const MASK_BITS: u8 = MAX_RINGS + 1;
 
 /// A bit for each ring.
 pub type Bits = u32;
+
+/// All bits that a mask has.
+pub const ALL_BITS: Bits = Bits::MAX;
 
 /// How many accusations are kept at most: one against each member on each ring.
 pub const MAX_ACCUSATIONS: u16 = MEMBERS * MAX_RINGS as u16;
@@ -227,4 +233,13 @@ pub fn good_mask(t: u8, mask: Mask) -> bool
 {
     let rings = 2 * t + 1;
     mask.0 < (1 as Bits) << rings && enabled_below(mask, rings) > t
+}
+
+/// The mask that enables all rings of a group of tolerance `t`.
+pub fn all_rings(t: u8) -> Mask
+    requires { t ≤ MAX_TOLERANCE }
+    ensures value { result.0 ≡ mask_of_all t }
+    ensures small { result.0 < 2 ^ MAX_RINGS }
+{
+    Mask((1 << (2 * t + 1)) - 1)
 }
