@@ -18,6 +18,12 @@ unfolding in_view_by
 not_expired n true h = cc
 not_expired n false h = refl
 
+-- and who was in the view and no longer is has one that expired
+pub expired-since : (n : NoteBody) (before later : Bool) → in_view_by n before ≡ true → in_view_by n later ≡ false → later ≡ true
+unfolding in_view_by
+expired-since n before true was is = refl
+expired-since n before false was is = cc
+
 -- of two sets of accusations either takes it out
 pub in_view_by-either : (n : NoteBody) (a b : Bool) → in_view_by n (a || b) ≡ (in_view_by n b && not a)
 unfolding in_view_by
