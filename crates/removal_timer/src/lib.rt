@@ -5,7 +5,7 @@
 ghost use Rattle.std.specs.Prelude.{◌≡◌, ℕ, ◌+◌, ◌*◌, ◌<◌, ◌≤◌, true, false, [], ◌++◌, ◌==◌, not, IfOk, IfSome, IsNone, None, Some, is_some, List, length, filter, map, vec_len, vec_capacity, slice_set};
 ghost use Rattle.std.specs.Bool.{OnTrue};
 ghost use Rattle.std.specs.List.Sorted.{IsPermutation};
-ghost use Rattle.ff_ids.specs.declared.TheConstants.{MAX_RINGS, MAX_TOLERANCE, MEMBERS};
+ghost use Rattle.ff_ids.specs.declared.TheConstants.{MAX_RINGS, MAX_TOLERANCE};
 ghost use Rattle.ff_ids.specs.declared.AccBody.{AccBody as Accusation};
 ghost use Rattle.ff_ids.specs.Masks.{ring_count};
 ghost use Rattle.ff_ids.specs.Steps.{is_due, with_kept};
@@ -225,7 +225,7 @@ mod tests {
     use std::test::Fail;
 
     fn accusation(accused: u16, ring: u8) -> AccBody
-        requires { accused < MEMBERS }
+        requires { accused < 1024 }
         ensures accused { result.accused ≡ accused }
         ensures ring { result.ring.0 ≡ ring }
     {
