@@ -2,6 +2,7 @@
 -- a store of this tag.
 use Rattle.std.specs.Prelude.{◌≡◌, ◌≢◌, ℕ, ◌+◌, ◌^◌, ◌<◌, ◌⊎◌, ◌&&◌, nat_eq, nat_lt, nat_le, not, Bool, true, false, if◌then◌else◌, Option, None, Some, MatchOption, List, [], ◌∷◌, ◌++◌, length, take, drop, codes, slice_index, Result, Ok, Err}
 use Rattle.std.specs.List.{common_prefix_len, slice_get}
+use Rattle.ff_ids.specs.declared.TheConstants.{MAX_RINGS}
 use Rattle.epoch_store.specs.declared.Stored.{Stored}
 use Rattle.epoch_store.specs.declared.entry.Gate.{Gate}
 use Rattle.epoch_store.specs.declared.entry.Gate.TheVariants.{Shut, Entry}
@@ -42,7 +43,7 @@ abbrev pub wrong_field : Option Stored → Stored → Option ℕ
 wrong_field before e = first_broken (
     (1, nat_le e.next 32768 && is_above before e.next) ∷
     (5, nat_le e.epoch e.next && is_at_least before e.epoch) ∷
-    (13, nat_lt e.mask.0 (2 ^ 31)) ∷ [])
+    (13, nat_lt e.mask.0 (2 ^ MAX_RINGS)) ∷ [])
 
 -- the bytes from a gate on begin with an open gate and this entry
 pub record IsOpenEntry (bytes : List ℕ) (e : Stored) : Type 0 where

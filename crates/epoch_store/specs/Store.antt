@@ -2,6 +2,7 @@
 -- closed one.
 use Rattle.std.specs.Prelude.{◌≡◌, ◌≢◌, ℕ, ◌^◌, ◌<◌, ◌≤◌, ◌⊎◌, List, [], ◌∷◌, ◌++◌, length, codes}
 use Rattle.std.specs.Int.{w32, w64, to_be_bytes}
+use Rattle.ff_ids.specs.declared.TheConstants.{MAX_RINGS}
 use Rattle.ff_ids.specs.declared.Mask.{Mask}
 use Rattle.epoch_store.specs.declared.Stored.{Stored}
 use Rattle.ports.specs.Disk.{Moment, Leaves, settled}
@@ -14,7 +15,7 @@ spelled e = to_be_bytes w32 e.next ++ to_be_bytes w64 e.epoch ++ to_be_bytes w32
 pub record IsEntry (e : Stored) : Type 0 where
   pub next_small : e.next ≤ 32768
   pub epoch_small : e.epoch ≤ e.next
-  pub mask_small : e.mask.0 < 2 ^ 31
+  pub mask_small : e.mask.0 < 2 ^ MAX_RINGS
 
 -- what an entry meets that comes after another
 pub record Follows (before e : Stored) : Type 0 where

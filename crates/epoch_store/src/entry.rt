@@ -23,9 +23,6 @@ pub(crate) enum Gate {
 /// The greatest next index that a store may keep.
 const LAST_NEXT: u32 = 32_768;
 
-/// A mask has no bit at or above this one.
-const MASK_BITS: u32 = 31;
-
 /// How many bytes of a gate and its entry stand before each field.
 const NEXT_PLACE: usize = 1;
 
@@ -91,7 +88,7 @@ fn wrong_field(before: Option<Stored>, entry: Stored) -> Option<usize>
     if !(entry.epoch <= u64::from(entry.next) && is_at_least(before, entry.epoch)) {
         return Some(EPOCH_PLACE);
     }
-    if entry.mask.0 >= 1 << MASK_BITS {
+    if entry.mask.0 >= 1 << ff_ids::MAX_RINGS {
         return Some(MASK_PLACE);
     }
     None

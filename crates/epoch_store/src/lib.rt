@@ -9,6 +9,7 @@
 
 ghost use Rattle.std.specs.Prelude.{◌≡◌, ℕ, ◌+◌, ◌<◌, ◌≤◌, ◌^◌, List, length, true, false, [], ◌∷◌, ◌++◌, OnOk, OnErr, IfOk, IfErr};
 ghost use Rattle.std.specs.Result.{is_err};
+ghost use Rattle.ff_ids.specs.declared.TheConstants.{MAX_RINGS};
 ghost use Rattle.ports.specs.Count.{counted};
 ghost use Rattle.ports.specs.Disk.{Moment, Since, Fails, stays, torn_at, written};
 ghost use Rattle.ports.specs.DiskCalls.{ToOpen, ToRead, ToSync, ToWrite, with_call};
@@ -41,7 +42,7 @@ pub struct Stored {
     pub next: u32,
     /// At most the next index; 0 before the first note.
     pub epoch: u64,
-    /// Without a bit at or above 31.
+    /// Without a bit at or above `MAX_RINGS`.
     pub mask: Mask,
 }
 
@@ -123,7 +124,7 @@ fn made_bytes(tag: &[u8; 32], first: Stored) -> ArrayVec<u8, 58>
 /// `Taken` exactly where the file has bytes already, if the disk does not fail first; then nothing of it has
 /// changed, nor after `OutOfMemory`, which comes from opening alone.
 pub fn make<D: Disk>(disk: &mut D, name: &str, tag: &[u8; 32], mask: Mask) -> Result<(), StoreError>
-    requires { mask.0 < 2 ^ 31 }
+    requires { mask.0 < 2 ^ MAX_RINGS }
     ensures faults { D.faults disk.new ≡ counted (is_fault result) (D.faults disk.old) }
     ensures calls { MakesStore name.now tag.now (first_entry mask) result (D.calls disk.old) (D.calls disk.new) }
     ensures follows { MakesFrom name.now tag.now (first_entry mask) result (D.state disk.old) (D.state disk.new) }

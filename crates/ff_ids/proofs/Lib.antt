@@ -2,3 +2,4 @@ pub mod FaultLemmas
 pub mod HexLemmas
 pub mod MaskLemmas
 pub mod Rows
+pub mod ViewLemmas

@@ -1,13 +1,12 @@
 -- The rules at work: worked lives, computed from the definitions alone.
-use Rattle.std.proofs.Common.{◌≡◌, ℕ, List, [], ◌∷◌, ◌++◌, Option, Some, None, refl, replicate}
+use Rattle.std.proofs.Common.{◌≡◌, ℕ, List, [], ◌∷◌, ◌++◌, Some, None, refl, replicate}
 use Rattle.ff_ids.specs.declared.AccBody.{AccBody}
-use Rattle.ff_ids.specs.declared.Fault.{Fault}
 use Rattle.ff_ids.specs.declared.Fault.TheVariants as faults
 use Rattle.ff_ids.specs.declared.Group.{Group}
 use Rattle.ff_ids.specs.declared.NoteBody.{NoteBody}
-use Rattle.ff_ids.specs.Views.{State, all_numbers, monitor, view}
+use Rattle.ff_ids.specs.Views.{State, all_numbers, in_view_by, monitor, view}
 use Rattle.ff_ids.specs.Faults.{accusation_fault, note_fault}
-use Rattle.ff_ids.specs.Steps.{Accuses, Event, Joins, Notes, Stepped, Ticks, step}
+use Rattle.ff_ids.specs.Steps.{Accuses, Event, Joins, Notes, Ticks, step}
 use Rattle.ff_ids.specs.Lives.{after, opening}
 
 -- A group of tolerance 1 whose accusations stand for three ticks.
@@ -42,11 +41,11 @@ ticks n = replicate n Ticks
 
 -- who monitors whom, and nobody where no other is in the view
 monitors : (monitor (state_of three) 0 2 ≡ Some 1) × (monitor (state_of three) 0 1 ≡ Some 3)
-unfolding all_numbers
+unfolding all_numbers in_view_by
 monitors = (refl, refl)
 
 alone : monitor (state_of (at 1 10 ∷ Notes (note 1 1 7) ∷ [])) 0 1 ≡ None
-unfolding all_numbers
+unfolding all_numbers in_view_by
 alone = refl
 
 abbrev accused_once : List Event
@@ -54,11 +53,11 @@ accused_once = three ++ Accuses (acc 1 2 1 0) ∷ []
 
 -- nobody goes before the timeout, and the accused goes at it
 two_ticks : (told (accused_once ++ ticks 1) Ticks ≡ nothing) × (view (state_of (accused_once ++ ticks 2)) ≡ 1 ∷ 2 ∷ 3 ∷ [])
-unfolding all_numbers
+unfolding all_numbers in_view_by
 two_ticks = (refl, refl)
 
 third_tick : (told (accused_once ++ ticks 2) Ticks ≡ (acc 1 2 1 0 ∷ [], 2 ∷ [], [], [])) × (view (state_of (accused_once ++ ticks 3)) ≡ 1 ∷ 3 ∷ [])
-unfolding all_numbers
+unfolding all_numbers in_view_by
 third_tick = (refl, refl)
 
 -- a newer note rebuts
@@ -66,7 +65,7 @@ abbrev rebutted : List Event
 rebutted = accused_once ++ ticks 2
 
 rebuttal : (told rebutted (Notes (note 2 2 7)) ≡ ([], [], [], acc 1 2 1 0 ∷ [])) × (accusation_fault 1 (state_of (rebutted ++ Notes (note 2 2 7) ∷ ticks 5)) (acc 1 2 1 0) ≡ Some (faults.OtherEpoch 2))
-unfolding all_numbers
+unfolding all_numbers in_view_by
 rebuttal = (refl, refl)
 
 -- a newcomer takes the place of the monitor: the accusation falls, and accepted afresh it has a new time
@@ -74,18 +73,18 @@ abbrev newcomer : List Event
 newcomer = accused_once ++ Ticks ∷ at 4 15 ∷ []
 
 falls : told newcomer (Notes (note 4 1 7)) ≡ ([], [], 4 ∷ [], acc 1 2 1 0 ∷ [])
-unfolding all_numbers
+unfolding all_numbers in_view_by
 falls = refl
 
 abbrev afresh : List Event
 afresh = newcomer ++ Notes (note 4 1 7) ∷ Accuses (acc 1 4 1 0) ∷ ticks 3 ++ Accuses (acc 1 2 1 0) ∷ []
 
 newcomer_goes : told (newcomer ++ Notes (note 4 1 7) ∷ Accuses (acc 1 4 1 0) ∷ ticks 2) Ticks ≡ (acc 1 4 1 0 ∷ [], 4 ∷ [], [], [])
-unfolding all_numbers
+unfolding all_numbers in_view_by
 newcomer_goes = refl
 
 new_time : (told (afresh ++ ticks 1) Ticks ≡ nothing) × (told (afresh ++ ticks 2) Ticks ≡ (acc 1 2 1 0 ∷ [], 2 ∷ [], [], []))
-unfolding all_numbers
+unfolding all_numbers in_view_by
 new_time = (refl, refl)
 
 -- each fault of an accusation, before all that come after it
@@ -93,7 +92,7 @@ abbrev narrowed : List Event
 narrowed = three ++ Notes (note 2 2 6) ∷ []
 
 mask_faults : (note_fault 1 (state_of narrowed) (note 2 2 1) ≡ Some faults.BadMask) × (note_fault 1 (state_of narrowed) (note 2 3 15) ≡ Some faults.BadMask)
-unfolding all_numbers
+unfolding all_numbers in_view_by
 mask_faults = (refl, refl)
 
 accusation_faults : (accusation_fault 1 (state_of narrowed) (acc 1 2 2 0) ≡ Some faults.RingDisabled)
@@ -104,17 +103,17 @@ accusation_faults : (accusation_fault 1 (state_of narrowed) (acc 1 2 2 0) ≡ So
     × (accusation_fault 1 (state_of (three ++ at 4 40 ∷ [])) (acc 3 4 1 0) ≡ Some faults.NoNote)
     × (accusation_fault 1 (state_of accused_once) (acc 1 2 1 0) ≡ Some faults.Standing)
     × (accusation_fault 1 (state_of (accused_once ++ ticks 3)) (acc 1 2 1 0) ≡ Some faults.NotInView)
-unfolding all_numbers
+unfolding all_numbers in_view_by
 accusation_faults = (refl, refl, refl, refl, refl, refl, refl, refl)
 
 -- two that are due expire together, in order of the accused, and both go
 together : told (three ++ Accuses (acc 1 2 1 0) ∷ Accuses (acc 3 1 1 0) ∷ ticks 2) Ticks ≡ (acc 3 1 1 0 ∷ acc 1 2 1 0 ∷ [], 1 ∷ 2 ∷ [], [], [])
-unfolding all_numbers
+unfolding all_numbers in_view_by
 together = refl
 
 -- the removal of the accuser ends its accusation
 accuser_goes : told (three ++ Accuses (acc 3 1 1 0) ∷ Ticks ∷ Accuses (acc 1 2 1 0) ∷ ticks 1) Ticks ≡ (acc 3 1 1 0 ∷ [], 1 ∷ [], [], acc 1 2 1 0 ∷ [])
-unfolding all_numbers
+unfolding all_numbers in_view_by
 accuser_goes = refl
 
 -- notes of one epoch: the greater mask is the newer, in whichever order they come
@@ -125,7 +124,7 @@ either_order : (told (without_note ++ Notes (note 2 1 5) ∷ []) (Notes (note 2 
     × (note_fault 1 (state_of (without_note ++ Notes (note 2 1 6) ∷ [])) (note 2 1 5) ≡ Some (faults.Older 1 (record { 0 = 6 })))
     × (accusation_fault 1 (state_of (without_note ++ Notes (note 2 1 5) ∷ Notes (note 2 1 6) ∷ [])) (acc 1 2 1 0) ≡ Some faults.RingDisabled)
     × (accusation_fault 1 (state_of (without_note ++ Notes (note 2 1 6) ∷ Notes (note 2 1 5) ∷ [])) (acc 1 2 1 0) ≡ Some faults.RingDisabled)
-unfolding all_numbers
+unfolding all_numbers in_view_by
 either_order = (refl, refl, refl, refl)
 
 -- members that tie on a ring are in order of number; the greatest epoch is the newest
@@ -133,10 +132,10 @@ abbrev tied : List Event
 tied = at 5 50 ∷ at 6 50 ∷ at 7 60 ∷ Notes (note 5 1 7) ∷ Notes (note 6 1 7) ∷ Notes (note 7 1 7) ∷ []
 
 ties : (monitor (state_of tied) 0 6 ≡ Some 5) × (monitor (state_of tied) 0 5 ≡ Some 7) × (monitor (state_of tied) 0 7 ≡ Some 6)
-unfolding all_numbers
+unfolding all_numbers in_view_by
 ties = (refl, refl, refl)
 
 last_epoch : (note_fault 1 (state_of (tied ++ Notes (note 5 18446744073709551615 7) ∷ [])) (note 5 18446744073709551615 7) ≡ Some faults.Known)
     × (note_fault 1 (state_of (tied ++ Notes (note 5 18446744073709551615 7) ∷ [])) (note 5 1 7) ≡ Some (faults.Older 18446744073709551615 (record { 0 = 7 })))
-unfolding all_numbers
+unfolding all_numbers in_view_by
 last_epoch = (refl, refl)

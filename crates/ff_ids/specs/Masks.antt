@@ -1,5 +1,5 @@
 -- Masks: the rings that a note enables.
-use Rattle.std.specs.Prelude.{ℕ, ◌+◌, ◌*◌, ◌/◌, ◌%◌, ◌^◌, Bool, ◌&&◌, ◌==◌, nat_lt, List, length, filter}
+use Rattle.std.specs.Prelude.{ℕ, ◌+◌, ◌-◌, ◌*◌, ◌/◌, ◌%◌, ◌^◌, Bool, ◌&&◌, ◌==◌, nat_lt, List, length, filter}
 use Rattle.std.specs.List.{range_with_len}
 
 -- A group of tolerance t has 2t+1 rings, numbered from 0.
@@ -13,6 +13,10 @@ enables mask ring = mask / 2 ^ ring % 2 == 1
 -- The rings of a group of so many rings that the mask enables, in order.
 abbrev pub enabled : ℕ → ℕ → List ℕ
 enabled rings mask = filter (enables mask) (range_with_len 0 rings)
+
+-- The mask of all rings of a group of tolerance t.
+abbrev pub all_rings : ℕ → ℕ
+all_rings t = 2 ^ ring_count t - 1
 
 -- No ring at or above 2t+1 is enabled, and more than t rings are.
 abbrev pub good_mask : ℕ → ℕ → Bool

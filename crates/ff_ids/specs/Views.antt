@@ -36,9 +36,18 @@ is_member s m = list_any (λ x. x.number == m) s.members
 abbrev pub has_expired : List AccBody → NoteBody → Bool
 has_expired expired n = list_any (λ a. (a.accused == n.member) && nat_le n.epoch a.epoch) expired
 
--- The member has a note, and its newest has not expired.
+-- Whether a member is in the view, given its newest note and whether an accusation at the epoch of that note or a
+-- later one has expired. `proofs/ViewLemmas` has its laws: no proof elsewhere unfolds it.
+unfoldable pub in_view_by : NoteBody → Bool → Bool
+in_view_by n expired = not expired
+
+-- The same by what expired and the newest note of the member, if there is one: else the member isn't in the view.
+abbrev pub viewed_by : List AccBody → Option NoteBody → Bool
+viewed_by expired note = option_map_or (λ n. in_view_by n (has_expired expired n)) note false
+
+-- The member is in the view.
 abbrev pub in_view : State → ℕ → Bool
-in_view s m = option_map_or (λ n. not (has_expired s.expired n)) (newest s.notes m) false
+in_view s m = viewed_by s.expired (newest s.notes m)
 
 -- Every member number, in order.
 unfoldable pub all_numbers : List ℕ

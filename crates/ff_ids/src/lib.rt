@@ -2,8 +2,9 @@
 //! ring, notes, the view, faults, steps and lives. Reading begins here. No call takes memory. Any crate may call it.
 #![tactic(auto)]
 
-ghost use Rattle.std.specs.Prelude.{◌≡◌, ◌<◌, ◌≤◌, length};
-ghost use Rattle.ff_ids.specs.Masks.{enables, enabled, good_mask as is_good};
+ghost use Rattle.std.specs.Prelude.{◌≡◌, ◌<◌, ◌≤◌, ◌^◌, length};
+ghost use Rattle.ff_ids.specs.Masks.{enables, enabled, good_mask as is_good, all_rings as mask_of_all};
+ghost use Rattle.ff_ids.specs.Views.{in_view_by};
 
 mod summary;
 mod text;
@@ -13,6 +14,36 @@ pub use summary::{EntryList, RecordKey, Summary, SummaryEntry};
 
 /// How many member numbers there are: they are 0 to 1,023.
 pub const MEMBERS: u16 = 1024;
+
+/// The greatest number of a member.
+pub const LAST_MEMBER: u16 = MEMBERS - 1;
+
+/// How many pages the member numbers have.
+pub const PAGES: u8 = 32;
+
+/// The greatest number of a page.
+pub const LAST_PAGE: u8 = PAGES - 1;
+
+/// How many members a page has.
+pub const PAGE_MEMBERS: u16 = MEMBERS / PAGES as u16;
+
+/// The greatest tolerance of a group. The rings, the bits of a mask and the accusations at most follow from it.
+pub const MAX_TOLERANCE: u8 = 15;
+
+/// How many rings a group has at most: 2t+1 at the greatest tolerance.
+pub const MAX_RINGS: u8 = 2 * MAX_TOLERANCE + 1;
+
+/// How many bits a mask has: one for each ring, and one more.
+pub const MASK_BITS: u8 = MAX_RINGS + 1;
+
+/// A bit for each ring.
+pub type Bits = u32;
+
+/// All bits that a mask has.
+pub const ALL_BITS: Bits = Bits::MAX;
+
+/// How many accusations are kept at most: one against each member on each ring.
+pub const MAX_ACCUSATIONS: u16 = MEMBERS * MAX_RINGS as u16;
 
 /// The number of a member, 0 to 1,023. Contracts see it as that number.
 #[derive(Clone, Copy, Debug, PartialEq, Eq, PartialOrd, Ord)]
@@ -89,14 +120,14 @@ pub struct RingNo(pub u8);
 
 /// The rings that a note enables: bit r stands for ring r. The type holds any value.
 #[derive(Clone, Copy, Debug, PartialEq, Eq, PartialOrd, Ord)]
-pub struct Mask(pub u32);
+pub struct Mask(pub Bits);
 
 /// What the members of one group agree on.
 #[derive(Clone, Copy, Debug, PartialEq, Eq)]
 pub struct Group {
     /// Tells this group's records from those of any other.
     pub tag: [u8; 16],
-    /// How many of the 2t+1 rings a mask may disable, 1 to 15.
+    /// How many of the 2t+1 rings a mask may disable, 1 to `MAX_TOLERANCE`.
     pub t: u8,
     /// For how many ticks an accusation stands before it removes, 1 to 10,000.
     pub timeout: u32,
@@ -160,10 +191,20 @@ pub enum Fault {
     OwnAhead { stored: NoteBody, seen: NoteBody },
 }
 
+impl NoteBody {
+    /// Whether its member is in the view where this is its newest note, given whether an accusation at its epoch
+    /// or a later one has expired.
+    pub fn in_view(&self, has_expired: bool) -> bool
+        ensures { result ≡ in_view_by self.now has_expired }
+    {
+        !has_expired
+    }
+}
+
 impl Mask {
     /// Whether the ring is enabled.
     pub fn enables(self, ring: RingNo) -> bool
-        requires { ring.0 < 32 }
+        requires { ring.0 < MASK_BITS }
         ensures { result ≡ enables self.0 ring.0 }
     {
         (self.0 >> ring.0) % 2 == 1
@@ -172,7 +213,7 @@ impl Mask {
 
 /// How many of the first rings the mask enables.
 fn enabled_below(mask: Mask, rings: u8) -> u8
-    requires { rings < 32 }
+    requires { rings < MASK_BITS }
     ensures { result ≡ length (enabled rings mask.0) }
 {
     let mut count = 0u8;
@@ -187,9 +228,18 @@ fn enabled_below(mask: Mask, rings: u8) -> u8
 /// Whether a note may carry this mask in a group of tolerance `t`: no ring at or above 2t+1 is enabled,
 /// and at least t+1 rings are.
 pub fn good_mask(t: u8, mask: Mask) -> bool
-    requires { t ≤ 15 }
+    requires { t ≤ MAX_TOLERANCE }
     ensures { result ≡ is_good t mask.0 }
 {
     let rings = 2 * t + 1;
-    mask.0 < 1u32 << rings && enabled_below(mask, rings) > t
+    mask.0 < (1 as Bits) << rings && enabled_below(mask, rings) > t
+}
+
+/// The mask that enables all rings of a group of tolerance `t`.
+pub fn all_rings(t: u8) -> Mask
+    requires { t ≤ MAX_TOLERANCE }
+    ensures value { result.0 ≡ mask_of_all t }
+    ensures small { result.0 < 2 ^ MAX_RINGS }
+{
+    Mask((1 << (2 * t + 1)) - 1)
 }

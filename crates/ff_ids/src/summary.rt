@@ -2,7 +2,7 @@
 
 ghost use Rattle.std.specs.Prelude.{◌≡◌, ◌<◌, [], ◌∷◌, ◌++◌, length};
 
-use crate::{Mask, MemberId, RingNo};
+use crate::{Bits, Mask, MemberId, PAGE_MEMBERS, RingNo};
 use std::marker::Model;
 
 /// What one node holds of one member.
@@ -14,25 +14,26 @@ pub struct SummaryEntry {
     /// The mask of its newest note, or 0 where there is no note of it.
     pub mask: Mask,
     /// Bit r is set where an accusation against it on ring r is kept.
-    pub rings: u32,
+    pub rings: Bits,
 }
 
-/// Up to 32 entries in the order in which they were pushed. Contracts see their list.
+/// Up to `PAGE_MEMBERS` entries in the order in which they were pushed. Contracts see their list.
 #[derive(Drop, Debug)]
 pub struct EntryList {
-    slots: [SummaryEntry; 32],
+    slots: [SummaryEntry; PAGE_MEMBERS as usize],
     held: usize,
 }
 
 impl Model for EntryList {
     ghost use Rattle.std.specs.Prelude.{List, ◌≤◌, take};
+    ghost use Rattle.ff_ids.specs.declared.TheConstants.{PAGE_MEMBERS};
     ghost use Rattle.ff_ids.specs.declared.summary.SummaryEntry.{SummaryEntry};
 
     ghost Value = { List SummaryEntry };
 
     ghost view = { λ l. take l.held l.slots };
 
-    ghost invariant = { λ l. l.held ≤ 32 };
+    ghost invariant = { λ l. l.held ≤ PAGE_MEMBERS };
 }
 
 impl EntryList {
@@ -46,13 +47,13 @@ impl EntryList {
             rings: 0,
         };
         EntryList {
-            slots: [nobody; 32],
+            slots: [nobody; PAGE_MEMBERS as usize],
             held: 0,
         }
     }
 
     fn push(&mut self, entry: SummaryEntry)
-        requires { length self.old < 32 }
+        requires { length self.old < PAGE_MEMBERS }
         ensures { self.new ≡ self.old ++ entry ∷ [] }
     {
         self.slots[self.held] = entry;
@@ -66,8 +67,8 @@ impl EntryList {
     }
 }
 
-/// Which of the pages of 32 members it is about, and an entry for each certified member of the page, in order
-/// of number. The type holds any page and up to 32 entries of any order.
+/// Which of the pages it is about, and an entry for each certified member of the page, in order of number. The
+/// type holds any page and up to `PAGE_MEMBERS` entries of any order.
 #[derive(Drop, Debug)]
 pub struct Summary {
     pub page: u8,
@@ -86,9 +87,9 @@ impl Summary {
         }
     }
 
-    /// Appends the entry. Fewer than 32 are held.
+    /// Appends the entry. Fewer than `PAGE_MEMBERS` are held.
     pub fn push(&mut self, entry: SummaryEntry)
-        requires { length self.old.listed < 32 }
+        requires { length self.old.listed < PAGE_MEMBERS }
         ensures page { self.new.page ≡ self.old.page }
         ensures pushed { self.new.listed ≡ self.old.listed ++ entry ∷ [] }
     {

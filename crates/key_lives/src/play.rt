@@ -2,11 +2,12 @@
 
 ghost use Rattle.std.specs.Prelude.{◌≡◌, ◌<◌, ◌^◌, ℕ, List, length, Some, None, IfOk};
 ghost use Rattle.std.specs.Vec.{vec_capacity};
+ghost use Rattle.ff_ids.specs.declared.TheConstants.{MAX_RINGS};
 ghost use Rattle.signer.specs.Lives.{Spent};
 ghost use Rattle.key_lives.specs.Played.{told, IsQuiet, Stands, HandsOut, AreOnce, with_record};
 
 use epoch_store::{Store, make};
-use ff_ids::{AccBody, Group, Mask, MemberId};
+use ff_ids::{AccBody, Group, MAX_RINGS, Mask, MemberId};
 use fields::NoMemory;
 use lms_ots::OtsKind;
 use lms_tree::{SecretKey, TreeKind};
@@ -69,7 +70,7 @@ fn sign_note(
     member: MemberId,
     mask: Mask,
 ) -> (Option<Signer>, Option<Checked>)
-    requires { mask.0 < 2 ^ 31 }
+    requires { mask.0 < 2 ^ MAX_RINGS }
     ensures { (before : List ℕ) (spent : List Spent) → Stands holder.now before spent signer (told disk.old)
         → HandsOut holder.now before spent result.1 result.0 (told disk.new) }
 {
@@ -116,7 +117,7 @@ fn turn(
 {
     match act {
         Act::Open => (reopen(alloc, holder, disk), None),
-        Act::SignNote(member, mask) if mask.0 < 1 << 31 => {
+        Act::SignNote(member, mask) if mask.0 < 1 << MAX_RINGS => {
             sign_note(alloc, holder, disk, signer, member, mask)
         }
         Act::SignNote(..) => (signer, None),

@@ -7,13 +7,14 @@ use Rattle.ff_ids.specs.declared.AccBody.{AccBody}
 use Rattle.ff_ids.specs.declared.Group.{Group}
 use Rattle.ff_ids.specs.declared.Fault.{Fault}
 use Rattle.ff_ids.specs.Notes.{newest}
-use Rattle.ff_ids.specs.Views.{State, is_member, has_expired, in_view, is_unanswered_by, stands}
+use Rattle.ff_ids.specs.Views.{State, is_member, has_expired, viewed_by, in_view, is_unanswered_by, stands}
 use Rattle.ff_ids.specs.Faults.{note_fault, accusation_fault, facts_of}
 use Rattle.ff_ids.proofs.FaultLemmas.{passed, passes}
 use Rattle.ff_ids.specs.Steps.{Event, Joins, Notes, Accuses, Ticks, joined, with_kept, comes_first, is_due, after_note, after_accusation, after_tick, unless_fault, unchanged, step}
 use Rattle.life_laws.proofs.Lists.{In, In-from_filter, In-from_map, In-append_cases, some_passes, any_from_In}
 use Rattle.life_laws.proofs.ViewLemmas.{IsViewed-from, in_view-noted, AllJoined, stands-joined, stands-from}
 use Rattle.life_laws.proofs.NoteLemmas.{newest-fits}
+use Rattle.ff_ids.proofs.ViewLemmas.{expired-since, not_expired}
 
 pub stands-accepted : (t : ℕ) (s : State) (a : AccBody) → accusation_fault t s a ≡ None → stands s a ≡ true
 stands-accepted t s a h =
@@ -119,7 +120,8 @@ steps-ticked g s known =
       since = λ q f. cc;
       removed = λ m yes no.
           let v = IsViewed-from s m yes in
-          (refl, due_against g s m v.note v.is_newest v.alive (not-false _ (sym (ap (λ o. option_map_or (λ n. not (has_expired next.expired n)) o false) v.is_newest) ∙ no)));
+          let shown = sym (ap (viewed_by next.expired) v.is_newest) ∙ no in
+          (refl, due_against g s m v.note v.is_newest (not_expired v.note _ v.shown) (expired-since v.note _ _ v.shown shown));
     }
 
 pub steps : (g : Group) (s : State) (e : Event) → AllJoined s → AllStand s → Steps g s e (step g s e).state

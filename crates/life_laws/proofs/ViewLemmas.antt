@@ -1,32 +1,33 @@
 -- What a join and a note leave of the view and of the monitors.
-use Rattle.std.proofs.Common.{◌≡◌, ℕ, ◌≤◌, true, false, not, eqb, List, ◌∷◌, Option, Some, None, map, refl, ap, sym, ◌∙◌, subst, arith}
+use Rattle.std.proofs.Common.{◌≡◌, ℕ, ◌≤◌, true, false, eqb, List, ◌∷◌, Option, Some, None, map, refl, ap, sym, ◌∙◌, subst, arith}
 use Rattle.std.specs.Option.{option_map_or}
-use Rattle.std.proofs.lemmas.Bool.{cond_both, eqb-true, leb-true, le-leb, eq-eqb, false≢true, and_parts, and_from, not-true, not_from_false, false_from_ne_true}
+use Rattle.std.proofs.lemmas.Bool.{cond_both, eqb-true, leb-true, le-leb, eq-eqb, false≢true, and_parts, and_from, false_from_ne_true}
 use Rattle.std.proofs.lemmas.Bool.Decides.{nat_tests}
 use Rattle.ff_ids.specs.declared.NoteBody.{NoteBody}
 use Rattle.ff_ids.specs.declared.AccBody.{AccBody}
 use Rattle.ff_ids.specs.Notes.{greater_note, newest}
 use Rattle.ff_ids.specs.Rings.{nearest_before}
-use Rattle.ff_ids.specs.Views.{State, places_of, is_member, has_expired, in_view, view, all_numbers, key_at, key_of, monitor, is_number, is_unanswered_by, stands}
+use Rattle.ff_ids.specs.Views.{State, places_of, is_member, has_expired, in_view_by, viewed_by, in_view, view, all_numbers, key_at, key_of, monitor, is_number, is_unanswered_by, stands}
 use Rattle.ff_ids.specs.Steps.{joined}
 use Rattle.life_laws.proofs.Lists.{In, some_passes, any_from_In, map-filter_agree}
 use Rattle.life_laws.proofs.NoteLemmas.{below, newest-fits}
+use Rattle.ff_ids.proofs.ViewLemmas.{in_view_by-fresh, not_expired}
 
 -- what it takes to be in the view
 pub record IsViewed (s : State) (m : ℕ) : Type 0 where
   pub note : NoteBody
   pub is_newest : newest s.notes m ≡ Some note
-  pub alive : has_expired s.expired note ≡ false
+  pub shown : in_view_by note (has_expired s.expired note) ≡ true
 
-viewed : (s : State) (m : ℕ) (o : Option NoteBody) → newest s.notes m ≡ o → option_map_or (λ n. not (has_expired s.expired n)) o false ≡ true → IsViewed s m
+viewed : (s : State) (m : ℕ) (o : Option NoteBody) → newest s.notes m ≡ o → viewed_by s.expired o ≡ true → IsViewed s m
 viewed s m None e h = absurd (false≢true h)
-viewed s m (Some n) e h = record { note = n; is_newest = e; alive = not-true _ h }
+viewed s m (Some n) e h = record { note = n; is_newest = e; shown = h }
 
 pub IsViewed-from : (s : State) (m : ℕ) → in_view s m ≡ true → IsViewed s m
 IsViewed-from s m h = viewed s m (newest s.notes m) refl h
 
 pub in_view-from : (s : State) (m : ℕ) → IsViewed s m → in_view s m ≡ true
-in_view-from s m v = rw (v.is_newest, v.alive) refl
+in_view-from s m v = ap (viewed_by s.expired) v.is_newest ∙ v.shown
 
 -- each note is of one who has joined
 abbrev pub AllJoined : State → Type 0
@@ -95,10 +96,10 @@ pub in_view-noted : (s : State) (n : NoteBody) (m : ℕ) → in_view s m ≡ tru
 in_view-noted s n m h =
     let v = IsViewed-from s m h in
     let g = newest-fits s.notes m v.note v.is_newest in
-    let T : Option NoteBody → Type 0 = λ o. option_map_or (λ x. not (has_expired s.expired x)) o false ≡ true in
+    let T : Option NoteBody → Type 0 = λ o. viewed_by s.expired o ≡ true in
     cond_both (eqb n.member m) (Some (greater_note n (newest s.notes m))) (newest s.notes m) T
     (λ yes. rw v.is_newest
-    (cond_both (below n v.note) v.note n (λ x. not (has_expired s.expired x) ≡ true)
-    (λ older. not_from_false _ v.alive)
-    (λ newer. not_from_false _ (expired-older s.expired v.note n (g.1 ∙ sym (eqb-true n.member m yes)) (not_below-epoch n v.note newer) v.alive))))
+    (cond_both (below n v.note) v.note n (λ x. in_view_by x (has_expired s.expired x) ≡ true)
+    (λ older. v.shown)
+    (λ newer. ap (in_view_by n) (expired-older s.expired v.note n (g.1 ∙ sym (eqb-true n.member m yes)) (not_below-epoch n v.note newer) (not_expired v.note _ v.shown)) ∙ in_view_by-fresh n)))
     (λ no. h)

@@ -4,6 +4,7 @@ use Rattle.std.specs.Prelude.{IfSome}
 use Rattle.std.specs.FinMap.{get, insert, empty}
 use Rattle.std.proofs.lemmas.Bool.{false≢true, eq-eqb, ne_eqb, and_from}
 use Rattle.std.proofs.lemmas.List.Elements.{All-weaker, All-nil}
+use Rattle.ff_ids.specs.declared.TheConstants.{MAX_TOLERANCE}
 use Rattle.ff_ids.specs.declared.Group.{Group}
 use Rattle.ff_ids.specs.declared.NoteBody.{NoteBody}
 use Rattle.ff_ids.specs.declared.AccBody.{AccBody}
@@ -43,7 +44,7 @@ IsSound-added group places notes expired view m p sound placed absent =
     }
 
 -- nothing is kept yet
-pub IsSound-opening : (group : Group) (view : Joined) → group.t ≤ 15 → view ≡ record { rings = ring_count group.t; members = [] } → IsSound group empty empty empty view
+pub IsSound-opening : (group : Group) (view : Joined) → group.t ≤ MAX_TOLERANCE → view ≡ record { rings = ring_count group.t; members = [] } → IsSound group empty empty empty view
 IsSound-opening group view few e =
     record {
       tolerance = few;

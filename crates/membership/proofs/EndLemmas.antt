@@ -9,6 +9,7 @@ use Rattle.std.proofs.lemmas.List.Edits.{length-insert}
 use Rattle.std.proofs.lemmas.List.Filters.{length-filter_both}
 use Rattle.std.proofs.lemmas.List.Folds.{list_any_more}
 use Rattle.std.proofs.lemmas.List.Sums.{prefix_len-le-length}
+use Rattle.ff_ids.specs.declared.TheConstants.{MEMBERS}
 use Rattle.ff_ids.specs.declared.AccBody.{AccBody}
 use Rattle.ff_ids.specs.declared.NoteBody.{NoteBody}
 use Rattle.ff_ids.specs.Views.{is_number, is_unanswered_by}
@@ -42,7 +43,7 @@ filter_nothing (x ∷ xs) = filter_nothing xs
 
 -- each is against a member, on a ring of the group
 pub record IsEntry (rings : ℕ) (p : Entry) : Type 0 where
-  pub number : p.0.accused < 1024
+  pub number : p.0.accused < MEMBERS
   pub ring : p.0.ring.0 < rings
 
 pub AllBy-entries : (rings : ℕ) (es : List Entry) → IsInOrder rings es → AllByRecursion (IsEntry rings) es

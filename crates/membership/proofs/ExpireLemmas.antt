@@ -1,10 +1,11 @@
 -- What accusations that expire change.
 use Rattle.std.proofs.Common.{◌≡◌, ◌≢◌, ℕ, ◌<◌, max, Bool, true, false, cond, not, ◌&&◌, List, map, Option, Some, None, refl, ap, sym, ◌∙◌, subst, arith, is_some, unwrap_or}
-use Rattle.std.specs.Prelude.{nat_lt, nat_le}
+use Rattle.std.specs.Prelude.{nat_le}
 use Rattle.std.specs.List.{filter}
 use Rattle.std.specs.FinMap.{get}
 use Rattle.std.proofs.lemmas.Bool.{false≢true}
 use Rattle.std.proofs.lemmas.Bool.Decides.{nat_tests}
+use Rattle.ff_ids.specs.declared.TheConstants.{MEMBERS}
 use Rattle.ff_ids.specs.declared.Group.{Group}
 use Rattle.ff_ids.specs.declared.AccBody.{AccBody}
 use Rattle.ff_ids.specs.declared.NoteBody.{NoteBody}
@@ -14,6 +15,10 @@ use Rattle.membership.specs.Kept.{ByNumber, expired_at, is_live, is_live_at, mem
 use Rattle.membership.specs.Life.{IsSound}
 use Rattle.membership.proofs.NumberLemmas.{all_length, AtEach, AtEach-all, Numbered, without_member-range}
 use Rattle.membership.proofs.SoundLemmas.{get_here, get_other, by_number, number_below, is_joined-live, live_members-same, same_rings, same_members}
+use Rattle.ff_ids.specs.Views.{in_view_by}
+use Rattle.ff_ids.proofs.ViewLemmas.{in_view_by-either}
+use Rattle.std.proofs.lemmas.Bool.{and_parts}
+use Rattle.std.specs.Prelude.{◌&&◌, ◌||◌, not, nat_le, max}
 
 -- ---- one accusation
 
@@ -23,21 +28,28 @@ expired_at-raise expired a = ap (λ o. unwrap_or o 0) (get_here expired a.accuse
 pub expired_at-other : (expired : ByNumber ℕ) (a : AccBody) (k : ℕ) → k ≢ a.accused → expired_at (raise expired a) k ≡ expired_at expired k
 expired_at-other expired a k apart = ap (λ o. unwrap_or o 0) (get_other expired a.accused k (max (expired_at expired a.accused) a.epoch) apart)
 
-out_is : (e n k : ℕ) → (nat_lt e n && nat_le n k) ≡ (nat_lt e n && not (nat_lt (max e k) n))
-out_is e n k = grind (arith, nat_tests)
+at_most_max : (n e k : ℕ) → nat_le n (max e k) ≡ (nat_le n k || nat_le n e)
+at_most_max n e k = grind (arith, nat_tests)
+
+viewed_raised : (n : NoteBody) (e k : ℕ) → in_view_by n (nat_le n.epoch (max e k)) ≡ (in_view_by n (nat_le n.epoch e) && not (nat_le n.epoch k))
+viewed_raised n e k = ap (in_view_by n) (at_most_max n.epoch e k) ∙ in_view_by-either n (nat_le n.epoch k) (nat_le n.epoch e)
+
+out_is : (was late : Bool) → (was && late) ≡ (was && not (was && not late))
+out_is true true = refl
+out_is true false = refl
+out_is false late = refl
 
 -- it takes out who was live and no longer is
 pub takes_out-is : (e : ℕ) (kept : Option NoteBody) (a : AccBody) → takes_out e kept a ≡ (is_live e kept && not (is_live (max e a.epoch) kept))
 takes_out-is e None a = refl
-takes_out-is e (Some n) a = out_is e n.epoch a.epoch
-
-fewer_is : (e n k : ℕ) → nat_lt (max e k) n ≡ true → nat_lt e n ≡ true
-fewer_is e n k h = grind (arith, nat_tests)
+takes_out-is e (Some n) a =
+    let was = in_view_by n (nat_le n.epoch e) in
+    out_is was (nat_le n.epoch a.epoch) ∙ ap (λ b. was && not b) (sym (viewed_raised n e a.epoch))
 
 -- nobody becomes live
 pub live_fewer : (e k : ℕ) (kept : Option NoteBody) → is_live (max e k) kept ≡ true → is_live e kept ≡ true
 live_fewer e k None h = h
-live_fewer e k (Some n) h = fewer_is e n.epoch k h
+live_fewer e k (Some n) h = (and_parts _ _ (sym (viewed_raised n e k) ∙ h)).0
 
 pub live_same : (notes : ByNumber NoteBody) (expired : ByNumber ℕ) (a : AccBody) (k : ℕ) → k ≢ a.accused → is_live_at notes (raise expired a) k ≡ is_live_at notes expired k
 live_same notes expired a k apart = ap (λ e. is_live e (get notes k)) (expired_at-other expired a k apart)
@@ -57,7 +69,7 @@ stays_same false true h e = sym (h refl)
 stays_same false false h e = refl
 
 -- the live members, where one is taken out
-live_members-leaves : (places : ByNumber (List (List ℕ))) (notes : ByNumber NoteBody) (expired expired' : ByNumber ℕ) (m : ℕ) → m < 1024 → is_live_at notes expired m ≡ true → is_live_at notes expired' m ≡ false → ((k : ℕ) → k ≢ m → is_live_at notes expired' k ≡ is_live_at notes expired k) → live_members places notes expired' ≡ without_member m (live_members places notes expired)
+live_members-leaves : (places : ByNumber (List (List ℕ))) (notes : ByNumber NoteBody) (expired expired' : ByNumber ℕ) (m : ℕ) → m < MEMBERS → is_live_at notes expired m ≡ true → is_live_at notes expired' m ≡ false → ((k : ℕ) → k ≢ m → is_live_at notes expired' k ≡ is_live_at notes expired k) → live_members places notes expired' ≡ without_member m (live_members places notes expired)
 live_members-leaves places notes expired expired' m below before after others =
     let all = all_length in
     let numbered : Numbered (member_at places) = record { number = λ m. refl } in
@@ -71,10 +83,10 @@ same_live notes expired a e =
     by_number (λ k. is_live_at notes (raise expired a) k ≡ is_live_at notes expired k) a.accused (live_raised notes expired a ∙ stays_same (is_live_at notes expired a.accused) (is_live (max (expired_at expired a.accused) a.epoch) (get notes a.accused)) (live_fewer (expired_at expired a.accused) a.epoch (get notes a.accused)) (sym (takes_out-is (expired_at expired a.accused) (get notes a.accused) a) ∙ e)) (live_same notes expired a)
 
 -- who is taken out was live, so it is a member
-taken_below : (group : Group) (places : ByNumber (List (List ℕ))) (notes : ByNumber NoteBody) (expired : ByNumber ℕ) (view : Joined) (m : ℕ) → IsSound group places notes expired view → is_live_at notes expired m ≡ true → m < 1024
+taken_below : (group : Group) (places : ByNumber (List (List ℕ))) (notes : ByNumber NoteBody) (expired : ByNumber ℕ) (view : Joined) (m : ℕ) → IsSound group places notes expired view → is_live_at notes expired m ≡ true → m < MEMBERS
 taken_below group places notes expired view m sound live = by_places (get places m) refl
   where
-    by_places : (o : Option (List (List ℕ))) → get places m ≡ o → m < 1024
+    by_places : (o : Option (List (List ℕ))) → get places m ≡ o → m < MEMBERS
     by_places None e = absurd (false≢true (sym (ap (is_live (expired_at expired m)) (sound.noted m e)) ∙ live))
     by_places (Some x) e = number_below (ring_count group.t) m (get places m) (sound.placed m) (ap is_some e)
 

@@ -1,6 +1,6 @@
 -- What is kept, and the states that it stands for.
-use Rattle.std.proofs.Common.{◌≡◌, ℕ, ◌<◌, max, Bool, true, false, cond, not, ◌&&◌, ◌||◌, eqb, leb, List, [], ◌∷◌, map, Option, Some, None, Ok, Err, refl, ap, sym, ◌∙◌, subst, arith, unwrap_or, length}
-use Rattle.std.specs.Prelude.{nat_le, nat_lt, IfSome}
+use Rattle.std.proofs.Common.{◌≡◌, ℕ, ◌<◌, max, Bool, true, false, cond, ◌&&◌, ◌||◌, eqb, leb, List, [], ◌∷◌, map, Option, Some, None, Ok, Err, refl, ap, sym, ◌∙◌, subst, arith, unwrap_or, length}
+use Rattle.std.specs.Prelude.{nat_le, IfSome}
 use Rattle.std.specs.List.{filter}
 use Rattle.std.specs.FinMap.{get}
 use Rattle.std.proofs.lemmas.Bool.{eqb-true, lt-leb}
@@ -12,7 +12,7 @@ use Rattle.ff_ids.specs.declared.AccBody.{AccBody}
 use Rattle.ff_ids.specs.declared.Fault.{Fault}
 use Rattle.ff_ids.specs.Notes.{newest, greater_note}
 use Rattle.ff_ids.specs.Rings.{Key, nearest_before, nearest_after}
-use Rattle.ff_ids.specs.Views.{State, Member, has_expired, in_view, is_member, all_numbers, view, key_at, key_of, monitor, successor}
+use Rattle.ff_ids.specs.Views.{State, Member, has_expired, in_view, in_view_by, is_member, all_numbers, view, key_at, key_of, monitor, successor}
 use Rattle.ff_ids.specs.Faults.{note_fault, note_fault_by}
 use Rattle.monitor_rule.specs.Joined.{keys_on}
 use Rattle.membership.specs.Kept.{expired_at, is_live, is_live_at, member_at, live_members}
@@ -59,22 +59,19 @@ pub newest-member : (notes : List NoteBody) (m : ℕ) → IsOf m (newest notes m
 newest-member [] m = tt
 newest-member (x ∷ notes) m = newest_more (eqb x.member m) x (newest notes m) m (eqb-true x.member m) (newest-member notes m)
 
-not_le : (a b : ℕ) → not (nat_le a b) ≡ nat_lt b a
-not_le a b = grind (arith, nat_tests)
-
-in_view_some : (s : State) (m epoch : ℕ) (n : NoteBody) → n.member ≡ m → greatest_epoch s.expired m ≡ epoch → 0 < n.epoch → not (has_expired s.expired n) ≡ nat_lt epoch n.epoch
+in_view_some : (s : State) (m epoch : ℕ) (n : NoteBody) → n.member ≡ m → greatest_epoch s.expired m ≡ epoch → 0 < n.epoch → in_view_by n (has_expired s.expired n) ≡ in_view_by n (nat_le n.epoch epoch)
 in_view_some s m epoch n own greatest positive =
     let e : has_expired s.expired n ≡ nat_le n.epoch epoch = has_expired-greatest s.expired n positive ∙ ap (λ k. nat_le n.epoch (greatest_epoch s.expired k)) own ∙ ap (nat_le n.epoch) greatest in
-    ap not e ∙ not_le n.epoch epoch
+    ap (in_view_by n) e
 
-in_view_by : (s : State) (m epoch : ℕ) (note : Option NoteBody) → newest s.notes m ≡ note → IsOf m note → greatest_epoch s.expired m ≡ epoch → IfSome note (λ n. 0 < n.epoch) → in_view s m ≡ is_live epoch note
-in_view_by s m epoch None e own greatest positive = rw e refl
-in_view_by s m epoch (Some n) e own greatest positive = rw e (in_view_some s m epoch n own greatest positive)
+in_view-is : (s : State) (m epoch : ℕ) (note : Option NoteBody) → newest s.notes m ≡ note → IsOf m note → greatest_epoch s.expired m ≡ epoch → IfSome note (λ n. 0 < n.epoch) → in_view s m ≡ is_live epoch note
+in_view-is s m epoch None e own greatest positive = rw e refl
+in_view-is s m epoch (Some n) e own greatest positive = rw e (in_view_some s m epoch n own greatest positive)
 
 -- the view, by what is kept
 pub in_view-held : (s : State) (m : ℕ) (places : Option (List (List ℕ))) (note : Option NoteBody) (epoch : ℕ) → HoldsAt s m places note epoch → in_view s m ≡ is_live epoch note
 in_view-held s m places note epoch h =
-    in_view_by s m epoch note h.newest_note (subst (IsOf m) h.newest_note (newest-member s.notes m)) h.greatest h.positive
+    in_view-is s m epoch note h.newest_note (subst (IsOf m) h.newest_note (newest-member s.notes m)) h.greatest h.positive
 
 -- what is kept of each number is as the state says
 pub record HoldsEach (l : Life) (s : State) : Type 0 where

@@ -9,6 +9,7 @@ use Rattle.std.proofs.lemmas.Bool.{eqb-true, eqb-false, eq-eqb, ne_eqb, false≢
 use Rattle.std.proofs.lemmas.Cmp.{tied_itself}
 use Rattle.std.proofs.lemmas.List.MinMax.{ranks_by}
 use Rattle.std.proofs.lemmas.List.Elements.{All-contains, All-weaker, All-contains_itself, Contains-append_right, Contains-append_cases}
+use Rattle.ff_ids.specs.declared.TheConstants.{MEMBERS}
 use Rattle.ff_ids.specs.Rings.{Key, cyc, is_below, nearest_before, nearest_after, IsNearestBefore, IsNearestAfter}
 use Rattle.ff_ids.specs.Views.{all_numbers, is_number}
 use Rattle.ring_order.proofs.KeyOrder.{before_ranked, key_cmp_total}
@@ -131,12 +132,12 @@ passing_range f p a (suc n) v h =
 abbrev pub keys_where : (ℕ → Key) → (ℕ → Bool) → List Key
 keys_where f p = map f (filter p all_numbers)
 
-pub Contains-keys : (f : ℕ → Key) (p : ℕ → Bool) (m : ℕ) → m < 1024 → p m ≡ true → Contains (keys_where f p) (f m)
+pub Contains-keys : (f : ℕ → Key) (p : ℕ → Bool) (m : ℕ) → m < MEMBERS → p m ≡ true → Contains (keys_where f p) (f m)
 Contains-keys f p m below is =
     let all = all_length in
     subst (λ xs. Contains (map f (filter p xs)) (f m)) (sym all.1.are) (contains_range f p m 0 all.0 (omega arith) (omega (arith, all.1.long)) is)
 
-pub Passing-keys : (f : ℕ → Key) (p : ℕ → Bool) (v : Key) → Contains (keys_where f p) v → Passing f p 0 1024 v
+pub Passing-keys : (f : ℕ → Key) (p : ℕ → Bool) (v : Key) → Contains (keys_where f p) v → Passing f p 0 MEMBERS v
 Passing-keys f p v h =
     let all = all_length in
     subst (λ n. Passing f p 0 n v) all.1.long (passing_range f p 0 all.0 v (subst (λ xs. Contains (map f (filter p xs)) v) all.1.are h))
@@ -149,16 +150,16 @@ pub record Keyed (f : ℕ → Key) : Type 0 where
 
 -- v passes and isn't x, and no other that passes lies between v and x
 pub record IsMonitor (f : ℕ → Key) (p : ℕ → Bool) (x v : ℕ) : Type 0 where
-  pub below : v < 1024
+  pub below : v < MEMBERS
   pub passes : p v ≡ true
   pub other : v ≢ x
-  pub nearest : (w : ℕ) → w < 1024 → p w ≡ true → w ≢ x → cyc (f v) (f w) (f x) ≡ false
+  pub nearest : (w : ℕ) → w < MEMBERS → p w ≡ true → w ≢ x → cyc (f v) (f w) (f x) ≡ false
 
 pub record IsSuccessor (f : ℕ → Key) (p : ℕ → Bool) (m x : ℕ) : Type 0 where
-  pub below : x < 1024
+  pub below : x < MEMBERS
   pub passes : p x ≡ true
   pub other : x ≢ m
-  pub nearest : (w : ℕ) → w < 1024 → p w ≡ true → w ≢ m → cyc (f m) (f w) (f x) ≡ false
+  pub nearest : (w : ℕ) → w < MEMBERS → p w ≡ true → w ≢ m → cyc (f m) (f w) (f x) ≡ false
 
 keyed_apart : (f : ℕ → Key) → Keyed f → (v x : ℕ) → v ≢ x → (f v).number ≢ (f x).number
 keyed_apart f keyed v x apart e = apart (sym (keyed.number v) ∙ e ∙ keyed.number x)
@@ -225,7 +226,7 @@ not_number : (o : Option ℕ) (v : ℕ) → (o ≡ Some v → ⊥) → is_number
 not_number o v h = ⊎_elim (λ t. absurd (h (is_number-some o v t))) (λ t. t) (either_bool (is_number o v))
 
 -- where members only leave, the monitor stays unless it left
-pub monitor-leaving : (f : ℕ → Key) → Keyed f → (p q : ℕ → Bool) (x v : ℕ) → IsMonitor f p x v → ((w : ℕ) → w < 1024 → q w ≡ true → p w ≡ true) → is_number (nearest_before (keys_where f q) (f x)) v ≡ q v
+pub monitor-leaving : (f : ℕ → Key) → Keyed f → (p q : ℕ → Bool) (x v : ℕ) → IsMonitor f p x v → ((w : ℕ) → w < MEMBERS → q w ≡ true → p w ≡ true) → is_number (nearest_before (keys_where f q) (f x)) v ≡ q v
 monitor-leaving f keyed p q x v h fewer =
     ⊎_elim (λ t.
     let stays : IsMonitor f q x v = record { below = h.below; passes = t; other = h.other; nearest = λ w below is apart. h.nearest w below (fewer w below is) apart } in
@@ -235,12 +236,12 @@ monitor-leaving f keyed p q x v h fewer =
 
 -- m comes in, and nothing else changes
 pub record ComesIn (p q : ℕ → Bool) (m : ℕ) : Type 0 where
-  pub below : m < 1024
+  pub below : m < MEMBERS
   pub was : p m ≡ false
   pub is : q m ≡ true
   pub others : (w : ℕ) → w ≢ m → q w ≡ p w
 
-entered_between : (f : ℕ → Key) → Keyed f → (p q : ℕ → Bool) (x v m : ℕ) → IsMonitor f p x v → ComesIn p q m → x ≢ m → v ≢ m → cyc (f v) (f m) (f x) ≡ true → (w : ℕ) → w < 1024 → q w ≡ true → w ≢ x → cyc (f m) (f w) (f x) ≡ false
+entered_between : (f : ℕ → Key) → Keyed f → (p q : ℕ → Bool) (x v m : ℕ) → IsMonitor f p x v → ComesIn p q m → x ≢ m → v ≢ m → cyc (f v) (f m) (f x) ≡ true → (w : ℕ) → w < MEMBERS → q w ≡ true → w ≢ x → cyc (f m) (f w) (f x) ≡ false
 entered_between f keyed p q x v m h enters apart v_apart between w below is w_apart =
     ⊎_elim (λ t.
     let at : w ≡ m = eqb-true w m t in
@@ -252,7 +253,7 @@ entered_between f keyed p q x v m h enters apart v_apart between w below is w_ap
     (either_bool (eqb w m))
 
 -- then it is the new monitor of its successor, and all others keep theirs
-pub monitor-entering : (f : ℕ → Key) → Keyed f → (p q : ℕ → Bool) (x v m : ℕ) → IsMonitor f p x v → ComesIn p q m → x < 1024 → p x ≡ true → is_number (nearest_before (keys_where f q) (f x)) v ≡ not (is_number (nearest_after (keys_where f q) (f m)) x)
+pub monitor-entering : (f : ℕ → Key) → Keyed f → (p q : ℕ → Bool) (x v m : ℕ) → IsMonitor f p x v → ComesIn p q m → x < MEMBERS → p x ≡ true → is_number (nearest_before (keys_where f q) (f x)) v ≡ not (is_number (nearest_after (keys_where f q) (f m)) x)
 monitor-entering f keyed p q x v m h enters x_below x_is =
     let apart : x ≢ m = λ e. false≢true (sym enters.was ∙ ap p (sym e) ∙ x_is) in
     let v_apart : v ≢ m = λ e. false≢true (sym enters.was ∙ ap p (sym e) ∙ h.passes) in
@@ -284,7 +285,7 @@ monitor-entering f keyed p q x v m h enters x_below x_is =
     (either_bool (cyc (f v) (f m) (f x)))
 
 -- who monitors has as its successor the one that it monitors, and nobody else has that successor
-pub successor-of_monitor : (f : ℕ → Key) → Keyed f → (p : ℕ → Bool) (x v : ℕ) → IsMonitor f p x v → x < 1024 → p x ≡ true → (m : ℕ) → m < 1024 → p m ≡ true → is_number (nearest_after (keys_where f p) (f m)) x ≡ eqb m v
+pub successor-of_monitor : (f : ℕ → Key) → Keyed f → (p : ℕ → Bool) (x v : ℕ) → IsMonitor f p x v → x < MEMBERS → p x ≡ true → (m : ℕ) → m < MEMBERS → p m ≡ true → is_number (nearest_after (keys_where f p) (f m)) x ≡ eqb m v
 successor-of_monitor f keyed p x v h x_below x_is m m_below m_is =
     ⊎_elim (λ t.
     let at : m ≡ v = eqb-true m v t in

@@ -1,18 +1,18 @@
 -- What an accepted note changes.
 use Rattle.std.proofs.Common.{◌≡◌, ◌≢◌, ℕ, ◌<◌, Bool, true, false, cond, not, ◌&&◌, eqb, List, [], ◌∷◌, map, ⊎_elim, Option, Some, None, refl, ap, sym, ◌∙◌, subst, arith}
 use Rattle.std.specs.List.{filter, AllByRecursion, All}
-use Rattle.std.specs.Option.{option_map_or}
 use Rattle.std.specs.Ordering.{is_lt}
 use Rattle.std.specs.declared.cmp.Ordering.{Ordering}
 use Rattle.std.specs.FinMap.{get, insert}
 use Rattle.std.proofs.lemmas.Bool.{eqb-true, eqb-false, eq-eqb}
 use Rattle.std.proofs.lemmas.List.Elements.{filter_passes, recursion_from_All}
+use Rattle.ff_ids.specs.declared.TheConstants.{MEMBERS}
 use Rattle.ff_ids.specs.declared.AccBody.{AccBody}
 use Rattle.ff_ids.specs.declared.NoteBody.{NoteBody}
 use Rattle.ff_ids.specs.Masks.{ring_count}
 use Rattle.ff_ids.specs.Notes.{newest, greater_note, note_cmp}
 use Rattle.ff_ids.specs.Faults.{fault_after, fault_beside}
-use Rattle.ff_ids.specs.Views.{State, in_view, all_numbers, stands, is_number, has_expired}
+use Rattle.ff_ids.specs.Views.{State, in_view, all_numbers, stands, is_number, viewed_by}
 use Rattle.ff_ids.specs.Steps.{Report, only_before, after_note}
 use Rattle.removal_timer.specs.Kept.{IsInOrder}
 use Rattle.membership.specs.Kept.{expired_at, is_live, is_live_at}
@@ -43,7 +43,7 @@ newest_here notes n kept e h =
 
 -- a note that is accepted, beside what is kept
 pub record Accepts (l : Life) (n : NoteBody) : Type 0 where
-  pub below : n.member < 1024
+  pub below : n.member < MEMBERS
   pub positive : 0 < n.epoch
   pub newer : fault_after (get l.notes n.member) n ≡ None
 
@@ -88,7 +88,7 @@ only_before-none s other stays =
     filter-filter (λ k. not (in_view other k)) (in_view s) all_numbers ∙ filter_nobody (λ k. in_view s k && not (in_view other k)) (λ k. none_left (in_view s k) (in_view other k) (stays k)) all_numbers
 
 -- this member alone is
-only_before-one : (s other : State) (m : ℕ) → m < 1024 → in_view s m ≡ true → in_view other m ≡ false → ((k : ℕ) → k ≢ m → in_view s k ≡ in_view other k) → only_before s other ≡ m ∷ []
+only_before-one : (s other : State) (m : ℕ) → m < MEMBERS → in_view s m ≡ true → in_view other m ≡ false → ((k : ℕ) → k ≢ m → in_view s k ≡ in_view other k) → only_before s other ≡ m ∷ []
 only_before-one s other m below is was others =
     let all = all_length in
     let rest : AtEach 0 all.0 (λ k. k ≢ m → (in_view s k && not (in_view other k)) ≡ false) = AtEach-all all.0 _ all.1.long (λ k _ apart. none_left (in_view s k) (in_view other k) (λ e. sym (others k apart) ∙ e)) in
@@ -105,7 +105,7 @@ entering l s n h a e =
       below = a.below;
       was = in_view-at l s n.member h ∙ parts.0;
       is = in_view-each (with_note l n) (with_accepted s n) n.member (HoldsEach-noted l s n h a) ∙ live_here l.notes l.expired n ∙ parts.1;
-      others = λ w apart. ap (λ o. option_map_or (λ n. not (has_expired s.expired n)) o false) (newest_other s.notes n w apart);
+      others = λ w apart. ap (viewed_by s.expired) (newest_other s.notes n w apart);
     }
 
 -- or the view is the same

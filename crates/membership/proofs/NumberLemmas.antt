@@ -3,6 +3,7 @@ use Rattle.std.proofs.Common.{◌≡◌, ◌≢◌, ℕ, zero, suc, ◌+◌, ◌
 use Rattle.std.specs.List.{filter, range_with_len}
 use Rattle.std.proofs.lemmas.Bool.{eqb-true, eqb-false, ne_eqb, le-leb, lt-leb}
 use Rattle.std.specs.Prelude.{nat_le}
+use Rattle.ff_ids.specs.declared.TheConstants.{MEMBERS}
 use Rattle.ff_ids.specs.Views.{Member, all_numbers}
 use Rattle.monitor_rule.specs.Joined.{with_member, without_member, is_joined}
 
@@ -190,16 +191,16 @@ is_joined-range f numbered p m a (suc n) low high =
 
 -- all numbers, as a range whose length a proof does not compute
 pub record AreAll (n : ℕ) : Type 0 where
-  pub long : n ≡ 1024
+  pub long : n ≡ MEMBERS
   pub are : all_numbers ≡ range_with_len 0 n
 
-pub AreAll-1024 : AreAll 1024
+pub AreAll-numbers : AreAll MEMBERS
 unfolding all_numbers
-AreAll-1024 = record { long = refl; are = refl }
+AreAll-numbers = record { long = refl; are = refl }
 
 -- some such length
 pub all_length : (n : ℕ) × AreAll n
-all_length = (1024, AreAll-1024)
+all_length = (MEMBERS, AreAll-numbers)
 
-pub AtEach-all : (n : ℕ) (P : ℕ → Type 0) → n ≡ 1024 → ((m : ℕ) → m < 1024 → P m) → AtEach 0 n P
+pub AtEach-all : (n : ℕ) (P : ℕ → Type 0) → n ≡ MEMBERS → ((m : ℕ) → m < MEMBERS → P m) → AtEach 0 n P
 AtEach-all n P e h = record { each = λ m low high. h m (omega arith) }

@@ -1,6 +1,6 @@
 -- What stands between what is kept and the rings.
-use Rattle.std.proofs.Common.{◌≡◌, ◌≢◌, ℕ, ◌<◌, ◌≤◌, Bool, true, false, cond, not, ◌&&◌, eqb, List, [], ◌∷◌, map, ⊎_elim, Option, Some, None, refl, ap, sym, ◌∙◌, subst, arith, is_some}
-use Rattle.std.specs.Prelude.{nat_lt, IfSome}
+use Rattle.std.proofs.Common.{◌≡◌, ◌≢◌, ℕ, ◌<◌, ◌≤◌, Bool, true, false, cond, not, ◌&&◌, eqb, List, [], ◌∷◌, map, ⊎_elim, Option, Some, None, refl, ap, sym, ◌∙◌, subst, arith, is_some, nat_le}
+use Rattle.std.specs.Prelude.{IfSome}
 use Rattle.std.specs.Ordering.{nat_cmp, ordering_then, eq_by_cmp}
 use Rattle.std.specs.Cmp.{nat_cmp_total}
 use Rattle.std.specs.FinMap.{get, insert, empty, get-insert, get-empty}
@@ -9,6 +9,7 @@ use Rattle.std.specs.declared.cmp.Ordering.TheVariants.{Less, Equal, Greater}
 use Rattle.std.specs.List.{filter}
 use Rattle.std.proofs.lemmas.Bool.{eqb-true, eqb-false, false≢true}
 use Rattle.std.proofs.lemmas.Bool.Decides.{nat_tests}
+use Rattle.ff_ids.specs.declared.TheConstants.{MEMBERS}
 use Rattle.ff_ids.specs.declared.Group.{Group}
 use Rattle.ff_ids.specs.declared.NoteBody.{NoteBody}
 use Rattle.ff_ids.specs.declared.Fault.{Fault}
@@ -21,6 +22,8 @@ use Rattle.monitor_rule.specs.Joined.{Joined, with_member, is_joined}
 use Rattle.membership.specs.Kept.{ByNumber, places_at, expired_at, is_live, is_live_at, member_at, live_members, comes_in}
 use Rattle.membership.specs.Life.{Life, IsSound, IsPlaced, has_joined, note_fault_in, is_newcomer}
 use Rattle.membership.proofs.NumberLemmas.{either_bool, all_length, AtEach, AtEach-all, Numbered, with_member-range, is_joined-range, map-filter_range_agree}
+use Rattle.ff_ids.specs.Views.{in_view_by}
+use Rattle.ff_ids.proofs.ViewLemmas.{in_view_by-fresh, not_expired}
 
 -- ---- a map with one more entry
 
@@ -48,14 +51,14 @@ member_at-numbered : (places : ByNumber (List (List ℕ))) → Numbered (member_
 member_at-numbered places = record { number = λ m. refl }
 
 -- who is on the rings
-pub is_joined-live : (places : ByNumber (List (List ℕ))) (notes : ByNumber NoteBody) (expired : ByNumber ℕ) (m : ℕ) → m < 1024 → is_joined (live_members places notes expired) m ≡ is_live_at notes expired m
+pub is_joined-live : (places : ByNumber (List (List ℕ))) (notes : ByNumber NoteBody) (expired : ByNumber ℕ) (m : ℕ) → m < MEMBERS → is_joined (live_members places notes expired) m ≡ is_live_at notes expired m
 is_joined-live places notes expired m below =
     let all = all_length in
     let counted = is_joined-range (member_at places) (member_at-numbered places) (is_live_at notes expired) m 0 all.0 (omega arith) (omega (arith, all.1.long)) in
     subst (λ xs. is_joined (map (member_at places) (filter (is_live_at notes expired) xs)) m ≡ is_live_at notes expired m) (sym all.1.are) counted
 
 -- the live members, where a newcomer is put in
-live_members-enters : (places : ByNumber (List (List ℕ))) (notes notes' : ByNumber NoteBody) (expired : ByNumber ℕ) (m : ℕ) → m < 1024 → is_live_at notes expired m ≡ false → is_live_at notes' expired m ≡ true → ((k : ℕ) → k ≢ m → is_live_at notes' expired k ≡ is_live_at notes expired k) → live_members places notes' expired ≡ with_member (member_at places m) (live_members places notes expired)
+live_members-enters : (places : ByNumber (List (List ℕ))) (notes notes' : ByNumber NoteBody) (expired : ByNumber ℕ) (m : ℕ) → m < MEMBERS → is_live_at notes expired m ≡ false → is_live_at notes' expired m ≡ true → ((k : ℕ) → k ≢ m → is_live_at notes' expired k ≡ is_live_at notes expired k) → live_members places notes' expired ≡ with_member (member_at places m) (live_members places notes expired)
 live_members-enters places notes notes' expired m below before after others =
     let all = all_length in
     let agree : AtEach 0 all.0 (λ k. k ≢ m → is_live_at notes' expired k ≡ is_live_at notes expired k) = AtEach-all all.0 _ all.1.long (λ k _. others k) in
@@ -114,13 +117,15 @@ beside kept Greater h = refl
 later : (a b : ℕ) (o : Ordering) → ordering_then (nat_cmp a b) o ≡ Greater → b ≤ a
 later a b o h = grind (arith, nat_tests)
 
-ltb_later : (e a b : ℕ) → a ≤ b → nat_lt e a ≡ true → nat_lt e b ≡ true
-ltb_later e a b le h = grind (arith, nat_tests)
+later_than : (e a b : ℕ) → a ≤ b → nat_le a e ≡ false → nat_le b e ≡ false
+later_than e a b le h = grind (arith, nat_tests)
 
 -- it is of no smaller epoch than the kept one, so a live member stays live
 pub stays_live : (expired : ℕ) (kept : Option NoteBody) (n : NoteBody) → fault_after kept n ≡ None → is_live expired kept ≡ true → is_live expired (Some n) ≡ true
 stays_live expired None n h live = absurd (false≢true live)
-stays_live expired (Some kept) n h live = ltb_later expired kept.epoch n.epoch (later n.epoch kept.epoch _ (beside kept (note_cmp n kept) h)) live
+stays_live expired (Some kept) n h live =
+    let fresh = not_expired kept (nat_le kept.epoch expired) live in
+    ap (in_view_by n) (later_than expired kept.epoch n.epoch (later n.epoch kept.epoch _ (beside kept (note_cmp n kept) h)) fresh) ∙ in_view_by-fresh n
 
 comes_in_or_same : (was is : Bool) → (was ≡ true → is ≡ true) → (not was && is) ≡ false → is ≡ was
 comes_in_or_same true is stays h = stays refl
@@ -142,7 +147,7 @@ live_same notes expired n newer e =
     by_number (λ k. is_live_at (insert notes n.member n) expired k ≡ is_live_at notes expired k) n.member (live_here notes expired n ∙ comes_in_or_same (is_live_at notes expired n.member) (is_live (expired_at expired n.member) (Some n)) (stays_live (expired_at expired n.member) (get notes n.member) n newer) e) (others_live notes expired n)
 
 -- the live members after it
-live_members-noted : (places : ByNumber (List (List ℕ))) (notes : ByNumber NoteBody) (expired : ByNumber ℕ) (n : NoteBody) → n.member < 1024 → fault_after (get notes n.member) n ≡ None → (enters : Bool) → enters ≡ comes_in (expired_at expired n.member) (get notes n.member) n → live_members places (insert notes n.member n) expired ≡ cond enters (with_member (member_at places n.member) (live_members places notes expired)) (live_members places notes expired)
+live_members-noted : (places : ByNumber (List (List ℕ))) (notes : ByNumber NoteBody) (expired : ByNumber ℕ) (n : NoteBody) → n.member < MEMBERS → fault_after (get notes n.member) n ≡ None → (enters : Bool) → enters ≡ comes_in (expired_at expired n.member) (get notes n.member) n → live_members places (insert notes n.member n) expired ≡ cond enters (with_member (member_at places n.member) (live_members places notes expired)) (live_members places notes expired)
 live_members-noted places notes expired n below newer true e =
     let parts = comes_in_parts (is_live_at notes expired n.member) (is_live (expired_at expired n.member) (Some n)) (sym e) in
     live_members-enters places notes (insert notes n.member n) expired n.member below parts.0 (live_here notes expired n ∙ parts.1) (others_live notes expired n)
@@ -150,7 +155,7 @@ live_members-noted places notes expired n below newer false e =
     live_members-same places places notes (insert notes n.member n) expired expired (live_same notes expired n newer (sym e)) (λ k _. refl)
 
 -- the number of a member
-pub number_below : (rings m : ℕ) (o : Option (List (List ℕ))) → IfSome o (IsPlaced rings m) → is_some o ≡ true → m < 1024
+pub number_below : (rings m : ℕ) (o : Option (List (List ℕ))) → IfSome o (IsPlaced rings m) → is_some o ≡ true → m < MEMBERS
 number_below rings m None h e = absurd (false≢true e)
 number_below rings m (Some p) h e = h.number
 

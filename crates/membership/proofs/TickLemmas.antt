@@ -5,6 +5,7 @@ use Rattle.std.specs.FinMap.{get}
 use Rattle.std.proofs.lemmas.Bool.{eqb-true, eqb-false, false≢true}
 use Rattle.std.proofs.lemmas.Bool.Decides.{nat_tests}
 use Rattle.std.proofs.lemmas.List.Elements.{filter_agree, filter_passes}
+use Rattle.ff_ids.specs.declared.TheConstants.{MEMBERS}
 use Rattle.ff_ids.specs.declared.AccBody.{AccBody}
 use Rattle.ff_ids.specs.declared.NoteBody.{NoteBody}
 use Rattle.ff_ids.specs.Masks.{ring_count}
@@ -28,7 +29,7 @@ use Rattle.membership.proofs.EndLemmas.{AllBy-then, Ended}
 
 abbrev pub Ascends : ℕ → List AccBody → Type 0
 Ascends low [] = Unit {0}
-Ascends low (a ∷ due) = (low ≤ a.accused) × (a.accused < 1024) × Ascends a.accused due
+Ascends low (a ∷ due) = (low ≤ a.accused) × (a.accused < MEMBERS) × Ascends a.accused due
 
 from_first : (a b : AccBody) → comes_first a b ≡ true → a.accused ≤ b.accused
 from_first a b h = grind (arith, nat_tests)
@@ -92,7 +93,7 @@ and_not : (b : Bool) → (b && not b) ≡ false
 and_not true = refl
 and_not false = refl
 
-leavers_more : (notes : ByNumber NoteBody) (expired : ByNumber ℕ) (a : AccBody) (due : List AccBody) (n : ℕ) → n ≡ 1024 → a.accused < 1024 → Ascends a.accused due → (out : Bool) → out ≡ takes_out (expired_at expired a.accused) (get notes a.accused) a → cond out (a.accused ∷ filter (gone notes (raise expired a) (raised (raise expired a) due)) (range_with_len 0 n)) (filter (gone notes (raise expired a) (raised (raise expired a) due)) (range_with_len 0 n)) ≡ filter (gone notes expired (raised (raise expired a) due)) (range_with_len 0 n)
+leavers_more : (notes : ByNumber NoteBody) (expired : ByNumber ℕ) (a : AccBody) (due : List AccBody) (n : ℕ) → n ≡ MEMBERS → a.accused < MEMBERS → Ascends a.accused due → (out : Bool) → out ≡ takes_out (expired_at expired a.accused) (get notes a.accused) a → cond out (a.accused ∷ filter (gone notes (raise expired a) (raised (raise expired a) due)) (range_with_len 0 n)) (filter (gone notes (raise expired a) (raised (raise expired a) due)) (range_with_len 0 n)) ≡ filter (gone notes expired (raised (raise expired a) due)) (range_with_len 0 n)
 leavers_more notes expired a due n size below ascends true e =
     let later = raised (raise expired a) due in
     let parts = out_parts _ _ (sym (e ∙ takes_out-is (expired_at expired a.accused) (get notes a.accused) a)) in
@@ -107,7 +108,7 @@ leavers_more notes expired a due n size below ascends false e =
     let later = raised (raise expired a) due in
     filter-range_agree (gone notes (raise expired a) later) (gone notes expired later) 0 n (record { each = λ k _ _. ap (λ b. b && not (is_live_at notes later k)) (same_live notes expired a (sym e) k) })
 
-leavers_range : (notes : ByNumber NoteBody) (expired : ByNumber ℕ) (due : List AccBody) (low n : ℕ) → n ≡ 1024 → Ascends low due → leavers notes expired due ≡ filter (gone notes expired (raised expired due)) (range_with_len 0 n)
+leavers_range : (notes : ByNumber NoteBody) (expired : ByNumber ℕ) (due : List AccBody) (low n : ℕ) → n ≡ MEMBERS → Ascends low due → leavers notes expired due ≡ filter (gone notes expired (raised expired due)) (range_with_len 0 n)
 leavers_range notes expired [] low n size h = sym (filter-range_none (gone notes expired expired) 0 n (record { each = λ k _ _. and_not (is_live_at notes expired k) }))
 leavers_range notes expired (a ∷ due) low n size h =
     let rest = leavers_range notes (raise expired a) due a.accused n size h.2 in

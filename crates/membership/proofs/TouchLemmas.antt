@@ -7,12 +7,13 @@ use Rattle.std.specs.FinMap.{get}
 use Rattle.std.proofs.lemmas.Bool.{eqb-true, eqb-false, false≢true, and_parts}
 use Rattle.std.proofs.lemmas.Bool.Decides.{nat_tests}
 use Rattle.std.proofs.lemmas.List.Elements.{filter_agree}
+use Rattle.ff_ids.specs.declared.TheConstants.{MEMBERS}
 use Rattle.ff_ids.specs.declared.AccBody.{AccBody}
 use Rattle.ff_ids.specs.declared.NoteBody.{NoteBody}
 use Rattle.ff_ids.specs.Notes.{newest}
 use Rattle.ff_ids.specs.Rings.{nearest_before}
 use Rattle.ff_ids.specs.Masks.{enables}
-use Rattle.ff_ids.specs.Views.{State, in_view, has_expired, view, monitor, successor, key_of, stands, is_unanswered_by, is_number, all_numbers}
+use Rattle.ff_ids.specs.Views.{State, in_view, in_view_by, viewed_by, has_expired, view, monitor, successor, key_of, stands, is_unanswered_by, is_number, all_numbers}
 use Rattle.membership.specs.Kept.{is_live}
 use Rattle.membership.specs.Life.{Life, has_joined, live_successor}
 use Rattle.membership.specs.Ends.{Entry, is_answered, is_of, is_of_any, next_of}
@@ -20,6 +21,7 @@ use Rattle.membership.specs.Touched.{IsUpheld}
 use Rattle.membership.proofs.NumberLemmas.{either_bool}
 use Rattle.membership.proofs.MonitorLemmas.{Keyed, IsMonitor-some, ComesIn, monitor-leaving, monitor-entering, successor-of_monitor, is_number-some}
 use Rattle.membership.proofs.HoldLemmas.{HoldsEach, in_view-each, live_successor-each, newest-member}
+use Rattle.ff_ids.proofs.ViewLemmas.{in_view_by-either}
 
 -- an accusation that stands, part by part
 pub record IsStanding (s : State) (a : AccBody) : Type 0 where
@@ -103,15 +105,9 @@ has_expired-append (a ∷ due) expired n = ap (λ b. ((eqb a.accused n.member) &
 in_view-expired : (s : State) (due : List AccBody) (w : ℕ) → in_view (with_expired s due) w ≡ (in_view s w && not (option_map_or (has_expired due) (newest s.notes w) false))
 in_view-expired s due w = by_note (newest s.notes w)
   where
-    neither : (b c : Bool) → not (b || c) ≡ (not c && not b)
-    neither true true = refl
-    neither true false = refl
-    neither false true = refl
-    neither false false = refl
-
-    by_note : (o : Option NoteBody) → option_map_or (λ n. not (has_expired (due ++ s.expired) n)) o false ≡ (option_map_or (λ n. not (has_expired s.expired n)) o false && not (option_map_or (has_expired due) o false))
+    by_note : (o : Option NoteBody) → viewed_by (due ++ s.expired) o ≡ (viewed_by s.expired o && not (option_map_or (has_expired due) o false))
     by_note None = refl
-    by_note (Some n) = ap not (has_expired-append due s.expired n) ∙ neither (has_expired due n) (has_expired s.expired n)
+    by_note (Some n) = ap (in_view_by n) (has_expired-append due s.expired n) ∙ in_view_by-either n (has_expired due n) (has_expired s.expired n)
 
 pub fewer-expired : (s : State) (due : List AccBody) (w : ℕ) → in_view (with_expired s due) w ≡ true → in_view s w ≡ true
 fewer-expired s due w is = (and_parts (in_view s w) _ (sym (in_view-expired s due w) ∙ is)).0
@@ -140,7 +136,7 @@ pub stays-expired : (s : State) (w : ℕ) (es : List Entry) → AllByRecursion (
 stays-expired s w es h is = in_view-expired s (map (λ p. p.0) es) w ∙ ap (λ b. b && not (option_map_or (has_expired (map (λ p. p.0) es)) (newest s.notes w) false)) is ∙ ap not (by_note (newest s.notes w) refl (newest-member s.notes w) is)
   where
     by_note : (o : Option NoteBody) → newest s.notes w ≡ o → IfSome o (λ n. n.member ≡ w) → in_view s w ≡ true → option_map_or (has_expired (map (λ p. p.0) es)) o false ≡ list_any (λ a. eqb a.accused w) (map (λ p. p.0) es)
-    by_note None note own is = absurd (false≢true (sym (ap (λ o. option_map_or (λ n. not (has_expired s.expired n)) o false) note) ∙ is))
+    by_note None note own is = absurd (false≢true (sym (ap (viewed_by s.expired) note) ∙ is))
     by_note (Some n) note own is = due_any s n w es note own h
 
 first_last : (b c d e f : Bool) → b ≡ e → c ≡ true → d ≡ f → (b && c && d) ≡ (e && f)
@@ -167,7 +163,7 @@ has_joined-viewed l s m h noted is = by_places (get l.places m) refl
     by_places (Some x) e = refl
 
 -- against a member's successor is by the member
-by_successor : (l : Life) (s : State) (p : Entry) (m : ℕ) → HoldsEach l s → ((k : ℕ) → get l.places k ≡ None → get l.notes k ≡ None) → IsUpheld s p → m < 1024 → in_view s m ≡ true → is_of l m p ≡ (eqb m p.0.accused || eqb m p.0.accuser)
+by_successor : (l : Life) (s : State) (p : Entry) (m : ℕ) → HoldsEach l s → ((k : ℕ) → get l.places k ≡ None → get l.notes k ≡ None) → IsUpheld s p → m < MEMBERS → in_view s m ≡ true → is_of l m p ≡ (eqb m p.0.accused || eqb m p.0.accuser)
 by_successor l s p m h noted u below is =
     let a = p.0 in
     let parts = IsStanding-from s a u.standing in

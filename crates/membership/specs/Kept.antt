@@ -1,12 +1,12 @@
 -- What is kept of each member: its places, its newest note, and the greatest epoch of an accusation against it
 -- that expired.
-use Rattle.std.specs.Prelude.{ℕ, Bool, false, ◌&&◌, not, nat_lt, nat_le, max, if◌then◌else◌, List, [], ◌∷◌, Option, Some, unwrap_or, map, filter}
+use Rattle.std.specs.Prelude.{ℕ, Bool, false, ◌&&◌, not, nat_le, max, if◌then◌else◌, List, [], ◌∷◌, Option, Some, unwrap_or, map, filter}
 use Rattle.std.specs.Option.{option_map_or}
 use Rattle.std.specs.Ordering.{nat_cmp}
 use Rattle.std.specs.FinMap.{FinMap, get, insert}
 use Rattle.ff_ids.specs.declared.NoteBody.{NoteBody}
 use Rattle.ff_ids.specs.declared.AccBody.{AccBody}
-use Rattle.ff_ids.specs.Views.{Member, all_numbers}
+use Rattle.ff_ids.specs.Views.{Member, all_numbers, in_view_by}
 
 -- By the number of the member.
 abbrev pub ByNumber : Type 0 → Type 0
@@ -19,9 +19,9 @@ places_at places m = unwrap_or (get places m) []
 abbrev pub expired_at : ByNumber ℕ → ℕ → ℕ
 expired_at expired m = unwrap_or (get expired m) 0
 
--- There is a note, and its epoch is above the greatest that expired.
+-- The newest note, if there is one, has its member in the view, given the greatest epoch that expired.
 abbrev pub is_live : ℕ → Option NoteBody → Bool
-is_live expired note = option_map_or (λ n. nat_lt expired n.epoch) note false
+is_live expired note = option_map_or (λ n. in_view_by n (nat_le n.epoch expired)) note false
 
 abbrev pub is_live_at : ByNumber NoteBody → ByNumber ℕ → ℕ → Bool
 is_live_at notes expired m = is_live (expired_at expired m) (get notes m)
@@ -39,7 +39,7 @@ comes_in expired kept n = not (is_live expired kept) && is_live expired (Some n)
 
 -- The accusation takes its member out of the view: its note is live, and of no greater epoch.
 abbrev pub takes_out : ℕ → Option NoteBody → AccBody → Bool
-takes_out expired kept a = option_map_or (λ n. nat_lt expired n.epoch && nat_le n.epoch a.epoch) kept false
+takes_out expired kept a = option_map_or (λ n. in_view_by n (nat_le n.epoch expired) && nat_le n.epoch a.epoch) kept false
 
 -- The epochs with that of an accusation that expires.
 abbrev pub raise : ByNumber ℕ → AccBody → ByNumber ℕ

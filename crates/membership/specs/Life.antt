@@ -1,7 +1,7 @@
 -- What a membership keeps of one life, which is far less than the state that it stands for.
 use Rattle.std.specs.Prelude.{◌≡◌, ◌<◌, ◌≤◌, ℕ, Bool, ◌&&◌, List, Option, None, is_some, IfSome, length}
 use Rattle.std.specs.FinMap.{get, insert, contains_key}
-use Rattle.ff_ids.specs.declared.TheConstants.{MEMBERS}
+use Rattle.ff_ids.specs.declared.TheConstants.{MEMBERS, MAX_TOLERANCE}
 use Rattle.ff_ids.specs.declared.Group.{Group}
 use Rattle.ff_ids.specs.declared.AccBody.{AccBody}
 use Rattle.ff_ids.specs.declared.NoteBody.{NoteBody}
@@ -35,7 +35,7 @@ pub record IsPlaced (rings m : ℕ) (places : List (List ℕ)) : Type 0 where
 
 -- Each member has a place on each ring, only members have notes, and the rings have the live members.
 pub record IsSound (group : Group) (places : ByNumber (List (List ℕ))) (notes : ByNumber NoteBody) (expired : ByNumber ℕ) (view : Joined) : Type 0 where
-  pub tolerance : group.t ≤ 15
+  pub tolerance : group.t ≤ MAX_TOLERANCE
   pub placed : (m : ℕ) → IfSome (get places m) (IsPlaced (ring_count group.t) m)
   pub noted : (m : ℕ) → get places m ≡ None → get notes m ≡ None
   pub rings : view.rings ≡ ring_count group.t

@@ -3,6 +3,7 @@
 ghost use Rattle.std.specs.Prelude.{◌≡◌, ℕ, ◌<◌, ◌≤◌, ◌+◌, ◌||◌, true, not, [], List, None, Some, length, if◌then◌else◌, map, filter, slice_index_or};
 ghost use Rattle.std.specs.Option.{option_map_or};
 ghost use Rattle.std.specs.Bool.{OnTrue};
+ghost use Rattle.ff_ids.specs.declared.TheConstants.{MAX_RINGS};
 ghost use Rattle.ff_ids.specs.Masks.{ring_count};
 ghost use Rattle.ff_ids.specs.Views.{is_unanswered_by as note_leaves};
 ghost use Rattle.membership.specs.declared.report.TheConstants.{ACCUSATIONS};
@@ -12,17 +13,17 @@ ghost use Rattle.removal_timer.specs.Kept.{is_at, entry_at, IsInOrder};
 use crate::Membership;
 use crate::kept::successors;
 use crate::report::Changes;
-use ff_ids::{AccBody, MemberId, NoteBody, RingNo};
+use ff_ids::{AccBody, MAX_RINGS, MemberId, NoteBody, RingNo};
 
 impl Membership {
     /// For each ring the member, if there is one, against which a kept accusation ends after this note was
     /// accepted: the successor of a member that entered, else the member itself where the note answers. Where
     /// nothing is kept no ring is looked at.
-    pub(crate) fn ended_by(&self, note: &NoteBody, enters: bool) -> [Option<MemberId>; 31]
+    pub(crate) fn ended_by(&self, note: &NoteBody, enters: bool) -> [Option<MemberId>; MAX_RINGS as usize]
         ensures { AreNamed result (λ ring. if enters then next_of self.now note.now.member ring else answered_on self.now note.now ring) self.now.kept }
     {
         if self.timers.is_empty() {
-            [None; 31]
+            [None; MAX_RINGS as usize]
         } else if enters {
             self.next_after(note.member)
         } else {
@@ -31,23 +32,23 @@ impl Membership {
     }
 
     /// The successor on each ring of a member that has joined.
-    fn next_after(&self, member: MemberId) -> [Option<MemberId>; 31]
+    fn next_after(&self, member: MemberId) -> [Option<MemberId>; MAX_RINGS as usize]
         ensures each { (ring : ℕ) → ring < ring_count self.now.group.t → slice_index_or result ring None
             ≡ next_of self.now member ring }
-        ensures count { ring_count self.now.group.t ≤ 31 }
+        ensures count { ring_count self.now.group.t ≤ MAX_RINGS }
     {
         match self.places.get(member) {
             Some(places) => successors(&self.rings, 2 * self.group.t + 1, member, places),
-            None => [None; 31],
+            None => [None; MAX_RINGS as usize],
         }
     }
 
     /// For each ring the note's member where the note answers what is kept against it there.
-    fn answered_by(&self, note: &NoteBody) -> [Option<MemberId>; 31]
+    fn answered_by(&self, note: &NoteBody) -> [Option<MemberId>; MAX_RINGS as usize]
         ensures { (ring : ℕ) → ring < ring_count self.now.group.t → slice_index_or result ring None
             ≡ answered_on self.now note.now ring }
     {
-        let mut named = [None; 31];
+        let mut named = [None; MAX_RINGS as usize];
         for ring in 0..2 * self.group.t + 1 {
             named[ring as usize] = self.answered_at(note, RingNo(ring));
         }
@@ -93,7 +94,7 @@ impl Membership {
     }
 
     /// Ends what is kept on each ring against the member that is named for it.
-    pub(crate) fn end_named(&mut self, named: &[Option<MemberId>; 31], out: &mut Changes)
+    pub(crate) fn end_named(&mut self, named: &[Option<MemberId>; MAX_RINGS as usize], out: &mut Changes)
         requires { length out.old.fell + length self.old.kept ≤ ACCUSATIONS }
         ensures ends { Ends (ring_count self.old.group.t) (is_named named.now) self.old.kept out.old.fell self.new.kept out.new.fell }
         ensures rest { self.new ≡ record self.old { kept = self.new.kept } }
@@ -114,7 +115,7 @@ impl Membership {
         ensures room { length out.new.fell + length self.new.kept ≤ ACCUSATIONS }
     {
         let next = self.next_after(member);
-        self.end_named(&[Some(member); 31], out);
+        self.end_named(&[Some(member); MAX_RINGS as usize], out);
         self.end_named(&next, out);
     }
 
@@ -151,7 +152,7 @@ fn is_again(expired: &[AccBody], index: usize) -> bool
 
 /// Whether the note has the epoch of the accusation and enables its ring.
 fn leaves_unanswered(note: &NoteBody, acc: &AccBody) -> bool
-    requires { acc.now.ring.0 < 31 }
+    requires { acc.now.ring.0 < MAX_RINGS }
     ensures { result ≡ note_leaves acc.now note.now }
 {
     note.epoch == acc.epoch && note.mask.enables(acc.ring)

@@ -2,15 +2,16 @@
 
 ghost use Rattle.std.specs.Prelude.{◌≡◌, ℕ, ◌<◌, ◌≤◌, ◌&&◌, not, nat_lt, max, None, Some, length, slice_index_or};
 ghost use Rattle.std.specs.FinMap.{get};
+ghost use Rattle.ff_ids.specs.declared.TheConstants.{MAX_RINGS};
 ghost use Rattle.ff_ids.specs.Notes.{note_cmp};
 ghost use Rattle.ff_ids.specs.Faults.{fault_beside as note_fault_beside};
 ghost use Rattle.ff_ids.specs.Rings.{nearest_after as number_after};
 ghost use Rattle.ff_ids.specs.Views.{key_at};
 ghost use Rattle.monitor_rule.specs.Joined.{keys_on};
-ghost use Rattle.membership.specs.Kept.{expired_at, is_live_at, comes_in, takes_out as acc_takes_out, raise as raised_by};
+ghost use Rattle.membership.specs.Kept.{expired_at, is_live as is_live_by, is_live_at, comes_in, takes_out as acc_takes_out, raise as raised_by};
 
 use by_member::ByMember;
-use ff_ids::{AccBody, Epoch, Fault, MemberId, NoteBody, RingNo};
+use ff_ids::{AccBody, Epoch, Fault, MAX_RINGS, MemberId, NoteBody, RingNo};
 use monitor_rule::Rings;
 use ring_order::Places;
 use std::cmp::Ordering;
@@ -25,12 +26,19 @@ fn expired_epoch(expired: &ByMember<Epoch>, member: MemberId) -> u64
     }
 }
 
-/// Whether the member has a note that has not expired.
+/// Whether the note, as the newest of its member, has it in the view, given the greatest epoch that expired.
+fn is_viewed(note: &NoteBody, expired: u64) -> bool
+    ensures { result ≡ is_live_by expired (Some note.now) }
+{
+    note.in_view(note.epoch.get() <= expired)
+}
+
+/// Whether the member is in the view.
 pub fn is_live(notes: &ByMember<NoteBody>, expired: &ByMember<Epoch>, member: MemberId) -> bool
     ensures { result ≡ is_live_at notes.now expired.now member }
 {
     match notes.get(member) {
-        Some(note) => expired_epoch(expired, member) < note.epoch.get(),
+        Some(note) => is_viewed(note, expired_epoch(expired, member)),
         None => false,
     }
 }
@@ -55,7 +63,8 @@ pub fn brings_in(notes: &ByMember<NoteBody>, expired: &ByMember<Epoch>, note: &N
     ensures { result
         ≡ comes_in (expired_at expired.now note.now.member) (get notes.now note.now.member) note.now }
 {
-    !is_live(notes, expired, note.member) && expired_epoch(expired, note.member) < note.epoch.get()
+    !is_live(notes, expired, note.member)
+        && is_viewed(note, expired_epoch(expired, note.member))
 }
 
 /// Whether the accusation takes its member out of the view.
@@ -65,7 +74,7 @@ pub fn takes_out(notes: &ByMember<NoteBody>, expired: &ByMember<Epoch>, acc: &Ac
 {
     match notes.get(acc.accused) {
         Some(note) => {
-            expired_epoch(expired, acc.accused) < note.epoch.get()
+            is_viewed(note, expired_epoch(expired, acc.accused))
                 && note.epoch.get() <= acc.epoch.get()
         }
         None => false,
@@ -102,14 +111,14 @@ pub fn successors(
     count: u8,
     member: MemberId,
     places: &Places,
-) -> [Option<MemberId>; 31]
+) -> [Option<MemberId>; MAX_RINGS as usize]
     requires count { count ≡ rings.now.rings }
-    requires few { count ≤ 31 }
+    requires few { count ≤ MAX_RINGS }
     requires placed { length places.now ≡ rings.now.rings }
     ensures each { (ring : ℕ) → ring < rings.now.rings → slice_index_or result ring None
         ≡ number_after (keys_on ring rings.now.members) (key_at ring places.now member) }
 {
-    let mut next = [None; 31];
+    let mut next = [None; MAX_RINGS as usize];
     for ring in 0..count {
         next[ring as usize] = rings.successor(RingNo(ring), member, places);
     }

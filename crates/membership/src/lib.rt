@@ -7,7 +7,7 @@
 ghost use Rattle.std.specs.Prelude.{◌≡◌, ℕ, ◌<◌, ◌≤◌, ◌+◌, ◌-◌, ◌*◌, ◌^◌, true, not, [], Option, None, Some, length, if◌then◌else◌, map, filter, slice_index_or, IfOk, OnOk, OnErr};
 ghost use Rattle.std.specs.Ordering.{nat_cmp};
 ghost use Rattle.std.specs.FinMap.{get, insert, empty};
-ghost use Rattle.ff_ids.specs.declared.TheConstants.{MEMBERS};
+ghost use Rattle.ff_ids.specs.declared.TheConstants.{MEMBERS, MAX_RINGS, MAX_TOLERANCE};
 ghost use Rattle.ff_ids.specs.Masks.{ring_count};
 ghost use Rattle.ff_ids.specs.Notes.{newest};
 ghost use Rattle.ff_ids.specs.Views.{State, view, is_member as member_of_state, in_view as in_view_of, monitor as monitor_of, successor as successor_of};
@@ -72,7 +72,7 @@ impl Model for Membership {
 impl Membership {
     /// Opens a life without members. The room for all that may come is taken here.
     pub fn open(alloc: Global, group: Group) -> Result<Membership, NoMemory>
-        requires { group.t ≤ 15 }
+        requires { group.t ≤ MAX_TOLERANCE }
         ensures group { IfOk result (λ m. m.group ≡ group) }
         ensures holds { IfOk result (λ m. Holds m (opening [])) }
         ensures moment { IfOk result (λ m. m.moment ≡ 0) }
@@ -303,7 +303,7 @@ impl Membership {
         requires { has_joined self.now member ≡ true }
         ensures value { get self.now.places member ≡ Some result.now }
         ensures placed { length result.now ≡ ring_count self.now.group.t }
-        ensures rings { self.now.group.t ≤ 15 }
+        ensures rings { self.now.group.t ≤ MAX_TOLERANCE }
     {
         self.places.get(member).unwrap()
     }
@@ -326,7 +326,7 @@ impl Membership {
         ensures positive { 0 < note.now.epoch }
         ensures range { note.now.member < MEMBERS }
         ensures in_order { IsInOrder (ring_count self.old.group.t) self.old.kept }
-        ensures few { ring_count self.old.group.t ≤ 31 }
+        ensures few { ring_count self.old.group.t ≤ MAX_RINGS }
     {
         let enters = brings_in(&self.notes, &self.expired, note);
         let _epoch = note.epoch.get();

@@ -5,14 +5,14 @@ ghost use Rattle.std.specs.List.{prefix_len};
 ghost use Rattle.ff_ids.specs.Steps.{comes_first as acc_comes_first, is_due, nothing};
 ghost use Rattle.membership.specs.Ends.{with_fallen};
 
-use ff_ids::{AccBody, MEMBERS, MemberId};
+use ff_ids::{AccBody, MAX_ACCUSATIONS, MEMBERS, MemberId};
 use fields::NoMemory;
 use removal_timer::Timers;
 use std::alloc::Global;
 use std::marker::Model;
 
 /// How many accusations can be kept: one for each member and ring.
-pub const ACCUSATIONS: usize = 31 * MEMBERS as usize;
+pub const ACCUSATIONS: usize = MAX_ACCUSATIONS as usize;
 
 /// What one step reports. Contracts see the four lists.
 #[derive(Drop)]

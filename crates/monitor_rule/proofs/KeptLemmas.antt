@@ -8,6 +8,7 @@ use Rattle.std.proofs.lemmas.Bool.{cases_eq}
 use Rattle.std.proofs.lemmas.List.{length-map, get_or-map, map-append}
 use Rattle.std.proofs.lemmas.List.Elements.{All-map, All-push, All-same}
 use Rattle.std.proofs.lemmas.List.FromFn.{get_or-range_with_len}
+use Rattle.ff_ids.specs.declared.TheConstants.{MAX_RINGS, MEMBERS}
 use Rattle.ff_ids.specs.Views.{key_at}
 use Rattle.ff_ids.proofs.MaskLemmas.{range_with_len-push}
 use Rattle.monitor_rule.specs.Joined.{Joined, is_joined, with_member, without_member}
@@ -23,7 +24,7 @@ written n xs ys same long =
 
 -- ---- one row
 
-pub joined_row : (slots : Slots) (ring : ℕ) (order after : List ℕ) (row : RingOrder) (places : List (List ℕ)) (place m capacity : ℕ) (done : Bool) → record { ring = ring; order = order } ≡ row → IsRow slots row → IsBetween slots row (key_at row.ring places m) place place → places_at slots m ≡ None → m < 1024 → length slots ≡ 1024 → row.ring < length places → after ≡ cond done (insert order place m) order → 1024 ≤ capacity → (length order < capacity → done ≡ true) → IsRow (set slots m (Some places)) (record { ring = ring; order = after })
+pub joined_row : (slots : Slots) (ring : ℕ) (order after : List ℕ) (row : RingOrder) (places : List (List ℕ)) (place m capacity : ℕ) (done : Bool) → record { ring = ring; order = order } ≡ row → IsRow slots row → IsBetween slots row (key_at row.ring places m) place place → places_at slots m ≡ None → m < MEMBERS → length slots ≡ MEMBERS → row.ring < length places → after ≡ cond done (insert order place m) order → MEMBERS ≤ capacity → (length order < capacity → done ≡ true) → IsRow (set slots m (Some places)) (record { ring = ring; order = after })
 joined_row slots ring order after row places place m capacity done view h between free number long placed is room succeeds =
     let same : length order ≡ length row.order = ap (λ (r : RingOrder). length r.order) view in
     let in' : m < length slots = omega arith in
@@ -34,14 +35,14 @@ joined_row slots ring order after row places place m capacity done view h betwee
     let P : RingOrder → Type 0 = λ r. IsRow (set slots m (Some places)) r in
     subst P (ap (λ (r : RingOrder). record r { order = insert r.order place m }) (sym view) ∙ ap (λ (o : List ℕ). record { ring = ring; order = o }) (sym put)) joined
 
-pub left_row : (slots : Slots) (ring : ℕ) (order after : List ℕ) (row : RingOrder) (places : List (List ℕ)) (place m : ℕ) → record { ring = ring; order = order } ≡ row → IsRow slots row → IsBetween slots row (key_at row.ring places m) place place → places_at slots m ≡ Some places → m < 1024 → length slots ≡ 1024 → after ≡ remove order place → IsRow (set slots m None) (record { ring = ring; order = after })
+pub left_row : (slots : Slots) (ring : ℕ) (order after : List ℕ) (row : RingOrder) (places : List (List ℕ)) (place m : ℕ) → record { ring = ring; order = order } ≡ row → IsRow slots row → IsBetween slots row (key_at row.ring places m) place place → places_at slots m ≡ Some places → m < MEMBERS → length slots ≡ MEMBERS → after ≡ remove order place → IsRow (set slots m None) (record { ring = ring; order = after })
 left_row slots ring order after row places place m view h between there number long is =
     let in' : m < length slots = omega arith in
     let left = (IsRow-left slots row places place m h between there in').1 in
     let P : RingOrder → Type 0 = λ r. IsRow (set slots m None) r in
     subst P (ap (λ (r : RingOrder). record r { order = remove r.order place }) (sym view) ∙ ap (λ (o : List ℕ). record { ring = ring; order = o }) (sym is)) left
 
-pub left_within : (slots : Slots) (ring : ℕ) (order : List ℕ) (row : RingOrder) (places : List (List ℕ)) (place m : ℕ) → record { ring = ring; order = order } ≡ row → IsRow slots row → IsBetween slots row (key_at row.ring places m) place place → places_at slots m ≡ Some places → m < 1024 → length slots ≡ 1024 → place < length order
+pub left_within : (slots : Slots) (ring : ℕ) (order : List ℕ) (row : RingOrder) (places : List (List ℕ)) (place m : ℕ) → record { ring = ring; order = order } ≡ row → IsRow slots row → IsBetween slots row (key_at row.ring places m) place place → places_at slots m ≡ Some places → m < MEMBERS → length slots ≡ MEMBERS → place < length order
 left_within slots ring order row places place m view h between there number long =
     let within = (IsRow-left slots row places place m h between there (omega arith)).0 in
     let same : length order ≡ length row.order = ap (λ (r : RingOrder). length r.order) view in
@@ -76,7 +77,7 @@ All-rings_below rows n numbered long = λ k d lt.
 numbered_on : (rows after : List RingOrder) → map (λ r. r.ring) after ≡ map (λ r. r.ring) rows → map (λ r. r.ring) rows ≡ range_with_len 0 (length rows) → map (λ r. r.ring) after ≡ range_with_len 0 (length after)
 numbered_on rows after same numbered = same ∙ numbered ∙ ap (range_with_len 0) (sym (length-same_rings rows after same))
 
-pub IsKept-joined : (slots : Slots) (rows after : List RingOrder) (m : ℕ) (places : List (List ℕ)) → IsKept slots rows → m < 1024 → length places ≡ length rows → All (IsRow (set slots m (Some places))) after → map (λ r. r.ring) after ≡ map (λ r. r.ring) rows → IsKept (set slots m (Some places)) after
+pub IsKept-joined : (slots : Slots) (rows after : List RingOrder) (m : ℕ) (places : List (List ℕ)) → IsKept slots rows → m < MEMBERS → length places ≡ length rows → All (IsRow (set slots m (Some places))) after → map (λ r. r.ring) after ≡ map (λ r. r.ring) rows → IsKept (set slots m (Some places)) after
 IsKept-joined slots rows after m places h number placed in_order same =
     let long = length-same_rings rows after same in
     let P : Option (List (List ℕ)) → Type 0 = λ o. IfSome o (λ p. length p ≡ length after) in
@@ -95,7 +96,7 @@ IsKept-joined slots rows after m places h number placed in_order same =
       in_order = in_order;
     }
 
-pub IsKept-left : (slots : Slots) (rows after : List RingOrder) (m : ℕ) → IsKept slots rows → m < 1024 → All (IsRow (set slots m None)) after → map (λ r. r.ring) after ≡ map (λ r. r.ring) rows → IsKept (set slots m None) after
+pub IsKept-left : (slots : Slots) (rows after : List RingOrder) (m : ℕ) → IsKept slots rows → m < MEMBERS → All (IsRow (set slots m None)) after → map (λ r. r.ring) after ≡ map (λ r. r.ring) rows → IsKept (set slots m None) after
 IsKept-left slots rows after m h number in_order same =
     let long = length-same_rings rows after same in
     let P : Option (List (List ℕ)) → Type 0 = λ o. IfSome o (λ p. length p ≡ length after) in
@@ -115,7 +116,7 @@ IsKept-left slots rows after m h number in_order same =
     }
 
 -- rows with nobody on them, and no slot filled
-pub IsKept-nobody : (slots : Slots) (rows : List RingOrder) → length rows ≤ 31 → length slots ≡ 1024 → ((n : ℕ) → places_at slots n ≡ None) → map (λ r. r.ring) rows ≡ range_with_len 0 (length rows) → All (λ r. r.order ≡ []) rows → IsKept slots rows
+pub IsKept-nobody : (slots : Slots) (rows : List RingOrder) → length rows ≤ MAX_RINGS → length slots ≡ MEMBERS → ((n : ℕ) → places_at slots n ≡ None) → map (λ r. r.ring) rows ≡ range_with_len 0 (length rows) → All (λ r. r.order ≡ []) rows → IsKept slots rows
 IsKept-nobody slots rows few long none numbered nobody =
     let P : Option (List (List ℕ)) → Type 0 = λ o. IfSome o (λ p. length p ≡ length rows) in
     record {
@@ -171,7 +172,7 @@ pub record Rekept (slots : Slots) (rows : List RingOrder) (joined : Joined) : Ty
   pub kept : IsKept slots rows
   pub view : record { rings = length rows; members = members_from 0 slots } ≡ joined
 
-pub Rekept-joined : (slots : Slots) (rows after : List RingOrder) (joined : Joined) (m : ℕ) (places : List (List ℕ)) → Rekept slots rows joined → is_joined joined.members m ≡ false → m < 1024 → length places ≡ joined.rings → All (IsRow (set slots m (Some places))) after → map (λ r. r.ring) after ≡ map (λ r. r.ring) rows → Rekept (set slots m (Some places)) after (record joined { members = with_member (record { number = m; places = places }) joined.members })
+pub Rekept-joined : (slots : Slots) (rows after : List RingOrder) (joined : Joined) (m : ℕ) (places : List (List ℕ)) → Rekept slots rows joined → is_joined joined.members m ≡ false → m < MEMBERS → length places ≡ joined.rings → All (IsRow (set slots m (Some places))) after → map (λ r. r.ring) after ≡ map (λ r. r.ring) rows → Rekept (set slots m (Some places)) after (record joined { members = with_member (record { number = m; places = places }) joined.members })
 Rekept-joined slots rows after joined m places h absent number placed in_order same =
     let free = free_slot slots (length rows) m joined h.view absent in
     let zero_more : 0 + m ≡ m = omega arith in
@@ -187,7 +188,7 @@ some_slot : (o : Option (List (List ℕ))) → is_some o ≡ true → (places : 
 some_slot None h = cc
 some_slot (Some places) h = (places, refl)
 
-pub Rekept-left : (slots : Slots) (rows after : List RingOrder) (joined : Joined) (m : ℕ) → Rekept slots rows joined → is_joined joined.members m ≡ true → m < 1024 → All (IsRow (set slots m None)) after → map (λ r. r.ring) after ≡ map (λ r. r.ring) rows → Rekept (set slots m None) after (record joined { members = without_member m joined.members })
+pub Rekept-left : (slots : Slots) (rows after : List RingOrder) (joined : Joined) (m : ℕ) → Rekept slots rows joined → is_joined joined.members m ≡ true → m < MEMBERS → All (IsRow (set slots m None)) after → map (λ r. r.ring) after ≡ map (λ r. r.ring) rows → Rekept (set slots m None) after (record joined { members = without_member m joined.members })
 Rekept-left slots rows after joined m h present number in_order same =
     let there = some_slot (places_at slots m) (filled_slot slots (length rows) m joined h.view present) in
     let zero_more : 0 + m ≡ m = omega arith in

@@ -3,6 +3,7 @@
 use Rattle.std.specs.Prelude.{◌≡◌, ℕ, ◌+◌, ◌<◌, ◌≤◌, true, false, List, [], ◌∷◌, Option, Some, None, length, map, is_some, unwrap_or, slice_index, slice_index_or, All, Contains}
 use Rattle.std.specs.List.{range_with_len}
 use Rattle.std.specs.Option.{IsSomeAnd, IfSome}
+use Rattle.ff_ids.specs.declared.TheConstants.{MAX_RINGS, MEMBERS}
 use Rattle.ff_ids.specs.Rings.{Key, is_below}
 use Rattle.ff_ids.specs.Views.{Member, key_at}
 
@@ -49,8 +50,8 @@ pub record IsBetween (slots : List (Option (List (List ℕ)))) (row : RingOrder)
 
 -- There is a slot for each number, and a row for each ring.
 pub record IsKept (slots : List (Option (List (List ℕ)))) (rows : List RingOrder) : Type 0 where
-  pub few : length rows ≤ 31
-  pub long : length slots ≡ 1024
+  pub few : length rows ≤ MAX_RINGS
+  pub long : length slots ≡ MEMBERS
   pub placed : (n : ℕ) → IfSome (places_at slots n) (λ places. length places ≡ length rows)
   pub numbered : map (λ r. r.ring) rows ≡ range_with_len 0 (length rows)
   pub in_order : All (IsRow slots) rows

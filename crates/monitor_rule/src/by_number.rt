@@ -1,21 +1,19 @@
 //! A slot for each member number.
 
 ghost use Rattle.std.specs.Prelude.{◌≡◌, ℕ, ◌<◌, true, None, Some, length, is_some, slice_index_or, IfOk};
+ghost use Rattle.ff_ids.specs.declared.TheConstants.{MEMBERS};
 
-use ff_ids::MemberId;
+use ff_ids::{MEMBERS, MemberId};
 use ring_order::Places;
 use std::alloc::{AllocError, Global};
 
-/// How many member numbers there are.
-const NUMBERS: usize = 1024;
-
 /// For each number nothing.
 pub fn none_yet<T: Drop>(alloc: Global) -> Result<Vec<Option<T>>, AllocError>
-    ensures long { IfOk result (λ v. length v.items ≡ 1024) }
+    ensures long { IfOk result (λ v. length v.items ≡ MEMBERS) }
     ensures none { IfOk result (λ v. (n : ℕ) → slice_index_or v.items n None ≡ None) }
 {
-    let mut all = Vec::with_capacity(alloc, NUMBERS)?;
-    for _number in 0..NUMBERS {
+    let mut all = Vec::with_capacity(alloc, MEMBERS as usize)?;
+    for _number in 0..MEMBERS {
         all.push(None)?;
     }
     Ok(all)
@@ -23,10 +21,10 @@ pub fn none_yet<T: Drop>(alloc: Global) -> Result<Vec<Option<T>>, AllocError>
 
 /// The places in the slot of the member.
 pub fn places_of(slots: &[Option<Places>], member: MemberId) -> &Places
-    requires long { length slots.now ≡ 1024 }
+    requires long { length slots.now ≡ MEMBERS }
     requires filled { is_some (slice_index_or slots.now member None) ≡ true }
     ensures value { slice_index_or slots.now member None ≡ Some result.now }
-    ensures range { member < 1024 }
+    ensures range { member < MEMBERS }
 {
     match &slots[member.get() as usize] {
         Some(places) => places,

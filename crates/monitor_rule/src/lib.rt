@@ -3,6 +3,7 @@
 #![tactic(auto)]
 
 ghost use Rattle.std.specs.Prelude.{◌≡◌, ℕ, ◌+◌, ◌-◌, ◌*◌, ◌^◌, ◌<◌, ◌≤◌, true, false, None, Some, List, [], length, map, All, is_some, slice_set, IfOk};
+ghost use Rattle.ff_ids.specs.declared.TheConstants.{MAX_TOLERANCE, MEMBERS};
 ghost use Rattle.ff_ids.specs.Masks.{ring_count};
 ghost use Rattle.ff_ids.specs.Rings.{nearest_before as number_before, nearest_after as number_after};
 ghost use Rattle.ff_ids.specs.Views.{key_at};
@@ -45,7 +46,7 @@ impl Model for Rings {
 impl Rings {
     /// Nobody has joined yet. The room for every member is taken here.
     pub fn open(alloc: Global, group: &Group) -> Result<Rings, NoMemory>
-        requires { group.now.t ≤ 15 }
+        requires { group.now.t ≤ MAX_TOLERANCE }
         ensures { IfOk result (λ r. r ≡ record { rings = ring_count group.now.t; members = [] }) }
     {
         let rings = 2 * group.t + 1;
@@ -230,8 +231,8 @@ impl Rings {
 /// Puts the member on each ring. The slots are those before it joins.
 fn join_each(rows: &mut [Row], slots: &[Option<Places>], member: MemberId, places: &Places)
     requires in_order { All (IsRow slots.now) rows.old }
-    requires long { length slots.now ≡ 1024 }
-    requires number { member < 1024 }
+    requires long { length slots.now ≡ MEMBERS }
+    requires number { member < MEMBERS }
     requires free { places_at slots.now member ≡ None }
     requires placed { All (λ r. r.ring < length places.now) rows.old }
     ensures in_order { All (IsRow (slice_set slots.now member (Some places.now))) rows.new }
@@ -245,7 +246,7 @@ fn join_each(rows: &mut [Row], slots: &[Option<Places>], member: MemberId, place
 /// Takes the member off each ring. The slots are those before it leaves.
 fn leave_each(rows: &mut [Row], slots: &[Option<Places>], member: MemberId)
     requires in_order { All (IsRow slots.now) rows.old }
-    requires long { length slots.now ≡ 1024 }
+    requires long { length slots.now ≡ MEMBERS }
     requires filled { is_some (places_at slots.now member) ≡ true }
     ensures in_order { All (IsRow (slice_set slots.now member None)) rows.new }
     ensures rings { map (λ r. r.ring) rows.new ≡ map (λ r. r.ring) rows.old }

@@ -1,21 +1,19 @@
 //! One ring: the joined members in order of their keys there, found by halving.
 
 ghost use Rattle.std.specs.Prelude.{◌≡◌, ◌⊎◌, ℕ, List, Option, ◌+◌, ◌-◌, ◌*◌, ◌^◌, ◌<◌, ◌≤◌, ◌==◌, true, None, Some, [], length, is_some, slice_index, slice_set, IfOk, if◌then◌else◌};
+ghost use Rattle.ff_ids.specs.declared.TheConstants.{MEMBERS};
 ghost use Rattle.ff_ids.specs.Rings.{Key, nearest_before as number_before, nearest_after as number_after};
 ghost use Rattle.ff_ids.specs.Views.{key_at};
 ghost use Rattle.monitor_rule.specs.Joined.{keys_on};
 ghost use Rattle.monitor_rule.specs.Sorted.{places_at, members_from, IsRow, IsBetween};
 
 use crate::by_number::places_of;
-use ff_ids::{MemberId, RingNo};
+use ff_ids::{MEMBERS, MemberId, RingNo};
 use ring_order::steps::Steps;
 use ring_order::{Places, key_before};
 use std::alloc::{AllocError, Global};
 use std::marker::{Brand, Model};
 use std::sync::ledger::{Blank, Ledger};
-
-/// How many members there is room for.
-const ROOM: usize = 1024;
 
 /// The members that have joined, in order of their keys on one ring.
 #[derive(Drop)]
@@ -26,13 +24,14 @@ pub struct Row {
 
 impl Model for Row {
     ghost use Rattle.std.specs.Prelude.{◌≤◌, vec_capacity};
+    ghost use Rattle.ff_ids.specs.declared.TheConstants.{MEMBERS};
     ghost use Rattle.monitor_rule.specs.Sorted.{RingOrder};
 
     ghost Value = { RingOrder };
 
     ghost view = { λ r. record { ring = r.ring.0; order = r.order.items } };
 
-    ghost invariant = { λ r. 1024 ≤ vec_capacity r.order };
+    ghost invariant = { λ r. MEMBERS ≤ vec_capacity r.order };
 }
 
 /// The index in the middle of those from `low` on and before `high`.
@@ -52,15 +51,15 @@ impl Row {
     {
         Ok(Row {
             ring,
-            order: Vec::with_capacity(alloc, ROOM)?,
+            order: Vec::with_capacity(alloc, MEMBERS as usize)?,
         })
     }
 
     /// Puts in a member that isn't there, at its place. The slots are those before it joins.
     pub fn join(&mut self, slots: &[Option<Places>], member: MemberId, places: &Places)
         requires in_order { IsRow slots.now self.old }
-        requires long { length slots.now ≡ 1024 }
-        requires number { member < 1024 }
+        requires long { length slots.now ≡ MEMBERS }
+        requires number { member < MEMBERS }
         requires free { places_at slots.now member ≡ None }
         requires placed { self.old.ring < length places.now }
         ensures in_order { IsRow (slice_set slots.now member (Some places.now)) self.new }
@@ -73,7 +72,7 @@ impl Row {
     /// Takes out a member that is there. The slots are those before it leaves.
     pub fn leave(&mut self, slots: &[Option<Places>], member: MemberId)
         requires in_order { IsRow slots.now self.old }
-        requires long { length slots.now ≡ 1024 }
+        requires long { length slots.now ≡ MEMBERS }
         requires filled { is_some (places_at slots.now member) ≡ true }
         ensures in_order { IsRow (slice_set slots.now member None) self.new }
         ensures ring { self.new.ring ≡ self.old.ring }
@@ -98,7 +97,7 @@ impl Row {
         steps: &mut Steps<L>,
     ) -> Option<MemberId>
         requires in_order { IsRow slots.now self.now }
-        requires long { length slots.now ≡ 1024 }
+        requires long { length slots.now ≡ MEMBERS }
         requires placed { self.now.ring < length places.now }
         ensures value { result
             ≡ number_before (keys_on self.now.ring (members_from 0 slots.now)) (key_at self.now.ring places.now member) }
@@ -123,7 +122,7 @@ impl Row {
         steps: &mut Steps<L>,
     ) -> Option<MemberId>
         requires in_order { IsRow slots.now self.now }
-        requires long { length slots.now ≡ 1024 }
+        requires long { length slots.now ≡ MEMBERS }
         requires placed { self.now.ring < length places.now }
         ensures value { result
             ≡ number_after (keys_on self.now.ring (members_from 0 slots.now)) (key_at self.now.ring places.now member) }
@@ -145,7 +144,7 @@ impl Row {
         steps: &mut Steps<L>,
     ) -> Option<MemberId>
         requires in_order { IsRow slots.now self.now }
-        requires long { length slots.now ≡ 1024 }
+        requires long { length slots.now ≡ MEMBERS }
         requires placed { self.now.ring < length places.now }
         ensures { result
             ≡ number_after (keys_on self.now.ring (members_from 0 slots.now)) (key_at self.now.ring places.now member) }
@@ -209,7 +208,7 @@ impl Row {
     /// How many of the ring's members come before this one, found in a ledger of its own.
     fn place_of(&self, slots: &[Option<Places>], member: MemberId, places: &Places) -> usize
         requires in_order { IsRow slots.now self.now }
-        requires long { length slots.now ≡ 1024 }
+        requires long { length slots.now ≡ MEMBERS }
         requires placed { self.now.ring < length places.now }
         ensures { IsBetween slots.now self.now (key_at self.now.ring places.now member) result result }
     {
@@ -227,7 +226,7 @@ impl Row {
         requires parts { blank.parts ≡ L.parts }
         requires some { 0 < blank.parts }
         requires in_order { IsRow slots.now self.now }
-        requires long { length slots.now ≡ 1024 }
+        requires long { length slots.now ≡ MEMBERS }
         requires placed { self.now.ring < length places.now }
         ensures { IsBetween slots.now self.now (key_at self.now.ring places.now member) result result }
     {
@@ -243,7 +242,7 @@ impl Row {
         steps: &mut Steps<L>,
     ) -> usize
         requires in_order { IsRow slots.now self.now }
-        requires long { length slots.now ≡ 1024 }
+        requires long { length slots.now ≡ MEMBERS }
         requires placed { self.now.ring < length places.now }
         ensures place { IsBetween slots.now self.now (key_at self.now.ring places.now member) result result }
         ensures counted { steps.old ≤ steps.new }
@@ -269,7 +268,7 @@ impl Row {
         steps: &mut Steps<L>,
     ) -> usize
         requires in_order { IsRow slots.now self.now }
-        requires long { length slots.now ≡ 1024 }
+        requires long { length slots.now ≡ MEMBERS }
         requires placed { self.now.ring < length places.now }
         ensures { IsBetween slots.now self.now (key_at self.now.ring places.now member) result result }
     {
@@ -303,7 +302,7 @@ impl Row {
         steps: &mut Steps<L>,
     ) -> (usize, usize)
         requires in_order { IsRow slots.now self.now }
-        requires long { length slots.now ≡ 1024 }
+        requires long { length slots.now ≡ MEMBERS }
         requires placed { self.now.ring < length places.now }
         requires between { IsBetween slots.now self.now (key_at self.now.ring places.now member) low high }
         ensures { IsBetween slots.now self.now (key_at self.now.ring places.now member) result.0 result.1 }
@@ -327,7 +326,7 @@ impl Row {
         steps: &mut Steps<L>,
     ) -> (usize, usize)
         requires in_order { IsRow slots.now self.now }
-        requires long { length slots.now ≡ 1024 }
+        requires long { length slots.now ≡ MEMBERS }
         requires placed { self.now.ring < length places.now }
         requires between { IsBetween slots.now self.now (key_at self.now.ring places.now member) low high }
         requires from { low ≤ middle }

@@ -3,14 +3,15 @@
 #![tactic(auto)]
 
 ghost use Rattle.std.specs.Prelude.{◌≡◌, ℕ, ◌^◌, ◌<◌, ◌≤◌, ◌↔◌, true, false, bit_xor, MatchOption};
+ghost use Rattle.ff_ids.specs.declared.TheConstants.{MASK_BITS, MAX_TOLERANCE};
 ghost use Rattle.ff_ids.specs.Masks.{ring_count, enables, good_mask as is_good};
 ghost use Rattle.rebuttal.specs.Rebuttals.{IsLowestDisabled, IsEnabledByAnswer, IsAgainst};
 
-use ff_ids::{AccBody, Mask, NoteBody, RingNo, good_mask};
+use ff_ids::{AccBody, Bits, MASK_BITS, Mask, NoteBody, RingNo, good_mask};
 
 /// The mask with this one ring switched.
 fn switched(mask: Mask, ring: RingNo) -> Mask
-    requires { ring.0 < 32 }
+    requires { ring.0 < MASK_BITS }
     ensures { result.0 ≡ bit_xor mask.0 (2 ^ ring.0) }
 {
     Mask(mask.0 ^ (1 << ring.0))
@@ -18,7 +19,7 @@ fn switched(mask: Mask, ring: RingNo) -> Mask
 
 /// The lowest-numbered of the first rings that the mask disables.
 fn lowest_disabled(mask: Mask, rings: u8) -> Option<RingNo>
-    requires { rings < 32 }
+    requires { rings < MASK_BITS }
     ensures { MatchOption result ((r : ℕ) → r < rings → enables mask.0 r ≡ true) (λ r. (r.0 < rings) × IsLowestDisabled mask.0 r.0) }
 {
     for ring in 0..rings {
@@ -29,11 +30,11 @@ fn lowest_disabled(mask: Mask, rings: u8) -> Option<RingNo>
     None
 }
 
-/// The mask of the note that answers an accusation on this ring, in a group of tolerance `t`, 1 to 15: the ring
+/// The mask of the note that answers an accusation on this ring, in a group of tolerance `t`: the ring
 /// is disabled, and where `t` rings are disabled already, the lowest-numbered of those is enabled again. The
 /// mask is good and enables the ring.
 pub fn answer_mask(t: u8, mask: Mask, ring: RingNo) -> Mask
-    requires tolerance { 1 ≤ t × t ≤ 15 }
+    requires tolerance { 1 ≤ t × t ≤ MAX_TOLERANCE }
     requires good { is_good t mask.0 ≡ true }
     requires enabled { enables mask.0 ring.0 ≡ true }
     ensures good { is_good t result.0 ≡ true }
@@ -50,11 +51,11 @@ pub fn answer_mask(t: u8, mask: Mask, ring: RingNo) -> Mask
     }
 }
 
-/// Whether the ring of this number is enabled. No mask has a bit at or above 32.
-fn is_enabled(rings: u32, ring: u8) -> bool
+/// Whether the ring of this number is enabled. No mask has a bit at or above `MASK_BITS`.
+fn is_enabled(rings: Bits, ring: u8) -> bool
     ensures { result ≡ enables rings ring }
 {
-    ring < 32 && Mask(rings).enables(RingNo(ring))
+    ring < MASK_BITS && Mask(rings).enables(RingNo(ring))
 }
 
 /// Whether an accepted accusation is against the member whose newest note this is: accused, epoch and enabled

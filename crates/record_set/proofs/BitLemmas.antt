@@ -4,6 +4,7 @@ use Rattle.std.proofs.Math.Nat.{add-mul-div_left}
 use Rattle.std.proofs.lemmas.Bool.{cases_lt}
 use Rattle.std.proofs.lemmas.Nat.{pow-add, pow_below, div-mul-add}
 use Rattle.std.proofs.lemmas.Nat.Bits.{bit_at_above}
+use Rattle.ff_ids.specs.declared.TheConstants.{MAX_RINGS}
 use Rattle.ff_ids.specs.Masks.{enables}
 use Rattle.record_set.specs.Pages.{bits_where}
 
@@ -45,14 +46,14 @@ bits-no test zero no_bit = refl
 bits-no test (suc n) no_bit = ap (λ b. bits_where test n + cond b (2 ^ n) 0) (no_bit n) ∙ omega (arith, bits-no test n no_bit)
 
 -- the value of one bit
-pub bit_value : (r : ℕ) → r < 31 → 1 * 2 ^ r % 4294967296 ≡ 2 ^ r
+pub bit_value : (r : ℕ) → r < MAX_RINGS → 1 * 2 ^ r % 4294967296 ≡ 2 ^ r
 bit_value r h =
-    let few : 2 ^ r < 2 ^ 31 = pow_below r 31 h in
+    let few : 2 ^ r < 2 ^ MAX_RINGS = pow_below r MAX_RINGS h in
     omega (arith, few)
 
-pub bit_fits : (test : ℕ → Bool) (r rings : ℕ) → rings ≡ bits_where test r → r < 31 → Fits w32 (rings + 1 * 2 ^ r % 4294967296)
+pub bit_fits : (test : ℕ → Bool) (r rings : ℕ) → rings ≡ bits_where test r → r < MAX_RINGS → Fits w32 (rings + 1 * 2 ^ r % 4294967296)
 bit_fits test r rings is h =
-    let few : 2 ^ r < 2 ^ 31 = pow_below r 31 h in
+    let few : 2 ^ r < 2 ^ MAX_RINGS = pow_below r MAX_RINGS h in
     omega (arith, few, bit_value r h, bits-below test r, is)
 
 -- ---- what the bits say

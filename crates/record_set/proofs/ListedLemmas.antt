@@ -6,6 +6,7 @@ use Rattle.std.specs.FinMap.{contains_key}
 use Rattle.std.proofs.lemmas.Bool.{cases_lt, true≢false}
 use Rattle.std.proofs.lemmas.List.FromFn.{get_or-range_with_len, length-range_with_len}
 use Rattle.std.proofs.lemmas.List.Kept.{IsStrictlyIncreasing-filter}
+use Rattle.ff_ids.specs.declared.TheConstants.{MAX_RINGS, PAGES, PAGE_MEMBERS}
 use Rattle.ff_ids.specs.Masks.{enables}
 use Rattle.ff_ids.specs.Summaries.{IsEntryOf, IsSummary, members_of}
 use Rattle.ff_ids.specs.declared.NoteBody.{NoteBody}
@@ -28,12 +29,12 @@ held_entry held m certified =
     record {
       certificate = certified;
       note = λ h. noted (held_under held (keys.Note m)) m (rings_of held m) h;
-      accusation = λ r on. by_ring r on (cases_lt r 31);
+      accusation = λ r on. by_ring r on (cases_lt r MAX_RINGS);
     }
   where
-    by_ring : (r : ℕ) → enables (bits_where (accused held m) 31) r ≡ true → (r < 31) ⊎ (31 ≤ r) → accused held m r ≡ true
-    by_ring r on (inl below) = sym (bits-tell (accused held m) 31 r below) ∙ on
-    by_ring r on (inr above) = absurd (true≢false (sym on ∙ bits-above (accused held m) 31 r above))
+    by_ring : (r : ℕ) → enables (bits_where (accused held m) MAX_RINGS) r ≡ true → (r < MAX_RINGS) ⊎ (MAX_RINGS ≤ r) → accused held m r ≡ true
+    by_ring r on (inl below) = sym (bits-tell (accused held m) MAX_RINGS r below) ∙ on
+    by_ring r on (inr above) = absurd (true≢false (sym on ∙ bits-above (accused held m) MAX_RINGS r above))
 
 -- ---- every listed entry
 
@@ -54,7 +55,7 @@ All-made P f q a (suc n) each =
 -- what the summary of a page names is held
 pub All-listed_held : (held : Held) (page : ℕ) → All (IsHeldEntry held) (summary_of held page).listed
 unfolding certified_of
-All-listed_held held page = All-made (IsHeldEntry held) (entry_of held) (λ m. contains_key held (keys.Certificate m)) (32 * page) 32 (λ m low high certified. held_entry held m certified)
+All-listed_held held page = All-made (IsHeldEntry held) (entry_of held) (λ m. contains_key held (keys.Certificate m)) (PAGE_MEMBERS * page) PAGE_MEMBERS (λ m low high certified. held_entry held m certified)
 
 -- ---- it is a summary
 
@@ -69,7 +70,7 @@ members_made held (m ∷ ms) = ap (λ (t : List ℕ). m ∷ t) (members_made hel
 
 no_bits : (held : Held) (m : ℕ) → AreNoted held → note_in (held_under held (keys.Note m)) ≡ None → rings_of held m ≡ 0
 unfolding rings_of
-no_bits held m known none = bits-no (accused held m) 31 (λ r. unless (accused held m r) r refl)
+no_bits held m known none = bits-no (accused held m) MAX_RINGS (λ r. unless (accused held m r) r refl)
   where
     unless : (b : Bool) (r : ℕ) → accused held m r ≡ b → b ≡ false
     unless false r is = refl
@@ -82,16 +83,16 @@ unnoted held m known (Some n) is e =
     let some : 0 < n.epoch = subst P is (known.epoch m) in
     absurd (omega (arith, some, e))
 
-entry_of_page : (held : Held) (page m : ℕ) → AreNoted held → 32 * page ≤ m → m < 32 * page + 32 → IsEntryOf page (entry_of held m)
+entry_of_page : (held : Held) (page m : ℕ) → AreNoted held → PAGE_MEMBERS * page ≤ m → m < PAGE_MEMBERS * page + PAGE_MEMBERS → IsEntryOf page (entry_of held m)
 entry_of_page held page m known low high = record { in_page = omega arith; unnoted = λ e. unnoted held m known (note_in (held_under held (keys.Note m))) refl e }
 
 -- The summary of a page keeps to its page, in order of number.
-pub IsSummary-of : (held : Held) (page : ℕ) → AreNoted held → page < 32 → IsSummary (summary_of held page)
+pub IsSummary-of : (held : Held) (page : ℕ) → AreNoted held → page < PAGES → IsSummary (summary_of held page)
 unfolding certified_of
 IsSummary-of held page known below =
     let certified : ℕ → Bool = λ m. contains_key held (keys.Certificate m) in
     record {
       page = below;
-      listed = All-made (IsEntryOf page) (entry_of held) certified (32 * page) 32 (λ m low high is. entry_of_page held page m known low high);
-      rising = subst IsStrictlyIncreasing (sym (members_made held (filter certified (range_with_len (32 * page) 32)))) (IsStrictlyIncreasing-filter certified (range_with_len (32 * page) 32) (range_rises (32 * page) 32));
+      listed = All-made (IsEntryOf page) (entry_of held) certified (PAGE_MEMBERS * page) PAGE_MEMBERS (λ m low high is. entry_of_page held page m known low high);
+      rising = subst IsStrictlyIncreasing (sym (members_made held (filter certified (range_with_len (PAGE_MEMBERS * page) PAGE_MEMBERS)))) (IsStrictlyIncreasing-filter certified (range_with_len (PAGE_MEMBERS * page) PAGE_MEMBERS) (range_rises (PAGE_MEMBERS * page) PAGE_MEMBERS));
     }

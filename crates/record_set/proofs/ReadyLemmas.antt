@@ -6,11 +6,13 @@ use Rattle.std.specs.FinMap.{contains_key}
 use Rattle.std.proofs.lemmas.Bool.{cases_eq}
 use Rattle.std.proofs.lemmas.List.{map-append}
 use Rattle.std.proofs.lemmas.List.Elements.{filter-append}
+use Rattle.ff_ids.specs.declared.TheConstants.{MAX_RINGS, MEMBERS, PAGES, PAGE_MEMBERS}
 use Rattle.ff_ids.proofs.MaskLemmas.{range_with_len-push}
 use Rattle.ff_ids.specs.declared.summary.SummaryEntry.{SummaryEntry}
 use Rattle.ff_ids.specs.declared.summary.Summary.{Summary}
 use Rattle.ff_ids.specs.declared.summary.RecordKey.{RecordKey}
 use Rattle.ff_ids.specs.declared.summary.RecordKey.TheVariants as keys
+use Rattle.record_set.specs.declared.slots.TheConstants.{SLOTS, SLOTS_EACH}
 use Rattle.record_set.specs.Held.{held_under}
 use Rattle.record_set.specs.Pages.{bits_where, note_in, entry_with, rings_of, entry_of, certified_of, summary_of}
 use Rattle.record_set.specs.Slots.{Slot, slot_of, member_of, HasSlot, held_in, entry_in, no_entry, ready_entries, IsReady}
@@ -18,18 +20,18 @@ use Rattle.record_set.proofs.SlotLemmas.{IsSlotted, get-held_in, get-unslotted}
 use Rattle.record_set.proofs.BitLemmas.{bits_same, bits-no}
 
 abbrev accused_in : List Slot → ℕ → ℕ → Bool
-accused_in slots m r = is_some (get_or slots (33 * m + 2 + r) None)
+accused_in slots m r = is_some (get_or slots (SLOTS_EACH * m + 2 + r) None)
 
 -- ---- an entry
 
 pub entry-held : (slots : List Slot) (m : ℕ) → entry_in slots m ≡ entry_of (held_in slots) m
 unfolding rings_of
 entry-held slots m =
-    ap (λ o. entry_with m (note_in o) (bits_where (accused_in slots m) 31)) (sym (get-held_in slots (keys.Note m) tt))
+    ap (λ o. entry_with m (note_in o) (bits_where (accused_in slots m) MAX_RINGS)) (sym (get-held_in slots (keys.Note m) tt))
     ∙ ap (entry_with m (note_in (held_under (held_in slots) (keys.Note m))))
-    (bits_same (accused_in slots m) (λ r. contains_key (held_in slots) (keys.Accusation m (record { 0 = r }))) 31 (λ r h. ap is_some (sym (get-held_in slots (keys.Accusation m (record { 0 = r })) h))))
+    (bits_same (accused_in slots m) (λ r. contains_key (held_in slots) (keys.Accusation m (record { 0 = r }))) MAX_RINGS (λ r h. ap is_some (sym (get-held_in slots (keys.Accusation m (record { 0 = r })) h))))
 
-slot_within : (k : RecordKey) → HasSlot k → (33 * member_of k ≤ slot_of k) × (slot_of k < 33 * member_of k + 33)
+slot_within : (k : RecordKey) → HasSlot k → (SLOTS_EACH * member_of k ≤ slot_of k) × (slot_of k < SLOTS_EACH * member_of k + SLOTS_EACH)
 slot_within (keys.Certificate m) h = (omega arith, omega arith)
 slot_within (keys.Note m) h = (omega arith, omega arith)
 slot_within (keys.Accusation m ring) h = (omega arith, omega (arith, h))
@@ -39,10 +41,10 @@ entry_apart : (slots : List Slot) (k : RecordKey) (o : Slot) (m : ℕ) → HasSl
 entry_apart slots k o m h apart =
     let at = slot_within k h in
     let after = slice_set slots (slot_of k) o in
-    let off : (i : ℕ) → i < 33 → 33 * m + i ≢ slot_of k = λ i low e. apart (omega (arith, at.0, at.1, low, e)) in
-    ap (λ s. entry_with m (note_in s) (bits_where (accused_in after m) 31)) (get_or-set_other slots (slot_of k) (33 * m + 1) o None (off 1 (lit< tt)))
-    ∙ ap (entry_with m (note_in (get_or slots (33 * m + 1) None)))
-    (bits_same (accused_in after m) (accused_in slots m) 31 (λ r low. ap is_some (get_or-set_other slots (slot_of k) (33 * m + 2 + r) o None (λ e. off (2 + r) (omega (arith, low)) (omega (arith, e))))))
+    let off : (i : ℕ) → i < SLOTS_EACH → SLOTS_EACH * m + i ≢ slot_of k = λ i low e. apart (omega (arith, at.0, at.1, low, e)) in
+    ap (λ s. entry_with m (note_in s) (bits_where (accused_in after m) MAX_RINGS)) (get_or-set_other slots (slot_of k) (SLOTS_EACH * m + 1) o None (off 1 (lit< tt)))
+    ∙ ap (entry_with m (note_in (get_or slots (SLOTS_EACH * m + 1) None)))
+    (bits_same (accused_in after m) (accused_in slots m) MAX_RINGS (λ r low. ap is_some (get_or-set_other slots (slot_of k) (SLOTS_EACH * m + 2 + r) o None (λ e. off (2 + r) (omega (arith, low)) (omega (arith, e))))))
 
 -- ---- all of them
 
@@ -55,7 +57,7 @@ ready-set slots entries k o e r at made =
       ready = λ m h. by_member m h (cases_eq m (member_of k));
     }
   where
-    by_member : (m : ℕ) → m < 1024 → (m ≡ member_of k) ⊎ (m ≢ member_of k) → get_or (slice_set entries (member_of k) e) m (no_entry m) ≡ entry_in (slice_set slots (slot_of k) o) m
+    by_member : (m : ℕ) → m < MEMBERS → (m ≡ member_of k) ⊎ (m ≢ member_of k) → get_or (slice_set entries (member_of k) e) m (no_entry m) ≡ entry_in (slice_set slots (slot_of k) o) m
     by_member m h (inl same) =
         let below : member_of k < length entries = omega (arith, at.member, r.entries_all) in
         ap (λ (i : ℕ). get_or (slice_set entries (member_of k) e) i (no_entry m)) same ∙ get_or-set_same entries (member_of k) e (no_entry m) below
@@ -70,12 +72,12 @@ ready-put slots entries k o slot number e r at same_slot same_number made =
     subst P (sym same_slot) (subst Q (sym same_number) (λ m. ready-set slots entries k o e r at m)) made
 
 -- nothing is held
-pub ready-none : (slots : List Slot) (entries : List SummaryEntry) → length slots ≡ 33792 → length entries ≡ 1024 → ((k : ℕ) → get_or slots k None ≡ None) → ((k : ℕ) → k < 1024 → get_or entries k (no_entry k) ≡ no_entry k) → IsReady slots entries
+pub ready-none : (slots : List Slot) (entries : List SummaryEntry) → length slots ≡ SLOTS → length entries ≡ MEMBERS → ((k : ℕ) → get_or slots k None ≡ None) → ((k : ℕ) → k < MEMBERS → get_or entries k (no_entry k) ≡ no_entry k) → IsReady slots entries
 ready-none slots entries all each none fresh =
     record {
       slots_all = all;
       entries_all = each;
-      ready = λ m h. fresh m h ∙ sym (ap (λ s. entry_with m (note_in s) (bits_where (accused_in slots m) 31)) (none (33 * m + 1)) ∙ ap (entry_with m None) (bits-no (accused_in slots m) 31 (λ r. ap is_some (none (33 * m + 2 + r)))));
+      ready = λ m h. fresh m h ∙ sym (ap (λ s. entry_with m (note_in s) (bits_where (accused_in slots m) MAX_RINGS)) (none (SLOTS_EACH * m + 1)) ∙ ap (entry_with m None) (bits-no (accused_in slots m) MAX_RINGS (λ r. ap is_some (none (SLOTS_EACH * m + 2 + r)))));
     }
 
 -- ---- a page
@@ -101,10 +103,10 @@ range_nobody q a (suc n) nobody =
     ∙ range_nobody q (a + 1) n (λ m low. nobody m (omega (arith, low)))
 
 -- the ready entries of a page are its summary's
-pub ready-summary : (slots : List Slot) (entries : List SummaryEntry) (page : ℕ) → IsReady slots entries → page < 32 → ready_entries slots entries (32 * page) 32 ≡ (summary_of (held_in slots) page).listed
+pub ready-summary : (slots : List Slot) (entries : List SummaryEntry) (page : ℕ) → IsReady slots entries → page < PAGES → ready_entries slots entries (PAGE_MEMBERS * page) PAGE_MEMBERS ≡ (summary_of (held_in slots) page).listed
 unfolding ready_entries certified_of
 ready-summary slots entries page r below =
-    range_agree (λ m. get_or entries m (no_entry m)) (entry_of (held_in slots)) (λ m. is_some (get_or slots (33 * m) None)) (λ m. contains_key (held_in slots) (keys.Certificate m)) (32 * page) 32
+    range_agree (λ m. get_or entries m (no_entry m)) (entry_of (held_in slots)) (λ m. is_some (get_or slots (SLOTS_EACH * m) None)) (λ m. contains_key (held_in slots) (keys.Certificate m)) (PAGE_MEMBERS * page) PAGE_MEMBERS
     (λ m low high. ap is_some (sym (get-held_in slots (keys.Certificate m) tt)))
     (λ m low high. r.ready m (omega (arith, high, below)) ∙ entry-held slots m)
 
@@ -112,11 +114,11 @@ pub same_summary : (page number : ℕ) (listed others : List SummaryEntry) → p
 same_summary page number listed others same each = λ i. summary_with (same i) (each i)
 
 -- nobody is certified behind the last page
-pub no-summary : (slots : List Slot) (page : ℕ) → length slots ≡ 33792 → 32 ≤ page → (summary_of (held_in slots) page).listed ≡ []
+pub no-summary : (slots : List Slot) (page : ℕ) → length slots ≡ SLOTS → PAGES ≤ page → (summary_of (held_in slots) page).listed ≡ []
 unfolding certified_of
 no-summary slots page long above =
     ap (map (entry_of (held_in slots)))
-    (range_nobody (λ m. contains_key (held_in slots) (keys.Certificate m)) (32 * page) 32 (λ m low. ap is_some (get-unslotted slots (keys.Certificate m) long (λ s. absurd (omega (arith, s.member, low, above))))))
+    (range_nobody (λ m. contains_key (held_in slots) (keys.Certificate m)) (PAGE_MEMBERS * page) PAGE_MEMBERS (λ m low. ap is_some (get-unslotted slots (keys.Certificate m) long (λ s. absurd (omega (arith, s.member, low, above))))))
 
 -- no entry of no members
 pub ready_entries-none : (slots : List Slot) (entries : List SummaryEntry) (first : ℕ) → ready_entries slots entries first 0 ≡ []
@@ -124,11 +126,11 @@ unfolding ready_entries
 ready_entries-none slots entries first = refl
 
 -- one more member, which is certified or isn't
-pub entry_pushed : (slots : List Slot) (entries held before after : List SummaryEntry) (first n : ℕ) (b : Bool) → is_some (get_or slots (33 * (first + n)) None) ≡ b → before ≡ held ++ ready_entries slots entries first n → after ≡ before ++ cond b (get_or entries (first + n) (no_entry (first + n)) ∷ []) [] → after ≡ held ++ ready_entries slots entries first (n + 1)
+pub entry_pushed : (slots : List Slot) (entries held before after : List SummaryEntry) (first n : ℕ) (b : Bool) → is_some (get_or slots (SLOTS_EACH * (first + n)) None) ≡ b → before ≡ held ++ ready_entries slots entries first n → after ≡ before ++ cond b (get_or entries (first + n) (no_entry (first + n)) ∷ []) [] → after ≡ held ++ ready_entries slots entries first (n + 1)
 unfolding ready_entries
 entry_pushed slots entries held before after first n b is so_far grown =
     let f : ℕ → SummaryEntry = λ m. get_or entries m (no_entry m) in
-    let p : ℕ → Bool = λ m. is_some (get_or slots (33 * m) None) in
+    let p : ℕ → Bool = λ m. is_some (get_or slots (SLOTS_EACH * m) None) in
     let more : range_with_len first (n + 1) ≡ range_with_len first n ++ (first + n) ∷ [] = ap (range_with_len first) (add-one n) ∙ range_with_len-push first n in
     let all : map f (filter p (range_with_len first (n + 1))) ≡ map f (filter p (range_with_len first n)) ++ cond b (f (first + n) ∷ []) [] =
     ap (λ (ms : List ℕ). map f (filter p ms)) more ∙ ap (map f) (filter-append p (range_with_len first n) ((first + n) ∷ []))

@@ -4,8 +4,10 @@ use Rattle.std.specs.Prelude.{slice_set}
 use Rattle.std.specs.FinMap.{get, insert, remove, empty, find, same_map, get-insert, get-remove, from_entries, get-from_entries}
 use Rattle.std.proofs.lemmas.Bool.{cases_lt, true≢false}
 use Rattle.std.proofs.lemmas.Bool.Decides.{nat_tests}
+use Rattle.ff_ids.specs.declared.TheConstants.{MAX_RINGS, MEMBERS, MAX_TOLERANCE}
 use Rattle.ff_ids.specs.declared.summary.RecordKey.{RecordKey}
 use Rattle.ff_ids.specs.declared.summary.RecordKey.TheVariants as keys
+use Rattle.record_set.specs.declared.slots.TheConstants.{SLOTS, SLOTS_EACH}
 use Rattle.records.specs.declared.Body.{Body}
 use Rattle.records.specs.declared.Body.TheVariants as bodies
 use Rattle.records.specs.Signing.{CheckedRecord}
@@ -34,46 +36,46 @@ part_from_2 m part r e =
 
 pub key_at-slot_of : (k : RecordKey) → HasSlot k → key_at (slot_of k) ≡ k
 key_at-slot_of (keys.Certificate m) h =
-    let whole : 33 * m / 33 ≡ m = omega arith in
-    let part : 33 * m % 33 ≡ 0 = omega arith in
-    part_0 (33 * m / 33) (33 * m % 33) part ∙ ap keys.Certificate whole
+    let whole : SLOTS_EACH * m / SLOTS_EACH ≡ m = omega arith in
+    let part : SLOTS_EACH * m % SLOTS_EACH ≡ 0 = omega arith in
+    part_0 (SLOTS_EACH * m / SLOTS_EACH) (SLOTS_EACH * m % SLOTS_EACH) part ∙ ap keys.Certificate whole
 key_at-slot_of (keys.Note m) h =
-    let whole : (33 * m + 1) / 33 ≡ m = omega arith in
-    let part : (33 * m + 1) % 33 ≡ 1 = omega arith in
-    part_1 ((33 * m + 1) / 33) ((33 * m + 1) % 33) part ∙ ap keys.Note whole
+    let whole : (SLOTS_EACH * m + 1) / SLOTS_EACH ≡ m = omega arith in
+    let part : (SLOTS_EACH * m + 1) % SLOTS_EACH ≡ 1 = omega arith in
+    part_1 ((SLOTS_EACH * m + 1) / SLOTS_EACH) ((SLOTS_EACH * m + 1) % SLOTS_EACH) part ∙ ap keys.Note whole
 key_at-slot_of (keys.Accusation m ring) h =
-    let whole : (33 * m + 2 + ring.0) / 33 ≡ m = omega (arith, h) in
-    let part : (33 * m + 2 + ring.0) % 33 ≡ 2 + ring.0 = omega (arith, h) in
-    part_from_2 ((33 * m + 2 + ring.0) / 33) ((33 * m + 2 + ring.0) % 33) ring.0 part ∙ ap (λ k. keys.Accusation k ring) whole
+    let whole : (SLOTS_EACH * m + 2 + ring.0) / SLOTS_EACH ≡ m = omega (arith, h) in
+    let part : (SLOTS_EACH * m + 2 + ring.0) % SLOTS_EACH ≡ 2 + ring.0 = omega (arith, h) in
+    part_from_2 ((SLOTS_EACH * m + 2 + ring.0) / SLOTS_EACH) ((SLOTS_EACH * m + 2 + ring.0) % SLOTS_EACH) ring.0 part ∙ ap (λ k. keys.Accusation k ring) whole
 
 -- what is known of the key of a part
 record IsPart (m part : ℕ) (k : RecordKey) : Type 0 where
-  slot : slot_of k ≡ 33 * m + part
+  slot : slot_of k ≡ SLOTS_EACH * m + part
   member : member_of k ≡ m
   has_slot : HasSlot k
 
-is_part : (m part : ℕ) → part < 33 → IsPart m part (key_of_part m part)
+is_part : (m part : ℕ) → part < SLOTS_EACH → IsPart m part (key_of_part m part)
 is_part m zero h = record { slot = omega arith; member = refl; has_slot = tt }
 is_part m (suc zero) h = record { slot = omega arith; member = refl; has_slot = tt }
 is_part m (suc (suc r)) h =
     let more : suc (suc r) ≡ 2 + r = omega arith in
     subst (IsPart m (suc (suc r))) (sym (part_from_2 m (suc (suc r)) r more)) (record { slot = omega arith; member = refl; has_slot = omega arith })
 
-at_part : (slot : ℕ) → IsPart (slot / 33) (slot % 33) (key_at slot)
-at_part slot = is_part (slot / 33) (slot % 33) (omega arith)
+at_part : (slot : ℕ) → IsPart (slot / SLOTS_EACH) (slot % SLOTS_EACH) (key_at slot)
+at_part slot = is_part (slot / SLOTS_EACH) (slot % SLOTS_EACH) (omega arith)
 
 pub slot_of-key_at : (slot : ℕ) → slot_of (key_at slot) ≡ slot
 slot_of-key_at slot = omega (arith, (at_part slot).slot)
 
 -- There is a slot for the key.
 pub record IsSlotted (k : RecordKey) : Type 0 where
-  pub member : member_of k < 1024
+  pub member : member_of k < MEMBERS
   pub slot : HasSlot k
 
-pub slotted_at : (slot : ℕ) → slot < 33792 → IsSlotted (key_at slot)
+pub slotted_at : (slot : ℕ) → slot < SLOTS → IsSlotted (key_at slot)
 slotted_at slot h = record { member = omega (arith, (at_part slot).member); slot = (at_part slot).has_slot }
 
-pub slot_below : (k : RecordKey) → IsSlotted k → slot_of k < 33792
+pub slot_below : (k : RecordKey) → IsSlotted k → slot_of k < SLOTS
 slot_below (keys.Certificate m) h = omega (arith, h.member)
 slot_below (keys.Note m) h = omega (arith, h.member)
 slot_below (keys.Accusation m ring) h = omega (arith, h.member, h.slot)
@@ -108,34 +110,34 @@ pub get-held_in : (slots : List Slot) (k : RecordKey) → HasSlot k → get (hel
 get-held_in slots k h = get-from_entries key_cmp_total (taken_from 0 slots) k ∙ found_at k 0 (slot_of k) slots h (omega arith)
 
 -- nothing is held under any other
-pub get-unslotted : (slots : List Slot) (k : RecordKey) → length slots ≡ 33792 → (IsSlotted k → ⊥) → get (held_in slots) k ≡ None
+pub get-unslotted : (slots : List Slot) (k : RecordKey) → length slots ≡ SLOTS → (IsSlotted k → ⊥) → get (held_in slots) k ≡ None
 get-unslotted slots k long never =
     get-from_entries key_cmp_total (taken_from 0 slots) k ∙ not_found k 0 slots (λ a low high e. never (subst IsSlotted (sym e) (slotted_at a (omega (arith, high, long)))))
 
 with_member : (k : RecordKey) → HasSlot k → IsSlotted k ⊎ (IsSlotted k → ⊥)
-with_member k h = by_number (cases_lt (member_of k) 1024)
+with_member k h = by_number (cases_lt (member_of k) MEMBERS)
   where
-    by_number : (member_of k < 1024) ⊎ (1024 ≤ member_of k) → IsSlotted k ⊎ (IsSlotted k → ⊥)
+    by_number : (member_of k < MEMBERS) ⊎ (MEMBERS ≤ member_of k) → IsSlotted k ⊎ (IsSlotted k → ⊥)
     by_number (inl below) = inl (record { member = below; slot = h })
     by_number (inr above) = inr (λ s. absurd (omega (arith, s.member, above)))
 
 pub is_slotted : (k : RecordKey) → IsSlotted k ⊎ (IsSlotted k → ⊥)
 is_slotted (keys.Certificate m) = with_member (keys.Certificate m) tt
 is_slotted (keys.Note m) = with_member (keys.Note m) tt
-is_slotted (keys.Accusation m ring) = by_ring (cases_lt ring.0 31)
+is_slotted (keys.Accusation m ring) = by_ring (cases_lt ring.0 MAX_RINGS)
   where
-    by_ring : (ring.0 < 31) ⊎ (31 ≤ ring.0) → IsSlotted (keys.Accusation m ring) ⊎ (IsSlotted (keys.Accusation m ring) → ⊥)
+    by_ring : (ring.0 < MAX_RINGS) ⊎ (MAX_RINGS ≤ ring.0) → IsSlotted (keys.Accusation m ring) ⊎ (IsSlotted (keys.Accusation m ring) → ⊥)
     by_ring (inl below) = with_member (keys.Accusation m ring) below
     by_ring (inr above) = inr (λ s. absurd (omega (arith, s.slot, above)))
 
 -- the key of what may be put
-pub slotted_body : (t : ℕ) (b : Body) → t ≤ 15 → HasRing t b → member_of (key_of b) < 1024 → IsSlotted (key_of b)
+pub slotted_body : (t : ℕ) (b : Body) → t ≤ MAX_TOLERANCE → HasRing t b → member_of (key_of b) < MEMBERS → IsSlotted (key_of b)
 slotted_body t (bodies.Certificate c) few ring member = record { member = member; slot = tt }
 slotted_body t (bodies.Note n) few ring member = record { member = member; slot = tt }
 slotted_body t (bodies.Accusation a) few ring member = record { member = member; slot = omega (arith, ring, few) }
 
 -- who holds something has a slot
-pub held-slotted : (slots : List Slot) (k : RecordKey) → length slots ≡ 33792 → IsSome (get (held_in slots) k) → IsSlotted k
+pub held-slotted : (slots : List Slot) (k : RecordKey) → length slots ≡ SLOTS → IsSome (get (held_in slots) k) → IsSlotted k
 held-slotted slots k long some = by_slot (is_slotted k)
   where
     by_slot : IsSlotted k ⊎ (IsSlotted k → ⊥) → IsSlotted k
@@ -144,7 +146,7 @@ held-slotted slots k long some = by_slot (is_slotted k)
 
 -- ---- writing a slot
 
-set_slotted : (slots : List Slot) (k q : RecordKey) (o : Slot) → length slots ≡ 33792 → IsSlotted k → IsSlotted q → (b : Bool) → is_key q k ≡ b → get_or (slice_set slots (slot_of k) o) (slot_of q) None ≡ cond b o (get_or slots (slot_of q) None)
+set_slotted : (slots : List Slot) (k q : RecordKey) (o : Slot) → length slots ≡ SLOTS → IsSlotted k → IsSlotted q → (b : Bool) → is_key q k ≡ b → get_or (slice_set slots (slot_of k) o) (slot_of q) None ≡ cond b o (get_or slots (slot_of q) None)
 set_slotted slots k q o long at s true same =
     let below : slot_of k < length slots = omega (arith, slot_below k at, long) in
     ap (λ (i : ℕ). get_or (slice_set slots (slot_of k) o) i None) (ap slot_of (is_key-true q k same)) ∙ get_or-set_same slots (slot_of k) o None below
@@ -152,10 +154,10 @@ set_slotted slots k q o long at s false off =
     let apart : slot_of q ≢ slot_of k = λ e. true≢false (sym (is_key-same k) ∙ ap (λ x. is_key x k) (sym (key_at-slot_of k at.slot) ∙ ap key_at (sym e) ∙ key_at-slot_of q s.slot) ∙ off) in
     get_or-set_other slots (slot_of k) (slot_of q) o None apart
 
-set_at : (slots : List Slot) (k q : RecordKey) (o : Slot) → length slots ≡ 33792 → IsSlotted k → get (held_in (slice_set slots (slot_of k) o)) q ≡ cond (is_key q k) o (get (held_in slots) q)
+set_at : (slots : List Slot) (k q : RecordKey) (o : Slot) → length slots ≡ SLOTS → IsSlotted k → get (held_in (slice_set slots (slot_of k) o)) q ≡ cond (is_key q k) o (get (held_in slots) q)
 set_at slots k q o long at = by_slot (is_slotted q)
   where
-    still : length (slice_set slots (slot_of k) o) ≡ 33792
+    still : length (slice_set slots (slot_of k) o) ≡ SLOTS
     still = length-set slots (slot_of k) o ∙ long
 
     by_slot : IsSlotted q ⊎ (IsSlotted q → ⊥) → get (held_in (slice_set slots (slot_of k) o)) q ≡ cond (is_key q k) o (get (held_in slots) q)
@@ -165,16 +167,16 @@ set_at slots k q o long at = by_slot (is_slotted q)
         let apart : is_key q k ≡ false = is_key-other q k (λ e. never (subst IsSlotted (sym e) at)) in
         get-unslotted (slice_set slots (slot_of k) o) q still never ∙ sym (ap (λ b. cond b o (get (held_in slots) q)) apart ∙ get-unslotted slots q long never)
 
-pub held_in-put : (slots : List Slot) (k : RecordKey) (c : CheckedRecord) → length slots ≡ 33792 → IsSlotted k → held_in (slice_set slots (slot_of k) (Some c)) ≡ insert (held_in slots) k c
+pub held_in-put : (slots : List Slot) (k : RecordKey) (c : CheckedRecord) → length slots ≡ SLOTS → IsSlotted k → held_in (slice_set slots (slot_of k) (Some c)) ≡ insert (held_in slots) k c
 held_in-put slots k c long at =
     same_map key_cmp_total key_cmp-IsAntisymmetric _ _ (λ q. set_at slots k q (Some c) long at ∙ sym (get-insert key_cmp_total (held_in slots) k c q))
 
-pub held_in-drop : (slots : List Slot) (k : RecordKey) → length slots ≡ 33792 → IsSlotted k → held_in (slice_set slots (slot_of k) None) ≡ remove (held_in slots) k
+pub held_in-drop : (slots : List Slot) (k : RecordKey) → length slots ≡ SLOTS → IsSlotted k → held_in (slice_set slots (slot_of k) None) ≡ remove (held_in slots) k
 held_in-drop slots k long at =
     same_map key_cmp_total key_cmp-IsAntisymmetric _ _ (λ q. set_at slots k q None long at ∙ sym (get-remove key_cmp_total (held_in slots) k q))
 
 -- nothing is dropped where there is no slot
-pub held_in-no_drop : (slots : List Slot) (k : RecordKey) → length slots ≡ 33792 → (IsSlotted k → ⊥) → held_in slots ≡ remove (held_in slots) k
+pub held_in-no_drop : (slots : List Slot) (k : RecordKey) → length slots ≡ SLOTS → (IsSlotted k → ⊥) → held_in slots ≡ remove (held_in slots) k
 held_in-no_drop slots k long never =
     same_map key_cmp_total key_cmp-IsAntisymmetric _ _ (λ q. by_key q (is_key q k) refl ∙ sym (get-remove key_cmp_total (held_in slots) k q))
   where

@@ -3,6 +3,7 @@ use Rattle.std.specs.Prelude.{◌≡◌, ℕ, zero, suc, ◌+◌, ◌*◌, ◌^�
 use Rattle.std.specs.List.{range_with_len}
 use Rattle.std.specs.FinMap.{contains_key}
 use Rattle.std.specs.Option.{option_map_or}
+use Rattle.ff_ids.specs.declared.TheConstants.{MAX_RINGS, PAGE_MEMBERS}
 use Rattle.ff_ids.specs.Masks.{enables}
 use Rattle.ff_ids.specs.declared.NoteBody.{NoteBody}
 use Rattle.ff_ids.specs.declared.summary.SummaryEntry.{SummaryEntry}
@@ -38,9 +39,9 @@ entry_with m note rings =
       rings = rings;
     }
 
--- the rings on which an accusation against the member is held: there are at most 31 rings
+-- the rings on which an accusation against the member is held: there are at most `MAX_RINGS`
 unfoldable pub rings_of : Held → ℕ → ℕ
-rings_of held m = bits_where (λ r. contains_key held (keys.Accusation m (record { 0 = r }))) 31
+rings_of held m = bits_where (λ r. contains_key held (keys.Accusation m (record { 0 = r }))) MAX_RINGS
 
 -- The entry of a member in the summary of its page, by what is held.
 abbrev pub entry_of : Held → ℕ → SummaryEntry
@@ -48,7 +49,7 @@ entry_of held m = entry_with m (note_in (held_under held (keys.Note m))) (rings_
 
 -- The certified members of the page, in order.
 unfoldable pub certified_of : Held → ℕ → List ℕ
-certified_of held page = filter (λ m. contains_key held (keys.Certificate m)) (range_with_len (32 * page) 32)
+certified_of held page = filter (λ m. contains_key held (keys.Certificate m)) (range_with_len (PAGE_MEMBERS * page) PAGE_MEMBERS)
 
 -- An entry for each certified member of the page, in order.
 abbrev pub summary_of : Held → ℕ → Summary

@@ -1,10 +1,12 @@
--- How the records are kept: 33 slots for each member, of its certificate, its note, and the accusations against it by ring.
+-- How the records are kept: `SLOTS_EACH` slots for each member, of its certificate, its note, and the accusations against it by ring.
 use Rattle.std.specs.Prelude.{◌≡◌, ℕ, ◌+◌, ◌*◌, ◌-◌, ◌/◌, ◌%◌, ◌<◌, ◌==◌, if◌then◌else◌, List, [], ◌∷◌, Option, Some, None, is_some, length, map, filter, slice_index_or}
 use Rattle.std.specs.List.{range_with_len}
 use Rattle.std.specs.FinMap.{from_entries}
+use Rattle.ff_ids.specs.declared.TheConstants.{MAX_RINGS, MEMBERS}
 use Rattle.ff_ids.specs.declared.summary.SummaryEntry.{SummaryEntry}
 use Rattle.ff_ids.specs.declared.summary.RecordKey.{RecordKey}
 use Rattle.ff_ids.specs.declared.summary.RecordKey.TheVariants as keys
+use Rattle.record_set.specs.declared.slots.TheConstants.{SLOTS, SLOTS_EACH}
 use Rattle.records.specs.Signing.{CheckedRecord}
 use Rattle.record_set.specs.Held.{Held}
 use Rattle.record_set.specs.Pages.{bits_where, note_in, entry_with}
@@ -13,9 +15,9 @@ abbrev pub Slot : Type 0
 Slot = Option CheckedRecord
 
 abbrev pub slot_of : RecordKey → ℕ
-slot_of (keys.Certificate m) = 33 * m
-slot_of (keys.Note m) = 33 * m + 1
-slot_of (keys.Accusation m ring) = 33 * m + 2 + ring.0
+slot_of (keys.Certificate m) = SLOTS_EACH * m
+slot_of (keys.Note m) = SLOTS_EACH * m + 1
+slot_of (keys.Accusation m ring) = SLOTS_EACH * m + 2 + ring.0
 
 -- the member of a key: of an accusation the accused
 abbrev pub member_of : RecordKey → ℕ
@@ -23,18 +25,18 @@ member_of (keys.Certificate m) = m
 member_of (keys.Note m) = m
 member_of (keys.Accusation m ring) = m
 
--- There is a slot for each ring below 31.
+-- There is a slot for each ring below `MAX_RINGS`.
 abbrev pub HasSlot : RecordKey → Type 0
 HasSlot (keys.Certificate m) = Unit {0}
 HasSlot (keys.Note m) = Unit {0}
-HasSlot (keys.Accusation m ring) = ring.0 < 31
+HasSlot (keys.Accusation m ring) = ring.0 < MAX_RINGS
 
 abbrev pub key_of_part : ℕ → ℕ → RecordKey
 key_of_part m part = if part == 0 then keys.Certificate m else (if part == 1 then keys.Note m else keys.Accusation m (record { 0 = part - 2 }))
 
 -- the key of the slot
 abbrev pub key_at : ℕ → RecordKey
-key_at slot = key_of_part (slot / 33) (slot % 33)
+key_at slot = key_of_part (slot / SLOTS_EACH) (slot % SLOTS_EACH)
 
 -- what the slots hold, where the first has this number
 abbrev pub taken_from : ℕ → List Slot → List (RecordKey × CheckedRecord)
@@ -47,7 +49,7 @@ held_in slots = from_entries (taken_from 0 slots)
 
 -- The entry of the member, made of its slots.
 abbrev pub entry_in : List Slot → ℕ → SummaryEntry
-entry_in slots m = entry_with m (note_in (slice_index_or slots (33 * m + 1) None)) (bits_where (λ r. is_some (slice_index_or slots (33 * m + 2 + r) None)) 31)
+entry_in slots m = entry_with m (note_in (slice_index_or slots (SLOTS_EACH * m + 1) None)) (bits_where (λ r. is_some (slice_index_or slots (SLOTS_EACH * m + 2 + r) None)) MAX_RINGS)
 
 -- the entry of a member of which nothing is held
 abbrev pub no_entry : ℕ → SummaryEntry
@@ -55,10 +57,10 @@ no_entry m = record { member = m; epoch = 0; mask = record { 0 = 0 }; rings = 0 
 
 -- There is a slot for each key, and for each member the entry that its slots make.
 pub record IsReady (slots : List Slot) (entries : List SummaryEntry) : Type 0 where
-  pub slots_all : length slots ≡ 33792
-  pub entries_all : length entries ≡ 1024
-  pub ready : (m : ℕ) → m < 1024 → slice_index_or entries m (no_entry m) ≡ entry_in slots m
+  pub slots_all : length slots ≡ SLOTS
+  pub entries_all : length entries ≡ MEMBERS
+  pub ready : (m : ℕ) → m < MEMBERS → slice_index_or entries m (no_entry m) ≡ entry_in slots m
 
 -- The ready entries of those of so many members, from this number on, whose certificate is held.
 unfoldable pub ready_entries : List Slot → List SummaryEntry → ℕ → ℕ → List SummaryEntry
-ready_entries slots entries first count = map (λ m. slice_index_or entries m (no_entry m)) (filter (λ m. is_some (slice_index_or slots (33 * m) None)) (range_with_len first count))
+ready_entries slots entries first count = map (λ m. slice_index_or entries m (no_entry m)) (filter (λ m. is_some (slice_index_or slots (SLOTS_EACH * m) None)) (range_with_len first count))

@@ -5,6 +5,7 @@
 
 ghost use Rattle.std.specs.Prelude.{◌≡◌, ◌<◌, ◌≤◌, ◌++◌, IfOk, OnErr, IsSome, Some, All, take};
 ghost use Rattle.std.specs.FinMap as map;
+ghost use Rattle.ff_ids.specs.declared.TheConstants.{MAX_TOLERANCE};
 ghost use Rattle.ff_ids.specs.declared.summary.RecordKey.TheVariants.{Accusation};
 ghost use Rattle.records.specs.Signing.{IsChecked};
 ghost use Rattle.record_set.specs.Held.{held_under, key_of};
@@ -14,18 +15,15 @@ ghost use Rattle.record_set.specs.Picks.{HasRing, held_all, spelled, fitting, Is
 pub mod laws;
 mod slots;
 
-use ff_ids::{MemberId, RecordKey, RingNo, Summary, SummaryEntry};
+use ff_ids::{MAX_RINGS, MemberId, PAGES, PAGE_MEMBERS, RecordKey, RingNo, Summary, SummaryEntry};
 use fields::NoMemory;
 use records::{Checked, write_record};
 use slots::{
-    RINGS, fresh_entry, key_of, member_of, no_entries, no_slots, push_certified, slot_of,
+    fresh_entry, key_of, member_of, no_entries, no_slots, push_certified, slot_of,
     spelled_length,
 };
 use std::alloc::Global;
 use std::marker::Model;
-
-/// How many pages of 32 members there are.
-const PAGES: u8 = 32;
 
 /// The records that a node holds. Contracts see the finite map from keys to records as they were checked.
 #[derive(Drop)]
@@ -60,9 +58,9 @@ impl RecordSet {
     }
 
     /// Holds the record in place of what its key held. The group that it was checked for has a tolerance of at
-    /// most 15, and the ring of an accusation is one of its rings.
+    /// most `MAX_TOLERANCE`, and the ring of an accusation is one of its rings.
     pub fn put(&mut self, rec: Checked)
-        requires tolerance { rec.t ≤ 15 }
+        requires tolerance { rec.t ≤ MAX_TOLERANCE }
         requires ring { HasRing rec.t rec.rec.body }
         ensures held { self.new ≡ map.insert self.old (key_of rec.rec.body) rec }
         ensures checked { IsChecked rec }
@@ -77,7 +75,7 @@ impl RecordSet {
     pub fn drop_accusation(&mut self, accused: MemberId, ring: RingNo)
         ensures { self.new ≡ map.remove self.old (Accusation accused ring) }
     {
-        if ring.0 < RINGS {
+        if ring.0 < MAX_RINGS {
             self.slots[slot_of(&RecordKey::Accusation(accused, ring))] = None;
             self.entries[accused.get() as usize] = fresh_entry(&self.slots, accused);
         }
@@ -90,7 +88,8 @@ impl RecordSet {
         *out = Summary::new();
         out.page = page;
         if page < PAGES {
-            push_certified(&self.slots, &self.entries, 32 * page as usize, 32, out);
+            let count = PAGE_MEMBERS as usize;
+            push_certified(&self.slots, &self.entries, count * page as usize, count, out);
         }
     }
 

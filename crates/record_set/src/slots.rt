@@ -2,26 +2,25 @@
 //! an accusation against it on each ring.
 
 ghost use Rattle.std.specs.Prelude.{◌≡◌, ℕ, ◌+◌, ◌*◌, ◌<◌, ◌≤◌, ◌++◌, length, IfOk, None, slice_index_or, is_some};
+ghost use Rattle.ff_ids.specs.declared.TheConstants.{MAX_RINGS, MEMBERS, PAGE_MEMBERS};
 ghost use Rattle.records.specs.Spelling.{IsBody, HasLength, body_bytes, record_bytes};
 ghost use Rattle.record_set.specs.Held.{key_of};
 ghost use Rattle.record_set.specs.Pages.{bits_where, note_in, entry_with};
 ghost use Rattle.record_set.specs.Slots.{slot_of, member_of, HasSlot, entry_in, no_entry, ready_entries};
 
-use ff_ids::{MEMBERS, Mask, MemberId, NoteBody, RecordKey, Summary, SummaryEntry};
+use ff_ids::{Bits, MAX_RINGS, MEMBERS, Mask, MemberId, NoteBody, RecordKey, Summary, SummaryEntry};
 use records::{Body, Checked, Record};
 use std::alloc::{AllocError, Global};
 
-/// There are at most so many rings.
-pub(crate) const RINGS: u8 = 31;
-/// How many slots a member has.
-const SLOTS_EACH: usize = 33;
+/// How many slots a member has: one for each ring, and two.
+const SLOTS_EACH: usize = MAX_RINGS as usize + 2;
 /// How many slots there are.
-const SLOTS: usize = 33_792;
+const SLOTS: usize = SLOTS_EACH * MEMBERS as usize;
 
 /// The slot of the certificate of the member of this number.
 pub(crate) fn certificate_slot(number: usize) -> usize
     requires { number < MEMBERS }
-    ensures { result ≡ 33 * number }
+    ensures { result ≡ SLOTS_EACH * number }
 {
     SLOTS_EACH * number
 }
@@ -40,7 +39,7 @@ pub(crate) fn member_of(key: &RecordKey) -> MemberId
 pub(crate) fn slot_of(key: &RecordKey) -> usize
     requires { HasSlot key.now }
     ensures value { result ≡ slot_of key.now }
-    ensures range { result < 33792 }
+    ensures range { result < SLOTS }
 {
     match key {
         RecordKey::Certificate(member) => certificate_slot(member.get() as usize),
@@ -86,7 +85,7 @@ pub(crate) fn spelled_length(rec: &Record) -> usize
 
 /// Without a record in any slot.
 pub(crate) fn no_slots(alloc: Global) -> Result<Vec<Option<Checked>>, AllocError>
-    ensures all { IfOk result (λ v. length v.items ≡ 33792) }
+    ensures all { IfOk result (λ v. length v.items ≡ SLOTS) }
     ensures none { IfOk result (λ v. (k : ℕ) → slice_index_or v.items k None ≡ None) }
 {
     let mut slots = Vec::with_capacity(alloc, SLOTS)?;
@@ -111,8 +110,8 @@ fn no_entry(number: u16) -> SummaryEntry
 
 /// The entries of all members, of none of which anything is held.
 pub(crate) fn no_entries(alloc: Global) -> Result<Vec<SummaryEntry>, AllocError>
-    ensures all { IfOk result (λ v. length v.items ≡ 1024) }
-    ensures none { IfOk result (λ v. (k : ℕ) → k < 1024 → slice_index_or v.items k (no_entry k) ≡ no_entry k) }
+    ensures all { IfOk result (λ v. length v.items ≡ MEMBERS) }
+    ensures none { IfOk result (λ v. (k : ℕ) → k < MEMBERS → slice_index_or v.items k (no_entry k) ≡ no_entry k) }
 {
     let mut entries = Vec::with_capacity(alloc, MEMBERS as usize)?;
     for number in 0..MEMBERS {
@@ -135,12 +134,12 @@ fn note_in(slot: &Option<Checked>) -> Option<NoteBody>
 }
 
 /// The set of the rings whose slots, from this one on, hold an accusation.
-fn rings_in(slots: &[Option<Checked>], first: usize) -> u32
-    requires { first + 31 ≤ length slots.now }
-    ensures { result ≡ bits_where (λ r. is_some (slice_index_or slots.now (first + r) None)) 31 }
+fn rings_in(slots: &[Option<Checked>], first: usize) -> Bits
+    requires { first + MAX_RINGS ≤ length slots.now }
+    ensures { result ≡ bits_where (λ r. is_some (slice_index_or slots.now (first + r) None)) MAX_RINGS }
 {
     let mut rings = 0;
-    for ring in 0..RINGS {
+    for ring in 0..MAX_RINGS {
         if slots[first + ring as usize].is_some() {
             rings += 1 << ring;
         }
@@ -156,10 +155,10 @@ pub(crate) fn push_certified(
     count: usize,
     out: &mut Summary,
 )
-    requires slots { length slots.now ≡ 33792 }
-    requires entries { length entries.now ≡ 1024 }
-    requires members { first + count ≤ 1024 }
-    requires room { length out.old.listed + count ≤ 32 }
+    requires slots { length slots.now ≡ SLOTS }
+    requires entries { length entries.now ≡ MEMBERS }
+    requires members { first + count ≤ MEMBERS }
+    requires room { length out.old.listed + count ≤ PAGE_MEMBERS }
     ensures page { out.new.page ≡ out.old.page }
     ensures listed { out.new.listed ≡ out.old.listed ++ ready_entries slots.now entries.now first count }
 {
@@ -172,7 +171,7 @@ pub(crate) fn push_certified(
 }
 
 /// The entry of the member, whose note and rings these are.
-fn entry_with(member: MemberId, note: Option<NoteBody>, rings: u32) -> SummaryEntry
+fn entry_with(member: MemberId, note: Option<NoteBody>, rings: Bits) -> SummaryEntry
     ensures { result ≡ entry_with member note rings }
 {
     let (epoch, mask) = match note {
@@ -189,9 +188,9 @@ fn entry_with(member: MemberId, note: Option<NoteBody>, rings: u32) -> SummaryEn
 
 /// What the slots hold of the member.
 pub(crate) fn fresh_entry(slots: &[Option<Checked>], member: MemberId) -> SummaryEntry
-    requires { length slots.now ≡ 33792 }
+    requires { length slots.now ≡ SLOTS }
     ensures value { result ≡ entry_in slots.now member }
-    ensures range { member < 1024 }
+    ensures range { member < MEMBERS }
 {
     let first = certificate_slot(member.get() as usize);
     entry_with(

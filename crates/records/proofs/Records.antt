@@ -5,6 +5,7 @@ use Rattle.std.proofs.lemmas.Bool.{eqb-true}
 use Rattle.std.proofs.lemmas.Bool.Decides.{nat_tests}
 use Rattle.std.proofs.lemmas.List.{take_at}
 use Rattle.std.specs.Prelude.{IfOk}
+use Rattle.ff_ids.specs.declared.TheConstants.{LAST_MEMBER}
 use Rattle.fields.specs.Reading.{Reading, reading_of}
 use Rattle.ff_ids.specs.declared.NoteBody.{NoteBody}
 use Rattle.ff_ids.specs.declared.AccBody.{AccBody}
@@ -81,7 +82,7 @@ note_takes r n s fits e =
     let a = bind_ok (number_at w16 member_number r) (λ m. number_at w64 nonzero m.1 >>= λ e. number_at w32 any_number e.1 >>= λ k. Ok (record { member = m.0; epoch = e.0; mask = record { 0 = k.0 } }, k.1)) (n, s) e in
     let b = bind_ok (number_at w64 nonzero a.0.1) (λ e. number_at w32 any_number e.1 >>= λ k. Ok (record { member = a.0.0; epoch = e.0; mask = record { 0 = k.0 } }, k.1)) (n, s) a.2 in
     let c = bind_ok (number_at w32 any_number b.0.1) (λ k. Ok (record { member = a.0.0; epoch = b.0.0; mask = record { 0 = k.0 } }, k.1)) (n, s) b.2 in
-    let t0 = number_takes w16 (2 ^ 16) member_number (λ n. n) _ r a.0.0 a.0.1 wide16 (within_rule (2 ^ 16) 0 1023 (lit< tt)) fits a.1 in
+    let t0 = number_takes w16 (2 ^ 16) member_number (λ n. n) _ r a.0.0 a.0.1 wide16 (within_rule (2 ^ 16) 0 LAST_MEMBER (lit< tt)) fits a.1 in
     let t1 = number_takes w64 (2 ^ 64) nonzero (λ n. n) _ a.0.1 b.0.0 b.0.1 wide64 (nonzero_rule (2 ^ 64)) t0.0.fits b.1 in
     let t2 = number_takes w32 (2 ^ 32) any_number (λ n. n) _ b.0.1 c.0.0 c.0.1 wide32 (any_rule (2 ^ 32)) t1.0.fits c.1 in
     let made : NoteBody × Reading = (record { member = a.0.0; epoch = b.0.0; mask = record { 0 = c.0.0 } }, c.0.1) in
@@ -92,7 +93,7 @@ note_again : (n : NoteBody) → IsNote n → Again note_at n (note_fields n)
 unfolding note_at note_fields
 note_again n good =
     then_again (number_at w16 member_number) (λ m r. number_at w64 nonzero r >>= λ e. number_at w32 any_number e.1 >>= λ k. Ok (record { member = m; epoch = e.0; mask = record { 0 = k.0 } }, k.1)) n.member n _ _
-    (number_again w16 (2 ^ 16) member_number (λ n. n) _ n.member wide16 (within_rule (2 ^ 16) 0 1023 (lit< tt)) (omega arith, omega (arith, good.member_number)))
+    (number_again w16 (2 ^ 16) member_number (λ n. n) _ n.member wide16 (within_rule (2 ^ 16) 0 LAST_MEMBER (lit< tt)) (omega arith, omega (arith, good.member_number)))
     (then_again (number_at w64 nonzero) (λ e r. number_at w32 any_number r >>= λ k. Ok (record { member = n.member; epoch = e; mask = record { 0 = k.0 } }, k.1)) n.epoch n _ _
     (number_again w64 (2 ^ 64) nonzero (λ n. n) _ n.epoch wide64 (nonzero_rule (2 ^ 64)) (good.has_epoch, good.epoch_fits))
     (map_again (number_at w32 any_number) (λ k. record { member = n.member; epoch = n.epoch; mask = record { 0 = k } }) n.mask.0 _
@@ -110,8 +111,8 @@ accusation_takes r x s fits e =
     let b = bind_ok (number_at w16 member_number a.0.1) (λ d. number_at w64 nonzero d.1 >>= λ e. byte_at any_number e.1 >>= λ k. Ok (record { accuser = a.0.0; accused = d.0; epoch = e.0; ring = record { 0 = k.0 } }, k.1)) (x, s) a.2 in
     let c = bind_ok (number_at w64 nonzero b.0.1) (λ e. byte_at any_number e.1 >>= λ k. Ok (record { accuser = a.0.0; accused = b.0.0; epoch = e.0; ring = record { 0 = k.0 } }, k.1)) (x, s) b.2 in
     let d = bind_ok (byte_at any_number c.0.1) (λ k. Ok (record { accuser = a.0.0; accused = b.0.0; epoch = c.0.0; ring = record { 0 = k.0 } }, k.1)) (x, s) c.2 in
-    let t0 = number_takes w16 (2 ^ 16) member_number (λ n. n) _ r a.0.0 a.0.1 wide16 (within_rule (2 ^ 16) 0 1023 (lit< tt)) fits a.1 in
-    let t1 = number_takes w16 (2 ^ 16) member_number (λ n. n) _ a.0.1 b.0.0 b.0.1 wide16 (within_rule (2 ^ 16) 0 1023 (lit< tt)) t0.0.fits b.1 in
+    let t0 = number_takes w16 (2 ^ 16) member_number (λ n. n) _ r a.0.0 a.0.1 wide16 (within_rule (2 ^ 16) 0 LAST_MEMBER (lit< tt)) fits a.1 in
+    let t1 = number_takes w16 (2 ^ 16) member_number (λ n. n) _ a.0.1 b.0.0 b.0.1 wide16 (within_rule (2 ^ 16) 0 LAST_MEMBER (lit< tt)) t0.0.fits b.1 in
     let t2 = number_takes w64 (2 ^ 64) nonzero (λ n. n) _ b.0.1 c.0.0 c.0.1 wide64 (nonzero_rule (2 ^ 64)) t1.0.fits c.1 in
     let t3 = byte_takes any_number c.0.1 d.0.0 d.0.1 t2.0.fits d.1 in
     let ring = subst (λ (k : ℕ). Takes c.0.1 (k ∷ []) d.0.1) (some_is t3.0 d.0.0 t3.1) t3.2 in
@@ -123,9 +124,9 @@ accusation_again : (a : AccBody) → IsAccusation a → Again accusation_at a (a
 unfolding accusation_at accusation_fields
 accusation_again a good =
     then_again (number_at w16 member_number) (λ m r. number_at w16 member_number r >>= λ d. number_at w64 nonzero d.1 >>= λ e. byte_at any_number e.1 >>= λ k. Ok (record { accuser = m; accused = d.0; epoch = e.0; ring = record { 0 = k.0 } }, k.1)) a.accuser a _ _
-    (number_again w16 (2 ^ 16) member_number (λ n. n) _ a.accuser wide16 (within_rule (2 ^ 16) 0 1023 (lit< tt)) (omega arith, omega (arith, good.accuser_number)))
+    (number_again w16 (2 ^ 16) member_number (λ n. n) _ a.accuser wide16 (within_rule (2 ^ 16) 0 LAST_MEMBER (lit< tt)) (omega arith, omega (arith, good.accuser_number)))
     (then_again (number_at w16 member_number) (λ d r. number_at w64 nonzero r >>= λ e. byte_at any_number e.1 >>= λ k. Ok (record { accuser = a.accuser; accused = d; epoch = e.0; ring = record { 0 = k.0 } }, k.1)) a.accused a _ _
-    (number_again w16 (2 ^ 16) member_number (λ n. n) _ a.accused wide16 (within_rule (2 ^ 16) 0 1023 (lit< tt)) (omega arith, omega (arith, good.accused_number)))
+    (number_again w16 (2 ^ 16) member_number (λ n. n) _ a.accused wide16 (within_rule (2 ^ 16) 0 LAST_MEMBER (lit< tt)) (omega arith, omega (arith, good.accused_number)))
     (then_again (number_at w64 nonzero) (λ e r. byte_at any_number r >>= λ k. Ok (record { accuser = a.accuser; accused = a.accused; epoch = e; ring = record { 0 = k.0 } }, k.1)) a.epoch a _ _
     (number_again w64 (2 ^ 64) nonzero (λ n. n) _ a.epoch wide64 (nonzero_rule (2 ^ 64)) (good.has_epoch, good.epoch_fits))
     (map_again (byte_at any_number) (λ k. record { accuser = a.accuser; accused = a.accused; epoch = a.epoch; ring = record { 0 = k } }) a.ring.0 _
@@ -174,7 +175,7 @@ certificate_takes r x s fits e =
     let a = bind_ok (number_at w16 member_number r) (λ m. number_at w16 nonzero m.1 >>= λ p. key_at p.1 >>= λ k. Ok (record { member = m.0; port = p.0; key = k.0 }, k.1)) (x, s) e in
     let b = bind_ok (number_at w16 nonzero a.0.1) (λ p. key_at p.1 >>= λ k. Ok (record { member = a.0.0; port = p.0; key = k.0 }, k.1)) (x, s) a.2 in
     let c = bind_ok (key_at b.0.1) (λ k. Ok (record { member = a.0.0; port = b.0.0; key = k.0 }, k.1)) (x, s) b.2 in
-    let t0 = number_takes w16 (2 ^ 16) member_number (λ n. n) _ r a.0.0 a.0.1 wide16 (within_rule (2 ^ 16) 0 1023 (lit< tt)) fits a.1 in
+    let t0 = number_takes w16 (2 ^ 16) member_number (λ n. n) _ r a.0.0 a.0.1 wide16 (within_rule (2 ^ 16) 0 LAST_MEMBER (lit< tt)) fits a.1 in
     let t1 = number_takes w16 (2 ^ 16) nonzero (λ n. n) _ a.0.1 b.0.0 b.0.1 wide16 (nonzero_rule (2 ^ 16)) t0.0.fits b.1 in
     let t2 = key_takes b.0.1 c.0.0 c.0.1 t1.0.fits c.1 in
     let made : CertBody × Reading = (record { member = a.0.0; port = b.0.0; key = c.0.0 }, c.0.1) in
@@ -185,7 +186,7 @@ certificate_again : (c : CertBody) → IsCertificate c → Again certificate_at 
 unfolding certificate_at certificate_fields
 certificate_again c good =
     then_again (number_at w16 member_number) (λ m r. number_at w16 nonzero r >>= λ p. key_at p.1 >>= λ k. Ok (record { member = m; port = p.0; key = k.0 }, k.1)) c.member c _ _
-    (number_again w16 (2 ^ 16) member_number (λ n. n) _ c.member wide16 (within_rule (2 ^ 16) 0 1023 (lit< tt)) (omega arith, omega (arith, good.member_number)))
+    (number_again w16 (2 ^ 16) member_number (λ n. n) _ c.member wide16 (within_rule (2 ^ 16) 0 LAST_MEMBER (lit< tt)) (omega arith, omega (arith, good.member_number)))
     (then_again (number_at w16 nonzero) (λ p r. key_at r >>= λ k. Ok (record { member = c.member; port = p; key = k.0 }, k.1)) c.port c _ _
     (number_again w16 (2 ^ 16) nonzero (λ n. n) _ c.port wide16 (nonzero_rule (2 ^ 16)) (good.has_port, good.port_fits))
     (map_again key_at (λ k. record { member = c.member; port = c.port; key = k }) c.key _ (key_again c.key (record { id_long = good.id_long; root_long = good.root_long }))))

@@ -2,6 +2,7 @@
 -- the first byte of the first field that is cut short or breaks its rule.
 use Rattle.std.specs.Prelude.{◌≡◌, ℕ, ◌&&◌, ◌==◌, nat_lt, nat_le, if◌then◌else◌, List, length, take, slice_index, Option, Some, None, Result, Ok, Err, IsOk, IsOkAnd}
 use Rattle.std.specs.Int.{Width, w16, w32, w64, byte_len, from_be_bytes}
+use Rattle.ff_ids.specs.declared.TheConstants.{LAST_MEMBER}
 use Rattle.fields.specs.Reading.{Reading, advanced}
 use Rattle.ff_ids.specs.declared.NoteBody.{NoteBody}
 use Rattle.ff_ids.specs.declared.AccBody.{AccBody}
@@ -50,7 +51,7 @@ abbrev pub number_within : ℕ → ℕ → ℕ → Option ℕ
 number_within least most n = if nat_le least n && nat_le n most then Some n else None
 
 abbrev pub member_number : ℕ → Option ℕ
-member_number n = number_within 0 1023 n
+member_number n = number_within 0 LAST_MEMBER n
 
 abbrev pub nonzero : ℕ → Option ℕ
 nonzero n = if n == 0 then None else Some n

@@ -1,6 +1,7 @@
 -- Records as bytes: the one spelling of each, and what has a spelling. Numbers are big-endian.
 use Rattle.std.specs.Prelude.{◌≡◌, ℕ, ◌^◌, ◌<◌, ◌≤◌, List, [], ◌∷◌, ◌++◌, length}
 use Rattle.std.specs.Int.{w16, w32, w64, to_be_bytes}
+use Rattle.ff_ids.specs.declared.TheConstants.{MEMBERS, MASK_BITS}
 use Rattle.ff_ids.specs.declared.NoteBody.{NoteBody}
 use Rattle.ff_ids.specs.declared.AccBody.{AccBody}
 use Rattle.lms_tree.specs.Lms.{key_bytes}
@@ -34,21 +35,21 @@ record_bytes r = body_bytes r.body ++ (to_be_bytes w16 (length r.signature) ++ r
 -- ---- what has a spelling
 
 pub record IsCertificate (c : CertBody) : Type 0 where
-  pub member_number : c.member < 1024
+  pub member_number : c.member < MEMBERS
   pub has_port : 0 < c.port
   pub port_fits : c.port < 2 ^ 16
   pub id_long : length c.key.id ≡ 16
   pub root_long : length c.key.root ≡ 32
 
 pub record IsNote (n : NoteBody) : Type 0 where
-  pub member_number : n.member < 1024
+  pub member_number : n.member < MEMBERS
   pub has_epoch : 0 < n.epoch
   pub epoch_fits : n.epoch < 2 ^ 64
-  pub mask_fits : n.mask.0 < 2 ^ 32
+  pub mask_fits : n.mask.0 < 2 ^ MASK_BITS
 
 pub record IsAccusation (a : AccBody) : Type 0 where
-  pub accuser_number : a.accuser < 1024
-  pub accused_number : a.accused < 1024
+  pub accuser_number : a.accuser < MEMBERS
+  pub accused_number : a.accused < MEMBERS
   pub has_epoch : 0 < a.epoch
   pub epoch_fits : a.epoch < 2 ^ 64
 

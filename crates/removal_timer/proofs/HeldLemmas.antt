@@ -10,6 +10,7 @@ use Rattle.std.proofs.Math.Bool.{and-true, or-false}
 use Rattle.std.proofs.lemmas.List.Filters.{length-filter_both}
 use Rattle.std.proofs.lemmas.Bool.Decides.{nat_tests}
 use Rattle.std.proofs.lemmas.List.Folds.{list_any-append}
+use Rattle.ff_ids.specs.declared.TheConstants.{MAX_RINGS}
 use Rattle.ff_ids.specs.declared.AccBody.{AccBody}
 use Rattle.std.specs.List.Sorted.{IsPermutation}
 use Rattle.std.proofs.lemmas.List.{append-nil, append_assoc}
@@ -241,7 +242,7 @@ pub record IsSet (slots : Slots) (order : List ℕ) (n : ℕ) (p : Entry) : Type
   pub queued : AreQueued (set slots n (Some p)) (order ++ n ∷ [])
   pub entries : entries_in (set slots n (Some p)) ≡ with_kept p (entries_in slots)
 
-pub IsSet-free : (slots : Slots) (order : List ℕ) (n : ℕ) (p : Entry) → AreQueued slots order → n ≡ pair_number p.0.accused p.0.ring.0 → n < END → p.0.ring.0 < 31 → entry_at p.0.accused p.0.ring.0 (entries_in slots) ≡ None → AreUntil p.1 (entries_in slots) → IsSet slots order n p
+pub IsSet-free : (slots : Slots) (order : List ℕ) (n : ℕ) (p : Entry) → AreQueued slots order → n ≡ pair_number p.0.accused p.0.ring.0 → n < END → p.0.ring.0 < MAX_RINGS → entry_at p.0.accused p.0.ring.0 (entries_in slots) ≡ None → AreUntil p.1 (entries_in slots) → IsSet slots order n p
 IsSet-free slots order n p h number low ring free until =
     let at = entry_at-slot p.0.accused p.0.ring.0 slots h.own ring in
     let empty : get_or slots n None ≡ None = ap (λ k. get_or slots k None) number ∙ sym at ∙ free in
@@ -253,9 +254,9 @@ IsSet-free slots order n p h number low ring free until =
     }
 
 -- the same, where the timers are seen whole
-pub IsSet-of : (rings timeout : ℕ) (slots : Slots) (order : List ℕ) (k : Kept) (n : ℕ) (p : Entry) → IsHeld rings slots order → record { rings = rings; timeout = timeout; entries = entries_in slots } ≡ k → n ≡ pair_number p.0.accused p.0.ring.0 → (p.0.ring.0 < 31 → n < END) → entry_at p.0.accused p.0.ring.0 k.entries ≡ None → p.0.ring.0 < k.rings → AreUntil p.1 k.entries → IsSet slots order n p
+pub IsSet-of : (rings timeout : ℕ) (slots : Slots) (order : List ℕ) (k : Kept) (n : ℕ) (p : Entry) → IsHeld rings slots order → record { rings = rings; timeout = timeout; entries = entries_in slots } ≡ k → n ≡ pair_number p.0.accused p.0.ring.0 → (p.0.ring.0 < MAX_RINGS → n < END) → entry_at p.0.accused p.0.ring.0 k.entries ≡ None → p.0.ring.0 < k.rings → AreUntil p.1 k.entries → IsSet slots order n p
 IsSet-of rings timeout slots order k n p held view number low free within until =
-    let ring : p.0.ring.0 < 31 = omega (arith, within, ap (λ (k : Kept). k.rings) view, held.few) in
+    let ring : p.0.ring.0 < MAX_RINGS = omega (arith, within, ap (λ (k : Kept). k.rings) view, held.few) in
     IsSet-free slots order n p held.queued number (low ring) ring (ap (λ (k : Kept). entry_at p.0.accused p.0.ring.0 k.entries) view ∙ free) (subst (λ (k : Kept). AreUntil p.1 k.entries) (sym view) until)
 
 -- the entries that were due are taken one after another

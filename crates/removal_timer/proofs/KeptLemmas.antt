@@ -3,15 +3,16 @@ use Rattle.std.proofs.Common.{◌≡◌, ℕ, suc, ◌+◌, ◌*◌, ◌<◌, �
 use Rattle.std.specs.List.{AllByRecursion, insert, prefix_len}
 use Rattle.std.proofs.lemmas.Bool.{cond_both}
 use Rattle.std.proofs.lemmas.Bool.Decides.{nat_tests}
+use Rattle.ff_ids.specs.declared.TheConstants.{MAX_RINGS, MEMBERS, MAX_ACCUSATIONS}
 use Rattle.ff_ids.specs.declared.AccBody.{AccBody}
 use Rattle.ff_ids.specs.Steps.{comes_first, with_kept}
 use Rattle.removal_timer.specs.Kept.{is_at, entry_at, IsInOrder}
 
 -- where an accusation comes among all pairs of an accused and a ring
 abbrev pub order_of : AccBody → ℕ
-order_of a = 31 * a.accused + a.ring.0
+order_of a = MAX_RINGS * a.accused + a.ring.0
 
-pub order_of-below : (a b : AccBody) → a.ring.0 < 31 → comes_first a b ≡ true → order_of a + 1 ≤ order_of b
+pub order_of-below : (a b : AccBody) → a.ring.0 < MAX_RINGS → comes_first a b ≡ true → order_of a + 1 ≤ order_of b
 order_of-below a b low e = grind (arith, nat_tests)
 
 pub comes_first-trans : (a b c : AccBody) → comes_first a b ≡ true → comes_first b c ≡ true → comes_first a c ≡ true
@@ -78,7 +79,7 @@ none-cons p q xs =
       | false ↦ λ e. (refl, e)
     ]
 
-pub IsInOrder-with_kept : (rings : ℕ) (p : AccBody × ℕ) (xs : List (AccBody × ℕ)) → entry_at p.0.accused p.0.ring.0 xs ≡ None → p.0.accused < 1024 → p.0.ring.0 < rings → IsInOrder rings xs → IsInOrder rings (with_kept p xs)
+pub IsInOrder-with_kept : (rings : ℕ) (p : AccBody × ℕ) (xs : List (AccBody × ℕ)) → entry_at p.0.accused p.0.ring.0 xs ≡ None → p.0.accused < MEMBERS → p.0.ring.0 < rings → IsInOrder rings xs → IsInOrder rings (with_kept p xs)
 IsInOrder-with_kept rings p [] free member ring h = (member, ring, tt, tt)
 IsInOrder-with_kept rings p (q ∷ xs) free member ring h =
     let none = none-cons p q xs free in
@@ -89,15 +90,15 @@ IsInOrder-with_kept rings p (q ∷ xs) free member ring h =
     cond_both (comes_first q.0 p.0) (q ∷ with_kept p xs) (p ∷ q ∷ xs) (IsInOrder rings) yes no
 
 -- the rest of the pairs bounds the rest of the entries
-length_from : (low rings : ℕ) (xs : List (AccBody × ℕ)) → rings ≤ 31 → low ≤ 31744 → IsInOrder rings xs → AllByRecursion (λ q. low ≤ order_of q.0) xs → low + length xs ≤ 31744
+length_from : (low rings : ℕ) (xs : List (AccBody × ℕ)) → rings ≤ MAX_RINGS → low ≤ MAX_ACCUSATIONS → IsInOrder rings xs → AllByRecursion (λ q. low ≤ order_of q.0) xs → low + length xs ≤ MAX_ACCUSATIONS
 length_from low rings [] few within h from = omega arith
 length_from low rings (p ∷ xs) few within h from =
-    let small : p.0.ring.0 < 31 = omega arith in
+    let small : p.0.ring.0 < MAX_RINGS = omega arith in
     let later = length_from (order_of p.0 + 1) rings xs few (omega arith) h.3 (All-weaker _ _ (λ q e. order_of-below p.0 q.0 small e) xs h.2) in
     omega arith
 
 -- there are no more entries than pairs
-pub length-in_order : (rings : ℕ) (xs : List (AccBody × ℕ)) → rings ≤ 31 → IsInOrder rings xs → length xs ≤ 31744
+pub length-in_order : (rings : ℕ) (xs : List (AccBody × ℕ)) → rings ≤ MAX_RINGS → IsInOrder rings xs → length xs ≤ MAX_ACCUSATIONS
 length-in_order rings xs few h =
     let all = length_from 0 rings xs few (omega arith) h (All-low xs) in
     omega arith

@@ -6,6 +6,7 @@ use Rattle.std.specs.List.Sorted.{IsPermutation}
 use Rattle.std.proofs.lemmas.Bool.{true≢false}
 use Rattle.std.proofs.lemmas.Bool.Decides.{nat_tests}
 use Rattle.std.proofs.lemmas.List.Sorted.{IsPermutation-refl, IsPermutation-cons, IsPermutation-trans, IsPermutation-middle}
+use Rattle.ff_ids.specs.declared.TheConstants.{MAX_RINGS}
 use Rattle.ff_ids.specs.declared.AccBody.{AccBody}
 use Rattle.ff_ids.specs.Steps.{comes_first, with_kept}
 use Rattle.removal_timer.specs.Kept.{is_at, entry_at, entries_in, pair_number, IsOwn, AreRising}
@@ -32,7 +33,7 @@ first_own low p slots h = subst (λ k. IsOwn k p) (omega arith) (h 0)
 
 -- it is in no earlier slot
 record IsFrom (low : ℕ) (p : Entry) : Type 0 where
-  ring : p.0.ring.0 < 31
+  ring : p.0.ring.0 < MAX_RINGS
   number : low ≤ pair_number p.0.accused p.0.ring.0
 
 All-from : (low : ℕ) (slots : Slots) → OwnFrom low slots → AllByRecursion (IsFrom low) (entries_in slots)
@@ -87,13 +88,13 @@ not_there a r (p ∷ xs) h =
     let rest = not_there a r xs h.1 in
     (rw h.0 rest.0, rw h.0 (ap (λ ys. p ∷ ys) rest.1))
 
-other_own : (low n a r : ℕ) (p : Entry) → r < 31 → pair_number a r ≡ low + suc n → IsOwn low p → is_at a r p ≡ false
+other_own : (low n a r : ℕ) (p : Entry) → r < MAX_RINGS → pair_number a r ≡ low + suc n → IsOwn low p → is_at a r p ≡ false
 other_own low n a r p ring number own = grind (arith, nat_tests, own.ring, own.number)
 
-other_from : (low a r : ℕ) (p : Entry) → r < 31 → pair_number a r ≡ low + 0 → IsFrom (low + 1) p → is_at a r p ≡ false
+other_from : (low a r : ℕ) (p : Entry) → r < MAX_RINGS → pair_number a r ≡ low + 0 → IsFrom (low + 1) p → is_at a r p ≡ false
 other_from low a r p ring number from = grind (arith, nat_tests, from.ring, from.number)
 
-same_own : (low a r : ℕ) (p : Entry) → r < 31 → pair_number a r ≡ low + 0 → IsOwn low p → is_at a r p ≡ true
+same_own : (low a r : ℕ) (p : Entry) → r < MAX_RINGS → pair_number a r ≡ low + 0 → IsOwn low p → is_at a r p ≡ true
 same_own low a r p ring number own = grind (arith, nat_tests, own.ring, own.number)
 
 -- what stands there is in its slot, and without it the slot is empty
@@ -101,7 +102,7 @@ record IsSlot (a r n : ℕ) (slots : Slots) : Type 0 where
   found : entry_at a r (entries_in slots) ≡ get_or slots n None
   emptied : entries_in (set slots n None) ≡ filter (λ p. not (is_at a r p)) (entries_in slots)
 
-slot_from : (low a r : ℕ) (slots : Slots) (n : ℕ) → OwnFrom low slots → r < 31 → pair_number a r ≡ low + n → IsSlot a r n slots
+slot_from : (low a r : ℕ) (slots : Slots) (n : ℕ) → OwnFrom low slots → r < MAX_RINGS → pair_number a r ≡ low + n → IsSlot a r n slots
 slot_from low a r [] n h ring number = record { found = refl; emptied = refl }
 slot_from low a r (None ∷ slots) zero h ring number =
     let rest = All-from (low + 1) slots (later low None slots h) in
@@ -120,20 +121,20 @@ slot_from low a r (Some q ∷ slots) (suc n) h ring number =
     let rest = slot_from (low + 1) a r slots n (later low (Some q) slots h) ring (number ∙ next_number low n) in
     record { found = rw other rest.found; emptied = rw other (ap (λ xs. q ∷ xs) rest.emptied) }
 
-slot_of : (a r : ℕ) (slots : Slots) → ((n : ℕ) → IfSome (get_or slots n None) (IsOwn n)) → r < 31 → IsSlot a r (pair_number a r) slots
+slot_of : (a r : ℕ) (slots : Slots) → ((n : ℕ) → IfSome (get_or slots n None) (IsOwn n)) → r < MAX_RINGS → IsSlot a r (pair_number a r) slots
 slot_of a r slots h ring = slot_from 0 a r slots (pair_number a r) (from_zero slots h) ring (omega arith)
 
-pub entry_at-slot : (a r : ℕ) (slots : Slots) → ((n : ℕ) → IfSome (get_or slots n None) (IsOwn n)) → r < 31 → entry_at a r (entries_in slots) ≡ get_or slots (pair_number a r) None
+pub entry_at-slot : (a r : ℕ) (slots : Slots) → ((n : ℕ) → IfSome (get_or slots n None) (IsOwn n)) → r < MAX_RINGS → entry_at a r (entries_in slots) ≡ get_or slots (pair_number a r) None
 entry_at-slot a r slots h ring = (slot_of a r slots h ring).found
 
-pub entries_in-emptied : (a r : ℕ) (slots : Slots) → ((n : ℕ) → IfSome (get_or slots n None) (IsOwn n)) → r < 31 → entries_in (set slots (pair_number a r) None) ≡ filter (λ p. not (is_at a r p)) (entries_in slots)
+pub entries_in-emptied : (a r : ℕ) (slots : Slots) → ((n : ℕ) → IfSome (get_or slots n None) (IsOwn n)) → r < MAX_RINGS → entries_in (set slots (pair_number a r) None) ≡ filter (λ p. not (is_at a r p)) (entries_in slots)
 entries_in-emptied a r slots h ring = (slot_of a r slots h ring).emptied
 
-no_ring : (a r : ℕ) (p : Entry) → 31 ≤ r → IsFrom 0 p → is_at a r p ≡ false
+no_ring : (a r : ℕ) (p : Entry) → MAX_RINGS ≤ r → IsFrom 0 p → is_at a r p ≡ false
 no_ring a r p past from = grind (arith, nat_tests, from.ring)
 
 -- on a ring that no group has nothing stands
-pub nothing_at : (a r : ℕ) (slots : Slots) → ((n : ℕ) → IfSome (get_or slots n None) (IsOwn n)) → 31 ≤ r → (entry_at a r (entries_in slots) ≡ None) × (filter (λ p. not (is_at a r p)) (entries_in slots) ≡ entries_in slots)
+pub nothing_at : (a r : ℕ) (slots : Slots) → ((n : ℕ) → IfSome (get_or slots n None) (IsOwn n)) → MAX_RINGS ≤ r → (entry_at a r (entries_in slots) ≡ None) × (filter (λ p. not (is_at a r p)) (entries_in slots) ≡ entries_in slots)
 nothing_at a r slots h past =
     not_there a r (entries_in slots) (All-weaker (IsFrom 0) (λ p. is_at a r p ≡ false) (λ p from. no_ring a r p past from) (entries_in slots) (All-from 0 slots (from_zero slots h)))
 

@@ -3,6 +3,7 @@ use Rattle.std.specs.Prelude.{◌≡◌, ℕ, ◌+◌, ◌*◌, ◌<◌, ◌≤�
 use Rattle.std.specs.List.{AllByRecursion}
 use Rattle.std.specs.List.Sorted.{IsPermutation}
 use Rattle.std.specs.Option.{option_map_or}
+use Rattle.ff_ids.specs.declared.TheConstants.{MAX_RINGS, MEMBERS}
 use Rattle.ff_ids.specs.declared.AccBody.{AccBody}
 use Rattle.ff_ids.specs.Steps.{comes_first}
 use Rattle.removal_timer.specs.declared.queue.TheConstants.{END}
@@ -27,7 +28,7 @@ entry_at accused ring entries = find (is_at accused ring) entries
 -- one member on one ring.
 abbrev pub IsInOrder : ℕ → List (AccBody × ℕ) → Type 0
 IsInOrder rings [] = Unit {0}
-IsInOrder rings (p ∷ entries) = (p.0.accused < 1024) × (p.0.ring.0 < rings) × AllByRecursion (λ q. comes_first p.0 q.0 ≡ true) entries × IsInOrder rings entries
+IsInOrder rings (p ∷ entries) = (p.0.accused < MEMBERS) × (p.0.ring.0 < rings) × AllByRecursion (λ q. comes_first p.0 q.0 ≡ true) entries × IsInOrder rings entries
 
 -- None of them stands since later than this tick.
 abbrev pub AreUntil : ℕ → List (AccBody × ℕ) → Type 0
@@ -41,7 +42,7 @@ pub record HasGained (before after gained : List AccBody) : Type 0 where
 
 -- The number of a member and a ring among all pairs of them.
 abbrev pub pair_number : ℕ → ℕ → ℕ
-pair_number accused ring = 31 * accused + ring
+pair_number accused ring = MAX_RINGS * accused + ring
 
 -- Each comes before all later ones by its number.
 abbrev pub AreRising : List AccBody → Type 0
@@ -63,7 +64,7 @@ since_at slots n = option_map_or (λ p. p.1) (slot_at slots n) 0
 
 -- The entry is in the slot of its member and ring.
 pub record IsOwn (n : ℕ) (p : AccBody × ℕ) : Type 0 where
-  pub ring : p.0.ring.0 < 31
+  pub ring : p.0.ring.0 < MAX_RINGS
   pub number : pair_number p.0.accused p.0.ring.0 ≡ n
 
 -- None stands since later than those behind it.
@@ -80,5 +81,5 @@ pub record AreQueued (slots : List (Option (AccBody × ℕ))) (order : List ℕ)
   pub in_time : AreInTime slots order
 
 pub record IsHeld (rings : ℕ) (slots : List (Option (AccBody × ℕ))) (order : List ℕ) : Type 0 where
-  pub few : rings ≤ 31
+  pub few : rings ≤ MAX_RINGS
   pub queued : AreQueued slots order

@@ -6,6 +6,7 @@
 ghost use Rattle.std.specs.Prelude.{◌≡◌, ℕ, ◌+◌, ◌*◌, ◌<◌, ◌≤◌, true, false, [], ◌++◌, ◌==◌, not, IfOk, IfSome, IsNone, None, Some, is_some, List, length, filter, map, vec_len, vec_capacity, slice_set};
 ghost use Rattle.std.specs.Bool.{OnTrue};
 ghost use Rattle.std.specs.List.Sorted.{IsPermutation};
+ghost use Rattle.ff_ids.specs.declared.TheConstants.{MAX_RINGS, MAX_TOLERANCE};
 ghost use Rattle.ff_ids.specs.declared.AccBody.{AccBody as Accusation};
 ghost use Rattle.ff_ids.specs.Masks.{ring_count};
 ghost use Rattle.ff_ids.specs.Steps.{is_due, with_kept};
@@ -14,14 +15,11 @@ ghost use Rattle.removal_timer.specs.Queue.{is_queued, without};
 
 mod queue;
 
-use ff_ids::{AccBody, Group, MemberId, RingNo};
+use ff_ids::{AccBody, Group, MAX_RINGS, MemberId, RingNo};
 use fields::NoMemory;
 use queue::{END, Queue};
 use std::alloc::Global;
 use std::marker::Model;
-
-/// How many rings a group has at most.
-const RINGS: u8 = 31;
 
 /// An accusation, and the tick since when it stands.
 type Entry = (AccBody, u64);
@@ -52,9 +50,9 @@ impl Model for Timers {
 /// The number of the member and the ring among all pairs of them.
 fn number_of(accused: MemberId, ring: RingNo) -> u16
     ensures value { result ≡ pair_number accused ring.0 }
-    ensures range { ring.0 < RINGS → result < END }
+    ensures range { ring.0 < MAX_RINGS → result < END }
 {
-    31 * accused.get() + u16::from(ring.0)
+    u16::from(MAX_RINGS) * accused.get() + u16::from(ring.0)
 }
 
 fn is_due(entry: &Entry, timeout: u32, now: u64) -> bool
@@ -145,7 +143,7 @@ fn sort_behind(out: &mut Vec<AccBody>, from: usize)
 impl Timers {
     /// Nothing stands. Takes the room for all entries that a group can have.
     pub fn open(alloc: Global, group: &Group) -> Result<Timers, NoMemory>
-        requires { group.now.t ≤ 15 }
+        requires { group.now.t ≤ MAX_TOLERANCE }
         ensures { IfOk result (λ x. x ≡ record { rings = ring_count group.now.t; timeout = group.now.timeout; entries = [] }) }
     {
         let mut slots = Vec::with_capacity(alloc, END as usize)?;
@@ -176,7 +174,7 @@ impl Timers {
     pub fn clear(&mut self, accused: MemberId, ring: RingNo)
         ensures { self.new ≡ record self.old { entries = filter (λ p. not (is_at accused ring.0 p)) self.old.entries } }
     {
-        if ring.0 < RINGS {
+        if ring.0 < MAX_RINGS {
             take_out(&mut self.slots, &mut self.queue, number_of(accused, ring));
         }
     }
@@ -213,7 +211,7 @@ impl Timers {
     pub fn standing(&self, accused: MemberId, ring: RingNo) -> Option<(AccBody, u64)>
         ensures { result ≡ entry_at accused ring.0 self.now.entries }
     {
-        if ring.0 < RINGS {
+        if ring.0 < MAX_RINGS {
             self.slots[number_of(accused, ring) as usize]
         } else {
             None

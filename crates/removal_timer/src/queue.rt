@@ -3,11 +3,12 @@
 ghost use Rattle.std.specs.Prelude.{◌≡◌, ℕ, ◌<◌, true, false, [], ◌∷◌, ◌++◌, ◌==◌, IfOk, IfSome, if◌then◌else◌, length};
 ghost use Rattle.removal_timer.specs.Queue.{first_number, is_queued, without, next_at, previous_at};
 
+use ff_ids::MAX_ACCUSATIONS;
 use std::alloc::{AllocError, Global};
 use std::marker::Model;
 
 /// Each number is below this one, which stands for the end.
-pub const END: u16 = 1024 * 31;
+pub const END: u16 = MAX_ACCUSATIONS;
 
 /// The number before, and the number behind.
 #[derive(Clone, Copy)]

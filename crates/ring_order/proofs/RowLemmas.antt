@@ -7,6 +7,7 @@ use Rattle.std.specs.List.{list_all}
 use Rattle.std.proofs.lemmas.Slice.Eq.{bytes_eq-Decides}
 use Rattle.std.proofs.lemmas.List.Folds.{list_all_at}
 use Rattle.std.proofs.lemmas.List.{map-set, get_or-map, get_or-take, length-take}
+use Rattle.ff_ids.specs.declared.TheConstants.{MAX_RINGS}
 use Rattle.ring_order.specs.Rows.{place_of_number, tail_of, is_plain, kept_of, filled, unused, unused_row}
 
 -- the first of the unused rows
@@ -15,22 +16,22 @@ unfolding unused
 unused-suc n = refl
 
 -- one more row
-pub filled-push : (used rows : List (List ℕ)) (count : ℕ) (row : List ℕ) → filled used ≡ (rows, count) → count < 31 → filled (used ++ row ∷ []) ≡ (set rows count row, count + 1)
+pub filled-push : (used rows : List (List ℕ)) (count : ℕ) (row : List ℕ) → filled used ≡ (rows, count) → count < MAX_RINGS → filled (used ++ row ∷ []) ≡ (set rows count row, count + 1)
 filled-push used rows count row h below =
-    let same_rows : used ++ unused (31 - length used) ≡ rows = ap (λ (p : List (List ℕ) × ℕ). p.0) h in
+    let same_rows : used ++ unused (MAX_RINGS - length used) ≡ rows = ap (λ (p : List (List ℕ) × ℕ). p.0) h in
     let same_count : length used ≡ count = ap (λ (p : List (List ℕ) × ℕ). p.1) h in
     let more : length (used ++ row ∷ []) ≡ count + 1 = omega (arith, length-append used (row ∷ [])) in
-    let left : 31 - length used ≡ suc (30 - count) = omega arith in
-    let left_then : 31 - length (used ++ row ∷ []) ≡ 30 - count = omega arith in
-    let before : used ++ unused_row ∷ unused (30 - count) ≡ rows = rw (← unused-suc (30 - count), ← left) same_rows in
-    let after : set rows count row ≡ used ++ row ∷ unused (30 - count) = rw (← before, ← same_count) (set-append_seam used unused_row (unused (30 - length used)) row) in
+    let left : MAX_RINGS - length used ≡ suc (MAX_RINGS - 1 - count) = omega arith in
+    let left_then : MAX_RINGS - length (used ++ row ∷ []) ≡ MAX_RINGS - 1 - count = omega arith in
+    let before : used ++ unused_row ∷ unused (MAX_RINGS - 1 - count) ≡ rows = rw (← unused-suc (MAX_RINGS - 1 - count), ← left) same_rows in
+    let after : set rows count row ≡ used ++ row ∷ unused (MAX_RINGS - 1 - count) = rw (← before, ← same_count) (set-append_seam used unused_row (unused (MAX_RINGS - 1 - length used)) row) in
     rw (left_then, more, after, append_assoc) refl
 
 -- a row written over the first unused one
-pub filled-set : (rows used : List (List ℕ)) (count : ℕ) (row : List ℕ) → filled (take count rows) ≡ (rows, count) → take count rows ≡ used → length rows ≡ 31 → length used < 31 → filled (take (count + 1) (set rows count row)) ≡ (set rows count row, count + 1)
+pub filled-set : (rows used : List (List ℕ)) (count : ℕ) (row : List ℕ) → filled (take count rows) ≡ (rows, count) → take count rows ≡ used → length rows ≡ MAX_RINGS → length used < MAX_RINGS → filled (take (count + 1) (set rows count row)) ≡ (set rows count row, count + 1)
 filled-set rows used count row h view len room =
     let same_count : length (take count rows) ≡ count = ap (λ (p : List (List ℕ) × ℕ). p.1) h in
-    let below : count < 31 = omega (arith, ap length view) in
+    let below : count < MAX_RINGS = omega (arith, ap length view) in
     let inside : count < length rows = omega arith in
     rw (take-set_at rows count (count + 1) row refl inside) (filled-push (take count rows) rows count row h below)
 
@@ -50,16 +51,16 @@ unfolding unused_row is_plain
 unused_plain = refl
 
 -- a row over an unused one
-all_plain-set : (used rows : List (List ℕ)) (count : ℕ) (row : List ℕ) → filled used ≡ (rows, count) → count < 31 → list_all is_plain (set rows count row) ≡ (list_all is_plain rows && is_plain row)
+all_plain-set : (used rows : List (List ℕ)) (count : ℕ) (row : List ℕ) → filled used ≡ (rows, count) → count < MAX_RINGS → list_all is_plain (set rows count row) ≡ (list_all is_plain rows && is_plain row)
 all_plain-set used rows count row h below =
-    let same_rows : used ++ unused (31 - length used) ≡ rows = ap (λ (p : List (List ℕ) × ℕ). p.0) h in
+    let same_rows : used ++ unused (MAX_RINGS - length used) ≡ rows = ap (λ (p : List (List ℕ) × ℕ). p.0) h in
     let same_count : length used ≡ count = ap (λ (p : List (List ℕ) × ℕ). p.1) h in
-    let left : 31 - length used ≡ suc (30 - count) = omega arith in
-    let before : used ++ unused_row ∷ unused (30 - count) ≡ rows = rw (← unused-suc (30 - count), ← left) same_rows in
-    let after : set rows count row ≡ used ++ row ∷ unused (30 - count) = rw (← before, ← same_count) (set-append_seam used unused_row (unused (30 - length used)) row) in
-    let rest = list_all is_plain (used ++ unused (30 - count)) in
-    let all : list_all is_plain rows ≡ rest = ap (list_all is_plain) (sym before) ∙ all_plain-middle used (unused (30 - count)) unused_row ∙ ap (λ b. b && rest) unused_plain in
-    ap (list_all is_plain) after ∙ all_plain-middle used (unused (30 - count)) row ∙ swapped (is_plain row) rest ∙ ap (λ b. b && is_plain row) (sym all)
+    let left : MAX_RINGS - length used ≡ suc (MAX_RINGS - 1 - count) = omega arith in
+    let before : used ++ unused_row ∷ unused (MAX_RINGS - 1 - count) ≡ rows = rw (← unused-suc (MAX_RINGS - 1 - count), ← left) same_rows in
+    let after : set rows count row ≡ used ++ row ∷ unused (MAX_RINGS - 1 - count) = rw (← before, ← same_count) (set-append_seam used unused_row (unused (MAX_RINGS - 1 - length used)) row) in
+    let rest = list_all is_plain (used ++ unused (MAX_RINGS - 1 - count)) in
+    let all : list_all is_plain rows ≡ rest = ap (list_all is_plain) (sym before) ∙ all_plain-middle used (unused (MAX_RINGS - 1 - count)) unused_row ∙ ap (λ b. b && rest) unused_plain in
+    ap (list_all is_plain) after ∙ all_plain-middle used (unused (MAX_RINGS - 1 - count)) row ∙ swapped (is_plain row) rest ∙ ap (λ b. b && is_plain row) (sym all)
   where
     swapped : (a b : Bool) → (a && b) ≡ (b && a)
     swapped true true = refl
@@ -91,11 +92,11 @@ kept_from rows count tails plain h =
     ∙ ap (λ ts. (rows, count, ts, list_all is_plain rows)) (sym h.are_tails) ∙ ap (λ b. (rows, count, tails, b)) (sym h.is_all)
 
 -- one more row
-pub kept-set : (rows used : List (List ℕ)) (count : ℕ) (tails : List ℕ) (plain : Bool) (row : List ℕ) → kept_of (take count rows) ≡ (rows, count, tails, plain) → take count rows ≡ used → length rows ≡ 31 → length used < 31 → kept_of (take (count + 1) (set rows count row)) ≡ (set rows count row, count + 1, set tails count (tail_of row), plain && is_plain row)
+pub kept-set : (rows used : List (List ℕ)) (count : ℕ) (tails : List ℕ) (plain : Bool) (row : List ℕ) → kept_of (take count rows) ≡ (rows, count, tails, plain) → take count rows ≡ used → length rows ≡ MAX_RINGS → length used < MAX_RINGS → kept_of (take (count + 1) (set rows count row)) ≡ (set rows count row, count + 1, set tails count (tail_of row), plain && is_plain row)
 kept-set rows used count tails plain row h view len room =
     let k = IsKept-from rows count tails plain h in
     let same_count : length (take count rows) ≡ count = ap (λ (p : List (List ℕ) × ℕ). p.1) k.is_filled in
-    let below : count < 31 = omega (arith, ap length view, same_count) in
+    let below : count < MAX_RINGS = omega (arith, ap length view, same_count) in
     kept_from (set rows count row) (count + 1) (set tails count (tail_of row)) (plain && is_plain row) (record {
       is_filled = filled-set rows used count row k.is_filled view len room;
       are_tails = ap (λ ts. set ts count (tail_of row)) k.are_tails ∙ sym (map-set tail_of rows count row);

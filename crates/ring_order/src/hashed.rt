@@ -1,6 +1,7 @@
 //! Places that a group's tag and a member's number determine.
 
 ghost use Rattle.std.specs.Prelude.{◌≡◌, ◌≤◌, length};
+ghost use Rattle.ff_ids.specs.declared.TheConstants.{MAX_TOLERANCE};
 ghost use Rattle.ff_ids.specs.Masks.{ring_count};
 ghost use Rattle.ring_order.specs.Hashed.{hashed_place, hashed_places};
 
@@ -24,7 +25,7 @@ fn hash_place(group: &Group, ring: RingNo, member: MemberId) -> [u8; 32]
 /// The member's places in a group whose records are signed. On each ring it is the SHA-256 of `FFRING`, the
 /// group's tag, the ring in one byte and the member in two, the high one first.
 pub fn hash_places(group: &Group, member: MemberId) -> Places
-    requires { group.now.t ≤ 15 }
+    requires { group.now.t ≤ MAX_TOLERANCE }
     ensures places { result ≡ hashed_places group.now.tag group.now.t member }
     ensures rings { length result ≡ ring_count group.now.t }
 {

@@ -3,6 +3,7 @@
 #![tactic(auto)]
 
 ghost use Rattle.std.specs.Prelude.{◌≡◌, ◌<◌, ◌≤◌, ◌+◌, ◌*◌, ◌-◌, [], ◌∷◌, ◌++◌, ◌↔◌, length, map, All, IsNone, IfSome, option_map, get_or};
+ghost use Rattle.ff_ids.specs.declared.TheConstants.{MAX_RINGS};
 ghost use Rattle.ff_ids.specs.Rings.{is_below, cyc, others, nearest_before as number_before, nearest_after as number_after};
 ghost use Rattle.ff_ids.specs.Views.{key_at};
 ghost use Rattle.ring_order.specs.Rows.{place_of_number, is_plain, tail_of};
@@ -12,21 +13,21 @@ mod hashed;
 pub mod laws;
 pub mod steps;
 
-use ff_ids::{MemberId, RingNo};
+use ff_ids::{MAX_RINGS, MemberId, RingNo};
 pub use hashed::hash_places;
 use std::marker::Model;
 use std::sync::ledger::Ledger;
 use steps::Steps;
 
-/// The places of one member, one of 32 bytes on each ring, at most 31. Contracts see the list of them.
+/// The places of one member, one of 32 bytes on each ring, at most `MAX_RINGS`. Contracts see the list of them.
 #[derive(Clone, Copy, Debug, PartialEq, Eq)]
 pub struct Places {
     count: u8,
     /// Whether each place is the one that a number stands for: then their tails say all.
     plain: bool,
     /// The last four bytes of each place, as numbers.
-    tails: [u32; 31],
-    rows: [[u8; 32]; 31],
+    tails: [u32; MAX_RINGS as usize],
+    rows: [[u8; 32]; MAX_RINGS as usize],
 }
 
 impl Model for Places {
@@ -53,14 +54,14 @@ impl Places {
         Places {
             count: 0,
             plain: true,
-            tails: [0; 31],
-            rows: [[0; 32]; 31],
+            tails: [0; MAX_RINGS as usize],
+            rows: [[0; 32]; MAX_RINGS as usize],
         }
     }
 
     /// Appends the place on the next ring.
     fn push(&mut self, place: [u8; 32])
-        requires { length self.old < 31 }
+        requires { length self.old < MAX_RINGS }
         ensures { self.new ≡ self.old ++ place ∷ [] }
     {
         let index = self.count as usize;
@@ -120,7 +121,7 @@ impl Places {
     /// On how many rings the member has a place.
     pub fn rings(&self) -> u8
         ensures value { result ≡ length self.now }
-        ensures range { result ≤ 31 }
+        ensures range { result ≤ MAX_RINGS }
     {
         self.count
     }
@@ -153,7 +154,7 @@ fn place_of(number: u32) -> [u8; 32]
 /// The places that are given as numbers, in the order of the rings: each is the number in the last four
 /// of 32 bytes, the highest byte first, and zeros before.
 pub fn number_places(places: &[u32]) -> Places
-    requires { length places.now ≤ 31 }
+    requires { length places.now ≤ MAX_RINGS }
     ensures { result ≡ map place_of_number places.now }
 {
     let mut all = Places::new();

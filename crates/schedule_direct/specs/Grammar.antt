@@ -2,6 +2,7 @@
 use Rattle.std.specs.Prelude.{◌≡◌, ℕ, ◌+◌, ◌*◌, ◌-◌, ◌^◌, ◌≤◌, IsTrue, List, [], ◌∷◌, length, map, Option, Result, codes}
 use Rattle.std.specs.Fmt.{decimal}
 use Rattle.std.specs.List.{AllByRecursion}
+use Rattle.ff_ids.specs.declared.TheConstants.{LAST_MEMBER, MAX_TOLERANCE, ALL_BITS}
 use Rattle.ff_ids.specs.Masks.{ring_count}
 use Rattle.line_text.specs.declared.bad_word.BadWord.{BadWord}
 use Rattle.line_text.specs.Answers.{Progress, moved, next_line}
@@ -14,7 +15,7 @@ use Rattle.schedule_direct.specs.Rows.{is_body, is_ended, is_headed, is_start, m
 
 -- What holds of each value that a reader reaches.
 abbrev pub IsSound : Direct → Type 0
-IsSound (direct.Body t ticks) = (t ≤ 15) × (ticks ≤ most_ticks)
+IsSound (direct.Body t ticks) = (t ≤ MAX_TOLERANCE) × (ticks ≤ most_ticks)
 IsSound _ = Unit {0}
 
 -- the ticks so far
@@ -43,12 +44,12 @@ Stands d _ = IsTrue (is_body d)
 
 -- Each number is in its range, in a group of tolerance t, where there were so many ticks before the line.
 abbrev pub InRange : ℕ → ℕ → DirectLine → Type 0
-InRange t ticks (lines.Group own timeout) = (1 ≤ own) × (own ≤ 15) × (1 ≤ timeout) × (timeout ≤ 10000)
-InRange t ticks (lines.Member m ps) = (m ≤ 1023) × (length ps ≡ ring_count t) × AllByRecursion (λ n. n ≤ 2 ^ 32 - 1) ps
-InRange t ticks (lines.Note n) = (n.member ≤ 1023) × (1 ≤ n.epoch) × (n.epoch ≤ 2 ^ 64 - 1) × (n.mask.0 ≤ 2 ^ 32 - 1)
-InRange t ticks (lines.Accuse a) = (a.accuser ≤ 1023) × (a.accused ≤ 1023) × (1 ≤ a.epoch) × (a.epoch ≤ 2 ^ 64 - 1) × (a.ring.0 ≤ 255)
+InRange t ticks (lines.Group own timeout) = (1 ≤ own) × (own ≤ MAX_TOLERANCE) × (1 ≤ timeout) × (timeout ≤ 10000)
+InRange t ticks (lines.Member m ps) = (m ≤ LAST_MEMBER) × (length ps ≡ ring_count t) × AllByRecursion (λ n. n ≤ 2 ^ 32 - 1) ps
+InRange t ticks (lines.Note n) = (n.member ≤ LAST_MEMBER) × (1 ≤ n.epoch) × (n.epoch ≤ 2 ^ 64 - 1) × (n.mask.0 ≤ ALL_BITS)
+InRange t ticks (lines.Accuse a) = (a.accuser ≤ LAST_MEMBER) × (a.accused ≤ LAST_MEMBER) × (1 ≤ a.epoch) × (a.epoch ≤ 2 ^ 64 - 1) × (a.ring.0 ≤ 255)
 InRange t ticks (lines.Tick n) = (1 ≤ n) × (n ≤ 10000) × (ticks + n ≤ most_ticks)
-InRange t ticks (lines.Monitor r m) = (r.0 ≤ 2 * t) × (m ≤ 1023)
+InRange t ticks (lines.Monitor r m) = (r.0 ≤ 2 * t) × (m ≤ LAST_MEMBER)
 InRange t ticks _ = Unit {0}
 
 -- These words are this line, which may stand here, with its numbers in range.

@@ -6,6 +6,7 @@ use Rattle.std.proofs.Math.Nat.{min-le_left, min-le_right, le-min}
 use Rattle.std.proofs.lemmas.Bool.{and_parts, eqb-true}
 use Rattle.std.proofs.lemmas.List.{length-map, length-replicate}
 use Rattle.std.proofs.lemmas.Slice.Eq.{bytes_eq-Decides}
+use Rattle.ff_ids.specs.declared.TheConstants.{LAST_MEMBER, MAX_TOLERANCE, ALL_BITS}
 use Rattle.ff_ids.specs.Masks.{ring_count}
 use Rattle.line_text.specs.declared.bad_word.BadWord.{BadWord}
 use Rattle.line_text.specs.declared.bad_word.BadWord.TheVariants as bad
@@ -19,7 +20,7 @@ use Rattle.schedule_direct.specs.declared.line.DirectLine.{DirectLine}
 use Rattle.schedule_direct.specs.declared.line.DirectLine.TheVariants as lines
 use Rattle.schedule_direct.specs.declared.line.LineWord.{LineWord}
 use Rattle.schedule_direct.specs.declared.line.LineWord.TheVariants as words
-use Rattle.schedule_direct.specs.Rows.{epoch, fields_of, is_body, is_headed, is_start, line_of, line_word, line_words, may_stand, member, most_ticks, row_for, row_of, start_row, ticks_left, tolerance, word_text}
+use Rattle.schedule_direct.specs.Rows.{fields_of, is_body, is_headed, is_start, line_of, line_word, line_words, may_stand, most_ticks, row_for, row_of, start_row, ticks_left, tolerance, word_text}
 use Rattle.schedule_direct.specs.Grammar.{InRange, IsDirect, IsSound, Stands, spelled_words, ticks_of}
 
 -- ## What is taken is a line
@@ -54,7 +55,7 @@ fits : (d : Direct) (k : LineWord) (args : List (List ℕ)) → length args ≡ 
 fits d words.Group args many good =
     let p = or_none _ _ good in
     let q = or_none _ _ p.1 in
-    let a = number-good 1 15 (first_word args) p.0 in
+    let a = number-good 1 MAX_TOLERANCE (first_word args) p.0 in
     let b = number-good 1 10000 (second_word args) q.0 in
     let ws = two_words args many in
     let x = a.spelled in
@@ -63,7 +64,7 @@ fits d words.Group args many good =
 fits d words.Member args many good =
     let t = tolerance d in
     let p = or_none _ _ good in
-    let a = number-good 0 1023 (first_word args) p.0 in
+    let a = number-good 0 LAST_MEMBER (first_word args) p.0 in
     let n : length args ≡ suc (ring_count t) = many ∙ ap suc (length-replicate (ring_count t) number_32) in
     let r = member_words (ring_count t) args n p.1 in
     record { in_range = (a.high, r.2, r.1); words = onto (codes "member") args _ (r.0 ∙ onto_first (first_word args) _ _ a.spelled) }
@@ -71,9 +72,9 @@ fits d words.Note args many good =
     let p = or_none _ _ good in
     let q = or_none _ _ p.1 in
     let r = or_none _ _ q.1 in
-    let a = number-good 0 1023 (first_word args) p.0 in
+    let a = number-good 0 LAST_MEMBER (first_word args) p.0 in
     let b = number-good 1 (2 ^ 64 - 1) (second_word args) q.0 in
-    let c = number-good 0 (2 ^ 32 - 1) (third_word args) r.0 in
+    let c = number-good 0 ALL_BITS (third_word args) r.0 in
     let ws = three_words args many in
     let x = a.spelled in
     let y = b.spelled in
@@ -84,8 +85,8 @@ fits d words.Accuse args many good =
     let q = or_none _ _ p.1 in
     let r = or_none _ _ q.1 in
     let s = or_none _ _ r.1 in
-    let a = number-good 0 1023 (first_word args) p.0 in
-    let b = number-good 0 1023 (second_word args) q.0 in
+    let a = number-good 0 LAST_MEMBER (first_word args) p.0 in
+    let b = number-good 0 LAST_MEMBER (second_word args) q.0 in
     let c = number-good 1 (2 ^ 64 - 1) (third_word args) r.0 in
     let e = number-good 0 255 (fourth_word args) s.0 in
     let ws = four_words args many in
@@ -108,7 +109,7 @@ fits d words.Monitor args many good =
     let p = or_none _ _ good in
     let q = or_none _ _ p.1 in
     let a = number-good 0 (2 * tolerance d) (first_word args) p.0 in
-    let b = number-good 0 1023 (second_word args) q.0 in
+    let b = number-good 0 LAST_MEMBER (second_word args) q.0 in
     let ws = two_words args many in
     let x = a.spelled in
     let y = b.spelled in
@@ -225,7 +226,7 @@ tick_fits direct.Headed n body h = cc
 tick_fits (direct.Body t ticks) n body h = omega (arith, h)
 tick_fits direct.Ended n body h = cc
 
-tolerance_small : (d : Direct) → IsSound d → tolerance d ≤ 15
+tolerance_small : (d : Direct) → IsSound d → tolerance d ≤ MAX_TOLERANCE
 tolerance_small direct.Start h = omega arith
 tolerance_small direct.Headed h = omega arith
 tolerance_small (direct.Body t ticks) h = h.0
@@ -234,29 +235,29 @@ tolerance_small direct.Ended h = omega arith
 reads : (d : Direct) (l : DirectLine) → IsSound d → Stands d l → InRange (tolerance d) (ticks_of d) l → row_line (row_for d (spelled_words l)) (behind (spelled_words l)) ≡ Ok l
 reads d lines.Header sound s h = rw s refl
 reads d (lines.Group t timeout) sound s h =
-    let x = number-decimal 1 15 t h.0 h.1 (omega arith) in
+    let x = number-decimal 1 MAX_TOLERANCE t h.0 h.1 (omega arith) in
     let y = number-decimal 1 10000 timeout h.2 h.3 (omega arith) in
     let u = number_in-decimal t (omega (arith, h.1)) in
     let v = number_in-decimal timeout (omega (arith, h.3)) in
     row_read d words.Group (decimal t ∷ decimal timeout ∷ []) (lines.Group t timeout) s refl (rw (x, y) refl) (rw (u, v) refl)
 reads d (lines.Member m ps) sound s h =
     let many : length (map decimal ps) ≡ ring_count (tolerance d) = length-map ps decimal ∙ h.1 in
-    let x = number-decimal 0 1023 m (omega arith) h.0 (omega arith) in
+    let x = number-decimal 0 LAST_MEMBER m (omega arith) h.0 (omega arith) in
     let y = subst (λ (n : ℕ). first_of (word_tests (replicate n number_32) (map decimal ps)) ≡ None) h.1 (numbers-again ps h.2) in
     let u = number_in-decimal m (omega (arith, h.0)) in
     let v = numbers_in-decimals ps h.2 in
     row_read d words.Member (decimal m ∷ map decimal ps) (lines.Member m ps) s (ap suc (many ∙ sym (length-replicate (ring_count (tolerance d)) number_32))) (rw (x, y) refl) (rw (u, v) refl)
 reads d (lines.Note n) sound s h =
-    let x = number-decimal 0 1023 n.member (omega arith) h.0 (omega arith) in
+    let x = number-decimal 0 LAST_MEMBER n.member (omega arith) h.0 (omega arith) in
     let y = number-decimal 1 (2 ^ 64 - 1) n.epoch h.1 h.2 (omega arith) in
-    let z = number-decimal 0 (2 ^ 32 - 1) n.mask.0 (omega arith) h.3 (omega arith) in
+    let z = number-decimal 0 ALL_BITS n.mask.0 (omega arith) h.3 (omega arith) in
     let u = number_in-decimal n.member (omega (arith, h.0)) in
     let v = number_in-decimal n.epoch (omega (arith, h.2)) in
     let w = number_in-decimal n.mask.0 (omega (arith, h.3)) in
     row_read d words.Note (decimal n.member ∷ decimal n.epoch ∷ decimal n.mask.0 ∷ []) (lines.Note n) s refl (rw (x, y, z) refl) (rw (u, v, w) refl)
 reads d (lines.Accuse a) sound s h =
-    let x = number-decimal 0 1023 a.accuser (omega arith) h.0 (omega arith) in
-    let y = number-decimal 0 1023 a.accused (omega arith) h.1 (omega arith) in
+    let x = number-decimal 0 LAST_MEMBER a.accuser (omega arith) h.0 (omega arith) in
+    let y = number-decimal 0 LAST_MEMBER a.accused (omega arith) h.1 (omega arith) in
     let z = number-decimal 1 (2 ^ 64 - 1) a.epoch h.2 h.3 (omega arith) in
     let r = number-decimal 0 255 a.ring.0 (omega arith) h.4 (omega arith) in
     let u = number_in-decimal a.accuser (omega (arith, h.0)) in
@@ -274,7 +275,7 @@ reads d lines.View sound s h = row_read d words.View [] lines.View s refl refl r
 reads d (lines.Monitor r m) sound s h =
     let small = tolerance_small d sound in
     let x = number-decimal 0 (2 * tolerance d) r.0 (omega arith) h.0 (omega (arith, small)) in
-    let y = number-decimal 0 1023 m (omega arith) h.1 (omega arith) in
+    let y = number-decimal 0 LAST_MEMBER m (omega arith) h.1 (omega arith) in
     let u = number_in-decimal r.0 (omega (arith, h.0, small)) in
     let v = number_in-decimal m (omega (arith, h.1)) in
     row_read d words.Monitor (decimal r.0 ∷ decimal m ∷ []) (lines.Monitor r m) s refl (rw (x, y) refl) (rw (u, v) refl)

@@ -1,6 +1,7 @@
 -- The rows of the direct form: each line word, where its line may stand, what the words behind it must be, and what
 -- line they are.
 use Rattle.std.specs.Prelude.{ℕ, ◌*◌, ◌-◌, ◌^◌, min, Bool, true, false, if◌then◌else◌, List, [], ◌∷◌, map, replicate, length, Option, Result, Ok, Err, codes}
+use Rattle.ff_ids.specs.declared.TheConstants.{LAST_MEMBER, MAX_TOLERANCE, ALL_BITS}
 use Rattle.ff_ids.specs.Masks.{ring_count}
 use Rattle.line_text.specs.declared.bad_word.BadWord.{BadWord}
 use Rattle.line_text.specs.declared.bad_word.BadWord.TheVariants as bad
@@ -54,15 +55,19 @@ may_stand d _ = is_body d
 
 -- the number of a member
 abbrev pub member : Field
-member word = number 0 1023 word
+member word = number 0 LAST_MEMBER word
 
 -- The epochs of notes begin at 1.
 abbrev pub epoch : Field
 epoch word = number 1 (2 ^ 64 - 1) word
 
+-- the mask of a note
+abbrev pub mask : Field
+mask word = number 0 ALL_BITS word
+
 -- T TIMEOUT
 abbrev pub group_fields : List Field
-group_fields = number 1 15 ∷ number 1 10000 ∷ []
+group_fields = number 1 MAX_TOLERANCE ∷ number 1 10000 ∷ []
 
 -- M P0 P1 .., with a place on each of the 2t+1 rings
 abbrev pub member_fields : ℕ → List Field
@@ -70,7 +75,7 @@ member_fields t = member ∷ replicate (ring_count t) number_32
 
 -- M EPOCH MASK
 abbrev pub note_fields : List Field
-note_fields = member ∷ epoch ∷ number_32 ∷ []
+note_fields = member ∷ epoch ∷ mask ∷ []
 
 -- ACCUSER ACCUSED EPOCH RING, the ring being any that a record can name
 abbrev pub accuse_fields : List Field

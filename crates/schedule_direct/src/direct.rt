@@ -1,6 +1,7 @@
 //! The direct form, line by line.
 
 ghost use Rattle.std.specs.Prelude.{◌≡◌, ◌≤◌};
+ghost use Rattle.ff_ids.specs.declared.TheConstants.{MAX_TOLERANCE};
 ghost use Rattle.line_text.specs.Answers.{AnswersBy};
 ghost use Rattle.line_text.specs.Frame.{fields_line};
 ghost use Rattle.schedule_direct.specs.Rows.{TakesMemory, fields_of, is_body, is_ended, is_headed, is_start, line_of, may_stand, row_for, ticks_left, tolerance};
@@ -74,7 +75,7 @@ fn line_of(
     word: LineWord,
     args: Words,
 ) -> Result<DirectLine, LineFault>
-    requires { tolerance direct ≤ 15 }
+    requires { tolerance direct ≤ MAX_TOLERANCE }
     ensures { AnswersBy TakesMemory (fields_line (fields_of direct word) (line_of word) args.entry) result }
 {
     match word {

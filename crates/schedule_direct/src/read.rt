@@ -1,13 +1,16 @@
 //! The lines that take no memory, read word by word.
 
 ghost use Rattle.std.specs.Prelude.{◌≡◌, ◌*◌, ◌≤◌, [], IfOk};
+ghost use Rattle.ff_ids.specs.declared.TheConstants.{MAX_TOLERANCE};
 ghost use Rattle.line_text.specs.Answers.{refusal};
 ghost use Rattle.line_text.specs.Fields.{number_in};
 ghost use Rattle.line_text.specs.Frame.{behind, fields_line, first_word, row_line, word_or_bad};
 ghost use Rattle.schedule_direct.specs.Rows.{accuse_fields, epoch, group_fields, line_of, line_word, member, monitor_fields, note_fields, start_row, tick_fields};
 
 use crate::line::{DirectLine, LineWord};
-use ff_ids::{AccBody, Epoch, Mask, MemberId, NoteBody, RingNo};
+use ff_ids::{
+    ALL_BITS, AccBody, Bits, Epoch, LAST_MEMBER, MAX_TOLERANCE, Mask, MemberId, NoteBody, RingNo,
+};
 use line_text::{BadWord, Words};
 
 #[tactic(auto, using(crate::proofs::ReadingLemmas::header_read))]
@@ -56,7 +59,7 @@ pub(crate) fn take_member(words: &mut Words) -> Result<MemberId, BadWord>
     ensures value { IfOk result (λ n. n ≡ number_in (first_word words.old)) }
     ensures moved { words.new ≡ behind words.old }
 {
-    let number = words.number(0, 1023)?;
+    let number = words.number(0, LAST_MEMBER as u64)?;
     Ok(MemberId::new(number as u16))
 }
 
@@ -74,7 +77,7 @@ pub(crate) fn group_line(args: Words) -> Result<DirectLine, BadWord>
     ensures { result ≡ fields_line group_fields (line_of LineWord.Group) args.entry }
 {
     let mut args = args.exactly(2)?;
-    let t = args.number(1, 15)?;
+    let t = args.number(1, MAX_TOLERANCE as u64)?;
     let timeout = args.number(1, 10_000)?;
     Ok(DirectLine::Group {
         t: t as u8,
@@ -89,7 +92,7 @@ pub(crate) fn note_line(args: Words) -> Result<DirectLine, BadWord>
     Ok(DirectLine::Note(NoteBody {
         member: take_member(&mut args)?,
         epoch: take_epoch(&mut args)?,
-        mask: Mask(args.number_32()?),
+        mask: Mask(args.number(0, ALL_BITS as u64)? as Bits),
     }))
 }
 
@@ -115,7 +118,7 @@ pub(crate) fn tick_line(left: u32, args: Words) -> Result<DirectLine, BadWord>
 }
 
 pub(crate) fn monitor_line(t: u8, args: Words) -> Result<DirectLine, BadWord>
-    requires { t ≤ 15 }
+    requires { t ≤ MAX_TOLERANCE }
     ensures { result ≡ fields_line (monitor_fields t) (line_of LineWord.Monitor) args.entry }
 {
     let mut args = args.exactly(2)?;

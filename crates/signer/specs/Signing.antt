@@ -1,5 +1,6 @@
 -- What a signer keeps, what it answers, and what it signs.
 use Rattle.std.specs.Prelude.{◌≡◌, ℕ, ◌+◌, ◌^◌, ◌<◌, Bool, true, false, Result, Ok, Err}
+use Rattle.ff_ids.specs.declared.TheConstants.{MAX_RINGS}
 use Rattle.ff_ids.specs.declared.Group.{Group}
 use Rattle.ff_ids.specs.declared.Mask.{Mask}
 use Rattle.lms_tree.specs.declared.secret.Secret.{Secret}
@@ -31,7 +32,7 @@ stored_after s (Accusation a) = record s { next = s.next + 1 }
 -- what may be signed next: a note has the epoch after the newest one
 abbrev pub MayComeNext : Stored → Body → Type 0
 MayComeNext s (Certificate c) = Unit {0}
-MayComeNext s (Note n) = (n.epoch ≡ s.epoch + 1) × (n.mask.0 < 2 ^ 31)
+MayComeNext s (Note n) = (n.epoch ≡ s.epoch + 1) × (n.mask.0 < 2 ^ MAX_RINGS)
 MayComeNext s (Accusation a) = Unit {0}
 
 -- the note of this member and mask that comes next

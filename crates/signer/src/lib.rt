@@ -4,6 +4,7 @@
 #![tactic(auto)]
 
 ghost use Rattle.std.specs.Prelude.{◌≡◌, ℕ, ◌+◌, ◌<◌, ◌≤◌, ◌^◌, ◌++◌, List, length, true, false, OnOk, IfOk, IfErr};
+ghost use Rattle.ff_ids.specs.declared.TheConstants.{MAX_RINGS};
 ghost use Rattle.ports.specs.Count.{counted};
 ghost use Rattle.ports.specs.Disk.{Moment, Since};
 ghost use Rattle.lms_tree.specs.Kinds.{leaf_count as leaf_count_of, signature_length};
@@ -144,7 +145,7 @@ impl Signer {
     }
 
     /// Signs a note of this member and mask, with the epoch after the one that the store keeps. The mask has no
-    /// bit at or above 31.
+    /// bit at or above `MAX_RINGS`.
     ///
     /// The disk is the one on which the store was opened, and since then only this signer's calls have changed
     /// the file. Takes its memory first, puts the next index, and only then takes and spends the leaf. `Closed`
@@ -157,7 +158,7 @@ impl Signer {
         member: MemberId,
         mask: Mask,
     ) -> Result<Checked, SignFault>
-        requires { mask.0 < 2 ^ 31 }
+        requires { mask.0 < 2 ^ MAX_RINGS }
         ensures { Signs self.old self.new (next_note self.old.state member mask) result (D.faults disk.old) (D.faults disk.new)
             (D.calls disk.old) (D.calls disk.new) (D.moments disk.old) (D.moments disk.new) (D.state disk.old) (D.state disk.new) }
     {

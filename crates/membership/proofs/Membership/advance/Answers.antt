@@ -2,6 +2,7 @@ use Rattle.std.proofs.Common.{◌≡◌, ◌≤◌, ◌+◌, ◌∙◌, ap, refl
 use Rattle.std.specs.FinMap.{get}
 use Rattle.std.proofs.lemmas.List.{length-map}
 use Rattle.std.proofs.lemmas.List.Filters.{length-filter_both}
+use Rattle.ff_ids.specs.declared.TheConstants.{MAX_RINGS}
 use Rattle.ff_ids.specs.Masks.{ring_count}
 use Rattle.ff_ids.specs.Steps.{Report, is_due}
 use Rattle.removal_timer.specs.Kept.{Kept as Timed, IsInOrder}
@@ -11,7 +12,7 @@ use Rattle.membership.proofs.Membership.advance.Goals as goal
 
 pub take_due-requires-clause-few : goal.take_due-requires-clause-few
 take_due-requires-clause-few c =
-    let few : ring_count c.self.inside.group.t ≤ 31 = omega (arith, c.self.invariant.sound.tolerance) in
+    let few : ring_count c.self.inside.group.t ≤ MAX_RINGS = omega (arith, c.self.invariant.sound.tolerance) in
     length-in_order (ring_count c.self.inside.group.t) c.self.inside.timers.entries few c.self.invariant.timed.in_order
 
 pub invariant_of-self : goal.invariant_of-self
@@ -28,7 +29,7 @@ invariant_of-self c =
 
 pub returns-clause-few : goal.returns-clause-few
 returns-clause-few c =
-    let few : ring_count c.self.inside.group.t ≤ 31 = omega (arith, c.self.invariant.sound.tolerance) in
+    let few : ring_count c.self.inside.group.t ≤ MAX_RINGS = omega (arith, c.self.invariant.sound.tolerance) in
     let all = length-in_order (ring_count c.self.inside.group.t) c.self.inside.timers.entries few c.self.invariant.timed.in_order in
     let due = is_due c.self.inside.timers.timeout (c.self.inside.moment + 1) in
     let both = length-filter_both due (λ p. not (due p)) (λ p. refl) c.self.inside.timers.entries in

@@ -1,4 +1,5 @@
 use Rattle.std.proofs.Common.{◌≡◌, ◌≤◌, ◌+◌, length}
+use Rattle.ff_ids.specs.declared.TheConstants.{MAX_ACCUSATIONS}
 use Rattle.ff_ids.specs.Masks.{ring_count}
 use Rattle.membership.specs.Ends.{Ends}
 use Rattle.membership.proofs.EndLemmas.{is_named_below}
@@ -10,5 +11,5 @@ invariant-loop-ring l =
       ends : Ends (ring_count l.initial.self.group.t) (is_named_below l.ring l.named) l.initial.self.kept l.initial.out.fell l.self.kept l.out.fell;
       life : l.self ≡ record l.initial.self { kept = l.self.kept };
       report : l.out ≡ record l.initial.out { fell = l.out.fell };
-      room : length l.out.fell + length l.self.kept ≤ 31744;
+      room : length l.out.fell + length l.self.kept ≤ MAX_ACCUSATIONS;
     }

@@ -1,4 +1,5 @@
 use Rattle.std.proofs.Common.{◌≡◌, ◌≤◌, ◌+◌, length, take}
+use Rattle.ff_ids.specs.declared.TheConstants.{MAX_ACCUSATIONS}
 use Rattle.ff_ids.specs.Masks.{ring_count}
 use Rattle.membership.specs.Ends.{Ends, is_of_any}
 use Rattle.membership.proofs.Membership.end_of_expired.Given as goal
@@ -9,5 +10,5 @@ invariant-loop-index l =
       ends : Ends (ring_count l.initial.self.group.t) (is_of_any l.initial.self (take l.index l.initial.out.expired)) l.initial.self.kept l.initial.out.fell l.self.kept l.out.fell;
       life : l.self ≡ record l.initial.self { kept = l.self.kept };
       report : l.out ≡ record l.initial.out { fell = l.out.fell };
-      room : length l.out.fell + length l.self.kept ≤ 31744;
+      room : length l.out.fell + length l.self.kept ≤ MAX_ACCUSATIONS;
     }

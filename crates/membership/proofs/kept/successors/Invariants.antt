@@ -1,4 +1,5 @@
 use Rattle.std.proofs.Common.{◌≡◌, ℕ, ◌<◌, None, length, slice_index_or}
+use Rattle.ff_ids.specs.declared.TheConstants.{MAX_RINGS}
 use Rattle.ff_ids.specs.Rings.{nearest_after}
 use Rattle.ff_ids.specs.Views.{key_at}
 use Rattle.monitor_rule.specs.Joined.{keys_on}
@@ -6,4 +7,4 @@ use Rattle.membership.proofs.kept.successors.Given as goal
 
 abbrev pub invariant-loop-ring : goal.invariant-loop-ring
 invariant-loop-ring l =
-    (length l.next ≡ 31) × ((k : ℕ) → k < l.ring → slice_index_or l.next k None ≡ nearest_after (keys_on k l.rings.members) (key_at k l.places l.member))
+    (length l.next ≡ MAX_RINGS) × ((k : ℕ) → k < l.ring → slice_index_or l.next k None ≡ nearest_after (keys_on k l.rings.members) (key_at k l.places l.member))

@@ -12,21 +12,21 @@ pub invariant_of-self : goal.invariant_of-self
 invariant_of-self c =
     let slots = c.self.inside.slots.items in
     let k : RecordKey = keys.Accusation c.args.accused c.args.ring in
-    let at : IsSlotted k = record { member = c.fresh_entry.ensures.range; slot = c.if-ring-lt-RINGS.true } in
+    let at : IsSlotted k = record { member = c.fresh_entry.ensures.range; slot = c.if-ring-lt-MAX_RINGS.true } in
     ready-put slots c.self.inside.entries.items k None c.slot_of.result c.get.result c.fresh_entry.result c.self.invariant at c.slot_of.ensures.value c.get.ensures.value
     (c.fresh_entry.ensures.value ∙ ap (λ ss. entry_in ss c.args.accused) c.deref.ensures.value ∙ ap (entry_in (slice_set slots c.slot_of.result None)) (sym c.get.ensures.value))
 
-pub returns-then-ring-lt-RINGS : goal.returns-then-ring-lt-RINGS
-returns-then-ring-lt-RINGS c =
+pub returns-then-ring-lt-MAX_RINGS : goal.returns-then-ring-lt-MAX_RINGS
+returns-then-ring-lt-MAX_RINGS c =
     let slots = c.self.inside.slots.items in
     let k : RecordKey = keys.Accusation c.args.accused c.args.ring in
-    let at : IsSlotted k = record { member = c.fresh_entry.ensures.range; slot = c.if-ring-lt-RINGS.true } in
+    let at : IsSlotted k = record { member = c.fresh_entry.ensures.range; slot = c.if-ring-lt-MAX_RINGS.true } in
     ap (λ (s : ℕ). held_in (slice_set slots s None)) c.slot_of.ensures.value ∙ held_in-drop slots k c.self.invariant.slots_all at ∙ ap (λ h. remove h k) c.self.view_is
 
-pub returns-else-ring-lt-RINGS : goal.returns-else-ring-lt-RINGS
-returns-else-ring-lt-RINGS c =
+pub returns-else-ring-lt-MAX_RINGS : goal.returns-else-ring-lt-MAX_RINGS
+returns-else-ring-lt-MAX_RINGS c =
     let slots = c.self.inside.slots.items in
     let k : RecordKey = keys.Accusation c.args.accused c.args.ring in
-    let above = c.if-ring-lt-RINGS.false in
+    let above = c.if-ring-lt-MAX_RINGS.false in
     let never : IsSlotted k → ⊥ = λ s. absurd (omega (arith, s.slot, above)) in
     sym c.self.view_is ∙ held_in-no_drop slots k c.self.invariant.slots_all never ∙ ap (λ h. remove h k) c.self.view_is

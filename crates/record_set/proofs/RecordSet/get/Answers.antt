@@ -3,6 +3,7 @@ use Rattle.std.specs.Option.{option_copied}
 use Rattle.std.specs.FinMap.{get}
 use Rattle.std.proofs.lemmas.List.{get_or_default}
 use Rattle.ff_ids.specs.declared.summary.RecordKey.{RecordKey}
+use Rattle.record_set.specs.declared.slots.TheConstants.{SLOTS}
 use Rattle.record_set.specs.Held.{Held, held_under}
 use Rattle.record_set.specs.Slots.{Slot, slot_of, held_in}
 use Rattle.record_set.proofs.SlotLemmas.{held-slotted, get-held_in}
@@ -14,7 +15,7 @@ slot_of-requires c =
     (held-slotted c.self.inside.slots.items c.args.key.now c.self.invariant.slots_all (subst P (sym c.self.view_is) c.requires)).slot
 
 -- what the slot of the key holds
-in_slot : (slots : List Slot) (k : RecordKey) (held : Held) (slot : ℕ) (o : Slot) → held_in slots ≡ held → length slots ≡ 33792 → IsSome (held_under held k) → slot ≡ slot_of k → slot < 33792 → o ≡ get_or slots slot o → held_under held k ≡ o
+in_slot : (slots : List Slot) (k : RecordKey) (held : Held) (slot : ℕ) (o : Slot) → held_in slots ≡ held → length slots ≡ SLOTS → IsSome (held_under held k) → slot ≡ slot_of k → slot < SLOTS → o ≡ get_or slots slot o → held_under held k ≡ o
 in_slot slots k held slot o is long some at below there =
     let P : Held → Type 0 = λ h. IsSome (get h k) in
     let s = held-slotted slots k long (subst P (sym is) some) in

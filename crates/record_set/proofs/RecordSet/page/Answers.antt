@@ -1,4 +1,5 @@
 use Rattle.std.proofs.Common.{◌*◌, ◌++◌, List, ap, sym, ◌∙◌, refl}
+use Rattle.ff_ids.specs.declared.TheConstants.{PAGE_MEMBERS}
 use Rattle.ff_ids.specs.declared.summary.SummaryEntry.{SummaryEntry}
 use Rattle.record_set.specs.Pages.{summary_of}
 use Rattle.record_set.specs.Slots.{ready_entries}
@@ -10,9 +11,9 @@ returns-then-page-lt-PAGES c =
     let slots = c.self.inside.slots.items in
     let entries = c.self.inside.entries.items in
     let listed = c.push_certified.ensures.listed
-    ∙ ap (λ (es : List SummaryEntry). es ++ ready_entries c.deref.result.now c.deref-then-page-lt-PAGES.result.now (32 * c.args.page) 32) c.new.ensures.none
-    ∙ ap (λ ss. ready_entries ss c.deref-then-page-lt-PAGES.result.now (32 * c.args.page) 32) c.deref.ensures.value
-    ∙ ap (λ es. ready_entries slots es (32 * c.args.page) 32) c.deref-then-page-lt-PAGES.ensures.value
+    ∙ ap (λ (es : List SummaryEntry). es ++ ready_entries c.deref.result.now c.deref-then-page-lt-PAGES.result.now (PAGE_MEMBERS * c.args.page) PAGE_MEMBERS) c.new.ensures.none
+    ∙ ap (λ ss. ready_entries ss c.deref-then-page-lt-PAGES.result.now (PAGE_MEMBERS * c.args.page) PAGE_MEMBERS) c.deref.ensures.value
+    ∙ ap (λ es. ready_entries slots es (PAGE_MEMBERS * c.args.page) PAGE_MEMBERS) c.deref-then-page-lt-PAGES.ensures.value
     ∙ ready-summary slots entries c.args.page c.self.invariant c.if-page-lt-PAGES.true in
     same_summary _ _ _ _ c.push_certified.ensures.page listed ∙ ap (λ h. summary_of h c.args.page) c.self.view_is
 

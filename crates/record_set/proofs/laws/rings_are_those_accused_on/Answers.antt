@@ -1,7 +1,8 @@
+use Rattle.ff_ids.specs.declared.TheConstants.{MAX_RINGS}
 use Rattle.record_set.specs.Pages.{rings_of}
 use Rattle.record_set.proofs.BitLemmas.{bits-tell}
 use Rattle.record_set.proofs.laws.rings_are_those_accused_on.Goals as goal
 
 pub returns : goal.returns
 unfolding rings_of
-returns c held m r below = bits-tell _ 31 r below
+returns c held m r below = bits-tell _ MAX_RINGS r below

@@ -1,5 +1,6 @@
 use Rattle.std.proofs.Common.{◌≡◌, ℕ, ◌<◌, ◌≤◌, length, get_or}
 use Rattle.std.specs.Prelude.{vec_capacity}
+use Rattle.ff_ids.specs.declared.TheConstants.{MEMBERS}
 use Rattle.record_set.specs.Slots.{no_entry}
 use Rattle.record_set.proofs.slots.no_entries.Given as goal
 
@@ -8,5 +9,5 @@ invariant-loop-number l =
     record {
       count : length l.entries.items ≡ l.number;
       none : (k : ℕ) → k < l.number → get_or l.entries.items k (no_entry k) ≡ no_entry k;
-      room : 1024 ≤ vec_capacity l.entries;
+      room : MEMBERS ≤ vec_capacity l.entries;
     }

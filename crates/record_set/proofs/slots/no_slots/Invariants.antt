@@ -1,5 +1,6 @@
 use Rattle.std.proofs.Common.{◌≡◌, ℕ, ◌≤◌, None, length, get_or}
 use Rattle.std.specs.Prelude.{vec_capacity}
+use Rattle.record_set.specs.declared.slots.TheConstants.{SLOTS}
 use Rattle.record_set.proofs.slots.no_slots.Given as goal
 
 abbrev pub invariant-loop-slot : goal.invariant-loop-slot
@@ -7,5 +8,5 @@ invariant-loop-slot l =
     record {
       count : length l.slots.items ≡ l._slot;
       none : (k : ℕ) → get_or l.slots.items k None ≡ None;
-      room : 33792 ≤ vec_capacity l.slots;
+      room : SLOTS ≤ vec_capacity l.slots;
     }

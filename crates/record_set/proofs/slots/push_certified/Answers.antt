@@ -1,6 +1,7 @@
 use Rattle.std.proofs.Common.{◌≡◌, ℕ, refl, ◌+◌, ◌*◌, ◌<◌, ◌++◌, List, ◌∷◌, [], true, false, None, is_some, length, get_or, ap, sym, ◌∙◌, append-nil, length-append, arith}
 use Rattle.std.proofs.lemmas.List.{get_or_default}
 use Rattle.ff_ids.specs.declared.summary.SummaryEntry.{SummaryEntry}
+use Rattle.record_set.specs.declared.slots.TheConstants.{SLOTS_EACH}
 use Rattle.record_set.specs.Slots.{no_entry}
 use Rattle.record_set.proofs.ReadyLemmas.{ready_entries-none, entry_pushed}
 use Rattle.record_set.proofs.slots.push_certified.Goals as goal
@@ -22,7 +23,7 @@ loop-index-preserved c =
     let number = c.args.first + c.loop-index.index in
     let inv = c.loop-index.invariant in
     let below : c.certificate_slot.result < length slots = omega (arith, c.certificate_slot.ensures, c.requires.slots, c.requires.members) in
-    let told : is_some (get_or slots (33 * number) None) ≡ c.is_some.result =
+    let told : is_some (get_or slots (SLOTS_EACH * number) None) ≡ c.is_some.result =
     ap (λ (s : ℕ). is_some (get_or slots s None)) (sym c.certificate_slot.ensures)
     ∙ ap is_some (get_or_default slots c.certificate_slot.result None _ below ∙ sym c.index-slots-certificate_slot.is) ∙ sym c.is_some.ensures in
     let push = entry_pushed slots entries c.args.out.now.listed c.loop-index.out.listed c.if-is_some.out.listed c.args.first c.loop-index.index in
