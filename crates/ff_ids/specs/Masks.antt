@@ -1,5 +1,5 @@
 -- Masks: the rings that a note enables.
-use Rattle.std.specs.Prelude.{ℕ, ◌+◌, ◌*◌, ◌/◌, ◌%◌, ◌^◌, Bool, ◌&&◌, ◌==◌, nat_lt, List, length, filter}
+use Rattle.std.specs.Prelude.{ℕ, ◌+◌, ◌-◌, ◌*◌, ◌/◌, ◌%◌, ◌^◌, Bool, ◌&&◌, ◌==◌, nat_lt, List, length, filter}
 use Rattle.std.specs.List.{range_with_len}
 
 -- A group of tolerance t has 2t+1 rings, numbered from 0.
@@ -17,3 +17,7 @@ enabled rings mask = filter (enables mask) (range_with_len 0 rings)
 -- No ring at or above 2t+1 is enabled, and more than t rings are.
 abbrev pub good_mask : ℕ → ℕ → Bool
 good_mask t mask = nat_lt mask (2 ^ ring_count t) && nat_lt t (length (enabled (ring_count t) mask))
+
+-- The mask of all rings of a group of tolerance t.
+abbrev pub all_rings : ℕ → ℕ
+all_rings t = 2 ^ ring_count t - 1

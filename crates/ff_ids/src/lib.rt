@@ -2,8 +2,8 @@
 //! ring, notes, the view, faults, steps and lives. No call takes memory.
 #![tactic(auto)]
 
-ghost use Rattle.std.specs.Prelude.{◌≡◌, ◌<◌, ◌≤◌, length};
-ghost use Rattle.ff_ids.specs.Masks.{enables, enabled, good_mask as is_good};
+ghost use Rattle.std.specs.Prelude.{◌≡◌, ◌<◌, ◌≤◌, ◌^◌, length};
+ghost use Rattle.ff_ids.specs.Masks.{enables, enabled, all_rings as all_rings_of, good_mask as is_good};
 
 mod summary;
 mod text;
@@ -192,4 +192,13 @@ pub fn good_mask(t: u8, mask: Mask) -> bool
 {
     let rings = 2 * t + 1;
     mask.0 < 1u32 << rings && enabled_below(mask, rings) > t
+}
+
+/// The mask of all rings of a group of tolerance `t`.
+pub fn all_rings(t: u8) -> Mask
+    requires { t ≤ 15 }
+    ensures value { result ≡ record { 0 = all_rings_of t } }
+    ensures small { result.0 < 2 ^ 31 }
+{
+    Mask((1 << (2 * u32::from(t) + 1)) - 1)
 }
