@@ -1,4 +1,3 @@
 pub mod FaultLemmas
-pub mod HexLemmas
 pub mod MaskLemmas
 pub mod Rows

@@ -1,4 +1,4 @@
-//! Big-endian fields, and the one error of calls that can only fail for want of memory.
+//! Big-endian fields, hexadecimal digits, and the one error of calls that can only fail for want of memory.
 #![tactic(auto)]
 
 ghost use Rattle.std.specs.Prelude.{◌≡◌, ◌<◌, ◌↔◌, ◌∷◌, ◌++◌, [], length, take, slice_index, IsTrue, IsErr, IfOk, IfErr, OnOk, OnErr};
@@ -6,6 +6,9 @@ ghost use Rattle.std.specs.Int.{w16, w32, w64, to_be_bytes, from_be_bytes};
 ghost use Rattle.std.specs.List.{list_all};
 ghost use Rattle.fields.specs.Names.{is_name, is_name_byte};
 
+mod digits;
+
+pub use digits::{Digits, add_digits, digit};
 use std::alloc::{AllocError, AllocFailed, Global};
 use std::marker::Model;
 

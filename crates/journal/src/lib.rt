@@ -1,7 +1,6 @@
 //! The journal of a node: what happens to it, as values and as lines of text, both ways.
 #![tactic(auto)]
 
-mod digits;
 mod event;
 mod fault;
 mod hex_word;
