@@ -1,8 +1,6 @@
 -- What the lines of an authority's texts set up, and what follows from that: the key and the mark of its store.
-use Rattle.std.specs.Prelude.{ℕ, ◌-◌, ◌^◌, List, [], ◌∷◌, Option, Some, None}
+use Rattle.std.specs.Prelude.{ℕ, List, [], ◌∷◌, Option, Some, None}
 use Rattle.std.specs.List.{slice_get}
-use Rattle.ff_ids.specs.Masks.{ring_count}
-use Rattle.ff_ids.specs.declared.Mask.{Mask}
 use Rattle.lms_tree.specs.Lms.{public_of}
 use Rattle.lms_tree.specs.declared.secret.Secret.{Secret}
 use Rattle.records.specs.declared.CertBody.{CertBody}
@@ -27,10 +25,6 @@ key_of s = key_from s.kinds.ots s.kinds.tree s.secret
 -- the mark of its store
 abbrev pub tag_of : Setting → List ℕ
 tag_of s = store_tag s.group (public_of (key_of s))
-
--- each ring of a group of this tolerance is enabled
-abbrev pub all_rings : ℕ → Mask
-all_rings t = record { 0 = 2 ^ ring_count t - 1 }
 
 -- how the lines of a secret's text are judged
 abbrev pub secret_judging : Judging SecretText SecretLine

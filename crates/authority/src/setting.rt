@@ -1,10 +1,10 @@
 //! A group, and the key that signs for it.
 
-ghost use Rattle.std.specs.Prelude.{◌≡◌, ◌≤◌, ◌<◌, ◌^◌, IfOk};
+ghost use Rattle.std.specs.Prelude.{◌≡◌, IfOk};
 ghost use Rattle.secrets.specs.Secrets.{store_tag};
-ghost use Rattle.authority.specs.Settings.{all_rings, key_of};
+ghost use Rattle.authority.specs.Settings.{key_of};
 
-use ff_ids::{Group, Mask};
+use ff_ids::Group;
 use fields::NoMemory;
 use lms_tree::{PublicKey, SecretKey};
 use schedule_texts::Kinds;
@@ -32,14 +32,5 @@ impl Setting {
         ensures { result ≡ store_tag self.now.group key.now }
     {
         store_tag(&self.group, key)
-    }
-
-    /// The mask of all rings of the group.
-    pub fn all_rings(&self) -> Mask
-        requires { self.now.group.t ≤ 15 }
-        ensures value { result ≡ all_rings self.now.group.t }
-        ensures small { result.0 < 2 ^ 31 }
-    {
-        Mask((1 << (2 * u32::from(self.group.t) + 1)) - 1)
     }
 }

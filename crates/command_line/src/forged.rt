@@ -1,14 +1,14 @@
 // The line that names a forged record. It takes no memory.
 
-ghost use Rattle.std.specs.Prelude.{◌≡◌, ◌≤◌, ◌<◌, ◌+◌, ◌++◌, ◌∷◌, [], codes, decimal, length, slice_index};
-ghost use Rattle.std.specs.Char.{encode_utf8};
-ghost use Rattle.hex.specs.Hex.{encode_lower, lower_digits};
+ghost use Rattle.std.specs.Prelude.{◌≡◌, ◌≤◌, ◌+◌, ◌++◌, ◌∷◌, [], codes, decimal, length};
+ghost use Rattle.hex.specs.Hex.{encode_lower};
 ghost use Rattle.ff_ids.specs.Texts.{accusation_text};
 ghost use Rattle.journal.specs.Texts.{body_text, certificate_text, note_text};
 ghost use Rattle.world_rules.specs.Walk.{owner_text};
 
 use arrayvec::ArrayString;
 use ff_ids::{AccBody, MemberId, NoteBody};
+use fields::digit;
 use itoa::Buffer;
 use records::{Body, CertBody};
 
@@ -30,14 +30,6 @@ fn add_next(number: u64, text: &mut ArrayString<256>)
 {
     text.push_str(" ");
     add_number(number, text);
-}
-
-/// The hexadecimal digit of this value.
-fn digit(value: u8) -> char
-    requires { value < 16 }
-    ensures { encode_utf8 result ≡ slice_index lower_digits value ∷ [] }
-{
-    char::from(b"0123456789abcdef"[value as usize])
 }
 
 /// Adds the two digits of each byte.

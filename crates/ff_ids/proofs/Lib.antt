@@ -1,5 +1,4 @@
 pub mod FaultLemmas
-pub mod HexLemmas
 pub mod MaskLemmas
 pub mod Rows
 pub mod ViewLemmas

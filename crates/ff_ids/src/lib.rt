@@ -238,8 +238,13 @@ pub fn good_mask(t: u8, mask: Mask) -> bool
 /// The mask that enables all rings of a group of tolerance `t`.
 pub fn all_rings(t: u8) -> Mask
     requires { t ≤ MAX_TOLERANCE }
-    ensures value { result.0 ≡ mask_of_all t }
+    ensures value { result ≡ record { 0 = mask_of_all t } }
     ensures small { result.0 < 2 ^ MAX_RINGS }
 {
     Mask((1 << (2 * t + 1)) - 1)
+}
+    ensures value { result ≡ record { 0 = all_rings_of t } }
+    ensures small { result.0 < 2 ^ 31 }
+{
+    Mask((1 << (2 * u32::from(t) + 1)) - 1)
 }

@@ -1,12 +1,12 @@
 // How members, epochs, rings, masks, accusations and faults are written.
 
-ghost use Rattle.std.specs.Prelude.{◌≡◌, ◌<◌, [], ◌∷◌, Some, slice_index};
-ghost use Rattle.std.specs.Char.{encode_utf8};
+ghost use Rattle.std.specs.Prelude.{Some};
 ghost use Rattle.std.specs.Fmt.{decimal};
-ghost use Rattle.hex.specs.Hex.{encode_lower, lower_digits};
+ghost use Rattle.hex.specs.Hex.{encode_lower};
 ghost use Rattle.ff_ids.specs.Texts.{accusation_text, fault_text};
 
 use crate::{AccBody, Epoch, Fault, Mask, MemberId, RingNo};
+use fields::Digits;
 use std::fmt;
 
 impl fmt::Display for MemberId {
@@ -56,28 +56,15 @@ impl fmt::Display for AccBody {
     }
 }
 
-/// The 56 bytes of a key in hexadecimal, two lower case digits each.
+/// The 56 bytes of a key as digits.
 #[derive(Drop)]
 struct KeyDigits([u8; 56]);
-
-/// The digit of this value.
-fn digit(value: u8) -> char
-    requires { value < 16 }
-    ensures { encode_utf8 result ≡ slice_index lower_digits value ∷ [] }
-{
-    let digits = b"0123456789abcdef";
-    char::from(digits[value as usize])
-}
 
 impl fmt::Display for KeyDigits {
     ghost output = { λ key. Some (encode_lower key.0) };
 
     fn fmt<W: fmt::Write>(&self, f: &mut fmt::Formatter<W>) -> fmt::Result {
-        for byte in &self.0 {
-            f.write_char(digit(*byte / 16))?;
-            f.write_char(digit(*byte % 16))?;
-        }
-        Ok(())
+        Digits(&self.0).fmt(f)
     }
 }
 

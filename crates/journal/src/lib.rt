@@ -2,7 +2,6 @@
 //! the events; `node_loop` and the crates of worlds write them.
 #![tactic(auto)]
 
-mod digits;
 mod event;
 mod fault;
 mod hex_word;

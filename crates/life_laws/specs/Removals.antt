@@ -28,9 +28,19 @@ pub record IsOlderThan (a : AccBody) (n : NoteBody) : Type 0 where
   pub against : a.accused ≡ n.member
   pub older : a.epoch < n.epoch
 
--- Once a note is accepted, no accusation of an older epoch against its member is accepted, or expires.
+-- Behind an accepted note no accusation of an older epoch against its member is accepted, or expires: for any text of
+-- places at which notes and accusations are accepted, and accusations expire.
+abbrev pub NotesRuleOut : (ℕ → NoteBody → Type 0) → (ℕ → AccBody → Type 0) → (ℕ → AccBody → Type 0) → Type 0
+NotesRuleOut note accepted expires = (i j : ℕ) (n : NoteBody) (a : AccBody) → i < j → note i n → IsOlderThan a n
+    → ¬ (accepted j a) × ¬ (expires j a)
+
+-- In this life, from this state on.
+abbrev pub RulesOut : Group → State → List Event → Type 0
+RulesOut g s events = NotesRuleOut (IsNoteAcceptedAt g s events) (IsAcceptedAt g s events) (ExpiresAt g s events)
+
+-- In every life.
 abbrev pub AnswersHold : Type 0
-AnswersHold = (g : Group) (s : State) (events : List Event) (i j : ℕ) (n : NoteBody) (a : AccBody) → i < j → IsNoteAcceptedAt g s events i n → IsOlderThan a n → ¬ (IsAcceptedAt g s events j a) × ¬ (ExpiresAt g s events j a)
+AnswersHold = (g : Group) (s : State) (events : List Event) → RulesOut g s events
 
 -- An accepted note ends each acceptance against its member that it answers: what stays is at its epoch, on a
 -- ring that it enables.

@@ -9,3 +9,4 @@ pub mod NoteLemmas
 pub mod ExpireLemmas
 pub mod TickLemmas
 pub mod AccuseLemmas
+pub mod ViewLemmas

@@ -1,7 +1,7 @@
 //! Floor: membership. One observer's membership in one life: who has joined, the newest note of each, what expired, and
 //! the view. Each call is one step of the model in `ff_ids`; contracts speak of every note accepted and every
-//! accusation expired, of which far less is kept. After opening no call takes memory. A node calls it, and the replay
-//! of plain records.
+//! accusation expired, of which far less is kept. After opening only `members_in_view` takes memory. A node calls it, and
+//! the replay of plain records.
 #![tactic(auto)]
 
 ghost use Rattle.std.specs.Prelude.{◌≡◌, ℕ, ◌<◌, ◌≤◌, ◌+◌, ◌-◌, ◌*◌, ◌^◌, true, not, [], Option, None, Some, length, if◌then◌else◌, map, filter, slice_index_or, IfOk, OnOk, OnErr};
@@ -29,7 +29,7 @@ mod laws;
 mod report;
 
 use by_member::ByMember;
-use ff_ids::{AccBody, Epoch, Fault, Group, MemberId, NoteBody, RingNo};
+use ff_ids::{AccBody, Epoch, Fault, Group, MEMBERS, MemberId, NoteBody, RingNo};
 use fields::NoMemory;
 use kept::{brings_in, is_live};
 pub use laws::only_the_touched_end;
@@ -119,6 +119,20 @@ impl Membership {
         ensures { (s : State) → Holds self.now s → result ≡ in_view_of s member }
     {
         is_live(&self.notes, &self.expired, member)
+    }
+
+    /// The members of the view, in order of number.
+    pub fn members_in_view(&self, alloc: Global) -> Result<Vec<MemberId>, NoMemory>
+        ensures { (s : State) → Holds self.now s → IfOk result (λ members. members.items ≡ view s) }
+    {
+        let mut members = Vec::new(alloc);
+        for number in 0..MEMBERS {
+            let member = MemberId::new(number);
+            if self.in_view(member) {
+                members.push(member)?;
+            }
+        }
+        Ok(members)
     }
 
     /// The newest note of the member.

@@ -11,7 +11,7 @@ ghost use Rattle.records.specs.declared.Body.TheVariants as bodies;
 ghost use Rattle.epoch_store.specs.declared.Stored.{Stored};
 ghost use Rattle.node_rules.specs.Nodes.{Setting};
 ghost use Rattle.node_rules.specs.Calls.{Call, own_record, signs};
-ghost use Rattle.node_rules.specs.Replies.{first_mask as mask_at_first, all_rings as all_rings_of};
+ghost use Rattle.node_rules.specs.Replies.{first_mask as mask_at_first};
 ghost use Rattle.node_rules.specs.Starting.{started};
 ghost use Rattle.journal.specs.declared.event.Event as journal;
 ghost use Rattle.node_core.specs.Playing.{Plays, Grows, IsReady, setting_of};
@@ -27,7 +27,7 @@ use crate::roll::Roll;
 use crate::telling::Telling;
 use crate::{Node, NodeFault};
 use detector::{Detector, Found};
-use ff_ids::{Epoch, Group, Mask, MemberId, NoteBody, good_mask};
+use ff_ids::{Epoch, Group, Mask, MemberId, NoteBody, all_rings, good_mask};
 use fields::NoMemory;
 use lms_tree::PublicKey;
 use membership::Changes;
@@ -35,14 +35,6 @@ use ports::Disk;
 use records::{Body, Checked};
 use signer::{SignFault, Signer};
 use std::alloc::Global;
-
-/// The mask of all rings of a group of this tolerance.
-fn all_rings(t: u8) -> Mask
-    requires { t ≤ 15 }
-    ensures { result.0 ≡ all_rings_of t }
-{
-    Mask((1 << (2 * u32::from(t) + 1)) - 1)
-}
 
 /// The mask of a life's first note: the stored one, or that of all rings where it isn't good.
 fn first_mask(group: &Group, stored: Mask) -> Mask

@@ -9,7 +9,7 @@ use Rattle.ff_ids.specs.declared.AccBody.{AccBody}
 use Rattle.ff_ids.specs.declared.NoteBody.{NoteBody}
 use Rattle.ff_ids.specs.declared.Fault.TheVariants as faults
 use Rattle.ff_ids.specs.declared.summary.RecordKey.TheVariants as keys
-use Rattle.ff_ids.specs.Masks.{good_mask}
+use Rattle.ff_ids.specs.Masks.{all_rings, good_mask}
 use Rattle.ff_ids.specs.Notes.{newest}
 use Rattle.ff_ids.specs.Views.{is_member}
 use Rattle.ff_ids.specs.Faults.{note_fault, note_fault_by}
@@ -26,7 +26,7 @@ use Rattle.datagram.specs.declared.Datagram.{Datagram}
 use Rattle.detector.specs.Silence.{History}
 use Rattle.node_rules.specs.Nodes.{Setting, Node, state_of, certificate_of, public_key_of}
 use Rattle.node_rules.specs.Refusals.{signature_fault, certificate_fault, refusal, refusal_of}
-use Rattle.node_rules.specs.Replies.{first_mask, all_rings}
+use Rattle.node_rules.specs.Replies.{first_mask}
 use Rattle.node_rules.specs.Calls.{Call, begun, lives, takes, spends, signs, sends, own_record, is_used_up}
 use Rattle.node_rules.specs.Deliveries.{answer_to, answering_note}
 use Rattle.node_rules.specs.Starting.{blank, opened, started}

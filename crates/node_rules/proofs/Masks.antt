@@ -7,13 +7,13 @@ use Rattle.std.proofs.lemmas.Bool.{cases_lt, cases_Bool, and_parts, and_from, or
 use Rattle.std.proofs.lemmas.Bool.Decides.{nat_tests}
 use Rattle.std.proofs.lemmas.List.Folds.{list_all-append}
 use Rattle.std.proofs.lemmas.Nat.Bits.{same_from_bits_below, bit_at_cat_low, bit_at_cat_high, bit_at_lowest, bit_at-lt, bit_at_ones}
-use Rattle.ff_ids.specs.Masks.{ring_count, enables, good_mask}
+use Rattle.ff_ids.specs.Masks.{all_rings, ring_count, enables, good_mask}
 use Rattle.ff_ids.proofs.MaskLemmas.{range_with_len-push}
 use Rattle.rebuttal.specs.Rebuttals.{disabled_count, IsLowestDisabled, IsEnabledByAnswer}
 use Rattle.rebuttal.proofs.Switching.{switch, count, all_counted}
 use Rattle.rebuttal.proofs.Answering.{IsAsked, IsFull, good_parts, good_from, without_exact, again, again_exact, again_good, not_all}
 use Rattle.record_set.specs.Pages.{bits_where}
-use Rattle.node_rules.specs.Replies.{is_lowest_disabled, is_enabled_by_answer, answering_mask, all_rings}
+use Rattle.node_rules.specs.Replies.{is_lowest_disabled, is_enabled_by_answer, answering_mask}
 
 -- ---- bits
 

@@ -10,7 +10,7 @@ use Rattle.std.specs.Ordering.{nat_cmp}
 use Rattle.std.specs.Cmp.{nat_cmp_is}
 use Rattle.std.specs.declared.cmp.Ordering.{Ordering}
 use Rattle.std.specs.declared.cmp.Ordering.TheVariants.{Greater}
-use Rattle.ff_ids.specs.Masks.{good_mask, enables}
+use Rattle.ff_ids.specs.Masks.{all_rings, good_mask, enables}
 use Rattle.ff_ids.specs.Notes.{newest, note_cmp, greater_note}
 use Rattle.ff_ids.specs.Views.{State, is_member}
 use Rattle.ff_ids.specs.Faults.{note_fault, accusation_fault, fault_beside, fault_after, note_fault_by, facts_of}
@@ -28,7 +28,7 @@ use Rattle.node_rules.specs.Refusals.{refusal, refusal_of}
 use Rattle.node_rules.specs.Calls.{Call, begun, lives, takes, signs, spends, sends, own_record}
 use Rattle.detector.specs.Silence.{History}
 use Rattle.rebuttal.proofs.Answering.{IsAsked}
-use Rattle.node_rules.specs.Replies.{answering_mask, first_mask, all_rings}
+use Rattle.node_rules.specs.Replies.{answering_mask, first_mask}
 use Rattle.node_rules.specs.Deliveries.{answering_note, answer_to}
 use Rattle.node_rules.specs.Starting.{blank, opened, started}
 use Rattle.node_rules.specs.Lives.{is_certificate_for, stored_note, KeepsOwnNote, Input, call_of, after_calls}

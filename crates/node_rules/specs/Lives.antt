@@ -9,8 +9,8 @@ use Rattle.ff_ids.specs.Views.{State, is_member}
 use Rattle.ff_ids.specs.declared.AccBody.{AccBody}
 use Rattle.ff_ids.specs.Faults.{note_fault}
 use Rattle.ff_ids.specs.Steps.{Event, step}
-use Rattle.ff_ids.specs.Lives.{opening, IsAcceptedAt, IsJustified}
-use Rattle.life_laws.specs.Removals.{IsNoteAcceptedAt, ExpiresAt, IsOlderThan}
+use Rattle.ff_ids.specs.Lives.{opening, IsJustified}
+use Rattle.life_laws.specs.Removals.{RulesOut}
 use Rattle.records.specs.declared.CertBody.{CertBody}
 use Rattle.records.specs.declared.Record.{Record}
 use Rattle.records.specs.declared.Body.{Body}
@@ -102,8 +102,7 @@ EachLifeIsJustified = (s : Setting) (n : Node) → IsJustified s.group (opening 
 
 -- Once a note is accepted in a life, no accusation of an older epoch against its member is accepted in it, or expires.
 abbrev pub AnswersHoldInLives : Type 0
-AnswersHoldInLives = (s : Setting) (n : Node) (i j : ℕ) (note : NoteBody) (a : AccBody) → i < j → IsNoteAcceptedAt s.group (opening []) n.lived i note → IsOlderThan a note
-    → ¬ (IsAcceptedAt s.group (opening []) n.lived j a) × ¬ (ExpiresAt s.group (opening []) n.lived j a)
+AnswersHoldInLives = (s : Setting) (n : Node) → RulesOut s.group (opening []) n.lived
 
 -- Each call tells its life, also one in which the disk fails.
 abbrev pub EachCallTellsItsLife : Type 0

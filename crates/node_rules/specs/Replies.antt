@@ -1,7 +1,7 @@
 -- The masks of a node's own notes: of the first one of a life, and of those that answer accusations.
-use Rattle.std.specs.Prelude.{ℕ, ◌-◌, ◌^◌, Bool, ◌&&◌, ◌||◌, not, ◌==◌, if◌then◌else◌}
+use Rattle.std.specs.Prelude.{ℕ, Bool, ◌&&◌, ◌||◌, not, ◌==◌, if◌then◌else◌}
 use Rattle.std.specs.List.{list_all, range_with_len}
-use Rattle.ff_ids.specs.Masks.{ring_count, enables, good_mask}
+use Rattle.ff_ids.specs.Masks.{all_rings, ring_count, enables, good_mask}
 use Rattle.rebuttal.specs.Rebuttals.{disabled_count}
 use Rattle.record_set.specs.Pages.{bits_where}
 
@@ -18,10 +18,6 @@ is_enabled_by_answer t mask accused_on ring =
 -- The mask of the note that answers an accusation on a ring, by the mask before it.
 unfoldable pub answering_mask : ℕ → ℕ → ℕ → ℕ
 answering_mask t mask accused_on = bits_where (is_enabled_by_answer t mask accused_on) (ring_count t)
-
--- The mask of all rings.
-abbrev pub all_rings : ℕ → ℕ
-all_rings t = 2 ^ ring_count t - 1
 
 -- A life begins with the mask that the store keeps, or with all rings where that isn't good.
 abbrev pub first_mask : ℕ → ℕ → ℕ

@@ -115,18 +115,6 @@ tells-known life r m places answer fault later old new plays answered err same t
           ∙ ap (λ (x : Stepped). old ++ (codes " : " ++ (codes "refused " ++ fault_text fault) ++ 10 ∷ [] ++ events_text (events_of x))) is);
     }
 
--- the numbers below the next one
-pub range_with_len-next : (n : ℕ) → range_with_len 0 (n + 1) ≡ range_with_len 0 n ++ n ∷ []
-range_with_len-next n = rw add-one (range_with_len-push 0 n ∙ ap (λ (k : ℕ). range_with_len 0 n ++ k ∷ []) (zero-add n))
-
-numbers-all : range_with_len 0 1024 ≡ all_numbers
-unfolding all_numbers
-numbers-all = refl
-
--- the view goes over all numbers
-pub view-all : (s : State) (n : ℕ) → n ≡ 1024 → filter (in_view s) (range_with_len 0 n) ≡ view s
-view-all s n e = ap (λ (k : ℕ). filter (in_view s) (range_with_len 0 k)) e ∙ ap (filter (in_view s)) numbers-all
-
 accused-events : (fault : Option Fault) (s later : State) → events_of (unless_fault fault s (unchanged later)) ≡ []
 accused-events None s later = refl
 accused-events (Some fault) s later = refl

@@ -17,7 +17,7 @@ ghost use Rattle.trace.specs.Answers.{Recorded, answer as answer_to, answer_in, 
 ghost use Rattle.replay.specs.Plays.{Plays, PlaysOne, Tells, FitsLife, FitsOn};
 
 use crate::report::{add, add_report, add_verdict, add_verdict_on};
-use ff_ids::{AccBody, Fault, Group, MEMBERS, MemberId, NoteBody, RingNo};
+use ff_ids::{AccBody, Fault, Group, MemberId, NoteBody, RingNo};
 use fields::NoMemory;
 use life_events::{Verdict, write_members};
 use membership::{Changes, Membership};
@@ -34,20 +34,6 @@ pub struct Life {
     pub number: u64,
     pub membership: Membership,
     pub changes: Changes,
-}
-
-/// The members of the view, in order of number.
-fn members_in_view(alloc: Global, membership: &Membership) -> Result<Vec<MemberId>, NoMemory>
-    ensures { (s : State) → Holds membership.now s → IfOk result (λ v. v.items ≡ view s) }
-{
-    let mut members = Vec::new(alloc);
-    for number in 0..MEMBERS {
-        let member = MemberId::new(number);
-        if membership.in_view(member) {
-            members.push(member)?;
-        }
-    }
-    Ok(members)
 }
 
 /// As `Membership::put_accusation`, its comparisons counted in a ledger of its own.
@@ -180,7 +166,7 @@ impl Life {
     fn tell_view(&self, alloc: Global, text: &mut Vec<u8>) -> Result<(), NoMemory>
         ensures { (r : Recorded) → PlaysOne self.now r → OnOk result (Tells (answer_in r DirectLine.View) self.now text.old.items text.new.items) }
     {
-        let members = members_in_view(alloc, &self.membership)?;
+        let members = self.membership.members_in_view(alloc)?;
         add(text, b" : ")?;
         write_members(&members, text)?;
         add(text, b"\n")

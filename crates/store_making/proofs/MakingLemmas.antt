@@ -1,6 +1,7 @@
 -- What comes of the making of a store, by its answer.
 use Rattle.std.proofs.Common.{◌≡◌, ℕ, true, List, Result, Ok, Err, refl, subst, inl, inr}
 use Rattle.ff_ids.specs.declared.Mask.{Mask}
+use Rattle.ff_ids.specs.Masks.{all_rings}
 use Rattle.line_text.specs.declared.bad_word.BadWord.{BadWord}
 use Rattle.epoch_store.specs.declared.Stored.{Stored}
 use Rattle.epoch_store.specs.declared.StoreError.{StoreError}
@@ -22,16 +23,16 @@ use Rattle.authority.specs.declared.halt.Halt.TheVariants as halt
 use Rattle.authority.specs.declared.setting.Setting.{Setting}
 use Rattle.authority.specs.Halts.{halt_for, halt_of}
 use Rattle.authority.specs.OfDisk.{OfDisk}
-use Rattle.authority.specs.Settings.{all_rings, secret_judging, tag_of}
+use Rattle.authority.specs.Settings.{secret_judging, tag_of}
 use Rattle.authority.specs.Telling.{is_writable}
 use Rattle.authority.specs.Texts.{IsSecret}
 use Rattle.store_making.specs.Making.{IsMade, Makes, MakesBehind, first_of}
 
 -- what is said of a tag and a mask is said of the setting's own
-own : (P : List ℕ → Stored → Type 0) (tag : List ℕ) (mask : Mask) (s : Setting) → tag ≡ tag_of s → mask ≡ all_rings s.group.t → P tag (first_entry mask) → P (tag_of s) (first_of s)
+own : (P : List ℕ → Stored → Type 0) (tag : List ℕ) (mask : Mask) (s : Setting) → tag ≡ tag_of s → mask ≡ record { 0 = all_rings s.group.t } → P tag (first_entry mask) → P (tag_of s) (first_of s)
 own P tag mask s tag_is mask_is h = subst (λ m. P (tag_of s) (first_entry m)) mask_is (subst (λ t. P t (first_entry mask)) tag_is h)
 
-pub is-made : (name tag : List ℕ) (mask : Mask) (s : Setting) (old new : OfDisk) → tag ≡ tag_of s → mask ≡ all_rings s.group.t → new.faults ≡ old.faults
+pub is-made : (name tag : List ℕ) (mask : Mask) (s : Setting) (old new : OfDisk) → tag ≡ tag_of s → mask ≡ record { 0 = all_rings s.group.t } → new.faults ≡ old.faults
     → new.calls ≡ with_calls (make_calls name tag (first_entry mask)) old.calls → MakesWhereEmpty old.moments (Ok tt)
     → SettlesAs (λ _. made tag (first_entry mask)) old.moments new.moments → IsSettled tag (first_entry mask) 57 new.moments → IsMade name s old new
 is-made name tag mask s old new tag_is mask_is faults calls empty image settled = record {
@@ -45,7 +46,7 @@ is-made name tag mask s old new tag_is mask_is faults calls empty image settled 
 abbrev failed : StoreError → Result (Unit {0}) StoreError
 failed e = Err e
 
-pub not-made : (name tag : List ℕ) (mask : Mask) (s : Setting) (between : Standing) (old new : OfDisk) (e : StoreError) → tag ≡ tag_of s → mask ≡ all_rings s.group.t → new.faults ≡ counted (is_fault (failed e)) old.faults
+pub not-made : (name tag : List ℕ) (mask : Mask) (s : Setting) (between : Standing) (old new : OfDisk) (e : StoreError) → tag ≡ tag_of s → mask ≡ record { 0 = all_rings s.group.t } → new.faults ≡ counted (is_fault (failed e)) old.faults
     → MakesStore name tag (first_entry mask) (failed e) old.calls new.calls → MakesWhereEmpty old.moments (failed e)
     → OnRefusal (failed e) (new.moments ≡ old.moments) → Fails (torn_at 0 58) old.moments new.moments → MakesBehind name s between between old new (Err (halt_for e))
 not-made name tag mask s between old new store.Fault tag_is mask_is faults calls taken refused moments =

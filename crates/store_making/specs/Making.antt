@@ -2,6 +2,7 @@
 -- answer.
 use Rattle.std.specs.Prelude.{◌≡◌, ℕ, ◌⊎◌, List, [], ◌∷◌, ◌++◌, Result, Ok, Err, codes, string_bytes}
 use Rattle.hex.specs.Hex.{encode_lower}
+use Rattle.ff_ids.specs.Masks.{all_rings}
 use Rattle.line_text.specs.declared.bad_word.BadWord.{BadWord}
 use Rattle.lms_tree.specs.Lms.{key_bytes, public_of}
 use Rattle.lms_tree.specs.declared.key.PublicKey.{PublicKey}
@@ -23,7 +24,7 @@ use Rattle.authority.specs.declared.halt.Halt.{Halt}
 use Rattle.authority.specs.declared.halt.Halt.TheVariants as halt
 use Rattle.authority.specs.declared.setting.Setting.{Setting}
 use Rattle.authority.specs.OfDisk.{OfDisk}
-use Rattle.authority.specs.Settings.{all_rings, key_of, secret_judging, secret_setting, tag_of, told_for}
+use Rattle.authority.specs.Settings.{key_of, secret_judging, secret_setting, tag_of, told_for}
 use Rattle.authority.specs.Telling.{IsCut, IsTold}
 use Rattle.authority.specs.Texts.{IsSecret}
 use Rattle.store_making.specs.declared.making.Prepared.{Prepared}
@@ -54,7 +55,7 @@ pub record IsPrepared (s : Setting) (p : Prepared) : Type 0 where
 
 -- the entry of a new store: next 0, epoch 0, and each ring of the group enabled
 abbrev pub first_of : Setting → Stored
-first_of s = first_entry (all_rings s.group.t)
+first_of s = first_entry (record { 0 = all_rings s.group.t })
 
 -- The file was empty, and is now the store of the setting's key, just those bytes, settled: each crash leaves them.
 pub record IsMade (name : List ℕ) (s : Setting) (old new : OfDisk) : Type 0 where

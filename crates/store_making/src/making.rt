@@ -9,6 +9,7 @@ ghost use Rattle.store_making.specs.Making.{IsPrepared, MakesBehind, Makes};
 
 use authority::{Halt, Setting, read_secret_text};
 use epoch_store::make;
+use ff_ids::all_rings;
 use fields::NoMemory;
 use ports::{Disk, Failed, Sink, Source, write_all};
 use std::alloc::Global;
@@ -58,7 +59,7 @@ fn make_and_tell<O: Sink, D: Disk>(
         (of_disk (D.faults disk.old) (D.calls disk.old) (D.moments disk.old))
         (of_disk (D.faults disk.new) (D.calls disk.new) (D.moments disk.new)) result }
 {
-    match make(disk, name, &prepared.tag, setting.all_rings()) {
+    match make(disk, name, &prepared.tag, all_rings(setting.group.t)) {
         Ok(()) => match write_all(out, prepared.line.as_bytes()) {
             Ok(()) => Ok(()),
             Err(Failed) => Err(Halt::WriteFault),

@@ -229,4 +229,4 @@ none-expires ls i j life moment n a less note older e =
 
 -- behind an accepted note no older accusation is accepted, or expires
 pub rule-out : (ls : List (List ℕ)) → RuleOut (walk_over ls)
-rule-out ls i j life moment n a less note older = (none-accepted ls i j life n a less note older, none-expires ls i j life moment n a less note older)
+rule-out ls life moment i j n a less note older = (none-accepted ls i j life n a less note older, none-expires ls i j life moment n a less note older)

@@ -7,7 +7,7 @@ use Rattle.ff_ids.specs.Views.{is_unanswered_by}
 use Rattle.life_events.specs.declared.event.What.TheVariants as what
 use Rattle.life_events.specs.declared.verdict.Verdict.TheVariants as verdicts
 use Rattle.life_events.specs.Verdicts.{verdict_words}
-use Rattle.life_laws.specs.Removals.{IsOlderThan}
+use Rattle.life_laws.specs.Removals.{NotesRuleOut}
 use Rattle.schedule_direct.specs.declared.line.DirectLine.TheVariants as lines
 use Rattle.trace.specs.Answers.{Recorded}
 use Rattle.trace.specs.Walk.{Taken, Walk}
@@ -42,8 +42,7 @@ pub record Expires (w : Walk) (place life moment : ℕ) (a : AccBody) : Type 0 w
 
 -- Behind an accepted note no accusation of an older epoch against its member is accepted in that life, or expires.
 abbrev pub RuleOut : Walk → Type 0
-RuleOut w = (i j life moment : ℕ) (n : NoteBody) (a : AccBody) → i < j → AcceptsNote w i life n → IsOlderThan a n
-    → ¬ (AcceptsAccusation w j life a) × ¬ (Expires w j life moment a)
+RuleOut w = (life moment : ℕ) → NotesRuleOut (λ i n. AcceptsNote w i life n) (λ j a. AcceptsAccusation w j life a) (λ j a. Expires w j life moment a)
 
 -- In the life as it stood before a line, the accusation was accepted at a place behind so many events, and at this moment
 -- it had stood for the timeout since.

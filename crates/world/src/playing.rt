@@ -17,34 +17,12 @@ ghost use Rattle.world.specs.Holding.{Holds, numbers};
 
 use crate::refusing::node_named;
 use crate::{World, WorldFault};
-use ff_ids::{MEMBERS, MemberId, RingNo};
+use ff_ids::{MemberId, RingNo};
 use fields::{Name, NoMemory};
 use membership::Membership;
 use schedule_world::WorldLine;
 use std::alloc::Global;
 use world_text::{MemberList, Verdict, write_line, write_verdict};
-
-/// Adds the member, if it is to be there.
-fn add_if(there: bool, member: MemberId, members: &mut Vec<MemberId>) -> Result<(), NoMemory>
-    ensures { OnOk result (members.new.items ≡ members.old.items ++ (if there then member ∷ [] else [])) }
-{
-    if there {
-        members.push(member)?;
-    }
-    Ok(())
-}
-
-/// The members of the view, in order of number.
-fn members_in_view(alloc: Global, membership: &Membership) -> Result<MemberList, NoMemory>
-    ensures { IfOk result (λ members. (st : State) → Stands membership.now st → members ≡ view st) }
-{
-    let mut members = Vec::new(alloc);
-    for number in 0..MEMBERS {
-        let member = MemberId::new(number);
-        add_if(membership.in_view(member), member, &mut members)?;
-    }
-    Ok(MemberList::from_vec(members))
-}
 
 /// The monitor of the member on the ring. Whoever has a certificate has joined, and lines have no other ring than the
 /// group's.
@@ -122,8 +100,8 @@ impl World {
     {
         match self.stations[at].node() {
             Some(node) => {
-                let members = members_in_view(self.alloc, node.membership())?;
-                self.answer(&Verdict::Sees(members), out)
+                let members = node.membership().members_in_view(self.alloc)?;
+                self.answer(&Verdict::Sees(MemberList::from_vec(members)), out)
             }
             None => end_line(out),
         }

@@ -14,7 +14,7 @@ use Rattle.ff_ids.specs.Lives.{opening, state_at}
 use Rattle.ff_ids.specs.Notes.{newest}
 use Rattle.ff_ids.specs.Steps.{Accuses, Event, Joins, Notes, Report, Stepped, Ticks, after_accusation, after_note, is_due, step, unchanged, unless_fault}
 use Rattle.ff_ids.specs.Views.{State, is_member, is_unanswered_by, stands}
-use Rattle.life_laws.specs.Removals.{ExpiresAt, IsNoteAcceptedAt}
+use Rattle.life_laws.specs.Removals.{ExpiresAt, IsNoteAcceptedAt, RulesOut}
 use Rattle.life_laws.proofs.AnsweredLemmas.{newest-accepted, none_accepted, none_expires}
 use Rattle.life_laws.proofs.JustifiedLemmas.{Upheld, sound}
 use Rattle.life_laws.proofs.LifeLemmas.{reports-at, state_at-next}
@@ -26,7 +26,7 @@ use Rattle.node_rules.specs.Calls.{told_of, whats_of}
 use Rattle.node_rules.specs.Lives.{is_of_life, told_by}
 use Rattle.world_rules.specs.Settings.{Setting}
 use Rattle.world_rules.specs.Worlds.{Life, lives_of}
-use Rattle.world_laws.specs.Replies.{AnswersHold, AnswersHoldInWorlds, EndsAcceptance, RulesOut, StoodSince, ToldExpiriesAreLived}
+use Rattle.world_laws.specs.Replies.{AnswersHold, AnswersHoldInWorlds, EndsAcceptance, StoodSince, ToldExpiriesAreLived}
 use Rattle.world_laws.proofs.Removing.{in-told, told-moment}
 
 -- ---- what expires
@@ -108,7 +108,7 @@ ends-so s life i j n a less note about answered expires =
     subst (StoodSince s life i j) d.same
     (record { place = u.place; later = later; earlier = u.earlier; again = u.accepted_there; stood = u.stood; timeout = omega (arith, u.since, passed) })
 
-rules-out : (s : Setting) (life : Life) → RulesOut s life
+rules-out : (s : Setting) (life : Life) → RulesOut s.group (opening []) life.node.lived
 rules-out s life i j n a less at older = (none_accepted s.group (opening []) life.node.lived i j n a less at older, none_expires s.group (opening []) life.node.lived i j n a less at older)
 
 pub answers-hold : AnswersHoldInWorlds

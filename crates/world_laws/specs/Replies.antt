@@ -5,17 +5,12 @@ use Rattle.ff_ids.specs.declared.AccBody.{AccBody}
 use Rattle.ff_ids.specs.declared.NoteBody.{NoteBody}
 use Rattle.ff_ids.specs.Views.{is_unanswered_by, stands}
 use Rattle.ff_ids.specs.Lives.{IsAcceptedAt, opening, state_at}
-use Rattle.life_laws.specs.Removals.{ExpiresAt, IsNoteAcceptedAt, IsOlderThan}
+use Rattle.life_laws.specs.Removals.{ExpiresAt, IsNoteAcceptedAt, RulesOut}
 use Rattle.journal.specs.declared.event.What.TheVariants as happened
 use Rattle.world_rules.specs.Settings.{Setting}
 use Rattle.world_rules.specs.Worlds.{Life, World, lives_of}
 use Rattle.world_rules.specs.Steps.{Told}
 use Rattle.world_rules.specs.Laws.{Reached}
-
--- Behind an accepted note no accusation of an older epoch against its member is accepted in the life, or expires.
-abbrev pub RulesOut : Setting → Life → Type 0
-RulesOut s life = (i j : ℕ) (n : NoteBody) (a : AccBody) → i < j → IsNoteAcceptedAt s.group (opening []) life.node.lived i n → IsOlderThan a n
-    → ¬ (IsAcceptedAt s.group (opening []) life.node.lived j a) × ¬ (ExpiresAt s.group (opening []) life.node.lived j a)
 
 -- Behind place i the accusation was accepted, and it stood in each state up to place j, for the timeout at least.
 pub record StoodSince (s : Setting) (life : Life) (i j : ℕ) (a : AccBody) : Type 0 where
@@ -34,7 +29,7 @@ EndsAcceptance s life = (i j : ℕ) (n : NoteBody) (a : AccBody) → i < j → I
 
 -- What an answer is worth in a life.
 pub record AnswersHold (s : Setting) (life : Life) : Type 0 where
-  pub rules_out : RulesOut s life
+  pub rules_out : RulesOut s.group (opening []) life.node.lived
   pub ends : EndsAcceptance s life
 
 -- What is told of the accusation is that it expires at a place of one of the node's lives, which has the told moment

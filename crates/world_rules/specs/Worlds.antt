@@ -6,7 +6,7 @@ use Rattle.epoch_store.specs.declared.Stored.{Stored}
 use Rattle.signer.specs.Lives.{Spent}
 use Rattle.node_rules.specs.Nodes as node
 use Rattle.node_rules.specs.Lives.{Input}
-use Rattle.node_rules.specs.Replies.{all_rings}
+use Rattle.ff_ids.specs.Masks.{all_rings}
 use Rattle.world_rules.specs.Settings.{Owner, Setting, Signed, by_authority, nodes, same_owner}
 use Rattle.world_rules.specs.Disks.{Disk, made_disk}
 

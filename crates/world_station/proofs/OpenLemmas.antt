@@ -1,9 +1,6 @@
 -- A store that is made or opened on a node's disk.
 use Rattle.std.proofs.Common.{◌≡◌, ℕ, ◌^◌, ◌<◌, ◌≤◌, false, List, length, Some, Result, Ok, Err, sym, subst, arith}
 use Rattle.std.specs.Prelude.{is_err}
-use Rattle.std.proofs.Math.Nat.{pow-le-pow_right}
-use Rattle.std.proofs.lemmas.Nat.{pow_pos}
-use Rattle.ff_ids.specs.Masks.{ring_count}
 use Rattle.ff_ids.specs.declared.Mask.{Mask}
 use Rattle.ports.specs.DiskSteps.{Came, runs}
 use Rattle.ports.specs.MemoryDisk.{DiskState}
@@ -12,21 +9,11 @@ use Rattle.epoch_store.specs.declared.StoreError.TheVariants.{Fault, Taken, Brok
 use Rattle.epoch_store.specs.Asked.{make_calls}
 use Rattle.epoch_store.specs.Followed.{MakesFrom}
 use Rattle.epoch_store.specs.Store.{first_entry}
-use Rattle.node_rules.specs.Replies.{all_rings}
 use Rattle.world_disks.specs.Held.{HoldsDisk, crashed}
 use Rattle.world_disks.specs.Laws.{IsNew}
 use Rattle.world_disks.specs.OnDisks.{OpensTo}
 use Rattle.world_disks.proofs.Making.{make_as_told}
 use Rattle.world_rules.specs.Disks.{Disk, lets_pass, made_disk, opening_calls, stopped}
-
-pub small-rings : (t : ℕ) → t ≤ 15 → all_rings t < 2 ^ 31
-small-rings t few =
-    let some : 0 < 2 ^ ring_count t = pow_pos (ring_count t) in
-    let below : 2 ^ ring_count t ≤ 2 ^ 31 = pow-le-pow_right {n = 2} (omega arith) {i = ring_count t} {j = 31} (omega (arith, few)) in
-    omega (arith, some, below)
-
-pub mask-is : (mask : Mask) (rings : ℕ) → mask.0 ≡ rings → mask ≡ record { 0 = rings }
-mask-is mask rings is = λ i. record { 0 = is i }
 
 -- The store was made, and the disk is new.
 pub made-so : (tag name : List ℕ) (indexes : ℕ) (d r : DiskState) (mask : Mask) (result : Result (Unit {0}) StoreError) → IsNew indexes d → length tag ≡ 32 → mask.0 < 2 ^ 31 → is_err result ≡ false

@@ -5,7 +5,7 @@ use Rattle.lms_ots.specs.declared.OtsKind.{OtsKind}
 use Rattle.lms_tree.specs.declared.TreeKind.{TreeKind}
 use Rattle.secrets.specs.Secrets.{store_tag}
 use Rattle.signer.specs.Lives.{Spent}
-use Rattle.node_rules.specs.Replies.{all_rings}
+use Rattle.ff_ids.specs.Masks.{all_rings}
 use Rattle.node_core.specs.Playing as node
 use Rattle.node_core.specs.Rolls.{recs_of}
 use Rattle.world_disks.specs.Held.{HoldsDisk}

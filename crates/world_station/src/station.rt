@@ -6,7 +6,6 @@ ghost use Rattle.ff_ids.specs.Masks.{ring_count};
 ghost use Rattle.lms_ots.specs.declared.OtsKind.{OtsKind};
 ghost use Rattle.lms_tree.specs.declared.TreeKind.{TreeKind};
 ghost use Rattle.lms_tree.specs.Lms.{public_of};
-ghost use Rattle.node_rules.specs.Replies.{all_rings as all_rings_of};
 ghost use Rattle.world_disks.specs.Held.{crashed};
 ghost use Rattle.world_disks.specs.Laws.{IsNew};
 ghost use Rattle.world_keys.specs.Bodies.{is_among as is_one_of};
@@ -16,7 +15,7 @@ ghost use Rattle.world_rules.specs.Settings.{Setting};
 ghost use Rattle.world_station.specs.Holding.{HoldsStation, IsWorld, made_place};
 
 use epoch_store::make;
-use ff_ids::{Epoch, Group, Mask, MemberId};
+use ff_ids::{Epoch, Group, MemberId, all_rings};
 use fields::NoMemory;
 use lms_tree::{PublicKey, SecretKey};
 use membership::Membership;
@@ -80,14 +79,6 @@ fn open_disk(alloc: Global, indexes: u32) -> Result<MemoryDisk, NoMemory>
 {
     let indexes = indexes as usize;
     MemoryDisk::new(alloc, 58 + 17 * indexes, 2 + 4 * indexes, Vec::new(alloc))
-}
-
-/// The mask of all rings of a group of this tolerance.
-fn all_rings(t: u8) -> Mask
-    requires { t ≤ 15 }
-    ensures { result.0 ≡ all_rings_of t }
-{
-    Mask((1 << (2 * u32::from(t) + 1)) - 1)
 }
 
 impl Station {

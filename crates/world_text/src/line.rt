@@ -1,15 +1,13 @@
 //! Lines of a schedule as they are written back, with hexadecimal digits in lower case.
 
 ghost use Rattle.std.specs.Prelude.{◌≡◌, ◌++◌, ℕ, Option, OnOk, OnErr, codes, decimal};
-ghost use Rattle.hex.specs.Hex.{encode_lower};
 ghost use Rattle.lms_ots.specs.Ots.{width as width_of};
 ghost use Rattle.lms_tree.specs.Kinds.{height};
 ghost use Rattle.schedule_world.specs.Grammar.{spelled_epoch};
 ghost use Rattle.world_text.specs.Lines.{Began, accusation_end, accusation_line, accusation_middle, bytes_text, group_end, group_text, line_text, note_end, note_line};
 
 use ff_ids::{Epoch, Group, Mask, MemberId, NoteBody, RingNo};
-use fields::{Name, NoMemory};
-use hex::encode;
+use fields::{Name, NoMemory, add_digits};
 use life_events::write_text;
 use lms_ots::OtsKind;
 use lms_tree::TreeKind;
@@ -21,14 +19,6 @@ fn add(out: &mut Vec<u8>, bytes: &[u8]) -> Result<(), NoMemory>
 {
     out.extend_from_slice(bytes)?;
     Ok(())
-}
-
-fn add_digits(bytes: &[u8], out: &mut Vec<u8>) -> Result<(), NoMemory>
-    ensures ok { OnOk result (out.new.items ≡ out.old.items ++ encode_lower bytes.now) }
-    ensures refused { OnErr result (Began out.old.items out.new.items) }
-{
-    let digits = encode(*out.allocator(), bytes)?;
-    add(out, digits.as_bytes())
 }
 
 fn add_group_end(period: u32, misses: u8, tag: &[u8], out: &mut Vec<u8>) -> Result<(), NoMemory>

@@ -2,15 +2,15 @@ use Rattle.std.proofs.Common.{◌≡◌, ℕ, ◌^◌, ◌<◌, Some, length, re
 use Rattle.std.specs.Prelude.{codes}
 use Rattle.ff_ids.specs.declared.Group.{Group}
 use Rattle.ff_ids.specs.declared.Mask.{Mask}
+use Rattle.ff_ids.specs.Masks.{all_rings}
 use Rattle.lms_tree.specs.declared.key.PublicKey.{PublicKey}
 use Rattle.lms_tree.specs.Kinds.{leaf_count}
 use Rattle.lms_tree.specs.Lms.{public_of}
 use Rattle.secrets.specs.Secrets.{store_tag}
-use Rattle.node_rules.specs.Replies.{all_rings}
 use Rattle.world_disks.specs.Held.{HoldsDisk}
 use Rattle.world_rules.specs.Disks.{made_disk}
 use Rattle.world_rules.specs.Keys.{owner_key}
-use Rattle.world_station.proofs.OpenLemmas.{made-so, mask-is, small-rings}
+use Rattle.world_station.proofs.OpenLemmas.{made-so}
 use Rattle.world_station.proofs.WorldLemmas.{group-is, indexes-are, own-public, own-tree}
 use Rattle.world_station.proofs.station.Station.open.Goals as goal
 
@@ -21,9 +21,8 @@ returns-clause-holds c = λ s ots tree w key_is.
     let public : c.public-public.result ≡ public_of (owner_key g ots tree (Some c.args.member)) = c.public-public.ensures ∙ ap public_of key_is in
     let leaves : c.leaf_count.result ≡ s.indexes = c.leaf_count.ensures ∙ ap (λ (k : PublicKey). leaf_count k.tree) public ∙ ap leaf_count (own-tree g ots tree c.args.member) ∙ sym (indexes-are s g ots tree w) in
     let long : length c.store_tag-tag.result ≡ 32 = omega arith in
-    let small : c.all_rings.result.0 < 2 ^ 31 = subst (λ (n : ℕ). n < 2 ^ 31) (sym c.all_rings.ensures) (small-rings g.t w.few) in
-    let mask : c.all_rings.result ≡ record { 0 = all_rings s.group.t } = mask-is c.all_rings.result (all_rings s.group.t) (c.all_rings.ensures ∙ ap (λ (x : Group). all_rings x.t) (sym same)) in
-    let made = made-so c.store_tag-tag.result (codes "store") c.leaf_count.result c.in_ok-disk.disk c.make.new.disk c.all_rings.result c.make.result c.in_ok-disk.ensures long small (sym c.if-is_err.ensures.value) c.make.ensures.follows in
+    let mask : c.all_rings.result ≡ record { 0 = all_rings s.group.t } = c.all_rings.ensures.value ∙ ap (λ (x : Group). record { 0 = all_rings x.t }) (sym same) in
+    let made = made-so c.store_tag-tag.result (codes "store") c.leaf_count.result c.in_ok-disk.disk c.make.new.disk c.all_rings.result c.make.result c.in_ok-disk.ensures long c.all_rings.ensures.small (sym c.if-is_err.ensures.value) c.make.ensures.follows in
     record {
       public = public ∙ sym (own-public s g ots tree c.args.member w);
       key = key_is ∙ ap (λ (x : Group). owner_key x ots tree (Some c.args.member)) (sym same);

@@ -4,7 +4,7 @@ ghost use Rattle.std.specs.Prelude.{◌≡◌, ◌<◌, ◌++◌, [], ◌∷◌,
 ghost use Rattle.std.specs.Char.{encode_utf8};
 ghost use Rattle.hex.specs.Hex.{encode_lower, lower_digits};
 
-use fields::NoMemory;
+use crate::NoMemory;
 use std::fmt;
 
 /// Bytes that are written as two lower case digits each.
@@ -12,7 +12,7 @@ use std::fmt;
 pub struct Digits<'a>(pub &'a [u8]);
 
 /// The digit of this value.
-fn digit(value: u8) -> u8
+fn digit_byte(value: u8) -> u8
     requires { value < 16 }
     ensures { result ≡ slice_index lower_digits value }
 {
@@ -20,11 +20,11 @@ fn digit(value: u8) -> u8
 }
 
 /// The same as a character.
-fn character(value: u8) -> char
+pub fn digit(value: u8) -> char
     requires { value < 16 }
     ensures { encode_utf8 result ≡ slice_index lower_digits value ∷ [] }
 {
-    char::from(digit(value))
+    char::from(digit_byte(value))
 }
 
 impl<'a> fmt::Display for Digits<'a> {
@@ -32,20 +32,21 @@ impl<'a> fmt::Display for Digits<'a> {
 
     fn fmt<W: fmt::Write>(&self, f: &mut fmt::Formatter<W>) -> fmt::Result {
         for byte in self.0 {
-            f.write_char(character(*byte / 16))?;
-            f.write_char(character(*byte % 16))?;
+            f.write_char(digit(*byte / 16))?;
+            f.write_char(digit(*byte % 16))?;
         }
         Ok(())
     }
 }
 
-/// Adds the digits of the bytes. Where memory is refused, `out` begins with what it held.
+/// Adds the digits of the bytes, with one reservation of room. Where memory is refused, `out` begins with what it held.
 pub fn add_digits(bytes: &[u8], out: &mut Vec<u8>) -> Result<(), NoMemory>
     ensures ok { OnOk result (out.new.items ≡ out.old.items ++ encode_lower bytes.now) }
     ensures refused { OnErr result (take (length out.old.items) out.new.items ≡ out.old.items) }
 {
+    out.reserve(2 * bytes.len())?;
     for byte in bytes {
-        out.extend_from_slice(&[digit(*byte / 16), digit(*byte % 16)])?;
+        out.extend_from_slice(&[digit_byte(*byte / 16), digit_byte(*byte % 16)])?;
     }
     Ok(())
 }

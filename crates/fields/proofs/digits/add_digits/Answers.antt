@@ -2,9 +2,9 @@ use Rattle.std.proofs.Common.{rules, ◌≡◌, ◌++◌, ◌∷◌, [], ◌+◌
 use Rattle.std.specs.Prelude.{slice_index}
 use Rattle.std.proofs.Math.Seq.{take-length}
 use Rattle.hex.specs.Hex.{encode_lower, encode_with, lower_digits}
-use Rattle.ff_ids.proofs.HexLemmas.{encode_lower-more}
-use Rattle.life_events.proofs.TextLemmas.{begins}
-use Rattle.journal.proofs.digits.add_digits.Goals as goal
+use Rattle.fields.proofs.HexLemmas.{encode_lower-more}
+use Rattle.fields.proofs.FrontLemmas.{begins}
+use Rattle.fields.proofs.digits.add_digits.Goals as goal
 
 one_more : (old out new bytes : List ℕ) (i high low : ℕ) → i < length bytes → out ≡ old ++ encode_lower (take i bytes)
     → high ≡ slice_index lower_digits (get_or bytes i 0 / 16) → low ≡ slice_index lower_digits (get_or bytes i 0 % 16)
@@ -14,11 +14,11 @@ one_more old out new bytes i high low within so_far is_high is_low is_new =
 
 pub loop-byte-init : goal.loop-byte-init
 unfolding encode_with
-loop-byte-init c = record { written = search rules; begun = take-length c.args.out.now.items }
+loop-byte-init c = record { written = search rules; begun = rw c.reserve.ensures.items (take-length c.args.out.now.items) }
 
 pub loop-byte-preserved : goal.loop-byte-preserved
 loop-byte-preserved c =
     record {
-      written = one_more _ _ _ c.args.bytes.now c.loop-byte.byte-index c.digit.result c.digit-in-loop-byte.result (search rules) c.loop-byte.invariant.written c.digit.ensures c.digit-in-loop-byte.ensures (search rules);
-      begun = rw (let new : c.extend_from_slice.new.self.items ≡ c.loop-byte.out.items ++ c.digit.result ∷ c.digit-in-loop-byte.result ∷ [] = search rules in new) (begins _ _ (c.digit.result ∷ c.digit-in-loop-byte.result ∷ []) c.loop-byte.invariant.begun);
+      written = one_more _ _ _ c.args.bytes.now c.loop-byte.byte-index c.digit_byte.result c.digit_byte-in-loop-byte.result (search rules) c.loop-byte.invariant.written c.digit_byte.ensures c.digit_byte-in-loop-byte.ensures (search rules);
+      begun = rw (let new : c.extend_from_slice.new.self.items ≡ c.loop-byte.out.items ++ c.digit_byte.result ∷ c.digit_byte-in-loop-byte.result ∷ [] = search rules in new) (begins _ _ (c.digit_byte.result ∷ c.digit_byte-in-loop-byte.result ∷ []) c.loop-byte.invariant.begun);
     }

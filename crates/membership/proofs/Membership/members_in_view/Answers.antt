@@ -3,8 +3,8 @@ use Rattle.std.specs.List.{filter, range_with_len}
 use Rattle.std.proofs.lemmas.Grind.{common_steps}
 use Rattle.std.proofs.lemmas.List.Elements.{filter-append}
 use Rattle.ff_ids.specs.Views.{in_view}
-use Rattle.replay.proofs.EventLemmas.{range_with_len-next, view-all}
-use Rattle.replay.proofs.life.members_in_view.Goals as goal
+use Rattle.membership.proofs.ViewLemmas.{range_with_len-next, view-all}
+use Rattle.membership.proofs.Membership.members_in_view.Goals as goal
 
 pub loop-number-preserved : goal.loop-number-preserved
 loop-number-preserved c = λ s holds.

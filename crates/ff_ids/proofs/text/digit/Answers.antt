@@ -1,5 +1,0 @@
-use Rattle.ff_ids.proofs.HexLemmas.{digit_is_one_byte}
-use Rattle.ff_ids.proofs.text.digit.Goals as goal
-
-pub returns : goal.returns
-returns c = rw c.from.ensures (digit_is_one_byte c.args.value)
