@@ -7,11 +7,12 @@ use Rattle.std.proofs.Math.Nat.{le-max_right}
 use Rattle.std.proofs.KnownBytes.{Appends-nil, Appends-trans, Consumes-whole}
 use Rattle.secrets.proofs.StoreTags.{length-store_tag}
 use Rattle.line_text.specs.declared.bad_word.BadWord.{BadWord}
-use Rattle.lms_tree.specs.Kinds.{leaf_count}
+use Rattle.lms_tree.specs.Leaves.{index_count}
 use Rattle.lms_tree.specs.Lms.{public_of}
 use Rattle.ports.specs.Count.{next_count}
 use Rattle.ports.specs.Disk.{Fails, Moment, Since, stays}
 use Rattle.ports.proofs.SinceLemmas.{Since-same}
+use Rattle.epoch_store.specs.declared.seat.Seat.{Seat}
 use Rattle.epoch_store.specs.declared.StoreError.{StoreError}
 use Rattle.epoch_store.specs.declared.StoreError.TheVariants as store
 use Rattle.epoch_store.specs.declared.Stored.{Stored}
@@ -77,20 +78,20 @@ silent was between mid now s lines first answer read same owing tells next =
     (subst (λ m. Appends between.taken m.taken []) (sym same) (Appends-nil between.taken)) (ap (λ m. m.left) same) (told-lines was between s lines next read) (owing rest) tells
 
 -- the lines of the first certificates, and then those of the others
-split-within : (s : Setting) (i : ℕ) (done rest : List CertBody) → i + length done ≤ leaf_count s.kinds.tree → lines_within s.group (key_of s) i (done ++ rest) ≡ signed_lines s.group (key_of s) i done ++ lines_within s.group (key_of s) (i + length done) rest
+split-within : (s : Setting) (i : ℕ) (done rest : List CertBody) → i + length done ≤ index_count (key_of s) → lines_within s.group (key_of s) i (done ++ rest) ≡ signed_lines s.group (key_of s) i done ++ lines_within s.group (key_of s) (i + length done) rest
 split-within s i [] rest few = ap (λ (k : ℕ). lines_within s.group (key_of s) k rest) (omega arith)
 split-within s i (c ∷ done) rest few =
-    let has : ltb i (leaf_count s.kinds.tree) ≡ true = lt-ltb i (leaf_count s.kinds.tree) (omega arith) in
+    let has : ltb i (index_count (key_of s)) ≡ true = lt-ltb i (index_count (key_of s)) (omega arith) in
     rw has
     (ap (λ (t : List ℕ). signed_line s.group (key_of s) i c ++ t) (split-within s (i + 1) done rest (omega arith))
     ∙ sym (append_assoc (signed_line s.group (key_of s) i c) (signed_lines s.group (key_of s) (i + 1) done) (lines_within s.group (key_of s) (i + 1 + length done) rest))
     ∙ ap (λ (k : ℕ). (signed_line s.group (key_of s) i c ++ signed_lines s.group (key_of s) (i + 1) done) ++ lines_within s.group (key_of s) k rest) (omega arith))
 
-one-within : (s : Setting) (i : ℕ) (c : CertBody) (rest : List CertBody) → i < leaf_count s.kinds.tree → lines_within s.group (key_of s) i (c ∷ rest) ≡ signed_line s.group (key_of s) i c ++ lines_within s.group (key_of s) (i + 1) rest
-one-within s i c rest few = rw (lt-ltb i (leaf_count s.kinds.tree) few) refl
+one-within : (s : Setting) (i : ℕ) (c : CertBody) (rest : List CertBody) → i < index_count (key_of s) → lines_within s.group (key_of s) i (c ∷ rest) ≡ signed_line s.group (key_of s) i c ++ lines_within s.group (key_of s) (i + 1) rest
+one-within s i c rest few = rw (lt-ltb i (index_count (key_of s)) few) refl
 
 -- the lines of the first certificates were written
-first-written : (was between mid now : Standing) (s : Setting) (lines : List RosterLine) (next : ℕ) (done : List CertBody) (one : CertBody) (part : IsPart (asked_in lines) done one) (first answer : Status) → IsRoster was between s lines → next + length done ≤ leaf_count s.kinds.tree
+first-written : (was between mid now : Standing) (s : Setting) (lines : List RosterLine) (next : ℕ) (done : List CertBody) (one : CertBody) (part : IsPart (asked_in lines) done one) (first answer : Status) → IsRoster was between s lines → next + length done ≤ index_count (key_of s)
     → IsTold between mid (signed_lines s.group (key_of s) next done) → ((rest : List ℕ) → IsOwedBehind rest first) → Tells first mid now answer → TracedWhole (enrolled next) was now answer
 first-written was between mid now s lines next done one part first answer read few told owing tells =
     let rest = lines_within s.group (key_of s) (next + length done) (one ∷ part.rest) in
@@ -98,7 +99,7 @@ first-written was between mid now s lines next done one part first answer read f
     (ap (λ cs. lines_within s.group (key_of s) next cs) part.are ∙ split-within s next done (one ∷ part.rest) few) (owing rest) tells
 
 found-of : (name : List ℕ) (s : Setting) (certs : List CertBody) (o : Stored) (old new : OfDisk) → AreEnrolled name s o certs old new → IsFound o old
-found-of name s certs o old new e = record { setting = s; gate = e.gate; found = e.found }
+found-of name s certs o old new e = record { setting = s; seat = e.seat; found = e.found }
 
 found-either : (name : List ℕ) (s : Setting) (done more : List CertBody) (o : Stored) (old new : OfDisk) → AreEnrolled name s o done old new ⊎ AreEnrolled name s o more old new → IsFound o old
 found-either name s done more o old new (inl e) = found-of name s done o old new e
@@ -129,7 +130,7 @@ enroll-traced name was mid now old new (Err halt.WriteFault) s h t =
 enroll-traced name was mid now old new (Err halt.StoreFault) s h t =
     elim h.rest [
       | inl opening ↦ as_.Unopened (silent was h.between mid now h.setting h.lines status.StoreFault s h.read opening.0 (λ rest. tt) t)
-      | inr e ↦ as_.Opened e.opened (record { setting = h.setting; gate = e.gate; found = e.found }) (first-written was h.between mid now h.setting h.lines e.opened.next e.done e.one e.part status.StoreFault s h.read (omega (arith, e.within)) e.told (λ rest. tt) t)
+      | inr e ↦ as_.Opened e.opened (record { setting = h.setting; seat = e.seat; found = e.found }) (first-written was h.between mid now h.setting h.lines e.opened.next e.done e.one e.part status.StoreFault s h.read (omega (arith, e.within)) e.told (λ rest. tt) t)
     ]
 enroll-traced name was mid now old new (Err (halt.StoreBroken place byte)) s h t = as_.Unopened (silent was h.between mid now h.setting h.lines (status.StoreBroken place byte) s h.read h.rest.0 (λ rest. tt) t)
 enroll-traced name was mid now old new (Err (halt.StoreTaken len)) s h t = absurd h.rest
@@ -226,9 +227,9 @@ rises o (c ∷ certs) =
     record { rising = (up.0, rest.rising); above = (omega arith, up.1) }
 
 -- these certificates were signed
-spends-certs : (was between : Standing) (s : Setting) (lines : List RosterLine) (o : Stored) (gate : ℕ) (certs others : List CertBody) (old new : OfDisk) → IsRoster was between s lines → HoldsStore (tag_of s) o gate old.moments → asked_in lines ≡ certs ++ others
+spends-certs : (was between : Standing) (s : Setting) (lines : List RosterLine) (o : Stored) (seat : Seat) (certs others : List CertBody) (old new : OfDisk) → IsRoster was between s lines → HoldsStore (tag_of s) o seat old.moments → asked_in lines ≡ certs ++ others
     → Spends s o certs old new → SpendsFronts s o certs old new → Enrolment was old new
-spends-certs was between s lines o gate certs others old new read found first spends fronts =
+spends-certs was between s lines o seat certs others old new read found first spends fronts =
     let up = rises o certs in
     inr (record {
       setting = s;
@@ -236,7 +237,7 @@ spends-certs was between s lines o gate certs others old new read found first sp
       between = between;
       read = read;
       opened = o;
-      gate = gate;
+      seat = seat;
       found = found;
       certs = certs;
       others = others;
@@ -262,28 +263,28 @@ one-more : (certs done : List CertBody) (one : CertBody) (part : IsPart certs do
 one-more certs done one part = part.are ∙ sym (append_assoc done (one ∷ []) part.rest)
 
 spends-either : (name : List ℕ) (was between : Standing) (s : Setting) (lines : List RosterLine) (o : Stored) (done : List CertBody) (one : CertBody) (part : IsPart (asked_in lines) done one) (old new : OfDisk) → IsRoster was between s lines → AreEnrolled name s o done old new ⊎ AreEnrolled name s o (done ++ one ∷ []) old new → Enrolment was old new
-spends-either name was between s lines o done one part old new read (inl e) = spends-certs was between s lines o e.gate done (one ∷ part.rest) old new read e.found part.are e.spends e.any_moment
-spends-either name was between s lines o done one part old new read (inr e) = spends-certs was between s lines o e.gate (done ++ one ∷ []) part.rest old new read e.found (one-more (asked_in lines) done one part) e.spends e.any_moment
+spends-either name was between s lines o done one part old new read (inl e) = spends-certs was between s lines o e.seat done (one ∷ part.rest) old new read e.found part.are e.spends e.any_moment
+spends-either name was between s lines o done one part old new read (inr e) = spends-certs was between s lines o e.seat (done ++ one ∷ []) part.rest old new read e.found (one-more (asked_in lines) done one part) e.spends e.any_moment
 
 pub enroll-upheld : (name : List ℕ) (was mid : Standing) (old new : OfDisk) (r : Answer) → Enrols name was mid old new r → Enrolment was old new
 enroll-upheld name was mid old new (Ok _) h =
     let e = h.rest in
-    spends-certs was h.between h.setting h.lines e.opened e.enrolled.gate (asked_in h.lines) [] old new h.read e.enrolled.found (sym (append-nil (asked_in h.lines))) e.enrolled.spends e.enrolled.any_moment
+    spends-certs was h.between h.setting h.lines e.opened e.enrolled.seat (asked_in h.lines) [] old new h.read e.enrolled.found (sym (append-nil (asked_in h.lines))) e.enrolled.spends e.enrolled.any_moment
 enroll-upheld name was mid old new (Err (halt.Refused line w)) h = untouched was old new h.1
 enroll-upheld name was mid old new (Err halt.ReadFault) h = untouched was old new h.1
 enroll-upheld name was mid old new (Err halt.WriteFault) h =
     let e = h.rest in
-    spends-certs was h.between h.setting h.lines e.opened e.enrolled.gate (e.done ++ e.one ∷ []) e.part.rest old new h.read e.enrolled.found (one-more (asked_in h.lines) e.done e.one e.part) e.enrolled.spends e.enrolled.any_moment
+    spends-certs was h.between h.setting h.lines e.opened e.enrolled.seat (e.done ++ e.one ∷ []) e.part.rest old new h.read e.enrolled.found (one-more (asked_in h.lines) e.done e.one e.part) e.enrolled.spends e.enrolled.any_moment
 enroll-upheld name was mid old new (Err halt.StoreFault) h =
     elim h.rest [
       | inl opening ↦ kept-over was old new opening.1.moments
-      | inr e ↦ spends-certs was h.between h.setting h.lines e.opened e.gate e.done (e.one ∷ e.part.rest) old new h.read e.found e.part.are e.spends e.any_moment
+      | inr e ↦ spends-certs was h.between h.setting h.lines e.opened e.seat e.done (e.one ∷ e.part.rest) old new h.read e.found e.part.are e.spends e.any_moment
     ]
 enroll-upheld name was mid old new (Err (halt.StoreBroken place byte)) h = kept-over was old new h.rest.1.kept
 enroll-upheld name was mid old new (Err (halt.StoreTaken len)) h = absurd h.rest
 enroll-upheld name was mid old new (Err (halt.Exhausted next)) h =
     let e = h.rest in
-    spends-certs was h.between h.setting h.lines e.opened e.enrolled.gate e.done (e.one ∷ e.part.rest) old new h.read e.enrolled.found e.part.are e.enrolled.spends e.enrolled.any_moment
+    spends-certs was h.between h.setting h.lines e.opened e.enrolled.seat e.done (e.one ∷ e.part.rest) old new h.read e.enrolled.found e.part.are e.enrolled.spends e.enrolled.any_moment
 enroll-upheld name was mid old new (Err halt.OutOfMemory) h =
     elim h [
       | inl cut ↦ untouched was old new cut.1
@@ -321,7 +322,7 @@ failed e = Err e
 unread-opened : (tag image : List ℕ) (o : Stored) (e : StoreError) → length tag ≡ 32 → StoreOf tag image o → AnswersAs tag image (failed e) → ⊥
 unread-opened tag image o e long there reads =
     let found = reads.only (Finds o there.0) (store_found tag image o there.0 long there.1) in
-    let ok : failed e ≡ Ok (record { state = o; gate = there.0; failed = false }) = reads.answer ∙ ap (answer_of image) (sym found) in
+    let ok : failed e ≡ Ok (record { state = o; seat = there.0; failed = false }) = reads.answer ∙ ap (answer_of image) (sym found) in
     cc
 
 image-opens : (tag image : List ℕ) (o : Stored) (e : StoreError) → length tag ≡ 32 → StoreOf tag image o → OnRead (failed e) (AnswersAs tag image (failed e)) → e ≢ store.Fault → e ≢ store.OutOfMemory → ⊥
@@ -336,12 +337,12 @@ opens tag [] o e long there reads fault memory = there
 opens tag (m ∷ past) o e long there reads fault memory = image-opens tag m.image o e long there reads fault memory
 
 -- the state of a store that is there is what is found
-pub found-is : (tag : List ℕ) (moments : List Moment) (a o : Stored) (gate : ℕ) → length tag ≡ 32 → HoldsStore tag a gate moments → OnImage moments (λ image. StoreOf tag image o) → a ≡ o
-found-is tag [] a o gate long holds there = absurd there
-found-is tag (m ∷ past) a o gate long holds there = one_state tag m.image a o long (gate, holds) there
+pub found-is : (tag : List ℕ) (moments : List Moment) (a o : Stored) (seat : Seat) → length tag ≡ 32 → HoldsStore tag a seat moments → OnImage moments (λ image. StoreOf tag image o) → a ≡ o
+found-is tag [] a o seat long holds there = absurd there
+found-is tag (m ∷ past) a o seat long holds there = one_state tag m.image a o long (seat, holds) there
 
 -- a key that has an index for each isn't used up
-not-gone : (s : Setting) (a o : Stored) (certs done : List CertBody) (one : CertBody) (next : ℕ) → a ≡ o → IsEnough s o.next certs → IsPart certs done one → next ≡ a.next + length done → leaf_count s.kinds.tree ≤ next → ⊥
+not-gone : (s : Setting) (a o : Stored) (certs done : List CertBody) (one : CertBody) (next : ℕ) → a ≡ o → IsEnough s o.next certs → IsPart certs done one → next ≡ a.next + length done → index_count (key_of s) ≤ next → ⊥
 not-gone s a o certs done one next same (inl enough) part next_is gone =
     let n = ap (λ (x : Stored). x.next) same in
     let l = ap length part.are ∙ length-append done (one ∷ part.rest) in
@@ -378,9 +379,9 @@ enroll-whole name was mid now old new (Err (halt.StoreTaken len)) s all asked se
 enroll-whole name was mid now old new (Err (halt.Exhausted next)) s all asked setting o left h counts are sets there enough fine is =
     let same = same-roster was h.between all h.setting h.lines setting asked left h.read are sets in
     let e = h.rest in
-    let found : e.opened ≡ o = found-is (tag_of setting) old.moments e.opened o e.enrolled.gate (tag-long setting) (subst (λ x. HoldsStore (tag_of x) e.opened e.enrolled.gate old.moments) same.setting_is e.enrolled.found) there in
+    let found : e.opened ≡ o = found-is (tag_of setting) old.moments e.opened o e.enrolled.seat (tag-long setting) (subst (λ x. HoldsStore (tag_of x) e.opened e.enrolled.seat old.moments) same.setting_is e.enrolled.found) there in
     let part = subst (λ ls. IsPart (asked_in ls) e.done e.one) same.lines_are e.part in
-    let gone = subst (λ (x : Setting). leaf_count x.kinds.tree ≤ next) same.setting_is (subst (λ (n : ℕ). leaf_count h.setting.kinds.tree ≤ n) (sym e.gone) (le-max_right e.opened.next (leaf_count h.setting.kinds.tree))) in
+    let gone = subst (λ (x : Setting). index_count (key_of x) ≤ next) same.setting_is (subst (λ (n : ℕ). index_count (key_of h.setting) ≤ n) (sym e.gone) (le-max_right e.opened.next (index_count (key_of h.setting)))) in
     absurd (not-gone setting e.opened o (asked_in asked) e.done e.one next found enough part e.next_is gone)
 enroll-whole name was mid now old new (Err halt.OutOfMemory) s all asked setting o left h counts are sets there enough fine is = inr refl
 

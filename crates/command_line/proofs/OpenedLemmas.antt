@@ -6,7 +6,7 @@ use Rattle.epoch_store.specs.declared.Stored.{Stored}
 use Rattle.epoch_store.specs.Calls.{HoldsStore, OpensAs, StoreState}
 use Rattle.epoch_store.specs.declared.StoreError.{StoreError}
 use Rattle.epoch_store.specs.Store.{StoreOf}
-use Rattle.lms_tree.specs.Kinds.{leaf_count}
+use Rattle.lms_tree.specs.Leaves.{index_count}
 use Rattle.lms_tree.specs.Lms.{public_of}
 use Rattle.line_text.specs.declared.bad_word.BadWord.{BadWord}
 use Rattle.play.specs.Plays.{Standing}
@@ -64,7 +64,7 @@ abbrev failed : StoreError → Result StoreState StoreError
 failed e = Err e
 
 node-opened : (was mid now : Standing) (old new : OfDisk) (r : Answer) (s : Status) (all : List ℕ) (lines : List KitLine) (m : Member) (o : Stored) → was.left ≡ Some all → IsCaused was (as_run old) (as_run new) r → lines_from kit_judging (unread kit.Start) (seen all) ≡ Ok lines
-    → SetsUp (set_by lines) m → OnImage old.moments (λ image. StoreOf (tag_of m) image o) → o.next < leaf_count m.own.key.tree → IsNodeDone (status_of_node r) → IsNodeWhole (status_of_node r)
+    → SetsUp (set_by lines) m → OnImage old.moments (λ image. StoreOf (tag_of m) image o) → o.next < index_count m.own.key → IsNodeDone (status_of_node r) → IsNodeWhole (status_of_node r)
 node-opened was mid now old new (Ok _) s all lines m o left cause are sets there some done = tt
 node-opened was mid now old new (Err (halt.Refused line w)) s all lines m o left cause are sets there some done = absurd done
 node-opened was mid now old new (Err halt.ReadFault) s all lines m o left cause are sets there some done = absurd done
@@ -81,7 +81,7 @@ node-opened was mid now old new (Err (halt.Exhausted next)) s all lines m o left
     let u = cause.cause in
     let found : u.stored ≡ o = found-is (tag_of m) old.moments u.stored o u.found.0 (tag-long m) (subst (λ (t : List ℕ). HoldsStore t u.stored u.found.0 old.moments) (same-tag cause.member m same) u.found.1) there in
     let n : u.stored.next ≡ o.next = ap (λ (x : Stored). x.next) found in
-    let count : leaf_count cause.member.own.key.tree ≡ leaf_count m.own.key.tree = ap (λ (x : Own). leaf_count x.key.tree) same.own_is in
+    let count : index_count cause.member.own.key ≡ index_count m.own.key = ap (λ (x : Own). index_count x.key) same.own_is in
     absurd (omega (arith, n, count, u.next_is, u.gone, some))
 node-opened was mid now old new (Err halt.OutOfMemory) s all lines m o left cause are sets there some done = tt
 
@@ -94,7 +94,7 @@ node-answered was now true first line s says counts written done =
 
 node-opens : (left : Option (List ℕ)) (was mid now : Standing) (old new : OfDisk) (r : Answer) (s : Status) → was.left ≡ left → Takes was mid (as_run old) (as_run new) r → IfErr r (λ h. h ≡ halt.StoreFault → Rose old.faults new.faults)
     → IsCaused was (as_run old) (as_run new) r → Tells (status_of_node r) mid now s → Counts was now s
-    → IfSome left (λ all. (lines : List KitLine) (m : Member) (o : Stored) → lines_from kit_judging (unread kit.Start) (seen all) ≡ Ok lines → SetsUp (set_by lines) m → OnImage old.moments (λ image. StoreOf (tag_of m) image o) → o.next < leaf_count m.own.key.tree
+    → IfSome left (λ all. (lines : List KitLine) (m : Member) (o : Stored) → lines_from kit_judging (unread kit.Start) (seen all) ≡ Ok lines → SetsUp (set_by lines) m → OnImage old.moments (λ image. StoreOf (tag_of m) image o) → o.next < index_count m.own.key
     → NoneFailed was now old new → IsNodeWhole s)
 node-opens None was mid now old new r s left h store cause t counts = tt
 node-opens (Some all) was mid now old new r s left h store cause t counts = λ lines m o are sets there some fine.

@@ -1,6 +1,7 @@
 -- What an enrolment upholds: the indexes that it spends are those from the next one found on, each once.
 use Rattle.std.specs.Prelude.{◌≡◌, ℕ, ◌≤◌, ◌⊎◌, List, ◌++◌, map}
 use Rattle.std.specs.List.{AllByRecursion}
+use Rattle.epoch_store.specs.declared.seat.Seat.{Seat}
 use Rattle.epoch_store.specs.declared.Stored.{Stored}
 use Rattle.epoch_store.specs.Calls.{HoldsStore}
 use Rattle.ports.specs.Disk.{Since}
@@ -29,8 +30,8 @@ pub record SpendsOnce (was : Standing) (old new : OfDisk) : Type 0 where
   pub between : Standing
   pub read : IsRoster was between setting lines
   pub opened : Stored
-  pub gate : ℕ
-  pub found : HoldsStore (tag_of setting) opened gate old.moments
+  pub seat : Seat
+  pub found : HoldsStore (tag_of setting) opened seat old.moments
   pub certs : List CertBody
   pub others : List CertBody
   pub first : asked_in lines ≡ certs ++ others

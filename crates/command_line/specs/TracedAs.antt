@@ -6,6 +6,7 @@ use Rattle.play.specs.Plays.{Standing}
 use Rattle.ports.specs.Contents.{IsUsedUp}
 use Rattle.ports.specs.Count.{Rose}
 use Rattle.ports.specs.Disk.{Moment}
+use Rattle.epoch_store.specs.declared.seat.Seat.{Seat}
 use Rattle.epoch_store.specs.declared.Stored.{Stored}
 use Rattle.epoch_store.specs.Calls.{HoldsStore}
 use Rattle.epoch_store.specs.Store.{StoreOf}
@@ -13,7 +14,7 @@ use Rattle.schedule_texts.specs.declared.line.RosterLine.{RosterLine}
 use Rattle.schedule_texts.specs.declared.roster.RosterText.TheVariants as roster
 use Rattle.schedule_kit.specs.declared.kit.KitText.TheVariants as kit
 use Rattle.schedule_kit.specs.declared.line.KitLine.{KitLine}
-use Rattle.lms_tree.specs.Kinds.{leaf_count}
+use Rattle.lms_tree.specs.Leaves.{index_count}
 use Rattle.text_trace.specs.Lines.{seen, text_lines}
 use Rattle.text_trace.specs.Trace.{Owed}
 use Rattle.world_replay.specs.Causes.{IsJudged}
@@ -79,8 +80,8 @@ TracedEither owed was now s = Traced owed was now s ⊎ TracedWhole owed was now
 -- A store with this state was found, of the key of some setting.
 pub record IsFound (o : Stored) (old : OfDisk) : Type 0 where
   pub setting : Setting
-  pub gate : ℕ
-  pub found : HoldsStore (tag_of setting) o gate old.moments
+  pub seat : Seat
+  pub found : HoldsStore (tag_of setting) o seat old.moments
 
 -- The roster was cut off, or no store was found: then the trace is told whatever store there is. Else it is told by the next
 -- index of the store that was found.
@@ -133,7 +134,7 @@ NodeEndsWell was now old new s = OnUnrefused was.left (NoneFailed was now old ne
 abbrev pub NodeOpens : Standing → Standing → OfDisk → OfDisk → Status → Type 0
 NodeOpens was now old new s = IfSome was.left (λ all. (lines : List KitLine) (m : Member) (o : Stored)
     → lines_from kit_judging (unread kit.Start) (seen all) ≡ Ok lines → SetsUp (set_by lines) m
-    → OnImage old.moments (λ image. StoreOf (node.tag_of m) image o) → o.next < leaf_count m.own.key.tree
+    → OnImage old.moments (λ image. StoreOf (node.tag_of m) image o) → o.next < index_count m.own.key
     → NoneFailed was now old new → IsNodeWhole s)
 
 pub record NodeCompletes (was now : Standing) (old new : OfDisk) (s : Status) : Type 0 where

@@ -3,11 +3,12 @@ use Rattle.std.proofs.Common.{◌≡◌, ℕ, ◌+◌, ◌<◌, ◌≤◌, max, 
 use Rattle.std.proofs.Math.Nat.{max-eq_left, max-eq_right}
 use Rattle.std.proofs.lemmas.Bool.{ltb-true}
 use Rattle.std.proofs.lemmas.Bool.Decides.{nat_tests}
+use Rattle.epoch_store.specs.declared.seat.Seat.{Seat}
 use Rattle.epoch_store.specs.declared.Stored.{Stored}
 use Rattle.epoch_store.specs.Store.{IsSettled}
 use Rattle.ff_ids.specs.declared.Group.{Group}
 use Rattle.line_text.specs.declared.bad_word.BadWord.{BadWord}
-use Rattle.lms_tree.specs.Kinds.{leaf_count}
+use Rattle.lms_tree.specs.Leaves.{index_count}
 use Rattle.lms_tree.specs.declared.secret.Secret.{Secret}
 use Rattle.play.specs.Plays.{Standing}
 use Rattle.play.specs.declared.stop.Stop.{Stop}
@@ -40,44 +41,44 @@ use Rattle.enrolment.proofs.SigningLemmas.{fails-behind, next-line, put-next, si
 
 -- the key with the store that was opened
 abbrev pub begun : Setting → Stored → ℕ → SignerState
-begun s o gate = record { group = s.group; key = key_of s; leaf = o.next; state = o; gate = gate; closed = false }
+begun s o seat = record { group = s.group; key = key_of s; leaf = o.next; state = o; seat = seat; closed = false }
 
-living : (name : List ℕ) (s : Setting) (o : Stored) (gate : ℕ) (old mid : OfDisk) → IsOpened name s o gate old mid → (before : List ℕ) (spent : List Spent) → EndsNow (tag_of s) before spent old.moments → IsLiving (tag_of s) before spent (begun s o gate) mid.moments
-living name s o gate old mid open_ before spent ends = begins_life (tag_of s) before spent (begun s o gate) mid.moments open_.settled (kept_by_opening (tag_of s) before spent old.moments mid.moments ends open_.kept).1
+living : (name : List ℕ) (s : Setting) (o : Stored) (seat : Seat) (old mid : OfDisk) → IsOpened name s o seat old mid → (before : List ℕ) (spent : List Spent) → EndsNow (tag_of s) before spent old.moments → IsLiving (tag_of s) before spent (begun s o seat) mid.moments
+living name s o seat old mid open_ before spent ends = begins_life (tag_of s) before spent (begun s o seat) mid.moments open_.settled (kept_by_opening (tag_of s) before spent old.moments mid.moments ends open_.kept).1
 
 -- what is spent behind the opening
-spent-behind : (name : List ℕ) (s : Setting) (o : Stored) (gate : ℕ) (certs : List CertBody) (later : SignerState) (old mid new : OfDisk) → IsOpened name s o gate old mid → LivesOn (spent_by o (map Certificate certs)) (begun s o gate) later mid.moments new.moments → Spends s o certs old new
-spent-behind name s o gate certs later old mid new open_ lives before spent ends = (lives.lives (tag_of s) before spent (living name s o gate old mid open_ before spent ends)).ends
+spent-behind : (name : List ℕ) (s : Setting) (o : Stored) (seat : Seat) (certs : List CertBody) (later : SignerState) (old mid new : OfDisk) → IsOpened name s o seat old mid → LivesOn (spent_by o (map Certificate certs)) (begun s o seat) later mid.moments new.moments → Spends s o certs old new
+spent-behind name s o seat certs later old mid new open_ lives before spent ends = (lives.lives (tag_of s) before spent (living name s o seat old mid open_ before spent ends)).ends
 
-fronts-behind : (name : List ℕ) (s : Setting) (o : Stored) (gate : ℕ) (certs : List CertBody) (later : SignerState) (old mid new : OfDisk) → IsOpened name s o gate old mid → LivesOn (spent_by o (map Certificate certs)) (begun s o gate) later mid.moments new.moments → SpendsFronts s o certs old new
-fronts-behind name s o gate certs later old mid new open_ lives before spent ends =
+fronts-behind : (name : List ℕ) (s : Setting) (o : Stored) (seat : Seat) (certs : List CertBody) (later : SignerState) (old mid new : OfDisk) → IsOpened name s o seat old mid → LivesOn (spent_by o (map Certificate certs)) (begun s o seat) later mid.moments new.moments → SpendsFronts s o certs old new
+fronts-behind name s o seat certs later old mid new open_ lives before spent ends =
     let more = spent_by o (map Certificate certs) in
     Since-trans (EndsWithin (tag_of s) before spent more) old.moments mid.moments new.moments
     (Since-weaken (EndsLives (tag_of s) before spent) (EndsWithin (tag_of s) before spent more) old.moments mid.moments (within-none (tag_of s) before spent more) (kept_by_opening (tag_of s) before spent old.moments mid.moments ends open_.kept).0)
-    (lives.any_moment (tag_of s) before spent (living name s o gate old mid open_ before spent ends))
+    (lives.any_moment (tag_of s) before spent (living name s o seat old mid open_ before spent ends))
 
 -- the calls that were made
-calls-behind : (name : List ℕ) (s : Setting) (o : Stored) (gate : ℕ) (certs : List CertBody) (later : SignerState) (old mid new : OfDisk) → IsOpened name s o gate old mid → AreSigned certs (begun s o gate) later mid new → OpensAndPuts name o gate (length certs) old.calls new.calls
-calls-behind name s o gate certs later old mid new open_ signed = record { between = mid.calls; opened = open_.calls; made = signed.calls }
+calls-behind : (name : List ℕ) (s : Setting) (o : Stored) (seat : Seat) (certs : List CertBody) (later : SignerState) (old mid new : OfDisk) → IsOpened name s o seat old mid → AreSigned certs (begun s o seat) later mid new → OpensAndPuts name o seat (length certs) old.calls new.calls
+calls-behind name s o seat certs later old mid new open_ signed = record { between = mid.calls; opened = open_.calls; made = signed.calls }
 
 -- what was signed stands in the store
-enrolled : (name : List ℕ) (s : Setting) (o : Stored) (gate : ℕ) (certs : List CertBody) (later : SignerState) (old mid new : OfDisk) → IsEnough s o.next certs → IsOpened name s o gate old mid → AreSigned certs (begun s o gate) later mid new → AreEnrolled name s o certs old new
-enrolled name s o gate certs later old mid new enough open_ signed = record {
+enrolled : (name : List ℕ) (s : Setting) (o : Stored) (seat : Seat) (certs : List CertBody) (later : SignerState) (old mid new : OfDisk) → IsEnough s o.next certs → IsOpened name s o seat old mid → AreSigned certs (begun s o seat) later mid new → AreEnrolled name s o certs old new
+enrolled name s o seat certs later old mid new enough open_ signed = record {
   faults = signed.faults ∙ open_.faults;
-  gate = gate;
+  seat = seat;
   found = open_.found;
-  calls = calls-behind name s o gate certs later old mid new open_ signed;
+  calls = calls-behind name s o seat certs later old mid new open_ signed;
   enough = enough;
   left =
-      subst (λ at. IsSettled (tag_of s) (record o { next = o.next + length certs }) at new.moments) signed.gate
-      (subst (λ st. IsSettled (tag_of s) st later.gate new.moments) (stored-is later.state (o.next + length certs) o.epoch o.mask signed.next signed.epoch signed.mask) (signed.settled (tag_of s) open_.settled));
-  spends = spent-behind name s o gate certs later old mid new open_ signed.lives;
-  any_moment = fronts-behind name s o gate certs later old mid new open_ signed.lives;
+      subst (λ at. IsSettled (tag_of s) (record o { next = o.next + length certs }) at new.moments) signed.seat
+      (subst (λ st. IsSettled (tag_of s) st later.seat new.moments) (stored-is later.state (o.next + length certs) o.epoch o.mask signed.next signed.epoch signed.mask) (signed.settled (tag_of s) open_.settled));
+  spends = spent-behind name s o seat certs later old mid new open_ signed.lives;
+  any_moment = fronts-behind name s o seat certs later old mid new open_ signed.lives;
 }
 
 -- the key has a leaf for each that was signed
-enough-for : (s : Setting) (o : Stored) (gate : ℕ) (certs : List CertBody) (later : SignerState) (mid new : OfDisk) → o.next ≤ leaf_count s.kinds.tree → AreSigned certs (begun s o gate) later mid new → o.next + length certs ≤ leaf_count s.kinds.tree
-enough-for s o gate certs later mid new few signed = let n = signed.next in let w = signed.within few in omega (arith, n, w)
+enough-for : (s : Setting) (o : Stored) (seat : Seat) (certs : List CertBody) (later : SignerState) (mid new : OfDisk) → o.next ≤ index_count (key_of s) → AreSigned certs (begun s o seat) later mid new → o.next + length certs ≤ index_count (key_of s)
+enough-for s o seat certs later mid new few signed = let n = signed.next in let w = signed.within few in omega (arith, n, w)
 
 -- the key has just so many leaves
 end-is : (a n : ℕ) (next : ℕ) → a ≤ n → next ≡ n → next ≡ max a n
@@ -88,22 +89,22 @@ end-found a n gone = sym (max-eq_left (omega (arith, gone)))
 
 -- ## The lines, as far as there are leaves
 
-within-all : (g : Group) (k : Secret) (i : ℕ) (certs : List CertBody) → i + length certs ≤ leaf_count k.tree → lines_within g k i certs ≡ signed_lines g k i certs
+within-all : (g : Group) (k : Secret) (i : ℕ) (certs : List CertBody) → i + length certs ≤ index_count k → lines_within g k i certs ≡ signed_lines g k i certs
 within-all g k i [] few = refl
 within-all g k i (c ∷ certs) few =
-    let has : ltb i (leaf_count k.tree) ≡ true = lt-ltb i (leaf_count k.tree) (omega arith) in
+    let has : ltb i (index_count k) ≡ true = lt-ltb i (index_count k) (omega arith) in
     rw has (ap (λ (t : List ℕ). signed_line g k i c ++ t) (within-all g k (i + 1) certs (omega arith)))
 
 no-leaf : (i n : ℕ) → n ≤ i → ltb i n ≡ false
 no-leaf i n h = grind (arith, nat_tests)
 
-within-end : (g : Group) (k : Secret) (i : ℕ) (c : CertBody) (rest : List CertBody) → leaf_count k.tree ≤ i → lines_within g k i (c ∷ rest) ≡ []
-within-end g k i c rest gone = rw (no-leaf i (leaf_count k.tree) gone) refl
+within-end : (g : Group) (k : Secret) (i : ℕ) (c : CertBody) (rest : List CertBody) → index_count k ≤ i → lines_within g k i (c ∷ rest) ≡ []
+within-end g k i c rest gone = rw (no-leaf i (index_count k) gone) refl
 
-within-stop : (g : Group) (k : Secret) (i : ℕ) (done : List CertBody) (c : CertBody) (rest : List CertBody) → i + length done ≡ leaf_count k.tree → lines_within g k i (done ++ c ∷ rest) ≡ signed_lines g k i done
+within-stop : (g : Group) (k : Secret) (i : ℕ) (done : List CertBody) (c : CertBody) (rest : List CertBody) → i + length done ≡ index_count k → lines_within g k i (done ++ c ∷ rest) ≡ signed_lines g k i done
 within-stop g k i [] c rest gone = within-end g k i c rest (omega (arith, gone))
 within-stop g k i (x ∷ done) c rest gone =
-    let has : ltb i (leaf_count k.tree) ≡ true = lt-ltb i (leaf_count k.tree) (omega (arith, gone)) in
+    let has : ltb i (index_count k) ≡ true = lt-ltb i (index_count k) (omega (arith, gone)) in
     rw has (ap (λ (t : List ℕ). signed_line g k i x ++ t) (within-stop g k (i + 1) done c rest (omega (arith, gone))))
 
 -- ## Behind the opening
@@ -111,92 +112,92 @@ within-stop g k i (x ∷ done) c rest gone =
 abbrev Answer : Type 0
 Answer = Result (Unit {0}) Halt
 
-cert-signed : (name : List ℕ) (s : Setting) (o : Stored) (gate : ℕ) (certs : List CertBody) (between now : Standing) (old mid new : OfDisk) (r : Answer) → o.next ≤ leaf_count s.kinds.tree → IsOpened name s o gate old mid → SignsAll certs (begun s o gate) between now mid new r → EnrolsBehind name s certs between now old new r
-cert-signed name s o gate certs between now old mid new (Ok _) few open_ h =
-    let enough = enough-for s o gate certs h.0 mid new few h.1 in
+cert-signed : (name : List ℕ) (s : Setting) (o : Stored) (seat : Seat) (certs : List CertBody) (between now : Standing) (old mid new : OfDisk) (r : Answer) → o.next ≤ index_count (key_of s) → IsOpened name s o seat old mid → SignsAll certs (begun s o seat) between now mid new r → EnrolsBehind name s certs between now old new r
+cert-signed name s o seat certs between now old mid new (Ok _) few open_ h =
+    let enough = enough-for s o seat certs h.0 mid new few h.1 in
     record {
       opened = o;
-      enrolled = enrolled name s o gate certs h.0 old mid new (inl enough) open_ h.1;
+      enrolled = enrolled name s o seat certs h.0 old mid new (inl enough) open_ h.1;
       told = subst (IsTold between now) (sym (within-all s.group (key_of s) o.next certs enough)) h.2;
     }
-cert-signed name s o gate certs between now old mid new (Err (halt.Refused line w)) few open_ h = absurd h.ends.1
-cert-signed name s o gate certs between now old mid new (Err halt.ReadFault) few open_ h = absurd h.ends.1
-cert-signed name s o gate certs between now old mid new (Err halt.WriteFault) few open_ h =
+cert-signed name s o seat certs between now old mid new (Err (halt.Refused line w)) few open_ h = absurd h.ends.1
+cert-signed name s o seat certs between now old mid new (Err halt.ReadFault) few open_ h = absurd h.ends.1
+cert-signed name s o seat certs between now old mid new (Err halt.WriteFault) few open_ h =
     let e = h.ends.1 in
-    let all = signed-more h.done h.one (begun s o gate) h.then h.ends.0 mid h.disk new h.signed e.0 in
-    let enough = enough-for s o gate (h.done ++ h.one ∷ []) h.ends.0 mid new few all in
+    let all = signed-more h.done h.one (begun s o seat) h.then h.ends.0 mid h.disk new h.signed e.0 in
+    let enough = enough-for s o seat (h.done ++ h.one ∷ []) h.ends.0 mid new few all in
     record {
       opened = o;
       done = h.done;
       one = h.one;
       part = h.part;
       within = let l = length-append h.done (h.one ∷ []) in omega (arith, enough, l);
-      enrolled = enrolled name s o gate (h.done ++ h.one ∷ []) h.ends.0 old mid new (inl enough) open_ all;
+      enrolled = enrolled name s o seat (h.done ++ h.one ∷ []) h.ends.0 old mid new (inl enough) open_ all;
       mid = h.mid;
       told = h.told;
-      cut = subst (IsCut h.mid now) (next-line h.done h.one (begun s o gate) h.then mid h.disk h.signed) e.1;
+      cut = subst (IsCut h.mid now) (next-line h.done h.one (begun s o seat) h.then mid h.disk h.signed) e.1;
     }
-cert-signed name s o gate certs between now old mid new (Err halt.StoreFault) few open_ h =
+cert-signed name s o seat certs between now old mid new (Err halt.StoreFault) few open_ h =
     let e = h.ends.1 in
-    let lives = fails-behind h.done (begun s o gate) h.then h.ends.0 mid h.disk new h.signed e.1 in
+    let lives = fails-behind h.done (begun s o seat) h.then h.ends.0 mid h.disk new h.signed e.1 in
     inr (record {
       opened = o;
       done = h.done;
       one = h.one;
       part = h.part;
-      gate = gate;
+      seat = seat;
       found = open_.found;
-      within = let n = h.signed.next in let left = subst (λ k. h.then.state.next < leaf_count k.tree) h.signed.key e.1.left in omega (arith, n, left);
+      within = let n = h.signed.next in let left = subst (λ k. h.then.state.next < index_count k) h.signed.key e.1.left in omega (arith, n, left);
       faults = e.1.faults ∙ ap next_count (h.signed.faults ∙ open_.faults);
       calls = record {
         between = h.disk.calls;
-        before = calls-behind name s o gate h.done h.then old mid h.disk open_ h.signed;
-        last = subst (λ calls. AsFarAs calls h.disk.calls new.calls) (put-next h.done (begun s o gate) h.then mid h.disk h.signed) e.1.calls;
+        before = calls-behind name s o seat h.done h.then old mid h.disk open_ h.signed;
+        last = subst (λ calls. AsFarAs calls h.disk.calls new.calls) (put-next h.done (begun s o seat) h.then mid h.disk h.signed) e.1.calls;
       };
-      spends = spent-behind name s o gate h.done h.ends.0 old mid new open_ lives;
-      any_moment = fronts-behind name s o gate h.done h.ends.0 old mid new open_ lives;
-      told = subst (λ m. IsTold between m (lines_of (begun s o gate) h.done)) (sym e.0) h.told;
+      spends = spent-behind name s o seat h.done h.ends.0 old mid new open_ lives;
+      any_moment = fronts-behind name s o seat h.done h.ends.0 old mid new open_ lives;
+      told = subst (λ m. IsTold between m (lines_of (begun s o seat) h.done)) (sym e.0) h.told;
     })
-cert-signed name s o gate certs between now old mid new (Err (halt.StoreBroken place byte)) few open_ h = absurd h.ends.1
-cert-signed name s o gate certs between now old mid new (Err (halt.StoreTaken len)) few open_ h = absurd h.ends.1
-cert-signed name s o gate certs between now old mid new (Err (halt.Exhausted next)) few open_ h =
+cert-signed name s o seat certs between now old mid new (Err (halt.StoreBroken place byte)) few open_ h = absurd h.ends.1
+cert-signed name s o seat certs between now old mid new (Err (halt.StoreTaken len)) few open_ h = absurd h.ends.1
+cert-signed name s o seat certs between now old mid new (Err (halt.Exhausted next)) few open_ h =
     let e = h.ends.1 in
-    let all = signed-nothing h.done (begun s o gate) h.then h.ends.0 mid h.disk new h.signed e.1 in
+    let all = signed-nothing h.done (begun s o seat) h.then h.ends.0 mid h.disk new h.signed e.1 in
     let next_is : next ≡ o.next + length h.done = e.2 ∙ h.signed.next in
-    let gone : next ≡ leaf_count s.kinds.tree = e.3 ∙ ap (λ k. leaf_count k.tree) h.signed.key in
+    let gone : next ≡ index_count (key_of s) = e.3 ∙ ap (λ k. index_count k) h.signed.key in
     record {
       opened = o;
       done = h.done;
       one = h.one;
       part = h.part;
-      enrolled = enrolled name s o gate h.done h.ends.0 old mid new (inl (enough-for s o gate h.done h.ends.0 mid new few all)) open_ all;
+      enrolled = enrolled name s o seat h.done h.ends.0 old mid new (inl (enough-for s o seat h.done h.ends.0 mid new few all)) open_ all;
       next_is = next_is;
-      gone = end-is o.next (leaf_count s.kinds.tree) next few gone;
+      gone = end-is o.next (index_count (key_of s)) next few gone;
       told = subst (λ m. IsTold between m (lines_for o.next certs s)) (sym e.0)
           (subst (IsTold between h.mid) (sym (ap (lines_within s.group (key_of s) o.next) h.part.are ∙ within-stop s.group (key_of s) o.next h.done h.one h.part.rest (sym next_is ∙ gone))) h.told);
     }
-cert-signed name s o gate certs between now old mid new (Err halt.OutOfMemory) few open_ h =
+cert-signed name s o seat certs between now old mid new (Err halt.OutOfMemory) few open_ h =
     let e = h.ends.1 in
     inr (record {
       opened = o;
       done = h.done;
       one = h.one;
       part = h.part;
-      within = enough-for s o gate h.done h.then mid h.disk few h.signed;
+      within = enough-for s o seat h.done h.then mid h.disk few h.signed;
       enrolled = elim e.1 [
         | inl none ↦
-            let all = signed-nothing h.done (begun s o gate) h.then h.ends.0 mid h.disk new h.signed none in
-            inl (enrolled name s o gate h.done h.ends.0 old mid new (inl (enough-for s o gate h.done h.ends.0 mid new few all)) open_ all)
+            let all = signed-nothing h.done (begun s o seat) h.then h.ends.0 mid h.disk new h.signed none in
+            inl (enrolled name s o seat h.done h.ends.0 old mid new (inl (enough-for s o seat h.done h.ends.0 mid new few all)) open_ all)
         | inr one ↦
-            let all = signed-more h.done h.one (begun s o gate) h.then h.ends.0 mid h.disk new h.signed one in
-            inr (enrolled name s o gate (h.done ++ h.one ∷ []) h.ends.0 old mid new (inl (enough-for s o gate (h.done ++ h.one ∷ []) h.ends.0 mid new few all)) open_ all)
+            let all = signed-more h.done h.one (begun s o seat) h.then h.ends.0 mid h.disk new h.signed one in
+            inr (enrolled name s o seat (h.done ++ h.one ∷ []) h.ends.0 old mid new (inl (enough-for s o seat (h.done ++ h.one ∷ []) h.ends.0 mid new few all)) open_ all)
       ];
-      told = subst (λ m. IsTold between m (lines_of (begun s o gate) h.done)) (sym e.0) h.told;
+      told = subst (λ m. IsTold between m (lines_of (begun s o seat) h.done)) (sym e.0) h.told;
     })
 
-pub signed-behind : (name : List ℕ) (s : Setting) (o : Stored) (gate : ℕ) (signer : SignerState) (certs : List CertBody) (between now : Standing) (old mid new : OfDisk) (r : Answer) → signer ≡ begun s o gate → o.next ≤ leaf_count s.kinds.tree → IsOpened name s o gate old mid → SignsAll certs signer between now mid new r → EnrolsBehind name s certs between now old new r
-signed-behind name s o gate signer certs between now old mid new r is few open_ h =
-    cert-signed name s o gate certs between now old mid new r few open_ (subst (λ x. SignsAll certs x between now mid new r) is h)
+pub signed-behind : (name : List ℕ) (s : Setting) (o : Stored) (seat : Seat) (signer : SignerState) (certs : List CertBody) (between now : Standing) (old mid new : OfDisk) (r : Answer) → signer ≡ begun s o seat → o.next ≤ index_count (key_of s) → IsOpened name s o seat old mid → SignsAll certs signer between now mid new r → EnrolsBehind name s certs between now old new r
+signed-behind name s o seat signer certs between now old mid new r is few open_ h =
+    cert-signed name s o seat certs between now old mid new r few open_ (subst (λ x. SignsAll certs x between now mid new r) is h)
 
 -- the store wasn't opened
 pub unopened-behind : (name : List ℕ) (s : Setting) (certs : List CertBody) (between : Standing) (old new : OfDisk) (h : Halt) → OpensStore name s old new (Err h) → EnrolsBehind name s certs between between old new (Err h)
@@ -220,25 +221,25 @@ unopened-writable name s old new (halt.Exhausted next) o = refl
 unopened-writable name s old new halt.OutOfMemory o = refl
 
 -- the store has a next index that the key hasn't
-none-enrolled : (name : List ℕ) (s : Setting) (o : Stored) (gate : ℕ) (old mid : OfDisk) → IsOpened name s o gate old mid → AreEnrolled name s o [] old mid
-none-enrolled name s o gate old mid open_ = enrolled name s o gate [] (begun s o gate) old mid mid (inr refl) open_ (signed-none (begun s o gate) mid refl)
+none-enrolled : (name : List ℕ) (s : Setting) (o : Stored) (seat : Seat) (old mid : OfDisk) → IsOpened name s o seat old mid → AreEnrolled name s o [] old mid
+none-enrolled name s o seat old mid open_ = enrolled name s o seat [] (begun s o seat) old mid mid (inr refl) open_ (signed-none (begun s o seat) mid refl)
 
-pub gone-asked : (name : List ℕ) (s : Setting) (o : Stored) (gate : ℕ) (certs : List CertBody) (between : Standing) (old new : OfDisk) → leaf_count s.kinds.tree < o.next → IsOpened name s o gate old new → ltb 0 (length certs) ≡ true → EnrolsBehind name s certs between between old new (Err (halt.Exhausted o.next))
-gone-asked name s o gate [] between old new gone open_ some = absurd (let h = ltb-true 0 0 some in omega (arith, h))
-gone-asked name s o gate (c ∷ certs) between old new gone open_ some = record {
+pub gone-asked : (name : List ℕ) (s : Setting) (o : Stored) (seat : Seat) (certs : List CertBody) (between : Standing) (old new : OfDisk) → index_count (key_of s) < o.next → IsOpened name s o seat old new → ltb 0 (length certs) ≡ true → EnrolsBehind name s certs between between old new (Err (halt.Exhausted o.next))
+gone-asked name s o seat [] between old new gone open_ some = absurd (let h = ltb-true 0 0 some in omega (arith, h))
+gone-asked name s o seat (c ∷ certs) between old new gone open_ some = record {
   opened = o;
   done = [];
   one = c;
   part = record { rest = certs; are = refl };
-  enrolled = none-enrolled name s o gate old new open_;
+  enrolled = none-enrolled name s o seat old new open_;
   next_is = omega arith;
-  gone = end-found o.next (leaf_count s.kinds.tree) gone;
+  gone = end-found o.next (index_count (key_of s)) gone;
   told = subst (IsTold between between) (sym (within-end s.group (key_of s) o.next c certs (omega arith))) (told-none between);
 }
 
-pub gone-unasked : (name : List ℕ) (s : Setting) (o : Stored) (gate : ℕ) (certs : List CertBody) (between : Standing) (old new : OfDisk) → IsOpened name s o gate old new → ltb 0 (length certs) ≡ false → EnrolsBehind name s certs between between old new (Ok tt)
-gone-unasked name s o gate [] between old new open_ none = record { opened = o; enrolled = none-enrolled name s o gate old new open_; told = told-none between }
-gone-unasked name s o gate (c ∷ certs) between old new open_ none = absurd (grind (arith, nat_tests))
+pub gone-unasked : (name : List ℕ) (s : Setting) (o : Stored) (seat : Seat) (certs : List CertBody) (between : Standing) (old new : OfDisk) → IsOpened name s o seat old new → ltb 0 (length certs) ≡ false → EnrolsBehind name s certs between between old new (Ok tt)
+gone-unasked name s o seat [] between old new open_ none = record { opened = o; enrolled = none-enrolled name s o seat old new open_; told = told-none between }
+gone-unasked name s o seat (c ∷ certs) between old new open_ none = absurd (grind (arith, nat_tests))
 
 -- ## The whole
 

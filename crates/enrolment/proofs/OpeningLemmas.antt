@@ -1,5 +1,6 @@
 -- A store that is opened, or isn't.
 use Rattle.std.proofs.Common.{◌≡◌, ℕ, List, [], ◌∷◌, Result, Err, refl, subst}
+use Rattle.epoch_store.specs.declared.seat.Seat.{Seat}
 use Rattle.epoch_store.specs.declared.StoreError.{StoreError}
 use Rattle.epoch_store.specs.declared.StoreError.TheVariants as store
 use Rattle.epoch_store.specs.declared.Stored.{Stored}
@@ -16,18 +17,18 @@ use Rattle.authority.specs.Settings.{tag_of}
 use Rattle.enrolment.specs.Enrolling.{IsOpened, IsUnopened, OpensStore}
 
 -- the store that the opened file is was found
-held : (tag : List ℕ) (st : Stored) (gate : ℕ) (old new : List Moment) → SettlesAs same old new → IsSettled tag st gate new → HoldsStore tag st gate old
-held tag st gate [] new settles is = tt
-held tag st gate (was ∷ older) [] settles is = absurd settles
-held tag st gate (was ∷ older) (now ∷ past) settles is = subst (λ (m : Moment). StoreAt tag m.image st gate) settles is.1
+held : (tag : List ℕ) (st : Stored) (seat : Seat) (old new : List Moment) → SettlesAs same old new → IsSettled tag st seat new → HoldsStore tag st seat old
+held tag st seat [] new settles is = tt
+held tag st seat (was ∷ older) [] settles is = absurd settles
+held tag st seat (was ∷ older) (now ∷ past) settles is = subst (λ (m : Moment). StoreAt tag m.image st seat) settles is.1
 
-pub opened : (name : List ℕ) (s : Setting) (tag : List ℕ) (st : StoreState) (old new : OfDisk) → tag ≡ tag_of s → new.faults ≡ old.faults → ReadsTo (open_calls name) st.gate old.calls new.calls → SettlesAs same old.moments new.moments → IsSettled tag st.state st.gate new.moments → Fails stays old.moments new.moments
-    → IsOpened name s st.state st.gate old new
+pub opened : (name : List ℕ) (s : Setting) (tag : List ℕ) (st : StoreState) (old new : OfDisk) → tag ≡ tag_of s → new.faults ≡ old.faults → ReadsTo (open_calls name) st.seat.gate old.calls new.calls → SettlesAs same old.moments new.moments → IsSettled tag st.state st.seat new.moments → Fails stays old.moments new.moments
+    → IsOpened name s st.state st.seat old new
 opened name s tag st old new tag_is faults calls settles is moments = record {
   faults = faults;
   calls = calls;
-  found = subst (λ t. HoldsStore t st.state st.gate old.moments) tag_is (held tag st.state st.gate old.moments new.moments settles is);
-  settled = subst (λ t. IsSettled t st.state st.gate new.moments) tag_is is;
+  found = subst (λ t. HoldsStore t st.state st.seat old.moments) tag_is (held tag st.state st.seat old.moments new.moments settles is);
+  settled = subst (λ t. IsSettled t st.state st.seat new.moments) tag_is is;
   kept = moments;
 }
 

@@ -3,11 +3,13 @@ use Rattle.std.proofs.Common.{◌≡◌, ℕ, suc, ◌+◌, ◌*◌, ◌≤◌, 
 use Rattle.std.proofs.KnownBytes.{Appends-nil, Appends-trans}
 use Rattle.std.proofs.lemmas.Bool.{false≢true}
 use Rattle.epoch_store.specs.declared.Stored.{Stored}
+use Rattle.epoch_store.specs.declared.seat.Seat.{Seat}
+use Rattle.epoch_store.specs.Seat.{next_seat}
 use Rattle.epoch_store.specs.Asked.{put_calls}
 use Rattle.epoch_store.specs.Store.{IsSettled}
 use Rattle.epoch_store.proofs.CallLemmas.{with_calls-append}
 use Rattle.ff_ids.specs.declared.Mask.{Mask}
-use Rattle.lms_tree.specs.Kinds.{leaf_count}
+use Rattle.lms_tree.specs.Leaves.{index_count}
 use Rattle.play.specs.Plays.{Standing}
 use Rattle.ports.specs.Disk.{Moment}
 use Rattle.ports.specs.DiskCalls.{AsFarAs, with_calls}
@@ -28,7 +30,7 @@ use Rattle.authority.specs.OfDisk.{OfDisk}
 use Rattle.authority.specs.Settings.{asked_in}
 use Rattle.authority.specs.Telling.{IsTold}
 use Rattle.enrolment.specs.Lines.{signed_line, signed_lines}
-use Rattle.enrolment.specs.Signing.{AreSigned, FailsToPut, SignsAll, SignsLine, SignsOne, Upto, halt_of_fault, line_next, lines_of, put_behind, puts}
+use Rattle.enrolment.specs.Signing.{AreSigned, FailsToPut, SignsAll, SignsLine, SignsOne, Upto, halt_of_fault, entry_behind, line_next, lines_of, put_behind, puts, seat_after}
 
 -- ## One signature
 
@@ -49,23 +51,23 @@ none-signed s later old new going same faults calls moments = record {
   next = ap (λ x. x.state.next) same ∙ omega arith;
   epoch = ap (λ x. x.state.epoch) same;
   mask = ap (λ x. x.state.mask) same;
-  gate = ap (λ x. x.gate) same ∙ omega arith;
-  within = λ few. subst (λ x. x.state.next ≤ leaf_count s.key.tree) (sym same) few;
+  seat = ap (λ x. x.seat) same;
+  within = λ few. subst (λ x. x.state.next ≤ index_count s.key) (sym same) few;
   faults = faults;
   calls = calls;
-  settled = λ tag is. subst (λ ms. IsSettled tag later.state later.gate ms) (sym moments) (subst (λ x. IsSettled tag x.state x.gate old.moments) (sym same) is);
+  settled = λ tag is. subst (λ ms. IsSettled tag later.state later.seat ms) (sym moments) (subst (λ x. IsSettled tag x.state x.seat old.moments) (sym same) is);
   lives = subst (λ ms. LivesOn [] s later old.moments ms) (sym moments) (lives-same s later old.moments same);
 }
 
 -- where a signer stands, the next put goes
-put-same : (o a : Stored) (gate at behind signed : ℕ) → a.next + signed ≡ o.next + behind → a.epoch ≡ o.epoch → a.mask ≡ o.mask → at + 17 * signed ≡ gate + 17 * behind → put_behind a at signed ≡ put_behind o gate behind
-put-same o a gate at behind signed next epoch mask place =
+put-same : (o a : Stored) (seat at : Seat) (behind signed : ℕ) → a.next + signed ≡ o.next + behind → a.epoch ≡ o.epoch → a.mask ≡ o.mask → seat_after a at signed ≡ seat_after o seat behind → put_behind a at signed ≡ put_behind o seat behind
+put-same o a seat at behind signed next epoch mask place =
     ap (λ g. put_calls g (record a { next = a.next + signed + 1 })) place
-    ∙ ap (put_calls (gate + 17 * behind)) (stored-is (record a { next = a.next + signed + 1 }) (o.next + behind + 1) o.epoch o.mask (omega (arith, next)) epoch mask)
+    ∙ ap (put_calls (seat_after o seat behind)) (stored-is (record a { next = a.next + signed + 1 }) (o.next + behind + 1) o.epoch o.mask (omega (arith, next)) epoch mask)
 
 -- one put behind the gate
-one-put : (o : Stored) (gate : ℕ) → put_calls gate (record o { next = o.next + 1 }) ≡ put_behind o gate 0
-one-put o gate = ap (λ (g : ℕ). put_calls g (record o { next = o.next + 1 })) (omega arith) ∙ ap (λ (n : ℕ). put_calls (gate + 17 * 0) (record o { next = n })) (omega arith)
+one-put : (o : Stored) (seat : Seat) → put_calls seat (record o { next = o.next + 1 }) ≡ put_behind o seat 0
+one-put o seat = ap (λ (n : ℕ). put_calls seat (record o { next = n })) (omega arith)
 
 pub one-signed : {disk disk_now : Option DiskState} (c : CertBody) (s later : SignerState) (old new : OfDisk) (rec : CheckedRecord) → s.closed ≡ false → SignsCert c s later old new disk disk_now (Ok rec) → AreSigned (c ∷ []) s later old new
 one-signed c s later old new rec going h = record {
@@ -75,10 +77,10 @@ one-signed c s later old new rec going h = record {
   next = ap (λ x. x.state.next) h.after;
   epoch = ap (λ x. x.state.epoch) h.after;
   mask = ap (λ x. x.state.mask) h.after;
-  gate = ap (λ x. x.gate) h.after;
+  seat = ap (λ x. x.seat) h.after;
   within = λ few. let n : later.state.next ≡ s.state.next + 1 = ap (λ x. x.state.next) h.after in omega (arith, n, h.answers.1);
   faults = h.faults;
-  calls = h.calls ∙ ap (λ calls. with_calls calls old.calls) (one-put s.state s.gate);
+  calls = h.calls ∙ ap (λ calls. with_calls calls old.calls) (one-put s.state s.seat);
   settled = h.settled;
   lives = lives-signed s later (Certificate c) (Ok rec) _ _ _ _ _ _ h;
 }
@@ -92,7 +94,7 @@ not-signed c s later between old new fault.StoreFault going h = (
   record {
     left = h.answers.1;
     faults = h.faults;
-    calls = subst (λ calls. AsFarAs calls old.calls new.calls) (one-put s.state s.gate) h.calls;
+    calls = subst (λ calls. AsFarAs calls old.calls new.calls) (one-put s.state s.seat) h.calls;
     lives = lives-signed s later (Certificate c) (Err fault.StoreFault) _ _ _ _ _ _ h;
   },
 )
@@ -109,8 +111,8 @@ pub signed-none : (s : SignerState) (old : OfDisk) → s.closed ≡ false → Ar
 signed-none s old going = none-signed s s old old going refl refl refl refl
 
 -- where the signatures end, the next put goes
-pub put-next : (certs : List CertBody) (s then : SignerState) (old mid : OfDisk) → AreSigned certs s then old mid → put_behind then.state then.gate 0 ≡ put_behind s.state s.gate (length certs)
-put-next certs s then old mid a = put-same s.state then.state s.gate then.gate (length certs) 0 (omega (arith, a.next)) a.epoch a.mask (omega (arith, a.gate))
+pub put-next : (certs : List CertBody) (s then : SignerState) (old mid : OfDisk) → AreSigned certs s then old mid → put_behind then.state then.seat 0 ≡ put_behind s.state s.seat (length certs)
+put-next certs s then old mid a = put-same s.state then.state s.seat then.seat (length certs) 0 (omega (arith, a.next)) a.epoch a.mask a.seat
 
 one-longer : (certs : List CertBody) (c : CertBody) → length (certs ++ c ∷ []) ≡ suc (length certs)
 one-longer certs c = length-append certs (c ∷ []) ∙ omega arith
@@ -123,15 +125,15 @@ signed-more certs c s then later old mid new a b = record {
   next = let n = length-append certs (c ∷ []) in omega (arith, a.next, b.next, n);
   epoch = b.epoch ∙ a.epoch;
   mask = b.mask ∙ a.mask;
-  gate = let n = length-append certs (c ∷ []) in omega (arith, a.gate, b.gate, n);
-  within = λ few. subst (λ k. later.state.next ≤ leaf_count k.tree) a.key (b.within (subst (λ k. then.state.next ≤ leaf_count k.tree) (sym a.key) (a.within few)));
+  seat = b.seat ∙ ap (λ (x : Seat). next_seat x (entry_behind then.state 0)) a.seat ∙ ap (seat_after s.state s.seat) (sym (one-longer certs c));
+  within = λ few. subst (λ k. later.state.next ≤ index_count k) a.key (b.within (subst (λ k. then.state.next ≤ index_count k) (sym a.key) (a.within few)));
   faults = b.faults ∙ a.faults;
   calls =
       b.calls
       ∙ ap (λ calls. with_calls (calls ++ []) mid.calls) (put-next certs s then old mid a)
-      ∙ ap (λ calls. with_calls (put_behind s.state s.gate (length certs)) calls) a.calls
-      ∙ sym (with_calls-append (put_behind s.state s.gate (length certs)) (puts s.state s.gate (length certs)) old.calls)
-      ∙ ap (λ n. with_calls (puts s.state s.gate n) old.calls) (sym (one-longer certs c));
+      ∙ ap (λ calls. with_calls (put_behind s.state s.seat (length certs)) calls) a.calls
+      ∙ sym (with_calls-append (put_behind s.state s.seat (length certs)) (puts s.state s.seat (length certs)) old.calls)
+      ∙ ap (λ n. with_calls (puts s.state s.seat n) old.calls) (sym (one-longer certs c));
   settled = λ tag is. b.settled tag (a.settled tag is);
   lives =
       let first = spent_by s.state (map Certificate certs) in
@@ -238,8 +240,8 @@ signed-nothing certs s then later old mid new a b = record {
   next = omega (arith, a.next, b.next);
   epoch = b.epoch ∙ a.epoch;
   mask = b.mask ∙ a.mask;
-  gate = omega (arith, a.gate, b.gate);
-  within = λ few. subst (λ k. later.state.next ≤ leaf_count k.tree) a.key (b.within (subst (λ k. then.state.next ≤ leaf_count k.tree) (sym a.key) (a.within few)));
+  seat = b.seat ∙ a.seat;
+  within = λ few. subst (λ k. later.state.next ≤ index_count k) a.key (b.within (subst (λ k. then.state.next ≤ index_count k) (sym a.key) (a.within few)));
   faults = b.faults ∙ a.faults;
   calls = b.calls ∙ a.calls;
   settled = λ tag is. b.settled tag (a.settled tag is);

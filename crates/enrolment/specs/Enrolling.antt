@@ -2,11 +2,12 @@
 use Rattle.std.specs.Prelude.{◌≡◌, ℕ, ◌+◌, ◌*◌, ◌<◌, ◌≤◌, ◌⊎◌, false, max, Option, List, [], ◌∷◌, ◌++◌, length, map, Result, Ok, Err}
 use Rattle.epoch_store.specs.declared.StoreError.{StoreError}
 use Rattle.epoch_store.specs.declared.Stored.{Stored}
+use Rattle.epoch_store.specs.declared.seat.Seat.{Seat}
 use Rattle.epoch_store.specs.Asked.{ReadsGates, ReadsSome, ReadsTo, open_calls}
 use Rattle.epoch_store.specs.Calls.{HoldsStore, OpensAs, SettlesAs, same}
 use Rattle.epoch_store.specs.Store.{IsSettled}
 use Rattle.line_text.specs.declared.bad_word.BadWord.{BadWord}
-use Rattle.lms_tree.specs.Kinds.{leaf_count}
+use Rattle.lms_tree.specs.Leaves.{index_count}
 use Rattle.play.specs.Plays.{Standing}
 use Rattle.play.specs.declared.stop.Stop.{Stop}
 use Rattle.play.specs.declared.stop.Stop.TheVariants as stop
@@ -28,18 +29,18 @@ use Rattle.authority.specs.Settings.{asked_in, key_of, roster_judging, tag_of}
 use Rattle.authority.specs.Telling.{IsCut, IsTold}
 use Rattle.authority.specs.Texts.{IsRoster}
 use Rattle.enrolment.specs.Lines.{lines_for, signed_line, signed_lines}
-use Rattle.enrolment.specs.Signing.{IsPart, put_behind, puts}
+use Rattle.enrolment.specs.Signing.{IsPart, put_behind, puts, seat_after}
 use Rattle.enrolment.specs.declared.enrolling.Opened.{Opened}
 
 -- ## The store
 
 -- A store of the setting's key with this state was found under this name, by the calls that open it and read its gates up to the
 -- closed one. It is settled as it was; each crash leaves what it would have left before.
-pub record IsOpened (name : List ℕ) (s : Setting) (o : Stored) (gate : ℕ) (old new : OfDisk) : Type 0 where
+pub record IsOpened (name : List ℕ) (s : Setting) (o : Stored) (seat : Seat) (old new : OfDisk) : Type 0 where
   pub faults : new.faults ≡ old.faults
-  pub calls : ReadsTo (open_calls name) gate old.calls new.calls
-  pub found : HoldsStore (tag_of s) o gate old.moments
-  pub settled : IsSettled (tag_of s) o gate new.moments
+  pub calls : ReadsTo (open_calls name) seat.gate old.calls new.calls
+  pub found : HoldsStore (tag_of s) o seat old.moments
+  pub settled : IsSettled (tag_of s) o seat new.moments
   pub kept : Fails stays old.moments new.moments
 
 -- The file is no store of the setting's key, as its reading says, which ended there; it is settled as it was.
@@ -69,7 +70,7 @@ pub record HasOpened (name : List ℕ) (s : Setting) (p : Opened) (old new : OfD
   pub tree : p.tree ≡ key_of s
   pub leaves : p.leaves ≡ record { key = key_of s; next = 0 }
   pub going : p.store.failed ≡ false
-  pub opened : IsOpened name s p.store.state p.store.gate old new
+  pub opened : IsOpened name s p.store.state p.store.seat old new
 
 abbrev pub OpensStore : List ℕ → Setting → OfDisk → OfDisk → Result Opened Halt → Type 0
 OpensStore name s old new (Ok p) = HasOpened name s p old new
@@ -84,9 +85,9 @@ OpensStore name s old new (Err halt.OutOfMemory) = IsUnopened name old new
 
 -- ## The signatures
 
--- The key has a leaf for each of these certificates.
+-- The key has an index for each of these certificates.
 abbrev pub IsEnough : Setting → ℕ → List CertBody → Type 0
-IsEnough s next certs = (next + length certs ≤ leaf_count s.kinds.tree) ⊎ (certs ≡ [])
+IsEnough s next certs = (next + length certs ≤ index_count (key_of s)) ⊎ (certs ≡ [])
 
 -- Where a crash before ended lives of the key that had spent something, each crash now ends lives that have spent just these
 -- certificates more, each with the index behind the one before, from the next one found on.
@@ -99,23 +100,23 @@ abbrev pub SpendsFronts : Setting → Stored → List CertBody → OfDisk → Of
 SpendsFronts s o certs old new = (before : List ℕ) (spent : List Spent) → EndsNow (tag_of s) before spent old.moments
     → Since (EndsWithin (tag_of s) before spent (spent_by o (map Certificate certs))) old.moments new.moments
 
--- The calls that open the store under this name, with its closed gate at this place, and then those that put so many next
+-- The calls that open the store under this name, with this seat behind its entries, and then those that put so many next
 -- indexes, one after the other.
-pub record OpensAndPuts (name : List ℕ) (o : Stored) (gate signed : ℕ) (old new : Option (List DiskCall)) : Type 0 where
+pub record OpensAndPuts (name : List ℕ) (o : Stored) (seat : Seat) (signed : ℕ) (old new : Option (List DiskCall)) : Type 0 where
   pub between : Option (List DiskCall)
-  pub opened : ReadsTo (open_calls name) gate old between
-  pub made : new ≡ with_calls (puts o gate signed) between
+  pub opened : ReadsTo (open_calls name) seat.gate old between
+  pub made : new ≡ with_calls (puts o seat signed) between
 
 -- A store of the setting's key with this state was found under this name, and then one entry put for each of these
--- certificates, for which the key has leaves. It is now settled with a next index that is greater by their number, epoch and
+-- certificates, for which the key has indexes. It is now settled with a next index that is greater by their number, epoch and
 -- mask being as found: each crash leaves such a store.
 pub record AreEnrolled (name : List ℕ) (s : Setting) (o : Stored) (certs : List CertBody) (old new : OfDisk) : Type 0 where
   pub faults : new.faults ≡ old.faults
-  pub gate : ℕ
-  pub found : HoldsStore (tag_of s) o gate old.moments
-  pub calls : OpensAndPuts name o gate (length certs) old.calls new.calls
+  pub seat : Seat
+  pub found : HoldsStore (tag_of s) o seat old.moments
+  pub calls : OpensAndPuts name o seat (length certs) old.calls new.calls
   pub enough : IsEnough s o.next certs
-  pub left : IsSettled (tag_of s) (record o { next = o.next + length certs }) (gate + 17 * length certs) new.moments
+  pub left : IsSettled (tag_of s) (record o { next = o.next + length certs }) (seat_after o seat (length certs)) new.moments
   pub spends : Spends s o certs old new
   pub any_moment : SpendsFronts s o certs old new
 
@@ -125,8 +126,8 @@ pub record AllEnrolled (name : List ℕ) (s : Setting) (certs : List CertBody) (
   pub enrolled : AreEnrolled name s opened certs old new
   pub told : IsTold between now (lines_for opened.next certs s)
 
--- As many as the key had leaves for, and one more was asked for: the next index is then the number of the leaves, or the one found
--- where that is greater.
+-- As many as the key had indexes for, and one more was asked for: the next index is then the number of the key's indexes, or
+-- the one found where that is greater.
 pub record IsExhausted (name : List ℕ) (s : Setting) (certs : List CertBody) (next : ℕ) (between now : Standing) (old new : OfDisk) : Type 0 where
   pub opened : Stored
   pub done : List CertBody
@@ -134,7 +135,7 @@ pub record IsExhausted (name : List ℕ) (s : Setting) (certs : List CertBody) (
   pub part : IsPart certs done one
   pub enrolled : AreEnrolled name s opened done old new
   pub next_is : next ≡ opened.next + length done
-  pub gone : next ≡ max opened.next (leaf_count s.kinds.tree)
+  pub gone : next ≡ max opened.next (index_count (key_of s))
   pub told : IsTold between now (lines_for opened.next certs s)
 
 -- the lines of the first of these certificates
@@ -142,22 +143,22 @@ abbrev pub first_lines : Setting → Stored → List CertBody → List ℕ
 first_lines s o done = signed_lines s.group (key_of s) o.next done
 
 -- The calls that open the store, those that put so many next indexes, and those that put one more, as far as they came.
-pub record OpensAndFails (name : List ℕ) (o : Stored) (gate signed : ℕ) (old new : Option (List DiskCall)) : Type 0 where
+pub record OpensAndFails (name : List ℕ) (o : Stored) (seat : Seat) (signed : ℕ) (old new : Option (List DiskCall)) : Type 0 where
   pub between : Option (List DiskCall)
-  pub before : OpensAndPuts name o gate signed old between
-  pub last : AsFarAs (put_behind o gate signed) between new
+  pub before : OpensAndPuts name o seat signed old between
+  pub last : AsFarAs (put_behind o seat signed) between new
 
--- The disk failed in the put for one of them, for which there was a leaf.
+-- The disk failed in the put for one of them, for which there was an index.
 pub record SigningFails (name : List ℕ) (s : Setting) (certs : List CertBody) (between now : Standing) (old new : OfDisk) : Type 0 where
   pub opened : Stored
   pub done : List CertBody
   pub one : CertBody
   pub part : IsPart certs done one
-  pub gate : ℕ
-  pub found : HoldsStore (tag_of s) opened gate old.moments
-  pub within : opened.next + length done < leaf_count s.kinds.tree
+  pub seat : Seat
+  pub found : HoldsStore (tag_of s) opened seat old.moments
+  pub within : opened.next + length done < index_count (key_of s)
   pub faults : new.faults ≡ next_count old.faults
-  pub calls : OpensAndFails name opened gate (length done) old.calls new.calls
+  pub calls : OpensAndFails name opened seat (length done) old.calls new.calls
   pub spends : Spends s opened done old new
   pub any_moment : SpendsFronts s opened done old new
   pub told : IsTold between now (first_lines s opened done)
@@ -168,7 +169,7 @@ pub record WritingFails (name : List ℕ) (s : Setting) (certs : List CertBody) 
   pub done : List CertBody
   pub one : CertBody
   pub part : IsPart certs done one
-  pub within : opened.next + length done < leaf_count s.kinds.tree
+  pub within : opened.next + length done < index_count (key_of s)
   pub enrolled : AreEnrolled name s opened (done ++ one ∷ []) old new
   pub mid : Standing
   pub told : IsTold between mid (first_lines s opened done)
@@ -180,7 +181,7 @@ pub record IsStarved (name : List ℕ) (s : Setting) (certs : List CertBody) (be
   pub done : List CertBody
   pub one : CertBody
   pub part : IsPart certs done one
-  pub within : opened.next + length done ≤ leaf_count s.kinds.tree
+  pub within : opened.next + length done ≤ index_count (key_of s)
   pub enrolled : AreEnrolled name s opened done old new ⊎ AreEnrolled name s opened (done ++ one ∷ []) old new
   pub told : IsTold between now (first_lines s opened done)
 

@@ -3,7 +3,7 @@ use Rattle.std.specs.Prelude.{ℕ, ◌+◌, nat_lt, if◌then◌else◌, List, [
 use Rattle.hex.specs.Hex.{encode_lower}
 use Rattle.ff_ids.specs.declared.Group.{Group}
 use Rattle.line_text.specs.declared.bad_word.BadWord.{BadWord}
-use Rattle.lms_tree.specs.Kinds.{leaf_count}
+use Rattle.lms_tree.specs.Leaves.{index_count}
 use Rattle.lms_tree.specs.Lms.{key_bytes}
 use Rattle.lms_tree.specs.declared.secret.Secret.{Secret}
 use Rattle.records.specs.declared.Body.TheVariants.{Certificate}
@@ -30,11 +30,11 @@ abbrev pub signed_lines : Group → Secret → ℕ → List CertBody → List �
 signed_lines group key index [] = []
 signed_lines group key index (c ∷ certs) = signed_line group key index c ++ signed_lines group key (index + 1) certs
 
--- the same, as far as the key has leaves
+-- the same, as far as the key has indexes
 abbrev pub lines_within : Group → Secret → ℕ → List CertBody → List ℕ
 lines_within group key index [] = []
 lines_within group key index (c ∷ certs) =
-    if nat_lt index (leaf_count key.tree) then signed_line group key index c ++ lines_within group key (index + 1) certs else []
+    if nat_lt index (index_count key) then signed_line group key index c ++ lines_within group key (index + 1) certs else []
 
 -- The lines that a setting's store with this next index gives for the certificates that are asked for.
 abbrev pub lines_for : ℕ → List CertBody → Setting → List ℕ

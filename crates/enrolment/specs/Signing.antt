@@ -1,9 +1,11 @@
 -- What the signing of certificates does: to the key, to the disk, and to what was written, by the answer.
 use Rattle.std.specs.Prelude.{◌≡◌, ℕ, zero, suc, ◌+◌, ◌*◌, ◌<◌, ◌≤◌, ◌⊎◌, false, List, [], ◌∷◌, ◌++◌, length, map, Result, Ok, Err}
 use Rattle.epoch_store.specs.declared.Stored.{Stored}
+use Rattle.epoch_store.specs.declared.seat.Seat.{Seat}
+use Rattle.epoch_store.specs.Seat.{next_seat}
 use Rattle.epoch_store.specs.Asked.{put_calls}
 use Rattle.epoch_store.specs.Store.{IsSettled}
-use Rattle.lms_tree.specs.Kinds.{leaf_count}
+use Rattle.lms_tree.specs.Leaves.{index_count}
 use Rattle.play.specs.Plays.{Standing}
 use Rattle.ports.specs.Count.{next_count}
 use Rattle.ports.specs.DiskCalls.{AsFarAs, DiskCall, with_calls}
@@ -27,15 +29,24 @@ halt_of_fault fault.Closed = halt.StoreFault
 halt_of_fault (fault.Exhausted next) = halt.Exhausted next
 halt_of_fault fault.StoreFault = halt.StoreFault
 
--- the calls that put the next index behind these: of a store that was found with this state and its closed gate at this place,
--- in which as many entries were put since; the last call first
-abbrev pub put_behind : Stored → ℕ → ℕ → List DiskCall
-put_behind o gate signed = put_calls (gate + 17 * signed) (record o { next = o.next + signed + 1 })
+-- the entry that is put behind so many signatures, in a store that was found with this state
+abbrev pub entry_behind : Stored → ℕ → Stored
+entry_behind o signed = record o { next = o.next + signed + 1 }
+
+-- the seat behind so many such entries, the first of which was put in this one
+abbrev pub seat_after : Stored → Seat → ℕ → Seat
+seat_after o seat zero = seat
+seat_after o seat (suc signed) = next_seat (seat_after o seat signed) (entry_behind o signed)
+
+-- the calls that put the next index behind so many signatures, in a store that was found with this state and this seat; the
+-- last call first
+abbrev pub put_behind : Stored → Seat → ℕ → List DiskCall
+put_behind o seat signed = put_calls (seat_after o seat signed) (entry_behind o signed)
 
 -- the calls that put one next index after the other, for so many signatures; the last call first
-abbrev pub puts : Stored → ℕ → ℕ → List DiskCall
-puts o gate zero = []
-puts o gate (suc signed) = put_behind o gate signed ++ puts o gate signed
+abbrev pub puts : Stored → Seat → ℕ → List DiskCall
+puts o seat zero = []
+puts o seat (suc signed) = put_behind o seat signed ++ puts o seat signed
 
 -- Just these certificates were signed, in turn, each with the next index, and each behind one put and no other call: so the
 -- store keeps, and the lives of the key go on with them, at each moment with a front of them.
@@ -46,19 +57,19 @@ pub record AreSigned (certs : List CertBody) (s later : SignerState) (old new : 
   pub next : later.state.next ≡ s.state.next + length certs
   pub epoch : later.state.epoch ≡ s.state.epoch
   pub mask : later.state.mask ≡ s.state.mask
-  pub gate : later.gate ≡ s.gate + 17 * length certs
-  pub within : s.state.next ≤ leaf_count s.key.tree → later.state.next ≤ leaf_count s.key.tree
+  pub seat : later.seat ≡ seat_after s.state s.seat (length certs)
+  pub within : s.state.next ≤ index_count s.key → later.state.next ≤ index_count s.key
   pub faults : new.faults ≡ old.faults
-  pub calls : new.calls ≡ with_calls (puts s.state s.gate (length certs)) old.calls
-  pub settled : (tag : List ℕ) → IsSettled tag s.state s.gate old.moments → IsSettled tag later.state later.gate new.moments
+  pub calls : new.calls ≡ with_calls (puts s.state s.seat (length certs)) old.calls
+  pub settled : (tag : List ℕ) → IsSettled tag s.state s.seat old.moments → IsSettled tag later.state later.seat new.moments
   pub lives : LivesOn (spent_by s.state (map Certificate certs)) s later old.moments new.moments
 
 -- A leaf was left, and the disk failed in the put of the next index: no call came behind that, no signature was handed out, and
 -- the lives of the key go on without it.
 pub record FailsToPut (s later : SignerState) (old new : OfDisk) : Type 0 where
-  pub left : s.state.next < leaf_count s.key.tree
+  pub left : s.state.next < index_count s.key
   pub faults : new.faults ≡ next_count old.faults
-  pub calls : AsFarAs (put_behind s.state s.gate 0) old.calls new.calls
+  pub calls : AsFarAs (put_behind s.state s.seat 0) old.calls new.calls
   pub lives : LivesOn [] s later old.moments new.moments
 
 -- the line of the certificate that is signed next
@@ -75,7 +86,7 @@ SignsOne c s later between now old new (Err halt.StoreFault) = (now ≡ between)
 SignsOne c s later between now old new (Err (halt.StoreBroken place byte)) = ⊥
 SignsOne c s later between now old new (Err (halt.StoreTaken len)) = ⊥
 SignsOne c s later between now old new (Err (halt.Exhausted next)) =
-    (now ≡ between) × AreSigned [] s later old new × (next ≡ s.state.next) × (next ≡ leaf_count s.key.tree)
+    (now ≡ between) × AreSigned [] s later old new × (next ≡ s.state.next) × (next ≡ index_count s.key)
 SignsOne c s later between now old new (Err halt.OutOfMemory) =
     (now ≡ between) × (AreSigned [] s later old new ⊎ AreSigned (c ∷ []) s later old new)
 

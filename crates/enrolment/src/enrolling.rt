@@ -90,7 +90,7 @@ fn open_and_sign<O: Sink, D: Disk>(
         Err(halt) => return Err(halt),
     };
     let next = store.state().next;
-    if next > setting.kinds.tree.leaf_count() {
+    if next > tree.index_count() {
         if is_asked(lines) {
             return Err(Halt::Exhausted { next });
         }

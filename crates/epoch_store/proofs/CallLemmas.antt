@@ -3,6 +3,7 @@ use Rattle.std.proofs.Common.{◌≡◌, ℕ, zero, suc, ◌+◌, ◌*◌, ◌<�
 use Rattle.ports.specs.DiskCalls.{DiskCall, ToOpen, ToRead, with_call, with_calls, AsFarAs}
 use Rattle.ports.specs.Disk.{Moment}
 use Rattle.epoch_store.specs.declared.Stored.{Stored}
+use Rattle.epoch_store.specs.declared.seat.Seat.{Seat}
 use Rattle.epoch_store.specs.declared.StoreError.{StoreError}
 use Rattle.epoch_store.specs.declared.StoreError.TheVariants.{Fault, Taken, Broken, OtherKey, OutOfMemory}
 use Rattle.epoch_store.specs.declared.entry.Gate.{Gate}
@@ -80,12 +81,12 @@ some_read gate older newer read = record {
   made = record { left_out = 0; made = read.made ∙ ap (λ (calls : List DiskCall). with_calls calls older) (sym (append-nil (gate_reads read.gates))) };
 }
 
-pub ended : (error : StoreError) (gate : ℕ) (older newer : Option (List DiskCall)) → HasRead (gate + 17) older newer → RefusedAtGate {T = Gate} gate (Err error) → ReadsGates [] (Err error) older newer
-ended Fault gate older newer read refused = some_read (gate + 17) older newer read
-ended (Taken len) gate older newer read refused = absurd refused
-ended (Broken place byte) gate older newer read refused = ended_at gate place older newer read refused.0 refused.1
-ended (OtherKey place byte) gate older newer read refused = absurd refused
-ended OutOfMemory gate older newer read refused = absurd refused
+pub ended : (error : StoreError) (seat : Seat) (older newer : Option (List DiskCall)) → HasRead (seat.gate + 17) older newer → RefusedAtGate {T = Gate} seat (Err error) → ReadsGates [] (Err error) older newer
+ended Fault seat older newer read refused = some_read (seat.gate + 17) older newer read
+ended (Taken len) seat older newer read refused = absurd refused
+ended (Broken place byte) seat older newer read refused = ended_at seat.gate place older newer read refused.0 refused.1
+ended (OtherKey place byte) seat older newer read refused = absurd refused
+ended OutOfMemory seat older newer read refused = absurd refused
 
 -- gates that were read after some calls, which came after others
 with_earlier : (gates : ℕ) (first earlier : List DiskCall) (older middle : Option (List DiskCall)) → middle ≡ with_calls earlier older → with_calls (gate_reads gates ++ first) middle ≡ with_calls (gate_reads gates ++ (first ++ earlier)) older
@@ -110,7 +111,7 @@ read_some_after first earlier older middle newer is read =
     }
 
 pub read_after : (first earlier : List DiskCall) (result : Result StoreState StoreError) (older middle newer : Option (List DiskCall)) → middle ≡ with_calls earlier older → ReadsGates first result middle newer → ReadsGates (first ++ earlier) result older newer
-read_after first earlier (Ok store) older middle newer is read = read_to_after first earlier store.gate older middle newer is read
+read_after first earlier (Ok store) older middle newer is read = read_to_after first earlier store.seat.gate older middle newer is read
 read_after first earlier (Err Fault) older middle newer is read = read_some_after first earlier older middle newer is read
 read_after first earlier (Err (Taken len)) older middle newer is read = read_some_after first earlier older middle newer is read
 read_after first earlier (Err (Broken place byte)) older middle newer is read = read_to_after first earlier place older middle newer is read

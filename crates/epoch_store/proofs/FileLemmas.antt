@@ -5,6 +5,8 @@ use Rattle.std.proofs.lemmas.Bool.{cases_eq}
 use Rattle.std.proofs.lemmas.Bool.Decides.{nat_tests}
 use Rattle.std.proofs.lemmas.List.{take-append-drop, take_at, drop_at, drop_more, drop-drop, ext_get_or, get_or-take, get_or-drop, length-replicate}
 use Rattle.epoch_store.specs.declared.Stored.{Stored}
+use Rattle.epoch_store.specs.declared.seat.Seat.{Seat}
+use Rattle.epoch_store.specs.Seat.{next_seat}
 use Rattle.epoch_store.specs.Store.{spelled, front, IsEntry, Follows, IsChain, StoreAt, StoreOf, LeavesEither}
 use Rattle.ports.specs.Disk.{Moment, Leaves, is_torn, written, settled, torn_at}
 
@@ -35,43 +37,44 @@ length-spelled : (e : Stored) → length (spelled e) ≡ 16
 length-spelled e = refl
 
 -- the file of a store, cut at its gate and right behind it
-store_front : (tag image : List ℕ) (state : Stored) (gate : ℕ) (store : StoreAt tag image state gate) → take gate image ≡ front tag (state ∷ store.older)
-store_front tag image state gate store =
-    rw store.bytes (take_at (front tag (state ∷ store.older)) (store.shut ∷ store.rest) gate (sym store.place))
+store_front : (tag image : List ℕ) (state : Stored) (seat : Seat) (store : StoreAt tag image state seat) → take seat.gate image ≡ front tag (state ∷ store.older)
+store_front tag image state seat store =
+    rw store.bytes (take_at (front tag (state ∷ store.older)) (store.shut ∷ store.rest) seat.gate (sym store.place))
 
-store_size : (tag image : List ℕ) (state : Stored) (gate : ℕ) → StoreAt tag image state gate → gate < length image
-store_size tag image state gate store = omega (arith, store.place, ap length store.bytes ∙ length-append (front tag (state ∷ store.older)) (store.shut ∷ store.rest))
+store_size : (tag image : List ℕ) (state : Stored) (seat : Seat) → StoreAt tag image state seat → seat.gate < length image
+store_size tag image state seat store = omega (arith, store.place, ap length store.bytes ∙ length-append (front tag (state ∷ store.older)) (store.shut ∷ store.rest))
 
-store_with_gate : (tag image : List ℕ) (state : Stored) (gate : ℕ) (store : StoreAt tag image state gate) → take (gate + 1) image ≡ front tag (state ∷ store.older) ++ store.shut ∷ []
-store_with_gate tag image state gate store =
+store_with_gate : (tag image : List ℕ) (state : Stored) (seat : Seat) (store : StoreAt tag image state seat) → take (seat.gate + 1) image ≡ front tag (state ∷ store.older) ++ store.shut ∷ []
+store_with_gate tag image state seat store =
     let whole : image ≡ (front tag (state ∷ store.older) ++ store.shut ∷ []) ++ store.rest = rw (append_assoc, store.bytes) refl in
-    let size : length (front tag (state ∷ store.older) ++ store.shut ∷ []) ≡ gate + 1 = omega (arith, store.place, length-append (front tag (state ∷ store.older)) (store.shut ∷ [])) in
-    rw whole (take_at (front tag (state ∷ store.older) ++ store.shut ∷ []) store.rest (gate + 1) size)
+    let size : length (front tag (state ∷ store.older) ++ store.shut ∷ []) ≡ seat.gate + 1 = omega (arith, store.place, length-append (front tag (state ∷ store.older)) (store.shut ∷ [])) in
+    rw whole (take_at (front tag (state ∷ store.older) ++ store.shut ∷ []) store.rest (seat.gate + 1) size)
 
 -- a write behind the gate leaves the store, whatever a crash makes of it
-pub behind_gate : (tag image c : List ℕ) (state : Stored) (gate count : ℕ) → StoreAt tag image state gate → Leaves (torn_at (gate + 1) count (settled image)) c → StoreAt tag c state gate
-behind_gate tag image c state gate count store leaves =
-    let size : gate < length image = store_size tag image state gate store in
-    let within : 0 + (gate + 1) ≤ length image = omega arith in
-    let same : take (gate + 1) c ≡ take (gate + 1) image =
-    same_part c image 0 (gate + 1) within leaves.no_shorter (λ i from below. leaves.outside i (omega arith) (below_range (gate + 1) count i (omega arith))) in
-    let parts = take-append-drop (gate + 1) c in
+pub behind_gate : (tag image c : List ℕ) (state : Stored) (seat : Seat) (count : ℕ) → StoreAt tag image state seat → Leaves (torn_at (seat.gate + 1) count (settled image)) c → StoreAt tag c state seat
+behind_gate tag image c state seat count store leaves =
+    let size : seat.gate < length image = store_size tag image state seat store in
+    let within : 0 + (seat.gate + 1) ≤ length image = omega arith in
+    let same : take (seat.gate + 1) c ≡ take (seat.gate + 1) image =
+    same_part c image 0 (seat.gate + 1) within leaves.no_shorter (λ i from below. leaves.outside i (omega arith) (below_range (seat.gate + 1) count i (omega arith))) in
+    let parts = take-append-drop (seat.gate + 1) c in
     record {
       older = store.older;
       shut = store.shut;
-      rest = drop (gate + 1) c;
+      rest = drop (seat.gate + 1) c;
       chain = store.chain;
       closed = store.closed;
       bytes =
           sym parts
-          ∙ ap (λ (b : List ℕ). b ++ drop (gate + 1) c) (same ∙ store_with_gate tag image state gate store)
-          ∙ append_assoc (front tag (state ∷ store.older)) (store.shut ∷ []) (drop (gate + 1) c);
+          ∙ ap (λ (b : List ℕ). b ++ drop (seat.gate + 1) c) (same ∙ store_with_gate tag image state seat store)
+          ∙ append_assoc (front tag (state ∷ store.older)) (store.shut ∷ []) (drop (seat.gate + 1) c);
       place = store.place;
+      in_force = store.in_force;
     }
 
 -- an open gate with an entry behind it, and a closed one
-pub opened : (tag image c rest : List ℕ) (state next : Stored) (gate : ℕ) (store : StoreAt tag image state gate) → IsEntry next → Follows state next → c ≡ front tag (state ∷ store.older) ++ 1 ∷ (spelled next ++ 0 ∷ rest) → StoreAt tag c next (gate + 17)
-opened tag image c rest state next gate store entry follows is = record {
+pub opened : (tag image c rest : List ℕ) (state next : Stored) (seat : Seat) (store : StoreAt tag image state seat) → IsEntry next → Follows state next → c ≡ front tag (state ∷ store.older) ++ 1 ∷ (spelled next ++ 0 ∷ rest) → StoreAt tag c next (next_seat seat next)
+opened tag image c rest state next seat store entry follows is = record {
   older = state ∷ store.older;
   shut = 0;
   rest = rest;
@@ -79,11 +82,12 @@ opened tag image c rest state next gate store entry follows is = record {
   closed = λ same. omega (arith, same);
   bytes = rw is (sym (append_assoc (front tag (state ∷ store.older)) (1 ∷ spelled next) (0 ∷ rest)));
   place = omega (arith, store.place, length-append (front tag (state ∷ store.older)) (1 ∷ spelled next), length-spelled next);
+  in_force = store.in_force;
 }
 
 -- a closed gate, whatever stands behind it
-pub shut_still : (tag image c rest : List ℕ) (state : Stored) (gate x : ℕ) (store : StoreAt tag image state gate) → x ≢ 1 → c ≡ front tag (state ∷ store.older) ++ x ∷ rest → StoreAt tag c state gate
-shut_still tag image c rest state gate x store closed is = record {
+pub shut_still : (tag image c rest : List ℕ) (state : Stored) (seat : Seat) (x : ℕ) (store : StoreAt tag image state seat) → x ≢ 1 → c ≡ front tag (state ∷ store.older) ++ x ∷ rest → StoreAt tag c state seat
+shut_still tag image c rest state seat x store closed is = record {
   older = store.older;
   shut = x;
   rest = rest;
@@ -91,18 +95,19 @@ shut_still tag image c rest state gate x store closed is = record {
   closed = closed;
   bytes = is;
   place = store.place;
+  in_force = store.in_force;
 }
 
 -- the file with an entry behind its closed gate
-pub with_entry : (tag image bytes : List ℕ) (state next : Stored) (gate : ℕ) (store : StoreAt tag image state gate) → bytes ≡ spelled next ++ 0 ∷ [] → (rest : List ℕ) × (written (gate + 1) bytes image ≡ front tag (state ∷ store.older) ++ store.shut ∷ (spelled next ++ 0 ∷ rest))
-with_entry tag image bytes state next gate store spell =
-    let size : gate < length image = store_size tag image state gate store in
+pub with_entry : (tag image bytes : List ℕ) (state next : Stored) (seat : Seat) (store : StoreAt tag image state seat) → bytes ≡ spelled next ++ 0 ∷ [] → (rest : List ℕ) × (written (seat.gate + 1) bytes image ≡ front tag (state ∷ store.older) ++ store.shut ∷ (spelled next ++ 0 ∷ rest))
+with_entry tag image bytes state next seat store spell =
+    let size : seat.gate < length image = store_size tag image state seat store in
     let count : length bytes ≡ 17 = rw spell refl in
     let some : 0 < length bytes = omega arith in
-    let within : gate + 1 ≤ length image = omega arith in
-    let rest = drop (gate + 1 + length bytes) image in (
+    let within : seat.gate + 1 ≤ length image = omega arith in
+    let rest = drop (seat.gate + 1 + length bytes) image in (
       rest,
-      rw (written_within (gate + 1) bytes image some within, store_with_gate tag image state gate store)
+      rw (written_within (seat.gate + 1) bytes image some within, store_with_gate tag image state seat store)
           (append_assoc (front tag (state ∷ store.older) ++ store.shut ∷ []) bytes rest
           ∙ append_assoc (front tag (state ∷ store.older)) (store.shut ∷ []) (bytes ++ rest)
           ∙ ap (λ (b : List ℕ). front tag (state ∷ store.older) ++ store.shut ∷ (b ++ rest)) spell
@@ -137,29 +142,29 @@ torn_gate before behind rest c gate shut place leaves =
     )
 
 -- while the gate is being opened, a crash leaves the store or the next one
-pub at_gate : (tag image full c rest : List ℕ) (state next : Stored) (gate : ℕ) (store : StoreAt tag image state gate) → IsEntry next → Follows state next → full ≡ front tag (state ∷ store.older) ++ store.shut ∷ (spelled next ++ 0 ∷ rest) → Leaves (torn_at gate 1 (settled full)) c → StoreOf tag c state ⊎ StoreOf tag c next
-at_gate tag image full c rest state next gate store entry follows is leaves =
+pub at_gate : (tag image full c rest : List ℕ) (state next : Stored) (seat : Seat) (store : StoreAt tag image state seat) → IsEntry next → Follows state next → full ≡ front tag (state ∷ store.older) ++ store.shut ∷ (spelled next ++ 0 ∷ rest) → Leaves (torn_at seat.gate 1 (settled full)) c → StoreOf tag c state ⊎ StoreOf tag c next
+at_gate tag image full c rest state next seat store entry follows is leaves =
     let before = front tag (state ∷ store.older) in
     let shape : full ≡ before ++ store.shut ∷ ((spelled next ++ 0 ∷ []) ++ rest) =
     is ∙ ap (λ (b : List ℕ). before ++ store.shut ∷ b) (sym (append_assoc (spelled next) (0 ∷ []) rest)) in
-    let torn = torn_gate before (spelled next ++ 0 ∷ []) rest c gate store.shut store.place (rw shape at leaves) in
+    let torn = torn_gate before (spelled next ++ 0 ∷ []) rest c seat.gate store.shut store.place (rw shape at leaves) in
     let whole : c ≡ before ++ torn.0 ∷ (spelled next ++ 0 ∷ torn.1) = torn.2 ∙ ap (λ (b : List ℕ). before ++ torn.0 ∷ b) (append_assoc (spelled next) (0 ∷ []) torn.1) in
     elim (cases_eq torn.0 1) [
-      | inl one ↦ inr (gate + 17, opened tag image c torn.1 state next gate store entry follows (rw one at whole))
-      | inr other ↦ inl (gate, shut_still tag image c (spelled next ++ 0 ∷ torn.1) state gate torn.0 store other whole)
+      | inl one ↦ inr (next_seat seat next, opened tag image c torn.1 state next seat store entry follows (rw one at whole))
+      | inr other ↦ inl (seat, shut_still tag image c (spelled next ++ 0 ∷ torn.1) state seat torn.0 store other whole)
     ]
 
 -- once it is open, the file is the next store
-pub gate_open : (tag image full rest : List ℕ) (state next : Stored) (gate : ℕ) (store : StoreAt tag image state gate) → IsEntry next → Follows state next → full ≡ front tag (state ∷ store.older) ++ store.shut ∷ (spelled next ++ 0 ∷ rest) → StoreAt tag (written gate (1 ∷ []) full) next (gate + 17)
-gate_open tag image full rest state next gate store entry follows is =
+pub gate_open : (tag image full rest : List ℕ) (state next : Stored) (seat : Seat) (store : StoreAt tag image state seat) → IsEntry next → Follows state next → full ≡ front tag (state ∷ store.older) ++ store.shut ∷ (spelled next ++ 0 ∷ rest) → StoreAt tag (written seat.gate (1 ∷ []) full) next (next_seat seat next)
+gate_open tag image full rest state next seat store entry follows is =
     let before = front tag (state ∷ store.older) in
-    let size : length full ≡ gate + 1 + length (spelled next ++ 0 ∷ rest) = omega (arith, store.place, ap length is, length-append before (store.shut ∷ (spelled next ++ 0 ∷ rest))) in
+    let size : length full ≡ seat.gate + 1 + length (spelled next ++ 0 ∷ rest) = omega (arith, store.place, ap length is, length-append before (store.shut ∷ (spelled next ++ 0 ∷ rest))) in
     let some : 0 < 1 = omega arith in
-    let within : gate ≤ length full = omega arith in
-    let front_is : take gate full ≡ before = rw is (take_at before (store.shut ∷ (spelled next ++ 0 ∷ rest)) gate (sym store.place)) in
-    let back_is : drop (gate + 1) full ≡ spelled next ++ 0 ∷ rest =
+    let within : seat.gate ≤ length full = omega arith in
+    let front_is : take seat.gate full ≡ before = rw is (take_at before (store.shut ∷ (spelled next ++ 0 ∷ rest)) seat.gate (sym store.place)) in
+    let back_is : drop (seat.gate + 1) full ≡ spelled next ++ 0 ∷ rest =
     let whole : full ≡ (before ++ store.shut ∷ []) ++ (spelled next ++ 0 ∷ rest) = is ∙ sym (append_assoc before (store.shut ∷ []) (spelled next ++ 0 ∷ rest)) in
-    rw whole (drop_at (before ++ store.shut ∷ []) (spelled next ++ 0 ∷ rest) (gate + 1) (omega (arith, store.place, length-append before (store.shut ∷ [])))) in
-    let shape : written gate (1 ∷ []) full ≡ before ++ 1 ∷ (spelled next ++ 0 ∷ rest) =
-    rw (written_within gate (1 ∷ []) full some within, front_is, back_is) (append_assoc before (1 ∷ []) (spelled next ++ 0 ∷ rest)) in
-    opened tag image (written gate (1 ∷ []) full) rest state next gate store entry follows shape
+    rw whole (drop_at (before ++ store.shut ∷ []) (spelled next ++ 0 ∷ rest) (seat.gate + 1) (omega (arith, store.place, length-append before (store.shut ∷ [])))) in
+    let shape : written seat.gate (1 ∷ []) full ≡ before ++ 1 ∷ (spelled next ++ 0 ∷ rest) =
+    rw (written_within seat.gate (1 ∷ []) full some within, front_is, back_is) (append_assoc before (1 ∷ []) (spelled next ++ 0 ∷ rest)) in
+    opened tag image (written seat.gate (1 ∷ []) full) rest state next seat store entry follows shape

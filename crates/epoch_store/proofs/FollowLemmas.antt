@@ -6,6 +6,8 @@ use Rattle.ports.specs.MemoryDisk.{DiskState}
 use Rattle.ports.specs.DiskSteps.{came_to, runs_on}
 use Rattle.ports.proofs.RunLemmas.{then_runs, runs_on_no_further, runs_none}
 use Rattle.epoch_store.specs.declared.Stored.{Stored}
+use Rattle.epoch_store.specs.declared.seat.Seat.{Seat}
+use Rattle.epoch_store.specs.Seat.{first_seat, next_seat, nth_seat}
 use Rattle.epoch_store.specs.declared.StoreError.{StoreError}
 use Rattle.epoch_store.specs.declared.StoreError.TheVariants.{Fault, Taken, Broken, OtherKey, OutOfMemory}
 use Rattle.epoch_store.specs.declared.entry.Gate.{Gate}
@@ -15,25 +17,27 @@ use Rattle.epoch_store.specs.Asked.{open_calls, gate_reads, RefusedInHead, Refus
 use Rattle.epoch_store.specs.Followed.{OpensFile, Reaches, PassesGates, ReadsOnTo, FailsReading, ReadsGatesFrom}
 
 -- reading comes to the gate, where the file is told
-abbrev pub ReachesIn : List Moment → Option Stored → ℕ → Type 0
-ReachesIn [] before gate = Unit {0}
-ReachesIn (now ∷ past) before gate = Reaches now.image before gate
+abbrev pub ReachesIn : List ℕ → List Moment → Option Stored → Seat → Type 0
+ReachesIn tag [] before seat = Unit {0}
+ReachesIn tag (now ∷ past) before seat = Reaches tag now.image before seat
 
-pub reaches_first : (moments : List Moment) → ReachesIn moments None 40
-reaches_first [] = tt
-reaches_first (now ∷ past) = Reaches.begins
+pub reaches_first : (tag : List ℕ) (moments : List Moment) → ReachesIn tag moments None (first_seat tag)
+reaches_first tag [] = tt
+reaches_first tag (now ∷ past) = Reaches.begins
 
-pub reaches_further : (moments : List Moment) (before : Option Stored) (gate : ℕ) (e : Stored) → ReachesIn moments before gate → ReadsGate before gate moments (Ok (Entry e)) → ReachesIn moments (Some e) (gate + 17)
-reaches_further [] before gate e reached stands = tt
-reaches_further (now ∷ past) before gate e reached stands = Reaches.passes before gate e reached stands
+pub reaches_further : (tag : List ℕ) (moments : List Moment) (before : Option Stored) (seat : Seat) (e : Stored) → ReachesIn tag moments before seat → ReadsGate before seat moments (Ok (Entry e)) → ReachesIn tag moments (Some e) (next_seat seat e)
+reaches_further tag [] before seat e reached stands = tt
+reaches_further tag (now ∷ past) before seat e reached stands = Reaches.passes before seat e reached stands
 
-passes_so_far : (moments : List Moment) (before : Option Stored) (gate gates : ℕ) → gate ≡ 40 + 17 * gates → ReachesIn moments before gate → PassesGates moments gates
-passes_so_far [] before gate gates place reached = tt
-passes_so_far (now ∷ past) before gate gates place reached = (before, subst (λ (at : ℕ). Reaches now.image before at) place reached)
+passes_so_far : (tag : List ℕ) (moments : List Moment) (before : Option Stored) (seat : Seat) (gates : ℕ) → seat.gate ≡ 40 + 17 * gates → seat.tag ≡ tag → ReachesIn tag moments before seat → PassesGates tag moments gates
+passes_so_far tag [] before seat gates place in_force reached = tt
+passes_so_far tag (now ∷ past) before seat gates place in_force reached =
+    let there : seat ≡ nth_seat tag gates = λ i. record { gate = place i; tag = in_force i } in
+    (before, subst (λ (at : Seat). Reaches tag now.image before at) there reached)
 
-passes_none : (moments : List Moment) → PassesGates moments 0
-passes_none [] = tt
-passes_none (now ∷ past) = (None, Reaches.begins)
+passes_none : (tag : List ℕ) (moments : List Moment) → PassesGates tag moments 0
+passes_none tag [] = tt
+passes_none tag (now ∷ past) = (None, Reaches.begins)
 
 -- the gates up to this place were read, and none at it
 pub record HasPassed (gate : ℕ) (older newer : Option DiskState) : Type 0 where
@@ -68,21 +72,23 @@ passed_to gate place older newer passed low high = record {
   came = passed.came ∙ bare (gate_reads passed.gates) older;
 }
 
-failed_at : (moments : List Moment) (before : Option Stored) (gate : ℕ) (older middle newer : Option DiskState) → ReachesIn moments before gate → HasPassed gate older middle → came_to newer true ≡ runs_on (ToRead gate 17 ∷ []) middle → FailsReading [] moments older newer
-failed_at moments before gate older middle newer reached passed is = record {
+failed_at : (tag : List ℕ) (moments : List Moment) (before : Option Stored) (seat : Seat) (older middle newer : Option DiskState) → seat.tag ≡ tag → ReachesIn tag moments before seat → HasPassed seat.gate older middle
+    → came_to newer true ≡ runs_on (ToRead seat.gate 17 ∷ []) middle → FailsReading tag [] moments older newer
+failed_at tag moments before seat older middle newer in_force reached passed is = record {
   gates = suc passed.gates;
   passes =
       let count : suc passed.gates - 1 ≡ passed.gates = omega arith in
-      subst (λ (n : ℕ). PassesGates moments n) (sym count) (passes_so_far moments before gate passed.gates passed.place reached);
-  came = read_next gate true older middle newer passed is ∙ bare (gate_reads (suc passed.gates)) older;
+      subst (λ (n : ℕ). PassesGates tag moments n) (sym count) (passes_so_far tag moments before seat passed.gates passed.place in_force reached);
+  came = read_next seat.gate true older middle newer passed is ∙ bare (gate_reads (suc passed.gates)) older;
 }
 
-pub refused_at : (error : StoreError) (moments : List Moment) (before : Option Stored) (gate : ℕ) (older middle newer : Option DiskState) → ReachesIn moments before gate → HasPassed gate older middle → RefusedAtGate {T = Gate} gate (Err error) → came_to newer (is_fault {T = Gate} (Err error)) ≡ runs_on (ToRead gate 17 ∷ []) middle → ReadsGatesFrom [] moments (Err error) older newer
-refused_at Fault moments before gate older middle newer reached passed refused is = failed_at moments before gate older middle newer reached passed is
-refused_at (Taken len) moments before gate older middle newer reached passed refused is = tt
-refused_at (Broken place byte) moments before gate older middle newer reached passed refused is = passed_to gate place older newer (pass_one gate older middle newer passed is) refused.0 refused.1
-refused_at (OtherKey place byte) moments before gate older middle newer reached passed refused is = absurd refused
-refused_at OutOfMemory moments before gate older middle newer reached passed refused is = absurd refused
+pub refused_at : (error : StoreError) (tag : List ℕ) (moments : List Moment) (before : Option Stored) (seat : Seat) (older middle newer : Option DiskState) → seat.tag ≡ tag → ReachesIn tag moments before seat → HasPassed seat.gate older middle
+    → RefusedAtGate {T = Gate} seat (Err error) → came_to newer (is_fault {T = Gate} (Err error)) ≡ runs_on (ToRead seat.gate 17 ∷ []) middle → ReadsGatesFrom tag [] moments (Err error) older newer
+refused_at Fault tag moments before seat older middle newer in_force reached passed refused is = failed_at tag moments before seat older middle newer in_force reached passed is
+refused_at (Taken len) tag moments before seat older middle newer in_force reached passed refused is = tt
+refused_at (Broken place byte) tag moments before seat older middle newer in_force reached passed refused is = passed_to seat.gate place older newer (pass_one seat.gate older middle newer passed is) refused.0 refused.1
+refused_at (OtherKey place byte) tag moments before seat older middle newer in_force reached passed refused is = absurd refused
+refused_at OutOfMemory tag moments before seat older middle newer in_force reached passed refused is = absurd refused
 
 -- gates that were read after some calls, which came after others
 with_earlier : (gates : ℕ) (first earlier : List DiskCall) (failed : Bool) (older middle newer : Option DiskState) → came_to middle false ≡ runs_on earlier older → came_to newer failed ≡ runs_on (gate_reads gates ++ first) middle → came_to newer failed ≡ runs_on (gate_reads gates ++ (first ++ earlier)) older
@@ -98,8 +104,8 @@ to_after first earlier place older middle newer is read = record {
   came = with_earlier read.gates first earlier false older middle newer is read.came;
 }
 
-fails_after : (first earlier : List DiskCall) (moments : List Moment) (older middle newer : Option DiskState) → came_to middle false ≡ runs_on earlier older → FailsReading first moments middle newer → FailsReading (first ++ earlier) moments older newer
-fails_after first earlier moments older middle newer is read = record {
+fails_after : (tag : List ℕ) (first earlier : List DiskCall) (moments : List Moment) (older middle newer : Option DiskState) → came_to middle false ≡ runs_on earlier older → FailsReading tag first moments middle newer → FailsReading tag (first ++ earlier) moments older newer
+fails_after tag first earlier moments older middle newer is read = record {
   gates = read.gates;
   passes = read.passes;
   came = with_earlier read.gates first earlier true older middle newer is read.came;
@@ -110,52 +116,52 @@ untold_before earlier None middle is none = refl
 untold_before earlier (Some disk) None is none = cc
 untold_before earlier (Some disk) (Some other) is none = cc
 
-pub gates_after : (first earlier : List DiskCall) (moments : List Moment) (result : Result StoreState StoreError) (older middle newer : Option DiskState) → came_to middle false ≡ runs_on earlier older → ReadsGatesFrom first moments result middle newer → ReadsGatesFrom (first ++ earlier) moments result older newer
-gates_after first earlier moments (Ok store) older middle newer is read = to_after first earlier store.gate older middle newer is read
-gates_after first earlier moments (Err Fault) older middle newer is read = fails_after first earlier moments older middle newer is read
-gates_after first earlier moments (Err (Taken len)) older middle newer is read = tt
-gates_after first earlier moments (Err (Broken place byte)) older middle newer is read = to_after first earlier place older middle newer is read
-gates_after first earlier moments (Err (OtherKey place byte)) older middle newer is read = to_after first earlier place older middle newer is read
-gates_after first earlier moments (Err OutOfMemory) older middle newer is read = untold_before earlier older middle is read
+pub gates_after : (tag : List ℕ) (first earlier : List DiskCall) (moments : List Moment) (result : Result StoreState StoreError) (older middle newer : Option DiskState) → came_to middle false ≡ runs_on earlier older → ReadsGatesFrom tag first moments result middle newer → ReadsGatesFrom tag (first ++ earlier) moments result older newer
+gates_after tag first earlier moments (Ok store) older middle newer is read = to_after first earlier store.seat.gate older middle newer is read
+gates_after tag first earlier moments (Err Fault) older middle newer is read = fails_after tag first earlier moments older middle newer is read
+gates_after tag first earlier moments (Err (Taken len)) older middle newer is read = tt
+gates_after tag first earlier moments (Err (Broken place byte)) older middle newer is read = to_after first earlier place older middle newer is read
+gates_after tag first earlier moments (Err (OtherKey place byte)) older middle newer is read = to_after first earlier place older middle newer is read
+gates_after tag first earlier moments (Err OutOfMemory) older middle newer is read = untold_before earlier older middle is read
 
 -- one of the calls before the gates failed
-pub failed_before : (first : List DiskCall) (moments : List Moment) (older newer : Option DiskState) → came_to newer true ≡ runs_on first older → FailsReading first moments older newer
-failed_before first moments older newer is = record { gates = 0; passes = passes_none moments; came = is }
+pub failed_before : (tag : List ℕ) (first : List DiskCall) (moments : List Moment) (older newer : Option DiskState) → came_to newer true ≡ runs_on first older → FailsReading tag first moments older newer
+failed_before tag first moments older newer is = record { gates = 0; passes = passes_none tag moments; came = is }
 
 -- a head that is refused
-pub head_refused_on : (error : StoreError) (moments : List Moment) (older newer : Option DiskState) → RefusedInHead (Err error) → came_to newer (is_fault {T = Unit} (Err error)) ≡ runs_on (ToRead 0 40 ∷ []) older → ReadsGatesFrom (ToRead 0 40 ∷ []) moments (Err error) older newer
-head_refused_on Fault moments older newer refused is = failed_before (ToRead 0 40 ∷ []) moments older newer is
-head_refused_on (Taken len) moments older newer refused is = tt
-head_refused_on (Broken place byte) moments older newer refused is = record { gates = 0; reaches = refused; no_further = omega arith; came = is }
-head_refused_on (OtherKey place byte) moments older newer refused is = record { gates = 0; reaches = refused; no_further = omega arith; came = is }
-head_refused_on OutOfMemory moments older newer refused is = absurd refused
+pub head_refused_on : (error : StoreError) (tag : List ℕ) (moments : List Moment) (older newer : Option DiskState) → RefusedInHead (Err error) → came_to newer (is_fault {T = Unit} (Err error)) ≡ runs_on (ToRead 0 40 ∷ []) older → ReadsGatesFrom tag (ToRead 0 40 ∷ []) moments (Err error) older newer
+head_refused_on Fault tag moments older newer refused is = failed_before tag (ToRead 0 40 ∷ []) moments older newer is
+head_refused_on (Taken len) tag moments older newer refused is = tt
+head_refused_on (Broken place byte) tag moments older newer refused is = record { gates = 0; reaches = refused; no_further = omega arith; came = is }
+head_refused_on (OtherKey place byte) tag moments older newer refused is = record { gates = 0; reaches = refused; no_further = omega arith; came = is }
+head_refused_on OutOfMemory tag moments older newer refused is = absurd refused
 
 -- a file that was not opened
-pub unopened_to_read : (name : List ℕ) (moments : List Moment) (error : StoreError) (older newer : Option DiskState) → OpensFile name older newer (Err error) → ReadsGatesFrom (open_calls name) moments (Err error) older newer
-unopened_to_read name moments Fault older newer opened = failed_before (open_calls name) moments older newer (runs_on_no_further (ToRead 0 40 ∷ ToSync ∷ []) (ToOpen name ∷ []) older newer opened)
-unopened_to_read name moments (Taken len) older newer opened = absurd opened
-unopened_to_read name moments (Broken place byte) older newer opened = absurd opened
-unopened_to_read name moments (OtherKey place byte) older newer opened = absurd opened
-unopened_to_read name moments OutOfMemory older newer opened = opened
+pub unopened_to_read : (tag name : List ℕ) (moments : List Moment) (error : StoreError) (older newer : Option DiskState) → OpensFile name older newer (Err error) → ReadsGatesFrom tag (open_calls name) moments (Err error) older newer
+unopened_to_read tag name moments Fault older newer opened = failed_before tag (open_calls name) moments older newer (runs_on_no_further (ToRead 0 40 ∷ ToSync ∷ []) (ToOpen name ∷ []) older newer opened)
+unopened_to_read tag name moments (Taken len) older newer opened = absurd opened
+unopened_to_read tag name moments (Broken place byte) older newer opened = absurd opened
+unopened_to_read tag name moments (OtherKey place byte) older newer opened = absurd opened
+unopened_to_read tag name moments OutOfMemory older newer opened = opened
 
 -- a sync that failed before anything was read
-pub unsynced_to_read : (name : List ℕ) (moments : List Moment) (older middle newer : Option DiskState) → came_to middle false ≡ runs_on (ToOpen name ∷ []) older → came_to newer true ≡ runs_on (ToSync ∷ []) middle → ReadsGatesFrom (open_calls name) moments (Err Fault) older newer
-unsynced_to_read name moments older middle newer opened synced =
-    failed_before (open_calls name) moments older newer
+pub unsynced_to_read : (tag name : List ℕ) (moments : List Moment) (older middle newer : Option DiskState) → came_to middle false ≡ runs_on (ToOpen name ∷ []) older → came_to newer true ≡ runs_on (ToSync ∷ []) middle → ReadsGatesFrom tag (open_calls name) moments (Err Fault) older newer
+unsynced_to_read tag name moments older middle newer opened synced =
+    failed_before tag (open_calls name) moments older newer
     (runs_on_no_further (ToRead 0 40 ∷ []) (ToSync ∷ ToOpen name ∷ []) older newer
     (then_runs (ToSync ∷ []) (ToOpen name ∷ []) older middle newer true opened synced))
 
-passes_same : (a b : List Moment) (gates : ℕ) → SettlesAs same a b → PassesGates b gates → PassesGates a gates
-passes_same [] b gates settles passes = tt
-passes_same (was ∷ older) [] gates settles passes = absurd settles
-passes_same (was ∷ older) (now ∷ past) gates settles passes =
-    (passes.0, subst (λ (image : List ℕ). Reaches image passes.0 (40 + 17 * gates)) (ap (λ (m : Moment). m.image) settles) passes.1)
+passes_same : (tag : List ℕ) (a b : List Moment) (gates : ℕ) → SettlesAs same a b → PassesGates tag b gates → PassesGates tag a gates
+passes_same tag [] b gates settles passes = tt
+passes_same tag (was ∷ older) [] gates settles passes = absurd settles
+passes_same tag (was ∷ older) (now ∷ past) gates settles passes =
+    (passes.0, subst (λ (image : List ℕ). Reaches tag image passes.0 (nth_seat tag gates)) (ap (λ (m : Moment). m.image) settles) passes.1)
 
 -- a file with the same contents was read
-pub gates_same : (first : List DiskCall) (a b : List Moment) (result : Result StoreState StoreError) (older newer : Option DiskState) → SettlesAs same a b → ReadsGatesFrom first b result older newer → ReadsGatesFrom first a result older newer
-gates_same first a b (Ok store) older newer settles read = read
-gates_same first a b (Err Fault) older newer settles read = record { gates = read.gates; passes = passes_same a b (read.gates - 1) settles read.passes; came = read.came }
-gates_same first a b (Err (Taken len)) older newer settles read = tt
-gates_same first a b (Err (Broken place byte)) older newer settles read = read
-gates_same first a b (Err (OtherKey place byte)) older newer settles read = read
-gates_same first a b (Err OutOfMemory) older newer settles read = read
+pub gates_same : (tag : List ℕ) (first : List DiskCall) (a b : List Moment) (result : Result StoreState StoreError) (older newer : Option DiskState) → SettlesAs same a b → ReadsGatesFrom tag first b result older newer → ReadsGatesFrom tag first a result older newer
+gates_same tag first a b (Ok store) older newer settles read = read
+gates_same tag first a b (Err Fault) older newer settles read = record { gates = read.gates; passes = passes_same tag a b (read.gates - 1) settles read.passes; came = read.came }
+gates_same tag first a b (Err (Taken len)) older newer settles read = tt
+gates_same tag first a b (Err (Broken place byte)) older newer settles read = read
+gates_same tag first a b (Err (OtherKey place byte)) older newer settles read = read
+gates_same tag first a b (Err OutOfMemory) older newer settles read = read

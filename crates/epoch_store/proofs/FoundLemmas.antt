@@ -4,6 +4,8 @@ use Rattle.std.specs.List.{common_prefix_len}
 use Rattle.std.proofs.lemmas.List.{take_at, drop_at, take-append-drop, drop-drop, take_all}
 use Rattle.std.proofs.lemmas.Bool.{and_parts, and_from, ltb-false, ltb-true, leb-true, eqb-true, le-leb, lt-ltb, le-ltb}
 use Rattle.epoch_store.specs.declared.Stored.{Stored}
+use Rattle.epoch_store.specs.declared.seat.Seat.{Seat}
+use Rattle.epoch_store.specs.Seat.{first_seat, next_seat}
 use Rattle.epoch_store.specs.declared.entry.Gate.{Gate}
 use Rattle.epoch_store.specs.declared.entry.Gate.TheVariants.{Shut, Entry}
 use Rattle.epoch_store.specs.Reading.{Reading, Finds, Breaks, Differs, head_fault, first_broken, wrong_field, is_above, is_at_least, IsOpenEntry, IsClosed, IsCut, Stands, window, ReadsFrom, Reads}
@@ -54,34 +56,35 @@ begins_with n x [] rest is = cc
 begins_with n x (y ∷ xs) rest is = let same : y ≡ x = cc in ap (λ (z : ℕ). z ∷ xs) same
 
 -- what a reading finds behind these entries is the store of the file
-found_from : (tag image : List ℕ) (before : Option Stored) (gate : ℕ) (reading : Reading) → ReadsFrom image before gate reading → (entries : List Stored) → image ≡ front tag entries ++ drop gate image → gate ≡ length (front tag entries) → IsChain entries → before ≡ head_of entries → (state : Stored) (at : ℕ) → reading ≡ Finds state at → StoreAt tag image state at
-found_from tag image before gate reading (ReadsFrom.ends _ _ s stands) [] bytes place chain last state at is = let no : None ≡ Some s = sym last ∙ stands.1 in cc
-found_from tag image before gate reading (ReadsFrom.ends _ _ s stands) (e ∷ older) bytes place chain last state at is =
+found_from : (tag image : List ℕ) (before : Option Stored) (seat : Seat) (reading : Reading) → ReadsFrom image before seat reading → (entries : List Stored) → image ≡ front tag entries ++ drop seat.gate image → seat.gate ≡ length (front tag entries) → seat.tag ≡ tag → IsChain entries → before ≡ head_of entries → (state : Stored) (at : Seat) → reading ≡ Finds state at → StoreAt tag image state at
+found_from tag image before seat reading (ReadsFrom.ends _ _ s stands) [] bytes place in_force chain last state at is = let no : None ≡ Some s = sym last ∙ stands.1 in cc
+found_from tag image before seat reading (ReadsFrom.ends _ _ s stands) (e ∷ older) bytes place in_force chain last state at is =
     let first : e ≡ state =
     let both : Some e ≡ Some s = sym last ∙ stands.1 in
     let one : e ≡ s = cc in
     let two : s ≡ state = cc in one ∙ two in
-    let where_at : at ≡ gate = cc in
-    let shut = begins_with 16 stands.0.gate (drop gate image) stands.0.rest stands.0.begins in
+    let where_at : at ≡ seat = cc in
+    let shut = begins_with 16 stands.0.gate (drop seat.gate image) stands.0.rest stands.0.begins in
     let P : Stored → Type 0 = λ z. StoreAt tag image z at in
     subst P first (record {
       older = older;
       shut = stands.0.gate;
-      rest = drop 1 (drop gate image);
+      rest = drop 1 (drop seat.gate image);
       chain = chain;
       closed = stands.0.closed;
       bytes = bytes ∙ ap (λ (b : List ℕ). front tag (e ∷ older) ++ b) shut;
-      place = where_at ∙ place;
+      place = ap (λ (s : Seat). s.gate) where_at ∙ place;
+      in_force = ap (λ (s : Seat). s.tag) where_at ∙ in_force;
     })
-found_from tag image before gate reading (ReadsFrom.breaks _ _ at' stands) entries bytes place chain last state at is = cc
-found_from tag image before gate reading (ReadsFrom.goes _ _ e _ stands more) entries bytes place chain last state at is =
-    let behind : drop gate image ≡ (1 ∷ spelled e) ++ drop (gate + 17) image =
-    sym (take-append-drop 17 (drop gate image)) ∙ ap (λ (b : List ℕ). b ++ drop 17 (drop gate image)) stands.0.begins ∙ ap (λ (b : List ℕ). (1 ∷ spelled e) ++ b) (drop-drop 17 gate image) in
-    let longer : image ≡ front tag (e ∷ entries) ++ drop (gate + 17) image =
-    bytes ∙ ap (λ (b : List ℕ). front tag entries ++ b) behind ∙ sym (append_assoc (front tag entries) (1 ∷ spelled e) (drop (gate + 17) image)) in
-    let further : gate + 17 ≡ length (front tag (e ∷ entries)) = omega (arith, place, length-append (front tag entries) (1 ∷ spelled e)) in
+found_from tag image before seat reading (ReadsFrom.breaks _ _ at' stands) entries bytes place in_force chain last state at is = cc
+found_from tag image before seat reading (ReadsFrom.goes _ _ e _ stands more) entries bytes place in_force chain last state at is =
+    let behind : drop seat.gate image ≡ (1 ∷ spelled e) ++ drop (seat.gate + 17) image =
+    sym (take-append-drop 17 (drop seat.gate image)) ∙ ap (λ (b : List ℕ). b ++ drop 17 (drop seat.gate image)) stands.0.begins ∙ ap (λ (b : List ℕ). (1 ∷ spelled e) ++ b) (drop-drop 17 seat.gate image) in
+    let longer : image ≡ front tag (e ∷ entries) ++ drop (seat.gate + 17) image =
+    bytes ∙ ap (λ (b : List ℕ). front tag entries ++ b) behind ∙ sym (append_assoc (front tag entries) (1 ∷ spelled e) (drop (seat.gate + 17) image)) in
+    let further : seat.gate + 17 ≡ length (front tag (e ∷ entries)) = omega (arith, place, length-append (front tag entries) (1 ∷ spelled e)) in
     let fine : wrong_field (head_of entries) e ≡ None = rw (← last) stands.1 in
-    found_from tag image (Some e) (gate + 17) reading more (e ∷ entries) longer further (chained entries e fine chain) refl state at is
+    found_from tag image (Some e) (next_seat seat e) reading more (e ∷ entries) longer further in_force (chained entries e fine chain) refl state at is
 
 no_fault : (a b c : Bool) (x y z : Reading) → (if a then Some x else (if b then Some y else (if c then Some z else None))) ≡ None → (a ≡ false) × (b ≡ false) × (c ≡ false)
 no_fault true b c x y z none = cc
@@ -123,32 +126,36 @@ front_size : (tag : List ℕ) → length tag ≡ 32 → 40 ≡ length (front tag
 front_size tag size = omega (arith, size, length-append (codes "FFSTORE1") tag)
 
 -- a reading that finds a store finds the store of the file
-pub found_store : (tag image : List ℕ) (state : Stored) (gate : ℕ) → length tag ≡ 32 → head_fault tag (take 40 image) ≡ None → ReadsFrom image None 40 (Finds state gate) → StoreAt tag image state gate
-found_store tag image state gate size none reads =
+pub found_store : (tag image : List ℕ) (state : Stored) (seat : Seat) → length tag ≡ 32 → head_fault tag (take 40 image) ≡ None → ReadsFrom image None (first_seat tag) (Finds state seat) → StoreAt tag image state seat
+found_store tag image state seat size none reads =
     let head = good_head tag image size none in
     let bytes : image ≡ front tag [] ++ drop 40 image = sym (take-append-drop 40 image) ∙ ap (λ (b : List ℕ). b ++ drop 40 image) head in
-    found_from tag image None 40 (Finds state gate) reads [] bytes (front_size tag size) tt refl state gate refl
+    found_from tag image None (first_seat tag) (Finds state seat) reads [] bytes (front_size tag size) refl tt refl state seat refl
 
--- a reading behind these entries is one from the first gate on
-back : (tag image : List ℕ) (entries : List Stored) (rest : List ℕ) (reading : Reading) → length tag ≡ 32 → IsChain entries → image ≡ front tag entries ++ rest → ReadsFrom image (head_of entries) (length (front tag entries)) reading → ReadsFrom image None 40 reading
+-- the seat behind these entries
+abbrev front_seat : List ℕ → List Stored → Seat
+front_seat tag entries = record { gate = length (front tag entries); tag = tag }
+
+-- a reading behind these entries is one from the first seat on
+back : (tag image : List ℕ) (entries : List Stored) (rest : List ℕ) (reading : Reading) → length tag ≡ 32 → IsChain entries → image ≡ front tag entries ++ rest → ReadsFrom image (head_of entries) (front_seat tag entries) reading → ReadsFrom image None (first_seat tag) reading
 back tag image [] rest reading size chain bytes reads =
-    let P : ℕ → Type 0 = λ at. ReadsFrom image None at reading in subst P (sym (front_size tag size)) reads
+    let P : ℕ → Type 0 = λ at. ReadsFrom image None (record { gate = at; tag = tag }) reading in subst P (sym (front_size tag size)) reads
 back tag image (e ∷ older) rest reading size chain bytes reads =
     let before = front tag older in
     let shape : image ≡ before ++ ((1 ∷ spelled e) ++ rest) = bytes ∙ append_assoc before (1 ∷ spelled e) rest in
     let cut : drop (length before) image ≡ (1 ∷ spelled e) ++ rest = rw shape (drop_at before ((1 ∷ spelled e) ++ rest) (length before) refl) in
-    let seen : window image (length before) ≡ 1 ∷ spelled e = rw cut (take_at (1 ∷ spelled e) rest 17 refl) in
+    let seen : window image (front_seat tag older) ≡ 1 ∷ spelled e = rw cut (take_at (1 ∷ spelled e) rest 17 refl) in
     let entry = chain.0 in
-    let here : IsOpenEntry (window image (length before)) e = record {
+    let here : IsOpenEntry (window image (front_seat tag older)) e = record {
       begins = seen;
       next_fits = omega (arith, entry.next_small);
       epoch_fits = omega (arith, entry.next_small, entry.epoch_small);
       mask_fits = omega (arith, entry.mask_small);
     } in
     let further : length (front tag (e ∷ older)) ≡ length before + 17 = length-append before (1 ∷ spelled e) in
-    let P : ℕ → Type 0 = λ at. ReadsFrom image (Some e) at reading in
+    let P : ℕ → Type 0 = λ at. ReadsFrom image (Some e) (record { gate = at; tag = tag }) reading in
     back tag image older ((1 ∷ spelled e) ++ rest) reading size chain.2 shape
-    (ReadsFrom.goes (head_of older) (length before) e reading (here, not_wrong older e entry chain.1) (subst P further reads))
+    (ReadsFrom.goes (head_of older) (front_seat tag older) e reading (here, not_wrong older e entry chain.1) (subst P further reads))
 
 fault_free : (tag more : List ℕ) → length tag ≡ 32 → head_fault tag (codes "FFSTORE1" ++ tag) ≡ None
 fault_free tag more size =
@@ -167,8 +174,8 @@ front_of tag (e ∷ older) rest =
     (more.0, append_assoc (front tag older) (1 ∷ spelled e) rest ∙ more.1)
 
 -- the store of a file is what each reading of it finds
-pub store_found : (tag image : List ℕ) (state : Stored) (gate : ℕ) → length tag ≡ 32 → StoreAt tag image state gate → Reads tag image (Finds state gate)
-store_found tag image state gate size store =
+pub store_found : (tag image : List ℕ) (state : Stored) (seat : Seat) → length tag ≡ 32 → StoreAt tag image state seat → Reads tag image (Finds state seat)
+store_found tag image state seat size store =
     let entries = state ∷ store.older in
     let before = front tag entries in
     let begins = front_of tag entries (store.shut ∷ store.rest) in
@@ -177,10 +184,11 @@ store_found tag image state gate size store =
     rw whole (take_at (front tag []) begins.0 40 (sym (front_size tag size))) in
     let fine : head_fault tag (take 40 image) ≡ None = rw head (fault_free tag [] size) in
     let cut : drop (length before) image ≡ store.shut ∷ store.rest = rw store.bytes (drop_at before (store.shut ∷ store.rest) (length before) refl) in
-    let closed : IsClosed (window image (length before)) = record { gate = store.shut; rest = take 16 store.rest; begins = rw cut refl; closed = store.closed } in
-    let ends : ReadsFrom image (Some state) (length before) (Finds state (length before)) = ReadsFrom.ends (Some state) (length before) state (closed, refl) in
-    let P : ℕ → Type 0 = λ at. ReadsFrom image None 40 (Finds state at) in
-    let reads = subst P (sym store.place) (back tag image entries (store.shut ∷ store.rest) (Finds state (length before)) size store.chain store.bytes ends) in
+    let closed : IsClosed (window image (front_seat tag entries)) = record { gate = store.shut; rest = take 16 store.rest; begins = rw cut refl; closed = store.closed } in
+    let ends : ReadsFrom image (Some state) (front_seat tag entries) (Finds state (front_seat tag entries)) = ReadsFrom.ends (Some state) (front_seat tag entries) state (closed, refl) in
+    let here : seat ≡ front_seat tag entries = λ i. record { gate = store.place i; tag = store.in_force i } in
+    let P : Seat → Type 0 = λ at. ReadsFrom image None (first_seat tag) (Finds state at) in
+    let reads = subst P (sym here) (back tag image entries (store.shut ∷ store.rest) (Finds state (front_seat tag entries)) size store.chain store.bytes ends) in
     rw fine reads
 
 -- a file has one state

@@ -7,6 +7,8 @@ use Rattle.std.proofs.lemmas.List.{take_at, drop_at, take-append-drop}
 use Rattle.std.proofs.lemmas.Bool.{and_parts, ltb-false, eqb-true, le-leb, lt-ltb}
 use Rattle.std.proofs.lemmas.Bool.Decides.{nat_tests}
 use Rattle.epoch_store.specs.declared.Stored.{Stored}
+use Rattle.epoch_store.specs.declared.seat.Seat.{Seat}
+use Rattle.epoch_store.specs.Seat.{first_seat, next_seat}
 use Rattle.epoch_store.specs.declared.entry.Gate.{Gate}
 use Rattle.epoch_store.specs.declared.entry.Gate.TheVariants.{Shut, Entry}
 use Rattle.epoch_store.specs.Reading.{Reading, Finds, Breaks, Differs, head_fault, first_broken, wrong_field, is_above, is_at_least, IsOpenEntry, IsClosed, IsCut, Stands, window, ReadsFrom, Reads}
@@ -75,35 +77,35 @@ stands_once before bytes (Err at) (Err to) (inr (inr x)) (inr (inr y)) =
     let wrong : wrong_field before x.0 ≡ Some to = rw same y.2 in
     let both : at ≡ to = cc (x.2, wrong) in ap Err both
 
-reads_from_once : (image : List ℕ) (before : Option Stored) (gate : ℕ) (a b : Reading) → ReadsFrom image before gate a → ReadsFrom image before gate b → a ≡ b
-reads_from_once image before gate a b (ReadsFrom.ends _ _ s x) (ReadsFrom.ends _ _ t y) =
-    let same = stands_once before (window image gate) (Ok (Shut s)) (Ok (Shut t)) x y in
-    let both : s ≡ t = cc in ap (λ (z : Stored). Finds z gate) both
-reads_from_once image before gate a b (ReadsFrom.ends _ _ s x) (ReadsFrom.breaks _ _ at y) =
-    let same = stands_once before (window image gate) (Ok (Shut s)) (Err at) x y in cc
-reads_from_once image before gate a b (ReadsFrom.ends _ _ s x) (ReadsFrom.goes _ _ e _ y _) =
-    let same = stands_once before (window image gate) (Ok (Shut s)) (Ok (Entry e)) x y in cc
-reads_from_once image before gate a b (ReadsFrom.breaks _ _ at x) (ReadsFrom.ends _ _ t y) =
-    let same = stands_once before (window image gate) (Err at) (Ok (Shut t)) x y in cc
-reads_from_once image before gate a b (ReadsFrom.breaks _ _ at x) (ReadsFrom.breaks _ _ to y) =
-    let same = stands_once before (window image gate) (Err at) (Err to) x y in
-    let both : at ≡ to = cc in ap (λ (z : ℕ). Breaks (gate + z)) both
-reads_from_once image before gate a b (ReadsFrom.breaks _ _ at x) (ReadsFrom.goes _ _ e _ y _) =
-    let same = stands_once before (window image gate) (Err at) (Ok (Entry e)) x y in cc
-reads_from_once image before gate a b (ReadsFrom.goes _ _ e _ x _) (ReadsFrom.ends _ _ t y) =
-    let same = stands_once before (window image gate) (Ok (Entry e)) (Ok (Shut t)) x y in cc
-reads_from_once image before gate a b (ReadsFrom.goes _ _ e _ x _) (ReadsFrom.breaks _ _ to y) =
-    let same = stands_once before (window image gate) (Ok (Entry e)) (Err to) x y in cc
-reads_from_once image before gate a b (ReadsFrom.goes _ _ e _ x more) (ReadsFrom.goes _ _ f _ y rest) =
-    let same = stands_once before (window image gate) (Ok (Entry e)) (Ok (Entry f)) x y in
+reads_from_once : (image : List ℕ) (before : Option Stored) (seat : Seat) (a b : Reading) → ReadsFrom image before seat a → ReadsFrom image before seat b → a ≡ b
+reads_from_once image before seat a b (ReadsFrom.ends _ _ s x) (ReadsFrom.ends _ _ t y) =
+    let same = stands_once before (window image seat) (Ok (Shut s)) (Ok (Shut t)) x y in
+    let both : s ≡ t = cc in ap (λ (z : Stored). Finds z seat) both
+reads_from_once image before seat a b (ReadsFrom.ends _ _ s x) (ReadsFrom.breaks _ _ at y) =
+    let same = stands_once before (window image seat) (Ok (Shut s)) (Err at) x y in cc
+reads_from_once image before seat a b (ReadsFrom.ends _ _ s x) (ReadsFrom.goes _ _ e _ y _) =
+    let same = stands_once before (window image seat) (Ok (Shut s)) (Ok (Entry e)) x y in cc
+reads_from_once image before seat a b (ReadsFrom.breaks _ _ at x) (ReadsFrom.ends _ _ t y) =
+    let same = stands_once before (window image seat) (Err at) (Ok (Shut t)) x y in cc
+reads_from_once image before seat a b (ReadsFrom.breaks _ _ at x) (ReadsFrom.breaks _ _ to y) =
+    let same = stands_once before (window image seat) (Err at) (Err to) x y in
+    let both : at ≡ to = cc in ap (λ (z : ℕ). Breaks (seat.gate + z)) both
+reads_from_once image before seat a b (ReadsFrom.breaks _ _ at x) (ReadsFrom.goes _ _ e _ y _) =
+    let same = stands_once before (window image seat) (Err at) (Ok (Entry e)) x y in cc
+reads_from_once image before seat a b (ReadsFrom.goes _ _ e _ x _) (ReadsFrom.ends _ _ t y) =
+    let same = stands_once before (window image seat) (Ok (Entry e)) (Ok (Shut t)) x y in cc
+reads_from_once image before seat a b (ReadsFrom.goes _ _ e _ x _) (ReadsFrom.breaks _ _ to y) =
+    let same = stands_once before (window image seat) (Ok (Entry e)) (Err to) x y in cc
+reads_from_once image before seat a b (ReadsFrom.goes _ _ e _ x more) (ReadsFrom.goes _ _ f _ y rest) =
+    let same = stands_once before (window image seat) (Ok (Entry e)) (Ok (Entry f)) x y in
     let both : f ≡ e = cc in
-    let P : Stored → Type 0 = λ z. ReadsFrom image (Some z) (gate + 17) b in
-    reads_from_once image (Some e) (gate + 17) a b more (subst P both rest)
+    let P : Stored → Type 0 = λ z. ReadsFrom image (Some z) (next_seat seat z) b in
+    reads_from_once image (Some e) (next_seat seat e) a b more (subst P both rest)
 
 -- a file has one reading
-reads_once_by : (fault : Option Reading) (image : List ℕ) (a b : Reading) → Rattle.std.specs.Option.MatchOption fault (ReadsFrom image None 40 a) (λ f. a ≡ f) → Rattle.std.specs.Option.MatchOption fault (ReadsFrom image None 40 b) (λ f. b ≡ f) → a ≡ b
-reads_once_by None image a b x y = reads_from_once image None 40 a b x y
-reads_once_by (Some fault) image a b x y = x ∙ sym y
+reads_once_by : (fault : Option Reading) (tag image : List ℕ) (a b : Reading) → Rattle.std.specs.Option.MatchOption fault (ReadsFrom image None (first_seat tag) a) (λ f. a ≡ f) → Rattle.std.specs.Option.MatchOption fault (ReadsFrom image None (first_seat tag) b) (λ f. b ≡ f) → a ≡ b
+reads_once_by None tag image a b x y = reads_from_once image None (first_seat tag) a b x y
+reads_once_by (Some fault) tag image a b x y = x ∙ sym y
 
 pub reads_once : (tag image : List ℕ) (a b : Reading) → Reads tag image a → Reads tag image b → a ≡ b
-reads_once tag image a b x y = reads_once_by (head_fault tag (take 40 image)) image a b x y
+reads_once tag image a b x y = reads_once_by (head_fault tag (take 40 image)) tag image a b x y

@@ -5,11 +5,13 @@ use Rattle.std.specs.Option.{MatchOption}
 use Rattle.std.proofs.lemmas.List.{nil_from_length, drop_all}
 use Rattle.ff_ids.specs.declared.Mask.{Mask}
 use Rattle.epoch_store.specs.declared.Stored.{Stored}
+use Rattle.epoch_store.specs.declared.seat.Seat.{Seat}
+use Rattle.epoch_store.specs.Seat.{first_seat}
 use Rattle.epoch_store.specs.declared.StoreError.{StoreError}
 use Rattle.epoch_store.specs.declared.StoreError.TheVariants.{Fault, Taken, Broken, OtherKey, OutOfMemory}
 use Rattle.epoch_store.specs.Reading.{Reading, Finds, Breaks, Differs, head_fault, ReadsFrom, Reads}
 use Rattle.epoch_store.specs.Calls.{StoreState, SettlesAs, same, OnRead, AnswersAs, OpensAs, ReadsHead, ReadsEntries, EntriesAnswer, answer_of, IsOpened, HoldsStore, HasLength, IsNotTaken}
-use Rattle.epoch_store.specs.Store.{StoreAt, IsSettled, made, front, first_entry}
+use Rattle.epoch_store.specs.Store.{StoreAt, IsSettled, made, made_seat, front, first_entry}
 use Rattle.epoch_store.proofs.OnceLemmas.{reads_once}
 use Rattle.epoch_store.proofs.FoundLemmas.{found_store}
 use Rattle.ports.specs.Disk.{Moment, Fails, Settles, Measures, settled, stays, torn_at, written}
@@ -46,7 +48,7 @@ on_read (Err OutOfMemory) P Q f p = tt
 faulty : (tag image : List ℕ) (fault : Reading) → head_fault tag (take 40 image) ≡ Some fault → Reads tag image fault
 faulty tag image fault is = rw is refl
 
-fine : (tag image : List ℕ) (reading : Reading) → head_fault tag (take 40 image) ≡ None → ReadsFrom image None 40 reading → Reads tag image reading
+fine : (tag image : List ℕ) (reading : Reading) → head_fault tag (take 40 image) ≡ None → ReadsFrom image None (first_seat tag) reading → Reads tag image reading
 fine tag image reading is reads = rw is reads
 
 answers : (tag image : List ℕ) (result : Result StoreState StoreError) (reading : Reading) → Reads tag image reading → result ≡ answer_of image reading → AnswersAs tag image result
@@ -69,22 +71,22 @@ head_refused tag (now ∷ past) (OtherKey place byte) head =
 head_refused tag (now ∷ past) OutOfMemory head = absurd head
 
 -- a good head, and the entries behind it
-pub entries_read : (tag : List ℕ) (moments : List Moment) (result : Result StoreState StoreError) → ReadsHead tag moments (Ok tt) → ReadsEntries moments result → OpensAs tag moments result
+pub entries_read : (tag : List ℕ) (moments : List Moment) (result : Result StoreState StoreError) → ReadsHead tag moments (Ok tt) → ReadsEntries tag moments result → OpensAs tag moments result
 entries_read tag [] result head entries = tt
 entries_read tag (now ∷ past) result head entries =
-    on_read result (EntriesAnswer now.image result) (AnswersAs tag now.image result)
+    on_read result (EntriesAnswer tag now.image result) (AnswersAs tag now.image result)
     (λ found. answers tag now.image result found.0 (fine tag now.image found.0 head found.1) found.2) entries
 
-finds_at : (tag image : List ℕ) (store : StoreState) → length tag ≡ 32 → head_fault tag (take 40 image) ≡ None → (reading : Reading) → ReadsFrom image None 40 reading → Ok store ≡ answer_of image reading → StoreAt tag image store.state store.gate
-finds_at tag image store size head (Finds state gate) reads is =
-    let found = found_store tag image state gate size head reads in
-    let at : store ≡ record { state = state; gate = gate; failed = Rattle.std.proofs.Common.false } = cc in
-    let P : StoreState → Type 0 = λ s. StoreAt tag image s.state s.gate in
+finds_at : (tag image : List ℕ) (store : StoreState) → length tag ≡ 32 → head_fault tag (take 40 image) ≡ None → (reading : Reading) → ReadsFrom image None (first_seat tag) reading → Ok store ≡ answer_of image reading → StoreAt tag image store.state store.seat
+finds_at tag image store size head (Finds state seat) reads is =
+    let found = found_store tag image state seat size head reads in
+    let at : store ≡ record { state = state; seat = seat; failed = Rattle.std.proofs.Common.false } = cc in
+    let P : StoreState → Type 0 = λ s. StoreAt tag image s.state s.seat in
     subst P (sym at) found
 finds_at tag image store size head (Breaks place) reads is = cc
 finds_at tag image store size head (Differs place) reads is = cc
 
-pub entries_hold : (tag : List ℕ) (moments : List Moment) (result : Result StoreState StoreError) → length tag ≡ 32 → ReadsHead tag moments (Ok tt) → ReadsEntries moments result → IfOk result (λ store. HoldsStore tag store.state store.gate moments)
+pub entries_hold : (tag : List ℕ) (moments : List Moment) (result : Result StoreState StoreError) → length tag ≡ 32 → ReadsHead tag moments (Ok tt) → ReadsEntries tag moments result → IfOk result (λ store. HoldsStore tag store.state store.seat moments)
 entries_hold tag moments (Err error) size head entries = tt
 entries_hold tag [] (Ok store) size head entries = tt
 entries_hold tag (now ∷ past) (Ok store) size head entries = finds_at tag now.image store size head entries.0 entries.1 entries.2
@@ -97,7 +99,7 @@ opens_before tag (was ∷ older) (now ∷ past) result settles opens =
     let image : now.image ≡ was.image = ap (λ (m : Moment). m.image) settles in
     let P : List ℕ → Type 0 = λ i. OnRead result (AnswersAs tag i result) in subst P image opens
 
-pub settled_store : (tag : List ℕ) (a b c : List Moment) (result : Result StoreState StoreError) → SettlesAs same a b → IfOk result (λ store. HoldsStore tag store.state store.gate b) → OnRead result (c ≡ b) → IfOk result (λ store. IsSettled tag store.state store.gate c)
+pub settled_store : (tag : List ℕ) (a b c : List Moment) (result : Result StoreState StoreError) → SettlesAs same a b → IfOk result (λ store. HoldsStore tag store.state store.seat b) → OnRead result (c ≡ b) → IfOk result (λ store. IsSettled tag store.state store.seat c)
 settled_store tag a b c (Err error) settles holds kept = tt
 settled_store tag a [] c (Ok store) settles holds kept = rw kept tt
 settled_store tag [] (now ∷ past) c (Ok store) settles holds kept = cc
@@ -121,7 +123,7 @@ written_first (b ∷ bytes) image none =
     rw (empty, rest) (append-nil (b ∷ bytes))
 
 -- the store that was made is in the file
-pub made_store : (tag bytes : List ℕ) (mask : Mask) (a b : List Moment) → length tag ≡ 32 → mask.0 < 2 ^ 31 → bytes ≡ made tag (first_entry mask) → HasLength a 0 → SettlesAs (written 0 bytes) a b → IsSettled tag (first_entry mask) 57 b
+pub made_store : (tag bytes : List ℕ) (mask : Mask) (a b : List Moment) → length tag ≡ 32 → mask.0 < 2 ^ 31 → bytes ≡ made tag (first_entry mask) → HasLength a 0 → SettlesAs (written 0 bytes) a b → IsSettled tag (first_entry mask) (made_seat tag (first_entry mask)) b
 made_store tag bytes mask [] b size small spell empty settles = rw settles tt
 made_store tag bytes mask (was ∷ older) [] size small spell empty settles = absurd settles
 made_store tag bytes mask (was ∷ older) (now ∷ past) size small spell empty settles =
@@ -136,5 +138,6 @@ made_store tag bytes mask (was ∷ older) (now ∷ past) size small spell empty 
         closed = λ one. omega (arith, one);
         bytes = image;
         place = omega (arith, size, Rattle.std.proofs.Common.length-append (Rattle.std.proofs.Common.codes "FFSTORE1") tag, Rattle.std.proofs.Common.length-append (front tag []) (1 ∷ Rattle.epoch_store.specs.Store.spelled (first_entry mask)));
+        in_force = refl;
       },
     )

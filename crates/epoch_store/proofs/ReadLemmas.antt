@@ -3,6 +3,8 @@ use Rattle.std.proofs.Common.{◌≡◌, ◌≢◌, ℕ, zero, suc, ◌+◌, ◌
 use Rattle.std.specs.List.{slice_get}
 use Rattle.std.proofs.lemmas.List.{get_or-take}
 use Rattle.epoch_store.specs.declared.Stored.{Stored}
+use Rattle.epoch_store.specs.declared.seat.Seat.{Seat}
+use Rattle.epoch_store.specs.Seat.{first_seat, next_seat, nth_gate}
 use Rattle.epoch_store.specs.declared.StoreError.{StoreError}
 use Rattle.epoch_store.specs.declared.StoreError.TheVariants.{Fault, Taken, Broken, OtherKey, OutOfMemory}
 use Rattle.epoch_store.specs.declared.entry.Gate.{Gate}
@@ -52,54 +54,57 @@ broken_small before bytes at (inr (inr wrong)) =
     first_broken_small (nat_le wrong.0.next 32768 && is_above before wrong.0.next) (nat_le wrong.0.epoch wrong.0.next && is_at_least before wrong.0.epoch) (nat_lt wrong.0.mask.0 (2 ^ 31)) at wrong.2
 
 -- the file breaks where what was read at the gate does
-pub gate_broken : (moments : List Moment) (before : Option Stored) (gate n at : ℕ) (filled bytes : List ℕ) (byte : Option ℕ) → bytes ≡ take n filled → length filled ≡ 17 → ReadsPart moments gate filled n → Stands before bytes (Err at) → byte ≡ slice_get bytes at → ReadsGate before gate moments (Err (Broken (gate + at) byte))
-gate_broken [] before gate n at filled bytes byte is size reads stands shown = tt
-gate_broken (now ∷ past) before gate n at filled bytes byte is size reads stands shown =
-    let whole : bytes ≡ window now.image gate = is ∙ reads ∙ ap (λ (k : ℕ). take k (drop gate now.image)) size in
+pub gate_broken : (moments : List Moment) (before : Option Stored) (seat : Seat) (n at : ℕ) (filled bytes : List ℕ) (byte : Option ℕ) → bytes ≡ take n filled → length filled ≡ 17 → ReadsPart moments seat.gate filled n → Stands before bytes (Err at) → byte ≡ slice_get bytes at → ReadsGate before seat moments (Err (Broken (seat.gate + at) byte))
+gate_broken [] before seat n at filled bytes byte is size reads stands shown = tt
+gate_broken (now ∷ past) before seat n at filled bytes byte is size reads stands shown =
+    let whole : bytes ≡ window now.image seat = is ∙ reads ∙ ap (λ (k : ℕ). take k (drop seat.gate now.image)) size in
     let P : List ℕ → Type 0 = λ b. Stands before b (Err at) in (
       at,
       subst P whole stands,
       refl,
-      shown ∙ ap (λ (b : List ℕ). slice_get b at) whole ∙ slice_get-take 17 at (drop gate now.image) (broken_small before bytes at stands) ∙ slice_get-drop gate at now.image,
+      shown ∙ ap (λ (b : List ℕ). slice_get b at) whole ∙ slice_get-take 17 at (drop seat.gate now.image) (broken_small before bytes at stands) ∙ slice_get-drop seat.gate at now.image,
     )
 
--- the reading from a gate on is the reading of all
-abbrev pub Continues : List Moment → Option Stored → ℕ → Type 0
-Continues [] before gate = Unit {0}
-Continues (now ∷ past) before gate = (reading : Reading) → ReadsFrom now.image before gate reading → ReadsFrom now.image None 40 reading
+-- the reading from a seat on is the reading of all
+abbrev pub Continues : List ℕ → List Moment → Option Stored → Seat → Type 0
+Continues tag [] before seat = Unit {0}
+Continues tag (now ∷ past) before seat = (reading : Reading) → ReadsFrom now.image before seat reading → ReadsFrom now.image None (first_seat tag) reading
 
--- where a gate may be, behind this entry
-abbrev pub IsPlaced : Option Stored → ℕ → Type 0
-IsPlaced None gate = gate ≡ 40
-IsPlaced (Some e) gate = IsEntry e × (gate ≤ 57 + 17 * e.next)
+-- where a seat may be, behind this entry
+abbrev pub IsPlaced : Option Stored → Seat → Type 0
+IsPlaced None seat = seat.gate ≡ 40
+IsPlaced (Some e) seat = IsEntry e × (seat.gate ≤ nth_gate (e.next + 1))
 
 -- how many entries may still come
 abbrev pub left_of : Option Stored → ℕ
 left_of None = 32770
 left_of (Some e) = 32769 - e.next
 
-pub begins : (moments : List Moment) → Continues moments None 40
-begins [] = tt
-begins (now ∷ past) = λ reading reads. reads
+pub begins : (tag : List ℕ) (moments : List Moment) → Continues tag moments None (first_seat tag)
+begins tag [] = tt
+begins tag (now ∷ past) = λ reading reads. reads
 
-pub ends_shut : (moments : List Moment) (before : Option Stored) (gate : ℕ) (state : Stored) → Continues moments before gate → ReadsGate before gate moments (Ok (Shut state)) → ReadsEntries moments (Ok (record { state = state; gate = gate; failed = false }))
-ends_shut [] before gate state goes stands = tt
-ends_shut (now ∷ past) before gate state goes stands = (Finds state gate, goes (Finds state gate) (ReadsFrom.ends before gate state stands), refl)
+pub ends_shut : (tag : List ℕ) (moments : List Moment) (before : Option Stored) (seat : Seat) (state : Stored) → Continues tag moments before seat → ReadsGate before seat moments (Ok (Shut state))
+    → ReadsEntries tag moments (Ok (record { state = state; seat = seat; failed = false }))
+ends_shut tag [] before seat state goes stands = tt
+ends_shut tag (now ∷ past) before seat state goes stands = (Finds state seat, goes (Finds state seat) (ReadsFrom.ends before seat state stands), refl)
 
-pub ends_broken : (moments : List Moment) (before : Option Stored) (gate : ℕ) (error : StoreError) → Continues moments before gate → ReadsGate before gate moments (Err error) → FindsGate before (Err error) → ReadsEntries moments (Err error)
-ends_broken [] before gate error goes stands found = found
-ends_broken (now ∷ past) before gate Fault goes stands found = tt
-ends_broken (now ∷ past) before gate (Taken len) goes stands found = absurd stands
-ends_broken (now ∷ past) before gate (Broken place byte) goes stands found =
-    let shown : byte ≡ slice_get now.image (gate + stands.0) = stands.3 ∙ ap (slice_get now.image) stands.2 in
-    (Breaks (gate + stands.0), goes (Breaks (gate + stands.0)) (ReadsFrom.breaks before gate stands.0 stands.1), rw (stands.2, shown) refl)
-ends_broken (now ∷ past) before gate (OtherKey place byte) goes stands found = absurd stands
-ends_broken (now ∷ past) before gate OutOfMemory goes stands found = tt
+pub ends_broken : (tag : List ℕ) (moments : List Moment) (before : Option Stored) (seat : Seat) (error : StoreError) → Continues tag moments before seat → ReadsGate before seat moments (Err error) → FindsGate before (Err error)
+    → ReadsEntries tag moments (Err error)
+ends_broken tag [] before seat error goes stands found = found
+ends_broken tag (now ∷ past) before seat Fault goes stands found = tt
+ends_broken tag (now ∷ past) before seat (Taken len) goes stands found = absurd stands
+ends_broken tag (now ∷ past) before seat (Broken place byte) goes stands found =
+    let shown : byte ≡ slice_get now.image (seat.gate + stands.0) = stands.3 ∙ ap (slice_get now.image) stands.2 in
+    (Breaks (seat.gate + stands.0), goes (Breaks (seat.gate + stands.0)) (ReadsFrom.breaks before seat stands.0 stands.1), rw (stands.2, shown) refl)
+ends_broken tag (now ∷ past) before seat (OtherKey place byte) goes stands found = absurd stands
+ends_broken tag (now ∷ past) before seat OutOfMemory goes stands found = tt
 
-pub goes_on : (moments : List Moment) (before : Option Stored) (gate : ℕ) (e : Stored) → Continues moments before gate → ReadsGate before gate moments (Ok (Entry e)) → Continues moments (Some e) (gate + 17)
-goes_on [] before gate e goes stands = tt
-goes_on (now ∷ past) before gate e goes stands = λ reading reads. goes reading (ReadsFrom.goes before gate e reading stands reads)
+pub goes_on : (tag : List ℕ) (moments : List Moment) (before : Option Stored) (seat : Seat) (e : Stored) → Continues tag moments before seat → ReadsGate before seat moments (Ok (Entry e))
+    → Continues tag moments (Some e) (next_seat seat e)
+goes_on tag [] before seat e goes stands = tt
+goes_on tag (now ∷ past) before seat e goes stands = λ reading reads. goes reading (ReadsFrom.goes before seat e reading stands reads)
 
-pub placed_next : (before : Option Stored) (gate : ℕ) (e : Stored) → IsPlaced before gate → IsEntry e → IsAfter before e → IsPlaced (Some e) (gate + 17)
-placed_next None gate e placed entry after = (entry, omega arith)
-placed_next (Some b) gate e placed entry after = (entry, omega (arith, placed.1, after.next_rises))
+pub placed_next : (before : Option Stored) (seat : Seat) (e : Stored) → IsPlaced before seat → IsEntry e → IsAfter before e → IsPlaced (Some e) (next_seat seat e)
+placed_next None seat e placed entry after = (entry, omega arith)
+placed_next (Some b) seat e placed entry after = (entry, omega (arith, placed.1, after.next_rises))

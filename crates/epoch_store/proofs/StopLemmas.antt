@@ -7,18 +7,20 @@ use Rattle.ports.specs.MemoryDisk.{picked, garbled, is_unstable}
 use Rattle.ports.specs.DiskLaws.{length-written, settled_leaves, wrote_leaves}
 use Rattle.ports.proofs.MomentLemmas.{get_or-garbled_unstable, picked_leaves, wrote_among}
 use Rattle.epoch_store.specs.declared.Stored.{Stored}
+use Rattle.epoch_store.specs.declared.seat.Seat.{Seat}
+use Rattle.epoch_store.specs.Seat.{next_seat}
 use Rattle.epoch_store.specs.Store.{spelled, front, IsEntry, Follows, StoreAt}
 use Rattle.epoch_store.specs.Placed.{leaves_open}
 use Rattle.epoch_store.proofs.FileLemmas.{behind_gate, opened, shut_still, torn_gate, with_entry, written_within}
 use Rattle.epoch_store.proofs.PlacedLemmas.{entry_of, entry_written, gate_written}
 
 -- in the write of the entry or in its sync: the gate wasn't touched
-pub stopped_at_entry : (tag image : List ℕ) (state next : Stored) (gate outcome : ℕ) → StoreAt tag image state gate → StoreAt tag (picked outcome (entry_written gate next (settled image))) state gate
-stopped_at_entry tag image state next gate outcome store =
+pub stopped_at_entry : (tag image : List ℕ) (state next : Stored) (seat : Seat) (outcome : ℕ) → StoreAt tag image state seat → StoreAt tag (picked outcome (entry_written seat.gate next (settled image))) state seat
+stopped_at_entry tag image state next seat outcome store =
     let now : Moment = settled image in
-    let m : Moment = wrote (gate + 1) (entry_of next) now in
-    let left : LeavesItself m = wrote_leaves (gate + 1) (entry_of next) now (settled_leaves image) in
-    behind_gate tag image (picked outcome m) state gate (length (entry_of next)) store (wrote_among (gate + 1) (entry_of next) now (picked outcome m) (picked_leaves outcome m left))
+    let m : Moment = wrote (seat.gate + 1) (entry_of next) now in
+    let left : LeavesItself m = wrote_leaves (seat.gate + 1) (entry_of next) now (settled_leaves image) in
+    behind_gate tag image (picked outcome m) state seat (length (entry_of next)) store (wrote_among (seat.gate + 1) (entry_of next) now (picked outcome m) (picked_leaves outcome m left))
 
 -- ---- the byte of the gate
 
@@ -63,43 +65,43 @@ byte_picked full gate outcome within closed =
 -- ---- in the write of the gate or in its sync
 
 -- the store has the entry, or not
-record IsDecided (tag c : List ℕ) (state next : Stored) (gate : ℕ) : Type 0 where
-  has : get_or c gate 0 ≡ 1 → StoreAt tag c next (gate + 17)
-  hasnt : get_or c gate 0 ≢ 1 → StoreAt tag c state gate
+record IsDecided (tag c : List ℕ) (state next : Stored) (seat : Seat) : Type 0 where
+  has : get_or c seat.gate 0 ≡ 1 → StoreAt tag c next (next_seat seat next)
+  hasnt : get_or c seat.gate 0 ≢ 1 → StoreAt tag c state seat
 
-decided : (tag image full c rest : List ℕ) (state next : Stored) (gate : ℕ) (store : StoreAt tag image state gate) → IsEntry next → Follows state next
-    → full ≡ front tag (state ∷ store.older) ++ store.shut ∷ (spelled next ++ 0 ∷ rest) → Leaves (torn_at gate 1 (settled full)) c → IsDecided tag c state next gate
-decided tag image full c rest state next gate store entry follows is leaves =
+decided : (tag image full c rest : List ℕ) (state next : Stored) (seat : Seat) (store : StoreAt tag image state seat) → IsEntry next → Follows state next
+    → full ≡ front tag (state ∷ store.older) ++ store.shut ∷ (spelled next ++ 0 ∷ rest) → Leaves (torn_at seat.gate 1 (settled full)) c → IsDecided tag c state next seat
+decided tag image full c rest state next seat store entry follows is leaves =
     let before = front tag (state ∷ store.older) in
     let shape : full ≡ before ++ store.shut ∷ ((spelled next ++ 0 ∷ []) ++ rest) =
     is ∙ ap (λ (b : List ℕ). before ++ store.shut ∷ b) (sym (append_assoc (spelled next) (0 ∷ []) rest)) in
-    let torn = torn_gate before (spelled next ++ 0 ∷ []) rest c gate store.shut store.place (rw shape at leaves) in
+    let torn = torn_gate before (spelled next ++ 0 ∷ []) rest c seat.gate store.shut store.place (rw shape at leaves) in
     let whole : c ≡ before ++ torn.0 ∷ (spelled next ++ 0 ∷ torn.1) = torn.2 ∙ ap (λ (b : List ℕ). before ++ torn.0 ∷ b) (append_assoc (spelled next) (0 ∷ []) torn.1) in
-    let byte : get_or c gate 0 ≡ torn.0 = ap (λ (b : List ℕ). get_or b gate 0) whole ∙ byte_at before (spelled next ++ 0 ∷ torn.1) torn.0 gate store.place in
+    let byte : get_or c seat.gate 0 ≡ torn.0 = ap (λ (b : List ℕ). get_or b seat.gate 0) whole ∙ byte_at before (spelled next ++ 0 ∷ torn.1) torn.0 seat.gate store.place in
     record {
-      has = λ one. opened tag image c torn.1 state next gate store entry follows (whole ∙ ap (λ (x : ℕ). before ++ x ∷ (spelled next ++ 0 ∷ torn.1)) (sym byte ∙ one));
-      hasnt = λ other. shut_still tag image c (spelled next ++ 0 ∷ torn.1) state gate torn.0 store (λ one. other (byte ∙ one)) whole;
+      has = λ one. opened tag image c torn.1 state next seat store entry follows (whole ∙ ap (λ (x : ℕ). before ++ x ∷ (spelled next ++ 0 ∷ torn.1)) (sym byte ∙ one));
+      hasnt = λ other. shut_still tag image c (spelled next ++ 0 ∷ torn.1) state seat torn.0 store (λ one. other (byte ∙ one)) whole;
     }
 
 -- as the outcome leaves the gate
-pub record LeavesGate (tag c : List ℕ) (state next : Stored) (gate outcome : ℕ) : Type 0 where
-  pub open_ : leaves_open outcome gate ≡ true → StoreAt tag c next (gate + 17)
-  pub shut : leaves_open outcome gate ≡ false → StoreAt tag c state gate
+pub record LeavesGate (tag c : List ℕ) (state next : Stored) (seat : Seat) (outcome : ℕ) : Type 0 where
+  pub open_ : leaves_open outcome seat.gate ≡ true → StoreAt tag c next (next_seat seat next)
+  pub shut : leaves_open outcome seat.gate ≡ false → StoreAt tag c state seat
 
-pub stopped_at_gate : (tag image : List ℕ) (state next : Stored) (gate outcome : ℕ) → StoreAt tag image state gate → IsEntry next → Follows state next → LeavesGate tag (picked outcome (gate_written gate next (settled image))) state next gate outcome
-stopped_at_gate tag image state next gate outcome store entry follows =
-    let full : List ℕ = written (gate + 1) (entry_of next) image in
-    let m : Moment = wrote gate (1 ∷ []) (settled full) in
+pub stopped_at_gate : (tag image : List ℕ) (state next : Stored) (seat : Seat) (outcome : ℕ) → StoreAt tag image state seat → IsEntry next → Follows state next → LeavesGate tag (picked outcome (gate_written seat.gate next (settled image))) state next seat outcome
+stopped_at_gate tag image state next seat outcome store entry follows =
+    let full : List ℕ = written (seat.gate + 1) (entry_of next) image in
+    let m : Moment = wrote seat.gate (1 ∷ []) (settled full) in
     let c : List ℕ = picked outcome m in
     let before = front tag (state ∷ store.older) in
-    let shape = with_entry tag image (entry_of next) state next gate store refl in
-    let left : LeavesItself m = wrote_leaves gate (1 ∷ []) (settled full) (settled_leaves full) in
-    let leaves : Leaves (torn_at gate 1 (settled full)) c = wrote_among gate (1 ∷ []) (settled full) c (picked_leaves outcome m left) in
-    let by = decided tag image full c shape.0 state next gate store entry follows shape.1 leaves in
-    let within : gate < length full = omega (arith, store.place, ap length shape.1, length-append before (store.shut ∷ (spelled next ++ 0 ∷ shape.0))) in
-    let was : get_or full gate 0 ≡ store.shut = ap (λ (b : List ℕ). get_or b gate 0) shape.1 ∙ byte_at before (spelled next ++ 0 ∷ shape.0) store.shut gate store.place in
-    let byte = byte_picked full gate outcome within (λ one. store.closed (sym was ∙ one)) in
+    let shape = with_entry tag image (entry_of next) state next seat store refl in
+    let left : LeavesItself m = wrote_leaves seat.gate (1 ∷ []) (settled full) (settled_leaves full) in
+    let leaves : Leaves (torn_at seat.gate 1 (settled full)) c = wrote_among seat.gate (1 ∷ []) (settled full) c (picked_leaves outcome m left) in
+    let by = decided tag image full c shape.0 state next seat store entry follows shape.1 leaves in
+    let within : seat.gate < length full = omega (arith, store.place, ap length shape.1, length-append before (store.shut ∷ (spelled next ++ 0 ∷ shape.0))) in
+    let was : get_or full seat.gate 0 ≡ store.shut = ap (λ (b : List ℕ). get_or b seat.gate 0) shape.1 ∙ byte_at before (spelled next ++ 0 ∷ shape.0) store.shut seat.gate store.place in
+    let byte = byte_picked full seat.gate outcome within (λ one. store.closed (sym was ∙ one)) in
     record {
       open_ = λ opens. by.has (eqb-true _ _ (byte ∙ opens));
-      shut = λ none. by.hasnt (λ one. false≢true (sym none ∙ sym byte ∙ eq-eqb (get_or c gate 0) 1 one));
+      shut = λ none. by.hasnt (λ one. false≢true (sym none ∙ sym byte ∙ eq-eqb (get_or c seat.gate 0) 1 one));
     }

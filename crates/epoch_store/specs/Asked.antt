@@ -2,6 +2,8 @@
 use Rattle.std.specs.Prelude.{◌≡◌, ℕ, zero, suc, ◌+◌, ◌*◌, ◌<◌, ◌≤◌, max, Option, List, [], ◌∷◌, ◌++◌, Result, Ok, Err}
 use Rattle.ports.specs.DiskCalls.{DiskCall, ToOpen, ToMeasure, ToRead, ToWrite, ToSync, with_calls, AsFarAs}
 use Rattle.epoch_store.specs.declared.Stored.{Stored}
+use Rattle.epoch_store.specs.declared.seat.Seat.{Seat}
+use Rattle.epoch_store.specs.Seat.{entry_length, header_length, nth_gate, width}
 use Rattle.epoch_store.specs.declared.StoreError.{StoreError}
 use Rattle.epoch_store.specs.declared.StoreError.TheVariants.{Fault, Taken, Broken, OtherKey, OutOfMemory}
 use Rattle.epoch_store.specs.Calls.{StoreState}
@@ -11,18 +13,18 @@ use Rattle.epoch_store.specs.Store.{spelled, made}
 abbrev pub make_calls : List ℕ → List ℕ → Stored → List DiskCall
 make_calls name tag first = ToSync ∷ ToWrite 0 (made tag first) ∷ ToMeasure ∷ ToOpen name ∷ []
 
--- to put an entry behind the gate at this place, and then to open the gate
-abbrev pub put_calls : ℕ → Stored → List DiskCall
-put_calls gate next = ToSync ∷ ToWrite gate (1 ∷ []) ∷ ToSync ∷ ToWrite (gate + 1) (spelled next ++ 0 ∷ []) ∷ []
+-- to put an entry in this seat, and then to open the gate in front of it
+abbrev pub put_calls : Seat → Stored → List DiskCall
+put_calls seat next = ToSync ∷ ToWrite seat.gate (1 ∷ []) ∷ ToSync ∷ ToWrite (seat.gate + 1) (spelled next ++ 0 ∷ []) ∷ []
 
 -- to read so many gates, from the first one on, each with the entry behind it
 abbrev pub gate_reads : ℕ → List DiskCall
 gate_reads zero = []
-gate_reads (suc gates) = ToRead (40 + 17 * gates) 17 ∷ gate_reads gates
+gate_reads (suc gates) = ToRead (nth_gate gates) entry_length ∷ gate_reads gates
 
 -- to open a store and read its head
 abbrev pub open_calls : List ℕ → List DiskCall
-open_calls name = ToRead 0 40 ∷ ToSync ∷ ToOpen name ∷ []
+open_calls name = ToRead 0 header_length ∷ ToSync ∷ ToOpen name ∷ []
 
 -- all of these calls were made where the answer is Ok, and else the first ones of them
 abbrev pub Makes : {T E : Type 0} → Result T E → List DiskCall → Option (List DiskCall) → Option (List DiskCall) → Type 0
@@ -42,8 +44,8 @@ MakesStore name tag first (Err OutOfMemory) older newer = AsFarAs (make_calls na
 -- gate behind it; none, if the place is within the head
 pub record ReadsTo (first : List DiskCall) (place : ℕ) (older newer : Option (List DiskCall)) : Type 0 where
   pub gates : ℕ
-  pub reaches : place < 40 + 17 * gates
-  pub no_further : 40 + 17 * gates ≤ max 40 (place + 17)
+  pub reaches : place < nth_gate gates
+  pub no_further : nth_gate gates ≤ max header_length (place + entry_length)
   pub made : newer ≡ with_calls (gate_reads gates ++ first) older
 
 -- after some calls, gates were read until something failed
@@ -53,7 +55,7 @@ pub record ReadsSome (first : List DiskCall) (older newer : Option (List DiskCal
 
 -- after some calls, the gates are read: up to the closed one, or to the place where the file is refused
 abbrev pub ReadsGates : List DiskCall → Result StoreState StoreError → Option (List DiskCall) → Option (List DiskCall) → Type 0
-ReadsGates first (Ok store) older newer = ReadsTo first store.gate older newer
+ReadsGates first (Ok store) older newer = ReadsTo first store.seat.gate older newer
 ReadsGates first (Err Fault) older newer = ReadsSome first older newer
 ReadsGates first (Err (Taken len)) older newer = ReadsSome first older newer
 ReadsGates first (Err (Broken place byte)) older newer = ReadsTo first place older newer
@@ -65,15 +67,15 @@ abbrev pub RefusedInHead : Result Unit StoreError → Type 0
 RefusedInHead (Ok value) = Unit {0}
 RefusedInHead (Err Fault) = Unit {0}
 RefusedInHead (Err (Taken len)) = Unit {0}
-RefusedInHead (Err (Broken place byte)) = place < 40
-RefusedInHead (Err (OtherKey place byte)) = place < 40
+RefusedInHead (Err (Broken place byte)) = place < header_length
+RefusedInHead (Err (OtherKey place byte)) = place < header_length
 RefusedInHead (Err OutOfMemory) = ⊥
 
--- a gate is refused at a place within it or the entry behind it
-abbrev pub RefusedAtGate : {T : Type 0} → ℕ → Result T StoreError → Type 0
-RefusedAtGate gate (Ok value) = Unit {0}
-RefusedAtGate gate (Err Fault) = Unit {0}
-RefusedAtGate gate (Err (Taken len)) = ⊥
-RefusedAtGate gate (Err (Broken place byte)) = (gate ≤ place) × (place < gate + 17)
-RefusedAtGate gate (Err (OtherKey place byte)) = ⊥
-RefusedAtGate gate (Err OutOfMemory) = ⊥
+-- a seat is refused at a place within it
+abbrev pub RefusedAtGate : {T : Type 0} → Seat → Result T StoreError → Type 0
+RefusedAtGate seat (Ok value) = Unit {0}
+RefusedAtGate seat (Err Fault) = Unit {0}
+RefusedAtGate seat (Err (Taken len)) = ⊥
+RefusedAtGate seat (Err (Broken place byte)) = (seat.gate ≤ place) × (place < seat.gate + width seat)
+RefusedAtGate seat (Err (OtherKey place byte)) = ⊥
+RefusedAtGate seat (Err OutOfMemory) = ⊥

@@ -2,6 +2,8 @@
 use Rattle.std.specs.Prelude.{◌≡◌, ℕ, ◌+◌, ◌<◌, Bool, true, false, ◌⊎◌, Option, None, Some, List, take, [], ◌∷◌, length, slice_index, Result, Ok, Err}
 use Rattle.std.specs.List.{slice_get}
 use Rattle.epoch_store.specs.declared.Stored.{Stored}
+use Rattle.epoch_store.specs.declared.seat.Seat.{Seat}
+use Rattle.epoch_store.specs.Seat.{first_seat, header_length}
 use Rattle.epoch_store.specs.declared.StoreError.{StoreError}
 use Rattle.epoch_store.specs.declared.StoreError.TheVariants.{Fault, Taken, Broken, OtherKey, OutOfMemory}
 use Rattle.epoch_store.specs.declared.entry.Gate.TheVariants.{Shut, Entry}
@@ -10,10 +12,10 @@ use Rattle.ports.specs.Disk.{Moment, Fails, stays, settled}
 use Rattle.epoch_store.specs.Reading.{Reading, Finds, Breaks, Differs, Reads, ReadsFrom, Stands, window, head_fault}
 use Rattle.epoch_store.specs.declared.entry.Gate.{Gate}
 
--- what a store keeps in memory: the state, the place of the closed gate, and whether a put has failed
+-- what a store keeps in memory: the state, the seat behind it, and whether a put has failed
 pub record StoreState : Type 0 where
   pub state : Stored
-  pub gate : ℕ
+  pub seat : Seat
   pub failed : Bool
 
 -- the call answered a fault of the disk
@@ -45,7 +47,7 @@ OnRead (Err OutOfMemory) P = Unit {0}
 
 -- what is answered where the reading of the file comes to this
 abbrev pub answer_of : List ℕ → Reading → Result StoreState StoreError
-answer_of image (Finds state gate) = Ok (record { state = state; gate = gate; failed = false })
+answer_of image (Finds state seat) = Ok (record { state = state; seat = seat; failed = false })
 answer_of image (Breaks place) = Err (Broken place (slice_get image place))
 answer_of image (Differs place) = Err (OtherKey place (slice_index image place))
 
@@ -98,17 +100,17 @@ abbrev pub ChecksHead : List ℕ → List ℕ → Result Unit StoreError → Typ
 ChecksHead tag head (Ok value) = head_fault tag head ≡ None
 ChecksHead tag head (Err Fault) = ⊥
 ChecksHead tag head (Err (Taken len)) = ⊥
-ChecksHead tag head (Err (Broken place byte)) = (head_fault tag head ≡ Some (Breaks place)) × (byte ≡ slice_get head place) × (place < 40)
-ChecksHead tag head (Err (OtherKey place byte)) = (head_fault tag head ≡ Some (Differs place)) × (byte ≡ slice_index head place) × (place < 40)
+ChecksHead tag head (Err (Broken place byte)) = (head_fault tag head ≡ Some (Breaks place)) × (byte ≡ slice_get head place) × (place < header_length)
+ChecksHead tag head (Err (OtherKey place byte)) = (head_fault tag head ≡ Some (Differs place)) × (byte ≡ slice_index head place) × (place < header_length)
 ChecksHead tag head (Err OutOfMemory) = ⊥
 
 -- the head of a file has no fault, or this one
 abbrev pub HeadAnswer : List ℕ → List ℕ → Result Unit StoreError → Type 0
-HeadAnswer tag image (Ok value) = head_fault tag (take 40 image) ≡ None
+HeadAnswer tag image (Ok value) = head_fault tag (take header_length image) ≡ None
 HeadAnswer tag image (Err Fault) = Unit {0}
 HeadAnswer tag image (Err (Taken len)) = ⊥
-HeadAnswer tag image (Err (Broken place byte)) = (head_fault tag (take 40 image) ≡ Some (Breaks place)) × (byte ≡ slice_get image place)
-HeadAnswer tag image (Err (OtherKey place byte)) = (head_fault tag (take 40 image) ≡ Some (Differs place)) × (byte ≡ slice_index image place)
+HeadAnswer tag image (Err (Broken place byte)) = (head_fault tag (take header_length image) ≡ Some (Breaks place)) × (byte ≡ slice_get image place)
+HeadAnswer tag image (Err (OtherKey place byte)) = (head_fault tag (take header_length image) ≡ Some (Differs place)) × (byte ≡ slice_index image place)
 HeadAnswer tag image (Err OutOfMemory) = ⊥
 
 -- the head of the file is read
@@ -116,19 +118,19 @@ abbrev pub ReadsHead : List ℕ → List Moment → Result Unit StoreError → T
 ReadsHead tag [] result = Unit {0}
 ReadsHead tag (now ∷ past) result = HeadAnswer tag now.image result
 
--- what stands at a gate of the file is read
-abbrev pub GateAnswer : Option Stored → ℕ → List ℕ → Result Gate StoreError → Type 0
-GateAnswer before gate image (Ok found) = Stands before (window image gate) (Ok found)
-GateAnswer before gate image (Err Fault) = Unit {0}
-GateAnswer before gate image (Err (Taken len)) = ⊥
-GateAnswer before gate image (Err (Broken place byte)) =
-    (at : ℕ) × Stands before (window image gate) (Err at) × (place ≡ gate + at) × (byte ≡ slice_get image place)
-GateAnswer before gate image (Err (OtherKey place byte)) = ⊥
-GateAnswer before gate image (Err OutOfMemory) = ⊥
+-- what stands in a seat of the file is read
+abbrev pub GateAnswer : Option Stored → Seat → List ℕ → Result Gate StoreError → Type 0
+GateAnswer before seat image (Ok found) = Stands before (window image seat) (Ok found)
+GateAnswer before seat image (Err Fault) = Unit {0}
+GateAnswer before seat image (Err (Taken len)) = ⊥
+GateAnswer before seat image (Err (Broken place byte)) =
+    (at : ℕ) × Stands before (window image seat) (Err at) × (place ≡ seat.gate + at) × (byte ≡ slice_get image place)
+GateAnswer before seat image (Err (OtherKey place byte)) = ⊥
+GateAnswer before seat image (Err OutOfMemory) = ⊥
 
-abbrev pub ReadsGate : Option Stored → ℕ → List Moment → Result Gate StoreError → Type 0
-ReadsGate before gate [] result = Unit {0}
-ReadsGate before gate (now ∷ past) result = GateAnswer before gate now.image result
+abbrev pub ReadsGate : Option Stored → Seat → List Moment → Result Gate StoreError → Type 0
+ReadsGate before seat [] result = Unit {0}
+ReadsGate before seat (now ∷ past) result = GateAnswer before seat now.image result
 
 -- the file was opened or not
 abbrev pub IsOpened : List Moment → List Moment → Result Unit StoreError → Type 0
@@ -150,15 +152,15 @@ FindsGate before (Ok (Shut state)) = before ≡ Some state
 FindsGate before (Ok (Entry e)) = IsEntry e × IsAfter before e
 FindsGate before (Err error) = IsNotTaken {T = Gate} (Err error)
 
--- the entries are read from the first gate on
-abbrev pub EntriesAnswer : List ℕ → Result StoreState StoreError → Type 0
-EntriesAnswer image result = (reading : Reading) × ReadsFrom image None 40 reading × (result ≡ answer_of image reading)
+-- the entries are read from the first seat on
+abbrev pub EntriesAnswer : List ℕ → List ℕ → Result StoreState StoreError → Type 0
+EntriesAnswer tag image result = (reading : Reading) × ReadsFrom image None (first_seat tag) reading × (result ≡ answer_of image reading)
 
-abbrev pub ReadsEntries : List Moment → Result StoreState StoreError → Type 0
-ReadsEntries [] result = IsNotTaken result
-ReadsEntries (now ∷ past) result = OnRead result (EntriesAnswer now.image result)
+abbrev pub ReadsEntries : List ℕ → List Moment → Result StoreState StoreError → Type 0
+ReadsEntries tag [] result = IsNotTaken result
+ReadsEntries tag (now ∷ past) result = OnRead result (EntriesAnswer tag now.image result)
 
 -- the file is this store, where it is told
-abbrev pub HoldsStore : List ℕ → Stored → ℕ → List Moment → Type 0
-HoldsStore tag state gate [] = Unit {0}
-HoldsStore tag state gate (now ∷ past) = StoreAt tag now.image state gate
+abbrev pub HoldsStore : List ℕ → Stored → Seat → List Moment → Type 0
+HoldsStore tag state seat [] = Unit {0}
+HoldsStore tag state seat (now ∷ past) = StoreAt tag now.image state seat

@@ -5,6 +5,8 @@ use Rattle.ports.specs.DiskCalls.{DiskCall, ToOpen, ToMeasure}
 use Rattle.ports.specs.MemoryDisk.{DiskState}
 use Rattle.ports.specs.DiskSteps.{came_to, runs_on}
 use Rattle.epoch_store.specs.declared.Stored.{Stored}
+use Rattle.epoch_store.specs.declared.seat.Seat.{Seat}
+use Rattle.epoch_store.specs.Seat.{entry_length, first_seat, header_length, next_seat, nth_gate, nth_seat}
 use Rattle.epoch_store.specs.declared.StoreError.{StoreError}
 use Rattle.epoch_store.specs.declared.StoreError.TheVariants.{Fault, Taken, Broken, OtherKey, OutOfMemory}
 use Rattle.epoch_store.specs.declared.entry.Gate.TheVariants.{Entry}
@@ -32,37 +34,37 @@ MakesFrom name tag first (Err OutOfMemory) older newer = older ≡ None
 
 -- ---- the gates
 
--- reading from the first gate on comes to this one, behind this entry
-pub data Reaches (image : List ℕ) : Option Stored → ℕ → Type 0 where
-  begins : Reaches image None 40
-  passes : (before : Option Stored) (gate : ℕ) (e : Stored) → Reaches image before gate → Stands before (window image gate) (Ok (Entry e)) → Reaches image (Some e) (gate + 17)
+-- reading from the first seat on comes to this one, behind this entry
+pub data Reaches (tag image : List ℕ) : Option Stored → Seat → Type 0 where
+  begins : Reaches tag image None (first_seat tag)
+  passes : (before : Option Stored) (seat : Seat) (e : Stored) → Reaches tag image before seat → Stands before (window image seat) (Ok (Entry e)) → Reaches tag image (Some e) (next_seat seat e)
 
 -- reading passes so many gates, where the file is told
-abbrev pub PassesGates : List Moment → ℕ → Type 0
-PassesGates [] gates = Unit {0}
-PassesGates (now ∷ past) gates = (before : Option Stored) × Reaches now.image before (40 + 17 * gates)
+abbrev pub PassesGates : List ℕ → List Moment → ℕ → Type 0
+PassesGates tag [] gates = Unit {0}
+PassesGates tag (now ∷ past) gates = (before : Option Stored) × Reaches tag now.image before (nth_seat tag gates)
 
 -- after some calls, each gate was read up to the one that stands at this place or shortly before it, and no
 -- gate behind it; none, if the place is within the head
 pub record ReadsOnTo (first : List DiskCall) (place : ℕ) (older newer : Option DiskState) : Type 0 where
   pub gates : ℕ
-  pub reaches : place < 40 + 17 * gates
-  pub no_further : 40 + 17 * gates ≤ max 40 (place + 17)
+  pub reaches : place < nth_gate gates
+  pub no_further : nth_gate gates ≤ max header_length (place + entry_length)
   pub came : came_to newer false ≡ runs_on (gate_reads gates ++ first) older
 
 -- one of the calls failed: of those before, or the last one of so many reads of gates; reading passes the gates before
 -- that one
-pub record FailsReading (first : List DiskCall) (moments : List Moment) (older newer : Option DiskState) : Type 0 where
+pub record FailsReading (tag : List ℕ) (first : List DiskCall) (moments : List Moment) (older newer : Option DiskState) : Type 0 where
   pub gates : ℕ
-  pub passes : PassesGates moments (gates - 1)
+  pub passes : PassesGates tag moments (gates - 1)
   pub came : came_to newer true ≡ runs_on (gate_reads gates ++ first) older
 
 -- after some calls, the gates are read: up to the closed one, to the place where the file is refused, or up to a call
 -- that fails; memory is refused only where the state isn't told
-abbrev pub ReadsGatesFrom : List DiskCall → List Moment → Result StoreState StoreError → Option DiskState → Option DiskState → Type 0
-ReadsGatesFrom first moments (Ok store) older newer = ReadsOnTo first store.gate older newer
-ReadsGatesFrom first moments (Err Fault) older newer = FailsReading first moments older newer
-ReadsGatesFrom first moments (Err (Taken len)) older newer = Unit {0}
-ReadsGatesFrom first moments (Err (Broken place byte)) older newer = ReadsOnTo first place older newer
-ReadsGatesFrom first moments (Err (OtherKey place byte)) older newer = ReadsOnTo first place older newer
-ReadsGatesFrom first moments (Err OutOfMemory) older newer = older ≡ None
+abbrev pub ReadsGatesFrom : List ℕ → List DiskCall → List Moment → Result StoreState StoreError → Option DiskState → Option DiskState → Type 0
+ReadsGatesFrom tag first moments (Ok store) older newer = ReadsOnTo first store.seat.gate older newer
+ReadsGatesFrom tag first moments (Err Fault) older newer = FailsReading tag first moments older newer
+ReadsGatesFrom tag first moments (Err (Taken len)) older newer = Unit {0}
+ReadsGatesFrom tag first moments (Err (Broken place byte)) older newer = ReadsOnTo first place older newer
+ReadsGatesFrom tag first moments (Err (OtherKey place byte)) older newer = ReadsOnTo first place older newer
+ReadsGatesFrom tag first moments (Err OutOfMemory) older newer = older ≡ None

@@ -1,3 +1,4 @@
+pub mod Seat
 pub mod Store
 pub mod Reading
 pub mod Calls

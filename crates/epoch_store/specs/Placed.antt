@@ -3,21 +3,23 @@ use Rattle.std.specs.Prelude.{ℕ, ◌+◌, ◌%◌, ◌==◌, Bool, true, false
 use Rattle.ports.specs.MemoryDisk.{DiskState}
 use Rattle.ports.specs.DiskSteps.{Came, runs}
 use Rattle.epoch_store.specs.declared.Stored.{Stored}
+use Rattle.epoch_store.specs.declared.seat.Seat.{Seat}
+use Rattle.epoch_store.specs.Seat.{next_seat}
 use Rattle.epoch_store.specs.Asked.{put_calls}
 
--- the disk, and the place of the store's closed gate
+-- the disk, and the seat of the store's next entry
 pub record PlacedStore : Type 0 where
   pub disk : DiskState
-  pub gate : ℕ
+  pub seat : Seat
 
 unfoldable pub put_on : Stored → PlacedStore → Came
-put_on e store = runs (put_calls store.gate e) store.disk
+put_on e store = runs (put_calls store.seat e) store.disk
 
 abbrev pub put_passes : Stored → PlacedStore → Bool
 put_passes e store = not (put_on e store).failed
 
 abbrev pub after_put : Stored → PlacedStore → PlacedStore
-after_put e store = record { disk = (put_on e store).disk; gate = if put_passes e store then store.gate + 17 else store.gate }
+after_put e store = record { disk = (put_on e store).disk; seat = if put_passes e store then next_seat store.seat e else store.seat }
 
 -- whether the byte of a gate that was being written is 1 as a stop with this outcome leaves it: 0 leaves the closed gate,
 -- 1 what was written, and any other a byte of its own making

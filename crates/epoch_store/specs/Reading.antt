@@ -4,25 +4,27 @@ use Rattle.std.specs.Prelude.{◌≡◌, ◌≢◌, ℕ, ◌+◌, ◌^◌, ◌<�
 use Rattle.std.specs.List.{common_prefix_len, slice_get}
 use Rattle.ff_ids.specs.declared.TheConstants.{MAX_RINGS}
 use Rattle.epoch_store.specs.declared.Stored.{Stored}
+use Rattle.epoch_store.specs.declared.seat.Seat.{Seat}
+use Rattle.epoch_store.specs.Seat.{entry_length, first_seat, header_length, next_seat, width}
 use Rattle.epoch_store.specs.declared.entry.Gate.{Gate}
 use Rattle.epoch_store.specs.declared.entry.Gate.TheVariants.{Shut, Entry}
 use Rattle.epoch_store.specs.Store.{spelled}
 
--- what a reading comes to: the state and the place of the closed gate; the place where the file breaks; or the
--- place where its tag is another
+-- what a reading comes to: the state and the seat behind it; the place where the file breaks; or the place where its
+-- tag is another
 pub data Reading : Type 0 where
-  Finds : Stored → ℕ → Reading
+  Finds : Stored → Seat → Reading
   Breaks : ℕ → Reading
   Differs : ℕ → Reading
 
--- what is wrong with the first 40 bytes, if anything is: the header's first byte that differs or is missing,
+-- what is wrong with the head of a file, if anything is: the header's first byte that differs or is missing,
 -- then a file that ends before the tag does, then the tag's first byte that differs
 abbrev pub head_fault : List ℕ → List ℕ → Option Reading
 head_fault tag head =
     let good = common_prefix_len nat_eq (codes "FFSTORE1") head in
     let same = common_prefix_len nat_eq tag (drop 8 head) in
     if nat_lt good 8 then Some (Breaks good)
-    else (if nat_lt (length head) 40 then Some (Breaks (length head))
+    else (if nat_lt (length head) header_length then Some (Breaks (length head))
     else (if nat_lt same 32 then Some (Differs (8 + same)) else None))
 
 -- the first rule of a list that is broken, by the place of its field
@@ -61,11 +63,10 @@ pub record IsClosed (bytes : List ℕ) : Type 0 where
 
 -- the bytes end before the gate and its entry do
 pub record IsCut (bytes : List ℕ) : Type 0 where
-  pub short : length bytes < 17
+  pub short : length bytes < entry_length
   pub gate_open : (bytes ≡ []) ⊎ ((rest : List ℕ) × (bytes ≡ 1 ∷ rest))
 
--- what stands at a gate, the 17 bytes from there on being these, as far as the file has them, and this being
--- the entry before: the first gate must be open. Else how many bytes from the gate on the file breaks
+-- what stands in a seat, its bytes being these, as far as the file has them, and this being the entry before: the first gate must be open. Else how many bytes from the gate on the file breaks
 abbrev pub Stands : Option Stored → List ℕ → Result Gate ℕ → Type 0
 Stands before bytes (Ok (Shut state)) = IsClosed bytes × (before ≡ Some state)
 Stands before bytes (Ok (Entry e)) = IsOpenEntry bytes e × (wrong_field before e ≡ None)
@@ -74,17 +75,18 @@ Stands before bytes (Err at) =
     ⊎ ((IsCut bytes × (at ≡ length bytes))
     ⊎ ((e : Stored) × IsOpenEntry bytes e × (wrong_field before e ≡ Some at)))
 
--- a gate and the entry behind it
-abbrev pub window : List ℕ → ℕ → List ℕ
-window image gate = take 17 (drop gate image)
+-- the bytes of a seat: a gate and the entry behind it
+abbrev pub window : List ℕ → Seat → List ℕ
+window image seat = take (width seat) (drop seat.gate image)
 
--- reading from a gate on, behind this entry
-pub data ReadsFrom (image : List ℕ) : Option Stored → ℕ → Reading → Type 0 where
-  ends : (before : Option Stored) (gate : ℕ) (state : Stored) → Stands before (window image gate) (Ok (Shut state)) → ReadsFrom image before gate (Finds state gate)
-  breaks : (before : Option Stored) (gate at : ℕ) → Stands before (window image gate) (Err at) → ReadsFrom image before gate (Breaks (gate + at))
-  goes : (before : Option Stored) (gate : ℕ) (e : Stored) (reading : Reading) → Stands before (window image gate) (Ok (Entry e)) → ReadsFrom image (Some e) (gate + 17) reading → ReadsFrom image before gate reading
+-- reading from a seat on, behind this entry
+pub data ReadsFrom (image : List ℕ) : Option Stored → Seat → Reading → Type 0 where
+  ends : (before : Option Stored) (seat : Seat) (state : Stored) → Stands before (window image seat) (Ok (Shut state)) → ReadsFrom image before seat (Finds state seat)
+  breaks : (before : Option Stored) (seat : Seat) (at : ℕ) → Stands before (window image seat) (Err at) → ReadsFrom image before seat (Breaks (seat.gate + at))
+  goes : (before : Option Stored) (seat : Seat) (e : Stored) (reading : Reading) → Stands before (window image seat) (Ok (Entry e)) → ReadsFrom image (Some e) (next_seat seat e) reading
+      → ReadsFrom image before seat reading
 
 -- reading a file
 abbrev pub Reads : List ℕ → List ℕ → Reading → Type 0
 Reads tag image reading =
-    MatchOption (head_fault tag (take 40 image)) (ReadsFrom image None 40 reading) (λ fault. reading ≡ fault)
+    MatchOption (head_fault tag (take header_length image)) (ReadsFrom image None (first_seat tag) reading) (λ fault. reading ≡ fault)

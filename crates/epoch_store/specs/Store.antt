@@ -5,6 +5,8 @@ use Rattle.std.specs.Int.{w32, w64, to_be_bytes}
 use Rattle.ff_ids.specs.declared.TheConstants.{MAX_RINGS}
 use Rattle.ff_ids.specs.declared.Mask.{Mask}
 use Rattle.epoch_store.specs.declared.Stored.{Stored}
+use Rattle.epoch_store.specs.declared.seat.Seat.{Seat}
+use Rattle.epoch_store.specs.Seat.{first_seat, next_seat}
 use Rattle.ports.specs.Disk.{Moment, Leaves, settled}
 
 -- the bytes of an entry, behind its gate
@@ -37,20 +39,21 @@ abbrev pub front : List ℕ → List Stored → List ℕ
 front tag [] = codes "FFSTORE1" ++ tag
 front tag (e ∷ older) = front tag older ++ 1 ∷ spelled e
 
--- the file is a store of this tag, its state is the last entry, and the closed gate behind it has this place;
--- what stands behind that gate is not read
-pub record StoreAt (tag image : List ℕ) (state : Stored) (gate : ℕ) : Type 0 where
+-- the file is a store of this tag, its state is the last entry, and this is the seat behind it; what stands behind the
+-- closed gate is not read
+pub record StoreAt (tag image : List ℕ) (state : Stored) (seat : Seat) : Type 0 where
   pub older : List Stored
   pub shut : ℕ
   pub rest : List ℕ
   pub chain : IsChain (state ∷ older)
   pub closed : shut ≢ 1
   pub bytes : image ≡ front tag (state ∷ older) ++ shut ∷ rest
-  pub place : gate ≡ length (front tag (state ∷ older))
+  pub place : seat.gate ≡ length (front tag (state ∷ older))
+  pub in_force : seat.tag ≡ tag
 
 -- the file is a store of this tag with this state
 abbrev pub StoreOf : List ℕ → List ℕ → Stored → Type 0
-StoreOf tag image state = (gate : ℕ) × StoreAt tag image state gate
+StoreOf tag image state = (seat : Seat) × StoreAt tag image state seat
 
 -- the entry of a store that is made new
 abbrev pub first_entry : Mask → Stored
@@ -60,10 +63,14 @@ first_entry mask = record { next = 0; epoch = 0; mask = mask }
 abbrev pub made : List ℕ → Stored → List ℕ
 made tag first = front tag (first ∷ []) ++ 0 ∷ []
 
+-- the seat behind its entry
+abbrev pub made_seat : List ℕ → Stored → Seat
+made_seat tag first = next_seat (first_seat tag) first
+
 -- the newest moment is a settled file that is this store; nothing is told of a disk without moments
-abbrev pub IsSettled : List ℕ → Stored → ℕ → List Moment → Type 0
-IsSettled tag state gate [] = Unit {0}
-IsSettled tag state gate (now ∷ past) = (now ≡ settled now.image) × StoreAt tag now.image state gate
+abbrev pub IsSettled : List ℕ → Stored → Seat → List Moment → Type 0
+IsSettled tag state seat [] = Unit {0}
+IsSettled tag state seat (now ∷ past) = (now ≡ settled now.image) × StoreAt tag now.image state seat
 
 -- each file that a crash at this moment may leave is a store of this tag with the one state or the other
 abbrev pub LeavesEither : List ℕ → Stored → Stored → Moment → Type 0

@@ -7,7 +7,8 @@ ghost use Rattle.epoch_store.specs.Store.{spelled};
 ghost use Rattle.epoch_store.specs.Calls.{ChecksHead};
 ghost use Rattle.epoch_store.specs.Reading.{Stands, wrong_field as wrong_field_of, is_above as is_above_it, is_at_least as is_at_least_it};
 
-use crate::{HEAD_LEN, StoreError, Stored};
+use crate::seat::HEAD_LEN;
+use crate::{StoreError, Stored};
 use ff_ids::Mask;
 use fields::{Reader, Short};
 

@@ -15,25 +15,24 @@ ghost use Rattle.ports.specs.Disk.{Moment, Since, Fails, stays, torn_at, written
 ghost use Rattle.ports.specs.DiskCalls.{ToOpen, ToRead, ToSync, ToWrite, with_call};
 ghost use Rattle.ports.specs.DiskSteps.{came_to, runs_on};
 ghost use Rattle.epoch_store.specs.declared.StoreError.TheVariants.{Fault};
-ghost use Rattle.epoch_store.specs.Store.{IsEntry, Follows, IsSettled, LeavesEither, LeavesState, first_entry, made};
+ghost use Rattle.epoch_store.specs.Seat.{entry_length, first_seat, header_length, next_seat, store_length};
+ghost use Rattle.epoch_store.specs.Store.{IsEntry, Follows, IsSettled, LeavesEither, LeavesState, first_entry, made, made_seat};
 ghost use Rattle.epoch_store.specs.Calls.{StoreState, is_fault, SettlesAs, same, OnRead, OpensAs, IsNotTaken, MakesWhereEmpty, OnRefusal, IsOpened, ReadsHead, ReadsGate, FindsGate, ReadsEntries, HoldsStore};
 ghost use Rattle.epoch_store.specs.Asked.{put_calls, open_calls, Makes, MakesStore, ReadsGates, RefusedInHead, RefusedAtGate};
 ghost use Rattle.epoch_store.specs.Followed.{OpensFile, MakesFrom, ReadsGatesFrom};
 
 mod entry;
+mod seat;
+
+pub use seat::{Seat, store_len};
 
 use arrayvec::ArrayVec;
 use entry::{Gate, MAGIC, byte_at, check_head, entry_bytes, judge};
 use ff_ids::Mask;
 use ports::{Disk, Failed, Opened};
+use seat::{ENTRY_LEN, HEAD_LEN};
 use std::marker::Model;
 use thiserror::Error;
-
-/// How many bytes the header and the tag have.
-const HEAD_LEN: usize = 40;
-
-/// How many bytes a gate and its entry have.
-const ENTRY_LEN: usize = 17;
 
 /// What a store keeps: the next index of the key, and the epoch and mask of the newest note that was signed.
 #[derive(Clone, Copy, Debug, PartialEq, Eq)]
@@ -130,9 +129,9 @@ pub fn make<D: Disk>(disk: &mut D, name: &str, tag: &[u8; 32], mask: Mask) -> Re
     ensures follows { MakesFrom name.now tag.now (first_entry mask) result (D.state disk.old) (D.state disk.new) }
     ensures taken { MakesWhereEmpty (D.moments disk.old) result }
     ensures made { OnOk result (SettlesAs (λ _. made tag.now (first_entry mask)) (D.moments disk.old) (D.moments disk.new)) }
-    ensures store { OnOk result (IsSettled tag.now (first_entry mask) 57 (D.moments disk.new)) }
+    ensures store { OnOk result (IsSettled tag.now (first_entry mask) (made_seat tag.now (first_entry mask)) (D.moments disk.new)) }
     ensures refused { OnRefusal result (D.moments disk.new ≡ D.moments disk.old) }
-    ensures any_moment { Fails (torn_at 0 58) (D.moments disk.old) (D.moments disk.new) }
+    ensures any_moment { Fails (torn_at 0 (store_length 1)) (D.moments disk.old) (D.moments disk.new) }
 {
     open_file(disk, name)?;
     let len = disk.len()?;
@@ -152,8 +151,8 @@ pub fn make<D: Disk>(disk: &mut D, name: &str, tag: &[u8; 32], mask: Mask) -> Re
 /// Reads the first 40 bytes, and checks that they are the header of a store of this tag.
 fn read_head<D: Disk>(disk: &mut D, tag: &[u8; 32]) -> Result<(), StoreError>
     ensures faults { D.faults disk.new ≡ counted (is_fault result) (D.faults disk.old) }
-    ensures called { D.calls disk.new ≡ with_call (ToRead 0 40) (D.calls disk.old) }
-    ensures follows { came_to (D.state disk.new) (is_fault result) ≡ runs_on (ToRead 0 40 ∷ []) (D.state disk.old) }
+    ensures called { D.calls disk.new ≡ with_call (ToRead 0 header_length) (D.calls disk.old) }
+    ensures follows { came_to (D.state disk.new) (is_fault result) ≡ runs_on (ToRead 0 header_length ∷ []) (D.state disk.old) }
     ensures near { RefusedInHead result }
     ensures reads { ReadsHead tag.now (D.moments disk.old) result }
     ensures not_taken { IsNotTaken result }
@@ -165,54 +164,54 @@ fn read_head<D: Disk>(disk: &mut D, tag: &[u8; 32]) -> Result<(), StoreError>
     check_head(tag, &head[..count])
 }
 
-/// Reads what stands at a gate.
-fn read_gate<D: Disk>(disk: &mut D, before: Option<Stored>, gate: u64) -> Result<Gate, StoreError>
-    requires { gate < 2 ^ 32 }
+/// Reads what stands in a seat.
+fn read_gate<D: Disk>(disk: &mut D, before: Option<Stored>, seat: Seat) -> Result<Gate, StoreError>
+    requires { seat.gate < 2 ^ 32 }
     ensures faults { D.faults disk.new ≡ counted (is_fault result) (D.faults disk.old) }
-    ensures called { D.calls disk.new ≡ with_call (ToRead gate 17) (D.calls disk.old) }
-    ensures follows { came_to (D.state disk.new) (is_fault result) ≡ runs_on (ToRead gate 17 ∷ []) (D.state disk.old) }
-    ensures near { RefusedAtGate gate result }
-    ensures reads { ReadsGate before gate (D.moments disk.old) result }
+    ensures called { D.calls disk.new ≡ with_call (ToRead seat.gate entry_length) (D.calls disk.old) }
+    ensures follows { came_to (D.state disk.new) (is_fault result) ≡ runs_on (ToRead seat.gate entry_length ∷ []) (D.state disk.old) }
+    ensures near { RefusedAtGate seat result }
+    ensures reads { ReadsGate before seat (D.moments disk.old) result }
     ensures found { FindsGate before result }
     ensures same { OnRead result (D.moments disk.new ≡ D.moments disk.old) }
     ensures stays { Fails stays (D.moments disk.old) (D.moments disk.new) }
 {
     let mut bytes = [0; ENTRY_LEN];
-    let count = disk.read_at(gate, &mut bytes)?;
+    let count = disk.read_at(seat.gate, &mut bytes)?;
     match judge(before, &bytes[..count]) {
         Ok(found) => Ok(found),
         Err(at) => Err(StoreError::Broken {
-            place: gate + at as u64,
+            place: seat.gate + at as u64,
             byte: byte_at(&bytes[..count], at),
         }),
     }
 }
 
-/// Reads entry after entry, up to the first closed gate.
-fn read_entries<D: Disk>(disk: &mut D) -> Result<Store, StoreError>
+/// Reads entry after entry from the first seat on, up to the first closed gate.
+fn read_entries<D: Disk>(disk: &mut D, tag: &[u8; 32]) -> Result<Store, StoreError>
     ensures faults { D.faults disk.new ≡ counted (is_fault result) (D.faults disk.old) }
     ensures calls { ReadsGates [] result (D.calls disk.old) (D.calls disk.new) }
-    ensures follows { ReadsGatesFrom [] (D.moments disk.old) result (D.state disk.old) (D.state disk.new) }
-    ensures reads { ReadsEntries (D.moments disk.old) result }
+    ensures follows { ReadsGatesFrom tag.now [] (D.moments disk.old) result (D.state disk.old) (D.state disk.new) }
+    ensures reads { ReadsEntries tag.now (D.moments disk.old) result }
     ensures not_taken { IsNotTaken result }
     ensures runs { IfOk result (λ store. store.failed ≡ false) }
     ensures same { OnRead result (D.moments disk.new ≡ D.moments disk.old) }
     ensures stays { Fails stays (D.moments disk.old) (D.moments disk.new) }
 {
     let mut before = None;
-    let mut gate = HEAD_LEN as u64;
+    let mut seat = Seat::first(tag);
     loop {
-        match read_gate(disk, before, gate) {
+        match read_gate(disk, before, seat) {
             Ok(Gate::Shut(state)) => {
                 return Ok(Store {
                     state,
-                    gate,
+                    seat,
                     failed: false,
                 });
             }
             Ok(Gate::Entry(entry)) => {
                 before = Some(entry);
-                gate += ENTRY_LEN as u64;
+                seat = seat.next();
             }
             Err(error) => return Err(error),
         }
@@ -222,17 +221,17 @@ fn read_entries<D: Disk>(disk: &mut D) -> Result<Store, StoreError>
 /// Reads the file whole.
 fn read_store<D: Disk>(disk: &mut D, tag: &[u8; 32]) -> Result<Store, StoreError>
     ensures faults { D.faults disk.new ≡ counted (is_fault result) (D.faults disk.old) }
-    ensures calls { ReadsGates (ToRead 0 40 ∷ []) result (D.calls disk.old) (D.calls disk.new) }
-    ensures follows { ReadsGatesFrom (ToRead 0 40 ∷ []) (D.moments disk.old) result (D.state disk.old) (D.state disk.new) }
+    ensures calls { ReadsGates (ToRead 0 header_length ∷ []) result (D.calls disk.old) (D.calls disk.new) }
+    ensures follows { ReadsGatesFrom tag.now (ToRead 0 header_length ∷ []) (D.moments disk.old) result (D.state disk.old) (D.state disk.new) }
     ensures reads { OpensAs tag.now (D.moments disk.old) result }
     ensures not_taken { IsNotTaken result }
     ensures runs { IfOk result (λ store. store.failed ≡ false) }
-    ensures store { IfOk result (λ store. HoldsStore tag.now store.state store.gate (D.moments disk.old)) }
+    ensures store { IfOk result (λ store. HoldsStore tag.now store.state store.seat (D.moments disk.old)) }
     ensures same { OnRead result (D.moments disk.new ≡ D.moments disk.old) }
     ensures stays { Fails stays (D.moments disk.old) (D.moments disk.new) }
 {
     match read_head(disk, tag) {
-        Ok(()) => read_entries(disk),
+        Ok(()) => read_entries(disk, tag),
         Err(error) => Err(error),
     }
 }
@@ -241,20 +240,21 @@ fn read_store<D: Disk>(disk: &mut D, tag: &[u8; 32]) -> Result<Store, StoreError
 #[derive(Drop)]
 pub struct Store {
     state: Stored,
-    gate: u64,
+    seat: Seat,
     failed: bool,
 }
 
 impl Model for Store {
-    ghost use Rattle.std.specs.Prelude.{◌+◌, ◌*◌, ◌≤◌};
+    ghost use Rattle.std.specs.Prelude.{◌+◌, ◌≤◌};
+    ghost use Rattle.epoch_store.specs.Seat.{nth_gate};
     ghost use Rattle.epoch_store.specs.Store.{IsEntry};
     ghost use Rattle.epoch_store.specs.Calls.{StoreState};
 
     ghost Value = { StoreState };
 
-    ghost view = { λ s. record { state = s.state; gate = s.gate; failed = s.failed } };
+    ghost view = { λ s. record { state = s.state; seat = s.seat; failed = s.failed } };
 
-    ghost invariant = { λ s. IsEntry s.state × (s.gate ≤ 57 + 17 * s.state.next) };
+    ghost invariant = { λ s. IsEntry s.state × (s.seat.gate ≤ nth_gate (s.state.next + 1)) };
 }
 
 impl Store {
@@ -266,11 +266,11 @@ impl Store {
     pub fn open<D: Disk>(disk: &mut D, name: &str, tag: &[u8; 32]) -> Result<Store, StoreError>
         ensures faults { D.faults disk.new ≡ counted (is_fault result) (D.faults disk.old) }
         ensures calls { ReadsGates (open_calls name.now) result (D.calls disk.old) (D.calls disk.new) }
-        ensures follows { ReadsGatesFrom (open_calls name.now) (D.moments disk.old) result (D.state disk.old) (D.state disk.new) }
+        ensures follows { ReadsGatesFrom tag.now (open_calls name.now) (D.moments disk.old) result (D.state disk.old) (D.state disk.new) }
         ensures reads { OpensAs tag.now (D.moments disk.old) result }
         ensures not_taken { IsNotTaken result }
         ensures runs { IfOk result (λ store. store.failed ≡ false) }
-        ensures store { IfOk result (λ store. IsSettled tag.now store.state store.gate (D.moments disk.new)) }
+        ensures store { IfOk result (λ store. IsSettled tag.now store.state store.seat (D.moments disk.new)) }
         ensures settles { OnRead result (SettlesAs same (D.moments disk.old) (D.moments disk.new)) }
         ensures any_moment { Fails stays (D.moments disk.old) (D.moments disk.new) }
     {
@@ -298,27 +298,27 @@ impl Store {
         requires entry { IsEntry next }
         requires follows { Follows self.old.state next }
         ensures faults { D.faults disk.new ≡ counted (is_err result) (D.faults disk.old) }
-        ensures calls { Makes result (put_calls self.old.gate next) (D.calls disk.old) (D.calls disk.new) }
-        ensures follows { came_to (D.state disk.new) (is_err result) ≡ runs_on (put_calls self.old.gate next) (D.state disk.old) }
+        ensures calls { Makes result (put_calls self.old.seat next) (D.calls disk.old) (D.calls disk.new) }
+        ensures follows { came_to (D.state disk.new) (is_err result) ≡ runs_on (put_calls self.old.seat next) (D.state disk.old) }
         ensures fault { IfErr result (λ e. e ≡ Fault) }
         ensures put { OnOk result (self.new ≡ record {
           state = next;
-          gate = self.old.gate + 17;
+          seat = next_seat self.old.seat next;
           failed = false;
         }) }
         ensures failed { OnErr result (self.new ≡ record self.old { failed = true }) }
-        ensures any_moment { (tag : List ℕ) → IsSettled tag self.old.state self.old.gate (D.moments disk.old)
+        ensures any_moment { (tag : List ℕ) → IsSettled tag self.old.state self.old.seat (D.moments disk.old)
             → Since (LeavesEither tag self.old.state next) (D.moments disk.old) (D.moments disk.new) }
-        ensures settled { OnOk result ((tag : List ℕ) → IsSettled tag self.old.state self.old.gate (D.moments disk.old)
-            → IsSettled tag next (self.old.gate + 17) (D.moments disk.new)) }
-        ensures leaves { OnOk result ((tag : List ℕ) → IsSettled tag self.old.state self.old.gate (D.moments disk.old)
+        ensures settled { OnOk result ((tag : List ℕ) → IsSettled tag self.old.state self.old.seat (D.moments disk.old)
+            → IsSettled tag next (next_seat self.old.seat next) (D.moments disk.new)) }
+        ensures leaves { OnOk result ((tag : List ℕ) → IsSettled tag self.old.state self.old.seat (D.moments disk.old)
             → LeavesState tag next (D.moments disk.new)) }
     {
         self.failed = true;
-        write_synced(disk, self.gate + 1, &entry_bytes(next))?;
-        write_synced(disk, self.gate, &[1])?;
+        write_synced(disk, self.seat.gate + 1, &entry_bytes(next))?;
+        write_synced(disk, self.seat.gate, &[1])?;
         self.state = next;
-        self.gate += ENTRY_LEN as u64;
+        self.seat = self.seat.next();
         self.failed = false;
         Ok(())
     }

@@ -243,8 +243,3 @@ pub fn all_rings(t: u8) -> Mask
 {
     Mask((1 << (2 * t + 1)) - 1)
 }
-    ensures value { result ≡ record { 0 = all_rings_of t } }
-    ensures small { result.0 < 2 ^ 31 }
-{
-    Mask((1 << (2 * u32::from(t) + 1)) - 1)
-}

@@ -56,7 +56,7 @@ fn reopen(alloc: Global, holder: &Holder, disk: &mut MemoryDisk) -> Option<Signe
         return None;
     };
     let (tree, leaves) = key.split();
-    if store.state().next > holder.tree.leaf_count() {
+    if store.state().next > tree.index_count() {
         return None;
     }
     Some(Signer::open(holder.group, tree, leaves, store))

@@ -3,6 +3,7 @@
 ghost use Rattle.std.specs.Prelude.{◌≡◌, ◌+◌, ◌*◌, ◌^◌, ◌<◌, ◌≤◌, ◌++◌, IfOk, length, take};
 ghost use Rattle.lms_ots.specs.Ots as ots;
 ghost use Rattle.lms_tree.specs.Kinds.{height, leaf_count, signature_length};
+ghost use Rattle.lms_tree.specs.Leaves.{index_count};
 ghost use Rattle.lms_tree.specs.Lms.{Verifies, path_of, public_of, sibling, signature_of};
 ghost use Rattle.lms_tree.specs.Nodes.{HoldsFrom};
 
@@ -108,6 +109,14 @@ impl Tree {
             id: self.secret.id,
             root: self.nodes[1],
         }
+    }
+
+    /// How many indexes the key has.
+    pub fn index_count(&self) -> u32
+        ensures value { result ≡ index_count self.now }
+        ensures small { result ≤ 32768 }
+    {
+        self.secret.tree.leaf_count()
     }
 
     /// Writes the signature of `message` by a leaf of this key into `out` (RFC 8554, section 5.4.1).

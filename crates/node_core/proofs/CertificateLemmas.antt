@@ -16,7 +16,7 @@ use Rattle.records.specs.Signing.{CheckedRecord, IsChecked, signed_bytes}
 use Rattle.node_rules.specs.Nodes.{Setting}
 use Rattle.node_rules.specs.Lives.{AreCertificates, is_certificate_for}
 use Rattle.node_rules.specs.Vouching.{IsCertifiedBy, OwnSignaturesVerify}
-use Rattle.lms_tree.specs.Kinds.{leaf_count}
+use Rattle.lms_tree.specs.Leaves.{index_count}
 use Rattle.signer.specs.Signing.{SignerState}
 use Rattle.node_core.proofs.OwnKeyLemmas.{own-verify}
 use Rattle.node_core.specs.declared.kit.Kit.{Kit}
@@ -55,7 +55,7 @@ setting-verifies : (s : Setting) (g : Group) (me : ℕ) (a : PublicKey) (k : Sec
 unfolding setting_of
 setting-verifies s g me a k key r e = ap (λ x. x.verifies key r) e
 
-setting-indexes : (s : Setting) (g : Group) (me : ℕ) (a : PublicKey) (k : Secret) → s ≡ setting_of g me a k → s.indexes ≡ leaf_count k.tree
+setting-indexes : (s : Setting) (g : Group) (me : ℕ) (a : PublicKey) (k : Secret) → s ≡ setting_of g me a k → s.indexes ≡ index_count k
 unfolding setting_of
 setting-indexes s g me a k e = ap (λ x. x.indexes) e
 
@@ -81,7 +81,7 @@ apart-certificates [] apart = tt
 apart-certificates (r ∷ records) apart = ((apart.0.cert, apart.0.body), apart-certificates records apart.1)
 
 -- what a sound kit gives the theorem on records that vouch for a life
-pub vouchable : (s : Setting) (kit : Kit) (signer : SignerState) → s ≡ setting_of kit.group kit.me kit.authority signer.key → IsKit kit (public_of signer.key) → signer.state.next < leaf_count signer.key.tree
+pub vouchable : (s : Setting) (kit : Kit) (signer : SignerState) → s ≡ setting_of kit.group kit.me kit.authority signer.key → IsKit kit (public_of signer.key) → signer.state.next < index_count signer.key
     → IsVouchable s (public_of signer.key) (recs_of kit.certificates.items) signer.state
 vouchable s kit signer e k left =
     let key : Secret = signer.key in

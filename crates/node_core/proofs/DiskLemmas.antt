@@ -10,6 +10,8 @@ use Rattle.ports.specs.MemoryDisk.{DiskState}
 use Rattle.ports.specs.DiskSteps.{Came, came_to, runs, runs_on}
 use Rattle.ports.proofs.RunLemmas.{runs_none}
 use Rattle.epoch_store.specs.declared.Stored.{Stored}
+use Rattle.epoch_store.specs.declared.seat.Seat.{Seat}
+use Rattle.epoch_store.specs.Seat.{next_seat}
 use Rattle.epoch_store.specs.Asked.{put_calls}
 use Rattle.epoch_store.specs.Placed.{PlacedStore, put_on, put_passes, after_put}
 use Rattle.records.specs.declared.Body.{Body}
@@ -49,7 +51,7 @@ pub stores-none : (older newer : SignerState) (disk : Option DiskState) → newe
 stores-none older newer disk same =
     let at : Stores older older disk disk = record {
       came = rw (same-index older.state.next) (runs_none disk);
-      gate = rw (same-index older.state.next) refl;
+      seat = rw (same-index older.state.next) refl;
     } in
     subst (λ (s : SignerState). Stores older s disk disk) (sym same) at
 
@@ -66,19 +68,19 @@ next-apart : (n m : ℕ) → m ≡ n + 1 → eqb m n ≡ false
 next-apart n m is = grind (arith, nat_tests, is)
 
 pub stores-signed : (older newer later : SignerState) (body : Body) (rec : CheckedRecord) (x y : Option DiskState) → newer ≡ after_signing older body (Ok rec) → later ≡ newer
-    → came_to y false ≡ runs_on (put_calls older.gate (stored_after older.state body)) x → Stores older later x y
+    → came_to y false ≡ runs_on (put_calls older.seat (stored_after older.state body)) x → Stores older later x y
 stores-signed older newer later body rec x y after same came =
     let apart : eqb (stored_after older.state body).next older.state.next ≡ false = next-apart older.state.next (stored_after older.state body).next (next_index older.state body) in
-    let at : Stores older (after_signing older body (Ok rec)) x y = record { came = rw apart came; gate = rw apart refl } in
+    let at : Stores older (after_signing older body (Ok rec)) x y = record { came = rw apart came; seat = rw apart refl } in
     subst (λ (s : SignerState). Stores older s x y) (sym (same ∙ after)) at
 
 pub fails-signed : (older newer later : SignerState) (body : Body) (kept : Stored) (x y : Option DiskState) → newer ≡ after_signing {T = CheckedRecord} older body (Err refusals.StoreFault) → later ≡ newer
-    → came_to y true ≡ runs_on (put_calls older.gate (stored_after older.state body)) x → kept ≡ stored_after older.state body → FailsToStore kept older later x y
+    → came_to y true ≡ runs_on (put_calls older.seat (stored_after older.state body)) x → kept ≡ stored_after older.state body → FailsToStore kept older later x y
 fails-signed older newer later body kept x y after same came is =
     record {
       rises = ap (λ (k : Stored). k.next) is ∙ next_index older.state body;
-      came = came ∙ ap (λ (k : Stored). runs_on (put_calls older.gate k) x) (sym is);
-      gate = ap (λ (s : SignerState). s.gate) (same ∙ after);
+      came = came ∙ ap (λ (k : Stored). runs_on (put_calls older.seat k) x) (sym is);
+      seat = ap (λ (s : SignerState). s.seat) (same ∙ after);
     }
 
 sends-node : (s : Setting) (d : Datagram) (c : Call) (to : ℕ) → (sends s d c to).node ≡ c.node
@@ -131,15 +133,15 @@ came-told calls (Some e) (Some f) d failed came is =
     let ran : runs calls e ≡ record { disk = f; failed = failed } = cc in
     subst (λ (z : DiskState). RanTo calls z (Some f) failed) same (record { answer = ap (λ (c : Came). c.failed) ran; behind = ap (λ (c : Came). Some c.disk) (sym ran) })
 
-put-is : (e : Stored) (d : DiskState) (gate : ℕ) → put_on e (record { disk = d; gate = gate }) ≡ runs (put_calls gate e) d
+put-is : (e : Stored) (d : DiskState) (seat : Seat) → put_on e (record { disk = d; seat = seat }) ≡ runs (put_calls seat e) d
 unfolding put_on
-put-is e d gate = refl
+put-is e d seat = refl
 
 idle-step : (step : Bool → Call) (o : OnDisk PlacedStore) → eqb (step true).node.stored.next o.call.node.stored.next ≡ true → takes_step storage step o ≡ record { call = step true; disk = o.disk }
 idle-step step o same = rw same refl
 
 putting-step : (step : Bool → Call) (o : OnDisk PlacedStore) (passes : Bool) → eqb (step true).node.stored.next o.call.node.stored.next ≡ false → put_passes (step true).node.stored o.disk ≡ passes
-    → takes_step storage step o ≡ record { call = step passes; disk = record { disk = (put_on (step true).node.stored o.disk).disk; gate = cond passes (o.disk.gate + 17) o.disk.gate } }
+    → takes_step storage step o ≡ record { call = step passes; disk = record { disk = (put_on (step true).node.stored o.disk).disk; seat = cond passes (next_seat o.disk.seat (step true).node.stored) o.disk.seat } }
 putting-step step o passes apart is = rw (apart, is) refl
 
 comes-idle : (s : Setting) (es : List journal.Event) (os : List (ℕ × List ℕ)) (v w : Kept) (x y : Option DiskState) (o : OnDisk PlacedStore) (step : Bool → Call)
@@ -148,9 +150,9 @@ comes-idle s es os v w x y o step h stores at on same =
     let test : eqb (step true).node.stored.next o.call.node.stored.next ≡ true =
     sym (ap (λ (a : Stored). eqb a.next v.signer.state.next) at.is.stored ∙ ap (λ (b : Stored). eqb (step true).node.stored.next b.next) h.at.is.stored) ∙ same in
     let came : came_to y false ≡ runs_on [] x = rw same at stores.came in
-    let gate : w.signer.gate ≡ v.signer.gate = rw same at stores.gate in
+    let seat : w.signer.seat ≡ v.signer.seat = rw same at stores.seat in
     subst (ComesTo s es os w y false) (sym (idle-step step o test))
-    (record { at = at; ended = on ∙ h.ended; disk = told-none x y o.disk.disk came h.disk; gate = gate ∙ h.gate })
+    (record { at = at; ended = on ∙ h.ended; disk = told-none x y o.disk.disk came h.disk; seat = seat ∙ h.seat })
 
 comes-putting : (s : Setting) (es : List journal.Event) (os : List (ℕ × List ℕ)) (v w : Kept) (x y : Option DiskState) (o : OnDisk PlacedStore) (step : Bool → Call)
     → ComesTo s es os v x false o → Stores v.signer w.signer x y → IsAt s es os w (step true) → (step true).ended ≡ o.call.ended → eqb w.signer.state.next v.signer.state.next ≡ false → ComesTo s es os w y false (takes_step storage step o)
@@ -158,15 +160,15 @@ comes-putting s es os v w x y o step h stores at on apart =
     let kept : Stored = (step true).node.stored in
     let test : eqb kept.next o.call.node.stored.next ≡ false =
     sym (ap (λ (a : Stored). eqb a.next v.signer.state.next) at.is.stored ∙ ap (λ (b : Stored). eqb kept.next b.next) h.at.is.stored) ∙ apart in
-    let came : came_to y false ≡ runs_on (put_calls v.signer.gate w.signer.state) x = rw apart at stores.came in
-    let gate : w.signer.gate ≡ v.signer.gate + 17 = rw apart at stores.gate in
-    let here : came_to y false ≡ runs_on (put_calls o.disk.gate kept) x =
-    came ∙ ap (λ (k : Stored). runs_on (put_calls v.signer.gate k) x) at.is.stored ∙ ap (λ (g : ℕ). runs_on (put_calls g kept) x) h.gate in
-    let ran = came-told (put_calls o.disk.gate kept) x y o.disk.disk false here h.disk in
-    let is = put-is kept o.disk.disk o.disk.gate in
+    let came : came_to y false ≡ runs_on (put_calls v.signer.seat w.signer.state) x = rw apart at stores.came in
+    let seat : w.signer.seat ≡ next_seat v.signer.seat w.signer.state = rw apart at stores.seat in
+    let here : came_to y false ≡ runs_on (put_calls o.disk.seat kept) x =
+    came ∙ ap (λ (k : Stored). runs_on (put_calls v.signer.seat k) x) at.is.stored ∙ ap (λ (g : Seat). runs_on (put_calls g kept) x) h.seat in
+    let ran = came-told (put_calls o.disk.seat kept) x y o.disk.disk false here h.disk in
+    let is = put-is kept o.disk.disk o.disk.seat in
     let passes : put_passes kept o.disk ≡ true = ap (λ (c : Came). not c.failed) is ∙ ap not ran.answer in
     subst (ComesTo s es os w y false) (sym (putting-step step o true test passes))
-    (record { at = at; ended = on ∙ h.ended; disk = ran.behind ∙ ap (λ (c : Came). Some c.disk) (sym is); gate = gate ∙ ap (λ (g : ℕ). g + 17) h.gate })
+    (record { at = at; ended = on ∙ h.ended; disk = ran.behind ∙ ap (λ (c : Came). Some c.disk) (sym is); seat = seat ∙ ap (λ (g : Seat). next_seat g kept) h.seat })
 
 -- a step in which the disk works
 pub comes-further : (s : Setting) (es : List journal.Event) (os : List (ℕ × List ℕ)) (v w : Kept) (x y : Option DiskState) (o : OnDisk PlacedStore) (step : Bool → Call)
@@ -183,12 +185,12 @@ pub comes-to_end : (s : Setting) (es : List journal.Event) (os : List (ℕ × Li
 comes-to_end s es os v w x y o step h fails at over =
     let kept : Stored = (step true).node.stored in
     let test : eqb kept.next o.call.node.stored.next ≡ false = next-apart o.call.node.stored.next kept.next (fails.rises ∙ ap (λ (k : Stored). k.next + 1) h.at.is.stored) in
-    let here : came_to y true ≡ runs_on (put_calls o.disk.gate kept) x = fails.came ∙ ap (λ (g : ℕ). runs_on (put_calls g kept) x) h.gate in
-    let ran = came-told (put_calls o.disk.gate kept) x y o.disk.disk true here h.disk in
-    let is = put-is kept o.disk.disk o.disk.gate in
+    let here : came_to y true ≡ runs_on (put_calls o.disk.seat kept) x = fails.came ∙ ap (λ (g : Seat). runs_on (put_calls g kept) x) h.seat in
+    let ran = came-told (put_calls o.disk.seat kept) x y o.disk.disk true here h.disk in
+    let is = put-is kept o.disk.disk o.disk.seat in
     let passes : put_passes kept o.disk ≡ false = ap (λ (c : Came). not c.failed) is ∙ ap not ran.answer in
     subst (ComesTo s es os w y true) (sym (putting-step step o false test passes))
-    (record { at = at; ended = over; disk = ran.behind ∙ ap (λ (c : Came). Some c.disk) (sym is); gate = fails.gate ∙ h.gate })
+    (record { at = at; ended = over; disk = ran.behind ∙ ap (λ (c : Came). Some c.disk) (sym is); seat = fails.seat ∙ h.seat })
 
 -- ---- steps in turn
 
@@ -216,8 +218,8 @@ pub all-accused-over : (s : Setting) (o : OnDisk PlacedStore) (silent : List ℕ
 all-accused-over s o [] over = refl
 all-accused-over s o (m ∷ silent) over = ap (λ (p : OnDisk PlacedStore). fold (accuses_on storage s) p silent) (accuses-over s o m over) ∙ all-accused-over s o silent over
 
-pub starts-there : (s : Setting) (es : List journal.Event) (os : List (ℕ × List ℕ)) (v : Kept) (x : Option DiskState) (c : Call) (d : DiskState) → IsAt s es os v c → c.ended ≡ false → x ≡ Some d → ComesTo s es os v x false (on_disk c d v.signer.gate)
-starts-there s es os v x c d at on is = record { at = at; ended = on; disk = is; gate = refl }
+pub starts-there : (s : Setting) (es : List journal.Event) (os : List (ℕ × List ℕ)) (v : Kept) (x : Option DiskState) (c : Call) (d : DiskState) → IsAt s es os v c → c.ended ≡ false → x ≡ Some d → ComesTo s es os v x false (on_disk c d v.signer.seat)
+starts-there s es os v x c d at on is = record { at = at; ended = on; disk = is; seat = refl }
 
 -- ---- answers of steps
 
@@ -237,12 +239,12 @@ fold-split f b (z ∷ xs) x ys = fold-split f (f b z) xs x ys
 -- ---- a datagram that brings no record
 
 pub comes-heard : (s : Setting) (es : List journal.Event) (os : List (ℕ × List ℕ)) (v w : Kept) (x : Option DiskState) (c next : Call) (d : DiskState) → SignsNothing v w → IsAt s es os w next → next.ended ≡ c.ended → c.ended ≡ false → x ≡ Some d
-    → ComesTo s es os w x false (on_disk next d v.signer.gate)
-comes-heard s es os v w x c next d none at goes on is = record { at = at; ended = goes ∙ on; disk = is; gate = ap (λ (k : SignerState). k.gate) none.signer }
+    → ComesTo s es os w x false (on_disk next d v.signer.seat)
+comes-heard s es os v w x c next d none at goes on is = record { at = at; ended = goes ∙ on; disk = is; seat = ap (λ (k : SignerState). k.seat) none.signer }
 
 pub fault-comes : (s : Setting) (es : List journal.Event) (os : List (ℕ × List ℕ)) (v w : Kept) (x : Option DiskState) (read : Result Datagram ℕ) (fault : FormFault) (c : Call) (d : DiskState) → GivesDatagram read (Err fault) → SignsNothing v w
     → (fault ≡ forms.OutOfMemory → w.telling ≡ record v.telling { failed = true }) → ((place : ℕ) → fault ≡ forms.BadForm place → Plays s es os w (tells s (told.BadForm place) c)) → c.ended ≡ false → x ≡ Some d → w.telling.failed ≡ false
-    → ComesTo s es os w x false (hears_on storage s read (on_disk c d v.signer.gate))
+    → ComesTo s es os w x false (hears_on storage s read (on_disk c d v.signer.seat))
 fault-comes s es os v w x (Ok e) fault c d gives none memory bad on is fine = absurd (false≢true (sym fine ∙ ap (λ (t : Tellings). t.failed) (memory gives.0)))
 fault-comes s es os v w x (Err place) fault c d gives none memory bad on is fine =
     let same : fault ≡ forms.BadForm place = cc in
@@ -257,7 +259,7 @@ read-comes s es os w y failed (Err place) e o gives h = cc
 gives-on : (s : Setting) (v1 v2 : Kept) (old new : Lent) (y : Option DiskState) (failed : Bool) (o : OnDisk PlacedStore) → ComesTo s old.events old.sent v1 y failed o → v2 ≡ record v1 { telling = v2.telling; ended = v2.ended }
     → new.events ≡ v1.telling.events → new.sent ≡ v1.telling.sent → GivesOn s v2 old new y failed o
 gives-on s v1 v2 old new y failed o h same events sent =
-    record { gives = gives-from s v1 v2 old new o.call h.at same events sent; ended = h.ended; disk = h.disk; gate = ap (λ (v : Kept). v.signer.gate) same ∙ h.gate }
+    record { gives = gives-from s v1 v2 old new o.call h.at same events sent; ended = h.ended; disk = h.disk; seat = ap (λ (v : Kept). v.signer.seat) same ∙ h.seat }
 
 follows-fine : (s : Setting) (v1 v2 : Kept) (old new : Lent) (y : Option DiskState) (o : OnDisk PlacedStore) (done : Result (Unit {0}) NodeFault) → ComesTo s old.events old.sent v1 y (is_err done) o → IfErr done (λ e. e ≡ faults.StoreFault)
     → v2 ≡ record v1 { telling = v2.telling; ended = v2.ended } → new.events ≡ v1.telling.events → new.sent ≡ v1.telling.sent → FollowsDisk s v2 old new y o done
@@ -274,6 +276,6 @@ follows-by s v1 v2 old new y o done answer h cause memory going same events sent
       | inr fine ↦ subst (λ r. FollowsDisk s v2 old new y o r) (sym (going fine)) (follows-fine s v1 v2 old new y o done (h fine) cause same events sent)
     ]
 
-pub delivered-on-is : (s : Setting) (n : Node) (bytes : List ℕ) (d : DiskState) (gate : ℕ) → delivered_on storage s n bytes (record { disk = d; gate = gate }) ≡ hears_on storage s (read_of bytes) (on_disk (begun n) d gate)
+pub delivered-on-is : (s : Setting) (n : Node) (bytes : List ℕ) (d : DiskState) (seat : Seat) → delivered_on storage s n bytes (record { disk = d; seat = seat }) ≡ hears_on storage s (read_of bytes) (on_disk (begun n) d seat)
 unfolding delivered_on
-delivered-on-is s n bytes d gate = refl
+delivered-on-is s n bytes d seat = refl

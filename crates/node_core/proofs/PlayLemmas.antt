@@ -45,7 +45,7 @@ use Rattle.signer.specs.Signing.{SignerState, stored_after, signed_record, next_
 use Rattle.signer.specs.declared.SignFault.{SignFault}
 use Rattle.signer.specs.declared.SignFault.TheVariants as refusals
 use Rattle.epoch_store.specs.declared.Stored.{Stored}
-use Rattle.lms_tree.specs.Kinds.{leaf_count}
+use Rattle.lms_tree.specs.Leaves.{index_count}
 use Rattle.ff_ids.specs.declared.Mask.{Mask}
 use Rattle.lms_tree.specs.Lms.{signature_of}
 use Rattle.records.specs.Signing.{signed_bytes}
@@ -656,17 +656,17 @@ pub wants-stopped : (s : Setting) (b : Body) (also : Option ℕ) (c : Call) → 
 unfolding wants
 wants-stopped s b also c free = rw free refl
 
-used-up-is : (s : Setting) (v : Kept) (n : Node) → IsNode s v n → is_used_up s n ≡ eqb v.signer.state.next (leaf_count v.signer.key.tree)
+used-up-is : (s : Setting) (v : Kept) (n : Node) → IsNode s v n → is_used_up s n ≡ eqb v.signer.state.next (index_count v.signer.key)
 unfolding setting_of
-used-up-is s v n is = ap (λ (x : Setting). eqb n.stored.next x.indexes) is.setting ∙ ap (λ (x : Stored). eqb x.next (leaf_count v.signer.key.tree)) (sym is.stored)
+used-up-is s v n is = ap (λ (x : Setting). eqb n.stored.next x.indexes) is.setting ∙ ap (λ (x : Stored). eqb x.next (index_count v.signer.key)) (sym is.stored)
 
-pub free-below : (s : Setting) (v : Kept) (n : Node) → IsNode s v n → v.signer.state.next < leaf_count v.signer.key.tree → is_used_up s n ≡ false
-free-below s v n is lt = used-up-is s v n is ∙ apart v.signer.state.next (leaf_count v.signer.key.tree) lt
+pub free-below : (s : Setting) (v : Kept) (n : Node) → IsNode s v n → v.signer.state.next < index_count v.signer.key → is_used_up s n ≡ false
+free-below s v n is lt = used-up-is s v n is ∙ apart v.signer.state.next (index_count v.signer.key) lt
   where
     apart : (a b : ℕ) → a < b → eqb a b ≡ false
     apart a b lt = grind (arith, nat_tests, lt)
 
-pub full-at : (s : Setting) (v : Kept) (n : Node) → IsNode s v n → v.signer.state.next ≡ leaf_count v.signer.key.tree → is_used_up s n ≡ true
+pub full-at : (s : Setting) (v : Kept) (n : Node) → IsNode s v n → v.signer.state.next ≡ index_count v.signer.key → is_used_up s n ≡ true
 full-at s v n is e = used-up-is s v n is ∙ eq-eqb _ _ e
 
 -- the signer may have closed
@@ -694,7 +694,7 @@ signer-at s es os v c signer p key state = record {
 
 -- the disk failed in the signature
 pub stopped-at : (s : Setting) (es : List journal.Event) (os : List (ℕ × List ℕ)) (v v1 : Kept) (c : Call) (b : Body) (also : Option ℕ)
-    → Plays s es os v c → v.signer.state.next < leaf_count v.signer.key.tree → Grows v v1 → (v1.telling.failed ≡ true → v1.telling ≡ record v.telling { failed = true }) → Plays s es os v1 (tells s told.Stopped c)
+    → Plays s es os v c → v.signer.state.next < index_count v.signer.key → Grows v v1 → (v1.telling.failed ≡ true → v1.telling ≡ record v.telling { failed = true }) → Plays s es os v1 (tells s told.Stopped c)
     → Stops s es os v1 (wants true s b (addressees s also) c) (wants false s b (addressees s also) c)
 stopped-at s es os v v1 c b also p lt grows refused q =
     let stopped = λ (fine : v1.telling.failed ≡ false). wants-stopped s b also c (free-below s v c.node (p.at (grows.going fine)).is lt) in
@@ -708,7 +708,7 @@ stopped-at s es os v v1 c b also p lt grows refused q =
 
 -- the key was used up
 pub used_up-at : (s : Setting) (es : List journal.Event) (os : List (ℕ × List ℕ)) (v v1 : Kept) (c : Call) (b : Body) (also : Option ℕ) (next : ℕ)
-    → Plays s es os v c → next ≡ v.signer.state.next → next ≡ leaf_count v.signer.key.tree → Grows v v1 → Plays s es os v1 (tells s (told.Exhausted next) c) → Plays s es os v1 (wants true s b (addressees s also) c)
+    → Plays s es os v c → next ≡ v.signer.state.next → next ≡ index_count v.signer.key → Grows v v1 → Plays s es os v1 (tells s (told.Exhausted next) c) → Plays s es os v1 (wants true s b (addressees s also) c)
 used_up-at s es os v v1 c b also next p at last grows q =
     from-fine s es os v v1 c (wants true s b (addressees s also) c) p grows (extends-wants s b (addressees s also) c) (λ h.
     let n = h.is in
@@ -718,7 +718,7 @@ used_up-at s es os v v1 c b also next p at last grows q =
 
 -- the signature was made
 pub signed-at : (s : Setting) (es : List journal.Event) (os : List (ℕ × List ℕ)) (v v1 : Kept) (c : Call) (b wanted : Body) (also : Option ℕ) (signer : SignerState) (r : CheckedRecord) (index : ℕ)
-    → Plays s es os v c → v.signer.group ≡ v.group → v.signer.state.next < leaf_count v.signer.key.tree → index ≡ v.signer.state.next → (IsNode s v c.node → b ≡ wanted)
+    → Plays s es os v c → v.signer.group ≡ v.group → v.signer.state.next < index_count v.signer.key → index ≡ v.signer.state.next → (IsNode s v c.node → b ≡ wanted)
     → signer.key ≡ v.signer.key → signer.state ≡ stored_after v.signer.state b → r ≡ signed_record v.signer b → Grows (record v { signer = signer }) v1
     → (Plays s es os (record v { signer = signer }) (with_stored b c) → index ≡ c.node.stored.next → r.rec ≡ own_record s c.node b → Plays s es os v1 (signs_and_sends s b (addressees s also) c))
     → Plays s es os v1 (wants true s wanted (addressees s also) c)

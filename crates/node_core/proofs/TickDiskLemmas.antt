@@ -2,6 +2,7 @@
 use Rattle.std.proofs.Common.{◌≡◌, ℕ, Bool, true, false, Option, Some, List, refl, sym, ap, ◌∙◌, subst}
 use Rattle.std.specs.Prelude.{fold}
 use Rattle.ports.specs.MemoryDisk.{DiskState}
+use Rattle.epoch_store.specs.declared.seat.Seat.{Seat}
 use Rattle.epoch_store.specs.Placed.{PlacedStore}
 use Rattle.journal.specs.declared.event.Event as journal
 use Rattle.detector.specs.Silence.{silent as silent_of, pings as pings_of}
@@ -35,7 +36,7 @@ pub due-comes : (s : Setting) (es : List journal.Event) (os : List (ℕ × List 
 due-comes s es os v w y accused pings round d h at same =
     let o : OnDisk PlacedStore = fold (accuses_on storage s) d accused in
     subst (ComesTo s es os w y false) (sym (due-going s accused pings round d o refl h.ended))
-    (record { at = at; ended = on-gossips s pings round o.call ∙ h.ended; disk = h.disk; gate = ap (λ k. k.gate) same ∙ h.gate })
+    (record { at = at; ended = on-gossips s pings round o.call ∙ h.ended; disk = h.disk; seat = ap (λ k. k.seat) same ∙ h.seat })
 
 probed-is : (s : Setting) (n : Node) → probed_at s n ≡ seen s (passed s n)
 unfolding probed_at
@@ -44,20 +45,20 @@ probed-is s n = refl
 pub seen-on : (s : Setting) (n : Node) → (seen s (passed s n)).ended ≡ false
 seen-on s n = sym (ap (λ (c : Call). c.ended) (probed-is s n)) ∙ on-probed s n
 
-pub ticked-on-idle : (s : Setting) (n : Node) (d : DiskState) (gate : ℕ) → is_due s (now_of s n) ≡ false → ticked_on storage s n (record { disk = d; gate = gate }) ≡ on_disk (seen s (passed s n)) d gate
+pub ticked-on-idle : (s : Setting) (n : Node) (d : DiskState) (seat : Seat) → is_due s (now_of s n) ≡ false → ticked_on storage s n (record { disk = d; seat = seat }) ≡ on_disk (seen s (passed s n)) d seat
 unfolding ticked_on probed_at
-ticked-on-idle s n d gate idle = rw idle refl
+ticked-on-idle s n d seat idle = rw idle refl
 
-ticked-on-due : (s : Setting) (n : Node) (d : DiskState) (gate : ℕ) → is_due s (now_of s n) ≡ true
-    → ticked_on storage s n (record { disk = d; gate = gate }) ≡ due_on storage s (silent_of (passed s n).node.probes (watched_by s (now_of s n))) (pings_of (passed s n).node.probes true (watched_by s (now_of s n))) (round_of s (now_of s n)) (on_disk (seen s (passed s n)) d gate)
+ticked-on-due : (s : Setting) (n : Node) (d : DiskState) (seat : Seat) → is_due s (now_of s n) ≡ true
+    → ticked_on storage s n (record { disk = d; seat = seat }) ≡ due_on storage s (silent_of (passed s n).node.probes (watched_by s (now_of s n))) (pings_of (passed s n).node.probes true (watched_by s (now_of s n))) (round_of s (now_of s n)) (on_disk (seen s (passed s n)) d seat)
 unfolding ticked_on probed_at
-ticked-on-due s n d gate due = rw due refl
+ticked-on-due s n d seat due = rw due refl
 
-pub ticked-on-found : (s : Setting) (n : Node) (silent : List ℕ) (pings : List (ℕ × ℕ)) (round : ℕ) (d : DiskState) (gate : ℕ) → FindsDue s n silent pings round
-    → due_on storage s silent pings round (on_disk (seen s (passed s n)) d gate) ≡ ticked_on storage s n (record { disk = d; gate = gate })
-ticked-on-found s n silent pings round d gate f =
-    let o : OnDisk PlacedStore = on_disk (seen s (passed s n)) d gate in
+pub ticked-on-found : (s : Setting) (n : Node) (silent : List ℕ) (pings : List (ℕ × ℕ)) (round : ℕ) (d : DiskState) (seat : Seat) → FindsDue s n silent pings round
+    → due_on storage s silent pings round (on_disk (seen s (passed s n)) d seat) ≡ ticked_on storage s n (record { disk = d; seat = seat })
+ticked-on-found s n silent pings round d seat f =
+    let o : OnDisk PlacedStore = on_disk (seen s (passed s n)) d seat in
     ap (λ (xs : List ℕ). due_on storage s xs pings round o) f.silent_is
     ∙ ap (λ (ps : List (ℕ × ℕ)). due_on storage s (silent_of (passed s n).node.probes (watched_by s (now_of s n))) ps round o) f.pings_is
     ∙ ap (λ (k : ℕ). due_on storage s (silent_of (passed s n).node.probes (watched_by s (now_of s n))) (pings_of (passed s n).node.probes true (watched_by s (now_of s n))) k o) f.round_is
-    ∙ sym (ticked-on-due s n d gate f.due)
+    ∙ sym (ticked-on-due s n d seat f.due)

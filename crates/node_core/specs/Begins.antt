@@ -21,7 +21,7 @@ use Rattle.ff_ids.specs.declared.Group.{Group}
 use Rattle.lms_tree.specs.declared.key.PublicKey.{PublicKey}
 use Rattle.signer.specs.Signing.{SignerState, stored_after, next_note, signed_record}
 use Rattle.signer.specs.Lives.{Spent}
-use Rattle.lms_tree.specs.Kinds.{leaf_count}
+use Rattle.lms_tree.specs.Leaves.{index_count}
 use Rattle.ff_ids.specs.Masks.{good_mask}
 use Rattle.node_rules.specs.Replies.{first_mask}
 use Rattle.node_core.specs.declared.NodeFault.{NodeFault}
@@ -93,7 +93,7 @@ pub record MayBegin (s : Setting) (seed : List ℕ) (certificates : List Record)
 
 -- The first note was signed by the leaf of the next index.
 pub record IsFirst (old new : SignerState) (t me : ℕ) (f : First) : Type 0 where
-  pub free : old.state.next < leaf_count old.key.tree
+  pub free : old.state.next < index_count old.key
   pub index : f.index ≡ old.state.next
   pub note : Note f.note ≡ next_note old.state me (record { 0 = first_mask t old.state.mask.0 })
   pub rec : f.rec ≡ signed_record old (Note f.note)
@@ -110,9 +110,9 @@ spent_first (Err fault) = []
 
 -- Why a life may be refused: the key is used up, or the disk failed.
 abbrev pub MayRefuse : SignerState → NodeFault → Type 0
-MayRefuse s faults.StoreFault = s.state.next < leaf_count s.key.tree
+MayRefuse s faults.StoreFault = s.state.next < index_count s.key
 MayRefuse s faults.OutOfMemory = Unit {0}
-MayRefuse s (faults.Exhausted next) = (next ≡ s.state.next) × (next ≡ leaf_count s.key.tree)
+MayRefuse s (faults.Exhausted next) = (next ≡ s.state.next) × (next ≡ index_count s.key)
 MayRefuse s faults.Ended = ⊥
 
 abbrev pub is_store_fault : {T : Type 0} → Result T NodeFault → Bool

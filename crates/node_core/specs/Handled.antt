@@ -18,7 +18,7 @@ pub record Handled (old now : Kept) (older newer : List Moment) (disk disk_now :
   pub split : records ≡ done ++ rest
   pub plays : (s : Setting) (es : List journal.Event) (os : List (ℕ × List ℕ)) (c : Call) → Plays s es os old c → Plays s es os now (handles_all s done c)
   pub comes : (s : Setting) (es : List journal.Event) (os : List (ℕ × List ℕ)) (c : Call) (d : DiskState) → Plays s es os old c → c.ended ≡ false → disk ≡ Some d → now.telling.failed ≡ false
-      → ComesTo s es os now disk_now false (fold (handles_on storage s) (on_disk c d old.signer.gate) done)
+      → ComesTo s es os now disk_now false (fold (handles_on storage s) (on_disk c d old.signer.seat) done)
   pub grows : Grows old now
   pub spends : Spends old now older newer
   pub closed : now.signer.closed ≡ old.signer.closed

@@ -4,6 +4,8 @@ use Rattle.ports.specs.DiskCalls.{DiskCall}
 use Rattle.ports.specs.MemoryDisk.{DiskState}
 use Rattle.ports.specs.DiskSteps.{came_to, runs_on}
 use Rattle.epoch_store.specs.declared.Stored.{Stored}
+use Rattle.epoch_store.specs.declared.seat.Seat.{Seat}
+use Rattle.epoch_store.specs.Seat.{next_seat}
 use Rattle.epoch_store.specs.Asked.{put_calls}
 use Rattle.epoch_store.specs.Placed.{PlacedStore, put_passes, after_put}
 use Rattle.signer.specs.Signing.{SignerState, stored_after, next_note}
@@ -21,20 +23,20 @@ use Rattle.node_core.specs.Answers.{Lent, Gives}
 
 -- It made a signature, and put what the signer keeps behind it; or it made none, and asked nothing of the disk.
 abbrev pub asked : SignerState → SignerState → List DiskCall
-asked older newer = if newer.state.next == older.state.next then [] else put_calls older.gate newer.state
+asked older newer = if newer.state.next == older.state.next then [] else put_calls older.seat newer.state
 
-abbrev pub gate_behind : SignerState → SignerState → ℕ
-gate_behind older newer = if newer.state.next == older.state.next then older.gate else older.gate + 17
+abbrev pub seat_after : SignerState → SignerState → Seat
+seat_after older newer = if newer.state.next == older.state.next then older.seat else next_seat older.seat newer.state
 
 pub record Stores (older newer : SignerState) (disk disk_now : Option DiskState) : Type 0 where
   pub came : came_to disk_now false ≡ runs_on (asked older newer) disk
-  pub gate : newer.gate ≡ gate_behind older newer
+  pub seat : newer.seat ≡ seat_after older newer
 
 -- The put of what a signature would have left failed.
 pub record FailsToStore (kept : Stored) (older newer : SignerState) (disk disk_now : Option DiskState) : Type 0 where
   pub rises : kept.next ≡ older.state.next + 1
-  pub came : came_to disk_now true ≡ runs_on (put_calls older.gate kept) disk
-  pub gate : newer.gate ≡ older.gate
+  pub came : came_to disk_now true ≡ runs_on (put_calls older.seat kept) disk
+  pub seat : newer.seat ≡ older.seat
 
 -- Where the disk failed, it did so in the put of what this whole step leaves.
 abbrev pub FailsIn : Call → Kept → Kept → Option DiskState → Option DiskState → Result (Unit {0}) NodeFault → Type 0
@@ -47,15 +49,15 @@ FailsIn whole old new disk disk_now (Err fault) = new.telling.failed ≡ false �
 abbrev pub storage : Storage PlacedStore
 storage = record { takes = put_passes; behind = after_put }
 
-abbrev pub on_disk : Call → DiskState → ℕ → OnDisk PlacedStore
-on_disk c disk gate = record { call = c; disk = record { disk = disk; gate = gate } }
+abbrev pub on_disk : Call → DiskState → Seat → OnDisk PlacedStore
+on_disk c disk seat = record { call = c; disk = record { disk = disk; seat = seat } }
 
 -- The node and its disk are where this call over the disk is.
 pub record ComesTo (s : Setting) (es : List journal.Event) (os : List (ℕ × List ℕ)) (v : Kept) (disk_now : Option DiskState) (failed : Bool) (o : OnDisk PlacedStore) : Type 0 where
   pub at : IsAt s es os v o.call
   pub ended : o.call.ended ≡ failed
   pub disk : disk_now ≡ Some o.disk.disk
-  pub gate : v.signer.gate ≡ o.disk.gate
+  pub seat : v.signer.seat ≡ o.disk.seat
 
 -- ---- a call of a node
 
@@ -64,7 +66,7 @@ pub record GivesOn (s : Setting) (v : Kept) (old new : Lent) (disk_now : Option 
   pub gives : Gives s v old new o.call
   pub ended : o.call.ended ≡ failed
   pub disk : disk_now ≡ Some o.disk.disk
-  pub gate : v.signer.gate ≡ o.disk.gate
+  pub seat : v.signer.seat ≡ o.disk.seat
 
 -- Unless memory was refused, the call is exactly the one over this disk: it ended where the disk failed, and nowhere else.
 abbrev pub FollowsDisk : Setting → Kept → Lent → Lent → Option DiskState → OnDisk PlacedStore → Result (Unit {0}) NodeFault → Type 0
@@ -81,9 +83,9 @@ abbrev pub kept_first : ℕ → ℕ → Stored → Stored
 kept_first t me stored = stored_after stored (next_note stored me (record { 0 = first_mask t stored.mask.0 }))
 
 -- It was put, or the put failed; where the key is used up nothing is asked of the disk.
-abbrev pub PutsFirst : {T : Type 0} → Stored → ℕ → Option DiskState → Option DiskState → Result T NodeFault → Type 0
-PutsFirst kept gate disk disk_now (Ok value) = came_to disk_now false ≡ runs_on (put_calls gate kept) disk
-PutsFirst kept gate disk disk_now (Err faults.StoreFault) = came_to disk_now true ≡ runs_on (put_calls gate kept) disk
-PutsFirst kept gate disk disk_now (Err faults.OutOfMemory) = Unit {0}
-PutsFirst kept gate disk disk_now (Err (faults.Exhausted next)) = disk_now ≡ disk
-PutsFirst kept gate disk disk_now (Err faults.Ended) = ⊥
+abbrev pub PutsFirst : {T : Type 0} → Stored → Seat → Option DiskState → Option DiskState → Result T NodeFault → Type 0
+PutsFirst kept seat disk disk_now (Ok value) = came_to disk_now false ≡ runs_on (put_calls seat kept) disk
+PutsFirst kept seat disk disk_now (Err faults.StoreFault) = came_to disk_now true ≡ runs_on (put_calls seat kept) disk
+PutsFirst kept seat disk disk_now (Err faults.OutOfMemory) = Unit {0}
+PutsFirst kept seat disk disk_now (Err (faults.Exhausted next)) = disk_now ≡ disk
+PutsFirst kept seat disk disk_now (Err faults.Ended) = ⊥

@@ -7,7 +7,7 @@ use Rattle.ff_ids.specs.declared.summary.RecordKey.{RecordKey}
 use Rattle.ff_ids.specs.Masks.{good_mask}
 use Rattle.lms_tree.specs.declared.key.PublicKey.{PublicKey}
 use Rattle.lms_tree.specs.declared.secret.Secret.{Secret}
-use Rattle.lms_tree.specs.Kinds.{leaf_count}
+use Rattle.lms_tree.specs.Leaves.{index_count}
 use Rattle.lms_tree.specs.Lms.{signature_of, verdict_of}
 use Rattle.records.specs.Signing.{signed_bytes}
 use Rattle.ring_order.specs.Hashed.{hashed_places}
@@ -42,7 +42,7 @@ setting_of group me authority key =
       group = group;
       me = me;
       authority = authority;
-      indexes = leaf_count key.tree;
+      indexes = index_count key;
       places = hashed_places group.tag group.t;
       verifies = λ public r. is_ok (verdict_of public (signed_bytes group.tag group.t r.body) r.signature);
       signature = λ index body. signature_of key index (signed_bytes group.tag group.t body);

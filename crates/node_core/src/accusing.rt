@@ -148,7 +148,7 @@ impl Node {
         ensures faults { D.faults disk.new ≡ counted (is_err result) (D.faults disk.old) }
         ensures cause { IfErr result (λ e. e ≡ faults.StoreFault) }
         ensures follows { (s : Setting) (es : List journal.Event) (os : List (ℕ × List ℕ)) (c : Call) (d : DiskState) → Plays s es os self.old c → c.ended ≡ false
-            → D.state disk.old ≡ Some d → self.new.telling.failed ≡ false → ComesTo s es os self.new (D.state disk.new) (is_err result) (fold (accuses_on storage s) (on_disk c d self.old.signer.gate) silent.items) }
+            → D.state disk.old ≡ Some d → self.new.telling.failed ≡ false → ComesTo s es os self.new (D.state disk.new) (is_err result) (fold (accuses_on storage s) (on_disk c d self.old.signer.seat) silent.items) }
     {
         for member in silent {
             self.accuse(alloc, disk, member)?;

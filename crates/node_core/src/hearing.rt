@@ -55,7 +55,7 @@ impl Node {
         ensures faults { D.faults disk.new ≡ counts_faults (is_err result) (D.faults disk.old) }
         ensures cause { IfErr result (λ e. e ≡ faults.StoreFault) }
         ensures follows { (s : Setting) (es : List journal.Event) (os : List (ℕ × List ℕ)) (c : Call) (d : DiskState) → Plays s es os self.old c → c.ended ≡ false
-            → D.state disk.old ≡ Some d → self.new.telling.failed ≡ false → ComesTo s es os self.new (D.state disk.new) (is_err result) (fold (handles_on storage s) (on_disk c d self.old.signer.gate) records.items) }
+            → D.state disk.old ≡ Some d → self.new.telling.failed ≡ false → ComesTo s es os self.new (D.state disk.new) (is_err result) (fold (handles_on storage s) (on_disk c d self.old.signer.seat) records.items) }
     {
         for rec in records {
             self.handle(alloc, disk, rec)?;

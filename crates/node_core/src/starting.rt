@@ -4,11 +4,12 @@ ghost use Rattle.std.specs.Prelude.{◌≡◌, ◌≤◌, ◌<◌, ◌^◌, ◌+
 ghost use Rattle.std.specs.List.{list_any};
 ghost use Rattle.ff_ids.specs.Masks.{good_mask};
 ghost use Rattle.ports.specs.Count.{counted};
-ghost use Rattle.lms_tree.specs.Kinds.{leaf_count};
+ghost use Rattle.lms_tree.specs.Leaves.{index_count};
 ghost use Rattle.lms_tree.specs.Lms.{public_of};
 ghost use Rattle.records.specs.declared.Record.{Record as Recorded};
 ghost use Rattle.records.specs.declared.Body.TheVariants as bodies;
 ghost use Rattle.epoch_store.specs.declared.Stored.{Stored};
+ghost use Rattle.epoch_store.specs.Seat.{next_seat};
 ghost use Rattle.node_rules.specs.Nodes.{Setting};
 ghost use Rattle.node_rules.specs.Calls.{Call, own_record, signs};
 ghost use Rattle.node_rules.specs.Replies.{first_mask as mask_at_first};
@@ -108,8 +109,8 @@ fn sign_first<D: Disk>(
     ensures signed { IfOk result (λ f. IsFirst signer.old signer.new group.now.t me f) }
     ensures cause { IfErr result (λ e. MayRefuse signer.old e) }
     ensures key { LivesOn (spent_first result) signer.old signer.new (D.moments disk.old) (D.moments disk.new) }
-    ensures puts { PutsFirst (kept_first group.now.t me signer.old.state) signer.old.gate (D.state disk.old) (D.state disk.new) result }
-    ensures gate { IfOk result (λ f. signer.new.gate ≡ signer.old.gate + 17) }
+    ensures puts { PutsFirst (kept_first group.now.t me signer.old.state) signer.old.seat (D.state disk.old) (D.state disk.new) result }
+    ensures seat { IfOk result (λ f. signer.new.seat ≡ next_seat signer.old.seat (kept_first group.now.t me signer.old.state)) }
 {
     let index = signer.state().next;
     let mask = first_mask(group, signer.state().mask);
@@ -162,12 +163,12 @@ fn make_ready<D: Disk>(
     ensures begins { IfOk result (λ r. (s : Setting) → s ≡ setting_of kit.group kit.me kit.authority signer.key
         → MayBegin s kit.nonce_seed (recs_of kit.certificates.items) signer.state r) }
     ensures cause { IfErr result (λ e. MayRefuse signer e) }
-    ensures free { IfOk result (λ r. signer.state.next < leaf_count signer.key.tree) }
+    ensures free { IfOk result (λ r. signer.state.next < index_count signer.key) }
     ensures closed { IfOk result (λ r. r.signer.closed ≡ false) }
     ensures key { IfOk result (λ r. LivesOn (record { index = r.index; body = bodies.Note r.note } ∷ []) signer r.signer (D.moments disk.old) (D.moments disk.new)) }
     ensures untold { IfErr result (λ e. SpendsUntold e signer (D.moments disk.old) (D.moments disk.new)) }
-    ensures puts { PutsFirst (kept_first kit.group.t kit.me signer.state) signer.gate (D.state disk.old) (D.state disk.new) result }
-    ensures gate { IfOk result (λ r. r.signer.gate ≡ signer.gate + 17) }
+    ensures puts { PutsFirst (kept_first kit.group.t kit.me signer.state) signer.seat (D.state disk.old) (D.state disk.new) result }
+    ensures seat { IfOk result (λ r. r.signer.seat ≡ next_seat signer.seat (kept_first kit.group.t kit.me signer.state)) }
 {
     let Kit {
         group,
@@ -297,8 +298,8 @@ impl Node {
         ensures cause { IfErr result (λ e. MayRefuse signer e) }
         ensures faults { D.faults disk.new ≡ counted (is_store_fault result) (D.faults disk.old) }
         ensures spends { StartSpends signer (D.moments disk.old) (D.moments disk.new) events.old events.new result }
-        ensures puts { PutsFirst (kept_first kit.group.t kit.me signer.state) signer.gate (D.state disk.old) (D.state disk.new) result }
-        ensures gate { IfOk result (λ node. node.signer.gate ≡ signer.gate + 17) }
+        ensures puts { PutsFirst (kept_first kit.group.t kit.me signer.state) signer.seat (D.state disk.old) (D.state disk.new) result }
+        ensures seat { IfOk result (λ node. node.signer.seat ≡ next_seat signer.seat (kept_first kit.group.t kit.me signer.state)) }
     {
         let ready = make_ready(alloc, kit, signer, disk)?;
         let before = events.events.len();

@@ -74,7 +74,7 @@ impl Node {
         ensures faults { D.faults disk.new ≡ counts_faults (is_err result) (D.faults disk.old) }
         ensures cause { IfErr result (λ e. e ≡ faults.StoreFault) }
         ensures follows { (s : Setting) (es : List journal.Event) (os : List (ℕ × List ℕ)) (c : Call) (d : DiskState) → Plays s es os self.old c → c.ended ≡ false
-            → D.state disk.old ≡ Some d → self.new.telling.failed ≡ false → ComesTo s es os self.new (D.state disk.new) (is_err result) (due_on storage s due.silent.items due.pings.items round (on_disk c d self.old.signer.gate)) }
+            → D.state disk.old ≡ Some d → self.new.telling.failed ≡ false → ComesTo s es os self.new (D.state disk.new) (is_err result) (due_on storage s due.silent.items due.pings.items round (on_disk c d self.old.signer.seat)) }
     {
         let Due { silent, pings } = due;
         self.accuse_all(alloc, disk, silent)?;
@@ -94,7 +94,7 @@ impl Node {
         ensures faults { D.faults disk.new ≡ counts_faults (is_err result) (D.faults disk.old) }
         ensures cause { IfErr result (λ e. e ≡ faults.StoreFault) }
         ensures follows { (s : Setting) (es : List journal.Event) (os : List (ℕ × List ℕ)) (n : RulesNode) (d : DiskState) → Plays s es os self.old (begun n)
-            → D.state disk.old ≡ Some d → self.new.telling.failed ≡ false → ComesTo s es os self.new (D.state disk.new) (is_err result) (ticked_on storage s n (record { disk = d; gate = self.old.signer.gate })) }
+            → D.state disk.old ≡ Some d → self.new.telling.failed ≡ false → ComesTo s es os self.new (D.state disk.new) (is_err result) (ticked_on storage s n (record { disk = d; seat = self.old.signer.seat })) }
     {
         self.live_tick();
         let now = self.membership.now();
@@ -138,7 +138,7 @@ impl Node {
         ensures faults { IfErr result (λ e. e ≡ faults.StoreFault → Rose (D.faults disk.old) (D.faults disk.new)) }
         ensures calm { OnOk result (D.faults disk.new ≡ D.faults disk.old) }
         ensures follows { (s : Setting) (n : RulesNode) (d : DiskState) → IsNode s self.old n → self.old.ended ≡ false → D.state disk.old ≡ Some d
-            → FollowsDisk s self.new (record { events = events.old; sent = out.old }) (record { events = events.new; sent = out.new }) (D.state disk.new) (ticked_on storage s n (record { disk = d; gate = self.old.signer.gate })) result }
+            → FollowsDisk s self.new (record { events = events.old; sent = out.old }) (record { events = events.new; sent = out.new }) (D.state disk.new) (ticked_on storage s n (record { disk = d; seat = self.old.signer.seat })) result }
     {
         if self.ended {
             return Err(NodeFault::Ended);

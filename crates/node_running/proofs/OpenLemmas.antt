@@ -1,12 +1,13 @@
 -- How a member's store is opened and its life begun.
 use Rattle.std.proofs.Common.{◌≡◌, ℕ, ◌≤◌, true, false, List, [], ◌∷◌, Result, Ok, Err, refl, sym, ap, subst, ◌∙◌, inl, inr, append-nil, arith}
+use Rattle.epoch_store.specs.declared.seat.Seat.{Seat}
 use Rattle.epoch_store.specs.declared.StoreError.{StoreError}
 use Rattle.epoch_store.specs.declared.StoreError.TheVariants as store
 use Rattle.epoch_store.specs.declared.Stored.{Stored}
 use Rattle.epoch_store.specs.Calls.{HoldsStore, IsNotTaken, OnRead, OpensAs, SettlesAs, StoreState, is_fault, same}
 use Rattle.epoch_store.specs.Store.{IsSettled, StoreAt}
 use Rattle.journal.specs.declared.event.Event as journal
-use Rattle.lms_tree.specs.Kinds.{leaf_count}
+use Rattle.lms_tree.specs.Leaves.{index_count}
 use Rattle.lms_tree.specs.Lms.{public_of}
 use Rattle.lms_tree.specs.declared.key.PublicKey.{PublicKey}
 use Rattle.lms_tree.specs.declared.secret.Secret.{Secret}
@@ -45,51 +46,51 @@ not-opened m tag old new told (store.OtherKey place byte) tag_is faults reads ta
     record { faults = faults; error = store.OtherKey place byte; is = refl; reads = subst (λ t. OpensAs t old.moments (failed (store.OtherKey place byte))) tag_is reads; settles = settles; moments = moments }
 not-opened m tag old new told store.OutOfMemory tag_is faults reads taken settles moments = inl (record { faults = faults; moments = moments })
 
-held : (tag : List ℕ) (st : Stored) (gate : ℕ) (old new : List Moment) → SettlesAs same old new → IsSettled tag st gate new → HoldsStore tag st gate old
-held tag st gate [] new settles is = tt
-held tag st gate (was ∷ older) [] settles is = absurd settles
-held tag st gate (was ∷ older) (now ∷ past) settles is = subst (λ (m : Moment). StoreAt tag m.image st gate) settles is.1
+held : (tag : List ℕ) (st : Stored) (seat : Seat) (old new : List Moment) → SettlesAs same old new → IsSettled tag st seat new → HoldsStore tag st seat old
+held tag st seat [] new settles is = tt
+held tag st seat (was ∷ older) [] settles is = absurd settles
+held tag st seat (was ∷ older) (now ∷ past) settles is = subst (λ (m : Moment). StoreAt tag m.image st seat) settles is.1
 
 -- A store was opened.
 pub record Opened (m : Member) (st : StoreState) (old mid : OfDisk) : Type 0 where
   pub faults : mid.faults ≡ old.faults
   pub settles : SettlesAs same old.moments mid.moments
-  pub settled : IsSettled (tag_of m) st.state st.gate mid.moments
+  pub settled : IsSettled (tag_of m) st.state st.seat mid.moments
   pub moments : Fails stays old.moments mid.moments
 
-pub opened : (m : Member) (tag : List ℕ) (st : StoreState) (old mid : OfDisk) → tag ≡ tag_of m → mid.faults ≡ old.faults → SettlesAs same old.moments mid.moments → IsSettled tag st.state st.gate mid.moments → Fails stays old.moments mid.moments → Opened m st old mid
+pub opened : (m : Member) (tag : List ℕ) (st : StoreState) (old mid : OfDisk) → tag ≡ tag_of m → mid.faults ≡ old.faults → SettlesAs same old.moments mid.moments → IsSettled tag st.state st.seat mid.moments → Fails stays old.moments mid.moments → Opened m st old mid
 opened m tag st old mid tag_is faults settles is moments =
-    record { faults = faults; settles = settles; settled = subst (λ t. IsSettled t st.state st.gate mid.moments) tag_is is; moments = moments }
+    record { faults = faults; settles = settles; settled = subst (λ t. IsSettled t st.state st.seat mid.moments) tag_is is; moments = moments }
 
 pub found : (m : Member) (st : StoreState) (old mid : OfDisk) → Opened m st old mid → IsFound m st.state old
-found m st old mid h = (st.gate, held (tag_of m) st.state st.gate old.moments mid.moments h.settles h.settled)
+found m st old mid h = (st.seat, held (tag_of m) st.state st.seat old.moments mid.moments h.settles h.settled)
 
 -- nothing is spent as the store is opened
 ends-opened : (m : Member) (st : StoreState) (old mid : OfDisk) → Opened m st old mid → Ends m [] old mid
 ends-opened m st old mid h = λ before spent ends.
     subst (λ (xs : List Spent). EndsNow (tag_of m) before xs mid.moments) (sym (append-nil spent)) (kept_by_opening (tag_of m) before spent old.moments mid.moments ends h.moments).1
 
-pub used-up : (m : Member) (st : StoreState) (old mid : OfDisk) (told : List journal.Event) (next : ℕ) → Opened m st old mid → next ≡ st.state.next → leaf_count m.own.key.tree ≤ next → Begins m old mid told (Err (halt.Exhausted next))
+pub used-up : (m : Member) (st : StoreState) (old mid : OfDisk) (told : List journal.Event) (next : ℕ) → Opened m st old mid → next ≡ st.state.next → index_count m.own.key ≤ next → Begins m old mid told (Err (halt.Exhausted next))
 used-up m st old mid told next h is gone = record { faults = h.faults; stored = st.state; found = found m st old mid h; next_is = is; gone = gone; ends = ends-opened m st old mid h }
 
 -- ## The life
 
 -- the signer over the store
 abbrev pub signer_of : Member → StoreState → SignerState
-signer_of m st = record { group = m.group; key = m.own.key; leaf = st.state.next; state = st.state; gate = st.gate; closed = false }
+signer_of m st = record { group = m.group; key = m.own.key; leaf = st.state.next; state = st.state; seat = st.seat; closed = false }
 
 -- where crashes end the lives so, the signer's life goes on from there
 abbrev pub Begun : Member → StoreState → List Moment → Type 0
-Begun m st mid = (tag before : List ℕ) (spent : List Spent) (moments : List Moment) → IsSettled tag st.state st.gate moments → EndsNow tag before spent moments → IsLiving tag before spent (signer_of m st) moments
+Begun m st mid = (tag before : List ℕ) (spent : List Spent) (moments : List Moment) → IsSettled tag st.state st.seat moments → EndsNow tag before spent moments → IsLiving tag before spent (signer_of m st) moments
 
 living : (m : Member) (st : StoreState) (old mid : OfDisk) → Opened m st old mid → Begun m st mid.moments → (before : List ℕ) (spent : List Spent) → EndsNow (tag_of m) before spent old.moments → IsLiving (tag_of m) before spent (signer_of m st) mid.moments
 living m st old mid h begun before spent ends = begun (tag_of m) before spent mid.moments h.settled (kept_by_opening (tag_of m) before spent old.moments mid.moments ends h.moments).1
 
-fresh-at : (m : Member) (st : StoreState) (old mid : List Moment) → Tells old → SettlesAs same old mid → IsSettled (tag_of m) st.state st.gate mid → Begun m st mid → Fresh m st.state [] (signer_of m st) mid
+fresh-at : (m : Member) (st : StoreState) (old mid : List Moment) → Tells old → SettlesAs same old mid → IsSettled (tag_of m) st.state st.seat mid → Begun m st mid → Fresh m st.state [] (signer_of m st) mid
 fresh-at m st [] mid told settles is begun = absurd told
 fresh-at m st (was ∷ older) [] told settles is begun = absurd settles
 fresh-at m st (was ∷ older) (now ∷ past) told settles is begun =
-    (now.image, (st.gate, is.1), begun (tag_of m) now.image [] (now ∷ past) is (nothing_spent (tag_of m) now past is.0))
+    (now.image, (st.seat, is.1), begun (tag_of m) now.image [] (now ∷ past) is (nothing_spent (tag_of m) now past is.0))
 
 pub started-so : (m : Member) (st : StoreState) (kept : Kept) (told : List journal.Event) (old mid new : OfDisk) → Opened m st old mid → Begun m st mid.moments → new.faults ≡ mid.faults
     → Starts (setting_for m) (nonce_seed m.own.secret st.state.next) (recs_of m.certificates.items) st.state kept [] told
@@ -145,13 +146,9 @@ not-started m st told old mid new (node.Exhausted next) h begun faults cause spe
     }
 not-started m st told old mid new node.Ended h begun faults cause spends = absurd cause
 
-pub tree-of : (k : Secret) (p : PublicKey) → p ≡ public_of k → p.tree ≡ k.tree
-unfolding public_of
-tree-of k p e = ap (λ (q : PublicKey). q.tree) e
-
 -- where crashes end the lives so, that signer's life goes on from there
 abbrev pub BegunBy : SignerState → StoreState → Type 0
-BegunBy signer st = (tag before : List ℕ) (spent : List Spent) (moments : List Moment) → IsSettled tag st.state st.gate moments → EndsNow tag before spent moments → IsLiving tag before spent signer moments
+BegunBy signer st = (tag before : List ℕ) (spent : List Spent) (moments : List Moment) → IsSettled tag st.state st.seat moments → EndsNow tag before spent moments → IsLiving tag before spent signer moments
 
 begun-as : (m : Member) (st : StoreState) (mid : List Moment) (signer : SignerState) → signer ≡ signer_of m st → BegunBy signer st → Begun m st mid
 begun-as m st mid signer is begins = λ tag before spent moments settled ends. subst (λ x. IsLiving tag before spent x moments) is (begins tag before spent moments settled ends)

@@ -3,6 +3,7 @@ use Rattle.std.proofs.Common.{◌≡◌, ℕ, ◌+◌, ◌<◌, ◌≤◌, true,
 use Rattle.std.specs.Prelude.{IfErr, OnOk}
 use Rattle.std.specs.Io.KnownBytes.{Appends}
 use Rattle.std.specs.List.{AllByRecursion}
+use Rattle.epoch_store.specs.declared.seat.Seat.{Seat}
 use Rattle.epoch_store.specs.declared.Stored.{Stored}
 use Rattle.epoch_store.specs.Store.{IsSettled, StoreOf}
 use Rattle.ff_ids.specs.Steps.{Report}
@@ -129,11 +130,11 @@ has-run m feed stored node events was now mid b l =
       given = l.given;
       bound = life-bound m stored feed;
       faults = l.faults ∙ b.faults;
-      gate = l.kept.signer.gate;
+      seat = l.kept.signer.seat;
       left = λ tells.
           let f = b.fresh tells in
           let living = l.key.lives (tag_of m) f.0 (spent_told (start_of m stored).told) f.2 in
-          subst (λ (k : Stored). IsSettled (tag_of m) k l.kept.signer.gate now.disk.moments) l.is.stored (living.settled (l.unclosed ∙ b.unclosed));
+          subst (λ (k : Stored). IsSettled (tag_of m) k l.kept.signer.seat now.disk.moments) l.is.stored (living.settled (l.unclosed ∙ b.unclosed));
       kept = life-kept m stored feed;
       ends = λ before spent ends.
           let living = l.key.lives (tag_of m) before (spent ++ spent_told (start_of m stored).told) (b.lives before spent ends) in

@@ -1,11 +1,12 @@
 -- How the store of a member is opened and a life begun: what comes of the disk, by the answer.
 use Rattle.std.specs.Prelude.{◌≡◌, ℕ, ◌<◌, ◌≤◌, ◌⊎◌, false, List, [], ◌∷◌, ◌++◌, Result, Ok, Err}
+use Rattle.epoch_store.specs.declared.seat.Seat.{Seat}
 use Rattle.epoch_store.specs.declared.StoreError.{StoreError}
 use Rattle.epoch_store.specs.declared.Stored.{Stored}
 use Rattle.epoch_store.specs.Calls.{HoldsStore, OpensAs, SettlesAs, same}
 use Rattle.epoch_store.specs.Store.{StoreOf}
 use Rattle.journal.specs.declared.event.Event as journal
-use Rattle.lms_tree.specs.Kinds.{leaf_count}
+use Rattle.lms_tree.specs.Leaves.{index_count}
 use Rattle.lms_tree.specs.Lms.{public_of}
 use Rattle.ports.specs.Count.{next_count}
 use Rattle.ports.specs.Disk.{Fails, Moment, stays}
@@ -45,7 +46,7 @@ of_disk faults moments = record { faults = faults; moments = moments }
 
 -- A store of the member's key with this state is found on the disk.
 abbrev pub IsFound : Member → Stored → OfDisk → Type 0
-IsFound m stored old = (gate : ℕ) × HoldsStore (tag_of m) stored gate old.moments
+IsFound m stored old = (seat : Seat) × HoldsStore (tag_of m) stored seat old.moments
 
 -- The disk failed as the store was opened: each crash leaves what it would have left before.
 pub record OpeningFails (old new : OfDisk) : Type 0 where
@@ -72,7 +73,7 @@ pub record IsUsedUp (m : Member) (next : ℕ) (old new : OfDisk) : Type 0 where
   pub stored : Stored
   pub found : IsFound m stored old
   pub next_is : next ≡ stored.next
-  pub gone : leaf_count m.own.key.tree ≤ next
+  pub gone : index_count m.own.key ≤ next
   pub ends : Ends m [] old new
 
 -- Memory was refused as the store was opened, or before.
@@ -85,7 +86,7 @@ pub record StartFails (m : Member) (old new : OfDisk) : Type 0 where
   pub faults : new.faults ≡ next_count old.faults
   pub stored : Stored
   pub found : IsFound m stored old
-  pub left : stored.next < leaf_count m.own.key.tree
+  pub left : stored.next < index_count m.own.key
   pub ends : Ends m [] old new
 
 -- the disk tells its moments

@@ -1,6 +1,7 @@
 -- What the run of a member took, wrote, did and left, by its answer.
 use Rattle.std.specs.Prelude.{◌≡◌, ℕ, Bool, false, ◌⊎◌, List, ◌++◌, Some, Result, Ok, Err}
 use Rattle.std.specs.Io.KnownBytes.{Appends}
+use Rattle.epoch_store.specs.declared.seat.Seat.{Seat}
 use Rattle.epoch_store.specs.declared.Stored.{Stored}
 use Rattle.epoch_store.specs.Store.{IsSettled}
 use Rattle.line_text.specs.declared.bad_word.BadWord.{BadWord}
@@ -64,8 +65,8 @@ pub record HasRun (m : Member) (feed : Feed) (was now : Around) : Type 0 where
   pub given : now.link ≡ Some (life_in m stored feed).link
   pub bound : (life_in m stored feed).link.bound ≡ Some (own_port m)
   pub faults : now.disk.faults ≡ was.disk.faults
-  pub gate : ℕ
-  pub left : Tells was.disk.moments → IsSettled (tag_of m) (life_in m stored feed).node.stored gate now.disk.moments
+  pub seat : Seat
+  pub left : Tells was.disk.moments → IsSettled (tag_of m) (life_in m stored feed).node.stored seat now.disk.moments
   pub kept : (life_in m stored feed).node.stored ≡ kept_behind stored (spent_told (start_of m stored).told ++ (life_in m stored feed).spent)
   pub ends : Ends m (spent_told (start_of m stored).told ++ (life_in m stored feed).spent) was.disk now.disk
   pub once : Tells was.disk.moments → IsSpentFrom stored (spent_told (start_of m stored).told ++ (life_in m stored feed).spent)

@@ -46,7 +46,7 @@ pub fn begin<D: Disk>(
         Err(error) => return Err(NodeHalt::from(error)),
     };
     let next = store.state().next;
-    if next > public.tree.leaf_count() {
+    if next > tree.index_count() {
         return Err(NodeHalt::Exhausted { next });
     }
     let kit = Kit {

@@ -3,6 +3,7 @@ use Rattle.std.proofs.Common.{◌≡◌, ℕ, ◌⊎◌, inl, inr, true, false, 
 use Rattle.records.specs.declared.Body.{Body}
 use Rattle.records.specs.Signing.{CheckedRecord}
 use Rattle.epoch_store.specs.declared.Stored.{Stored}
+use Rattle.epoch_store.specs.declared.seat.Seat.{Seat}
 use Rattle.epoch_store.specs.Store.{StoreOf, IsSettled, LeavesEither}
 use Rattle.epoch_store.proofs.PutLemmas.{settled_leaves_state}
 use Rattle.ports.specs.Disk.{Moment, Leaves, Since, IsAmong, settled}
@@ -58,7 +59,7 @@ ends_with tag before c spent s moments body living running next file =
     lived_with tag before c spent living.earlier living.opened living.bodies living.are living.found living.may_come living.spent_is (subst Q state left)
 
 -- at each moment of a call, a crash ends the life with what was spent before it
-pub any_life : (tag before : List ℕ) (spent : List Spent) (s : SignerState) (body : Body) (result : Result CheckedRecord SignFault) (older newer : List Moment) → AnswersBy s result → MayComeNext s.state body → ((t : List ℕ) → IsSettled t s.state s.gate older → Since (LeavesEither t s.state (stored_after s.state body)) older newer) → OnIdle result (newer ≡ older) → IsLiving tag before spent s older → Since (EndsLives tag before spent) older newer
+pub any_life : (tag before : List ℕ) (spent : List Spent) (s : SignerState) (body : Body) (result : Result CheckedRecord SignFault) (older newer : List Moment) → AnswersBy s result → MayComeNext s.state body → ((t : List ℕ) → IsSettled t s.state s.seat older → Since (LeavesEither t s.state (stored_after s.state body)) older newer) → OnIdle result (newer ≡ older) → IsLiving tag before spent s older → Since (EndsLives tag before spent) older newer
 any_life tag before spent s body (Ok value) older newer answers next each idle living =
     Since-weaken (LeavesEither tag s.state (stored_after s.state body)) (EndsLives tag before spent) older newer (λ m either c leaves. ends_with tag before c spent s older body living answers.0 next (either c leaves)) (each tag (living.settled answers.0))
 any_life tag before spent s body (Err OutOfMemory) older newer answers next each idle living = rw idle (Since-same (EndsLives tag before spent) older)
@@ -77,22 +78,22 @@ newest tag before spent [] newer now since = absurd now
 newest tag before spent (now ∷ past) [] at since = none_left now past since.more since.grew
 newest tag before spent (now ∷ past) (m ∷ later) at since = newest_has (EndsLives tag before spent) now m past later at since
 
-settled_ends : (tag before : List ℕ) (spent : List Spent) (earlier : List PastLife) (opened : Stored) (bodies : List Body) (state : Stored) (gate : ℕ) (now : Moment) (past : List Moment) → AreLives tag before earlier → StoreOf tag (left_by before earlier) opened → MayCome opened bodies → spent ≡ all_spent earlier ++ spent_by opened bodies → state ≡ state_after opened bodies → IsSettled tag state gate (now ∷ past) → EndsLives tag before spent now
-settled_ends tag before spent earlier opened bodies state gate now past are found may is at settled = λ c leaves.
+settled_ends : (tag before : List ℕ) (spent : List Spent) (earlier : List PastLife) (opened : Stored) (bodies : List Body) (state : Stored) (seat : Seat) (now : Moment) (past : List Moment) → AreLives tag before earlier → StoreOf tag (left_by before earlier) opened → MayCome opened bodies → spent ≡ all_spent earlier ++ spent_by opened bodies → state ≡ state_after opened bodies → IsSettled tag state seat (now ∷ past) → EndsLives tag before spent now
+settled_ends tag before spent earlier opened bodies state seat now past are found may is at settled = λ c leaves.
     let Q : Stored → Type 0 = λ z. IsLeft tag c z in
-    lived_with tag before c spent earlier opened bodies are found may is (subst Q at (inl (settled_leaves_state tag state gate (now ∷ past) settled c leaves)))
+    lived_with tag before c spent earlier opened bodies are found may is (subst Q at (inl (settled_leaves_state tag state seat (now ∷ past) settled c leaves)))
 
 -- moments go on from some moment
 told : (P : Moment → Type 0) (tag before : List ℕ) (spent : List Spent) (older newer : List Moment) → EndsNow tag before spent older → Since P older newer → newer ≡ [] → ⊥
 told P tag before spent [] newer at since none = at
 told P tag before spent (now ∷ past) newer at since none = none_left now past since.more (sym none ∙ since.grew)
 
-now_settled : (tag before : List ℕ) (spent : List Spent) (earlier : List PastLife) (opened : Stored) (bodies : List Body) (state : Stored) (gate : ℕ) (moments : List Moment) → (moments ≡ [] → ⊥) → AreLives tag before earlier → StoreOf tag (left_by before earlier) opened → MayCome opened bodies → spent ≡ all_spent earlier ++ spent_by opened bodies → state ≡ state_after opened bodies → IsSettled tag state gate moments → EndsNow tag before spent moments
-now_settled tag before spent earlier opened bodies state gate [] some are found may is at settled = some refl
-now_settled tag before spent earlier opened bodies state gate (now ∷ past) some are found may is at settled = settled_ends tag before spent earlier opened bodies state gate now past are found may is at settled
+now_settled : (tag before : List ℕ) (spent : List Spent) (earlier : List PastLife) (opened : Stored) (bodies : List Body) (state : Stored) (seat : Seat) (moments : List Moment) → (moments ≡ [] → ⊥) → AreLives tag before earlier → StoreOf tag (left_by before earlier) opened → MayCome opened bodies → spent ≡ all_spent earlier ++ spent_by opened bodies → state ≡ state_after opened bodies → IsSettled tag state seat moments → EndsNow tag before spent moments
+now_settled tag before spent earlier opened bodies state seat [] some are found may is at settled = some refl
+now_settled tag before spent earlier opened bodies state seat (now ∷ past) some are found may is at settled = settled_ends tag before spent earlier opened bodies state seat now past are found may is at settled
 
 -- the life goes on, with what was handed out spent too
-pub lives_on : (tag before : List ℕ) (spent : List Spent) (s later : SignerState) (body : Body) (result : Result CheckedRecord SignFault) (older newer : List Moment) → AnswersBy s result → MayComeNext s.state body → later ≡ after_signing s body result → ((t : List ℕ) → IsSettled t s.state s.gate older → Since (LeavesEither t s.state (stored_after s.state body)) older newer) → OnOk result ((t : List ℕ) → IsSettled t s.state s.gate older → IsSettled t later.state later.gate newer) → OnIdle result (newer ≡ older) → IsLiving tag before spent s older → IsLiving tag before (spent ++ spent_in s body result) later newer
+pub lives_on : (tag before : List ℕ) (spent : List Spent) (s later : SignerState) (body : Body) (result : Result CheckedRecord SignFault) (older newer : List Moment) → AnswersBy s result → MayComeNext s.state body → later ≡ after_signing s body result → ((t : List ℕ) → IsSettled t s.state s.seat older → Since (LeavesEither t s.state (stored_after s.state body)) older newer) → OnOk result ((t : List ℕ) → IsSettled t s.state s.seat older → IsSettled t later.state later.seat newer) → OnIdle result (newer ≡ older) → IsLiving tag before spent s older → IsLiving tag before (spent ++ spent_in s body result) later newer
 lives_on tag before spent s later body (Ok value) older newer answers next after each settled idle living =
     let state = living.state answers.0 in
     let P : Stored → Type 0 = λ z. MayComeNext z body in
@@ -117,7 +118,7 @@ lives_on tag before spent s later body (Ok value) older newer answers next after
       spent_is = spent_now;
       state = λ running. state_now;
       settled = λ running. now;
-      ends = now_settled tag before _ living.earlier living.opened (living.bodies ++ body ∷ []) later.state later.gate newer
+      ends = now_settled tag before _ living.earlier living.opened (living.bodies ++ body ∷ []) later.state later.seat newer
           (told (LeavesEither tag s.state (stored_after s.state body)) tag before spent older newer living.ends (each tag (living.settled answers.0)))
           living.are living.found may spent_now state_now now;
     }
@@ -141,7 +142,7 @@ lives_on tag before spent s later body (Err StoreFault) older newer answers next
     })
 
 -- the last life begins where a settled store was opened
-pub begins_life : (tag before : List ℕ) (spent : List Spent) (s : SignerState) (moments : List Moment) → IsSettled tag s.state s.gate moments → EndsNow tag before spent moments → IsLiving tag before spent s moments
+pub begins_life : (tag before : List ℕ) (spent : List Spent) (s : SignerState) (moments : List Moment) → IsSettled tag s.state s.seat moments → EndsNow tag before spent moments → IsLiving tag before spent s moments
 begins_life tag before spent s [] at ends = absurd ends
 begins_life tag before spent s (now ∷ past) at ends =
     let P : Moment → Type 0 = λ m. Leaves m now.image in
@@ -152,7 +153,7 @@ begins_life tag before spent s (now ∷ past) at ends =
       opened = s.state;
       bodies = [];
       are = lived.are;
-      found = subst Q lived.left (s.gate, at.1);
+      found = subst Q lived.left (s.seat, at.1);
       may_come = tt;
       spent_is = lived.spent_is ∙ sym (append-nil (all_spent lived.lives));
       state = λ running. refl;

@@ -118,7 +118,7 @@ pub record IsLiving (tag before : List ℕ) (spent : List Spent) (s : SignerStat
   pub may_come : MayCome opened bodies
   pub spent_is : spent ≡ all_spent earlier ++ spent_by opened bodies
   pub state : s.closed ≡ false → s.state ≡ state_after opened bodies
-  pub settled : s.closed ≡ false → IsSettled tag s.state s.gate moments
+  pub settled : s.closed ≡ false → IsSettled tag s.state s.seat moments
   pub ends : EndsNow tag before spent moments
 
 -- what a call spent, by its answer

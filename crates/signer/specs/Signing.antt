@@ -4,23 +4,25 @@ use Rattle.ff_ids.specs.declared.TheConstants.{MAX_RINGS}
 use Rattle.ff_ids.specs.declared.Group.{Group}
 use Rattle.ff_ids.specs.declared.Mask.{Mask}
 use Rattle.lms_tree.specs.declared.secret.Secret.{Secret}
-use Rattle.lms_tree.specs.Kinds.{leaf_count}
+use Rattle.lms_tree.specs.Leaves.{index_count}
 use Rattle.lms_tree.specs.Lms.{public_of, signature_of}
 use Rattle.records.specs.declared.Body.{Body}
 use Rattle.records.specs.declared.Body.TheVariants.{Certificate, Note, Accusation}
 use Rattle.records.specs.Signing.{signed_bytes, CheckedRecord}
 use Rattle.epoch_store.specs.declared.Stored.{Stored}
+use Rattle.epoch_store.specs.declared.seat.Seat.{Seat}
+use Rattle.epoch_store.specs.Seat.{next_seat}
 use Rattle.signer.specs.declared.SignFault.{SignFault}
 use Rattle.signer.specs.declared.SignFault.TheVariants.{OutOfMemory, Closed, Exhausted, StoreFault}
 
--- what a signer keeps: its group and key, the number of the next leaf, what its store keeps and where the
--- store's closed gate is, and whether the disk has failed under it
+-- what a signer keeps: its group and key, the number of the next leaf, what its store keeps and the seat of the
+-- store's next entry, and whether the disk has failed under it
 pub record SignerState : Type 0 where
   pub group : Group
   pub key : Secret
   pub leaf : ℕ
   pub state : Stored
-  pub gate : ℕ
+  pub seat : Seat
   pub closed : Bool
 
 -- what the store keeps once the body is signed: the next index is spent, and a note is the newest
@@ -41,11 +43,11 @@ next_note s member mask = Note (record { member = member; epoch = s.epoch + 1; m
 
 -- the answer of a signature, in this state: exactly one of these may come, but for want of memory
 abbrev pub AnswersBy : {T : Type 0} → SignerState → Result T SignFault → Type 0
-AnswersBy s (Ok value) = (s.closed ≡ false) × (s.state.next < leaf_count s.key.tree)
+AnswersBy s (Ok value) = (s.closed ≡ false) × (s.state.next < index_count s.key)
 AnswersBy s (Err OutOfMemory) = Unit {0}
 AnswersBy s (Err Closed) = s.closed ≡ true
-AnswersBy s (Err (Exhausted next)) = (s.closed ≡ false) × (next ≡ s.state.next) × (next ≡ leaf_count s.key.tree)
-AnswersBy s (Err StoreFault) = (s.closed ≡ false) × (s.state.next < leaf_count s.key.tree)
+AnswersBy s (Err (Exhausted next)) = (s.closed ≡ false) × (next ≡ s.state.next) × (next ≡ index_count s.key)
+AnswersBy s (Err StoreFault) = (s.closed ≡ false) × (s.state.next < index_count s.key)
 
 -- the disk failed
 abbrev pub is_store_fault : {T : Type 0} → Result T SignFault → Bool
@@ -57,7 +59,9 @@ is_store_fault (Err StoreFault) = true
 
 -- the signer after that answer to the body: a leaf is spent where it is signed, and nowhere else
 abbrev pub after_signing : {T : Type 0} → SignerState → Body → Result T SignFault → SignerState
-after_signing s body (Ok value) = record s { leaf = s.leaf + 1; state = stored_after s.state body; gate = s.gate + 17 }
+after_signing s body (Ok value) =
+    let kept = stored_after s.state body in
+    record s { leaf = s.leaf + 1; state = kept; seat = next_seat s.seat kept }
 after_signing s body (Err OutOfMemory) = s
 after_signing s body (Err Closed) = s
 after_signing s body (Err (Exhausted next)) = s

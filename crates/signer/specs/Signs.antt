@@ -38,11 +38,11 @@ pub record Signs (s later : SignerState) (body : Body) (result : Result CheckedR
   pub answers : AnswersBy s result
   pub signed : IfOk result (λ rec. rec ≡ signed_record s body)
   pub after : later ≡ after_signing s body result
-  pub calls : MakesCalls result (put_calls s.gate (stored_after s.state body)) made made_now
-  pub follows : MakesFrom result (put_calls s.gate (stored_after s.state body)) disk disk_now
+  pub calls : MakesCalls result (put_calls s.seat (stored_after s.state body)) made made_now
+  pub follows : MakesFrom result (put_calls s.seat (stored_after s.state body)) disk disk_now
   pub same : OnIdle result (newer ≡ older)
-  pub any_moment : (tag : List ℕ) → IsSettled tag s.state s.gate older → Since (LeavesEither tag s.state (stored_after s.state body)) older newer
-  pub settled : OnOk result ((tag : List ℕ) → IsSettled tag s.state s.gate older → IsSettled tag later.state later.gate newer)
-  pub leaves : OnOk result ((tag : List ℕ) → IsSettled tag s.state s.gate older → LeavesState tag later.state newer)
+  pub any_moment : (tag : List ℕ) → IsSettled tag s.state s.seat older → Since (LeavesEither tag s.state (stored_after s.state body)) older newer
+  pub settled : OnOk result ((tag : List ℕ) → IsSettled tag s.state s.seat older → IsSettled tag later.state later.seat newer)
+  pub leaves : OnOk result ((tag : List ℕ) → IsSettled tag s.state s.seat older → LeavesState tag later.state newer)
   pub lives : (tag before : List ℕ) (spent : List Spent) → IsLiving tag before spent s older → IsLiving tag before (spent ++ spent_in s body result) later newer
   pub any_life : (tag before : List ℕ) (spent : List Spent) → IsLiving tag before spent s older → Since (EndsLives tag before spent) older newer

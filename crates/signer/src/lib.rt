@@ -7,7 +7,8 @@ ghost use Rattle.std.specs.Prelude.{◌≡◌, ℕ, ◌+◌, ◌<◌, ◌≤◌,
 ghost use Rattle.ff_ids.specs.declared.TheConstants.{MAX_RINGS};
 ghost use Rattle.ports.specs.Count.{counted};
 ghost use Rattle.ports.specs.Disk.{Moment, Since};
-ghost use Rattle.lms_tree.specs.Kinds.{leaf_count as leaf_count_of, signature_length};
+ghost use Rattle.lms_tree.specs.Kinds.{signature_length};
+ghost use Rattle.lms_tree.specs.Leaves.{index_count};
 ghost use Rattle.lms_tree.specs.Lms.{public_of};
 ghost use Rattle.records.specs.Spelling.{HasPort};
 ghost use Rattle.records.specs.declared.Body.TheVariants.{Certificate, Accusation};
@@ -23,7 +24,7 @@ pub mod laws;
 use epoch_store::{Store, Stored};
 use ff_ids::{AccBody, Epoch, Group, Mask, MemberId, NoteBody};
 use fields::Bytes;
-use lms_tree::{Leaves, Tree, TreeKind};
+use lms_tree::{Leaves, Tree};
 use ports::Disk;
 use records::{Body, CertBody, Checked, Record, signed_bytes};
 use std::alloc::Global;
@@ -58,7 +59,7 @@ pub struct Signer {
 
 impl Model for Signer {
     ghost use Rattle.std.specs.Prelude.{◌≡◌, ◌≤◌, false};
-    ghost use Rattle.lms_tree.specs.Kinds.{leaf_count};
+    ghost use Rattle.lms_tree.specs.Leaves.{index_count};
     ghost use Rattle.signer.specs.Signing.{SignerState};
 
     ghost Value = { SignerState };
@@ -68,12 +69,12 @@ impl Model for Signer {
       key = s.tree;
       leaf = s.leaves.next;
       state = s.store.state;
-      gate = s.store.gate;
+      seat = s.store.seat;
       closed = s.closed;
     } };
 
     ghost invariant = { λ s. (s.store.failed ≡ s.closed) × (s.leaves.key ≡ s.tree) × (s.leaves.next ≡ s.store.state.next)
-        × (s.store.state.next ≤ leaf_count s.tree.tree) };
+        × (s.store.state.next ≤ index_count s.tree) };
 }
 
 /// So many zeros.
@@ -109,20 +110,20 @@ fn stored_after(state: Stored, body: &Body) -> Stored
 
 impl Signer {
     /// A signer with the tree and the leaves of one key and its store, on which no put has failed. The leaves are
-    /// not past the store's next index, and skip to it; the key has that many.
+    /// not past the store's next index, and skip to it; the key has that many indexes.
     pub fn open(group: Group, tree: Tree, leaves: Leaves, store: Store) -> Signer
         requires key { leaves.key ≡ tree }
         requires runs { store.failed ≡ false }
         requires behind { leaves.next ≤ store.state.next }
-        requires within { store.state.next ≤ leaf_count_of tree.tree }
-        ensures begins { (tag before : List ℕ) (spent : List Spent) (moments : List Moment) → IsSettled tag store.state store.gate moments
+        requires within { store.state.next ≤ index_count tree }
+        ensures begins { (tag before : List ℕ) (spent : List Spent) (moments : List Moment) → IsSettled tag store.state store.seat moments
             → EndsNow tag before spent moments → IsLiving tag before spent result moments }
         ensures value { result ≡ record {
           group = group;
           key = tree;
           leaf = store.state.next;
           state = store.state;
-          gate = store.gate;
+          seat = store.seat;
           closed = false;
         } }
     {
@@ -230,14 +231,14 @@ impl Signer {
         ensures answers { AnswersBy self.old result }
         ensures signed { IfOk result (λ rec. rec ≡ signed_record self.old body) }
         ensures after { self.new ≡ after_signing self.old body result }
-        ensures calls { MakesCalls result (put_calls self.old.gate (stored_after_it self.old.state body)) (D.calls disk.old) (D.calls disk.new) }
-        ensures follows { MakesFrom result (put_calls self.old.gate (stored_after_it self.old.state body)) (D.state disk.old) (D.state disk.new) }
+        ensures calls { MakesCalls result (put_calls self.old.seat (stored_after_it self.old.state body)) (D.calls disk.old) (D.calls disk.new) }
+        ensures follows { MakesFrom result (put_calls self.old.seat (stored_after_it self.old.state body)) (D.state disk.old) (D.state disk.new) }
         ensures same { OnIdle result (D.moments disk.new ≡ D.moments disk.old) }
-        ensures any_moment { (tag : List ℕ) → IsSettled tag self.old.state self.old.gate (D.moments disk.old)
+        ensures any_moment { (tag : List ℕ) → IsSettled tag self.old.state self.old.seat (D.moments disk.old)
             → Since (LeavesEither tag self.old.state (stored_after_it self.old.state body)) (D.moments disk.old) (D.moments disk.new) }
-        ensures settled { OnOk result ((tag : List ℕ) → IsSettled tag self.old.state self.old.gate (D.moments disk.old)
-            → IsSettled tag self.new.state self.new.gate (D.moments disk.new)) }
-        ensures leaves { OnOk result ((tag : List ℕ) → IsSettled tag self.old.state self.old.gate (D.moments disk.old)
+        ensures settled { OnOk result ((tag : List ℕ) → IsSettled tag self.old.state self.old.seat (D.moments disk.old)
+            → IsSettled tag self.new.state self.new.seat (D.moments disk.new)) }
+        ensures leaves { OnOk result ((tag : List ℕ) → IsSettled tag self.old.state self.old.seat (D.moments disk.old)
             → LeavesState tag self.new.state (D.moments disk.new)) }
     {
         let key = self.tree.public();
@@ -247,7 +248,7 @@ impl Signer {
             return Err(SignFault::Closed);
         }
         let state = self.store.state();
-        if state.next == leaf_count(key.tree) {
+        if state.next == self.tree.index_count() {
             return Err(SignFault::Exhausted { next: state.next });
         }
         match self.store.put(disk, stored_after(state, &body)) {
@@ -260,14 +261,6 @@ impl Signer {
     }
 }
 
-/// The number of leaves of a tree.
-fn leaf_count(kind: TreeKind) -> u32
-    ensures value { result ≡ leaf_count_of kind }
-    ensures small { result ≤ 32768 }
-{
-    kind.leaf_count()
-}
-
 /// Takes the next leaf, which there is, and signs the body with it.
 fn spend_leaf(
     tree: &Tree,
@@ -277,7 +270,7 @@ fn spend_leaf(
     mut signature: Vec<u8>,
 ) -> Checked
     requires key { leaves.old.key ≡ tree.now }
-    requires left { leaves.old.next < leaf_count_of tree.now.tree }
+    requires left { leaves.old.next < index_count tree.now }
     requires port { HasPort body }
     requires long { length signature.items ≡ signature_length tree.now.tree tree.now.ots }
     ensures signed { result ≡ signed_by group.now tree.now leaves.old.next body }

@@ -8,7 +8,8 @@ use Rattle.epoch_store.specs.declared.StoreError.{StoreError}
 use Rattle.epoch_store.specs.declared.StoreError.TheVariants as store
 use Rattle.epoch_store.specs.Asked.{MakesStore, make_calls}
 use Rattle.epoch_store.specs.Calls.{MakesWhereEmpty, OnRefusal, SettlesAs, is_fault}
-use Rattle.epoch_store.specs.Store.{IsSettled, first_entry, made}
+use Rattle.epoch_store.specs.Seat.{store_length}
+use Rattle.epoch_store.specs.Store.{IsSettled, first_entry, made, made_seat}
 use Rattle.play.specs.Plays.{Standing}
 use Rattle.play.specs.declared.stop.Stop.{Stop}
 use Rattle.play.specs.declared.stop.Stop.TheVariants as stop
@@ -34,13 +35,13 @@ own P tag mask s tag_is mask_is h = subst (λ m. P (tag_of s) (first_entry m)) m
 
 pub is-made : (name tag : List ℕ) (mask : Mask) (s : Setting) (old new : OfDisk) → tag ≡ tag_of s → mask ≡ record { 0 = all_rings s.group.t } → new.faults ≡ old.faults
     → new.calls ≡ with_calls (make_calls name tag (first_entry mask)) old.calls → MakesWhereEmpty old.moments (Ok tt)
-    → SettlesAs (λ _. made tag (first_entry mask)) old.moments new.moments → IsSettled tag (first_entry mask) 57 new.moments → IsMade name s old new
+    → SettlesAs (λ _. made tag (first_entry mask)) old.moments new.moments → IsSettled tag (first_entry mask) (made_seat tag (first_entry mask)) new.moments → IsMade name s old new
 is-made name tag mask s old new tag_is mask_is faults calls empty image settled = record {
   faults = faults;
   calls = own (λ t f. new.calls ≡ with_calls (make_calls name t f) old.calls) tag mask s tag_is mask_is calls;
   empty = empty;
   image = own (λ t f. SettlesAs (λ _. made t f) old.moments new.moments) tag mask s tag_is mask_is image;
-  store = own (λ t f. IsSettled t f 57 new.moments) tag mask s tag_is mask_is settled;
+  store = own (λ t f. IsSettled t f (made_seat t f) new.moments) tag mask s tag_is mask_is settled;
 }
 
 abbrev failed : StoreError → Result (Unit {0}) StoreError
@@ -48,7 +49,7 @@ failed e = Err e
 
 pub not-made : (name tag : List ℕ) (mask : Mask) (s : Setting) (between : Standing) (old new : OfDisk) (e : StoreError) → tag ≡ tag_of s → mask ≡ record { 0 = all_rings s.group.t } → new.faults ≡ counted (is_fault (failed e)) old.faults
     → MakesStore name tag (first_entry mask) (failed e) old.calls new.calls → MakesWhereEmpty old.moments (failed e)
-    → OnRefusal (failed e) (new.moments ≡ old.moments) → Fails (torn_at 0 58) old.moments new.moments → MakesBehind name s between between old new (Err (halt_for e))
+    → OnRefusal (failed e) (new.moments ≡ old.moments) → Fails (torn_at 0 (store_length 1)) old.moments new.moments → MakesBehind name s between between old new (Err (halt_for e))
 not-made name tag mask s between old new store.Fault tag_is mask_is faults calls taken refused moments =
     (refl, record { faults = faults; calls = own (λ t f. AsFarAs (make_calls name t f) old.calls new.calls) tag mask s tag_is mask_is calls; moments = moments })
 not-made name tag mask s between old new (store.Taken len) tag_is mask_is faults calls taken refused moments =

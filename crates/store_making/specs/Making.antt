@@ -9,7 +9,8 @@ use Rattle.lms_tree.specs.declared.key.PublicKey.{PublicKey}
 use Rattle.epoch_store.specs.declared.Stored.{Stored}
 use Rattle.epoch_store.specs.Asked.{make_calls}
 use Rattle.epoch_store.specs.Calls.{HasLength, SettlesAs}
-use Rattle.epoch_store.specs.Store.{IsSettled, first_entry, made}
+use Rattle.epoch_store.specs.Seat.{store_length}
+use Rattle.epoch_store.specs.Store.{IsSettled, first_entry, made, made_seat}
 use Rattle.play.specs.Plays.{Standing}
 use Rattle.play.specs.declared.stop.Stop.{Stop}
 use Rattle.play.specs.declared.stop.Stop.TheVariants as stop
@@ -63,7 +64,7 @@ pub record IsMade (name : List ℕ) (s : Setting) (old new : OfDisk) : Type 0 wh
   pub calls : new.calls ≡ with_calls (make_calls name (tag_of s) (first_of s)) old.calls
   pub empty : HasLength old.moments 0
   pub image : SettlesAs (λ _. made (tag_of s) (first_of s)) old.moments new.moments
-  pub store : IsSettled (tag_of s) (first_of s) 57 new.moments
+  pub store : IsSettled (tag_of s) (first_of s) (made_seat (tag_of s) (first_of s)) new.moments
 
 -- The file has so many bytes, and was opened and measured alone.
 pub record IsTaken (name : List ℕ) (len : ℕ) (old new : OfDisk) : Type 0 where
@@ -74,11 +75,11 @@ pub record IsTaken (name : List ℕ) (len : ℕ) (old new : OfDisk) : Type 0 whe
   pub same : new.moments ≡ old.moments
 
 -- The disk failed in one of the calls that make a store, and none came behind it: each crash leaves what it would have left
--- before, but that any bytes may stand in the place of the first 58.
+-- before, but that any bytes may stand in the place of a new store's.
 pub record HasFailed (name : List ℕ) (s : Setting) (old new : OfDisk) : Type 0 where
   pub faults : new.faults ≡ next_count old.faults
   pub calls : AsFarAs (make_calls name (tag_of s) (first_of s)) old.calls new.calls
-  pub moments : Fails (torn_at 0 58) old.moments new.moments
+  pub moments : Fails (torn_at 0 (store_length 1)) old.moments new.moments
 
 -- Memory was refused, and the file is as it was.
 pub record IsUnmade (name : List ℕ) (s : Setting) (old new : OfDisk) : Type 0 where

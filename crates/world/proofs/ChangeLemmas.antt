@@ -63,7 +63,7 @@ stops-stands s ots tree place spent x outcome h =
 -- a stop that is armed is nothing to a life
 armed-current : (s : Setting) (e : Disk) (stop : ArmedStop) (m : ℕ) (v : Option node.Kept) (current : Option Life) → HoldsCurrent s e m v current → HoldsCurrent s (record e { armed = Some stop }) m v current
 armed-current s e stop m None None h = tt
-armed-current s e stop m (Some v) (Some life) h = record { is = h.is; going = h.going; open_ = h.open_; gate = h.gate; stored = h.stored }
+armed-current s e stop m (Some v) (Some life) h = record { is = h.is; going = h.going; open_ = h.open_; seat = h.seat; stored = h.stored }
 armed-current s e stop m None (Some life) h = h
 armed-current s e stop m (Some v) None h = h
 

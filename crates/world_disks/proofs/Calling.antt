@@ -10,6 +10,8 @@ use Rattle.ports.specs.MemoryDisk.{DiskState}
 use Rattle.records.specs.declared.Body.{Body}
 use Rattle.records.specs.declared.Body.TheVariants.{Certificate, Note, Accusation}
 use Rattle.epoch_store.specs.declared.Stored.{Stored}
+use Rattle.epoch_store.specs.declared.seat.Seat.{Seat}
+use Rattle.epoch_store.specs.Seat.{entry_length, next_seat}
 use Rattle.epoch_store.specs.Asked.{put_calls}
 use Rattle.epoch_store.specs.Placed.{PlacedStore, put_on}
 use Rattle.signer.specs.Signing.{MayComeNext, stored_after}
@@ -20,7 +22,7 @@ use Rattle.node_rules.specs.OnDisks.{OnDisk, called_on}
 use Rattle.node_rules.specs.Replies.{first_mask}
 use Rattle.node_rules.specs.Starting.{first_note}
 use Rattle.world_rules.specs.Calls as rules
-use Rattle.world_rules.specs.Disks.{Disk, after_put, gate_of, put_passes, stopped_in_put}
+use Rattle.world_rules.specs.Disks.{Disk, after_put, gate_of, put_passes, seat_of, stopped_in_put}
 use Rattle.world_rules.proofs.Alike.{AreAlike, IsSame, called-same}
 use Rattle.world_rules.proofs.AsStorage.{called-as, world_storage}
 use Rattle.world_rules.proofs.CallSteps.{MaySign}
@@ -46,7 +48,7 @@ left-below : (next indexes : ℕ) → next ≤ indexes → eqb next indexes ≡ 
 left-below next indexes within apart = grind (arith, nat_tests, within, apart)
 
 put-next : (tag : List ℕ) (s : Setting) (body : Body) (d : DiskState) (e : Disk) → s.group.t ≤ 15 → s.indexes ≤ 32768 → HoldsDisk tag s.indexes d e → MaySign s e.state body
-    → ComesAs tag s.indexes (runs (put_calls (gate_of e) (stored_after e.state body)) d) (put_passes e) (after_put (stored_after e.state body) e) (stopped_in_put (stored_after e.state body) e)
+    → ComesAs tag s.indexes (runs (put_calls (seat_of tag e) (stored_after e.state body)) d) (put_passes e) (after_put (stored_after e.state body) e) (stopped_in_put (stored_after e.state body) e)
 put-next tag s body d e few small h may =
     let next : MayComeNext e.state body = may-come s e.state body few may in
     let left : e.state.next < s.indexes = left-below e.state.next s.indexes h.within may.left in
@@ -61,18 +63,24 @@ unfolding put_on
 put-kept tag s kept body d e few small k may =
     let may2 : MaySign s e.state body = subst (λ (x : Stored). MaySign s x body) (sym k.state) may in
     let came = put-next tag s body d.disk e few small k.held may2 in
-    let P : ℕ → Stored → Type 0 = λ g x. ComesAs tag s.indexes (runs (put_calls g (stored_after x body)) d.disk) (put_passes e) (after_put (stored_after x body) e) (stopped_in_put (stored_after x body) e) in
-    subst (λ (x : Stored). P d.gate x) k.state (subst (λ (g : ℕ). P g e.state) (sym k.gate) came)
+    let P : Seat → Stored → Type 0 = λ g x. ComesAs tag s.indexes (runs (put_calls g (stored_after x body)) d.disk) (put_passes e) (after_put (stored_after x body) e) (stopped_in_put (stored_after x body) e) in
+    subst (λ (x : Stored). P d.seat x) k.state (subst (λ (g : Seat). P g e.state) (sym k.seat) came)
 
 takes-same : (tag : List ℕ) (n : ℕ) (came : Came) (test : Bool) (behind stop : Disk) → ComesAs tag n came test behind stop → not came.failed ≡ test
 takes-same tag n came true behind stop c = ap not c.0
 takes-same tag n came false behind stop c = ap not c.0
 
-keeps-behind : (tag : List ℕ) (n gate : ℕ) (kept : Stored) (came : Came) (test : Bool) (behind stop : Disk) → ComesAs tag n came test behind stop → not came.failed ≡ true → behind.state ≡ kept → gate + 17 ≡ gate_of behind
-    → Keeps tag n kept (record { disk = came.disk; gate = cond (not came.failed) (gate + 17) gate }) (cond test behind stop)
-keeps-behind tag n gate kept came true behind stop c passes state place =
-    record { held = c.1; state = state; gate = ap (λ (b : Bool). cond b (gate + 17) gate) passes ∙ place }
-keeps-behind tag n gate kept came false behind stop c passes state place = let clash : false ≡ true = sym (ap not c.0) ∙ passes in cc
+keeps-behind : (tag : List ℕ) (n : ℕ) (seat : Seat) (kept : Stored) (came : Came) (test : Bool) (behind stop : Disk) → ComesAs tag n came test behind stop → not came.failed ≡ true → behind.state ≡ kept → next_seat seat kept ≡ seat_of tag behind
+    → Keeps tag n kept (record { disk = came.disk; seat = cond (not came.failed) (next_seat seat kept) seat }) (cond test behind stop)
+keeps-behind tag n seat kept came true behind stop c passes state place =
+    record { held = c.1; state = state; seat = ap (λ (b : Bool). cond b (next_seat seat kept) seat) passes ∙ place }
+keeps-behind tag n seat kept came false behind stop c passes state place = let clash : false ≡ true = sym (ap not c.0) ∙ passes in cc
+
+-- the seat behind one entry more
+pub one-behind : (tag : List ℕ) (e : Disk) (next : Stored) (seat : Seat) → seat ≡ seat_of tag e → next_seat seat next ≡ seat_of tag (after_put next e)
+one-behind tag e next seat is =
+    let further : gate_of e + entry_length ≡ gate_of (after_put next e) = omega arith in
+    ap (λ (x : Seat). next_seat x next) is ∙ ap (λ (g : ℕ). record { gate = g; tag = tag }) further
 
 fell-behind : (tag : List ℕ) (n : ℕ) (came : Came) (test : Bool) (behind stop : Disk) → ComesAs tag n came test behind stop → not came.failed ≡ false → HoldsDisk tag n (crashed 0 came.disk) (cond test behind stop)
 fell-behind tag n came true behind stop c fails = let clash : true ≡ false = sym (ap not c.0) ∙ fails in cc
@@ -89,7 +97,7 @@ alike tag s few small =
           takes-same tag s.indexes (put_on next d) (put_passes e) (after_put next e) (stopped_in_put next e) (put-kept tag s kept body d e few small k may);
       stand = λ kept body d e k may taken.
           let next : Stored = stored_after kept body in
-          keeps-behind tag s.indexes d.gate next (put_on next d) (put_passes e) (after_put next e) (stopped_in_put next e) (put-kept tag s kept body d e few small k may) taken refl (omega (arith, k.gate));
+          keeps-behind tag s.indexes d.seat next (put_on next d) (put_passes e) (after_put next e) (stopped_in_put next e) (put-kept tag s kept body d e few small k may) taken refl (one-behind tag e next d.seat k.seat);
       fell = λ kept body d e k may failed.
           let next : Stored = stored_after kept body in
           fell-behind tag s.indexes (put_on next d) (put_passes e) (after_put next e) (stopped_in_put next e) (put-kept tag s kept body d e few small k may) failed;
@@ -126,5 +134,5 @@ start_as_told tag seed certificates s d e few small h may =
     let body : Body = first_note s e.state in
     let one = one-started s seed certificates e.state in
     let signs : MaySign s e.state body = record { follows = refl; left = not-false _ may; rings = first-rings s.group.t e.state.mask.0 } in
-    let P : Stored → Type 0 = λ kept. ComesAs tag s.indexes (runs (put_calls (gate_of e) kept) d) (put_passes e) (after_put kept e) (stopped_in_put kept e) in
+    let P : Stored → Type 0 = λ kept. ComesAs tag s.indexes (runs (put_calls (seat_of tag e) kept) d) (put_passes e) (after_put kept e) (stopped_in_put kept e) in
     subst P (sym one.stored) (put-next tag s body d e few small h signs)

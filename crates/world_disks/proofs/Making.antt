@@ -7,6 +7,7 @@ use Rattle.ports.specs.declared.memory_disk.Arm.{Arm}
 use Rattle.ports.specs.DiskCalls.{ToOpen, ToMeasure, ToWrite, ToSync}
 use Rattle.ports.specs.DiskSteps.{Came, makes, runs}
 use Rattle.ports.specs.MemoryDisk.{DiskState, is_settled, moment_of, with_write}
+use Rattle.epoch_store.specs.Seat.{store_length}
 use Rattle.epoch_store.specs.Store.{IsChain, first_entry, front, made}
 use Rattle.epoch_store.proofs.FileLemmas.{written_within}
 use Rattle.world_rules.specs.Disks.{made_disk}
@@ -22,7 +23,7 @@ written_new bytes some =
     let none : drop (0 + length bytes) [] ≡ [] = drop_all (0 + length bytes) [] (omega arith) in
     written_within 0 bytes [] some (omega arith) ∙ ap (λ (b : List ℕ). bytes ++ b) none ∙ append-nil bytes
 
-length-made : (tag : List ℕ) (mask : Mask) → length tag ≡ 32 → length (made tag (first_entry mask)) ≡ 58
+length-made : (tag : List ℕ) (mask : Mask) → length tag ≡ 32 → length (made tag (first_entry mask)) ≡ store_length 1
 length-made tag mask long = omega (arith, long, length-front tag (first_entry mask ∷ []), length-append (front tag (first_entry mask ∷ [])) (0 ∷ []))
 
 chain-first : (mask : Mask) → mask.0 < 2 ^ 31 → IsChain (first_entry mask ∷ [])

@@ -9,6 +9,7 @@ use Rattle.ports.specs.declared.memory_disk.Arm.{Arm}
 use Rattle.ports.specs.DiskCalls.{DiskCall}
 use Rattle.ports.specs.DiskSteps.{Came, runs}
 use Rattle.ports.specs.MemoryDisk.{DiskState, is_settled, moment_of, picked, stopped_by}
+use Rattle.epoch_store.specs.Seat.{store_length}
 use Rattle.epoch_store.specs.Asked.{gate_reads, open_calls}
 use Rattle.epoch_store.specs.Store.{IsChain, front}
 use Rattle.world_rules.specs.Disks.{ArmedStop, Disk, after_calls, lets_pass, opening_calls, passed, stopped}
@@ -88,7 +89,7 @@ pub fits_key : (tag : List ℕ) (n : ℕ) (d : DiskState) (e : Disk) → HoldsDi
 fits_key tag n d e h = record { long = h.long; chain = h.chain; few = h.few; within = h.within }
 
 -- the store of these entries came up
-pub held_fresh : (tag image : List ℕ) (n : ℕ) (d r : DiskState) (e : Disk) → FitsKey tag n e → 58 + 17 * n ≤ d.room → 4 * (n - e.state.next) ≤ d.changes → CameUp d r image → LeftStore tag image e → HoldsDisk tag n r (stopped e)
+pub held_fresh : (tag image : List ℕ) (n : ℕ) (d r : DiskState) (e : Disk) → FitsKey tag n e → store_length (n + 1) ≤ d.room → 4 * (n - e.state.next) ≤ d.changes → CameUp d r image → LeftStore tag image e → HoldsDisk tag n r (stopped e)
 held_fresh tag image n d r e fit room changes c left = record {
   shut = left.shut;
   rest = left.rest;

@@ -15,7 +15,7 @@ use Rattle.epoch_store.specs.Asked.{put_calls}
 use Rattle.epoch_store.specs.Store.{Follows, IsEntry, StoreAt, front, spelled}
 use Rattle.epoch_store.proofs.FileLemmas.{written_within, with_entry}
 use Rattle.world_rules.specs.Disks as rules
-use Rattle.world_rules.specs.Disks.{ArmedStop, Disk, after_put, gate_of, leaves_open, opens_gate, put_passes, stopped, stopped_in_put}
+use Rattle.world_rules.specs.Disks.{ArmedStop, Disk, after_put, gate_of, leaves_open, opens_gate, put_passes, seat_of, stopped, stopped_in_put}
 use Rattle.world_disks.specs.Held.{ComesAs, HoldsDisk, armed_as, crashed}
 use Rattle.world_disks.specs.Laws.{PutsAsTold}
 use Rattle.world_disks.proofs.Turns.{Up, Lets, Passing, Stopping, minus, minus_none, none_behind, pass_on, passes_next, stop_on, stops_next, up_next}
@@ -73,7 +73,7 @@ place_of tag e long = omega (arith, long, length-front tag (e.state ∷ e.older)
 shape_of : (tag : List ℕ) (n : ℕ) (d : DiskState) (e : Disk) (kept : Stored) (h : HoldsDisk tag n d e) → Shape tag e kept h.shut (front tag (e.state ∷ e.older) ++ h.shut ∷ h.rest)
 shape_of tag n d e kept h =
     let image = front tag (e.state ∷ e.older) ++ h.shut ∷ h.rest in
-    let store : StoreAt tag image e.state (gate_of e) = record {
+    let store : StoreAt tag image e.state (seat_of tag e) = record {
       older = e.older;
       shut = h.shut;
       rest = h.rest;
@@ -81,8 +81,9 @@ shape_of tag n d e kept h =
       closed = h.closed;
       bytes = refl;
       place = place_of tag e h.long;
+      in_force = refl;
     } in
-    let found = with_entry tag image (spelled kept ++ 0 ∷ []) e.state kept (gate_of e) store refl in
+    let found = with_entry tag image (spelled kept ++ 0 ∷ []) e.state kept (seat_of tag e) store refl in
     record { rest = found.0; full = found.1 }
 
 -- ---- what a stop leaves in the first half
@@ -158,6 +159,9 @@ second_call gate kept = ToSync ∷ first_call gate kept
 
 abbrev third_call : ℕ → Stored → List DiskCall
 third_call gate kept = ToWrite gate (1 ∷ []) ∷ second_call gate kept
+
+abbrev fourth_call : ℕ → Stored → List DiskCall
+fourth_call gate kept = ToSync ∷ third_call gate kept
 
 abbrev first_disk : ℕ → Stored → DiskState → DiskState
 first_disk gate kept d = with_write (gate + 1) (bytes_of kept) (pass_on d)
@@ -240,7 +244,7 @@ after_third d gate kept head tail image shut a p f lets =
       up = with_log (pass_on now) (third_disk gate kept d) (minus 3 a) (up_next now a 2 f.up lets) refl refl refl;
     }
 
-after_fourth : (d : DiskState) (gate : ℕ) (kept : Stored) (head tail image : List ℕ) (shut : ℕ) (a : Option Arm) → Puts d gate kept head tail image shut → After (third_call gate kept) d (third_disk gate kept d) (minus 3 a) → Lets a 4 → After (put_calls gate kept) d (fourth_disk gate kept d) (minus 4 a)
+after_fourth : (d : DiskState) (gate : ℕ) (kept : Stored) (head tail image : List ℕ) (shut : ℕ) (a : Option Arm) → Puts d gate kept head tail image shut → After (third_call gate kept) d (third_disk gate kept d) (minus 3 a) → Lets a 4 → After (fourth_call gate kept) d (fourth_disk gate kept d) (minus 4 a)
 after_fourth d gate kept head tail image shut a p f lets =
     let now = third_disk gate kept d in
     let turn = passes_next now a 3 f.up lets in
@@ -338,7 +342,7 @@ held_put tag n d e kept m s up = record {
   changes = omega (arith, m.held.changes, m.within, m.rises);
 }
 
-passes_whole : (tag : List ℕ) (n : ℕ) (d : DiskState) (e : Disk) (kept : Stored) → MayPut tag n d e kept → Lets (armed_as e.armed) 4 → ComesAs tag n (runs (put_calls (gate_of e) kept) d) (put_passes e) (after_put kept e) (stopped_in_put kept e)
+passes_whole : (tag : List ℕ) (n : ℕ) (d : DiskState) (e : Disk) (kept : Stored) → MayPut tag n d e kept → Lets (armed_as e.armed) 4 → ComesAs tag n (runs (put_calls (seat_of tag e) kept) d) (put_passes e) (after_put kept e) (stopped_in_put kept e)
 passes_whole tag n d e kept m lets =
     let a = armed_as e.armed in
     let gate = gate_of e in
@@ -354,7 +358,7 @@ passes_whole tag n d e kept m lets =
     let three = after_third d gate kept head (tail_of kept s.rest) image shut a p two (lets-fewer a 3 4 (omega arith) lets) in
     let four = after_fourth d gate kept head (tail_of kept s.rest) image shut a p three lets in
     let Q : Option Arm → Type 0 = λ b. Up (fourth_disk gate kept d) b in
-    comes_pass tag n (runs (put_calls gate kept) d) (fourth_disk gate kept d) (put_passes e) (after_put kept e) (stopped_in_put kept e)
+    comes_pass tag n (runs (put_calls (seat_of tag e) kept) d) (fourth_disk gate kept d) (put_passes e) (after_put kept e) (stopped_in_put kept e)
     (lets-test e.armed 4 lets) four.so (held_put tag n d e kept m s (subst Q (minus-armed 4 e.armed) four.up))
 
 -- ---- stops in a put
@@ -380,7 +384,7 @@ arm_of stop = record { calls = stop.calls; outcome = stop.outcome }
 abbrev with_stop : Disk → ArmedStop → Disk
 with_stop e stop = record e { armed = Some stop }
 
-ends_first : (tag : List ℕ) (n : ℕ) (d x : DiskState) (e : Disk) (stop : ArmedStop) (kept : Stored) → MayPut tag n d (with_stop e stop) kept → stop.calls < 2 → moment_of x ≡ wrote (gate_of e + 1) (bytes_of kept) (moment_of d) → StopsIn (put_calls (gate_of e) kept) d x stop.outcome → ComesAs tag n (runs (put_calls (gate_of e) kept) d) (put_passes (with_stop e stop)) (after_put kept (with_stop e stop)) (stopped_in_put kept (with_stop e stop))
+ends_first : (tag : List ℕ) (n : ℕ) (d x : DiskState) (e : Disk) (stop : ArmedStop) (kept : Stored) → MayPut tag n d (with_stop e stop) kept → stop.calls < 2 → moment_of x ≡ wrote (gate_of e + 1) (bytes_of kept) (moment_of d) → StopsIn (put_calls (seat_of tag e) kept) d x stop.outcome → ComesAs tag n (runs (put_calls (seat_of tag e) kept) d) (put_passes (with_stop e stop)) (after_put kept (with_stop e stop)) (stopped_in_put kept (with_stop e stop))
 ends_first tag n d x e stop kept m below moment s =
     let f = with_stop e stop in
     let gate = gate_of e in
@@ -397,10 +401,10 @@ ends_first tag n d x e stop kept m below moment s =
     (record { shut = shut; rest = left.0; closed = m.held.closed; file = left.1 }) in
     let P : Bool → Type 0 = λ t. HoldsDisk tag n (crashed 0 (stopped_by stop.outcome x)) (stopped (cond t (with_it kept f) f)) in
     let fails : put_passes f ≡ false = grind (arith, nat_tests, below) in
-    comes_stop tag n (runs (put_calls gate kept) d) (stopped_by stop.outcome x) (put_passes f) (after_put kept f) (stopped_in_put kept f)
+    comes_stop tag n (runs (put_calls (seat_of tag e) kept) d) (stopped_by stop.outcome x) (put_passes f) (after_put kept f) (stopped_in_put kept f)
     fails s.so (subst P (sym (opens_no stop gate below)) held)
 
-ends_second : (tag : List ℕ) (n : ℕ) (d x : DiskState) (e : Disk) (stop : ArmedStop) (kept : Stored) → MayPut tag n d (with_stop e stop) kept → 2 ≤ stop.calls → stop.calls < 4 → moment_of x ≡ wrote (gate_of e) (1 ∷ []) (moment_of (second_disk (gate_of e) kept d)) → StopsIn (put_calls (gate_of e) kept) d x stop.outcome → ComesAs tag n (runs (put_calls (gate_of e) kept) d) (put_passes (with_stop e stop)) (after_put kept (with_stop e stop)) (stopped_in_put kept (with_stop e stop))
+ends_second : (tag : List ℕ) (n : ℕ) (d x : DiskState) (e : Disk) (stop : ArmedStop) (kept : Stored) → MayPut tag n d (with_stop e stop) kept → 2 ≤ stop.calls → stop.calls < 4 → moment_of x ≡ wrote (gate_of e) (1 ∷ []) (moment_of (second_disk (gate_of e) kept d)) → StopsIn (put_calls (seat_of tag e) kept) d x stop.outcome → ComesAs tag n (runs (put_calls (seat_of tag e) kept) d) (put_passes (with_stop e stop)) (after_put kept (with_stop e stop)) (stopped_in_put kept (with_stop e stop))
 ends_second tag n d x e stop kept m above below moment s =
     let f = with_stop e stop in
     let gate = gate_of e in
@@ -417,13 +421,13 @@ ends_second tag n d x e stop kept m above below moment s =
     let held = half_second tag (picked stop.outcome (wrote gate (1 ∷ []) (settled full))) shape.rest n d (crashed 0 (stopped_by stop.outcome x)) f kept (leaves_open stop.outcome gate) m c g in
     let P : Bool → Type 0 = λ t. HoldsDisk tag n (crashed 0 (stopped_by stop.outcome x)) (stopped (cond t (with_it kept f) f)) in
     let fails : put_passes f ≡ false = grind (arith, nat_tests, below) in
-    comes_stop tag n (runs (put_calls gate kept) d) (stopped_by stop.outcome x) (put_passes f) (after_put kept f) (stopped_in_put kept f)
+    comes_stop tag n (runs (put_calls (seat_of tag e) kept) d) (stopped_by stop.outcome x) (put_passes f) (after_put kept f) (stopped_in_put kept f)
     fails s.so (subst P (sym (opens_yes stop gate above)) held)
 
 up_at : (r : DiskState) (arm : Arm) (j : ℕ) → arm.calls ≡ j → Up r (minus j (Some arm)) → Up r (minus arm.calls (Some arm))
 up_at r arm j at u = let P : ℕ → Type 0 = λ k. Up r (minus k (Some arm)) in subst P (sym at) u
 
-stop_zero : (tag : List ℕ) (n : ℕ) (d : DiskState) (e : Disk) (stop : ArmedStop) (kept : Stored) → MayPut tag n d (with_stop e stop) kept → stop.calls ≡ 0 → Up d (minus 0 (Some (arm_of stop))) → ComesAs tag n (runs (put_calls (gate_of e) kept) d) (put_passes (with_stop e stop)) (after_put kept (with_stop e stop)) (stopped_in_put kept (with_stop e stop))
+stop_zero : (tag : List ℕ) (n : ℕ) (d : DiskState) (e : Disk) (stop : ArmedStop) (kept : Stored) → MayPut tag n d (with_stop e stop) kept → stop.calls ≡ 0 → Up d (minus 0 (Some (arm_of stop))) → ComesAs tag n (runs (put_calls (seat_of tag e) kept) d) (put_passes (with_stop e stop)) (after_put kept (with_stop e stop)) (stopped_in_put kept (with_stop e stop))
 stop_zero tag n d e stop kept m at u =
     let f = with_stop e stop in
     let gate = gate_of e in
@@ -444,7 +448,7 @@ stop_zero tag n d e stop kept m at u =
       sound = up.sound;
     })
 
-stop_one : (tag : List ℕ) (n : ℕ) (d : DiskState) (e : Disk) (stop : ArmedStop) (kept : Stored) → MayPut tag n d (with_stop e stop) kept → stop.calls ≡ 1 → Up d (minus 0 (Some (arm_of stop))) → ComesAs tag n (runs (put_calls (gate_of e) kept) d) (put_passes (with_stop e stop)) (after_put kept (with_stop e stop)) (stopped_in_put kept (with_stop e stop))
+stop_one : (tag : List ℕ) (n : ℕ) (d : DiskState) (e : Disk) (stop : ArmedStop) (kept : Stored) → MayPut tag n d (with_stop e stop) kept → stop.calls ≡ 1 → Up d (minus 0 (Some (arm_of stop))) → ComesAs tag n (runs (put_calls (seat_of tag e) kept) d) (put_passes (with_stop e stop)) (after_put kept (with_stop e stop)) (stopped_in_put kept (with_stop e stop))
 stop_one tag n d e stop kept m at u =
     let f = with_stop e stop in
     let gate = gate_of e in
@@ -467,7 +471,7 @@ stop_one tag n d e stop kept m at u =
       sound = up.sound;
     })
 
-stop_two : (tag : List ℕ) (n : ℕ) (d : DiskState) (e : Disk) (stop : ArmedStop) (kept : Stored) → MayPut tag n d (with_stop e stop) kept → stop.calls ≡ 2 → Up d (minus 0 (Some (arm_of stop))) → ComesAs tag n (runs (put_calls (gate_of e) kept) d) (put_passes (with_stop e stop)) (after_put kept (with_stop e stop)) (stopped_in_put kept (with_stop e stop))
+stop_two : (tag : List ℕ) (n : ℕ) (d : DiskState) (e : Disk) (stop : ArmedStop) (kept : Stored) → MayPut tag n d (with_stop e stop) kept → stop.calls ≡ 2 → Up d (minus 0 (Some (arm_of stop))) → ComesAs tag n (runs (put_calls (seat_of tag e) kept) d) (put_passes (with_stop e stop)) (after_put kept (with_stop e stop)) (stopped_in_put kept (with_stop e stop))
 stop_two tag n d e stop kept m at u =
     let f = with_stop e stop in
     let gate = gate_of e in
@@ -491,7 +495,7 @@ stop_two tag n d e stop kept m at u =
       sound = up.sound;
     })
 
-stop_three : (tag : List ℕ) (n : ℕ) (d : DiskState) (e : Disk) (stop : ArmedStop) (kept : Stored) → MayPut tag n d (with_stop e stop) kept → stop.calls ≡ 3 → Up d (minus 0 (Some (arm_of stop))) → ComesAs tag n (runs (put_calls (gate_of e) kept) d) (put_passes (with_stop e stop)) (after_put kept (with_stop e stop)) (stopped_in_put kept (with_stop e stop))
+stop_three : (tag : List ℕ) (n : ℕ) (d : DiskState) (e : Disk) (stop : ArmedStop) (kept : Stored) → MayPut tag n d (with_stop e stop) kept → stop.calls ≡ 3 → Up d (minus 0 (Some (arm_of stop))) → ComesAs tag n (runs (put_calls (seat_of tag e) kept) d) (put_passes (with_stop e stop)) (after_put kept (with_stop e stop)) (stopped_in_put kept (with_stop e stop))
 stop_three tag n d e stop kept m at u =
     let f = with_stop e stop in
     let gate = gate_of e in
@@ -533,7 +537,7 @@ below_four c =
       ]
     ]
 
-put_with : (tag : List ℕ) (n : ℕ) (d : DiskState) (e : Disk) (kept : Stored) (armed : Option ArmedStop) → MayPut tag n d (record e { armed = armed }) kept → ComesAs tag n (runs (put_calls (gate_of e) kept) d) (put_passes (record e { armed = armed })) (after_put kept (record e { armed = armed })) (stopped_in_put kept (record e { armed = armed }))
+put_with : (tag : List ℕ) (n : ℕ) (d : DiskState) (e : Disk) (kept : Stored) (armed : Option ArmedStop) → MayPut tag n d (record e { armed = armed }) kept → ComesAs tag n (runs (put_calls (seat_of tag e) kept) d) (put_passes (record e { armed = armed })) (after_put kept (record e { armed = armed })) (stopped_in_put kept (record e { armed = armed }))
 put_with tag n d e kept None m = passes_whole tag n d (record e { armed = None }) kept m tt
 put_with tag n d e kept (Some stop) m =
     let f = with_stop e stop in

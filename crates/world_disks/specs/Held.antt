@@ -4,6 +4,7 @@ use Rattle.ports.specs.Disk.{settled}
 use Rattle.ports.specs.MemoryDisk.{DiskState, moment_of, picked}
 use Rattle.ports.specs.DiskSteps.{Came}
 use Rattle.ports.specs.declared.memory_disk.Arm.{Arm}
+use Rattle.epoch_store.specs.Seat.{store_length}
 use Rattle.epoch_store.specs.Store.{IsChain, front}
 use Rattle.world_rules.specs.Disks.{ArmedStop, Disk}
 
@@ -26,7 +27,7 @@ pub record HoldsDisk (tag : List ℕ) (indexes : ℕ) (d : DiskState) (e : Disk)
   pub armed : d.armed ≡ armed_as e.armed
   pub sound : d.failing ≡ []
   pub runs : d.stopped ≡ false
-  pub room : 58 + 17 * indexes ≤ d.room
+  pub room : store_length (indexes + 1) ≤ d.room
   pub changes : length d.log + 4 * (indexes - e.state.next) ≤ d.changes
 
 -- what a crash with this outcome makes of a disk

@@ -5,6 +5,7 @@ use Rattle.ports.specs.DiskSteps.{runs}
 use Rattle.ff_ids.specs.declared.Mask.{Mask}
 use Rattle.epoch_store.specs.declared.Stored.{Stored}
 use Rattle.epoch_store.specs.declared.StoreError.{StoreError}
+use Rattle.epoch_store.specs.Seat.{store_length}
 use Rattle.epoch_store.specs.Store.{IsEntry, Follows, first_entry}
 use Rattle.epoch_store.specs.Asked.{gate_reads, make_calls, open_calls, put_calls}
 use Rattle.epoch_store.specs.Calls.{IsNotTaken, OpensAs, StoreState}
@@ -16,7 +17,7 @@ use Rattle.node_rules.specs.Lives.{Input}
 use Rattle.node_rules.specs.OnDisks.{called_on}
 use Rattle.node_rules.specs.Starting.{may_start, started}
 use Rattle.world_rules.specs.Calls as rules
-use Rattle.world_rules.specs.Disks.{ArmedStop, Disk, after_calls, after_put, gate_of, lets_pass, made_disk, opening_calls, put_passes, stopped, stopped_in_put}
+use Rattle.world_rules.specs.Disks.{ArmedStop, Disk, after_calls, after_put, lets_pass, made_disk, opening_calls, put_passes, seat_of, stopped, stopped_in_put}
 use Rattle.world_disks.specs.Held.{ComesAs, HoldsDisk, armed_as, crashed}
 use Rattle.world_disks.specs.OnDisks.{ComesTo, Keeps, OpensTo, placed}
 
@@ -29,14 +30,14 @@ OpensAsTold = (tag name : List ℕ) (indexes : ℕ) (d : DiskState) (e : Disk) �
 -- Whatever opens the store by these calls, and reads the file, has the node's store.
 abbrev pub ReadsAsTold : Type 0
 ReadsAsTold = (tag name : List ℕ) (indexes : ℕ) (d r : DiskState) (e : Disk) (result : Result StoreState StoreError) → HoldsDisk tag indexes d e
-    → IsNotTaken result → OpensAs tag (moments_of d.start d.log) result → ReadsGatesFrom (open_calls name) (moments_of d.start d.log) result (Some d) (Some r)
+    → IsNotTaken result → OpensAs tag (moments_of d.start d.log) result → ReadsGatesFrom tag (open_calls name) (moments_of d.start d.log) result (Some d) (Some r)
     → OpensTo tag indexes e result r
 
 -- The calls that put an entry with the next index.
 abbrev pub PutsAsTold : Type 0
 PutsAsTold = (tag : List ℕ) (indexes : ℕ) (d : DiskState) (e : Disk) (kept : Stored) → HoldsDisk tag indexes d e
     → IsEntry kept → Follows e.state kept → kept.next ≡ e.state.next + 1 → kept.next ≤ indexes
-    → ComesAs tag indexes (runs (put_calls (gate_of e) kept) d) (put_passes e) (after_put kept e) (stopped_in_put kept e)
+    → ComesAs tag indexes (runs (put_calls (seat_of tag e) kept) d) (put_passes e) (after_put kept e) (stopped_in_put kept e)
 
 abbrev pub CrashesAsTold : Type 0
 CrashesAsTold = (tag : List ℕ) (indexes outcome : ℕ) (d : DiskState) (e : Disk) → HoldsDisk tag indexes d e → HoldsDisk tag indexes (crashed outcome d) e
@@ -52,7 +53,7 @@ pub record IsNew (indexes : ℕ) (d : DiskState) : Type 0 where
   pub armed : d.armed ≡ None
   pub sound : d.failing ≡ []
   pub runs : d.stopped ≡ false
-  pub room : 58 + 17 * indexes ≤ d.room
+  pub room : store_length (indexes + 1) ≤ d.room
   pub changes : 2 + 4 * indexes ≤ d.changes
 
 -- The calls that make a store on it pass.
@@ -71,4 +72,4 @@ CallsAsTold = (tag : List ℕ) (s : Setting) (n : Node) (i : Input) (d : PlacedS
 abbrev pub StartsAsTold : Type 0
 StartsAsTold = (tag seed : List ℕ) (certificates : List Record) (s : Setting) (d : DiskState) (e : Disk) → s.group.t ≤ 15 → s.indexes ≤ 32768 → HoldsDisk tag s.indexes d e → may_start s e.state ≡ true
     → let kept = (started s seed certificates e.state).node.stored in
-    ComesAs tag s.indexes (runs (put_calls (gate_of e) kept) d) (put_passes e) (after_put kept e) (stopped_in_put kept e)
+    ComesAs tag s.indexes (runs (put_calls (seat_of tag e) kept) d) (put_passes e) (after_put kept e) (stopped_in_put kept e)

@@ -7,7 +7,7 @@ use Rattle.epoch_store.specs.declared.StoreError.TheVariants.{Fault, Taken, Brok
 use Rattle.epoch_store.specs.Calls.{StoreState}
 use Rattle.epoch_store.specs.Placed.{PlacedStore, put_passes, after_put}
 use Rattle.node_rules.specs.OnDisks.{Storage, OnDisk}
-use Rattle.world_rules.specs.Disks.{Disk, after_calls, gate_of, lets_pass, opening_calls, stopped}
+use Rattle.world_rules.specs.Disks.{Disk, after_calls, lets_pass, opening_calls, seat_of, stopped}
 use Rattle.world_rules.specs.Calls as rules
 use Rattle.world_disks.specs.Held.{HoldsDisk, crashed}
 
@@ -17,7 +17,7 @@ use Rattle.world_disks.specs.Held.{HoldsDisk, crashed}
 -- stands for the one behind it once it has crashed. Memory is never refused.
 abbrev pub OpensTo : List ℕ → ℕ → Disk → Result StoreState StoreError → DiskState → Type 0
 OpensTo tag indexes e (Ok store) d =
-    (lets_pass e.armed (opening_calls e) ≡ true) × (store ≡ record { state = e.state; gate = gate_of e; failed = false }) × HoldsDisk tag indexes d (after_calls (opening_calls e) e)
+    (lets_pass e.armed (opening_calls e) ≡ true) × (store ≡ record { state = e.state; seat = seat_of tag e; failed = false }) × HoldsDisk tag indexes d (after_calls (opening_calls e) e)
 OpensTo tag indexes e (Err Fault) d = (lets_pass e.armed (opening_calls e) ≡ false) × HoldsDisk tag indexes (crashed 0 d) (stopped e)
 OpensTo tag indexes e (Err (Taken len)) d = ⊥
 OpensTo tag indexes e (Err (Broken place byte)) d = ⊥
@@ -34,7 +34,7 @@ placed = record { takes = put_passes; behind = after_put }
 pub record Keeps (tag : List ℕ) (indexes : ℕ) (kept : Stored) (d : PlacedStore) (e : Disk) : Type 0 where
   pub held : HoldsDisk tag indexes d.disk e
   pub state : e.state ≡ kept
-  pub gate : d.gate ≡ gate_of e
+  pub seat : d.seat ≡ seat_of tag e
 
 -- The call over the disk in memory is the one over the node's disk; and behind it the one disk stands for the other, where
 -- it stopped once it has crashed.

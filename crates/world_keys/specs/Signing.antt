@@ -2,7 +2,7 @@
 use Rattle.std.specs.Prelude.{◌≡◌, ◌+◌, Option, Some, None, Result, Ok, Err}
 use Rattle.ff_ids.specs.declared.Group.{Group}
 use Rattle.fields.specs.declared.NoMemory.{NoMemory}
-use Rattle.lms_tree.specs.Kinds.{leaf_count}
+use Rattle.lms_tree.specs.Leaves.{index_count}
 use Rattle.lms_tree.specs.Leaves.{LeavesOf}
 use Rattle.records.specs.declared.Body.{Body}
 use Rattle.records.specs.Signing.{CheckedRecord}
@@ -11,5 +11,5 @@ use Rattle.signer.specs.Signing.{signed_by}
 -- The next leaf was spent on the body; none is left; or memory was refused, and no leaf was spent.
 abbrev pub SignsNext : Group → LeavesOf → LeavesOf → Body → Result (Option CheckedRecord) NoMemory → Type 0
 SignsNext g older newer body (Ok (Some c)) = (c ≡ signed_by g older.key older.next body) × (newer ≡ record older { next = older.next + 1 })
-SignsNext g older newer body (Ok None) = (older.next ≡ leaf_count older.key.tree) × (newer ≡ older)
+SignsNext g older newer body (Ok None) = (older.next ≡ index_count older.key) × (newer ≡ older)
 SignsNext g older newer body (Err refused) = newer ≡ older

@@ -1,7 +1,7 @@
 //! The keys of a world, and signatures with them.
 
 ghost use Rattle.std.specs.Prelude.{◌≡◌, ◌==◌, IfOk};
-ghost use Rattle.lms_tree.specs.Kinds.{leaf_count};
+ghost use Rattle.lms_tree.specs.Leaves.{index_count};
 ghost use Rattle.lms_tree.specs.Lms.{public_of};
 ghost use Rattle.records.specs.Spelling.{HasPort};
 ghost use Rattle.secrets.specs.Secrets.{key_from, world_secret as secret_in_world};
@@ -83,9 +83,9 @@ impl SigningKey {
     /// Whether no leaf is left.
     #[tactic(auto, unfolding(lms_tree::specs::Lms::public_of))]
     pub fn is_used_up(&self) -> bool
-        ensures { result ≡ (self.now.next == leaf_count self.now.key.tree) }
+        ensures { result ≡ (self.now.next == index_count self.now.key) }
     {
-        self.leaves.next() == self.tree.public().tree.leaf_count()
+        self.leaves.next() == self.tree.index_count()
     }
 
     /// Signs the body in the group by the next leaf; none where no leaf is left.

@@ -1,8 +1,10 @@
 -- A node's disk: the entries of its store, and the stop that is armed. A stop is told by the calls of the disk that it
 -- lets pass, so what calls a store makes is told too.
-use Rattle.std.specs.Prelude.{ℕ, ◌+◌, ◌-◌, ◌*◌, ◌%◌, Bool, true, false, ◌&&◌, ◌==◌, nat_le, if◌then◌else◌, List, [], ◌∷◌, length, Option, Some, None}
+use Rattle.std.specs.Prelude.{ℕ, ◌+◌, ◌-◌, ◌%◌, Bool, true, false, ◌&&◌, ◌==◌, nat_le, if◌then◌else◌, List, [], ◌∷◌, length, Option, Some, None}
 use Rattle.ff_ids.specs.declared.Mask.{Mask}
 use Rattle.epoch_store.specs.declared.Stored.{Stored}
+use Rattle.epoch_store.specs.declared.seat.Seat.{Seat}
+use Rattle.epoch_store.specs.Seat.{gate_behind, seat_behind}
 use Rattle.epoch_store.specs.Store.{first_entry}
 
 -- A stop that is to come: it lets so many calls pass, and comes in the next. The outcome decides what it leaves.
@@ -62,9 +64,13 @@ with_entry e d = record d { state = e; older = d.state ∷ d.older }
 abbrev pub after_put : Stored → Disk → Disk
 after_put e d = after_calls put_calls (with_entry e d)
 
--- The place of the closed gate: behind the head of 40 bytes each entry has 17, its gate among them.
+-- The place of the closed gate behind the entries.
 abbrev pub gate_of : Disk → ℕ
-gate_of d = 40 + 17 * (length d.older + 1)
+gate_of d = gate_behind (d.state ∷ d.older)
+
+-- The seat of the next entry, where the store has this tag.
+abbrev pub seat_of : List ℕ → Disk → Seat
+seat_of tag d = seat_behind tag (d.state ∷ d.older)
 
 -- Whether the byte of a gate that was being written is 1 as a stop with this outcome leaves it: outcome 0 leaves what
 -- was there before, and the gate was closed; outcome 1 what was written; and any other a byte of its own making.

@@ -24,14 +24,14 @@ use Rattle.world_disks.specs.OnDisks.{ComesTo, Keeps}
 use Rattle.world_disks.proofs.Calling.{calls_as_told}
 use Rattle.world_rules.specs.Calls.{OnDisk}
 use Rattle.world_rules.specs.Settings.{Setting, setting_of}
-use Rattle.world_rules.specs.Disks.{Disk}
+use Rattle.world_rules.specs.Disks.{Disk, seat_of}
 use Rattle.world_rules.specs.Worlds.{Life, Station}
 use Rattle.world_rules.specs.Steps.{station_after, with_input}
 use Rattle.world_station.specs.Answers.{Calls, CallsRunning, Ends, bodies_in, call_on, spent_in}
 use Rattle.world_station.specs.Holding.{HoldsCurrent, HoldsLife, HoldsStation, IsWorld}
 use Rattle.world_station.specs.Stations.{StationState}
 use Rattle.world_station.proofs.SpentLemmas.{signed-behind}
-use Rattle.world_station.proofs.WorldLemmas.{few-indexes, few-rings}
+use Rattle.world_station.proofs.WorldLemmas.{few-indexes, few-rings, tag-is}
 
 some-same : {T : Type 0} (x y : T) → Some x ≡ Some y → x ≡ y
 some-same x y is = cc
@@ -53,7 +53,7 @@ one-over past life other = omega (arith, length-append past (life ∷ []), lengt
 -- ---- the call over the disk in memory
 
 abbrev pub store_on : StationState → Kept → PlacedStore
-store_on x v = record { disk = x.disk; gate = v.signer.gate }
+store_on x v = record { disk = x.disk; seat = v.signer.seat }
 
 abbrev pub call_in_memory : Setting → ℕ → Input → StationState → Kept → Life → over.OnDisk PlacedStore
 call_in_memory s m i x v life = over.called_on storage (setting_of s m) life.node i (store_on x v)
@@ -61,7 +61,7 @@ call_in_memory s m i x v life = over.called_on storage (setting_of s m) life.nod
 comes-to : (s : Setting) (g : Group) (ots : OtsKind) (tree : TreeKind) (i : Input) (place : Station) (spent : List Spent) (life : Life) (x : StationState) (v : Kept) → IsWorld s g ots tree
     → HoldsStation s ots tree place spent x → HoldsLife s place.disk x.member v life → ComesTo x.tag s.indexes (call_in_memory s x.member i x v life) (call_on s x.member i place life)
 comes-to s g ots tree i place spent life x v w h l =
-    let keeps : Keeps x.tag s.indexes life.node.stored (store_on x v) place.disk = record { held = h.disk; state = l.stored; gate = l.gate } in
+    let keeps : Keeps x.tag s.indexes life.node.stored (store_on x v) place.disk = record { held = h.disk; state = l.stored; seat = l.seat ∙ ap (λ (t : List ℕ). seat_of t place.disk) (sym (tag-is s ots tree place spent x h)) } in
     calls_as_told x.tag (setting_of s x.member) life.node i (store_on x v) place.disk (few-rings s g ots tree w) (few-indexes s g ots tree w) keeps
 
 -- ---- what a call leaves
@@ -90,7 +90,7 @@ passed s g ots tree i place spent life x v now d old new w h runs l none gives g
             tag = h.tag;
             disk = disk;
             lives = h.lives ∙ ap (λ (o : Option Life). length (place.past ++ option_to_list o)) runs ∙ one-more place.past life lived;
-            current = record { is = is; going = going; open_ = free; gate = gives.gate ∙ keeps.gate; stored = keeps.state };
+            current = record { is = is; going = going; open_ = free; seat = gives.seat ∙ keeps.seat ∙ ap (λ (t : List ℕ). seat_of t y.disk) (tag-is s ots tree place spent x h); stored = keeps.state };
             signed = signed-behind x.member new.events spent x.signed h.signed;
           });
     }

@@ -10,6 +10,8 @@ use Rattle.ports.specs.MemoryDisk.{DiskState}
 use Rattle.ports.specs.DiskSteps.{Came, runs}
 use Rattle.records.specs.declared.Record.{Record}
 use Rattle.epoch_store.specs.declared.Stored.{Stored}
+use Rattle.epoch_store.specs.declared.seat.Seat.{Seat}
+use Rattle.epoch_store.specs.Seat.{next_seat}
 use Rattle.epoch_store.specs.Asked.{put_calls}
 use Rattle.secrets.specs.Secrets.{nonce_seed, world_secret}
 use Rattle.signer.specs.Lives.{Spent}
@@ -18,7 +20,7 @@ use Rattle.journal.specs.declared.event.Event as journal
 use Rattle.node_rules.specs.Calls.{Call}
 use Rattle.node_rules.specs.Replies.{first_mask}
 use Rattle.lms_tree.specs.declared.key.PublicKey.{PublicKey}
-use Rattle.lms_tree.specs.Kinds.{leaf_count}
+use Rattle.lms_tree.specs.Leaves.{index_count}
 use Rattle.node_rules.specs.Nodes as node
 use Rattle.node_core.specs.declared.NodeFault.{NodeFault}
 use Rattle.node_core.specs.declared.NodeFault.TheVariants as faults
@@ -26,18 +28,18 @@ use Rattle.node_core.specs.Begins.{IsVouchable, MayRefuse, Starts}
 use Rattle.node_core.specs.OnDisks.{PutsFirst, kept_first}
 use Rattle.node_core.specs.Playing.{Kept}
 use Rattle.world_disks.specs.Held.{ComesAs, HoldsDisk, crashed}
-use Rattle.world_disks.proofs.Calling.{start_as_told}
+use Rattle.world_disks.proofs.Calling.{one-behind, start_as_told}
 use Rattle.world_disks.proofs.Reading.{comes_failed, comes_passed}
 use Rattle.world_rules.specs.Settings.{Setting, certificates, setting_of}
 use Rattle.world_rules.specs.Keys.{setting_for}
-use Rattle.world_rules.specs.Disks.{Disk, after_put, gate_of, lets_pass, opening_calls, put_passes, stopped_in_put}
+use Rattle.world_rules.specs.Disks.{Disk, after_put, lets_pass, opening_calls, put_passes, seat_of, stopped_in_put}
 use Rattle.world_rules.specs.Worlds.{Life, Station}
 use Rattle.world_rules.specs.Steps.{first_call, first_life, with_disk}
 use Rattle.world_rules.proofs.Once.{one-started}
 use Rattle.world_station.specs.declared.starting.Started.{Started}
 use Rattle.world_station.specs.declared.starting.Started.TheVariants as starts
 use Rattle.world_station.specs.Answers.{Begins, BeginsAt, BeginsLife, BeginsNode, FailsToBegin, StartsNode, StopsAt, bodies_in, opened_place}
-use Rattle.world_station.specs.Holding.{HoldsCurrent, HoldsStation, IsWorld}
+use Rattle.world_station.specs.Holding.{HoldsCurrent, HoldsStation, IsWorld, tag_of}
 use Rattle.world_station.specs.Stations.{StationState}
 use Rattle.world_station.proofs.SpentLemmas.{signed-behind}
 use Rattle.world_station.proofs.WorldLemmas.{few-indexes, few-rings, group-is}
@@ -59,65 +61,65 @@ test-left : (next indexes : ℕ) → next < indexes → eqb next indexes ≡ fal
 test-left next indexes left = grind (arith, nat_tests, left)
 
 put-first : (s : Setting) (g : Group) (ots : OtsKind) (tree : TreeKind) (m : ℕ) (tag : List ℕ) (e : Disk) (d : DiskState) → IsWorld s g ots tree → HoldsDisk tag s.indexes d e → e.state.next < s.indexes
-    → let kept = (first_call s m e.state).node.stored in ComesAs tag s.indexes (runs (put_calls (gate_of e) kept) d) (put_passes e) (after_put kept e) (stopped_in_put kept e)
+    → let kept = (first_call s m e.state).node.stored in ComesAs tag s.indexes (runs (put_calls (seat_of tag e) kept) d) (put_passes e) (after_put kept e) (stopped_in_put kept e)
 put-first s g ots tree m tag e d w h left =
     start_as_told tag (s.nonces m e.state.next) (certificates s) (setting_of s m) d e (few-rings s g ots tree w) (few-indexes s g ots tree w) h (ap not (test-left e.state.next s.indexes left))
 
-calls-are : (s : Setting) (g : Group) (ots : OtsKind) (tree : TreeKind) (m gate : ℕ) (e : Disk) (d : DiskState) (came : Came) → IsWorld s g ots tree → gate ≡ gate_of e → Some came ≡ Some (runs (put_calls gate (kept_first g.t m e.state)) d)
-    → runs (put_calls (gate_of e) (first_call s m e.state).node.stored) d ≡ came
-calls-are s g ots tree m gate e d came w at so =
-    ap (λ (k : Stored). runs (put_calls (gate_of e) k) d) (sym (kept-is s g ots tree m e.state w)) ∙ ap (λ (place : ℕ). runs (put_calls place (kept_first g.t m e.state)) d) (sym at) ∙ sym (some-same _ _ so)
+calls-are : (s : Setting) (g : Group) (ots : OtsKind) (tree : TreeKind) (m : ℕ) (seat : Seat) (tag : List ℕ) (e : Disk) (d : DiskState) (came : Came) → IsWorld s g ots tree → seat ≡ seat_of tag e → Some came ≡ Some (runs (put_calls seat (kept_first g.t m e.state)) d)
+    → runs (put_calls (seat_of tag e) (first_call s m e.state).node.stored) d ≡ came
+calls-are s g ots tree m seat tag e d came w at so =
+    ap (λ (k : Stored). runs (put_calls (seat_of tag e) k) d) (sym (kept-is s g ots tree m e.state w)) ∙ ap (λ (place : Seat). runs (put_calls place (kept_first g.t m e.state)) d) (sym at) ∙ sym (some-same _ _ so)
 
 started-so : (s : Setting) (m : ℕ) (seed : List ℕ) (records : List Record) (stored : Stored) (v : Kept) (after : List journal.Event) → seed ≡ s.nonces m stored.next → records ≡ certificates s
     → Starts (setting_of s m) seed records stored v [] after → Starts (setting_of s m) (s.nonces m stored.next) (certificates s) stored v [] after
 started-so s m seed records stored v after seeded certified starts =
     subst (λ (rs : List Record). Starts (setting_of s m) (s.nonces m stored.next) rs stored v [] after) certified (subst (λ (x : List ℕ). Starts (setting_of s m) x records stored v [] after) seeded starts)
 
-pub begins-so : (s : Setting) (g : Group) (ots : OtsKind) (tree : TreeKind) (m gate : ℕ) (tag seed : List ℕ) (records : List Record) (e : Disk) (d r : DiskState) (v : Kept) (after : List journal.Event) → IsWorld s g ots tree
-    → HoldsDisk tag s.indexes d e → seed ≡ s.nonces m e.state.next → records ≡ certificates s → gate ≡ gate_of e → Starts (setting_of s m) seed records e.state v [] after → e.state.next < s.indexes
-    → Some (record { disk = r; failed = false }) ≡ Some (runs (put_calls gate (kept_first g.t m e.state)) d) → v.ended ≡ false → v.signer.closed ≡ false → v.signer.gate ≡ gate + 17 → Begins s tag m e r after v
-begins-so s g ots tree m gate tag seed records e d r v after w h seeded certified at starts left came going free behind =
+pub begins-so : (s : Setting) (g : Group) (ots : OtsKind) (tree : TreeKind) (m : ℕ) (seat : Seat) (tag seed : List ℕ) (records : List Record) (e : Disk) (d r : DiskState) (v : Kept) (after : List journal.Event) → IsWorld s g ots tree
+    → HoldsDisk tag s.indexes d e → seed ≡ s.nonces m e.state.next → records ≡ certificates s → seat ≡ seat_of tag e → Starts (setting_of s m) seed records e.state v [] after → e.state.next < s.indexes
+    → Some (record { disk = r; failed = false }) ≡ Some (runs (put_calls seat (kept_first g.t m e.state)) d) → v.ended ≡ false → v.signer.closed ≡ false → v.signer.seat ≡ next_seat seat (kept_first g.t m e.state) → tag ≡ tag_of s m → Begins s tag m e r after v
+begins-so s g ots tree m seat tag seed records e d r v after w h seeded certified at starts left came going free behind mark =
     let kept : Stored = (first_call s m e.state).node.stored in
     let now = started-so s m seed records e.state v after seeded certified starts in
-    let came_so = comes_passed tag s.indexes _ r (put_passes e) (after_put kept e) (stopped_in_put kept e) (calls-are s g ots tree m gate e d (record { disk = r; failed = false }) w at came) (put-first s g ots tree m tag e d w h left) in
+    let came_so = comes_passed tag s.indexes _ r (put_passes e) (after_put kept e) (stopped_in_put kept e) (calls-are s g ots tree m seat tag e d (record { disk = r; failed = false }) w at came) (put-first s g ots tree m tag e d w h left) in
     record {
       left = test-left e.state.next s.indexes left;
       passes = came_so.0;
       disk = came_so.1;
-      life = record { is = now.is; going = going; open_ = free; gate = omega (arith, behind, at); stored = refl };
+      life = record { is = now.is; going = going; open_ = free; seat = behind ∙ one-behind tag e kept seat at ∙ ap (λ (t : List ℕ). seat_of t (after_put kept e)) mark; stored = refl };
       told = now.told;
       sent = now.sent;
     }
 
-pub fails-so : (s : Setting) (g : Group) (ots : OtsKind) (tree : TreeKind) (m gate : ℕ) (tag : List ℕ) (e : Disk) (d r : DiskState) → IsWorld s g ots tree → HoldsDisk tag s.indexes d e → gate ≡ gate_of e → e.state.next < s.indexes
-    → Some (record { disk = r; failed = true }) ≡ Some (runs (put_calls gate (kept_first g.t m e.state)) d) → FailsToBegin s tag m e r
-fails-so s g ots tree m gate tag e d r w h at left came =
+pub fails-so : (s : Setting) (g : Group) (ots : OtsKind) (tree : TreeKind) (m : ℕ) (seat : Seat) (tag : List ℕ) (e : Disk) (d r : DiskState) → IsWorld s g ots tree → HoldsDisk tag s.indexes d e → seat ≡ seat_of tag e → e.state.next < s.indexes
+    → Some (record { disk = r; failed = true }) ≡ Some (runs (put_calls seat (kept_first g.t m e.state)) d) → FailsToBegin s tag m e r
+fails-so s g ots tree m seat tag e d r w h at left came =
     let kept : Stored = (first_call s m e.state).node.stored in
-    let came_so = comes_failed tag s.indexes _ r (put_passes e) (after_put kept e) (stopped_in_put kept e) (calls-are s g ots tree m gate e d (record { disk = r; failed = true }) w at came) (put-first s g ots tree m tag e d w h left) in
+    let came_so = comes_failed tag s.indexes _ r (put_passes e) (after_put kept e) (stopped_in_put kept e) (calls-are s g ots tree m seat tag e d (record { disk = r; failed = true }) w at came) (put-first s g ots tree m tag e d w h left) in
     record { left = test-left e.state.next s.indexes left; stops = came_so.0; disk = came_so.1 }
 
 -- Whatever is answered.
 pub begins-by : (s : Setting) (g other : Group) (ots : OtsKind) (tree : TreeKind) (m me : ℕ) (tag seed : List ℕ) (own : PublicKey) (records : List Record) (e : Disk) (d r : DiskState) (signer : SignerState) (x : node.Setting) (before after : List journal.Event) (result : Result Kept NodeFault)
-    → IsWorld s g ots tree → HoldsDisk tag s.indexes d e → seed ≡ s.nonces m e.state.next → records ≡ certificates s → before ≡ [] → other ≡ g → me ≡ m → signer.state ≡ e.state → signer.gate ≡ gate_of e → leaf_count signer.key.tree ≡ s.indexes → setting_of s m ≡ x
+    → IsWorld s g ots tree → HoldsDisk tag s.indexes d e → seed ≡ s.nonces m e.state.next → records ≡ certificates s → before ≡ [] → other ≡ g → me ≡ m → signer.state ≡ e.state → signer.seat ≡ seat_of tag e → index_count signer.key ≡ s.indexes → setting_of s m ≡ x
     → IfOk result (λ v. (t : node.Setting) → t ≡ x → Starts t seed records signer.state v before after) → IfOk result (λ v. (t : node.Setting) → t ≡ x → IsVouchable t own records signer.state) → IfOk result (λ v. v.ended ≡ false) → IfOk result (λ v. v.signer.closed ≡ false)
-    → IfOk result (λ v. v.signer.gate ≡ signer.gate + 17) → IfErr result (λ fault. MayRefuse signer fault) → PutsFirst (kept_first other.t me signer.state) signer.gate (Some d) (Some r) result → BeginsNode s tag m e r after result
-begins-by s g other ots tree m me tag seed own records e d r signer x before after (Ok v) w h seeded certified none group_is me_is state gate leaves is starts vouched going free behind cause puts =
+    → IfOk result (λ v. v.signer.seat ≡ next_seat signer.seat (kept_first other.t me signer.state)) → tag ≡ tag_of s m → IfErr result (λ fault. MayRefuse signer fault) → PutsFirst (kept_first other.t me signer.state) signer.seat (Some d) (Some r) result → BeginsNode s tag m e r after result
+begins-by s g other ots tree m me tag seed own records e d r signer x before after (Ok v) w h seeded certified none group_is me_is state seat leaves is starts vouched going free behind mark cause puts =
     let started : Starts (setting_of s m) seed records e.state v [] after =
     subst (λ (es : List journal.Event). Starts (setting_of s m) seed records e.state v es after) none (subst (λ (k : Stored). Starts (setting_of s m) seed records k v before after) state (starts (setting_of s m) is)) in
     let left : e.state.next < s.indexes = subst (λ (k : Stored). k.next < s.indexes) state (vouched (setting_of s m) is).left in
-    let came : Some (record { disk = r; failed = false }) ≡ Some (runs (put_calls signer.gate (kept_first g.t m e.state)) d) =
-    puts ∙ ap (λ (y : Group). Some (runs (put_calls signer.gate (kept_first y.t me signer.state)) d)) group_is ∙ ap (λ (y : ℕ). Some (runs (put_calls signer.gate (kept_first g.t y signer.state)) d)) me_is
-    ∙ ap (λ (y : Stored). Some (runs (put_calls signer.gate (kept_first g.t m y)) d)) state in
-    begins-so s g ots tree m signer.gate tag seed records e d r v after w h seeded certified gate started left came going free behind
-begins-by s g other ots tree m me tag seed own records e d r signer x before after (Err faults.StoreFault) w h seeded certified none group_is me_is state gate leaves is starts vouched going free behind cause puts =
-    let left : e.state.next < s.indexes = subst (λ (n : ℕ). e.state.next < n) leaves (subst (λ (k : Stored). k.next < leaf_count signer.key.tree) state cause) in
-    let came : Some (record { disk = r; failed = true }) ≡ Some (runs (put_calls signer.gate (kept_first g.t m e.state)) d) =
-    puts ∙ ap (λ (y : Group). Some (runs (put_calls signer.gate (kept_first y.t me signer.state)) d)) group_is ∙ ap (λ (y : ℕ). Some (runs (put_calls signer.gate (kept_first g.t y signer.state)) d)) me_is
-    ∙ ap (λ (y : Stored). Some (runs (put_calls signer.gate (kept_first g.t m y)) d)) state in
-    fails-so s g ots tree m signer.gate tag e d r w h gate left came
-begins-by s g other ots tree m me tag seed own records e d r signer x before after (Err faults.OutOfMemory) w h seeded certified none group_is me_is state gate leaves is starts vouched going free behind cause puts = tt
-begins-by s g other ots tree m me tag seed own records e d r signer x before after (Err (faults.Exhausted next)) w h seeded certified none group_is me_is state gate leaves is starts vouched going free behind cause puts = tt
-begins-by s g other ots tree m me tag seed own records e d r signer x before after (Err faults.Ended) w h seeded certified none group_is me_is state gate leaves is starts vouched going free behind cause puts = tt
+    let came : Some (record { disk = r; failed = false }) ≡ Some (runs (put_calls signer.seat (kept_first g.t m e.state)) d) =
+    puts ∙ ap (λ (y : Group). Some (runs (put_calls signer.seat (kept_first y.t me signer.state)) d)) group_is ∙ ap (λ (y : ℕ). Some (runs (put_calls signer.seat (kept_first g.t y signer.state)) d)) me_is
+    ∙ ap (λ (y : Stored). Some (runs (put_calls signer.seat (kept_first g.t m y)) d)) state in
+    begins-so s g ots tree m signer.seat tag seed records e d r v after w h seeded certified seat started left came going free behind mark
+begins-by s g other ots tree m me tag seed own records e d r signer x before after (Err faults.StoreFault) w h seeded certified none group_is me_is state seat leaves is starts vouched going free behind mark cause puts =
+    let left : e.state.next < s.indexes = subst (λ (n : ℕ). e.state.next < n) leaves (subst (λ (k : Stored). k.next < index_count signer.key) state cause) in
+    let came : Some (record { disk = r; failed = true }) ≡ Some (runs (put_calls signer.seat (kept_first g.t m e.state)) d) =
+    puts ∙ ap (λ (y : Group). Some (runs (put_calls signer.seat (kept_first y.t me signer.state)) d)) group_is ∙ ap (λ (y : ℕ). Some (runs (put_calls signer.seat (kept_first g.t y signer.state)) d)) me_is
+    ∙ ap (λ (y : Stored). Some (runs (put_calls signer.seat (kept_first g.t m y)) d)) state in
+    fails-so s g ots tree m signer.seat tag e d r w h seat left came
+begins-by s g other ots tree m me tag seed own records e d r signer x before after (Err faults.OutOfMemory) w h seeded certified none group_is me_is state seat leaves is starts vouched going free behind mark cause puts = tt
+begins-by s g other ots tree m me tag seed own records e d r signer x before after (Err (faults.Exhausted next)) w h seeded certified none group_is me_is state seat leaves is starts vouched going free behind mark cause puts = tt
+begins-by s g other ots tree m me tag seed own records e d r signer x before after (Err faults.Ended) w h seeded certified none group_is me_is state seat leaves is starts vouched going free behind mark cause puts = tt
 
 -- ---- the place
 

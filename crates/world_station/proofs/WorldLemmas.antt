@@ -9,14 +9,14 @@ use Rattle.lms_tree.specs.declared.key.PublicKey.{PublicKey}
 use Rattle.lms_tree.specs.declared.secret.Secret.{Secret}
 use Rattle.lms_tree.specs.Kinds.{leaf_count}
 use Rattle.lms_tree.specs.Lms.{public_of}
-use Rattle.secrets.specs.Secrets.{key_from, world_secret}
+use Rattle.secrets.specs.Secrets.{key_from, store_tag, world_secret}
 use Rattle.signer.specs.Lives.{Spent}
 use Rattle.signer.proofs.StepLemmas.{leaf_count_small}
 use Rattle.node_core.specs.Playing as node
 use Rattle.world_rules.specs.Settings.{Setting, setting_of}
 use Rattle.world_rules.specs.Keys.{owner_key, setting_for}
 use Rattle.world_rules.specs.Worlds.{Station}
-use Rattle.world_station.specs.Holding.{HoldsStation, IsWorld}
+use Rattle.world_station.specs.Holding.{HoldsStation, IsWorld, tag_of}
 use Rattle.world_station.specs.Stations.{StationState}
 
 pub group-is : (s : Setting) (g : Group) (ots : OtsKind) (tree : TreeKind) → IsWorld s g ots tree → s.group ≡ g
@@ -59,6 +59,10 @@ own-ots g ots tree m = refl
 pub own-tree : (g : Group) (ots : OtsKind) (tree : TreeKind) (m : ℕ) → (public_of (owner_key g ots tree (Some m))).tree ≡ tree
 unfolding public_of
 own-tree g ots tree m = refl
+
+-- The mark of the store is that of the member's.
+pub tag-is : (s : Setting) (ots : OtsKind) (tree : TreeKind) (place : Station) (spent : List Spent) (x : StationState) → HoldsStation s ots tree place spent x → x.tag ≡ tag_of s x.member
+tag-is s ots tree place spent x h = h.tag ∙ ap (store_tag s.group) h.public
 
 -- The public half has the kinds of the world's keys.
 pub ots-is : (s : Setting) (g : Group) (ots : OtsKind) (tree : TreeKind) (place : Station) (spent : List Spent) (x : StationState) → IsWorld s g ots tree → HoldsStation s ots tree place spent x → x.public.ots ≡ ots

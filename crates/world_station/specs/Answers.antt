@@ -17,7 +17,7 @@ use Rattle.node_core.specs.declared.NodeFault.TheVariants as faults
 use Rattle.node_core.specs.Playing.{Kept}
 use Rattle.world_disks.specs.Held.{HoldsDisk, crashed}
 use Rattle.world_rules.specs.Settings.{Setting, setting_of}
-use Rattle.world_rules.specs.Disks.{Disk, after_calls, after_put, gate_of, lets_pass, opening_calls, put_passes, stopped, stopped_in_put}
+use Rattle.world_rules.specs.Disks.{Disk, after_calls, after_put, lets_pass, opening_calls, put_passes, seat_of, stopped, stopped_in_put}
 use Rattle.world_rules.specs.Calls.{OnDisk, called_on}
 use Rattle.world_rules.specs.Worlds.{Life, Station, spent_if_by}
 use Rattle.world_rules.specs.Steps.{first_call, first_life, signed_in, station_after, with_disk, with_input}
@@ -75,7 +75,7 @@ Ends old new (Err faults.Ended) answer = (is_err answer ≡ true) × (new ≡ ol
 -- stands for the one behind that. Memory is never refused.
 abbrev pub OpensStore : List ℕ → ℕ → Disk → DiskState → Result (Option StoreState) NoMemory → Type 0
 OpensStore tag indexes e d (Ok (Some store)) =
-    (lets_pass e.armed (opening_calls e) ≡ true) × (store ≡ record { state = e.state; gate = gate_of e; failed = false }) × HoldsDisk tag indexes d (after_calls (opening_calls e) e)
+    (lets_pass e.armed (opening_calls e) ≡ true) × (store ≡ record { state = e.state; seat = seat_of tag e; failed = false }) × HoldsDisk tag indexes d (after_calls (opening_calls e) e)
 OpensStore tag indexes e d (Ok None) = (lets_pass e.armed (opening_calls e) ≡ false) × HoldsDisk tag indexes d (stopped e)
 OpensStore tag indexes e d (Err refused) = ⊥
 

@@ -11,7 +11,7 @@ use Rattle.node_core.specs.Rolls.{recs_of}
 use Rattle.world_disks.specs.Held.{HoldsDisk}
 use Rattle.world_rules.specs.Settings.{Setting, certificates, setting_of}
 use Rattle.world_rules.specs.Keys.{owner_key, setting_for}
-use Rattle.world_rules.specs.Disks.{Disk, gate_of, made_disk}
+use Rattle.world_rules.specs.Disks.{Disk, made_disk, seat_of}
 use Rattle.world_rules.specs.Worlds.{Life, Station}
 use Rattle.world_keys.specs.Certifying.{Certifying}
 use Rattle.world_station.specs.Stations.{StationState}
@@ -30,12 +30,16 @@ pub record Certifies (s : Setting) (a : Certifying) : Type 0 where
 abbrev pub made_place : Setting → Station
 made_place s = record { disk = made_disk (record { 0 = all_rings s.group.t }); past = []; current = None }
 
+-- The tag of a member's store.
+abbrev pub tag_of : Setting → ℕ → List ℕ
+tag_of s m = store_tag s.group (s.key (Some m))
+
 -- The node that runs is where the life is, over this disk.
 pub record HoldsLife (s : Setting) (e : Disk) (m : ℕ) (v : node.Kept) (life : Life) : Type 0 where
   pub is : node.IsNode (setting_of s m) v life.node
   pub going : v.ended ≡ false
   pub open_ : v.signer.closed ≡ false
-  pub gate : v.signer.gate ≡ gate_of e
+  pub seat : v.signer.seat ≡ seat_of (tag_of s m) e
   pub stored : e.state ≡ life.node.stored
 
 abbrev pub HoldsCurrent : Setting → Disk → ℕ → Option node.Kept → Option Life → Type 0

@@ -3,16 +3,14 @@
 ghost use Rattle.std.specs.Prelude.{◌≡◌, ℕ, List, [], None, Some, IfOk, IfSome, false};
 ghost use Rattle.lms_ots.specs.declared.OtsKind.{OtsKind};
 ghost use Rattle.lms_tree.specs.declared.TreeKind.{TreeKind};
-ghost use Rattle.lms_tree.specs.Kinds.{leaf_count};
-ghost use Rattle.lms_tree.specs.Lms.{public_of};
 ghost use Rattle.signer.specs.Lives.{Spent};
-ghost use Rattle.world_rules.specs.Disks.{Disk, gate_of};
+ghost use Rattle.world_rules.specs.Disks.{Disk, seat_of};
 ghost use Rattle.world_rules.specs.Keys.{owner_key};
 ghost use Rattle.world_rules.specs.Settings.{Setting};
 ghost use Rattle.world_rules.specs.Worlds.{Station as Place};
 ghost use Rattle.world_disks.specs.Held.{HoldsDisk};
 ghost use Rattle.world_station.specs.Answers.{BeginsLife, BeginsNode, OpensStore, StartsNode};
-ghost use Rattle.world_station.specs.Holding.{Certifies, HoldsStation, IsWorld};
+ghost use Rattle.world_station.specs.Holding.{Certifies, HoldsStation, IsWorld, tag_of};
 
 use crate::station::{FILE, Station};
 use epoch_store::{Store, StoreError};
@@ -35,7 +33,6 @@ pub enum Started {
 }
 
 /// A signer with the key over its store. The store's next index is one of the key's, or the number of all of them.
-#[tactic(auto, unfolding(lms_tree::specs::Lms::public_of))]
 fn open_signer(group: Group, key: SecretKey, store: Store) -> Result<Signer, NoMemory>
     requires { store.failed ≡ false }
     ensures { IfOk result (λ signer. signer ≡ record {
@@ -43,14 +40,14 @@ fn open_signer(group: Group, key: SecretKey, store: Store) -> Result<Signer, NoM
       key = key;
       leaf = store.state.next;
       state = store.state;
-      gate = store.gate;
+      seat = store.seat;
       closed = false;
     }) }
 {
-    if store.state().next > key.public().tree.leaf_count() {
+    let (tree, leaves) = key.split();
+    if store.state().next > tree.index_count() {
         return Err(NoMemory);
     }
-    let (tree, leaves) = key.split();
     Ok(Signer::open(group, tree, leaves, store))
 }
 
@@ -101,8 +98,8 @@ fn begin_node(
 ) -> Result<Node, NodeFault>
     requires { store.failed ≡ false }
     ensures { (s : Setting) (ots : OtsKind) (tree : TreeKind) (tag : List ℕ) (e : Disk) → IsWorld s authority.now.group ots tree → Certifies s authority.now
-        → key ≡ owner_key authority.now.group ots tree (Some member) → store ≡ record { state = e.state; gate = gate_of e; failed = false }
-        → HoldsDisk tag s.indexes disk.old e → events.old ≡ [] → BeginsNode s tag member e disk.new events.new result }
+        → key ≡ owner_key authority.now.group ots tree (Some member) → store ≡ record { state = e.state; seat = seat_of tag e; failed = false }
+        → tag ≡ tag_of s member → HoldsDisk tag s.indexes disk.old e → events.old ≡ [] → BeginsNode s tag member e disk.new events.new result }
 {
     let Ok(kit) = authority.kit(alloc, member, store.state().next) else {
         return Err(NodeFault::OutOfMemory);
@@ -127,7 +124,7 @@ impl Station {
         requires { store.failed ≡ false }
         ensures member { self.new.member ≡ self.old.member }
         ensures begins { (s : Setting) (ots : OtsKind) (tree : TreeKind) (place : Place) (spent : List Spent) → IsWorld s authority.now.group ots tree → Certifies s authority.now
-            → HoldsStation s ots tree place spent self.old → place.current ≡ None → store ≡ record { state = place.disk.state; gate = gate_of place.disk; failed = false }
+            → HoldsStation s ots tree place spent self.old → place.current ≡ None → store ≡ record { state = place.disk.state; seat = seat_of self.old.tag place.disk; failed = false }
             → BeginsLife s ots tree place spent self.new result }
     {
         let life = self.lives.checked_add(1).ok_or(NoMemory)?;

@@ -14,7 +14,7 @@ ghost use Rattle.world_rules.specs.Refusals.{epoch_of_note, greatest};
 ghost use Rattle.world_rules.specs.Settings.{Setting};
 ghost use Rattle.world_station.specs.Holding.{HoldsStation, IsWorld, made_place};
 
-use epoch_store::make;
+use epoch_store::{make, store_len};
 use ff_ids::{Epoch, Group, MemberId, all_rings};
 use fields::NoMemory;
 use lms_tree::{PublicKey, SecretKey};
@@ -78,7 +78,7 @@ fn open_disk(alloc: Global, indexes: u32) -> Result<MemoryDisk, NoMemory>
     ensures { IfOk result (λ disk. IsNew indexes disk) }
 {
     let indexes = indexes as usize;
-    MemoryDisk::new(alloc, 58 + 17 * indexes, 2 + 4 * indexes, Vec::new(alloc))
+    MemoryDisk::new(alloc, store_len(indexes + 1), 2 + 4 * indexes, Vec::new(alloc))
 }
 
 impl Station {

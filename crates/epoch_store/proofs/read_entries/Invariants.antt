@@ -8,11 +8,12 @@ abbrev pub invariant-loop-state : goal.invariant-loop-state
 invariant-loop-state g l = record {
   told : g.D.Disk.moments l.disk ≡ g.D.Disk.moments l.initial.disk;
   faults : g.D.Disk.faults l.disk ≡ g.D.Disk.faults l.initial.disk;
-  so_far : Continues (g.D.Disk.moments l.initial.disk) l.before l.gate;
-  place : IsPlaced l.before l.gate;
-  reached : ReachesIn (g.D.Disk.moments l.initial.disk) l.before l.gate;
-  follows : HasPassed l.gate (g.D.Disk.state l.initial.disk) (g.D.Disk.state l.disk);
-  calls : HasRead l.gate (g.D.Disk.calls l.initial.disk) (g.D.Disk.calls l.disk);
+  so_far : Continues l.tag (g.D.Disk.moments l.initial.disk) l.before l.seat;
+  place : IsPlaced l.before l.seat;
+  in_force : l.seat.tag ≡ l.tag;
+  reached : ReachesIn l.tag (g.D.Disk.moments l.initial.disk) l.before l.seat;
+  follows : HasPassed l.seat.gate (g.D.Disk.state l.initial.disk) (g.D.Disk.state l.disk);
+  calls : HasRead l.seat.gate (g.D.Disk.calls l.initial.disk) (g.D.Disk.calls l.disk);
 }
 
 abbrev pub decreases-loop-state : goal.decreases-loop-state

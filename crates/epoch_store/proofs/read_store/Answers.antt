@@ -32,9 +32,9 @@ returns-in-Err-clause-calls g c = head_only c.in-Err.error _ _ c.in-Err.ensures.
 
 pub returns-in-Ok-clause-follows : goal.returns-in-Ok-clause-follows
 returns-in-Ok-clause-follows g c =
-    gates_after [] (ToRead 0 40 ∷ []) (g.D.Disk.moments c.args.disk.now) c.read_entries.result (g.D.Disk.state c.args.disk.now) (g.D.Disk.state c.read_head.new.disk) (g.D.Disk.state c.read_entries.new.disk)
+    gates_after c.args.tag.now [] (ToRead 0 40 ∷ []) (g.D.Disk.moments c.args.disk.now) c.read_entries.result (g.D.Disk.state c.args.disk.now) (g.D.Disk.state c.read_head.new.disk) (g.D.Disk.state c.read_entries.new.disk)
     c.in-Ok.ensures.follows (rw c.in-Ok.ensures.same at c.read_entries.ensures.follows)
 
 pub returns-in-Err-clause-follows : goal.returns-in-Err-clause-follows
 returns-in-Err-clause-follows g c =
-    head_refused_on c.in-Err.error (g.D.Disk.moments c.args.disk.now) _ _ c.in-Err.ensures.near c.in-Err.ensures.follows
+    head_refused_on c.in-Err.error c.args.tag.now (g.D.Disk.moments c.args.disk.now) _ _ c.in-Err.ensures.near c.in-Err.ensures.follows

@@ -1,7 +1,7 @@
 use Rattle.std.proofs.Common.{◌≡◌, ◌∙◌, ◌<◌, ◌≤◌, ℕ, false, Err, ap, arith, subst, sym}
-use Rattle.lms_tree.specs.Kinds.{leaf_count}
+use Rattle.lms_tree.specs.Leaves.{index_count}
 use Rattle.authority.specs.OfDisk.{of_disk}
-use Rattle.authority.specs.Settings.{asked_in}
+use Rattle.authority.specs.Settings.{asked_in, key_of}
 use Rattle.authority.specs.declared.halt.Halt.TheVariants as halt
 use Rattle.enrolment.specs.Enrolling.{EnrolsBehind}
 use Rattle.play.specs.Plays.{standing}
@@ -12,19 +12,20 @@ pub returns-then-is_asked-clause-enrols : goal.returns-then-is_asked-clause-enro
 returns-then-is_asked-clause-enrols g c = λ left reads.
     let o = c.in-Ok.opened.store.state in
     let next : o.next ≡ c.state-next.result.next = sym (ap (λ s. s.next) c.state-next.ensures.value) in
-    let gone : leaf_count c.args.setting.now.kinds.tree < o.next = let a = c.if-next-leaf_count.true in let b = c.leaf_count.ensures in omega (arith, a, b, next) in
+    let count = ap index_count c.in-Ok.ensures.opens.tree in
+    let gone : index_count (key_of c.args.setting.now) < o.next = let a = c.if-next-index_count.true in let b = c.index_count.ensures.value in omega (arith, a, b, count, next) in
     subst (λ (n : ℕ). EnrolsBehind c.args.name.now c.args.setting.now (asked_in c.args.lines.items) (standing left (g.O.Sink.taken c.args.out.now) reads (g.O.Sink.faults c.args.out.now)) (standing left (g.O.Sink.taken c.args.out.now) reads (g.O.Sink.faults c.args.out.now))
     (of_disk (g.D.Disk.faults c.args.disk.now) (g.D.Disk.calls c.args.disk.now) (g.D.Disk.moments c.args.disk.now))
     (of_disk (g.D.Disk.faults c.open_store.new.disk) (g.D.Disk.calls c.open_store.new.disk) (g.D.Disk.moments c.open_store.new.disk))
     (Err (halt.Exhausted n))) next
-    (gone-asked c.args.name.now c.args.setting.now o c.in-Ok.opened.store.gate (asked_in c.args.lines.items) (standing left (g.O.Sink.taken c.args.out.now) reads (g.O.Sink.faults c.args.out.now))
+    (gone-asked c.args.name.now c.args.setting.now o c.in-Ok.opened.store.seat (asked_in c.args.lines.items) (standing left (g.O.Sink.taken c.args.out.now) reads (g.O.Sink.faults c.args.out.now))
     (of_disk (g.D.Disk.faults c.args.disk.now) (g.D.Disk.calls c.args.disk.now) (g.D.Disk.moments c.args.disk.now))
     (of_disk (g.D.Disk.faults c.open_store.new.disk) (g.D.Disk.calls c.open_store.new.disk) (g.D.Disk.moments c.open_store.new.disk))
     gone c.in-Ok.ensures.opens.opened (sym c.is_asked.ensures ∙ c.if-is_asked.true))
 
-pub returns-then-next-leaf_count-clause-enrols : goal.returns-then-next-leaf_count-clause-enrols
-returns-then-next-leaf_count-clause-enrols g c = λ left reads.
-    gone-unasked c.args.name.now c.args.setting.now c.in-Ok.opened.store.state c.in-Ok.opened.store.gate (asked_in c.args.lines.items) (standing left (g.O.Sink.taken c.args.out.now) reads (g.O.Sink.faults c.args.out.now))
+pub returns-then-next-index_count-clause-enrols : goal.returns-then-next-index_count-clause-enrols
+returns-then-next-index_count-clause-enrols g c = λ left reads.
+    gone-unasked c.args.name.now c.args.setting.now c.in-Ok.opened.store.state c.in-Ok.opened.store.seat (asked_in c.args.lines.items) (standing left (g.O.Sink.taken c.args.out.now) reads (g.O.Sink.faults c.args.out.now))
     (of_disk (g.D.Disk.faults c.args.disk.now) (g.D.Disk.calls c.args.disk.now) (g.D.Disk.moments c.args.disk.now))
     (of_disk (g.D.Disk.faults c.open_store.new.disk) (g.D.Disk.calls c.open_store.new.disk) (g.D.Disk.moments c.open_store.new.disk))
     c.in-Ok.ensures.opens.opened (sym c.is_asked.ensures ∙ c.if-is_asked.false)
@@ -32,13 +33,14 @@ returns-then-next-leaf_count-clause-enrols g c = λ left reads.
 pub returns-clause-enrols : goal.returns-clause-enrols
 returns-clause-enrols g c = λ left reads.
     let o = c.in-Ok.opened.store.state in
-    let gate = c.in-Ok.opened.store.gate in
+    let seat = c.in-Ok.opened.store.seat in
     let h = c.in-Ok.ensures.opens in
-    let is : c.open-signer.result ≡ begun c.args.setting.now o gate =
-    c.open-signer.ensures.value ∙ ap (λ k. record { group = c.args.setting.now.group; key = k; leaf = o.next; state = o; gate = gate; closed = false }) h.tree in
-    let few : o.next ≤ leaf_count c.args.setting.now.kinds.tree =
-    let a = c.if-next-leaf_count.false in let b = c.leaf_count.ensures in let d = ap (λ s. s.next) c.state-next.ensures.value in omega (arith, a, b, d) in
-    signed-behind c.args.name.now c.args.setting.now o gate c.open-signer.result (asked_in c.args.lines.items) _ _
+    let is : c.open-signer.result ≡ begun c.args.setting.now o seat =
+    c.open-signer.ensures.value ∙ ap (λ k. record { group = c.args.setting.now.group; key = k; leaf = o.next; state = o; seat = seat; closed = false }) h.tree in
+    let count = ap index_count h.tree in
+    let few : o.next ≤ index_count (key_of c.args.setting.now) =
+    let a = c.if-next-index_count.false in let b = c.index_count.ensures.value in let d = ap (λ s. s.next) c.state-next.ensures.value in omega (arith, a, b, count, d) in
+    signed-behind c.args.name.now c.args.setting.now o seat c.open-signer.result (asked_in c.args.lines.items) _ _
     (of_disk (g.D.Disk.faults c.args.disk.now) (g.D.Disk.calls c.args.disk.now) (g.D.Disk.moments c.args.disk.now))
     (of_disk (g.D.Disk.faults c.open_store.new.disk) (g.D.Disk.calls c.open_store.new.disk) (g.D.Disk.moments c.open_store.new.disk))
     _ c.sign_all.result is few h.opened (c.sign_all.ensures.signs left reads)

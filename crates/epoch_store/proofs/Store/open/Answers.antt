@@ -45,12 +45,12 @@ returns-clause-calls g c =
 pub returns-in_err-open_file-clause-follows : goal.returns-in_err-open_file-clause-follows
 returns-in_err-open_file-clause-follows g c =
     let p = err_from_is_err_and c.from_residual.result c.from_residual.ensures.1 in
-    rw (p.1, p.2) (unopened_to_read c.args.name.now (g.D.Disk.moments c.args.disk.now) c.in_err-open_file.field-0.0 _ _ c.in_err-open_file.ensures.follows)
+    rw (p.1, p.2) (unopened_to_read c.args.tag.now c.args.name.now (g.D.Disk.moments c.args.disk.now) c.in_err-open_file.field-0.0 _ _ c.in_err-open_file.ensures.follows)
 
 pub returns-in_err-sync-clause-follows : goal.returns-in_err-sync-clause-follows
 returns-in_err-sync-clause-follows g c =
     let p = err_from_is_err_and c.from_residual-in_err-sync.result c.from_residual-in_err-sync.ensures.1 in
-    rw (p.1, p.2) (unsynced_to_read c.args.name.now (g.D.Disk.moments c.args.disk.now) (g.D.Disk.state c.args.disk.now) (g.D.Disk.state c.open_file.new.disk) (g.D.Disk.state c.sync.new.self) c.in_ok-open_file.ensures.follows c.in_err-sync.ensures.follows)
+    rw (p.1, p.2) (unsynced_to_read c.args.tag.now c.args.name.now (g.D.Disk.moments c.args.disk.now) (g.D.Disk.state c.args.disk.now) (g.D.Disk.state c.open_file.new.disk) (g.D.Disk.state c.sync.new.self) c.in_ok-open_file.ensures.follows c.in_err-sync.ensures.follows)
 
 pub returns-clause-follows : goal.returns-clause-follows
 returns-clause-follows g c =
@@ -58,6 +58,6 @@ returns-clause-follows g c =
     let first = g.D.Disk.state c.args.disk.now in
     let opened = g.D.Disk.state c.open_file.new.disk in
     let synced = g.D.Disk.state c.sync.new.self in
-    gates_same (ToRead 0 40 ∷ ToSync ∷ ToOpen c.args.name.now ∷ []) (g.D.Disk.moments c.args.disk.now) (g.D.Disk.moments c.sync.new.self) c.read_store.result first (g.D.Disk.state c.read_store.new.disk) settles
-    (gates_after (ToRead 0 40 ∷ []) (ToSync ∷ ToOpen c.args.name.now ∷ []) (g.D.Disk.moments c.sync.new.self) c.read_store.result first synced (g.D.Disk.state c.read_store.new.disk)
+    gates_same c.args.tag.now (ToRead 0 40 ∷ ToSync ∷ ToOpen c.args.name.now ∷ []) (g.D.Disk.moments c.args.disk.now) (g.D.Disk.moments c.sync.new.self) c.read_store.result first (g.D.Disk.state c.read_store.new.disk) settles
+    (gates_after c.args.tag.now (ToRead 0 40 ∷ []) (ToSync ∷ ToOpen c.args.name.now ∷ []) (g.D.Disk.moments c.sync.new.self) c.read_store.result first synced (g.D.Disk.state c.read_store.new.disk)
     (then_runs (ToSync ∷ []) (ToOpen c.args.name.now ∷ []) first opened synced false c.in_ok-open_file.ensures.follows c.in_ok-sync.ensures.follows) c.read_store.ensures.follows)

@@ -12,8 +12,8 @@ pub returns-in_default-make : goal.returns-in_default-make
 returns-in_default-make c = λ before spent ends.
     (kept_by_opening c.args.holder.now.tag before spent (told c.args.disk.now) (told c.open.new.disk) ends c.in-Ok.ensures.any_moment).1
 
-pub returns-then-state-leaf_count : goal.returns-then-state-leaf_count
-returns-then-state-leaf_count c = λ before spent ends.
+pub returns-then-state-index_count : goal.returns-then-state-index_count
+returns-then-state-index_count c = λ before spent ends.
     (kept_by_opening c.args.holder.now.tag before spent (told c.args.disk.now) (told c.open.new.disk) ends c.in-Ok.ensures.any_moment).1
 
 pub returns : goal.returns

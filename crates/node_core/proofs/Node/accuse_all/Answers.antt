@@ -34,9 +34,9 @@ loop-member-preserved g c =
         plays = λ s es os call p. subst (λ (x : Call). Plays s es os c.accuse.new.self x) (sym (fold-push (accuses true s) call h.done r)) (c.in_ok-accuse.ensures.plays s es os (accuses_all s h.done call) (h.plays s es os call p));
         comes = λ s es os call d p on is fine.
             let before = h.comes s es os call d p on is (c.accuse.ensures.grows.going fine) in
-            let o : OnDisk PlacedStore = fold (accuses_on storage s) (on_disk call d c.args.self.now.signer.gate) h.done in
+            let o : OnDisk PlacedStore = fold (accuses_on storage s) (on_disk call d c.args.self.now.signer.seat) h.done in
             let ran = (c.in_ok-accuse.ensures.plays s es os o.call (plays-at s es os c.loop-member.self o.call before.at)).at fine in
-            subst (ComesTo s es os c.accuse.new.self (g.D.Disk.state c.accuse.new.disk) false) (sym (accuses-going s o r before.ended) ∙ sym (fold-push (accuses_on storage s) (on_disk call d c.args.self.now.signer.gate) h.done r))
+            subst (ComesTo s es os c.accuse.new.self (g.D.Disk.state c.accuse.new.disk) false) (sym (accuses-going s o r before.ended) ∙ sym (fold-push (accuses_on storage s) (on_disk call d c.args.self.now.signer.seat) h.done r))
             (comes-further s es os c.loop-member.self c.accuse.new.self (g.D.Disk.state c.loop-member.disk) (g.D.Disk.state c.accuse.new.disk) o (λ works. accuses works s o.call r) before c.in_ok-accuse.ensures.stores ran (on-accuses s o.call r));
         grows = grows-trans c.args.self.now c.loop-member.self c.accuse.new.self h.grows c.accuse.ensures.grows;
         spends = spends-trans c.args.self.now c.loop-member.self c.accuse.new.self _ _ _ h.spends c.accuse.ensures.grows c.accuse.ensures.spends;
@@ -92,7 +92,7 @@ returns-in_err-accuse-clause-follows g c = λ s es os call d p on is fine.
     let rest = c.next.new.self.rest.items in
     let next : c.loop-member.member-iterator.rest.items ≡ r ∷ rest = c.in-Some.ensures.steps.0 in
     let whole : c.args.silent.items ≡ h.done ++ r ∷ rest = h.split ∙ ap (λ (xs : List ℕ). h.done ++ xs) next in
-    let begun : OnDisk PlacedStore = on_disk call d c.args.self.now.signer.gate in
+    let begun : OnDisk PlacedStore = on_disk call d c.args.self.now.signer.seat in
     let o : OnDisk PlacedStore = fold (accuses_on storage s) begun h.done in
     let before = h.comes s es os call d p on is (c.accuse.ensures.grows.going fine) in
     let played = plays-at s es os c.loop-member.self o.call before.at in
@@ -111,4 +111,4 @@ returns-clause-follows g c = λ s es os call d p on is fine.
     let long : length c.loop-member.member-iterator.rest.items ≡ 0 = sym c.loop-member.member-iterator.rest.ok.0 ∙ c.in-None.ensures.steps.0 in
     let none : c.loop-member.member-iterator.rest.items ≡ [] = no_items c.loop-member.member-iterator.rest.items long in
     let whole : c.args.silent.items ≡ h.done = h.split ∙ ap (λ (xs : List ℕ). h.done ++ xs) none ∙ nil-right h.done in
-    subst (λ (xs : List ℕ). ComesTo s es os c.loop-member.self (g.D.Disk.state c.loop-member.disk) false (fold (accuses_on storage s) (on_disk call d c.args.self.now.signer.gate) xs)) (sym whole) (h.comes s es os call d p on is fine)
+    subst (λ (xs : List ℕ). ComesTo s es os c.loop-member.self (g.D.Disk.state c.loop-member.disk) false (fold (accuses_on storage s) (on_disk call d c.args.self.now.signer.seat) xs)) (sym whole) (h.comes s es os call d p on is fine)

@@ -19,6 +19,7 @@ use Rattle.datagram.specs.Grammar.{read_of}
 use Rattle.node_rules.specs.OnDisks.{delivered_on}
 use Rattle.node_core.proofs.DiskLemmas.{delivered-on-is, follows-by}
 use Rattle.node_core.proofs.Node.deliver.Goals as goal
+use Rattle.epoch_store.specs.declared.seat.Seat.{Seat}
 
 pub returns-clause-step : goal.returns-clause-step
 returns-clause-step g c = λ s n is0 going.
@@ -78,10 +79,10 @@ returns-clause-follows g c = λ s n d is0 going told.
     let old : Lent = record { events = es; sent = os } in
     let new : Lent = record { events = c.finish.new.events; sent = c.finish.new.out } in
     let y = g.D.Disk.state c.hear_bytes-heard.new.disk in
-    let made = λ (gate : ℕ). delivered_on storage s n c.args.bytes.now (record { disk = d; gate = gate }) in
-    follows-by s c.hear_bytes-heard.new.self c.finish.new.self old new y (made c.args.self.now.signer.gate) c.hear_bytes-heard.result c.finish.result
-    (λ fine. subst (λ (gate : ℕ). ComesTo s es os c.hear_bytes-heard.new.self y (is_err c.hear_bytes-heard.result) (made gate)) (ap (λ (w : Kept). w.signer.gate) c.self.view_is)
-    (subst (ComesTo s es os c.hear_bytes-heard.new.self y (is_err c.hear_bytes-heard.result)) (sym (delivered-on-is s n c.args.bytes.now d v.signer.gate)) (c.hear_bytes-heard.ensures.follows s es os (begun n) d p refl told fine)))
+    let made = λ (seat : Seat). delivered_on storage s n c.args.bytes.now (record { disk = d; seat = seat }) in
+    follows-by s c.hear_bytes-heard.new.self c.finish.new.self old new y (made c.args.self.now.signer.seat) c.hear_bytes-heard.result c.finish.result
+    (λ fine. subst (λ (seat : Seat). ComesTo s es os c.hear_bytes-heard.new.self y (is_err c.hear_bytes-heard.result) (made seat)) (ap (λ (w : Kept). w.signer.seat) c.self.view_is)
+    (subst (ComesTo s es os c.hear_bytes-heard.new.self y (is_err c.hear_bytes-heard.result)) (sym (delivered-on-is s n c.args.bytes.now d v.signer.seat)) (c.hear_bytes-heard.ensures.follows s es os (begun n) d p refl told fine)))
     c.hear_bytes-heard.ensures.cause c.finish.ensures.failed c.finish.ensures.going c.finish.ensures.frame c.finish.ensures.events c.finish.ensures.sent
 
 pub returns-then-self-clause-follows : goal.returns-then-self-clause-follows

@@ -35,9 +35,9 @@ loop-rec-preserved g c =
         plays = λ s es os call p. subst (λ (x : Call). Plays s es os c.handle.new.self x) (sym (fold-push (handles true s) call h.done r)) (c.in_ok-handle.ensures.plays s es os (handles_all s h.done call) (h.plays s es os call p));
         comes = λ s es os call d p on is fine.
             let before = h.comes s es os call d p on is (c.handle.ensures.grows.going fine) in
-            let o : OnDisk PlacedStore = fold (handles_on storage s) (on_disk call d c.args.self.now.signer.gate) h.done in
+            let o : OnDisk PlacedStore = fold (handles_on storage s) (on_disk call d c.args.self.now.signer.seat) h.done in
             let ran = (c.in_ok-handle.ensures.plays s es os o.call (plays-at s es os c.loop-rec.self o.call before.at)).at fine in
-            subst (ComesTo s es os c.handle.new.self (g.D.Disk.state c.handle.new.disk) false) (sym (handles-going s o r before.ended) ∙ sym (fold-push (handles_on storage s) (on_disk call d c.args.self.now.signer.gate) h.done r))
+            subst (ComesTo s es os c.handle.new.self (g.D.Disk.state c.handle.new.disk) false) (sym (handles-going s o r before.ended) ∙ sym (fold-push (handles_on storage s) (on_disk call d c.args.self.now.signer.seat) h.done r))
             (comes-further s es os c.loop-rec.self c.handle.new.self (g.D.Disk.state c.loop-rec.disk) (g.D.Disk.state c.handle.new.disk) o (λ works. handles works s o.call r) before c.in_ok-handle.ensures.stores ran (on-handles s o.call r));
         grows = grows-trans c.args.self.now c.loop-rec.self c.handle.new.self h.grows c.handle.ensures.grows;
         spends = spends-trans c.args.self.now c.loop-rec.self c.handle.new.self _ _ _ h.spends c.handle.ensures.grows c.handle.ensures.spends;
@@ -94,7 +94,7 @@ returns-in_err-handle-clause-follows g c = λ s es os call d p on is fine.
     let rest = c.next.new.self.rest.items in
     let next : c.loop-rec.rec-iterator.rest.items ≡ r ∷ rest = c.in-Some.ensures.steps.0 in
     let whole : c.args.records.items ≡ h.done ++ r ∷ rest = h.split ∙ ap (λ (xs : List Record). h.done ++ xs) next in
-    let begun : OnDisk PlacedStore = on_disk call d c.args.self.now.signer.gate in
+    let begun : OnDisk PlacedStore = on_disk call d c.args.self.now.signer.seat in
     let o : OnDisk PlacedStore = fold (handles_on storage s) begun h.done in
     let before = h.comes s es os call d p on is (c.handle.ensures.grows.going fine) in
     let played = plays-at s es os c.loop-rec.self o.call before.at in
@@ -113,4 +113,4 @@ returns-clause-follows g c = λ s es os call d p on is fine.
     let long : length c.loop-rec.rec-iterator.rest.items ≡ 0 = sym c.loop-rec.rec-iterator.rest.ok.0 ∙ c.in-None.ensures.steps.0 in
     let none : c.loop-rec.rec-iterator.rest.items ≡ [] = no_items c.loop-rec.rec-iterator.rest.items long in
     let whole : c.args.records.items ≡ h.done = h.split ∙ ap (λ (xs : List Record). h.done ++ xs) none ∙ nil-right h.done in
-    subst (λ (xs : List Record). ComesTo s es os c.loop-rec.self (g.D.Disk.state c.loop-rec.disk) false (fold (handles_on storage s) (on_disk call d c.args.self.now.signer.gate) xs)) (sym whole) (h.comes s es os call d p on is fine)
+    subst (λ (xs : List Record). ComesTo s es os c.loop-rec.self (g.D.Disk.state c.loop-rec.disk) false (fold (handles_on storage s) (on_disk call d c.args.self.now.signer.seat) xs)) (sym whole) (h.comes s es os call d p on is fine)

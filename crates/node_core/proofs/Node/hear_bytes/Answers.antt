@@ -25,5 +25,5 @@ returns-in-Err-clause-follows g c = λ s es os call d p on is fine.
 
 pub returns-in-Ok-clause-follows : goal.returns-in-Ok-clause-follows
 returns-in-Ok-clause-follows g c = λ s es os call d p on is fine.
-    read-comes s es os c.hear.new.self (g.D.Disk.state c.hear.new.disk) (is_err c.hear.result) (read_of c.args.bytes.now) c.in-Ok.datagram (on_disk call d c.args.self.now.signer.gate) c.in-Ok.ensures.exact
+    read-comes s es os c.hear.new.self (g.D.Disk.state c.hear.new.disk) (is_err c.hear.result) (read_of c.args.bytes.now) c.in-Ok.datagram (on_disk call d c.args.self.now.signer.seat) c.in-Ok.ensures.exact
     (c.hear.ensures.follows s es os call d p on is fine)

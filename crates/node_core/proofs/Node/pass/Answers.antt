@@ -22,6 +22,7 @@ use Rattle.node_core.specs.OnDisks.{ComesTo, on_disk, storage}
 use Rattle.node_core.proofs.TickLemmas.{FindsDue}
 use Rattle.node_core.proofs.TickDiskLemmas.{seen-on, ticked-on-idle, ticked-on-found}
 use Rattle.node_core.proofs.Node.pass.Goals as goal
+use Rattle.epoch_store.specs.declared.seat.Seat.{Seat}
 
 pub returns-then-not-is_due-clause-plays : goal.returns-then-not-is_due-clause-plays
 returns-then-not-is_due-clause-plays g c = λ s es os n p.
@@ -116,18 +117,18 @@ returns-then-not-is_due-clause-follows g c = λ s es os n d p told fine.
     let v2 : Kept = record v { detector = c.tick.new.self } in
     let c1 : Call = passed s n in
     let x = g.D.Disk.state c.args.disk.now in
-    let gate : ℕ = c.args.self.now.signer.gate in
+    let seat : Seat = c.args.self.now.signer.seat in
     let lived : Plays s es os c.live_tick.new.self c1 = subst (λ x. Plays s es os c.live_tick.new.self x) (sym (passed-is s n)) (c.live_tick.ensures.plays s es os (begun n) p) in
     let at : Plays s es os v c1 = subst (λ v. Plays s es os v c1) (sym c.self.view_is) lived in
     let h = at.at fine in
     let same = due-same s v c1.node c.now-now.result c.from-period.result h.is c.now-now.ensures.moment c.from-period.ensures in
     let idle : is_due s (state_of s c1.node) ≡ false = sym same ∙ search rules in
-    subst (ComesTo s es os v2 x false) (sym (ticked-on-idle s n d gate idle))
+    subst (ComesTo s es os v2 x false) (sym (ticked-on-idle s n d seat idle))
     (record {
       at = seen-at s es os v c1 c.tick.new.self (eqb (c.now-now.result % c.from-period.result) 0) h c.self.invariant.detector_group same c.tick.ensures.holds;
       ended = seen-on s n;
       disk = told;
-      gate = ap (λ (w : Kept). w.signer.gate) c.self.view_is ∙ ap (λ k. k.gate) c.live_tick.ensures.quiet.signer;
+      seat = ap (λ (w : Kept). w.signer.seat) c.self.view_is ∙ ap (λ k. k.seat) c.live_tick.ensures.quiet.signer;
     })
 
 pub returns-in-Ok-clause-follows : goal.returns-in-Ok-clause-follows
@@ -158,9 +159,9 @@ returns-in-Ok-clause-follows g c = λ s es os n d p told fine.
       round_is = search rules ∙ round-same s v c1.node c.now-now.result c.from-period.result n1 c.now-now.ensures.moment c.from-period.ensures;
     } in
     let ran = c.pass_due.ensures.follows s es os (seen s c1) d saw (seen-on s n) told fine in
-    let gates : v.signer.gate ≡ c.args.self.now.signer.gate = ap (λ (w : Kept). w.signer.gate) c.self.view_is ∙ ap (λ k. k.gate) c.live_tick.ensures.quiet.signer in
-    subst (λ (gate : ℕ). ComesTo s es os c.pass_due.new.self y (is_err c.pass_due.result) (ticked_on storage s n (record { disk = d; gate = gate }))) gates
-    (subst (ComesTo s es os c.pass_due.new.self y (is_err c.pass_due.result)) (ticked-on-found s n silent pings round d v.signer.gate finds) ran)
+    let gates : v.signer.seat ≡ c.args.self.now.signer.seat = ap (λ (w : Kept). w.signer.seat) c.self.view_is ∙ ap (λ k. k.seat) c.live_tick.ensures.quiet.signer in
+    subst (λ (seat : Seat). ComesTo s es os c.pass_due.new.self y (is_err c.pass_due.result) (ticked_on storage s n (record { disk = d; seat = seat }))) gates
+    (subst (ComesTo s es os c.pass_due.new.self y (is_err c.pass_due.result)) (ticked-on-found s n silent pings round d v.signer.seat finds) ran)
 
 pub returns-in-Err-clause-follows : goal.returns-in-Err-clause-follows
 returns-in-Err-clause-follows g c = λ s es os n d p told fine. absurd (false≢true (sym fine ∙ ap (λ (t : Tellings). t.failed) c.fail.ensures))

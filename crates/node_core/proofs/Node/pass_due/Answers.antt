@@ -43,7 +43,7 @@ returns-clause-follows g c = λ s es os call d p on is fine.
     let silent : List ℕ = c.args.due.silent.items in
     let pings : List (ℕ × ℕ) = c.args.due.pings.items in
     let y = g.D.Disk.state c.accuse_all.new.disk in
-    let begun : OnDisk PlacedStore = on_disk call d c.args.self.now.signer.gate in
+    let begun : OnDisk PlacedStore = on_disk call d c.args.self.now.signer.seat in
     let o : OnDisk PlacedStore = fold (accuses_on storage s) begun silent in
     let h = c.in_ok-accuse_all.ensures.follows s es os call d p on is (c.ping_all.ensures.grows.going (c.gossip.ensures.grows.going fine)) in
     let pinged = c.ping_all.ensures.plays s es os o.call (plays-at s es os c.accuse_all.new.self o.call h.at) in
@@ -57,7 +57,7 @@ returns-in_err-accuse_all-clause-follows g c = λ s es os call d p on is fine.
     let silent : List ℕ = c.args.due.silent.items in
     let pings : List (ℕ × ℕ) = c.args.due.pings.items in
     let y = g.D.Disk.state c.accuse_all.new.disk in
-    let begun : OnDisk PlacedStore = on_disk call d c.args.self.now.signer.gate in
+    let begun : OnDisk PlacedStore = on_disk call d c.args.self.now.signer.seat in
     let o : OnDisk PlacedStore = fold (accuses_on storage s) begun silent in
     let h = c.in_err-accuse_all.ensures.follows s es os call d p on is fine in
     subst (λ (failed : Bool). ComesTo s es os c.accuse_all.new.self y failed (due_on storage s silent pings c.args.round begun)) (sym c.from_residual.ensures.0)

@@ -42,6 +42,6 @@ returns-then-give_back-clause-spends g c =
 pub returns-clause-vouchable : goal.returns-clause-vouchable
 returns-clause-vouchable g c = λ s setting. vouchable s c.args.kit c.args.signer setting c.requires.kit c.in_ok-ready.ensures.free
 
-pub returns-clause-gate : goal.returns-clause-gate
-returns-clause-gate g c =
-    ap (λ (v : Kept). v.signer.gate) c.node.view_is ∙ ap (λ k. k.gate) c.begin-node.ensures.signer ∙ c.in_ok-ready.ensures.gate
+pub returns-clause-seat : goal.returns-clause-seat
+returns-clause-seat g c =
+    ap (λ (v : Kept). v.signer.seat) c.node.view_is ∙ ap (λ k. k.seat) c.begin-node.ensures.signer ∙ c.in_ok-ready.ensures.seat

@@ -19,6 +19,7 @@ use Rattle.node_core.specs.OnDisks.{ComesTo, on_disk, storage}
 use Rattle.node_rules.specs.OnDisks.{ticked_on}
 use Rattle.node_core.proofs.DiskLemmas.{follows-by}
 use Rattle.node_core.proofs.Node.tick.Goals as goal
+use Rattle.epoch_store.specs.declared.seat.Seat.{Seat}
 
 pub returns-clause-step : goal.returns-clause-step
 returns-clause-step g c = λ s n is0 going.
@@ -78,9 +79,9 @@ returns-clause-follows g c = λ s n d is0 going told.
     let old : Lent = record { events = es; sent = os } in
     let new : Lent = record { events = c.finish.new.events; sent = c.finish.new.out } in
     let y = g.D.Disk.state c.pass-passed.new.disk in
-    let made = λ (gate : ℕ). ticked_on storage s n (record { disk = d; gate = gate }) in
-    follows-by s c.pass-passed.new.self c.finish.new.self old new y (made c.args.self.now.signer.gate) c.pass-passed.result c.finish.result
-    (λ fine. subst (λ (gate : ℕ). ComesTo s es os c.pass-passed.new.self y (is_err c.pass-passed.result) (made gate)) (ap (λ (w : Kept). w.signer.gate) c.self.view_is)
+    let made = λ (seat : Seat). ticked_on storage s n (record { disk = d; seat = seat }) in
+    follows-by s c.pass-passed.new.self c.finish.new.self old new y (made c.args.self.now.signer.seat) c.pass-passed.result c.finish.result
+    (λ fine. subst (λ (seat : Seat). ComesTo s es os c.pass-passed.new.self y (is_err c.pass-passed.result) (made seat)) (ap (λ (w : Kept). w.signer.seat) c.self.view_is)
     (c.pass-passed.ensures.follows s es os n d p told fine))
     c.pass-passed.ensures.cause c.finish.ensures.failed c.finish.ensures.going c.finish.ensures.frame c.finish.ensures.events c.finish.ensures.sent
 

@@ -122,4 +122,4 @@ returns-in-Err-StoreFault-clause-fails g c = λ s es os call p fine.
     let y = g.D.Disk.state c.sign_note.new.disk in
     let kept : Stored = (wants true s (next_own s call.node c.args.mask) (addressees s None) call).node.stored in
     subst (λ (w : Kept). FailsToStore kept w.signer told.new.self.signer x y) c.self.view_is
-    (fails-signed v.signer c.sign_note.new.self told.new.self.signer b kept x y after told.ensures.quiet.signer (subst (λ (f : SignFault). MakesFrom {T = CheckedRecord} (Err f) (put_calls v.signer.gate (stored_after v.signer.state b)) x y) c.in-Err-StoreFault.field-0-is c.in-Err-StoreFault.ensures.follows) (wants-stored s (next_own s call.node c.args.mask) None call free ∙ ap (λ (x : Body). stored_after call.node.stored x) (sym (next-own-is s v call.node c.args.mask h.is)) ∙ ap (λ (k : Stored). stored_after k b) (sym h.is.stored)))
+    (fails-signed v.signer c.sign_note.new.self told.new.self.signer b kept x y after told.ensures.quiet.signer (subst (λ (f : SignFault). MakesFrom {T = CheckedRecord} (Err f) (put_calls v.signer.seat (stored_after v.signer.state b)) x y) c.in-Err-StoreFault.field-0-is c.in-Err-StoreFault.ensures.follows) (wants-stored s (next_own s call.node c.args.mask) None call free ∙ ap (λ (x : Body). stored_after call.node.stored x) (sym (next-own-is s v call.node c.args.mask h.is)) ∙ ap (λ (k : Stored). stored_after k b) (sym h.is.stored)))

@@ -32,21 +32,21 @@ pub returns-in-Ok-clause-puts : goal.returns-in-Ok-clause-puts
 returns-in-Ok-clause-puts g c =
     let s : SignerState = c.args.signer.now in
     let mask : c.first_mask-mask.result.0 ≡ first_mask c.args.group.now.t s.state.mask.0 = search rules in
-    c.in-Ok.ensures.follows ∙ ap (λ (k : ℕ). runs_on (put_calls s.gate (stored_after s.state (next_note s.state c.args.me (record { 0 = k })))) (g.D.Disk.state c.args.disk.now)) mask
+    c.in-Ok.ensures.follows ∙ ap (λ (k : ℕ). runs_on (put_calls s.seat (stored_after s.state (next_note s.state c.args.me (record { 0 = k })))) (g.D.Disk.state c.args.disk.now)) mask
 
-pub returns-in-Ok-clause-gate : goal.returns-in-Ok-clause-gate
-returns-in-Ok-clause-gate g c = ap (λ (x : SignerState). x.gate) c.in-Ok.ensures.after
+pub returns-in-Ok-clause-seat : goal.returns-in-Ok-clause-seat
+returns-in-Ok-clause-seat g c = ap (λ (x : SignerState). x.seat) c.in-Ok.ensures.after
 
 pub returns-in-Err-Exhausted-clause-puts : goal.returns-in-Err-Exhausted-clause-puts
 returns-in-Err-Exhausted-clause-puts g c =
     let s : SignerState = c.args.signer.now in
     let b : Body = next_note s.state c.args.me c.first_mask-mask.result in
-    subst (λ (f : SignFault). MakesFrom {T = CheckedRecord} (Err f) (put_calls s.gate (stored_after s.state b)) (g.D.Disk.state c.args.disk.now) (g.D.Disk.state c.sign_note.new.disk)) c.in-Err-Exhausted.field-0-is c.in-Err-Exhausted.ensures.follows
+    subst (λ (f : SignFault). MakesFrom {T = CheckedRecord} (Err f) (put_calls s.seat (stored_after s.state b)) (g.D.Disk.state c.args.disk.now) (g.D.Disk.state c.sign_note.new.disk)) c.in-Err-Exhausted.field-0-is c.in-Err-Exhausted.ensures.follows
 
 pub returns-in-Err-StoreFault-clause-puts : goal.returns-in-Err-StoreFault-clause-puts
 returns-in-Err-StoreFault-clause-puts g c =
     let s : SignerState = c.args.signer.now in
     let b : Body = next_note s.state c.args.me c.first_mask-mask.result in
     let mask : c.first_mask-mask.result.0 ≡ first_mask c.args.group.now.t s.state.mask.0 = search rules in
-    let failed = subst (λ (f : SignFault). MakesFrom {T = CheckedRecord} (Err f) (put_calls s.gate (stored_after s.state b)) (g.D.Disk.state c.args.disk.now) (g.D.Disk.state c.sign_note.new.disk)) c.in-Err-StoreFault.field-0-is c.in-Err-StoreFault.ensures.follows in
-    failed ∙ ap (λ (k : ℕ). runs_on (put_calls s.gate (stored_after s.state (next_note s.state c.args.me (record { 0 = k })))) (g.D.Disk.state c.args.disk.now)) mask
+    let failed = subst (λ (f : SignFault). MakesFrom {T = CheckedRecord} (Err f) (put_calls s.seat (stored_after s.state b)) (g.D.Disk.state c.args.disk.now) (g.D.Disk.state c.sign_note.new.disk)) c.in-Err-StoreFault.field-0-is c.in-Err-StoreFault.ensures.follows in
+    failed ∙ ap (λ (k : ℕ). runs_on (put_calls s.seat (stored_after s.state (next_note s.state c.args.me (record { 0 = k })))) (g.D.Disk.state c.args.disk.now)) mask

@@ -1,31 +1,29 @@
 use Rattle.std.proofs.Common.{◌≡◌, ◌≤◌, ◌∙◌, [], ap, arith}
-use Rattle.lms_tree.specs.Kinds.{leaf_count}
+use Rattle.lms_tree.specs.Leaves.{index_count}
 use Rattle.secrets.specs.Secrets.{nonce_seed, store_tag}
 use Rattle.epoch_store.specs.declared.Stored.{Stored}
 use Rattle.node_running.specs.Members.{tag_of}
 use Rattle.node_running.specs.Opening.{of_disk}
-use Rattle.node_running.proofs.OpenLemmas.{opened, used-up, tree-of, signer_of, started-from, not-started-from}
+use Rattle.node_running.proofs.OpenLemmas.{opened, used-up, signer_of, started-from, not-started-from}
 use Rattle.node_running.proofs.opening.begin.Goals as goal
 
-pub returns-then-next-leaf_count : goal.returns-then-next-leaf_count
-returns-then-next-leaf_count g c =
+pub returns-then-next-index_count : goal.returns-then-next-index_count
+returns-then-next-index_count g c =
     let m = c.args.member in
     let tag : c.store_tag.result ≡ tag_of m = c.store_tag.ensures ∙ ap (store_tag m.group) c.public-public.ensures in
     let old = of_disk (g.D.Disk.faults c.args.disk.now) (g.D.Disk.moments c.args.disk.now) in
     let mid = of_disk (g.D.Disk.faults c.open.new.disk) (g.D.Disk.moments c.open.new.disk) in
     let h = opened m c.store_tag.result c.in-Ok.store old mid tag c.in-Ok.ensures.faults c.in-Ok.ensures.settles c.in-Ok.ensures.store c.in-Ok.ensures.any_moment in
     let next : c.state-next.result.next ≡ c.in-Ok.store.state.next = ap (λ (s : Stored). s.next) c.state-next.ensures.value in
-    let tree : leaf_count c.public-public.result.tree ≡ leaf_count m.own.key.tree = ap leaf_count (tree-of m.own.key c.public-public.result c.public-public.ensures) in
-    let gone : leaf_count m.own.key.tree ≤ c.state-next.result.next = let a = c.if-next-leaf_count.true in let b = c.leaf_count.ensures in omega (arith, a, b, tree) in
+    let count = ap index_count c.split-tree.ensures.tree in
+    let gone : index_count m.own.key ≤ c.state-next.result.next = let a = c.if-next-index_count.true in let b = c.index_count.ensures.value in omega (arith, a, b, count) in
     record { begins = used-up m c.in-Ok.store old mid [] c.state-next.result.next h next gone }
 
 pub open-signer-requires-clause-within : goal.open-signer-requires-clause-within
 open-signer-requires-clause-within g c =
     let m = c.args.member in
     let next : c.state-next.result.next ≡ c.in-Ok.store.state.next = ap (λ (s : Stored). s.next) c.state-next.ensures.value in
-    let tree : leaf_count c.public-public.result.tree ≡ leaf_count m.own.key.tree = ap leaf_count (tree-of m.own.key c.public-public.result c.public-public.ensures) in
-    let split : leaf_count c.split-tree.result.0.tree ≡ leaf_count m.own.key.tree = ap (λ k. leaf_count k.tree) c.split-tree.ensures.tree in
-    let a = c.if-next-leaf_count.false in let b = c.leaf_count.ensures in omega (arith, a, b, tree, split, next)
+    let a = c.if-next-index_count.false in let b = c.index_count.ensures.value in omega (arith, a, b, next)
 
 pub returns-in-Ok-start : goal.returns-in-Ok-start
 returns-in-Ok-start g c =

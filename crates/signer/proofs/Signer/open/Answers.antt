@@ -9,6 +9,6 @@ returns-clause-begins c = λ tag before spent moments settled ends.
       key = c.args.tree;
       leaf = c.skip_to.new.self.next;
       state = c.args.store.state;
-      gate = c.args.store.gate;
+      seat = c.args.store.seat;
       closed = false;
     }) moments settled ends

@@ -5,9 +5,10 @@ use Rattle.node_core.specs.declared.NodeFault.{NodeFault}
 use Rattle.world_disks.specs.Held.{HoldsDisk, crashed}
 use Rattle.world_rules.specs.Keys.{owner_key}
 use Rattle.world_station.specs.Answers.{Begins, BeginsAt, BeginsNode, FailsToBegin, StopsAt, bodies_in}
-use Rattle.world_station.specs.Holding.{IsWorld}
+use Rattle.world_station.specs.Holding.{IsWorld, tag_of}
 use Rattle.world_station.specs.Stations.{StationState}
 use Rattle.world_station.proofs.StartLemmas.{begun-at, stopped-at}
+use Rattle.world_station.proofs.WorldLemmas.{tag-is}
 use Rattle.world_station.proofs.station.Station.begin_life.Goals as goal
 
 pub returns-in-Ok-clause-begins : goal.returns-in-Ok-clause-begins
@@ -21,8 +22,9 @@ returns-in-Ok-clause-begins c = λ s ots tree place spent w certified h idle sto
     let key : c.in_ok-key.key ≡ owner_key g ots tree (Some x.member) =
     made ∙ ap (λ (y : Group). owner_key y ots tree (Some x.member)) c.group.ensures in
     let held = subst (λ (y : StationState). HoldsDisk x.tag s.indexes y.disk place.disk) (sym seen) h.disk in
+    let mark = subst (λ (y : StationState). x.tag ≡ tag_of s y.member) (sym seen) (tag-is s ots tree place spent x h) in
     let own = subst (λ (y : StationState). c.in_ok-key.key ≡ owner_key g ots tree (Some y.member)) (sym seen) key in
-    let began = c.in-Ok.ensures s ots tree x.tag place.disk w certified own store_is held c.new-events.ensures in
+    let began = c.in-Ok.ensures s ots tree x.tag place.disk w certified own store_is mark held c.new-events.ensures in
     let begins : Begins s x.tag x.member place.disk d events c.in-Ok.node = subst (λ (y : StationState). Begins s x.tag y.member place.disk d events c.in-Ok.node) seen began in
     let life : c.in_ok-life.life ≡ x.lives + 1 = search rules in
     let put : StationState → ℕ → List journal.Event → StationState = λ y n es. record y { disk = d; lives = n; node = Some c.in-Ok.node; signed = y.signed ++ bodies_in es } in
@@ -43,8 +45,9 @@ returns-in-Err-StoreFault-clause-begins c = λ s ots tree place spent w certifie
     let key : c.in_ok-key.key ≡ owner_key g ots tree (Some x.member) =
     made ∙ ap (λ (y : Group). owner_key y ots tree (Some x.member)) c.group.ensures in
     let held = subst (λ (y : StationState). HoldsDisk x.tag s.indexes y.disk place.disk) (sym seen) h.disk in
+    let mark = subst (λ (y : StationState). x.tag ≡ tag_of s y.member) (sym seen) (tag-is s ots tree place spent x h) in
     let own = subst (λ (y : StationState). c.in_ok-key.key ≡ owner_key g ots tree (Some y.member)) (sym seen) key in
-    let began = c.in-Err-StoreFault.ensures s ots tree x.tag place.disk w certified own store_is held c.new-events.ensures in
+    let began = c.in-Err-StoreFault.ensures s ots tree x.tag place.disk w certified own store_is mark held c.new-events.ensures in
     let failed = subst (λ (f : NodeFault). BeginsNode s x.tag c.self-2.inside.member place.disk d events (Err f)) c.in-Err-StoreFault.field-0-is began in
     let fails : FailsToBegin s x.tag x.member place.disk d = subst (λ (y : StationState). FailsToBegin s x.tag y.member place.disk d) seen failed in
     let now : c.stop.new.self ≡ record x { key = None; node = None; disk = crashed 0 d } = c.stop.ensures ∙ ap (λ (y : StationState). record y { node = None; disk = crashed 0 d }) seen in
