@@ -6,4 +6,3 @@ mod form;
 mod player;
 
 pub use player::replay;
-

@@ -107,4 +107,3 @@ impl Detector {
         true
     }
 }
-

@@ -6,4 +6,3 @@ mod enrolling;
 mod signing;
 
 pub use enrolling::enroll;
-

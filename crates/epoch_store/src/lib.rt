@@ -24,12 +24,11 @@ ghost use Rattle.epoch_store.specs.Followed.{OpensFile, MakesFrom, ReadsGatesFro
 mod entry;
 mod seat;
 
-pub use seat::{Seat, store_len};
-
 use arrayvec::ArrayVec;
 use entry::{Gate, MAGIC, byte_at, check_head, entry_bytes, judge};
 use ff_ids::Mask;
 use ports::{Disk, Failed, Opened};
+pub use seat::{Seat, store_len};
 use seat::{ENTRY_LEN, HEAD_LEN};
 use std::marker::Model;
 use thiserror::Error;

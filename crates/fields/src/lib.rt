@@ -326,4 +326,3 @@ fn is_name_byte(c: u8) -> bool
 {
     matches!(c, b'a'..=b'z' | b'0'..=b'9' | b'-')
 }
-

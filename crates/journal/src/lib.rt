@@ -16,4 +16,3 @@ pub use fault::EventFault;
 pub use reading::read_event;
 pub use turn::{Heard, Turn, read_turn, write_turn};
 pub use writing::write_event;
-

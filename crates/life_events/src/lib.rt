@@ -47,4 +47,3 @@ pub fn write_members(members: &[MemberId], out: &mut Vec<u8>) -> Result<(), NoMe
     }
     written
 }
-

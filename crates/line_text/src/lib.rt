@@ -16,4 +16,3 @@ pub use bad_word::{BadWord, LineFault};
 pub use form::Form;
 pub use reader::Reader;
 pub use words::Words;
-

@@ -19,7 +19,11 @@ impl Membership {
     /// For each ring the member, if there is one, against which a kept accusation ends after this note was
     /// accepted: the successor of a member that entered, else the member itself where the note answers. Where
     /// nothing is kept no ring is looked at.
-    pub(crate) fn ended_by(&self, note: &NoteBody, enters: bool) -> [Option<MemberId>; MAX_RINGS as usize]
+    pub(crate) fn ended_by(
+        &self,
+        note: &NoteBody,
+        enters: bool,
+    ) -> [Option<MemberId>; MAX_RINGS as usize]
         ensures { AreNamed result (λ ring. if enters then next_of self.now note.now.member ring else answered_on self.now note.now ring) self.now.kept }
     {
         if self.timers.is_empty() {
@@ -94,7 +98,11 @@ impl Membership {
     }
 
     /// Ends what is kept on each ring against the member that is named for it.
-    pub(crate) fn end_named(&mut self, named: &[Option<MemberId>; MAX_RINGS as usize], out: &mut Changes)
+    pub(crate) fn end_named(
+        &mut self,
+        named: &[Option<MemberId>; MAX_RINGS as usize],
+        out: &mut Changes,
+    )
         requires { length out.old.fell + length self.old.kept ≤ ACCUSATIONS }
         ensures ends { Ends (ring_count self.old.group.t) (is_named named.now) self.old.kept out.old.fell self.new.kept out.new.fell }
         ensures rest { self.new ≡ record self.old { kept = self.new.kept } }

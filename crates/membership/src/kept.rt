@@ -63,8 +63,7 @@ pub fn brings_in(notes: &ByMember<NoteBody>, expired: &ByMember<Epoch>, note: &N
     ensures { result
         ≡ comes_in (expired_at expired.now note.now.member) (get notes.now note.now.member) note.now }
 {
-    !is_live(notes, expired, note.member)
-        && is_viewed(note, expired_epoch(expired, note.member))
+    !is_live(notes, expired, note.member) && is_viewed(note, expired_epoch(expired, note.member))
 }
 
 /// Whether the accusation takes its member out of the view.

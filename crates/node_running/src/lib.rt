@@ -10,4 +10,3 @@ mod running;
 
 pub use halt::NodeHalt;
 pub use running::run_node;
-

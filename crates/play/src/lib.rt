@@ -10,4 +10,3 @@ mod stop;
 pub use player::play;
 pub use script::{Refusal, Script};
 pub use stop::Stop;
-

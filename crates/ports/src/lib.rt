@@ -143,4 +143,3 @@ pub fn write_all<O: Sink>(out: &mut O, bytes: &[u8]) -> Result<(), Failed>
     }
     Ok(())
 }
-

@@ -65,4 +65,3 @@ pub fn must_answer(own: &NoteBody, acc: &AccBody) -> bool
 {
     acc.accused == own.member && acc.epoch == own.epoch && is_enabled(own.mask.0, acc.ring.0)
 }
-

@@ -15,12 +15,11 @@ ghost use Rattle.record_set.specs.Picks.{HasRing, held_all, spelled, fitting, Is
 pub mod laws;
 mod slots;
 
-use ff_ids::{MAX_RINGS, MemberId, PAGES, PAGE_MEMBERS, RecordKey, RingNo, Summary, SummaryEntry};
+use ff_ids::{MAX_RINGS, MemberId, PAGE_MEMBERS, PAGES, RecordKey, RingNo, Summary, SummaryEntry};
 use fields::NoMemory;
 use records::{Checked, write_record};
 use slots::{
-    fresh_entry, key_of, member_of, no_entries, no_slots, push_certified, slot_of,
-    spelled_length,
+    fresh_entry, key_of, member_of, no_entries, no_slots, push_certified, slot_of, spelled_length,
 };
 use std::alloc::Global;
 use std::marker::Model;
@@ -89,7 +88,13 @@ impl RecordSet {
         out.page = page;
         if page < PAGES {
             let count = PAGE_MEMBERS as usize;
-            push_certified(&self.slots, &self.entries, count * page as usize, count, out);
+            push_certified(
+                &self.slots,
+                &self.entries,
+                count * page as usize,
+                count,
+                out,
+            );
         }
     }
 

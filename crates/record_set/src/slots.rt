@@ -8,7 +8,9 @@ ghost use Rattle.record_set.specs.Held.{key_of};
 ghost use Rattle.record_set.specs.Pages.{bits_where, note_in, entry_with};
 ghost use Rattle.record_set.specs.Slots.{slot_of, member_of, HasSlot, entry_in, no_entry, ready_entries};
 
-use ff_ids::{Bits, MAX_RINGS, MEMBERS, Mask, MemberId, NoteBody, RecordKey, Summary, SummaryEntry};
+use ff_ids::{
+    Bits, MAX_RINGS, MEMBERS, Mask, MemberId, NoteBody, RecordKey, Summary, SummaryEntry,
+};
 use records::{Body, Checked, Record};
 use std::alloc::{AllocError, Global};
 

@@ -82,4 +82,3 @@ impl RecordList {
         self.records.as_slice()
     }
 }
-

@@ -7,4 +7,3 @@ mod player;
 mod report;
 
 pub use player::Player;
-

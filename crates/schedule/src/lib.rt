@@ -7,4 +7,3 @@ mod text;
 
 pub use lines::Lines;
 pub use text::{Command, Line, Text};
-

@@ -9,4 +9,3 @@ mod read;
 
 pub use direct::Direct;
 pub use line::{DirectLine, PlaceList};
-

@@ -10,4 +10,3 @@ mod read;
 
 pub use kit::{KitText, Owner};
 pub use line::KitLine;
-

@@ -12,4 +12,3 @@ pub use line::{Kinds, RosterLine, SecretLine};
 pub use roster::RosterText;
 pub use secret::SecretText;
 pub use shared::{read_group, read_kinds, read_secret, take_key, take_port};
-

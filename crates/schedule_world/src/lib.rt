@@ -13,4 +13,3 @@ mod text;
 pub use line::WorldLine;
 pub use named::Named;
 pub use text::WorldText;
-

@@ -12,7 +12,6 @@ use lms_tree::{PublicKey, SecretKey, TreeKind};
 use sha2::{Digest, Sha256};
 use std::alloc::Global;
 
-
 /// The identifier of the secret's key: the first 16 bytes of the SHA-256 of `FFLMSI` and the secret.
 #[tactic(auto, unfolding(crate::specs::Secrets::key_id))]
 fn key_id(secret: &[u8; 32]) -> [u8; 16]

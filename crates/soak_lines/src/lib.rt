@@ -11,4 +11,3 @@ mod soak;
 mod turn;
 
 pub use soak::Soak;
-

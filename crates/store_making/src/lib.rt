@@ -5,4 +5,3 @@
 mod making;
 
 pub use making::make_store;
-

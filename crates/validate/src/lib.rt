@@ -9,4 +9,3 @@ mod table;
 
 pub use roster::Roster;
 pub use table::check;
-

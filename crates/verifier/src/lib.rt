@@ -6,4 +6,3 @@ mod input;
 mod verifier;
 
 pub use input::verify_input;
-

@@ -10,4 +10,3 @@ mod verify;
 pub use line::VerifyLine;
 pub use question::{Asked, Question, answer_line};
 pub use verify::Verify;
-

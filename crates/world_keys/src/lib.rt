@@ -9,4 +9,3 @@ mod keys;
 pub use authority::Authority;
 pub use bodies::{is_among, is_same, newest_of};
 pub use keys::{AUTHORITY, Kinds, SigningKey, key_of};
-

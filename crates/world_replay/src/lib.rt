@@ -7,4 +7,3 @@ mod player;
 
 pub use cause::Cause;
 pub use player::Player;
-

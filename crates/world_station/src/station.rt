@@ -78,7 +78,12 @@ fn open_disk(alloc: Global, indexes: u32) -> Result<MemoryDisk, NoMemory>
     ensures { IfOk result (λ disk. IsNew indexes disk) }
 {
     let indexes = indexes as usize;
-    MemoryDisk::new(alloc, store_len(indexes + 1), 2 + 4 * indexes, Vec::new(alloc))
+    MemoryDisk::new(
+        alloc,
+        store_len(indexes + 1),
+        2 + 4 * indexes,
+        Vec::new(alloc),
+    )
 }
 
 impl Station {

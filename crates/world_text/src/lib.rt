@@ -17,4 +17,3 @@ pub use verdict::{MemberList, Verdict, Why, write_verdict};
 pub fn lines_are_spelled()
     ensures { LinesAreSpelled }
 {}
-
