@@ -1,7 +1,7 @@
 -- The rules at work: worked lives, computed from the definitions alone.
 use Rattle.std.proofs.Common.{◌≡◌, ℕ, true, false, List, [], ◌∷◌, refl, replicate}
 use Rattle.ff_ids.specs.declared.Group.{Group}
-use Rattle.ff_ids.specs.Views.{State, all_numbers}
+use Rattle.ff_ids.specs.Views.{State, all_numbers, in_view_by}
 use Rattle.ff_ids.specs.Steps.{Event, Joins, Notes}
 use Rattle.ff_ids.specs.Lives as lives
 use Rattle.rand_core.specs.Steps.{u32_at}
@@ -80,7 +80,7 @@ abbrev three : List Event
 three = joins 1 10 ∷ joins 2 20 ∷ joins 3 30 ∷ note 1 1 7 ∷ note 2 5 6 ∷ note 3 1 7 ∷ []
 
 watchers : (watched 1 (state_of three) 1 ≡ at 2 5 ∷ []) × (watched 1 (state_of three) 2 ≡ at 3 1 ∷ []) × (watched 1 (state_of three) 3 ≡ at 1 1 ∷ [])
-unfolding all_numbers
+unfolding all_numbers in_view_by
 watchers = (refl, refl, refl)
 
 -- Who isn't in the view watches nobody, and the one before it watches the next.
@@ -88,5 +88,5 @@ abbrev two : List Event
 two = joins 1 10 ∷ joins 2 20 ∷ joins 3 30 ∷ note 1 1 7 ∷ note 3 1 7 ∷ []
 
 out_of_view : (watched 1 (state_of two) 2 ≡ []) × (watched 1 (state_of two) 1 ≡ at 3 1 ∷ [])
-unfolding all_numbers
+unfolding all_numbers in_view_by
 out_of_view = (refl, refl)

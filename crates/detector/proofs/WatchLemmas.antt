@@ -9,6 +9,7 @@ use Rattle.std.proofs.lemmas.List.Folds.{list_any-append}
 use Rattle.std.proofs.Math.Numerals.{one-add}
 use Rattle.std.proofs.lemmas.Cmp.{tied_itself}
 use Rattle.std.specs.Ordering.{is_lt}
+use Rattle.ff_ids.specs.declared.TheConstants.{MEMBERS}
 use Rattle.ff_ids.specs.declared.NoteBody.{NoteBody}
 use Rattle.ff_ids.specs.Masks.{ring_count, enables, enabled}
 use Rattle.ff_ids.specs.Notes.{newest}
@@ -140,7 +141,7 @@ near_start m x other =
     r.agrees m m other other ∙ ap is_lt (tied_itself r.total m)
 
 -- A member of the view is the monitor of its successor.
-monitor-of_successor : (s : State) (ring m x : ℕ) → IsSuccessor (key_of s ring) (in_view s) m x → m < 1024 → in_view s m ≡ true → IsMonitor (key_of s ring) (in_view s) x m
+monitor-of_successor : (s : State) (ring m x : ℕ) → IsSuccessor (key_of s ring) (in_view s) m x → m < MEMBERS → in_view s m ≡ true → IsMonitor (key_of s ring) (in_view s) x m
 monitor-of_successor s ring m x h below is =
     record {
       below = below;
@@ -162,7 +163,7 @@ not_all true false c h = refl
 not_all false b c h = refl
 
 -- Another member of the view has this one as its monitor where it is its successor.
-successor-watched : (s : State) (ring m me : ℕ) → m < 1024 → me < 1024 → in_view s me ≡ true → ((not (eqb m me) && in_view s m) && is_number (monitor s ring m) me) ≡ is_number (successor s ring me) m
+successor-watched : (s : State) (ring m me : ℕ) → m < MEMBERS → me < MEMBERS → in_view s me ≡ true → ((not (eqb m me) && in_view s m) && is_number (monitor s ring m) me) ≡ is_number (successor s ring me) m
 successor-watched s ring m me m_below me_below me_is =
     ⊎_elim
     (λ t.
@@ -231,12 +232,12 @@ found_one_more s p ring n (Some x) h =
     ∙ cond_same (enables_on s ring x) (as_watched s) p (or_is p x) 0 n
     ∙ ap (map (as_watched s)) (filter-range_agree (λ m. cond (enables_on s ring x) (or_is p x m) (p m)) (λ m. p m || (eqb x m && enables_on s ring m)) 0 n (record { each = λ m low high. found_same s p ring x m (enables_on s ring x) refl }))
 
-successor_below : (s : State) (ring me x : ℕ) → successor s ring me ≡ Some x → x < 1024
+successor_below : (s : State) (ring me x : ℕ) → successor s ring me ≡ Some x → x < MEMBERS
 successor_below s ring me x e =
     let after = IsSuccessor-some (key_of s ring) (keyed s ring) (in_view s) me x e in
     omega (arith, after.below)
 
-found-all : (s : State) (me ring n : ℕ) → n ≡ 1024 → watched_below s me ring ≡ listed (as_watched s) (found_below s me ring) 0 n
+found-all : (s : State) (me ring n : ℕ) → n ≡ MEMBERS → watched_below s me ring ≡ listed (as_watched s) (found_below s me ring) 0 n
 found-all s me zero n e = sym (ap (map (as_watched s)) (filter-range_none (λ m. false) 0 n (record { each = λ m low high. refl })))
 found-all s me (suc ring) n e =
     ap (with_any (watched_on s ring me)) (found-all s me ring n e)
@@ -291,7 +292,7 @@ and_turned true false true = refl
 and_turned true false false = refl
 and_turned false b c = refl
 
-found-watched : (t : ℕ) (s : State) (me m : ℕ) → m < 1024 → me < 1024 → in_view s me ≡ true → found_below s me (ring_count t) m ≡ is_watched t s me m
+found-watched : (t : ℕ) (s : State) (me m : ℕ) → m < MEMBERS → me < MEMBERS → in_view s me ≡ true → found_below s me (ring_count t) m ≡ is_watched t s me m
 found-watched t s me m m_below me_below me_is =
     let other = not (eqb m me) && in_view s m in
     any_below s me m (ring_count t)
@@ -300,7 +301,7 @@ found-watched t s me m m_below me_below me_is =
     ∙ ap (λ b. other && b) (any_noted (λ ring. is_number (monitor s ring m) me) (newest s.notes m) (range_with_len 0 (ring_count t)))
 
 -- The successors whose notes enable their rings are those whom a member of the view watches.
-pub watched-successors : (t : ℕ) (s : State) (me : ℕ) → me < 1024 → in_view s me ≡ true → watched_below s me (ring_count t) ≡ watched t s me
+pub watched-successors : (t : ℕ) (s : State) (me : ℕ) → me < MEMBERS → in_view s me ≡ true → watched_below s me (ring_count t) ≡ watched t s me
 watched-successors t s me below is =
     let all = all_length in
     found-all s me (ring_count t) all.0 all.1.long

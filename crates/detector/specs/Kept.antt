@@ -1,6 +1,7 @@
 -- What a detector keeps, the histories that it stands for, and what a tick finds.
 use Rattle.std.specs.Prelude.{◌≡◌, ℕ, zero, suc, ◌≤◌, List, [], ◌∷◌, Option, Some, None}
 use Rattle.std.specs.Option.{option_map}
+use Rattle.ff_ids.specs.declared.TheConstants.{MAX_TOLERANCE}
 use Rattle.ff_ids.specs.declared.Group.{Group}
 use Rattle.rand_chacha.specs.ChaCha.{ChaCha}
 use Rattle.detector.specs.declared.watch.TheConstants.{WATCHED}
@@ -33,7 +34,7 @@ pub record StandsFor (k : Kept) (h : History) : Type 0 where
 
 -- Few rings, few misses, and room for whoever is watched.
 pub record IsReady (group : Group) (watched probes spare : ℕ) : Type 0 where
-  pub rings : group.t ≤ 15
+  pub rings : group.t ≤ MAX_TOLERANCE
   pub misses : group.misses ≤ 16
   pub watched_room : WATCHED ≤ watched
   pub probes_room : WATCHED ≤ probes

@@ -4,6 +4,7 @@
 #![tactic(auto)]
 
 ghost use Rattle.std.specs.Prelude.{◌≡◌, ◌≤◌, true, false, IfOk};
+ghost use Rattle.ff_ids.specs.declared.TheConstants.{MAX_TOLERANCE};
 ghost use Rattle.ff_ids.specs.Views.{State};
 ghost use Rattle.membership.specs.Life.{has_joined};
 ghost use Rattle.membership.specs.Holds.{Holds};
@@ -56,7 +57,7 @@ impl Detector {
     /// Opens the detector of a life, without a ping. The nonces come from the seed: each is two words of its ChaCha
     /// stream of 20 rounds, the upper one first. The room for all that may come is taken here.
     pub fn open(alloc: Global, group: &Group, seed: [u8; 32]) -> Result<Detector, NoMemory>
-        requires rings { group.now.t ≤ 15 }
+        requires rings { group.now.t ≤ MAX_TOLERANCE }
         requires misses { group.now.misses ≤ 16 }
         ensures group { IfOk result (λ d. d.group ≡ group.now) }
         ensures holds { IfOk result (λ d. StandsFor d (opening group.now seed)) }

@@ -3,6 +3,7 @@
 ghost use Rattle.std.specs.Prelude.{◌≡◌, ℕ, ◌+◌, ◌<◌, ◌≤◌, true, length, vec_capacity};
 ghost use Rattle.std.specs.List.{prefix_len};
 ghost use Rattle.std.specs.Prelude.{nat_lt};
+ghost use Rattle.ff_ids.specs.declared.TheConstants.{MAX_TOLERANCE};
 ghost use Rattle.ff_ids.specs.Masks.{ring_count};
 ghost use Rattle.ff_ids.specs.Views.{State};
 ghost use Rattle.membership.specs.Life.{has_joined};
@@ -10,11 +11,11 @@ ghost use Rattle.membership.specs.Holds.{Holds};
 ghost use Rattle.detector.specs.Watching.{watched};
 ghost use Rattle.detector.specs.Successors.{watched_on as watched_by_successor, with_watched};
 
-use ff_ids::{Epoch, MemberId, RingNo};
+use ff_ids::{Epoch, MAX_RINGS, MemberId, RingNo};
 use membership::Membership;
 
 /// How many members one member can watch: one on each ring.
-pub const WATCHED: usize = 31;
+pub const WATCHED: usize = MAX_RINGS as usize;
 
 /// A member that is watched, and the epoch of its newest note.
 #[derive(Clone, Copy)]
@@ -81,7 +82,7 @@ pub fn watch_all(
     near: &mut [usize; WATCHED],
     list: &mut Vec<Watched>,
 )
-    requires few { membership.now.group.t ≤ 15 }
+    requires few { membership.now.group.t ≤ MAX_TOLERANCE }
     requires joined { has_joined membership.now me ≡ true }
     requires room { WATCHED ≤ vec_capacity list.old }
     ensures items { (s : State) → Holds membership.now s → list.new.items

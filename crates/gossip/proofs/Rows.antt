@@ -4,7 +4,7 @@ use Rattle.ff_ids.specs.declared.Group.{Group}
 use Rattle.ff_ids.specs.declared.summary.SummaryEntry.{SummaryEntry}
 use Rattle.ff_ids.specs.declared.summary.RecordKey.{RecordKey}
 use Rattle.ff_ids.specs.declared.summary.RecordKey.TheVariants.{Certificate, Note, Accusation}
-use Rattle.ff_ids.specs.Views.{State, all_numbers}
+use Rattle.ff_ids.specs.Views.{State, all_numbers, in_view_by}
 use Rattle.ff_ids.specs.Steps.{Event, Joins, Notes}
 use Rattle.ff_ids.specs.Lives.{after, opening}
 use Rattle.gossip.specs.Differ.{differ}
@@ -74,14 +74,14 @@ ring_in_turn : (partner 1 viewed certified 2 0 ≡ Some 3)
     × (partner 1 viewed certified 2 1 ≡ Some 1)
     × (partner 1 viewed certified 2 2 ≡ Some 1)
     × (partner 1 viewed certified 2 3 ≡ Some 3)
-unfolding all_numbers
+unfolding all_numbers in_view_by
 ring_in_turn = (refl, refl, refl, refl)
 
 member_in_turn : (partner 1 lone certified 2 0 ≡ Some 1)
     × (partner 1 lone certified 2 1 ≡ Some 3)
     × (partner 1 lone certified 2 2 ≡ Some 1)
     × (partner 1 lone (2 ∷ []) 2 5 ≡ None)
-unfolding all_numbers
+unfolding all_numbers in_view_by
 member_in_turn = (refl, refl, refl, refl)
 
 pages : (page_of 0 3 63 ≡ 0) × (page_of 2 3 63 ≡ 0) × (page_of 3 3 63 ≡ 1) × (page_of 6 3 63 ≡ 0) × (page_of 992 31 1023 ≡ 0)

@@ -3,14 +3,14 @@ use Rattle.std.proofs.Common.{◌≡◌, ℕ, zero, suc, ◌%◌, ◌<◌, ◌�
 use Rattle.std.specs.Prelude.{◌&&◌, ◌||◌, filter, find}
 use Rattle.std.specs.List.{list_all}
 use Rattle.std.specs.List.{slice_get}
-use Rattle.std.specs.Option.{option_map, option_map_or, option_or}
+use Rattle.std.specs.Option.{option_map, option_or}
 use Rattle.std.proofs.lemmas.Bool.{eqb-true, eq-eqb, and_parts, or_right, true≢false}
 use Rattle.std.proofs.lemmas.Option.{slice_get-get_or}
 use Rattle.ff_ids.specs.declared.NoteBody.{NoteBody}
 use Rattle.ff_ids.specs.Masks.{ring_count}
 use Rattle.ff_ids.specs.Notes.{greater_note, newest}
 use Rattle.ff_ids.specs.Rings.{Key, others}
-use Rattle.ff_ids.specs.Views.{State, all_numbers, has_expired, is_member, in_view, key_of, successor}
+use Rattle.ff_ids.specs.Views.{State, all_numbers, viewed_by, is_member, in_view, key_of, successor}
 use Rattle.gossip.specs.Partners.{is_listed, others as other_numbers, in_turn, partner, NotesOfMembers}
 
 -- It passes the test, and is another.
@@ -65,7 +65,7 @@ noted p (x ∷ notes) m n all e =
 viewed_member : (s : State) (m : ℕ) → NotesOfMembers s → in_view s m ≡ true → is_member s m ≡ true
 viewed_member s m known here = by_note (newest s.notes m) refl here
   where
-    by_note : (o : Option NoteBody) → newest s.notes m ≡ o → option_map_or (λ n. not (has_expired s.expired n)) o false ≡ true → is_member s m ≡ true
+    by_note : (o : Option NoteBody) → newest s.notes m ≡ o → viewed_by s.expired o ≡ true → is_member s m ≡ true
     by_note None is h = absurd (true≢false (sym h))
     by_note (Some n) is h = noted (is_member s) s.notes m n known is
 

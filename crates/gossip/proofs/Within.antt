@@ -4,6 +4,7 @@ use Rattle.std.specs.Prelude.{◌&&◌, nat_lt, not, is_some}
 use Rattle.std.specs.List.{range_with_len}
 use Rattle.std.proofs.lemmas.Bool.{and_parts, ltb-true}
 use Rattle.std.proofs.lemmas.List.Elements.{All-append}
+use Rattle.ff_ids.specs.declared.TheConstants.{MASK_BITS}
 use Rattle.ff_ids.specs.declared.summary.SummaryEntry.{SummaryEntry}
 use Rattle.ff_ids.specs.declared.summary.RecordKey.{RecordKey}
 use Rattle.ff_ids.specs.declared.summary.RecordKey.TheVariants.{Certificate, Note, Accusation}
@@ -51,7 +52,7 @@ All-accusations : (P : RecordKey → Type 0) (mine theirs : List SummaryEntry) �
 All-accusations P [] theirs all = λ k d h. absurd (omega arith)
 All-accusations P (e ∷ mine) theirs all =
     All-append P (rings_lacking (entry_of theirs e.member) e) (accusations_lacking mine theirs)
-    (All-rings P e.member e.rings (lacks_ring (entry_of theirs e.member) e) (range_with_len 0 32) (first (HoldsOf P) e mine all).accusation)
+    (All-rings P e.member e.rings (lacks_ring (entry_of theirs e.member) e) (range_with_len 0 MASK_BITS) (first (HoldsOf P) e mine all).accusation)
     (All-accusations P mine theirs (others (HoldsOf P) e mine all))
 
 -- What holds of each key that the entries here name, holds of each key that differs.

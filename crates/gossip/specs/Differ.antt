@@ -4,6 +4,7 @@ use Rattle.std.specs.List.{flat_map}
 use Rattle.std.specs.Ordering.{nat_cmp, ordering_then, is_lt}
 use Rattle.std.specs.declared.cmp.Ordering.{Ordering}
 use Rattle.std.specs.declared.cmp.Ordering.TheVariants.{Less, Equal, Greater}
+use Rattle.ff_ids.specs.declared.TheConstants.{MASK_BITS}
 use Rattle.ff_ids.specs.declared.summary.SummaryEntry.{SummaryEntry}
 use Rattle.ff_ids.specs.declared.summary.RecordKey.{RecordKey}
 use Rattle.ff_ids.specs.declared.summary.RecordKey.TheVariants.{Certificate, Note, Accusation}
@@ -48,7 +49,7 @@ keys_against member rings = map (λ r. Accusation member (record { 0 = r })) rin
 
 -- the accusations against the member of the entry here, in order of the rings
 abbrev pub rings_lacking : Option SummaryEntry → SummaryEntry → List RecordKey
-rings_lacking there here = keys_against here.member (filter (lacks_ring there here) (enabled 32 here.rings))
+rings_lacking there here = keys_against here.member (filter (lacks_ring there here) (enabled MASK_BITS here.rings))
 
 -- the accusations against each member
 abbrev pub accusations_lacking : List SummaryEntry → List SummaryEntry → List RecordKey

@@ -3,6 +3,7 @@ use Rattle.std.specs.Prelude.{◌≡◌, ℕ, ◌+◌, ◌/◌, ◌%◌, Bool, t
 use Rattle.std.specs.List.{slice_get, list_any, list_all}
 use Rattle.std.specs.List.Sorted.{IsStrictlyIncreasing}
 use Rattle.std.specs.Option.{option_or}
+use Rattle.ff_ids.specs.declared.TheConstants.{PAGE_MEMBERS}
 use Rattle.ff_ids.specs.Masks.{ring_count}
 use Rattle.ff_ids.specs.Views.{State, is_member, successor}
 use Rattle.membership.specs.Life.{Life, has_joined}
@@ -26,7 +27,7 @@ partner t s certified me round = option_or (successor s (round % ring_count t) m
 
 -- The page of a round, with k rings and up to this number: each page in turn, for as many rounds as there are rings.
 abbrev pub page_of : ℕ → ℕ → ℕ → ℕ
-page_of round k highest = round / k % (highest / 32 + 1)
+page_of round k highest = round / k % (highest / PAGE_MEMBERS + 1)
 
 -- ---- what a caller sees to
 

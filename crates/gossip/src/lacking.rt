@@ -2,15 +2,13 @@
 
 ghost use Rattle.std.specs.Prelude.{◌≡◌, ◌<◌, ◌&&◌, ◌++◌, OnOk, OnErr};
 ghost use Rattle.std.specs.Option.{option_copied};
+ghost use Rattle.ff_ids.specs.declared.TheConstants.{MASK_BITS};
 ghost use Rattle.ff_ids.specs.Masks.{enables};
 ghost use Rattle.gossip.specs.Differ.{entry_of, entry_cmp, is_behind, lacks_ring, certificates_lacking, notes_lacking, rings_lacking, accusations_lacking, differ, IsFront};
 
-use ff_ids::{Mask, MemberId, RecordKey, RingNo, Summary, SummaryEntry};
+use ff_ids::{MASK_BITS, Mask, MemberId, RecordKey, RingNo, Summary, SummaryEntry};
 use fields::NoMemory;
 use std::cmp::Ordering;
-
-/// How many rings a set of an entry may name.
-const RINGS: u8 = 32;
 
 /// The entry of the member.
 fn entry_of(entries: &[SummaryEntry], member: MemberId) -> Option<&SummaryEntry>
@@ -41,7 +39,7 @@ fn is_behind(there: Option<&SummaryEntry>, here: &SummaryEntry) -> bool
 
 /// Whether the side of the entry there lacks the accusation on this ring.
 fn lacks_ring(there: Option<&SummaryEntry>, here: &SummaryEntry, ring: RingNo) -> bool
-    requires { ring.0 < 32 }
+    requires { ring.0 < MASK_BITS }
     ensures { result ≡ lacks_ring (option_copied there.entry) here.now ring.0 }
 {
     let Some(there) = there else {
@@ -56,7 +54,7 @@ fn lacks_ring(there: Option<&SummaryEntry>, here: &SummaryEntry, ring: RingNo) -
 
 /// Whether an accusation on this ring is kept here and lacked there.
 fn is_wanted(there: Option<&SummaryEntry>, here: &SummaryEntry, ring: RingNo) -> bool
-    requires { ring.0 < 32 }
+    requires { ring.0 < MASK_BITS }
     ensures { result ≡ (enables here.now.rings ring.0 && lacks_ring (option_copied there.entry) here.now ring.0) }
 {
     Mask(here.rings).enables(ring) && lacks_ring(there, here, ring)
@@ -105,7 +103,7 @@ fn push_rings(
     ensures ok { OnOk result (out.new.items ≡ out.old.items ++ rings_lacking (option_copied there.entry) here.now) }
     ensures front { OnErr result (IsFront out.old.items out.new.items (rings_lacking (option_copied there.entry) here.now)) }
 {
-    for number in 0..RINGS {
+    for number in 0..MASK_BITS {
         let ring = RingNo(number);
         if is_wanted(there, here, ring) {
             out.push(RecordKey::Accusation(here.member, ring))?;

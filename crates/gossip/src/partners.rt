@@ -2,12 +2,13 @@
 
 ghost use Rattle.std.specs.Prelude.{◌≡◌, ℕ, ◌≤◌, ◌↔◌, true, [], None, IfSome, length};
 ghost use Rattle.std.specs.List.{slice_get};
+ghost use Rattle.ff_ids.specs.declared.TheConstants.{MAX_TOLERANCE};
 ghost use Rattle.ff_ids.specs.Views.{State};
 ghost use Rattle.membership.specs.Holds.{Holds};
 ghost use Rattle.membership.specs.Life.{has_joined};
 ghost use Rattle.gossip.specs.Partners.{is_listed, others, in_turn, partner as partner_in, page_of as page_in, AreMembers, NotesOfMembers};
 
-use ff_ids::{MemberId, RingNo};
+use ff_ids::{MemberId, PAGE_MEMBERS, RingNo};
 use membership::Membership;
 
 /// How many of the numbers are others than `me`.
@@ -52,7 +53,7 @@ fn successor_or_other(
     me: MemberId,
     round: u64,
 ) -> Option<MemberId>
-    requires tolerance { membership.now.group.t ≤ 15 }
+    requires tolerance { membership.now.group.t ≤ MAX_TOLERANCE }
     requires member { has_joined membership.now me ≡ true }
     ensures { (s : State) → Holds membership.now s → result ≡ partner_in membership.now.group.t s certified.now me round }
 {
@@ -66,14 +67,14 @@ fn successor_or_other(
 /// With whom the node `me` exchanges summaries in this round: its successor on the ring whose turn it is, or where
 /// the view has nobody else, the other certified member whose turn it is, in order of number. `certified` are the
 /// members of the membership in order of number, the node among them. Without another there is none. The group has a
-/// tolerance of at most 15.
+/// tolerance of at most `MAX_TOLERANCE`.
 pub fn partner(
     membership: &Membership,
     certified: &[MemberId],
     me: MemberId,
     round: u64,
 ) -> Option<MemberId>
-    requires tolerance { membership.now.group.t ≤ 15 }
+    requires tolerance { membership.now.group.t ≤ MAX_TOLERANCE }
     requires members { AreMembers membership.now certified.now }
     requires own { is_listed certified.now me ≡ true }
     ensures value { (s : State) → Holds membership.now s → result ≡ partner_in membership.now.group.t s certified.now me round }
@@ -91,6 +92,6 @@ pub fn page_of(round: u64, k: u8, highest: MemberId) -> u8
     requires { 1 ≤ k }
     ensures { result ≡ page_in round k highest }
 {
-    let pages = highest.get() / 32 + 1;
+    let pages = highest.get() / PAGE_MEMBERS + 1;
     (round / k as u64 % pages as u64) as u8
 }

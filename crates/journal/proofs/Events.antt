@@ -2,6 +2,7 @@
 use Rattle.std.proofs.Common.{◌≡◌, ℕ, ◌<◌, ◌^◌, Bool, true, false, List, [], ◌∷◌, ◌++◌, Option, Some, None, Result, Ok, Err, refl, sym, ap, subst, ◌∙◌, arith, lit<}
 use Rattle.std.specs.Prelude.{codes, decimal, IfOk}
 use Rattle.std.proofs.lemmas.List.Splits.{join_with_byte-slice_split}
+use Rattle.ff_ids.specs.declared.TheConstants.{LAST_MEMBER, MEMBERS, MASK_BITS, PAGES, ALL_BITS, LAST_PAGE}
 use Rattle.hex.specs.Hex.{encode_lower}
 use Rattle.line_text.specs.Words.{parts}
 use Rattle.line_text.proofs.FrameLemmas.{parts-joined}
@@ -35,14 +36,14 @@ use Rattle.journal.proofs.Steps.{Exact, among_is, back_as, chosen_ok, exact_both
 
 -- ---- numbers
 
-pub exact_member : Exact member_at (λ m. decimal m ∷ []) (λ m. m < 1024)
-exact_member = exact_so (λ m. m < 1024) (λ m g. omega (arith, g.1)) (λ m g. (omega arith, omega (arith, g))) (exact_number 0 1023 (lit< tt))
+pub exact_member : Exact member_at (λ m. decimal m ∷ []) (λ m. m < MEMBERS)
+exact_member = exact_so (λ m. m < MEMBERS) (λ m g. omega (arith, g.1)) (λ m g. (omega arith, omega (arith, g))) (exact_number 0 LAST_MEMBER (lit< tt))
 
 pub exact_epoch : Exact epoch_at (λ n. decimal n ∷ []) IsEpoch
 exact_epoch = exact_so IsEpoch (λ n g. record { some = omega (arith, g.0); fits = omega (arith, g.1) }) (λ n g. (omega (arith, g.some), omega (arith, g.fits))) (exact_number 1 18446744073709551615 (lit< tt))
 
-pub exact_mask : Exact mask_at (λ n. decimal n ∷ []) (λ n. n < 2 ^ 32)
-exact_mask = exact_so (λ n. n < 2 ^ 32) (λ n g. omega (arith, g.1)) (λ n g. (omega arith, omega (arith, g))) (exact_number 0 4294967295 (lit< tt))
+pub exact_mask : Exact mask_at (λ n. decimal n ∷ []) (λ n. n < 2 ^ MASK_BITS)
+exact_mask = exact_so (λ n. n < 2 ^ MASK_BITS) (λ n g. omega (arith, g.1)) (λ n g. (omega arith, omega (arith, g))) (exact_number 0 ALL_BITS (lit< tt))
 
 pub exact_ring : Exact ring_at (λ n. decimal n ∷ []) (λ n. n < 256)
 exact_ring = exact_so (λ n. n < 256) (λ n g. omega (arith, g.1)) (λ n g. (omega arith, omega (arith, g))) (exact_number 0 255 (lit< tt))
@@ -50,8 +51,8 @@ exact_ring = exact_so (λ n. n < 256) (λ n g. omega (arith, g.1)) (λ n g. (ome
 pub exact_port : Exact port_at (λ n. decimal n ∷ []) IsPort
 exact_port = exact_so IsPort (λ n g. record { some = omega (arith, g.0); fits = omega (arith, g.1) }) (λ n g. (omega (arith, g.some), omega (arith, g.fits))) (exact_number 1 65535 (lit< tt))
 
-pub exact_page : Exact page_at (λ n. decimal n ∷ []) (λ n. n < 32)
-exact_page = exact_so (λ n. n < 32) (λ n g. omega (arith, g.1)) (λ n g. (omega arith, omega (arith, g))) (exact_number 0 31 (lit< tt))
+pub exact_page : Exact page_at (λ n. decimal n ∷ []) (λ n. n < PAGES)
+exact_page = exact_so (λ n. n < PAGES) (λ n g. omega (arith, g.1)) (λ n g. (omega arith, omega (arith, g))) (exact_number 0 LAST_PAGE (lit< tt))
 
 pub exact_64 : Exact number_64_at (λ n. decimal n ∷ []) (λ n. n < 2 ^ 64)
 exact_64 = exact_so (λ n. n < 2 ^ 64) (λ n g. omega (arith, g.1)) (λ n g. (omega arith, omega (arith, g))) (exact_number 0 18446744073709551615 (lit< tt))
@@ -60,30 +61,30 @@ exact_64 = exact_so (λ n. n < 2 ^ 64) (λ n g. omega (arith, g.1)) (λ n g. (om
 
 -- what holds of a body, by its words
 
-pub certificate_is : (c : CertBody) → (c.member < 1024) × (IsPort c.port × IsKey c.key) → IsCertificate c
+pub certificate_is : (c : CertBody) → (c.member < MEMBERS) × (IsPort c.port × IsKey c.key) → IsCertificate c
 certificate_is c g = record {
   certificate = record { member_number = g.0; has_port = g.1.0.some; port_fits = g.1.0.fits; id_long = g.1.1.id_long; root_long = g.1.1.root_long };
   key = g.1.1.bytes;
 }
 
-pub certificate_parts : (c : CertBody) → IsCertificate c → (c.member < 1024) × (IsPort c.port × IsKey c.key)
+pub certificate_parts : (c : CertBody) → IsCertificate c → (c.member < MEMBERS) × (IsPort c.port × IsKey c.key)
 certificate_parts c g =
     let is = g.certificate in
     (is.member_number, (record { some = is.has_port; fits = is.port_fits }, record { id_long = is.id_long; root_long = is.root_long; bytes = g.key }))
 
-pub note_is : (n : NoteBody) → (n.member < 1024) × (IsEpoch n.epoch × (n.mask.0 < 2 ^ 32)) → IsNote n
+pub note_is : (n : NoteBody) → (n.member < MEMBERS) × (IsEpoch n.epoch × (n.mask.0 < 2 ^ MASK_BITS)) → IsNote n
 note_is n g = record { member_number = g.0; has_epoch = g.1.0.some; epoch_fits = g.1.0.fits; mask_fits = g.1.1 }
 
-pub note_parts : (n : NoteBody) → IsNote n → (n.member < 1024) × (IsEpoch n.epoch × (n.mask.0 < 2 ^ 32))
+pub note_parts : (n : NoteBody) → IsNote n → (n.member < MEMBERS) × (IsEpoch n.epoch × (n.mask.0 < 2 ^ MASK_BITS))
 note_parts n g = (g.member_number, (record { some = g.has_epoch; fits = g.epoch_fits }, g.mask_fits))
 
-pub accusation_is : (a : AccBody) → (a.accuser < 1024) × ((a.accused < 1024) × (IsEpoch a.epoch × (a.ring.0 < 256))) → IsAccusation a
+pub accusation_is : (a : AccBody) → (a.accuser < MEMBERS) × ((a.accused < MEMBERS) × (IsEpoch a.epoch × (a.ring.0 < 256))) → IsAccusation a
 accusation_is a g = record {
   accusation = record { accuser_number = g.0; accused_number = g.1.0; has_epoch = g.1.1.0.some; epoch_fits = g.1.1.0.fits };
   ring = g.1.1.1;
 }
 
-pub accusation_parts : (a : AccBody) → IsAccusation a → (a.accuser < 1024) × ((a.accused < 1024) × (IsEpoch a.epoch × (a.ring.0 < 256)))
+pub accusation_parts : (a : AccBody) → IsAccusation a → (a.accuser < MEMBERS) × ((a.accused < MEMBERS) × (IsEpoch a.epoch × (a.ring.0 < 256)))
 accusation_parts a g =
     let is = g.accusation in
     (is.accuser_number, (is.accused_number, (record { some = is.has_epoch; fits = is.epoch_fits }, g.ring)))

@@ -5,6 +5,7 @@ use Rattle.std.specs.List.{list_all}
 use Rattle.std.proofs.lemmas.Bool.{and_parts, ltb-true}
 use Rattle.std.proofs.lemmas.List.{append-nil}
 use Rattle.std.proofs.lemmas.List.Splits.{join_with_byte-slice_split}
+use Rattle.ff_ids.specs.declared.TheConstants.{LAST_MEMBER, MEMBERS, MASK_BITS, PAGES, ALL_BITS, LAST_PAGE}
 use Rattle.hex.specs.Hex.{IsBytes, encode_lower}
 use Rattle.line_text.specs.Words.{parts}
 use Rattle.line_text.proofs.FrameLemmas.{parts-joined}
@@ -45,14 +46,14 @@ use Rattle.journal.proofs.Firm.{Again, Branch, Firm, Stops, branch, firm_both, f
 
 -- ---- numbers and words
 
-firm_member : Firm member_at (λ m. decimal m ∷ []) (λ m. m < 1024)
-firm_member = firm_token (number 0 1023) 0 (omega arith) exact_member
+firm_member : Firm member_at (λ m. decimal m ∷ []) (λ m. m < MEMBERS)
+firm_member = firm_token (number 0 LAST_MEMBER) 0 (omega arith) exact_member
 
 firm_epoch : Firm epoch_at (λ n. decimal n ∷ []) IsEpoch
 firm_epoch = firm_token (number 1 18446744073709551615) 1 (record { some = omega arith; fits = lit< tt }) exact_epoch
 
-firm_mask : Firm mask_at (λ n. decimal n ∷ []) (λ n. n < 2 ^ 32)
-firm_mask = firm_token (number 0 4294967295) 0 (lit< tt) exact_mask
+firm_mask : Firm mask_at (λ n. decimal n ∷ []) (λ n. n < 2 ^ MASK_BITS)
+firm_mask = firm_token (number 0 ALL_BITS) 0 (lit< tt) exact_mask
 
 firm_ring : Firm ring_at (λ n. decimal n ∷ []) (λ n. n < 256)
 firm_ring = firm_token (number 0 255) 0 (lit< tt) exact_ring
@@ -60,8 +61,8 @@ firm_ring = firm_token (number 0 255) 0 (lit< tt) exact_ring
 firm_port : Firm port_at (λ n. decimal n ∷ []) IsPort
 firm_port = firm_token (number 1 65535) 1 (record { some = omega arith; fits = lit< tt }) exact_port
 
-firm_page : Firm page_at (λ n. decimal n ∷ []) (λ n. n < 32)
-firm_page = firm_token (number 0 31) 0 (lit< tt) exact_page
+firm_page : Firm page_at (λ n. decimal n ∷ []) (λ n. n < PAGES)
+firm_page = firm_token (number 0 LAST_PAGE) 0 (lit< tt) exact_page
 
 firm_64 : Firm number_64_at (λ n. decimal n ∷ []) (λ n. n < 2 ^ 64)
 firm_64 = firm_token (number 0 18446744073709551615) 0 (lit< tt) exact_64

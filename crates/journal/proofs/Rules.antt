@@ -4,6 +4,7 @@ use Rattle.std.specs.Prelude.{codes, decimal, nat_le, ◌&&◌, slice_range}
 use Rattle.std.specs.Str.{bytes_eq}
 use Rattle.std.proofs.lemmas.Bool.{and_parts, eqb-true, false_from_ne_true, false≢true}
 use Rattle.std.proofs.lemmas.Slice.Eq.{bytes_eq-Decides}
+use Rattle.ff_ids.specs.declared.TheConstants.{LAST_MEMBER}
 use Rattle.hex.specs.Hex.{IsBytes, encode_lower}
 use Rattle.lms_ots.specs.declared.kind.OtsKind.{OtsKind}
 use Rattle.lms_ots.specs.declared.kind.OtsKind.TheVariants.{W1, W2, W4, W8}
@@ -183,18 +184,18 @@ there x = Some x
 some_same : (x y : Option ℕ) → there x ≡ there y → x ≡ y
 some_same x y e = cc
 
-numbered : (word : List ℕ) (o m : Option ℕ) → number 0 1023 word ≡ o → some_monitor o ≡ Some m → (word ≡ monitor_text m) × IsMonitor m
+numbered : (word : List ℕ) (o m : Option ℕ) → number 0 LAST_MEMBER word ≡ o → some_monitor o ≡ Some m → (word ≡ monitor_text m) × IsMonitor m
 numbered word (Some n) m is e =
-    let w = number_is 0 1023 word n is in
+    let w = number_is 0 LAST_MEMBER word n is in
     let some : Some n ≡ m = some_same (Some n) m e in
     subst (λ (o : Option ℕ). (word ≡ monitor_text o) × IsMonitor o) some (w.0, omega (arith, w.1))
 numbered word None m is e = absurd cc
 
 monitor_is : (word : List ℕ) (m : Option ℕ) → monitor_of word ≡ Some m → (word ≡ monitor_text m) × IsMonitor m
 monitor_is word m e =
-    elim (either_ok (bytes_eq word (codes "none")) None m (some_monitor (number 0 1023 word)) e) [
+    elim (either_ok (bytes_eq word (codes "none")) None m (some_monitor (number 0 LAST_MEMBER word)) e) [
       | inl p ↦ subst (λ (o : Option ℕ). (word ≡ monitor_text o) × IsMonitor o) p.1 (same_word word (codes "none") p.0, tt)
-      | inr others ↦ numbered word (number 0 1023 word) m refl others
+      | inr others ↦ numbered word (number 0 LAST_MEMBER word) m refl others
     ]
 
 first_apart : (n : ℕ) → n < 2 ^ 64 → bytes_eq (decimal n) (codes "none") ≡ false
@@ -205,7 +206,7 @@ first_apart n fits = false_from_ne_true _ (λ e.
 
 monitor_again : (m : Option ℕ) → IsMonitor m → monitor_of (monitor_text m) ≡ Some m
 monitor_again None good = refl
-monitor_again (Some n) good = rw (first_apart n (omega (arith, good))) (ap some_monitor (number_again 0 1023 (lit< tt) n (omega arith, omega (arith, good))))
+monitor_again (Some n) good = rw (first_apart n (omega (arith, good))) (ap some_monitor (number_again 0 LAST_MEMBER (lit< tt) n (omega arith, omega (arith, good))))
 
 pub exact_monitor : Exact (token_at monitor_of) (λ m. monitor_text m ∷ []) IsMonitor
 exact_monitor = exact_token monitor_of monitor_text IsMonitor monitor_is monitor_again

@@ -1,5 +1,6 @@
 -- Reading an event from left to right.
 use Rattle.std.specs.Prelude.{◌≡◌, ℕ, Bool, true, false, Option, Some, None, Result, Ok, Err, codes}
+use Rattle.ff_ids.specs.declared.TheConstants.{LAST_MEMBER, ALL_BITS, LAST_PAGE}
 use Rattle.ff_ids.specs.declared.NoteBody.{NoteBody}
 use Rattle.ff_ids.specs.declared.AccBody.{AccBody}
 use Rattle.ff_ids.specs.declared.Fault.{Fault}
@@ -28,13 +29,13 @@ use Rattle.journal.specs.Words.{Step, among, both, bytes_of, chosen, followed, i
 -- ---- numbers
 
 abbrev pub member_at : Step ℕ
-member_at = token_at (number 0 1023)
+member_at = token_at (number 0 LAST_MEMBER)
 
 abbrev pub epoch_at : Step ℕ
 epoch_at = token_at (number 1 18446744073709551615)
 
 abbrev pub mask_at : Step ℕ
-mask_at = token_at (number 0 4294967295)
+mask_at = token_at (number 0 ALL_BITS)
 
 abbrev pub ring_at : Step ℕ
 ring_at = token_at (number 0 255)
@@ -43,7 +44,7 @@ abbrev pub port_at : Step ℕ
 port_at = token_at (number 1 65535)
 
 abbrev pub page_at : Step ℕ
-page_at = token_at (number 0 31)
+page_at = token_at (number 0 LAST_PAGE)
 
 abbrev pub number_32_at : Step ℕ
 number_32_at = token_at (number 0 4294967295)

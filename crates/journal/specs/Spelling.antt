@@ -1,5 +1,6 @@
 -- Which events have a text that is read as them, and that text.
 use Rattle.std.specs.Prelude.{◌≡◌, ℕ, ◌^◌, ◌<◌, List, length, Option, Some, None, Result, Ok, Err}
+use Rattle.ff_ids.specs.declared.TheConstants.{MEMBERS, MASK_BITS, PAGES}
 use Rattle.hex.specs.Hex.{IsBytes}
 use Rattle.ff_ids.specs.declared.NoteBody.{NoteBody}
 use Rattle.ff_ids.specs.declared.AccBody.{AccBody}
@@ -55,17 +56,17 @@ pub record IsKeyOf (bytes : List ℕ) : Type 0 where
 pub record IsNoteOf (m : ℕ) (n : NoteBody) : Type 0 where
   pub member : n.member ≡ m
   pub epoch : IsEpoch n.epoch
-  pub mask : n.mask.0 < 2 ^ 32
+  pub mask : n.mask.0 < 2 ^ MASK_BITS
 
 abbrev pub IsMonitor : Option ℕ → Type 0
 IsMonitor None = Unit {0}
-IsMonitor (Some m) = m < 1024
+IsMonitor (Some m) = m < MEMBERS
 
 -- A fault of a record about this member. A text tells of a note of one's own that is ahead only what isn't in the
 -- record: its member is that of the record.
 abbrev pub IsFault : ℕ → Fault → Type 0
 IsFault m (faults.OtherCertificate port key) = IsPort port × IsKeyOf key
-IsFault m (faults.Older epoch mask) = IsEpoch epoch × (mask.0 < 2 ^ 32)
+IsFault m (faults.Older epoch mask) = IsEpoch epoch × (mask.0 < 2 ^ MASK_BITS)
 IsFault m (faults.OtherEpoch kept) = IsEpoch kept
 IsFault m (faults.NotMonitor monitor) = IsMonitor monitor
 IsFault m (faults.OwnAhead stored seen) = IsNoteOf m stored × IsNoteOf m seen
@@ -76,19 +77,19 @@ IsVerdict m None = Unit {0}
 IsVerdict m (Some fault) = IsFault m fault
 
 abbrev pub IsWhat : What → Type 0
-IsWhat (happened.Entered m) = m < 1024
+IsWhat (happened.Entered m) = m < MEMBERS
 IsWhat (happened.Expired a) = IsAccusation a
-IsWhat (happened.Removed m) = m < 1024
+IsWhat (happened.Removed m) = m < MEMBERS
 IsWhat (happened.Fell a) = IsAccusation a
 IsWhat (happened.Spent index body) = (index < 2 ^ 32) × IsBody body
 IsWhat (happened.Took body fault) = IsBody body × IsVerdict (about body) fault
 IsWhat (happened.BadForm place) = place < 2 ^ 64
-IsWhat (happened.Ping from nonce) = (from < 1024) × (nonce < 2 ^ 64)
-IsWhat (happened.Pong from nonce counted) = (from < 1024) × (nonce < 2 ^ 64)
-IsWhat (happened.Summary from page flag) = (from < 1024) × (page < 32)
-IsWhat (happened.Silent m) = m < 1024
+IsWhat (happened.Ping from nonce) = (from < MEMBERS) × (nonce < 2 ^ 64)
+IsWhat (happened.Pong from nonce counted) = (from < MEMBERS) × (nonce < 2 ^ 64)
+IsWhat (happened.Summary from page flag) = (from < MEMBERS) × (page < PAGES)
+IsWhat (happened.Silent m) = m < MEMBERS
 IsWhat (happened.Exhausted next) = next < 2 ^ 32
-IsWhat (happened.Sent number to bytes) = (number < 2 ^ 64) × (to < 1024) × (0 < length bytes) × IsBytes bytes
+IsWhat (happened.Sent number to bytes) = (number < 2 ^ 64) × (to < MEMBERS) × (0 < length bytes) × IsBytes bytes
 IsWhat (happened.Lost number) = number < 2 ^ 64
 IsWhat (happened.Got number) = number < 2 ^ 64
 IsWhat happened.Stopped = Unit {0}

@@ -5,6 +5,7 @@ use Rattle.std.specs.Str.{bytes_eq}
 use Rattle.std.specs.Str.Parse.{digits_value}
 use Rattle.std.specs.List.{list_all}
 use Rattle.std.specs.Borrow.{Bor}
+use Rattle.ff_ids.specs.declared.TheConstants.{LAST_MEMBER}
 use Rattle.hex.specs.Hex.{decode_of}
 use Rattle.hex.specs.declared.error.FromHexError.{FromHexError}
 use Rattle.line_text.specs.Words.{parts}
@@ -114,7 +115,7 @@ some_monitor (Some m) = Some (Some m)
 
 -- the number of a member, or the word for nobody's
 abbrev pub monitor_of : List ℕ → Option (Option ℕ)
-monitor_of word = if bytes_eq word (codes "none") then Some None else some_monitor (number 0 1023 word)
+monitor_of word = if bytes_eq word (codes "none") then Some None else some_monitor (number 0 LAST_MEMBER word)
 
 abbrev pub is_lower_digit : ℕ → Bool
 is_lower_digit c = (nat_le 48 c && nat_le c 57) || (nat_le 97 c && nat_le c 102)

@@ -2,10 +2,11 @@
 //! begins, or the text's length where there is none; the reader may then have moved.
 
 ghost use Rattle.std.specs.Prelude.{◌≡◌, ◌+◌, ◌<◌, ◌≤◌, [], ◌∷◌, length, MatchOption, IfOk, IfSome, position};
+ghost use Rattle.ff_ids.specs.declared.TheConstants.{LAST_MEMBER, ALL_BITS, LAST_PAGE};
 ghost use Rattle.line_text.specs.Words.{is_space, parts, parts_left};
 ghost use Rattle.journal.specs.Words.{EndsAs, Reads, is_literal, monitor_of, number, number_of, one_of, passed, reading_of, token_at};
 
-use ff_ids::{Epoch, Mask, MemberId, RingNo};
+use ff_ids::{ALL_BITS, Bits, Epoch, LAST_MEMBER, LAST_PAGE, Mask, MemberId, RingNo};
 use itoa::Buffer;
 use std::marker::Model;
 
@@ -127,9 +128,9 @@ pub fn number(words: &mut Words, low: u64, high: u64) -> Result<u64, Misread>
 
 /// The number of a member.
 pub fn member(words: &mut Words) -> Result<MemberId, Misread>
-    ensures { Reads (λ m. m) result words.new (token_at (number 0 1023) words.old) }
+    ensures { Reads (λ m. m) result words.new (token_at (number 0 LAST_MEMBER) words.old) }
 {
-    Ok(MemberId::new(number(words, 0, 1023)? as u16))
+    Ok(MemberId::new(number(words, 0, LAST_MEMBER as u64)? as u16))
 }
 
 pub fn epoch(words: &mut Words) -> Result<Epoch, Misread>
@@ -139,9 +140,9 @@ pub fn epoch(words: &mut Words) -> Result<Epoch, Misread>
 }
 
 pub fn mask(words: &mut Words) -> Result<Mask, Misread>
-    ensures { Reads (λ m. m.0) result words.new (token_at (number 0 4294967295) words.old) }
+    ensures { Reads (λ m. m.0) result words.new (token_at (number 0 ALL_BITS) words.old) }
 {
-    Ok(Mask(number(words, 0, 4_294_967_295)? as u32))
+    Ok(Mask(number(words, 0, ALL_BITS as u64)? as Bits))
 }
 
 pub fn ring(words: &mut Words) -> Result<RingNo, Misread>
@@ -157,9 +158,9 @@ pub fn port(words: &mut Words) -> Result<u16, Misread>
 }
 
 pub fn page(words: &mut Words) -> Result<u8, Misread>
-    ensures { Reads (λ p. p) result words.new (token_at (number 0 31) words.old) }
+    ensures { Reads (λ p. p) result words.new (token_at (number 0 LAST_PAGE) words.old) }
 {
-    Ok(number(words, 0, 31)? as u8)
+    Ok(number(words, 0, LAST_PAGE as u64)? as u8)
 }
 
 pub fn number_32(words: &mut Words) -> Result<u32, Misread>
@@ -181,7 +182,7 @@ fn monitor_of(word: &[u8]) -> Option<Option<MemberId>>
         return Some(None);
     }
     match number_of(word) {
-        Some(number) if number <= 1023 => Some(Some(MemberId::new(number as u16))),
+        Some(number) if number <= LAST_MEMBER as u64 => Some(Some(MemberId::new(number as u16))),
         _ => None,
     }
 }

@@ -1,5 +1,6 @@
 use Rattle.std.proofs.Common.{◌≡◌, ℕ, ◌++◌, true, false, filter, ap, sym, ◌∙◌, append-nil, arith}
 use Rattle.std.specs.Option.{option_copied}
+use Rattle.ff_ids.specs.declared.TheConstants.{MASK_BITS}
 use Rattle.ff_ids.specs.Masks.{enabled}
 use Rattle.gossip.specs.Differ.{keys_against, lacks_ring}
 use Rattle.gossip.proofs.Fronts.{anyway, ring_pushed, rings_front}
@@ -20,10 +21,10 @@ loop-number-preserved c =
 pub returns-clause-ok : goal.returns-clause-ok
 returns-clause-ok c =
     let here = c.args.here.now in
-    let at : c.loop-number.number ≡ 32 = omega arith in
+    let at : c.loop-number.number ≡ MASK_BITS = omega arith in
     c.loop-number.invariant ∙ ap (λ (n : ℕ). c.args.out.now.items ++ keys_against here.member (filter (lacks_ring (option_copied c.args.there) here) (enabled n here.rings))) at
 
 pub returns-in_err-push-clause-front : goal.returns-in_err-push-clause-front
 returns-in_err-push-clause-front c =
     let here = c.args.here.now in
-    anyway _ (rings_front c.args.out.now.items c.push.new.self.items here.member here.rings c.loop-number.number 32 (lacks_ring (option_copied c.args.there) here) (omega arith) (c.in_err-push.ensures.items ∙ c.loop-number.invariant))
+    anyway _ (rings_front c.args.out.now.items c.push.new.self.items here.member here.rings c.loop-number.number MASK_BITS (lacks_ring (option_copied c.args.there) here) (omega arith) (c.in_err-push.ensures.items ∙ c.loop-number.invariant))
