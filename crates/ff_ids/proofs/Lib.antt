@@ -1,3 +1,4 @@
 pub mod FaultLemmas
 pub mod MaskLemmas
 pub mod Rows
+pub mod BitLemmas
