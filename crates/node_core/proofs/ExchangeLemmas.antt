@@ -22,7 +22,7 @@ use Rattle.gossip.proofs.Within.{All-differ}
 use Rattle.record_set.specs.Held.{Held, held_under}
 use Rattle.record_set.specs.Pages.{note_of_body, note_in, entry_with, rings_of, entry_of, certified_of, summary_of}
 use Rattle.record_set.specs.Picks.{held_all, spelled, fitting as count_fitting}
-use Rattle.record_set.proofs.BitLemmas.{bits_same}
+use Rattle.ff_ids.proofs.BitLemmas.{bits_same}
 use Rattle.record_set.proofs.ListedLemmas.{All-listed_held}
 use Rattle.node_rules.specs.Nodes.{Node, Holding}
 use Rattle.node_rules.specs.Pages.{note_held, rings_held, entry_held, has_certificate, page, fitting, lacking}

@@ -9,17 +9,14 @@ use Rattle.ff_ids.specs.declared.AccBody.{AccBody}
 use Rattle.ff_ids.specs.declared.Mask.{Mask}
 use Rattle.ff_ids.specs.declared.Group.{Group}
 use Rattle.ff_ids.specs.declared.Fault.{Fault}
-use Rattle.ff_ids.specs.Masks.{ring_count, enables, good_mask}
 use Rattle.records.specs.declared.CertBody.{CertBody}
 use Rattle.records.specs.declared.Body.TheVariants.{Certificate, Note, Accusation}
 use Rattle.records.specs.declared.Record.{Record}
 use Rattle.epoch_store.specs.declared.Stored.{Stored}
-use Rattle.rebuttal.specs.Rebuttals.{IsEnabledByAnswer}
-use Rattle.rebuttal.proofs.Answering.{good_parts}
+use Rattle.rebuttal.specs.Rebuttals.{answering_mask}
 use Rattle.journal.specs.declared.event.Event as journal
 use Rattle.journal.specs.declared.event.What.TheVariants as told
 use Rattle.node_rules.specs.Nodes.{Setting, Node, neighbours, certificate_of}
-use Rattle.node_rules.specs.Replies.{answering_mask}
 use Rattle.node_rules.specs.Refusals.{refusal, refusal_of}
 use Rattle.node_rules.specs.Calls.{Call, tells, takes, wants}
 use Rattle.node_rules.specs.Deliveries.{answer_to, answers, judged, handles, handles_all, hears}
@@ -29,7 +26,6 @@ use Rattle.node_core.specs.Hears.{RunsHearing}
 use Rattle.datagram.specs.Grammar.{GivesDatagram}
 use Rattle.records.specs.declared.fault.FormFault.{FormFault}
 use Rattle.records.specs.declared.fault.FormFault.TheVariants as forms
-use Rattle.node_rules.proofs.Masks.{answering-is}
 use Rattle.node_rules.proofs.OwnNote.{option_or-none}
 use Rattle.node_core.specs.declared.NodeFault.{NodeFault}
 use Rattle.node_core.specs.Playing.{Kept, IsNode, Plays, Extends}
@@ -49,14 +45,14 @@ not-against s v n a is apart = ap (λ m. eqb a.accused m) (setting-me s v.group 
 
 -- the answer to an accusation against this node, as it is wanted
 pub answers-is : (s : Setting) (v : Kept) (c : Call) (a : AccBody) (mask : Mask) (works : Bool)
-    → IsNode s v c.node → a.accused ≡ v.me → good_mask v.group.t mask.0 ≡ true
-    → ((r : ℕ) → r < ring_count v.group.t → (enables mask.0 r ≡ true) ↔ IsEnabledByAnswer v.group.t v.signer.state.mask.0 a.ring.0 r)
+    → IsNode s v c.node → a.accused ≡ v.me
+    → mask.0 ≡ answering_mask v.group.t v.signer.state.mask.0 a.ring.0
     → wants works s (next_own s c.node mask) (addressees s None) c ≡ answers works s (Accusation a) c
-answers-is s v c a mask works n who good exact =
+answers-is s v c a mask works n who exact =
     let g : v.group ≡ s.group = sym (setting-group s v.group v.me v.authority v.signer.key n.setting) in
     let me : v.me ≡ s.me = sym (setting-me s v.group v.me v.authority v.signer.key n.setting) in
     let value : mask.0 ≡ answering_mask s.group.t c.node.stored.mask.0 a.ring.0 =
-    answering-is v.group.t v.signer.state.mask.0 a.ring.0 mask.0 (good_parts v.group.t mask.0 good).fits exact
+    exact
     ∙ ap (λ (x : Group). answering_mask x.t v.signer.state.mask.0 a.ring.0) g ∙ ap (λ (x : Stored). answering_mask s.group.t x.mask.0 a.ring.0) n.stored in
     let body : next_own s c.node mask ≡ answer_to s c.node.stored a = ap (λ k. Note (record { member = s.me; epoch = c.node.stored.epoch + 1; mask = record { 0 = k } })) value in
     let same : eqb a.accused s.me ≡ true = eq-eqb a.accused s.me (who ∙ me) in

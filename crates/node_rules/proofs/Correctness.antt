@@ -35,7 +35,7 @@ use Rattle.node_rules.specs.Vouching.{OwnSignaturesVerify, IsCertifiedBy}
 use Rattle.node_rules.specs.OneExchange.{Life, node_after, IsCorrect, IsSignedBy}
 use Rattle.node_rules.proofs.Small.{stored-takes, stored-signs}
 use Rattle.node_rules.proofs.OwnNote.{option_or-none, stored-lives, keeping, own-started, becomes_member, answer-fine}
-use Rattle.node_rules.proofs.Masks.{all_rings-good}
+use Rattle.rebuttal.proofs.Masks.{all_rings-good}
 use Rattle.node_rules.proofs.Keeping.{Keeps, keeps-call}
 use Rattle.node_rules.proofs.OwnKey.{key-started}
 use Rattle.node_rules.proofs.Growth.{certificate-signs, none-kept, held-takes, Follows, follows-itself, following, note-is_none, accusation-is_none}

@@ -3,6 +3,7 @@ use Rattle.std.proofs.Common.{◌≡◌, ℕ, ◌<◌, eqb, ltb, leb, cond, inl,
 use Rattle.std.specs.Prelude.{◌&&◌, nat_lt, nat_le, slice_index}
 use Rattle.std.proofs.lemmas.Bool.{cases_Bool, eqb-true, and_parts, ltb-true, leb-true}
 use Rattle.std.specs.Option.{option_and_then}
+use Rattle.ff_ids.specs.Masks.{bits_where}
 use Rattle.ff_ids.specs.declared.NoteBody.{NoteBody}
 use Rattle.ff_ids.specs.declared.summary.RecordKey.TheVariants as keys
 use Rattle.ff_ids.specs.Notes.{newest}
@@ -17,8 +18,7 @@ use Rattle.datagram.specs.declared.Datagram.TheVariants as kinds
 use Rattle.datagram.specs.Spelling.{head_bytes, records_bytes, datagram_bytes}
 use Rattle.datagram.specs.Grammar.{head_at, counted_at, records_at, content_at, datagram_at, items_at, whole_of, read_of}
 use Rattle.node_rules.specs.Nodes.{Setting, state_of, certificate_in, certificate_of, neighbours}
-use Rattle.record_set.specs.Pages.{bits_where}
-use Rattle.node_rules.specs.Replies.{answering_mask}
+use Rattle.rebuttal.specs.Rebuttals.{answering_mask}
 use Rattle.node_rules.specs.Refusals.{refusal}
 use Rattle.node_rules.specs.Pages.{page, lacking}
 use Rattle.node_rules.specs.Calls.{Call, begun, lives, sends, takes, signs, signs_and_sends, wants}

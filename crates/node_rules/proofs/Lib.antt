@@ -5,7 +5,6 @@ pub mod Carrying
 pub mod Keeping
 pub mod Telling
 pub mod OwnNote
-pub mod Masks
 pub mod OwnKey
 pub mod Accusations
 pub mod Handling

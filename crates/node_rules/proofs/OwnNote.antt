@@ -28,11 +28,12 @@ use Rattle.node_rules.specs.Refusals.{refusal, refusal_of}
 use Rattle.node_rules.specs.Calls.{Call, begun, lives, takes, signs, spends, sends, own_record}
 use Rattle.detector.specs.Silence.{History}
 use Rattle.rebuttal.proofs.Answering.{IsAsked}
-use Rattle.node_rules.specs.Replies.{answering_mask, first_mask}
+use Rattle.rebuttal.specs.Rebuttals.{answering_mask}
+use Rattle.node_rules.specs.Replies.{first_mask}
 use Rattle.node_rules.specs.Deliveries.{answering_note, answer_to}
 use Rattle.node_rules.specs.Starting.{blank, opened, started}
 use Rattle.node_rules.specs.Lives.{is_certificate_for, stored_note, KeepsOwnNote, Input, call_of, after_calls}
-use Rattle.node_rules.proofs.Masks.{answering-good}
+use Rattle.rebuttal.proofs.Masks.{answering-good}
 use Rattle.node_rules.proofs.Keeping.{Keeps, keeps-call}
 use Rattle.ff_ids.proofs.FaultLemmas.{passes}
 use Rattle.node_rules.proofs.Small.{state_of-lives, state-takes, state-signs, stored-signs, stored-takes}

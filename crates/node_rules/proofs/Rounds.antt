@@ -1,6 +1,7 @@
 -- Worked rows: three nodes that tick and gossip.
 use Rattle.std.proofs.Common.{◌≡◌, ℕ, ◌==◌, List, [], ◌∷◌, ◌++◌, false, refl, map, if◌then◌else◌, zero, suc}
 use Rattle.std.specs.List.{fold, list_any}
+use Rattle.ff_ids.specs.Masks.{bits_where}
 use Rattle.ff_ids.specs.Views.{all_numbers, view}
 use Rattle.records.specs.Spelling.{note_bytes, accusation_bytes, certificate_bytes}
 use Rattle.records.specs.Grammar.{key_at, certificate_at, note_at, accusation_at, body_at, signature_at, record_at}
@@ -11,8 +12,7 @@ use Rattle.datagram.specs.Grammar.{head_at, entry_at, entries_at, summary_at, co
 use Rattle.journal.specs.declared.event.What as what
 use Rattle.journal.specs.declared.event.What.TheVariants as told
 use Rattle.node_rules.specs.Nodes.{Node, state_of, certificate_of, neighbours, neighbours_and}
-use Rattle.record_set.specs.Pages.{bits_where}
-use Rattle.node_rules.specs.Replies.{answering_mask}
+use Rattle.rebuttal.specs.Rebuttals.{answering_mask}
 use Rattle.node_rules.specs.Refusals.{refusal}
 use Rattle.node_rules.specs.Pages.{page, partner, page_number, lacking}
 use Rattle.node_rules.specs.Calls.{Call, lives, sends, takes, signs, signs_and_sends, wants}

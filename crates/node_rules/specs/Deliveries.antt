@@ -15,7 +15,7 @@ use Rattle.journal.specs.declared.event.What.TheVariants as told
 use Rattle.detector.specs.Silence.{counts, ponged}
 use Rattle.node_rules.specs.Nodes.{Setting, Node, is_certified, neighbours}
 use Rattle.node_rules.specs.Pages.{page, lacking}
-use Rattle.node_rules.specs.Replies.{answering_mask}
+use Rattle.rebuttal.specs.Rebuttals.{answering_mask}
 use Rattle.node_rules.specs.Refusals.{refusal}
 use Rattle.node_rules.specs.Calls.{Call, begun, tells, takes, wants, sends}
 

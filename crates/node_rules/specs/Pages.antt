@@ -6,12 +6,12 @@ use Rattle.ff_ids.specs.declared.NoteBody.{NoteBody}
 use Rattle.ff_ids.specs.declared.summary.SummaryEntry.{SummaryEntry}
 use Rattle.ff_ids.specs.declared.summary.Summary.{Summary}
 use Rattle.ff_ids.specs.declared.summary.RecordKey.TheVariants as keys
-use Rattle.ff_ids.specs.Masks.{ring_count}
+use Rattle.ff_ids.specs.Masks.{bits_where, ring_count}
 use Rattle.records.specs.declared.Record.{Record}
 use Rattle.records.specs.Spelling.{record_bytes}
 use Rattle.gossip.specs.Differ.{differ}
 use Rattle.gossip.specs.Partners as gossip
-use Rattle.record_set.specs.Pages.{bits_where, note_of_body, entry_with}
+use Rattle.record_set.specs.Pages.{note_of_body, entry_with}
 use Rattle.node_rules.specs.Nodes.{Setting, Node, Holding, state_of, certified}
 
 -- ---- pages

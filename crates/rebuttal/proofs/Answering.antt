@@ -1,11 +1,28 @@
 -- The mask of the answer: good, without the ring, and exactly the rings that it should enable.
-use Rattle.std.proofs.Common.{◌≡◌, ◌≢◌, ℕ, ◌+◌, ◌^◌, ◌<◌, ◌≤◌, inl, inr, Bool, true, false, eqb, ltb, sym, ap, subst, ◌∙◌, arith, ◌↔◌}
+use Rattle.std.proofs.Common.{◌≡◌, ◌≢◌, ℕ, ◌+◌, ◌^◌, ◌<◌, ◌≤◌, ◌⊎◌, inl, inr, Bool, true, false, eqb, ltb, sym, ap, subst, ◌∙◌, arith, ◌↔◌}
 use Rattle.std.proofs.lemmas.Bool.{cases_lt, cases_eq, and_parts, and_from, and_cases, ltb-true, ltb-false, lt-ltb, true≢false}
 use Rattle.std.proofs.lemmas.Nat.{xor_lt, pow_below}
 use Rattle.std.proofs.lemmas.Nat.Bits.{bit_at_above}
 use Rattle.ff_ids.specs.Masks.{ring_count, enables, good_mask}
-use Rattle.rebuttal.specs.Rebuttals.{disabled_count, IsLowestDisabled, IsEnabledByAnswer}
+use Rattle.rebuttal.specs.Rebuttals.{disabled_count}
 use Rattle.rebuttal.proofs.Switching.{switch, switch_other, switch_off, switch_on, count, one_more, all_counted, switched_off, switched_on}
+
+-- ---- which rings the answer enables, as relations
+
+-- The ring is the lowest-numbered one that the mask disables.
+pub record IsLowestDisabled (mask ring : ℕ) : Type 0 where
+  pub disabled : enables mask ring ≡ false
+  pub lowest : (lower : ℕ) → lower < ring → enables mask lower ≡ true
+
+-- The ring is enabled again: t rings are disabled already, and it is the lowest-numbered of those.
+pub record IsEnabledAgain (t mask ring : ℕ) : Type 0 where
+  pub no_more : disabled_count t mask ≡ t
+  pub lowest : IsLowestDisabled mask ring
+
+-- What the answer to an accusation on one ring enables: another ring, which was enabled or is enabled again.
+pub record IsEnabledByAnswer (t mask accused_on ring : ℕ) : Type 0 where
+  pub other : ring ≢ accused_on
+  pub wanted : (enables mask ring ≡ true) ⊎ IsEnabledAgain t mask ring
 
 pub clash : {A : Type 0} (b : Bool) → b ≡ true → b ≡ false → A
 clash b on off = absurd (true≢false (sym on ∙ off))

@@ -1,2 +1,3 @@
 pub mod Switching
 pub mod Answering
+pub mod Masks

@@ -4,8 +4,8 @@
 
 ghost use Rattle.std.specs.Prelude.{◌≡◌, ℕ, ◌^◌, ◌<◌, ◌≤◌, ◌↔◌, true, false, bit_xor, MatchOption};
 ghost use Rattle.ff_ids.specs.declared.TheConstants.{MASK_BITS, MAX_TOLERANCE};
-ghost use Rattle.ff_ids.specs.Masks.{ring_count, enables, good_mask as is_good};
-ghost use Rattle.rebuttal.specs.Rebuttals.{IsLowestDisabled, IsEnabledByAnswer, IsAgainst};
+ghost use Rattle.ff_ids.specs.Masks.{enables, good_mask as is_good};
+ghost use Rattle.rebuttal.specs.Rebuttals.{IsAgainst, answering_mask, is_lowest_disabled};
 
 use ff_ids::{AccBody, Bits, MASK_BITS, Mask, NoteBody, RingNo, good_mask};
 
@@ -20,7 +20,7 @@ fn switched(mask: Mask, ring: RingNo) -> Mask
 /// The lowest-numbered of the first rings that the mask disables.
 fn lowest_disabled(mask: Mask, rings: u8) -> Option<RingNo>
     requires { rings < MASK_BITS }
-    ensures { MatchOption result ((r : ℕ) → r < rings → enables mask.0 r ≡ true) (λ r. (r.0 < rings) × IsLowestDisabled mask.0 r.0) }
+    ensures { MatchOption result ((r : ℕ) → r < rings → enables mask.0 r ≡ true) (λ r. (r.0 < rings) × (is_lowest_disabled mask.0 r.0 ≡ true)) }
 {
     for ring in 0..rings {
         if !mask.enables(RingNo(ring)) {
@@ -39,7 +39,7 @@ pub fn answer_mask(t: u8, mask: Mask, ring: RingNo) -> Mask
     requires enabled { enables mask.0 ring.0 ≡ true }
     ensures good { is_good t result.0 ≡ true }
     ensures lacks { enables result.0 ring.0 ≡ false }
-    ensures exact { (r : ℕ) → r < ring_count t → (enables result.0 r ≡ true) ↔ IsEnabledByAnswer t mask.0 ring.0 r }
+    ensures exact { result.0 ≡ answering_mask t mask.0 ring.0 }
 {
     let without = switched(mask, ring);
     if good_mask(t, without) {

@@ -1,6 +1,5 @@
 pub mod KeyLemmas
 pub mod SlotLemmas
-pub mod BitLemmas
 pub mod LengthLemmas
 pub mod ReadyLemmas
 pub mod ListedLemmas

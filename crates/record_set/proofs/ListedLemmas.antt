@@ -7,14 +7,14 @@ use Rattle.std.proofs.lemmas.Bool.{cases_lt, true≢false}
 use Rattle.std.proofs.lemmas.List.FromFn.{get_or-range_with_len, length-range_with_len}
 use Rattle.std.proofs.lemmas.List.Kept.{IsStrictlyIncreasing-filter}
 use Rattle.ff_ids.specs.declared.TheConstants.{MAX_RINGS, PAGES, PAGE_MEMBERS}
-use Rattle.ff_ids.specs.Masks.{enables}
+use Rattle.ff_ids.specs.Masks.{bits_where, enables}
 use Rattle.ff_ids.specs.Summaries.{IsEntryOf, IsSummary, members_of}
 use Rattle.ff_ids.specs.declared.NoteBody.{NoteBody}
 use Rattle.ff_ids.specs.declared.summary.RecordKey.TheVariants as keys
 use Rattle.records.specs.Signing.{CheckedRecord}
 use Rattle.record_set.specs.Held.{Held, held_under}
-use Rattle.record_set.specs.Pages.{bits_where, note_in, entry_with, rings_of, entry_of, certified_of, summary_of, IsHeldEntry, AreNoted}
-use Rattle.record_set.proofs.BitLemmas.{bits-tell, bits-above, bits-no}
+use Rattle.record_set.specs.Pages.{note_in, entry_with, rings_of, entry_of, certified_of, summary_of, IsHeldEntry, AreNoted}
+use Rattle.ff_ids.proofs.BitLemmas.{bits-tell, bits-above, bits-no}
 
 abbrev accused : Held → ℕ → ℕ → Bool
 accused held m r = contains_key held (keys.Accusation m (record { 0 = r }))

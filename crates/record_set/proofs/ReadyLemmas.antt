@@ -7,6 +7,7 @@ use Rattle.std.proofs.lemmas.Bool.{cases_eq}
 use Rattle.std.proofs.lemmas.List.{map-append}
 use Rattle.std.proofs.lemmas.List.Elements.{filter-append}
 use Rattle.ff_ids.specs.declared.TheConstants.{MAX_RINGS, MEMBERS, PAGES, PAGE_MEMBERS}
+use Rattle.ff_ids.specs.Masks.{bits_where}
 use Rattle.ff_ids.proofs.MaskLemmas.{range_with_len-push}
 use Rattle.ff_ids.specs.declared.summary.SummaryEntry.{SummaryEntry}
 use Rattle.ff_ids.specs.declared.summary.Summary.{Summary}
@@ -14,10 +15,10 @@ use Rattle.ff_ids.specs.declared.summary.RecordKey.{RecordKey}
 use Rattle.ff_ids.specs.declared.summary.RecordKey.TheVariants as keys
 use Rattle.record_set.specs.declared.slots.TheConstants.{SLOTS, SLOTS_EACH}
 use Rattle.record_set.specs.Held.{held_under}
-use Rattle.record_set.specs.Pages.{bits_where, note_in, entry_with, rings_of, entry_of, certified_of, summary_of}
+use Rattle.record_set.specs.Pages.{note_in, entry_with, rings_of, entry_of, certified_of, summary_of}
 use Rattle.record_set.specs.Slots.{Slot, slot_of, member_of, HasSlot, held_in, entry_in, no_entry, ready_entries, IsReady}
 use Rattle.record_set.proofs.SlotLemmas.{IsSlotted, get-held_in, get-unslotted}
-use Rattle.record_set.proofs.BitLemmas.{bits_same, bits-no}
+use Rattle.ff_ids.proofs.BitLemmas.{bits_same, bits-no}
 
 abbrev accused_in : List Slot → ℕ → ℕ → Bool
 accused_in slots m r = is_some (get_or slots (SLOTS_EACH * m + 2 + r) None)

@@ -1,5 +1,6 @@
 -- Worked rows: what fits, the bits of rings, and entries, computed from the definitions alone.
 use Rattle.std.proofs.Common.{◌≡◌, ℕ, ◌∷◌, [], ◌==◌, ◌||◌, ◌++◌, List, Some, None, replicate, refl}
+use Rattle.ff_ids.specs.Masks.{bits_where}
 use Rattle.lms_ots.specs.declared.kind.OtsKind.TheVariants.{W8}
 use Rattle.lms_tree.specs.declared.kind.TreeKind.TheVariants.{H5}
 use Rattle.ff_ids.specs.declared.AccBody.{AccBody}
@@ -9,7 +10,6 @@ use Rattle.records.specs.declared.Body.TheVariants as bodies
 use Rattle.records.specs.Spelling.{note_bytes}
 use Rattle.records.specs.Signing.{CheckedRecord}
 use Rattle.record_set.specs.Held.{key_of}
-use Rattle.record_set.specs.Pages.{bits_where}
 use Rattle.record_set.specs.Picks.{fitting}
 use Rattle.record_set.specs.Slots.{Slot, entry_in}
 

@@ -4,7 +4,7 @@ use Rattle.std.specs.List.{range_with_len}
 use Rattle.std.specs.FinMap.{contains_key}
 use Rattle.std.specs.Option.{option_map_or}
 use Rattle.ff_ids.specs.declared.TheConstants.{MAX_RINGS, PAGE_MEMBERS}
-use Rattle.ff_ids.specs.Masks.{enables}
+use Rattle.ff_ids.specs.Masks.{bits_where, enables}
 use Rattle.ff_ids.specs.declared.NoteBody.{NoteBody}
 use Rattle.ff_ids.specs.declared.summary.SummaryEntry.{SummaryEntry}
 use Rattle.ff_ids.specs.declared.summary.Summary.{Summary}
@@ -13,11 +13,6 @@ use Rattle.records.specs.declared.Body.{Body}
 use Rattle.records.specs.declared.Body.TheVariants as bodies
 use Rattle.records.specs.Signing.{CheckedRecord}
 use Rattle.record_set.specs.Held.{Held, held_under}
-
--- The number whose bits, of the first so many, are set where the test says so.
-unfoldable pub bits_where : (ℕ → Bool) → ℕ → ℕ
-bits_where is_set zero = 0
-bits_where is_set (suc n) = bits_where is_set n + (if is_set n then 2 ^ n else 0)
 
 -- the note that a record is
 abbrev pub note_of_body : Body → Option NoteBody

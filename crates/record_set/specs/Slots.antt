@@ -3,13 +3,14 @@ use Rattle.std.specs.Prelude.{◌≡◌, ℕ, ◌+◌, ◌*◌, ◌-◌, ◌/◌
 use Rattle.std.specs.List.{range_with_len}
 use Rattle.std.specs.FinMap.{from_entries}
 use Rattle.ff_ids.specs.declared.TheConstants.{MAX_RINGS, MEMBERS}
+use Rattle.ff_ids.specs.Masks.{bits_where}
 use Rattle.ff_ids.specs.declared.summary.SummaryEntry.{SummaryEntry}
 use Rattle.ff_ids.specs.declared.summary.RecordKey.{RecordKey}
 use Rattle.ff_ids.specs.declared.summary.RecordKey.TheVariants as keys
 use Rattle.record_set.specs.declared.slots.TheConstants.{SLOTS, SLOTS_EACH}
 use Rattle.records.specs.Signing.{CheckedRecord}
 use Rattle.record_set.specs.Held.{Held}
-use Rattle.record_set.specs.Pages.{bits_where, note_in, entry_with}
+use Rattle.record_set.specs.Pages.{note_in, entry_with}
 
 abbrev pub Slot : Type 0
 Slot = Option CheckedRecord

@@ -3,9 +3,10 @@
 
 ghost use Rattle.std.specs.Prelude.{◌≡◌, ℕ, ◌+◌, ◌*◌, ◌<◌, ◌≤◌, ◌++◌, length, IfOk, None, slice_index_or, is_some};
 ghost use Rattle.ff_ids.specs.declared.TheConstants.{MAX_RINGS, MEMBERS, PAGE_MEMBERS};
+ghost use Rattle.ff_ids.specs.Masks.{bits_where};
 ghost use Rattle.records.specs.Spelling.{IsBody, HasLength, body_bytes, record_bytes};
 ghost use Rattle.record_set.specs.Held.{key_of};
-ghost use Rattle.record_set.specs.Pages.{bits_where, note_in, entry_with};
+ghost use Rattle.record_set.specs.Pages.{note_in, entry_with};
 ghost use Rattle.record_set.specs.Slots.{slot_of, member_of, HasSlot, entry_in, no_entry, ready_entries};
 
 use ff_ids::{

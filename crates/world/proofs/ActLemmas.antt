@@ -24,10 +24,9 @@ use Rattle.world.specs.declared.counts.Counts as counted
 use Rattle.world.specs.Counting.{AreKept}
 use Rattle.world.specs.Telling.{call_lines, told_line, told_lines}
 use Rattle.world.specs.Holding.{Holds, Kept}
-use Rattle.world.specs.Courses.{At, Falls, Goes, IsPlace}
+use Rattle.world.specs.Courses.{At, Goes, IsPlace}
 use Rattle.world.proofs.CallLemmas.{holds-called}
 use Rattle.world.proofs.ChangeLemmas.{number-at}
-use Rattle.world.proofs.CourseLemmas.{Lengthens, calls-longer, front-more, longer-ok, OkIs}
 use Rattle.world.proofs.StationLemmas.{numbers-set, station-at}
 use Rattle.world.proofs.WorldLemmas.{holds-recounted}
 
@@ -79,9 +78,6 @@ running-told s v c m ots tree x later sent i events (Some life) own same called 
 
 -- ---- what is written
 
-pub told-longer : (s : Setting) (m : ℕ) (i : Input) → Lengthens (λ c. Ok (calls s m i c))
-told-longer s m i = record { longer = λ c d is. longer-ok c (calls s m i c) d (calls-longer s m i c) is }
-
 lines-told : (base : List ℕ) (c d : Course) (m n : ℕ) (events : List journal.Event) → d.told ≡ c.told ++ told_in m n events → (base ++ told_lines c.told) ++ call_lines m n events ≡ base ++ told_lines d.told
 lines-told base c d m n events is =
     append_assoc base (told_lines c.told) (call_lines m n events) ∙ ap (λ (z : List ℕ). base ++ z) (sym (ap told_lines is ∙ flat_map-append told_line c.told (told_in m n events)))
@@ -102,24 +98,6 @@ calls-goes s before base v out later_out c m at x later sent k i events h is fou
         written = written ∙ ap (λ (z : List ℕ). z ++ call_lines m (length v.sent) events) h.written ∙ lines-told base c d m (length v.sent) events told;
       },
     )
-
--- memory was refused as that was written
-pub calls-falls : (s : Setting) (before : List Told) (base : List ℕ) (v : Kept) (out later_out : List ℕ) (c : Course) (m : ℕ) (x later : StationState) (sent : List (ℕ × List ℕ)) (i : Input) (events : List journal.Event) → (h : At s before base v out c)
-    → later.member ≡ m → CallsRunning s h.holds.ots h.holds.tree i (c.world.stations m) (spent_of c.world (Some m)) (c.world.stations m).current x later v.sent sent events
-    → IsFront out later_out → IsFront later_out (out ++ call_lines m (length v.sent) events) → Falls base later_out (Ok (calls s m i c))
-unfolding calls
-calls-falls s before base v out later_out c m x later sent i events h own called stands due =
-    let current : Option Life = (c.world.stations m).current in
-    let d : Course = calls_running s m i (c.world.stations m) current c in
-    let told = running-told s v c m h.holds.ots h.holds.tree x later sent i events current own h.holds.sent called in
-    record {
-      stands = front-trans base out later_out (subst (IsFront base) (sym h.written) (front-more base (told_lines c.told))) stands;
-      due = λ e is. subst (λ (z : Course). IsFront later_out (base ++ told_lines z.told)) (the-same d e is)
-          (subst (IsFront later_out) (ap (λ (z : List ℕ). z ++ call_lines m (length v.sent) events) h.written ∙ lines-told base c d m (length v.sent) events told) due);
-    }
-  where
-    the-same : (a b : Course) → OkIs a b → a ≡ b
-    the-same a b e = cc
 
 split-at : (xs : List journal.Event) (i : ℕ) → xs ≡ take i xs ++ drop i xs
 split-at [] zero = refl

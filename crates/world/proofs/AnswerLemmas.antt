@@ -20,7 +20,7 @@ use Rattle.world.specs.declared.fault.WorldFault.{WorldFault}
 use Rattle.world.specs.declared.fault.WorldFault.TheVariants as faults
 use Rattle.world.specs.Holding.{Holds, Kept}
 use Rattle.world_station.specs.Holding.{HoldsCurrent, HoldsLife}
-use Rattle.world.specs.Courses.{At, FallsBehind, Replies, behind_text, body_in, course_of, signs}
+use Rattle.world.specs.Courses.{At, Replies, behind_text, body_in, course_of, signs}
 use Rattle.world.proofs.CourseLemmas.{front-refl, front-more}
 
 -- nothing is told
@@ -28,13 +28,12 @@ pub holds-quiet : (s : Setting) (w : Meant) (before : List Told) (v : Kept) → 
 holds-quiet s w before v h = subst (λ (z : List Told). Holds s w z v) (sym (append-nil before)) h
 
 -- nothing is written
-pub falls-before : (old new : List ℕ) (r : Result Answer Forgery) → new ≡ old → FallsBehind old new r
-falls-before old new r same =
-    subst (λ (z : List ℕ). FallsBehind old z r) (sym same) (record { stands = front-refl old; due = λ a is. front-more old (behind_text a) })
+pub front-same : (old new : List ℕ) → new ≡ old → IsFront old new
+front-same old new same = subst (IsFront old) (sym same) (front-refl old)
 
 -- memory was refused as the answer was to be written, and nothing is
 pub memory-replies : (s : Setting) (before : List Told) (v : Kept) (old new : List ℕ) (r : Result Answer Forgery) (fault : WorldFault) → fault ≡ faults.OutOfMemory → new ≡ old → Replies s before v old new r (Err fault)
-memory-replies s before v old new r fault is same = subst (λ (f : WorldFault). Replies s before v old new r (Err f)) (sym is) (falls-before old new r same)
+memory-replies s before v old new r fault is same = subst (λ (f : WorldFault). Replies s before v old new r (Err f)) (sym is) (front-same old new same)
 
 -- the answer is a verdict
 pub says-replies : (s : Setting) (w : Meant) (before : List Told) (v : Kept) (old new : List ℕ) (verdict : Verdict) (result : Result (Unit {0}) WorldFault) → Holds s w before v

@@ -77,15 +77,7 @@ began-replies s w before v old new m at life later events kept (Ok done) h there
     (b.answer, ap (λ (a : Answer). Ok a) b.same, record { holds = b.holds; written = written ∙ ap (λ (z : List ℕ). old ++ z) (sym b.text) })
 began-replies s w before v old new m at life later events kept (Err (faults.Forged who body)) h there own counts written = absurd written
 began-replies s w before v old new m at life later events kept (Err faults.OutOfMemory) h there own counts written =
-    let c : Counted = counted_behind s (before ++ []) events in
-    let b : Begun s w before v m at life later events (kept_of c) = begun-so s w before v m at life later events (kept_of c) h.0 there own h.1 (are-kept c) in
-    record {
-      stands = written.0;
-      due = λ a is. subst (λ (z : Answer). IsFront new (old ++ behind_text z)) (sym b.same ∙ the-same (starts_if_left s m w) a is) (subst (λ (z : List ℕ). IsFront new (old ++ z)) (sym b.text) written.1);
-    }
-  where
-    the-same : (a b : Answer) → ok_answer a ≡ Ok b → a ≡ b
-    the-same a b e = cc
+    written.0
 
 pub begun-replies : (s : Setting) (w : Meant) (before : List Told) (v : Kept) (old new : List ℕ) (m at life : ℕ) (later : StationState) (events : List journal.Event) (kept : counted.Counts) (result : Result (Unit {0}) WorldFault) → (h : Holds s w before v)
     → StartsNode s h.ots h.tree (w.stations m) (spent_of w (Some m)) later (Ok (starts.Began life events)) → IsPlace v at m → later.member ≡ m

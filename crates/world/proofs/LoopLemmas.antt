@@ -12,7 +12,7 @@ use Rattle.world_rules.specs.Steps.{Course, Told, and_then, calls, flows, flows_
 use Rattle.world.specs.declared.fault.WorldFault.{WorldFault}
 use Rattle.world.specs.Holding.{Kept}
 use Rattle.world.specs.Courses.{At, FlowsOne, Goes, hands_each, hands_if}
-use Rattle.world.proofs.CourseLemmas.{Lengthens, flows-longer, goes-not, ticks-longer, hands-longer, longer-ok, then-longer, front-refl}
+use Rattle.world.proofs.CourseLemmas.{goes-not}
 
 -- Some of it is done, and this is left.
 pub record Sofar (s : Setting) (before : List Told) (base : List ℕ) (v : Kept) (out : List ℕ) (whole : Result Course Forgery) (rest : Course → Result Course Forgery) : Type 0 where
@@ -51,15 +51,12 @@ pub flow-fault : (s : Setting) (before : List Told) (base : List ℕ) (v later :
     → FlowsOne s before base later written h.course (slice_get h.course.world.sent h.course.world.flowed) (Err fault) → Goes s before base later written whole (Err fault)
 flow-fault s before base v later out written whole n k fault more h f =
     subst (λ (z : Result Course Forgery). Goes s before base later written z (Err fault)) (sym (h.same ∙ flows-turn s n k h.course f.0 more f.1))
-    (goes-not s before base later written (flows_one s f.0 h.course) (flows s k) fault (flows-longer s k) f.2)
+    (goes-not s before base later written (flows_one s f.0 h.course) (flows s k) fault f.2)
 
 -- ---- ticks
 
 abbrev pub ticks_left : Setting → ℕ → ℕ → Course → Result Course Forgery
 ticks_left s m n c = Ok (ticks s m n c)
-
-pub ticks_left-longer : (s : Setting) (m n : ℕ) → Lengthens (ticks_left s m n)
-ticks_left-longer s m n = record { longer = λ c d is. longer-ok c (ticks s m n c) d (ticks-longer s m n c) is }
 
 pub tick-more : (s : Setting) (before : List Told) (base : List ℕ) (v later : Kept) (out written : List ℕ) (whole : Result Course Forgery) (m n k : ℕ) → n ≡ suc k → (h : Sofar s before base v out whole (ticks_left s m n))
     → Goes s before base later written (Ok (calls s m Ticks h.course)) (Ok tt) → Sofar s before base later written whole (ticks_left s m k)
@@ -74,20 +71,9 @@ pub tick-fault : (s : Setting) (before : List Told) (base : List ℕ) (v later :
     → Goes s before base later written (Ok (calls s m Ticks h.course)) (Err fault) → Goes s before base later written whole (Err fault)
 tick-fault s before base v later out written whole m n k fault more h g =
     subst (λ (z : Result Course Forgery). Goes s before base later written z (Err fault)) (sym (h.same ∙ ap (λ (z : ℕ). ticks_left s m z h.course) more))
-    (goes-not s before base later written (Ok (calls s m Ticks h.course)) (ticks_left s m k) fault (ticks_left-longer s m k) g)
+    (goes-not s before base later written (Ok (calls s m Ticks h.course)) (ticks_left s m k) fault g)
 
 -- ---- each node in turn
-
-if-longer : (s : Setting) (m : ℕ) (b : Bool) (bytes : List ℕ) → Lengthens (hands_if s m b bytes)
-if-longer s m true bytes = record { longer = (hands-longer s m bytes).longer }
-if-longer s m false bytes = record { longer = λ c d is. longer-ok c c d (front-refl c.told) is }
-
-each-go : (s : Setting) (ms bytes : List ℕ) (c e : Course) → hands_each s ms bytes c ≡ Ok e → IsFront c.told e.told
-each-go s [] bytes c e is = longer-ok c c e (front-refl c.told) is
-each-go s (m ∷ ms) bytes c e is = then-longer (hands_if s m (is_running c.world m) bytes c) (hands_each s ms bytes) c e (λ d h. (if-longer s m (is_running c.world m) bytes).longer c d h) (record { longer = each-go s ms bytes }) is
-
-pub each-longer : (s : Setting) (ms bytes : List ℕ) → Lengthens (hands_each s ms bytes)
-each-longer s ms bytes = record { longer = each-go s ms bytes }
 
 pub each-more : (s : Setting) (before : List Told) (base : List ℕ) (v later : Kept) (out written : List ℕ) (whole : Result Course Forgery) (ms rest bytes : List ℕ) (m : ℕ) → ms ≡ m ∷ rest → (h : Sofar s before base v out whole (hands_each s ms bytes))
     → Goes s before base later written (hands_if s m (is_running h.course.world m) bytes h.course) (Ok tt) → Sofar s before base later written whole (hands_each s rest bytes)
@@ -102,7 +88,7 @@ pub each-fault : (s : Setting) (before : List Told) (base : List ℕ) (v later :
     → Goes s before base later written (hands_if s m (is_running h.course.world m) bytes h.course) (Err fault) → Goes s before base later written whole (Err fault)
 each-fault s before base v later out written whole ms rest bytes m fault more h g =
     subst (λ (z : Result Course Forgery). Goes s before base later written z (Err fault)) (sym (h.same ∙ ap (λ (z : List ℕ). hands_each s z bytes h.course) more))
-    (goes-not s before base later written (hands_if s m (is_running h.course.world m) bytes h.course) (hands_each s rest bytes) fault (each-longer s rest bytes) g)
+    (goes-not s before base later written (hands_if s m (is_running h.course.world m) bytes h.course) (hands_each s rest bytes) fault g)
 
 -- ---- by whether a turn answered a fault
 

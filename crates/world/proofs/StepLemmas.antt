@@ -17,7 +17,7 @@ use Rattle.world_rules.specs.Steps.{Answer, Told, does, says, starts, starts_in_
 use Rattle.world_rules.specs.Walk.{behind_line}
 use Rattle.world.specs.declared.fault.WorldFault.{WorldFault}
 use Rattle.world.specs.declared.fault.WorldFault.TheVariants as faults
-use Rattle.world.specs.Answers.{GivesFront, PlaysLine, Steps}
+use Rattle.world.specs.Answers.{PlaysLine, Steps}
 use Rattle.world.specs.Telling.{answer_text, told_lines}
 use Rattle.world.specs.Holding.{Kept}
 use Rattle.world.specs.Courses.{CanStart, NamesLiar, Replies, before_opening, behind_text, does_or_opens, starts_if_left}
@@ -137,14 +137,11 @@ plays-replies s before line v old middle new r (Ok done) is h =
     (h.0, h.1, record { holds = h.2.holds; written = h.2.written ∙ ap (λ (z : List ℕ). z ++ behind_text h.0) is ∙ regrouped old (line_text line) (behind_line h.0.verdict) (told_lines h.0.told) })
 plays-replies s before line v old middle new r (Err (faults.Forged who body)) is h = (h.0, front-trans old middle new (subst (IsFront old) (sym is) (front-more old (line_text line))) h.1)
 plays-replies s before line v old middle new r (Err faults.OutOfMemory) is h =
-    record {
-      old_stands = front-trans old middle new (subst (IsFront old) (sym is) (front-more old (line_text line))) h.stands;
-      due = λ a ok. subst (IsFront new) (ap (λ (z : List ℕ). z ++ behind_text a) is ∙ regrouped old (line_text line) (behind_line a.verdict) (told_lines a.told)) (h.due a ok);
-    }
+    front-trans old middle new (subst (IsFront old) (sym is) (front-more old (line_text line))) h
 
 pub plays-not : (s : Setting) (before : List Told) (line : WorldLine) (v : Kept) (old new : List ℕ) (r : Result Answer Forgery) → new ≡ old → PlaysLine s before line v old new r (Err faults.OutOfMemory)
 plays-not s before line v old new r same =
-    subst (λ (z : List ℕ). GivesFront old z line r) (sym same) (record { old_stands = front-refl old; due = λ a ok. front-more old (answer_text line a) })
+    subst (IsFront old) (sym same) (front-refl old)
 
 -- ---- a step
 
@@ -161,7 +158,7 @@ cut-front old new h = ap (take (length old)) h.is ∙ front-cut old h.more
 pub steps-cut : (s : Setting) (w : Meant) (told : List Told) (line : WorldLine) (v : Kept) (old new cut : List ℕ) (fault : WorldFault) → cut ≡ take (length old) new → PlaysLine s told line v old new (step s w line) (Err fault)
     → Steps s w told line v old cut (Err fault)
 steps-cut s w told line v old new cut (faults.Forged who body) is h = (h.0, is ∙ cut-front old new h.1)
-steps-cut s w told line v old new cut faults.OutOfMemory is h = is ∙ cut-front old new h.old_stands
+steps-cut s w told line v old new cut faults.OutOfMemory is h = is ∙ cut-front old new h
 
 pub steps-kept : (s : Setting) (w : Meant) (told : List Told) (line : WorldLine) (v : Kept) (old new : List ℕ) (done : Unit {0}) → PlaysLine s told line v old new (step s w line) (Ok done)
     → Steps s w told line v old new (Ok done)

@@ -16,11 +16,6 @@ pub record Gives (s : Setting) (told : List Told) (line : WorldLine) (v : Kept) 
   pub holds : Holds s a.world (told ++ a.told) v
   pub written : new ≡ old ++ answer_text line a
 
--- What is written so far is a front of what the line brings, if nothing that it hands over is forged.
-pub record GivesFront (old new : List ℕ) (line : WorldLine) (r : Result Answer Forgery) : Type 0 where
-  pub old_stands : IsFront old new
-  pub due : (a : Answer) → r ≡ Ok a → IsFront new (old ++ answer_text line a)
-
 -- The step is the definition's. A record that is forged is named exactly there; behind that, and where memory was refused,
 -- what was written is as before.
 abbrev pub Steps : Setting → Meant → List Told → WorldLine → Kept → List ℕ → List ℕ → Result (Unit {0}) WorldFault → Type 0
@@ -28,9 +23,8 @@ Steps s w told line v old new (Ok done) = (a : Answer) × ((step s w line ≡ Ok
 Steps s w told line v old new (Err (faults.Forged who body)) = (step s w line ≡ Err (record { who = who; body = body })) × (new ≡ old)
 Steps s w told line v old new (Err faults.OutOfMemory) = new ≡ old
 
--- The same of a line that is played: where a record is forged, more may be written already, and where memory was refused a
--- front of what it brings.
+-- The same of a line that is played: where a record is forged, or memory was refused, more may be written already.
 abbrev pub PlaysLine : Setting → List Told → WorldLine → Kept → List ℕ → List ℕ → Result Answer Forgery → Result (Unit {0}) WorldFault → Type 0
 PlaysLine s told line v old new r (Ok done) = (a : Answer) × (r ≡ Ok a) × Gives s told line v old new a
 PlaysLine s told line v old new r (Err (faults.Forged who body)) = (r ≡ Err (record { who = who; body = body })) × IsFront old new
-PlaysLine s told line v old new r (Err faults.OutOfMemory) = GivesFront old new line r
+PlaysLine s told line v old new r (Err faults.OutOfMemory) = IsFront old new

@@ -43,16 +43,11 @@ pub record At (s : Setting) (before : List Told) (base : List ℕ) (v : Kept) (o
   pub holds : Holds s c.world (before ++ c.told) v
   pub written : out ≡ base ++ told_lines c.told
 
--- Memory was refused, and a front of the events is written, if there is nothing that is forged.
-pub record Falls (base out : List ℕ) (r : Result Course Forgery) : Type 0 where
-  pub stands : IsFront base out
-  pub due : (c : Course) → r ≡ Ok c → IsFront out (base ++ told_lines c.told)
-
--- A part of a line went as it is meant; or what is forged in it is named; or memory was refused.
+-- A part of a line went as it is meant; or what is forged in it is named; or memory was refused. What was written stays.
 abbrev pub Goes : Setting → List Told → List ℕ → Kept → List ℕ → Result Course Forgery → Result (Unit {0}) WorldFault → Type 0
 Goes s before base v out r (Ok done) = (c : Course) × (r ≡ Ok c) × At s before base v out c
 Goes s before base v out r (Err (faults.Forged who body)) = (r ≡ Err (record { who = who; body = body })) × IsFront base out
-Goes s before base v out r (Err faults.OutOfMemory) = Falls base out r
+Goes s before base v out r (Err faults.OutOfMemory) = IsFront base out
 
 -- ---- parts of lines
 
@@ -125,16 +120,11 @@ pub record Replied (s : Setting) (before : List Told) (v : Kept) (old new : List
   pub holds : Holds s a.world (before ++ a.told) v
   pub written : new ≡ old ++ behind_text a
 
--- Memory was refused, and a front of the answer is written, if there is nothing that is forged.
-pub record FallsBehind (old new : List ℕ) (r : Result Answer Forgery) : Type 0 where
-  pub stands : IsFront old new
-  pub due : (a : Answer) → r ≡ Ok a → IsFront new (old ++ behind_text a)
-
 -- A line, whose own text is written, was answered as it is meant; or what is forged in it is named; or memory was refused.
 abbrev pub Replies : Setting → List Told → Kept → List ℕ → List ℕ → Result Answer Forgery → Result (Unit {0}) WorldFault → Type 0
 Replies s before v old new r (Ok done) = (a : Answer) × (r ≡ Ok a) × Replied s before v old new a
 Replies s before v old new r (Err (faults.Forged who body)) = (r ≡ Err (record { who = who; body = body })) × IsFront old new
-Replies s before v old new r (Err faults.OutOfMemory) = FallsBehind old new r
+Replies s before v old new r (Err faults.OutOfMemory) = IsFront old new
 
 -- The start of a life, or that the key is used up, which is seen once the store is open.
 abbrev pub starts_if_left : Setting → ℕ → Meant → Answer

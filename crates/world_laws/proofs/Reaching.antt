@@ -18,7 +18,7 @@ use Rattle.node_rules.specs.Starting.{first_note}
 use Rattle.node_rules.specs.Lives.{Input, Delivers, Ticks, KeepsOwnNote, TellsItsLife, call_of}
 use Rattle.node_rules.specs.Accusing.{AccusesTheSilent}
 use Rattle.node_rules.proofs.Accusations.{In-from_filter_map}
-use Rattle.node_rules.proofs.Masks.{all_rings-good}
+use Rattle.rebuttal.proofs.Masks.{all_rings-good}
 use Rattle.node_rules.proofs.OwnNote.{own-started}
 use Rattle.node_rules.proofs.Ticks.{only-silent}
 use Rattle.world_rules.specs.Settings.{Setting, Signed, is_node, is_liar, certificate, by_authority, certificates, setting_of}

@@ -24,8 +24,8 @@ use Rattle.journal.specs.declared.event.What as whats
 use Rattle.journal.specs.declared.event.What.TheVariants as told
 use Rattle.node_rules.specs.Nodes.{Setting, Node, state_of, event_of, neighbours, neighbours_and}
 use Rattle.node_rules.specs.Pages.{page, partner, page_number, lacking}
-use Rattle.record_set.proofs.BitLemmas.{bits-below}
-use Rattle.node_rules.specs.Replies.{answering_mask, is_enabled_by_answer}
+use Rattle.ff_ids.proofs.BitLemmas.{bits-below}
+use Rattle.rebuttal.specs.Rebuttals.{answering_mask, is_enabled_by_answer}
 use Rattle.node_rules.specs.Refusals.{refusal}
 use Rattle.node_rules.specs.Calls.{Call, begun, tells, told_of, lives, takes, spends, signs, signs_and_sends, wants, stops, sends, sends_to_all, is_used_up, own_record}
 use Rattle.node_rules.specs.Deliveries.{answer_to, answers, judged, handles, is_other, gives, replies, exchanges, pinged, ponged_by, hears}

@@ -3,6 +3,7 @@
 use Rattle.std.proofs.Common.{◌≡◌, ℕ, ◌+◌, ◌*◌, Bool, List, [], ◌∷◌, Option, None, Some, Result, Ok, Err, map, refl, replicate}
 use Rattle.std.specs.Prelude.{◌%◌, ◌&&◌, ◌==◌, fold, codes}
 use Rattle.std.specs.List.{slice_index}
+use Rattle.ff_ids.specs.Masks.{bits_where}
 use Rattle.ff_ids.specs.declared.Group.{Group}
 use Rattle.ff_ids.specs.declared.Fault.TheVariants as faults
 use Rattle.ff_ids.specs.declared.AccBody.{AccBody}
@@ -21,9 +22,8 @@ use Rattle.records.specs.Spelling.{note_bytes, accusation_bytes, certificate_byt
 use Rattle.records.specs.Grammar.{key_at, certificate_at, note_at, accusation_at, body_at, signature_at, record_at}
 use Rattle.datagram.specs.Spelling.{head_bytes, records_bytes, datagram_bytes}
 use Rattle.datagram.specs.Grammar.{head_at, counted_at, records_at, content_at, datagram_at, items_at, whole_of, read_of}
-use Rattle.record_set.specs.Pages.{bits_where}
 use Rattle.node_rules.specs.Nodes.{state_of, certificate_of, neighbours, neighbours_and}
-use Rattle.node_rules.specs.Replies.{answering_mask}
+use Rattle.rebuttal.specs.Rebuttals.{answering_mask}
 use Rattle.node_rules.specs.Refusals.{refusal}
 use Rattle.node_rules.specs.Calls.{lives, sends, takes, signs, signs_and_sends, wants}
 use Rattle.node_rules.specs.Deliveries.{handles}

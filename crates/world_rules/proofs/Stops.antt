@@ -1,6 +1,7 @@
 -- Worked rows: stops at each call of a disk, and a key that is used up.
 use Rattle.std.proofs.Common.{◌≡◌, ℕ, List, [], ◌∷◌, None, Some, Ok, map, refl}
 use Rattle.std.specs.Prelude.{◌&&◌, ◌||◌, ◌==◌, nat_le, if◌then◌else◌, codes}
+use Rattle.ff_ids.specs.Masks.{bits_where}
 use Rattle.records.specs.declared.Body.TheVariants.{Accusation}
 use Rattle.journal.specs.declared.event.What.TheVariants as told
 use Rattle.ff_ids.specs.Views.{all_numbers}
@@ -9,9 +10,8 @@ use Rattle.records.specs.Spelling.{note_bytes, accusation_bytes, certificate_byt
 use Rattle.records.specs.Grammar.{key_at, certificate_at, note_at, accusation_at, body_at, signature_at, record_at}
 use Rattle.datagram.specs.Spelling.{head_bytes, entry_bytes, summary_bytes, records_bytes}
 use Rattle.datagram.specs.Grammar.{head_at, entry_at, entries_at, summary_at, counted_at, records_at, content_at, datagram_at, items_at, whole_of, read_of}
-use Rattle.record_set.specs.Pages.{bits_where}
 use Rattle.node_rules.specs.Nodes.{state_of, certificate_of, neighbours, neighbours_and}
-use Rattle.node_rules.specs.Replies.{answering_mask}
+use Rattle.rebuttal.specs.Rebuttals.{answering_mask}
 use Rattle.node_rules.specs.Refusals.{refusal}
 use Rattle.node_rules.specs.Calls.{lives, sends, takes, signs, signs_and_sends, wants}
 use Rattle.node_rules.specs.Deliveries.{handles}

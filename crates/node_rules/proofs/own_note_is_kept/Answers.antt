@@ -1,6 +1,6 @@
 use Rattle.node_rules.specs.Starting.{started}
 use Rattle.node_rules.proofs.OwnNote.{own-started, own-calls}
-use Rattle.node_rules.proofs.Masks.{all_rings-good}
+use Rattle.rebuttal.proofs.Masks.{all_rings-good}
 use Rattle.node_rules.proofs.own_note_is_kept.Goals as goal
 
 pub returns : goal.returns

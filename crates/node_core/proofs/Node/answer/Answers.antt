@@ -11,11 +11,10 @@ use Rattle.node_core.proofs.HandleLemmas.{not-against, answers-is}
 use Rattle.node_core.proofs.PlayLemmas.{grows-refl}
 use Rattle.node_core.proofs.ExtendLemmas.{extends-answers}
 use Rattle.node_core.proofs.DueLemmas.{from-fine, runs-from-fine, runs-same, plays-refused}
-use Rattle.std.proofs.Common.{◌<◌, ◌↔◌, arith}
+use Rattle.std.proofs.Common.{arith}
 use Rattle.std.proofs.lemmas.Bool.Decides.{nat_tests}
 use Rattle.epoch_store.specs.declared.Stored.{Stored}
-use Rattle.ff_ids.specs.Masks.{ring_count, enables}
-use Rattle.rebuttal.specs.Rebuttals.{IsEnabledByAnswer}
+use Rattle.rebuttal.specs.Rebuttals.{answering_mask}
 use Rattle.std.proofs.Common.{refl}
 use Rattle.node_core.proofs.SpendLemmas.{nothing-same, refused-none, spends-none}
 use Rattle.records.specs.declared.Body.{Body}
@@ -36,13 +35,13 @@ pub returns-clause-plays : goal.returns-clause-plays
 returns-clause-plays g c = λ s es os call p.
     let v : Kept = the_view c.self.inside in
     let who : c.args.acc.now.accused ≡ c.self.inside.me = grind (arith, nat_tests, c.ne.ensures, c.if-ne.false) in
-    let exact = subst (λ (x : Stored). (r : ℕ) → r < ring_count c.self.inside.group.t → (enables c.answer_mask.result.0 r ≡ true) ↔ IsEnabledByAnswer c.self.inside.group.t x.mask.0 c.args.acc.now.ring.0 r) c.state.ensures c.answer_mask.ensures.exact in
+    let exact = subst (λ (x : Stored). c.answer_mask.result.0 ≡ answering_mask c.self.inside.group.t x.mask.0 c.args.acc.now.ring.0) c.state.ensures c.answer_mask.ensures.exact in
     let a = c.args.acc.now in
     let answered : Bool → Call = λ works. answers works s (bodies.Accusation a) call in
     runs-from-fine s es os c.args.self.now c.want_note.new.self call answered c.want_note.result p c.want_note.ensures.grows (extends-answers s (bodies.Accusation a) call) (λ h.
     let n = subst (λ v. IsNode s v call.node) (sym c.self.view_is) h.is in
     runs-same s es os c.want_note.new.self (λ works. wants works s (next_own s call.node c.answer_mask.result) (addressees s None) call) answered c.want_note.result
-    (λ works. answers-is s v call a c.answer_mask.result works n who c.answer_mask.ensures.good exact) (c.want_note.ensures.plays s es os call p))
+    (λ works. answers-is s v call a c.answer_mask.result works n who exact) (c.want_note.ensures.plays s es os call p))
 
 pub returns-then-ne-clause-spends : goal.returns-then-ne-clause-spends
 returns-then-ne-clause-spends g c = spends-none c.args.self.now c.args.self.now _ (nothing-same c.args.self.now)
@@ -66,10 +65,10 @@ pub returns-clause-fails : goal.returns-clause-fails
 returns-clause-fails g c = λ s es os call p.
     let v : Kept = the_view c.self.inside in
     let who : c.args.acc.now.accused ≡ c.self.inside.me = grind (arith, nat_tests, c.ne.ensures, c.if-ne.false) in
-    let exact = subst (λ (x : Stored). (r : ℕ) → r < ring_count c.self.inside.group.t → (enables c.answer_mask.result.0 r ≡ true) ↔ IsEnabledByAnswer c.self.inside.group.t x.mask.0 c.args.acc.now.ring.0 r) c.state.ensures c.answer_mask.ensures.exact in
+    let exact = subst (λ (x : Stored). c.answer_mask.result.0 ≡ answering_mask c.self.inside.group.t x.mask.0 c.args.acc.now.ring.0) c.state.ensures c.answer_mask.ensures.exact in
     let a = c.args.acc.now in
     let wanted : Call = wants true s (next_own s call.node c.answer_mask.result) (addressees s None) call in
     fails-same wanted (answers true s (bodies.Accusation a) call) c.args.self.now c.want_note.new.self (g.D.Disk.state c.args.disk.now) (g.D.Disk.state c.want_note.new.disk) c.want_note.result (λ fine.
     let h = p.at (c.want_note.ensures.grows.going fine) in
     let n = subst (λ v. IsNode s v call.node) (sym c.self.view_is) h.is in
-    answers-is s v call a c.answer_mask.result true n who c.answer_mask.ensures.good exact) (c.want_note.ensures.fails s es os call p)
+    answers-is s v call a c.answer_mask.result true n who exact) (c.want_note.ensures.fails s es os call p)

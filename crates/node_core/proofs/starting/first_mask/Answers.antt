@@ -1,6 +1,6 @@
 use Rattle.std.proofs.Common.{◌≡◌, true, subst, sym}
 use Rattle.ff_ids.specs.Masks.{good_mask}
-use Rattle.node_rules.proofs.Masks.{all_rings-good}
+use Rattle.rebuttal.proofs.Masks.{all_rings-good}
 use Rattle.node_core.proofs.starting.first_mask.Goals as goal
 
 pub returns-clause-good : goal.returns-clause-good

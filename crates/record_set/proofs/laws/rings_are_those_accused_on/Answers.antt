@@ -1,6 +1,6 @@
 use Rattle.ff_ids.specs.declared.TheConstants.{MAX_RINGS}
 use Rattle.record_set.specs.Pages.{rings_of}
-use Rattle.record_set.proofs.BitLemmas.{bits-tell}
+use Rattle.ff_ids.proofs.BitLemmas.{bits-tell}
 use Rattle.record_set.proofs.laws.rings_are_those_accused_on.Goals as goal
 
 pub returns : goal.returns

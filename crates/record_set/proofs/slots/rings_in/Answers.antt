@@ -1,6 +1,6 @@
 use Rattle.std.proofs.Common.{◌≡◌, ℕ, Bool, ◌+◌, ◌<◌, true, false, None, is_some, length, get_or, ap, sym, ◌∙◌, add-zero, arith}
 use Rattle.std.proofs.lemmas.List.{get_or_default}
-use Rattle.record_set.proofs.BitLemmas.{bits-none, bit_value, bit_fits, bit_pushed}
+use Rattle.ff_ids.proofs.BitLemmas.{bits-none, bit_value, bit_fits, bit_pushed}
 use Rattle.record_set.proofs.slots.rings_in.Goals as goal
 use Rattle.record_set.proofs.slots.rings_in.Goals.{then-is_some, else-is_some}
 

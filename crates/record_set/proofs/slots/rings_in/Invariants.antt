@@ -1,5 +1,5 @@
 use Rattle.std.proofs.Common.{◌≡◌, ◌+◌, None, is_some, get_or}
-use Rattle.record_set.specs.Pages.{bits_where}
+use Rattle.ff_ids.specs.Masks.{bits_where}
 use Rattle.record_set.proofs.slots.rings_in.Given as goal
 
 abbrev pub invariant-loop-ring : goal.invariant-loop-ring

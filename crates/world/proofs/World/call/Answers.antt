@@ -14,9 +14,9 @@ use Rattle.world_rules.specs.Counts.{counts_of}
 use Rattle.world_rules.specs.Steps.{calls}
 use Rattle.world_rules.specs.Worlds.{spent_of}
 use Rattle.world.specs.Telling.{call_lines}
-use Rattle.world.proofs.ActLemmas.{calls-falls, calls-goes, kept_after, numbers-kept, place-holds, told-longer}
+use Rattle.world.proofs.ActLemmas.{calls-goes, kept_after, numbers-kept, place-holds}
 use Rattle.world.proofs.ChangeLemmas.{number-at}
-use Rattle.world.proofs.CourseLemmas.{falls-at}
+use Rattle.world.proofs.CourseLemmas.{front-at, front-on}
 use Rattle.world.proofs.ActLemmas.{recounted}
 use Rattle.world.proofs.World.call.Goals as goal
 
@@ -32,7 +32,7 @@ returns-in_err-events-clause-numbers c =
 pub returns-in_err-events-clause-calls : goal.returns-in_err-events-clause-calls
 returns-in_err-events-clause-calls c = λ s before base k m at place.
     let p = err_from_is_err_and c.from_residual.result c.from_residual.ensures.1 in
-    rw (p.1, p.2) (falls-at s before base c.args.self.now c.args.out.now.items k (λ z. Ok (calls s m (Delivers c.args.bytes.now) z)) (told-longer s m (Delivers c.args.bytes.now)) at)
+    rw (p.1, p.2) (front-at s before base c.args.self.now c.args.out.now.items k at)
 
 pub returns-in_err-tell_all-clause-numbers : goal.returns-in_err-tell_all-clause-numbers
 returns-in_err-tell_all-clause-numbers c =
@@ -54,17 +54,10 @@ returns-in_err-tell_all-clause-calls c = λ s before base k m at place.
     let held : Holds s k.world (before ++ k.told) v = subst (Holds s k.world (before ++ k.told)) (sym c.self.view_is) at.holds in
     let here : At s before base v c.args.out.now.items k = record { holds = held; written = at.written } in
     let there : IsPlace v c.args.at m = subst (λ (z : Kept). IsPlace z c.args.at m) (sym c.self.view_is) place in
-    let own : later.member ≡ m = c.in_ok-events.ensures.member ∙ number-at v.stations m c.args.at x there found in
-    let called = c.in_ok-events.ensures.calls s v.authority.group held.ots held.tree (k.world.stations m) (spent_of k.world (Some m)) held.world (place-holds s k.world (before ++ k.told) v m c.args.at x held there found) in
     let numbered : numbers (kept_after v c.args.at later c.deliver.new.out v.counts) ≡ numbers v = numbers-kept v.stations c.args.at x later found c.in_ok-events.ensures.member in
     let later_place : IsPlace (kept_after v c.args.at later c.deliver.new.out v.counts) c.args.at m = ap (λ (z : List ℕ). slice_get z c.args.at) numbered ∙ there in
-    let sent : c.as_slice-before.result.now ≡ v.sent = c.as_slice-before.ensures in
-    let told : c.as_slice.result.now ≡ c.in_ok-events.events = c.as_slice.ensures in
     let lines = c.in_err-tell_all.ensures.lines m later_place in
-    let due : IsFront c.tell_all.new.out.items (c.args.out.now.items ++ call_lines m (length v.sent) c.in_ok-events.events) =
-    subst (λ (z : List (ℕ × List ℕ)). IsFront c.tell_all.new.out.items (c.args.out.now.items ++ call_lines m (length z) c.in_ok-events.events)) sent
-    (subst (λ (es : List journal.Event). IsFront c.tell_all.new.out.items (c.args.out.now.items ++ call_lines m (length c.as_slice-before.result.now) es)) told lines.1) in
-    rw (p.1, p.2) (calls-falls s before base v c.args.out.now.items c.tell_all.new.out.items k m x later c.deliver.new.out (Delivers c.args.bytes.now) c.in_ok-events.events here own called lines.0 due)
+    rw (p.1, p.2) (front-on s before base v c.args.out.now.items c.tell_all.new.out.items k here lines.0)
 
 pub returns-clause-numbers : goal.returns-clause-numbers
 returns-clause-numbers c =

@@ -10,7 +10,7 @@ use Rattle.std.specs.Prelude.{Vec}
 use Rattle.std.specs.Global.{Global}
 use Rattle.world_rules.specs.Worlds.{named_so, running}
 use Rattle.world_rules.specs.Steps.{given_bytes}
-use Rattle.world.proofs.CourseLemmas.{falls-at, gives_each-longer}
+use Rattle.world.proofs.CourseLemmas.{front-at}
 use Rattle.world.proofs.HandingLemmas.{each-named, each-none}
 use Rattle.world.proofs.PlaceLemmas.{nodes-rise}
 use Rattle.world.proofs.World.give_all.Goals as goal
@@ -18,8 +18,7 @@ use Rattle.world.proofs.World.give_all.Goals as goal
 pub returns-in_err-bytes-clause-gives : goal.returns-in_err-bytes-clause-gives
 returns-in_err-bytes-clause-gives c = λ s before base k at.
     let p = err_from_is_err_and c.from_residual.result c.from_residual.ensures.1 in
-    let f : Course → Result Course Forgery = gives_each s (running s k.world) (named_so k.world c.args.name.now) in
-    rw (p.1, p.2) (falls-at s before base c.args.self.now c.args.out.now.items k f (gives_each-longer s (running s k.world) (named_so k.world c.args.name.now)) at)
+    rw (p.1, p.2) (front-at s before base c.args.self.now c.args.out.now.items k at)
 
 pub returns-in-Some-clause-gives : goal.returns-in-Some-clause-gives
 returns-in-Some-clause-gives c = λ s before base k at.

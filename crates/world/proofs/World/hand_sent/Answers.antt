@@ -3,7 +3,7 @@ use Rattle.std.specs.List.{slice_get}
 use Rattle.world_rules.specs.Steps.{hands_sent, tells_got}
 use Rattle.world.specs.Courses.{At}
 use Rattle.std.proofs.lemmas.Result.{err_from_is_err_and}
-use Rattle.world.proofs.CourseLemmas.{falls-at, hands_sent-longer}
+use Rattle.world.proofs.CourseLemmas.{front-at}
 use Rattle.world.proofs.HandingLemmas.{goes-sent}
 use Rattle.world.proofs.WorldLemmas.{at-got}
 use Rattle.world.proofs.World.hand_sent.Goals as goal
@@ -11,15 +11,13 @@ use Rattle.world.proofs.World.hand_sent.Goals as goal
 pub returns-in_err-bytes-clause-hands : goal.returns-in_err-bytes-clause-hands
 returns-in_err-bytes-clause-hands c = λ s before base k m at place.
     let p = err_from_is_err_and c.from_residual.result c.from_residual.ensures.1 in
-    let d : Option (ℕ × List ℕ) = slice_get k.world.sent c.args.number in
-    rw (p.1, p.2) (falls-at s before base c.args.self.now c.args.out.now.items k (hands_sent s m c.args.number d) (hands_sent-longer s m c.args.number d) at)
+    rw (p.1, p.2) (front-at s before base c.args.self.now c.args.out.now.items k at)
 
 pub returns-in_err-tell_got-clause-hands : goal.returns-in_err-tell_got-clause-hands
 returns-in_err-tell_got-clause-hands c = λ s before base k m at place.
     let p = err_from_is_err_and c.from_residual-in_err-tell_got.result c.from_residual-in_err-tell_got.ensures.1 in
-    let d : Option (ℕ × List ℕ) = slice_get k.world.sent c.args.number in
     let same : At s before base c.args.self.now c.tell_got.new.out.items k = record { holds = at.holds; written = c.in_err-tell_got.ensures.refused ∙ at.written } in
-    rw (p.1, p.2) (falls-at s before base c.args.self.now c.tell_got.new.out.items k (hands_sent s m c.args.number d) (hands_sent-longer s m c.args.number d) same)
+    rw (p.1, p.2) (front-at s before base c.args.self.now c.tell_got.new.out.items k same)
 
 pub returns-clause-hands : goal.returns-clause-hands
 returns-clause-hands c = λ s before base k m at place.

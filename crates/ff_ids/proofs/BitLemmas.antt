@@ -5,8 +5,7 @@ use Rattle.std.proofs.lemmas.Bool.{cases_lt}
 use Rattle.std.proofs.lemmas.Nat.{pow-add, pow_below, div-mul-add}
 use Rattle.std.proofs.lemmas.Nat.Bits.{bit_at_above}
 use Rattle.ff_ids.specs.declared.TheConstants.{MAX_RINGS}
-use Rattle.ff_ids.specs.Masks.{enables}
-use Rattle.record_set.specs.Pages.{bits_where}
+use Rattle.ff_ids.specs.Masks.{bits_where, enables}
 
 pub bits-none : (test : ℕ → Bool) → bits_where test 0 ≡ 0
 unfolding bits_where

@@ -6,53 +6,18 @@ use Rattle.std.specs.Int.{bit_at}
 use Rattle.std.proofs.lemmas.Bool.{cases_lt, cases_Bool, and_parts, and_from, or_right, not-true, eqb-true}
 use Rattle.std.proofs.lemmas.Bool.Decides.{nat_tests}
 use Rattle.std.proofs.lemmas.List.Folds.{list_all-append}
-use Rattle.std.proofs.lemmas.Nat.Bits.{same_from_bits_below, bit_at_cat_low, bit_at_cat_high, bit_at_lowest, bit_at-lt, bit_at_ones}
-use Rattle.ff_ids.specs.Masks.{all_rings, ring_count, enables, good_mask}
+use Rattle.std.proofs.lemmas.Nat.Bits.{same_from_bits_below, bit_at-lt, bit_at_ones}
+use Rattle.ff_ids.specs.Masks.{bits_where, all_rings, ring_count, enables, good_mask}
 use Rattle.ff_ids.proofs.MaskLemmas.{range_with_len-push}
-use Rattle.rebuttal.specs.Rebuttals.{disabled_count, IsLowestDisabled, IsEnabledByAnswer}
+use Rattle.ff_ids.proofs.BitLemmas.{bits-below, bits-tell}
+use Rattle.rebuttal.specs.Rebuttals.{disabled_count, is_lowest_disabled, is_enabled_by_answer, answering_mask}
 use Rattle.rebuttal.proofs.Switching.{switch, count, all_counted}
-use Rattle.rebuttal.proofs.Answering.{IsAsked, IsFull, good_parts, good_from, without_exact, again, again_exact, again_good, not_all}
-use Rattle.record_set.specs.Pages.{bits_where}
-use Rattle.node_rules.specs.Replies.{is_lowest_disabled, is_enabled_by_answer, answering_mask}
+use Rattle.rebuttal.proofs.Answering.{IsAsked, IsFull, IsLowestDisabled, IsEnabledByAnswer, good_parts, good_from, without_exact, again, again_exact, again_good, not_all}
 
 -- ---- bits
 
-one_bit : (b : Bool) (x p : ℕ) → x < p → x + cond b p 0 < p + p
-one_bit true x p lt = omega arith
-one_bit false x p lt = omega arith
-
-twice : (n : ℕ) → 2 ^ suc n ≡ 2 ^ n + 2 ^ n
-twice n = omega (arith, pow-suc 2 n)
-
-bits_where-below : (p : ℕ → Bool) (n : ℕ) → bits_where p n < 2 ^ n
-unfolding bits_where
-bits_where-below p zero = omega arith
-bits_where-below p (suc n) = subst (λ k. bits_where p (suc n) < k) (sym (twice n)) (one_bit (p n) (bits_where p n) (2 ^ n) (bits_where-below p n))
-
 abbrev one_if : Bool → ℕ
 one_if b = cond b 1 0
-
-as_cat : (b : Bool) (x q : ℕ) → x + cond b q 0 ≡ one_if b * q + x
-as_cat true x q = omega arith
-as_cat false x q = omega arith
-
-lowest-one_if : (b : Bool) → bit_at (one_if b) 0 ≡ one_if b
-lowest-one_if true = bit_at_lowest 1
-lowest-one_if false = bit_at_lowest 0
-
-bits-set : (p : ℕ → Bool) (n r : ℕ) → r < n → bit_at (bits_where p n) r ≡ one_if (p r)
-unfolding bits_where
-bits-set p zero r lt = absurd (omega arith)
-bits-set p (suc n) r lt =
-    let cat : bits_where p (suc n) ≡ one_if (p n) * 2 ^ n + bits_where p n = as_cat (p n) (bits_where p n) (2 ^ n) in
-    let at : bit_at (bits_where p (suc n)) r ≡ bit_at (one_if (p n) * 2 ^ n + bits_where p n) r = ap (λ x. bit_at x r) cat in
-    elim (cases_lt r n) [
-      | inl below ↦ at ∙ bit_at_cat_low (one_if (p n)) n (bits_where p n) r below ∙ bits-set p n r below
-      | inr past ↦
-          let here : r ≡ n = omega arith in
-          let none : r - n ≡ 0 = omega arith in
-          at ∙ bit_at_cat_high (one_if (p n)) n (bits_where p n) r (bits_where-below p n) past ∙ ap (λ k. bit_at (one_if (p n)) k) none ∙ lowest-one_if (p n) ∙ ap (λ k. one_if (p k)) (sym here)
-    ]
 
 bit-enabled : (m r : ℕ) (b : Bool) → enables m r ≡ b → bit_at m r ≡ one_if b
 bit-enabled m r true h = eqb-true (bit_at m r) 1 h
@@ -63,7 +28,9 @@ bit-enabled m r false h =
 
 -- a mask below 2 ^ n is the one with the rings that it enables
 pub mask-is : (p : ℕ → Bool) (n m : ℕ) → m < 2 ^ n → ((r : ℕ) → r < n → enables m r ≡ p r) → m ≡ bits_where p n
-mask-is p n m fits same = same_from_bits_below n m (bits_where p n) fits (bits_where-below p n) (λ r lt. bit-enabled m r (p r) (same r lt) ∙ sym (bits-set p n r lt))
+mask-is p n m fits same =
+    same_from_bits_below n m (bits_where p n) fits (bits-below p n)
+    (λ r lt. bit-enabled m r (p r) (same r lt) ∙ sym (bit-enabled (bits_where p n) r (p r) (bits-tell p n r lt)))
 
 -- ---- the rings of an answer
 
@@ -85,10 +52,10 @@ from_all_below p (suc n) h =
     let before = from_all_below p n (λ r lt. h r (omega arith)) in
     ap (list_all p) (range_with_len-push 0 n) ∙ list_all-append p (range_with_len 0 n) ((0 + n) ∷ []) ∙ and_from _ _ before (and_from _ _ last refl)
 
-lowest-from : (mask ring : ℕ) → IsLowestDisabled mask ring → is_lowest_disabled mask ring ≡ true
+pub lowest-from : (mask ring : ℕ) → IsLowestDisabled mask ring → is_lowest_disabled mask ring ≡ true
 lowest-from mask ring h = and_from _ _ (ap not h.disabled) (from_all_below (enables mask) ring h.lowest)
 
-lowest-to : (mask ring : ℕ) → is_lowest_disabled mask ring ≡ true → IsLowestDisabled mask ring
+pub lowest-to : (mask ring : ℕ) → is_lowest_disabled mask ring ≡ true → IsLowestDisabled mask ring
 lowest-to mask ring h =
     let parts = and_parts (not (enables mask ring)) (list_all (enables mask) (range_with_len 0 ring)) h in
     record { disabled = not-true _ parts.0; lowest = all_below (enables mask) ring parts.1 }
@@ -183,7 +150,7 @@ ones_all n r lt = eq-eqb _ _ (bit_at_ones n r lt)
 pub all_rings-good : (t : ℕ) → good_mask t (all_rings t) ≡ true
 all_rings-good t =
     let k : ℕ = ring_count t in
-    let below = bits_where-below (λ r. true) k in
+    let below = bits-below (λ r. true) k in
     let positive : 0 < 2 ^ k = omega (arith, below) in
     let counted : count k (all_rings t) ≡ k = all_counted (all_rings t) k (λ r lt. ones_all k r lt) in
     good_from t (all_rings t) (record { fits = omega (arith, positive); enough = omega (arith, counted) })
