@@ -1,8 +1,11 @@
-//! Tests of the commands, run over objects in memory: worked texts to the byte, each bad word, and each call that fails.
+//! Tests of the commands, run over objects in memory: worked texts to the byte, each bad word, and each call that fails;
+//! and of the real objects of the outside.
 #![tactic(auto)]
 
 #[cfg(test)]
 mod members;
+#[cfg(test)]
+mod outside;
 #[cfg(test)]
 mod refusing;
 #[cfg(test)]
