@@ -1,9 +1,11 @@
 //! Floor: checks. Tests of the commands, run over objects in memory: worked texts to the byte, each bad word, and each
-//! call that fails. Nothing stands on it.
+//! call that fails; and of the real objects of the outside. Nothing stands on it.
 #![tactic(auto)]
 
 #[cfg(test)]
 mod members;
+#[cfg(test)]
+mod outside;
 #[cfg(test)]
 mod refusing;
 #[cfg(test)]

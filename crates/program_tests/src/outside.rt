@@ -1,6 +1,7 @@
 //! The source and the sink over bytes in memory, and the others over a file, two sockets and the clock of this machine.
-use super::*;
-use ports::{Clock, Disk, Link, Opened, Received, Sent};
+
+use edges::{FileDisk, RealClock, StdSink, StdSource, UdpLink};
+use ports::{Clock, Disk, Given, Link, Opened, Received, Sent, Sink, Source, Taken};
 use std::test::Fail;
 use std::{fs, time};
 
