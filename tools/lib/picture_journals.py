@@ -11,6 +11,11 @@ from picture_model import Arrow, Band, Clock, Group, Lane, Panel, Picture, Place
 # How many ticks after it was sent a datagram that comes again and again is still taken for the one that was got.
 WINDOW = 3
 
+OWN_TICKS = "Time runs to the right, in ticks since the first line. Below each node's line stand its own moments."
+APART = (
+    "No datagram joins the journals of one axis with those of another: what stands above each other there need not be of one time."
+)
+
 
 class Sequence:
     """The lines of one life of a node, each with its moment."""
@@ -234,10 +239,7 @@ class JournalPicture:
         nodes = [node for part in parts for node in part]
         listed = ", ".join(str(node) for node in nodes)
         title = f"The journal of node {listed}" if len(nodes) == 1 else f"The journals of nodes {listed}"
-        notice = ""
-        if len(parts) > 1:
-            notice = "No datagram joins the journals of one axis with those of another: what stands above each other there need not be of one time."
-        return Picture(title, panels, self.group, self.watches, notice)
+        return Picture(title, panels, self.group, self.watches, [OWN_TICKS] + [APART] * (len(parts) > 1))
 
     def panel(self, nodes, pairs, parts):
         panel = Panel("tick")
@@ -285,7 +287,13 @@ class PanelLines:
         self.put_lost()
         if self.picture.until is None:
             for node, (line, at) in sorted(self.last.items()):
-                self.watches[node].finish(line, at)
+                self.finish(self.watches[node], line, at)
+
+    def finish(self, watch, line, at):
+        """A node whose journal tells no end may run on: nothing is known of it from here."""
+        if watch.is_running:
+            watch.finish(line, at)
+            watch.band.runs[-1][1] = self.panel.end
 
     def is_last(self, place, line):
         sequence = self.match.sequences[place[0]]

@@ -63,10 +63,11 @@ class Label:
 def place_labels(wanted, left, right, size, most_rows=3, gap=5):
     """Labels (x, text, priority, order) into rows, the most important first; where there is no room there is none.
 
-    Row 0 is the lowest. A label begins above its mark, or ends there at the right border.
+    Row 0 is the lowest. A label begins above its mark, or ends at the right border. Of two that want one place the right one
+    is lower, so that the leader of the other goes down to the left of it.
     """
     shelves, labels = [], []
-    for x, text, _, _ in sorted(wanted, key=lambda one: (one[2], one[3])):
+    for x, text, _, _ in sorted(wanted, key=lambda one: (one[2], -one[0], one[3])):
         width = text_width(text, size)
         start = min(x - 4, right - width)
         if start < left - 4:
@@ -75,36 +76,25 @@ def place_labels(wanted, left, right, size, most_rows=3, gap=5):
             if row == len(shelves):
                 shelves.append(Shelf())
             if shelves[row].take(start - gap / 2, start + width + gap / 2):
-                labels.append(Label(text, start, row, x))
+                labels.append(Label(text, start, row, x - 6 if start >= x - 5 else x))
                 break
     labels.sort(key=lambda label: (label.row, label.x))
     return labels
 
 
 def pick_ticks(ticks, scale, size, gap=14):
-    """Of the counted places those whose numbers are multiples of 1, 2, 5, 10 .. and lie apart, with the first."""
+    """Of the counted places those whose numbers are multiples of 1, 2, 5, 10 .. and lie apart, and the first."""
+
+    def is_apart(one, other):
+        return one[0] + text_width(one[1], size) / 2 + gap <= other[0] - text_width(other[1], size) / 2
+
     places = [(scale.across(position), text) for position, text in ticks]
-    numbers = sorted({int(text) for _, text in places})
-    if not numbers:
-        return []
-    step, factor = 1, 0
-    while True:
-        found, last = [], None
-        for x, text in places:
-            if int(text) % step == 0 or int(text) == numbers[0]:
-                half = text_width(text, size) / 2
-                if last is not None and x - half < last + gap:
-                    found = None if int(text) % step == 0 and found[-1][1] != str(numbers[0]) else found
-                    if found is None:
-                        break
-                    if int(text) % step == 0:
-                        found.pop()
-                        found.append((x, text))
-                        last = x + half
-                    continue
-                found.append((x, text))
-                last = x + half
-        if found is not None:
-            return found
-        step = step * 5 // 2 if factor % 3 == 1 else step * 2
-        factor += 1
+    step, factors = 1, (2, 2.5, 2)
+    for turn in range(60):
+        chosen = [place for place in places if int(place[1]) % step == 0]
+        if all(is_apart(one, other) for one, other in zip(chosen, chosen[1:])):
+            break
+        step = int(step * factors[turn % 3])
+    if places and places[0] not in chosen and (not chosen or is_apart(places[0], chosen[0])):
+        chosen.insert(0, places[0])
+    return chosen

@@ -7,7 +7,7 @@ by side. Each mark keeps its source line, and its kind is the class that it has 
 from dataclasses import dataclass, field
 from typing import Dict, List, Optional, Tuple
 
-from lines import Accusation, Certificate, Ending, Event, Header, Note, Step
+from lines import Accusation, Certificate, Ending, Event, LineError, Note, Step
 from picture_datagrams import datagram_kind, describe_datagram
 
 Position = Tuple[float, float]
@@ -96,7 +96,7 @@ class Picture:
     panels: List[Panel]
     group: Group
     watches: Dict[Optional[int], "Watch"]
-    notice: str = ""
+    notices: List[str] = field(default_factory=list)
 
 
 class Clock:
@@ -129,6 +129,13 @@ def shortened(text, most=140):
 
 def source(line, prefix=""):
     return f"{prefix}line {line.line}: {shortened(line.text)}"
+
+
+def said_of(body):
+    """The label of a record."""
+    if isinstance(body, Note):
+        return f"e{body.epoch} m{body.mask}"
+    return f"by {body.accuser} r{body.ring}" if isinstance(body, Accusation) else "cert"
 
 
 class Watch:
@@ -218,17 +225,16 @@ class Watch:
         """A record was delivered, or signed by the observer itself."""
         if fault is not None:
             member = body.accused if isinstance(body, Accusation) else body.member
-            said = f"{body.accuser} r{body.ring} " if isinstance(body, Accusation) else ""
-            self.put("refused", member, line, at, said + " ".join(fault[:2]), 3)
+            self.put("refused", member, line, at, f"{said_of(body)}: {' '.join(fault[:2])}", 3)
         elif isinstance(body, Note):
             self.notes[body.member] = body
-            self.put("own note" if is_own else "note", body.member, line, at, f"e{body.epoch} m{body.mask}")
+            self.put("own note" if is_own else "note", body.member, line, at, said_of(body))
         elif isinstance(body, Accusation):
-            self.put("accusation", body.accused, line, at, f"by {body.accuser} r{body.ring}", 0)
+            self.put("accusation", body.accused, line, at, said_of(body), 0)
             self.kept[body] = line.line
             self.settle(body.accused, line, at)
         elif isinstance(body, Certificate):
-            self.put("certificate", body.member, line, at, "cert", 4)
+            self.put("certificate", body.member, line, at, said_of(body), 4)
 
     def event(self, event, at):
         kind = event.kind
@@ -307,6 +313,9 @@ def room_of(event, draws_all, hidden):
 
 # ---- a direct trace
 
+SHADED = "Time runs to the right. What is recorded at one moment lies on one ground."
+OWN_MOMENTS = "Time runs to the right, over the lines of the trace. Below each node's line stand its own moments, in ticks."
+
 
 class DirectPicture:
     """Plays a direct trace: one band, whose axis is the moments of the schedule."""
@@ -321,7 +330,7 @@ class DirectPicture:
         self.life = 1
         self.stand = None
         self.at = self.clock.now()
-        self.notice = ""
+        self.notices = []
 
     def leave_moment(self):
         start, moment = self.stand
@@ -340,6 +349,8 @@ class DirectPicture:
     def step(self, step):
         word, words = step.word, step.words
         accepted = step.verdict == ("accepted",)
+        if (word == "group") != (step.line == 2):
+            raise LineError(step.line, "`group T TIMEOUT` as line 2 and nowhere else")
         if word == "group":
             self.group.t, self.group.timeout = words
             self.stand_at(0)
@@ -347,6 +358,8 @@ class DirectPicture:
             self.clock.slot(0.3)
         elif word == "member":
             at = self.at = self.clock.slot(0.3)
+            if len(words) != 2 * self.group.t + 2:
+                raise LineError(step.line, f"{2 * self.group.t + 1} places")
             if step.verdict == ("joined",):
                 self.group.places[words[0]] = list(words[1:])
                 self.watch.know(words[0], step, at)
@@ -380,6 +393,7 @@ class DirectPicture:
             if step.word == "tick" and event.moment != moment:
                 self.pass_to(event.moment)
                 at, moment = self.clock.slot(0.8), event.moment
+            self.panel.ticks.append((at, str(event.line)))
             self.watch.event(event, at)
         self.pass_to(target)
 
@@ -398,7 +412,7 @@ class DirectPicture:
                 self.events_below(line, events)
                 last = events[-1] if events else line
             elif isinstance(line, Ending) and line.word != "end":
-                self.notice = f"The run ends with `{shortened(line.text)}`."
+                self.notices.append(f"The run ends with `{shortened(line.text)}`.")
         self.clock.slot(0.3)
         if self.stand:
             self.leave_moment()
@@ -412,7 +426,7 @@ class DirectPicture:
             self.watch.finish(last, self.clock.now())
         group = self.group
         title = f"A group with t {group.t} (so {2 * group.t + 1} rings) and timeout {group.timeout}"
-        return Picture(title, [self.panel], group, watches, self.notice)
+        return Picture(title, [self.panel], group, watches, [SHADED] + self.notices)
 
 
 # ---- the trace of a world
@@ -436,7 +450,7 @@ class WorldPicture:
         self.sent = {}
         self.signed = {}
         self.pending = None
-        self.notice = ""
+        self.notices = []
 
     def roster(self):
         members = sorted(list(self.nodes) + list(self.liars))
@@ -464,19 +478,25 @@ class WorldPicture:
             self.start(step)
         elif word == "stop" and step.verdict is None:
             at = self.clock.slot(1.0)
-            self.watches[words[0]].put_wire("stop", step, at, "stop", 0)
+            self.running(words[0], step).put_wire("stop", step, at, "stop", 0)
             self.watches[words[0]].halt(step, at)
         elif word == "tick" and step.verdict is None:
-            self.pending = (words[0], self.watches[words[0]].moment + words[1])
+            self.pending = (words[0], self.running(words[0], step).moment + words[1])
             self.clock.slot(0.15)
         elif word in ("sign-note", "sign-accusation"):
             self.sign(step)
         elif word in ("give", "give-all") and step.verdict is None:
             self.give(step)
         elif word == "raw" and step.verdict is None:
-            self.watches[words[0]].put_wire("raw", step, self.clock.slot(0.4), "raw", 3)
+            self.running(words[0], step).put_wire("raw", step, self.clock.slot(0.4), "raw", 3)
         else:
             self.clock.slot(self.HIDDEN)
+
+    def running(self, member, line):
+        watch = self.watches.get(member)
+        if watch is None or not watch.is_running:
+            raise LineError(line.line, f"a node that runs, and {member} is none")
+        return watch
 
     def start(self, step):
         verdict, member = step.verdict, step.words[0]
@@ -494,8 +514,10 @@ class WorldPicture:
 
     def sign(self, step):
         at = self.clock.slot(0.8)
+        if step.words[0] not in self.liars:
+            return
         if step.verdict[0] != "signed":
-            if step.verdict[:2] == ("refused", "exhausted") and step.words[0] in self.wires:
+            if step.verdict[:2] == ("refused", "exhausted"):
                 self.mark_liar("exhausted", step, at, "key used up", 0)
             return
         words, key = step.words, step.words[0]
@@ -508,6 +530,8 @@ class WorldPicture:
 
     def give(self, step):
         at = self.clock.slot(0.4)
+        if step.words[0] not in self.signed:
+            raise LineError(step.line, "the name of a record that is kept")
         if step.word == "give":
             receivers = [step.words[1]]
         else:
@@ -524,12 +548,14 @@ class WorldPicture:
                 self.watches[member].see_moment(moment, self.clock.now())
 
     def event(self, event):
+        watch = self.watches.get(event.node)
+        if watch is None:
+            raise LineError(event.line, f"a node of this world, and {event.node} is none")
         at = self.places.place(event.node, event, room_of(event, self.draws_all, self.HIDDEN))
         if event.kind == "sent":
             self.sent[event.datagram] = [event, at, False]
         elif event.kind == "got" and event.datagram in self.sent:
             self.arrive(event, at)
-        watch = self.watches[event.node]
         if self.pending and event.kind == "stopped" and self.pending[0] == event.node:
             self.pending = None
         watch.event(event, at)
@@ -557,7 +583,7 @@ class WorldPicture:
             elif isinstance(line, Step):
                 self.step(line)
             elif isinstance(line, Ending) and line.word != "end":
-                self.notice = f"The run ends with `{shortened(line.text)}`."
+                self.notices.append(f"The run ends with `{shortened(line.text)}`.")
         self.clock.slot(0.3)
         self.panel.end = self.clock.now()
         for event, at, has_come in self.sent.values():
@@ -575,4 +601,4 @@ class WorldPicture:
         if self.liars:
             counts += f" and {len(self.liars)} liar{'s' * (len(self.liars) != 1)}"
         title = f"A world of {counts}, with t {group.t} (so {2 * group.t + 1} rings) and timeout {group.timeout}"
-        return Picture(title, [self.panel], group, self.watches, self.notice)
+        return Picture(title, [self.panel], group, self.watches, [OWN_MOMENTS] + self.notices)

@@ -8,8 +8,8 @@ from picture_shapes import escape, number
 from picture_svg import EDGE, Page, SIZE
 from rings import Rings
 
-CELL = 230
-RADIUS = 76
+CELL = 192
+RADIUS = 66
 
 STYLE = """
 .arc{fill:none;stroke:#24303a;stroke-width:1.5}.arc.disabled{stroke-dasharray:2 4;stroke:#7b8791}
@@ -97,8 +97,8 @@ class Circle:
         if state == REMOVED:
             self.page.put(f'<path class="cross" style="stroke-width:1.6" d="M{number(x - 4)} {number(y - 4)}l8 8m0 -8l-8 8"/>')
         is_shown = self.chosen is None or member in self.chosen
-        if is_shown and 2 * pi * (RADIUS + 20) / len(self.order) >= max(text_width(str(member), SIZE) + 2, 15):
-            x, y = self.at(self.angle[member], RADIUS + 20)
+        if is_shown and 2 * pi * (RADIUS + 18) / len(self.order) >= max(text_width(str(member), SIZE) + 2, 15):
+            x, y = self.at(self.angle[member], RADIUS + 18)
             self.page.text("label", x, y + 4, str(member), "middle")
 
 

@@ -217,6 +217,7 @@ class PanelDrawing:
         for start, end in layout.band.runs + [[self.panel.end, self.panel.end]]:
             x1, x2 = self.scale.across(max(at, self.start)), self.scale.across(min(start, self.end))
             if x2 - x1 > 1:
+                self.used.add("off")
                 self.page.rect("off", x1, top, x2 - x1, height)
             at = end
 
@@ -340,6 +341,8 @@ def legend(page, used):
     """The states, and each sign and arrow that the picture has."""
     page.y += 12
     items = [("state", state, text) for state, text in STATES]
+    if "off" in used:
+        items.append(("state", "off", "does not run"))
     told = set()
     for kind, text in MEANINGS.items():
         if kind in used and text not in told:
@@ -370,6 +373,8 @@ def legend(page, used):
 def legend_sign(page, what, kind, x, y):
     if what == "state" and kind == "absent":
         page.put(f'<path class="state absent" d="M{number(x)} {number(y + 9)}h28"/>')
+    elif kind == "off":
+        page.rect("off", x, y + 2, 28, BAR + 2)
     elif what == "state":
         state_bar(page, kind, x, y + 3, 28)
     elif what == "arrow":
@@ -388,8 +393,8 @@ def draw(picture, width, cut):
     page = Page(width)
     page.y = 4
     page.lines("title", picture.title, 15)
-    if picture.notice:
-        page.lines("notice", picture.notice, SIZE)
+    for notice in picture.notices:
+        page.lines("notice", notice, SIZE)
     bands = [band for panel in picture.panels for band in panel.bands]
     names = [f"member {member}" for band in bands for member in band.lanes if cut.has_member(member)]
     names += [band.title for band in bands if band.has_wire]
