@@ -314,6 +314,8 @@ class PanelLines:
             watch.see_moment(sequence.moments[place[1]], at)
             if place in self.pairs:
                 self.arrive(place, line, sequence.node)
+            elif line.hex and self.is_drawn(line.hex):
+                self.come(line, sequence.node)
             elif line.heard == "failed":
                 watch.put_wire("bad-form", line, at, "receive failed", 4)
         elif isinstance(line, Ending):
@@ -343,23 +345,38 @@ class PanelLines:
             return 0.2
         return room_of(line, self.picture.draws_all, 0.0)
 
+    def is_drawn(self, digits):
+        return datagram_kind(digits) == "records" or self.picture.draws_all
+
+    def put_arrow(self, digits, sender, start, receiver, end, line, title, is_lost=False):
+        title = f"{title} ({describe_datagram(digits)})"
+        self.panel.arrows.append(Arrow(datagram_kind(digits), sender, start, receiver, end, line.line, title, is_lost))
+
     def arrive(self, place, line, node):
+        """What was got, and sent by a node whose journal is here."""
         origin = self.pairs[place]
         if origin not in self.sent:
             return
         event, start = self.sent.pop(origin)
         sender = self.match.sequences[origin[0]].node
-        kind = datagram_kind(event.hex)
-        if kind == "records" or self.picture.draws_all:
+        if self.is_drawn(event.hex):
+            title = f"{source(event, self.watches[sender].prefix)}; {source(line, self.watches[node].prefix)}"
+            self.put_arrow(event.hex, sender, start, node, self.clock.slot(0.2), event, title)
+
+    def come(self, line, node):
+        """What was got, and is in no journal as sent: only its end is drawn."""
+        sender = int(line.hex[8:12] or "0", 16)
+        if sender != node:
             at = self.clock.slot(0.2)
-            title = f"{source(event, self.watches[sender].prefix)} ({describe_datagram(event.hex)}); {source(line, self.watches[node].prefix)}"
-            self.panel.arrows.append(Arrow(kind, sender, start, node, at, event.line, title))
+            self.put_arrow(line.hex, None, at, node, at, line, source(line, self.watches[node].prefix))
 
     def put_lost(self):
-        """What was sent and is in no journal that is here; of members without one nothing is known."""
+        """What was sent and nobody got; of members without a journal nothing is known, and only the beginning is drawn."""
+        nodes = {sequence.node for sequence in self.match.sequences}
         for place, (event, at) in sorted(self.sent.items()):
-            kind = datagram_kind(event.hex)
             sender = self.match.sequences[place[0]].node
-            if (kind == "records" or self.picture.draws_all) and event.member in self.watches and event.member != sender:
-                title = f"{source(event, self.watches[sender].prefix)} ({describe_datagram(event.hex)}): nobody got it"
-                self.panel.arrows.append(Arrow(kind, sender, at, event.member, None, event.line, title, True))
+            if self.is_drawn(event.hex) and event.member != sender:
+                is_lost = event.member in nodes or place in self.match.lost
+                told = "nobody got it" if is_lost else f"there is no journal of {event.member}"
+                title = f"{source(event, self.watches[sender].prefix)}: {told}"
+                self.put_arrow(event.hex, sender, at, event.member, None, event, title, is_lost)

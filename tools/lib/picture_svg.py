@@ -300,7 +300,7 @@ class PanelDrawing:
         if max(arrow.start, end) < self.start or min(arrow.start, end) > self.end:
             return
         y1, y2 = self.wire_of(arrow.sender), self.wire_of(arrow.receiver)
-        if y1 is None and y2 is None or y1 == y2:
+        if y1 is None and (y2 is None or arrow.is_lost) or y1 == y2:
             return
         x1, x2 = self.scale.across(arrow.start), self.scale.across(end)
         kind = f"arrow {arrow.kind}"
