@@ -490,9 +490,27 @@ def step(words, steps):
         words.end()
     words.one_of(":")
     start = words.at
-    words.one_of(*verdicts) if verdicts else words.word("a verdict")
-    words.rest()
+    verdict(words, word, verdicts)
     return Step(words.number, words.text, word, tuple(found), tuple(words.words[start:]))
+
+
+def verdict(words, word, verdicts):
+    """Reads a verdict to the end of the line."""
+    first = words.one_of(*verdicts) if verdicts else words.word("a verdict")
+    if first == "refused" and word in ("note", "accuse"):
+        fault(words)
+    elif first == "refused":
+        words.matching(NAME, "a word that says why")
+        if words.words[-2] == "exhausted":
+            words.number_in(0, U32, "an index")
+    elif first in ("life", "signed"):
+        words.any("a number")
+    elif word in ("view", "monitor", "life") and first not in ("nobody", "none"):
+        words.at -= 1
+        words.any("a number")
+        while word == "view" and not words.is_over():
+            words.member()
+    words.end()
 
 
 def trace_line(number, text, form, steps, kinds):
