@@ -61,10 +61,14 @@ def tell(story, journals, on_change=lambda change: None):
 
 def run(main):
     """Runs a tool: `main` answers its exit status."""
-    # Who reads the output may stop, and whoever runs the tool may end it, without a word about it.
-    signal.signal(signal.SIGPIPE, signal.SIG_DFL)
     signal.signal(signal.SIGINT, signal.SIG_DFL)
     try:
-        sys.exit(main())
+        status = main()
+        sys.stdout.flush()
+    except BrokenPipeError:
+        # Who reads the output has had enough of it.
+        os.dup2(os.open(os.devnull, os.O_WRONLY), sys.stdout.fileno())
+        status = 0
     except OSError as error:
-        refuse(f"{error.filename or 'a file'}: {error.strerror}")
+        refuse(f"{error.filename}: {error.strerror}" if error.filename else str(error))
+    sys.exit(status)

@@ -58,6 +58,8 @@ class Story:
         self.lives = 0
         self.next_index: Optional[int] = None
         self.waiting: Optional[Event] = None
+        # how the last run ended, where its journal says so
+        self.ending: Optional[str] = None
 
     # A life begins with two lines, so the first of them waits for the line behind it.
     def take(self, line):
@@ -85,6 +87,7 @@ class Story:
         if line.body.member != self.member:
             raise LineError(line.line, f"the first note of a life of member {self.member}, and not of {line.body.member}")
         self.lives += 1
+        self.ending = None
         self.ports = dict(self.kit_ports)
         self.life = Life(self.lives, self.member)
         return [self.change("life", 0, self.member)]
@@ -107,6 +110,7 @@ class Story:
             raise LineError(line.line, "the first note of a life, `at 0 spent Q note M EPOCH MASK`")
 
     def end(self, line):
+        self.ending = line.text
         if line.word == "exhausted":
             self.next_index = int(line.words[0])
         return self.finish(line.text)
