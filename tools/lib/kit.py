@@ -7,7 +7,7 @@ import re
 from dataclasses import dataclass, field
 from typing import Dict, Optional
 
-from lines import LineError, Words, lines_of, of_words
+from lines import LineError, lines_of, of_words
 
 HEIGHTS = {"5": 5, "10": 6, "15": 7}
 WIDTHS = {"1": 1, "2": 2, "4": 3, "8": 4}
