@@ -8,9 +8,8 @@ from picture_shapes import escape, number
 from picture_svg import EDGE, Page, SIZE
 from rings import Rings
 
-# The radius of a ring of few members, and what lies around it.
+# The radius of a ring of few members.
 LEAST = 66
-AROUND = 60
 # How far apart members on a ring are, where there is room.
 APART = 17
 
@@ -125,8 +124,9 @@ def draw_rings(page, rings, watch, cut):
     top = page.y + 8
     page.y = top + 18
     title = watch.band.title if watch.is_running else f"{watch.band.title} does not run"
-    radius = max(LEAST, min(APART * len(rings.places) / (2 * pi), (page.width - 2 * EDGE - AROUND) / 2))
-    cell = 2 * radius + AROUND
+    around = 46 + 1.5 * max((text_width(str(member), SIZE) for member in rings.places), default=0)
+    radius = max(LEAST, min(APART * len(rings.places) / (2 * pi), (page.width - 2 * EDGE - around) / 2))
+    cell = 2 * radius + around
     columns = max(int((page.width - 2 * EDGE) // cell), 1)
     if watch.is_running and rings.count:
         for first in range(0, rings.count, columns):
@@ -135,7 +135,7 @@ def draw_rings(page, rings, watch, cut):
             for column, ring in enumerate(row):
                 circle = Circle(page, rings, ring, watch, cut.members, radius)
                 circle.draw(left + cell * (column + 0.5), page.y + cell / 2 - 6)
-            page.y += cell - 10
+            page.y += cell
     page.text("who", EDGE + 4, top + 14, title)
     page.put(
         f'<rect class="band" x="{EDGE / 2}" y="{number(top)}" width="{page.width - EDGE}" height="{number(page.y + 4 - top)}" '
