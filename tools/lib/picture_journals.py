@@ -13,7 +13,8 @@ WINDOW = 3
 
 OWN_TICKS = "Time runs to the right, in ticks since the first line. Below each node's line stand its own moments."
 APART = (
-    "No datagram joins the journals of one axis with those of another: what stands above each other there need not be of one time."
+    "No datagram joins the journals of one axis with those of another: what stands above each other there need not be of one "
+    "time."
 )
 
 

@@ -8,8 +8,10 @@ from picture_shapes import escape, number
 from picture_svg import EDGE, Page, SIZE
 from rings import Rings
 
-CELL = 192
-RADIUS = 66
+# The radius of a ring of few members.
+LEAST = 66
+# How far apart members on a ring are, where there is room.
+APART = 17
 
 STYLE = """
 .arc{fill:none;stroke:#24303a;stroke-width:1.5}.arc.disabled{stroke-dasharray:2 4;stroke:#7b8791}
@@ -31,9 +33,9 @@ def rings_of(group, members):
 class Circle:
     """One ring, as one observer knows it."""
 
-    def __init__(self, page, rings, ring, watch, chosen):
+    def __init__(self, page, rings, ring, watch, chosen, radius):
         self.page, self.rings, self.ring, self.watch = page, rings, ring, watch
-        self.chosen = chosen
+        self.chosen, self.radius = chosen, radius
         self.order = rings.order(ring)
         self.view = [member for member in self.order if watch.states.get(member) in (IN_VIEW, ACCUSED)]
         self.angle = {member: 2 * pi * i / len(self.order) for i, member in enumerate(self.order)}
@@ -41,7 +43,7 @@ class Circle:
     def draw(self, x, y):
         self.x, self.y = x, y
         page = self.page
-        page.put(f'<circle class="circle" cx="{number(x)}" cy="{number(y)}" r="{RADIUS}"/>')
+        page.put(f'<circle class="circle" cx="{number(x)}" cy="{number(y)}" r="{number(self.radius)}"/>')
         page.text("who", x, y + 4, f"ring {self.ring}", "middle")
         for member in self.order:
             if self.chosen is None or member in self.chosen:
@@ -67,11 +69,12 @@ class Circle:
         start, end = self.angle[monitor], self.angle[member]
         if end <= start:
             end += 2 * pi
-        room = min(11 / RADIUS, (end - start) / 3)
-        x1, y1 = self.at(start + room, RADIUS)
-        x2, y2 = self.at(end - room, RADIUS)
+        radius = self.radius
+        room = min(11 / radius, (end - start) / 3)
+        x1, y1 = self.at(start + room, radius)
+        x2, y2 = self.at(end - room, radius)
         is_large = 1 if end - start - 2 * room > pi else 0
-        way = f"M{number(x1)} {number(y1)}A{RADIUS} {RADIUS} 0 {is_large} 1 {number(x2)} {number(y2)}"
+        way = f"M{number(x1)} {number(y1)}A{number(radius)} {number(radius)} 0 {is_large} 1 {number(x2)} {number(y2)}"
         mark = "" if kind == "accused" else ' marker-end="url(#head)"'
         self.page.put(f'{head} d="{way}"{mark}>{title}</path>')
 
@@ -88,17 +91,18 @@ class Circle:
 
     def dot(self, member):
         state = self.watch.states.get(member, "absent")
-        x, y = self.at(self.angle[member], RADIUS)
+        x, y = self.at(self.angle[member], self.radius)
         monitor = self.rings.monitor(self.ring, member, self.view)
         successor = self.rings.successor(self.ring, member, self.view)
         title = f"{member}: {WHAT[state]}; its monitor here is {monitor}, its successor {successor}"
-        place = f'cx="{number(x)}" cy="{number(y)}" r="7"'
+        size = min(7, 2.5 * self.radius / len(self.order))
+        place = f'cx="{number(x)}" cy="{number(y)}" r="{number(size)}"'
         self.page.put(f'<circle class="dot {state}" {place}><title>{escape(title)}</title></circle>')
         if state == REMOVED:
             self.page.put(f'<path class="cross" style="stroke-width:1.6" d="M{number(x - 4)} {number(y - 4)}l8 8m0 -8l-8 8"/>')
         is_shown = self.chosen is None or member in self.chosen
-        if is_shown and 2 * pi * (RADIUS + 18) / len(self.order) >= max(text_width(str(member), SIZE) + 2, 15):
-            x, y = self.at(self.angle[member], RADIUS + 18)
+        if is_shown and 2 * pi * (self.radius + 18) / len(self.order) >= 16:
+            x, y = self.at(self.angle[member], self.radius + 12 + text_width(str(member), SIZE) * 0.75)
             self.page.text("label", x, y + 4, str(member), "middle")
 
 
@@ -120,14 +124,18 @@ def draw_rings(page, rings, watch, cut):
     top = page.y + 8
     page.y = top + 18
     title = watch.band.title if watch.is_running else f"{watch.band.title} does not run"
-    columns = max(int((page.width - 2 * EDGE) // CELL), 1)
+    around = 46 + 1.5 * max((text_width(str(member), SIZE) for member in rings.places), default=0)
+    radius = max(LEAST, min(APART * len(rings.places) / (2 * pi), (page.width - 2 * EDGE - around) / 2))
+    cell = 2 * radius + around
+    columns = max(int((page.width - 2 * EDGE) // cell), 1)
     if watch.is_running and rings.count:
         for first in range(0, rings.count, columns):
             row = range(first, min(first + columns, rings.count))
-            left = (page.width - CELL * min(columns, rings.count)) / 2
+            left = (page.width - cell * min(columns, rings.count)) / 2
             for column, ring in enumerate(row):
-                Circle(page, rings, ring, watch, cut.members).draw(left + CELL * (column + 0.5), page.y + CELL / 2 - 6)
-            page.y += CELL - 10
+                circle = Circle(page, rings, ring, watch, cut.members, radius)
+                circle.draw(left + cell * (column + 0.5), page.y + cell / 2 - 6)
+            page.y += cell
     page.text("who", EDGE + 4, top + 14, title)
     page.put(
         f'<rect class="band" x="{EDGE / 2}" y="{number(top)}" width="{page.width - EDGE}" height="{number(page.y + 4 - top)}" '

@@ -6,7 +6,8 @@ BAR = 12
 STYLE = """
 text{font:12px 'DejaVu Sans Mono',Menlo,Consolas,'Liberation Mono',monospace;fill:#1c2733}
 .title{font-size:15px;font-weight:bold}.notice,.axis{fill:#4a5560}.axis{font-size:11px}.who{font-weight:bold}
-.label{paint-order:stroke;stroke:#fff;stroke-width:3px;stroke-linejoin:round}.moment{font-size:10px;fill:#4a5560;paint-order:stroke;stroke:#fff;stroke-width:2px}
+.label{paint-order:stroke;stroke:#fff;stroke-width:3px;stroke-linejoin:round}
+.moment{font-size:10px;fill:#4a5560;paint-order:stroke;stroke:#fff;stroke-width:2px}
 .weak{fill:#5a646e;font-style:italic}
 .band{fill:#fafaf8;stroke:#cfd3d6}.stand{fill:#eceff1}.stand.odd{fill:#f5f6f7}.grid{stroke:#e1e4e6}
 .off{fill:url(#off);stroke:none}.wire{stroke:#6b7680}.leader{stroke:#a9b1b8;stroke-width:.8}
