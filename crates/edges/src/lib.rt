@@ -151,4 +151,3 @@ impl<W: Write + Drop> Sink for StdSink<W> {
         }
     }
 }
-
