@@ -40,7 +40,7 @@ use Rattle.enrolment.specs.Enrolling.{AreEnrolled, Enrols, EnrolsBehind, IsEnoug
 use Rattle.enrolment.proofs.SigningLemmas.{fails-behind, next-line, put-next, signed-more, signed-none, signed-nothing, stored-is, told-none}
 
 -- the key with the store that was opened
-abbrev pub begun : Setting → Stored → ℕ → SignerState
+abbrev pub begun : Setting → Stored → Seat → SignerState
 begun s o seat = record { group = s.group; key = key_of s; leaf = o.next; state = o; seat = seat; closed = false }
 
 living : (name : List ℕ) (s : Setting) (o : Stored) (seat : Seat) (old mid : OfDisk) → IsOpened name s o seat old mid → (before : List ℕ) (spent : List Spent) → EndsNow (tag_of s) before spent old.moments → IsLiving (tag_of s) before spent (begun s o seat) mid.moments

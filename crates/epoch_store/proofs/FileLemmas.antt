@@ -1,12 +1,12 @@
 -- What a crash within a put leaves of the file.
-use Rattle.std.proofs.Common.{◌≡◌, ◌≢◌, ℕ, ◌+◌, ◌-◌, ◌<◌, ◌≤◌, ◌⊎◌, inl, inr, Bool, true, false, ◌&&◌, max, List, [], ◌∷◌, ◌++◌, length, take, drop, replicate, get_or, refl, sym, ap, ◌∙◌, subst, arith, rules, append_assoc, append-nil, length-append, length-take, length-drop, leb, ltb}
+use Rattle.std.proofs.Common.{◌≡◌, ◌≢◌, ℕ, ◌+◌, ◌-◌, ◌<◌, ◌≤◌, ◌⊎◌, inl, inr, Bool, true, false, ◌&&◌, max, List, [], ◌∷◌, ◌++◌, length, take, drop, replicate, get_or, refl, sym, ap, ◌∙◌, subst, arith, rules, append_assoc, append-nil, codes, length-append, length-take, length-drop, leb, ltb}
 use Rattle.std.proofs.lemmas.Grind.{common_steps}
 use Rattle.std.proofs.lemmas.Bool.{cases_eq}
 use Rattle.std.proofs.lemmas.Bool.Decides.{nat_tests}
 use Rattle.std.proofs.lemmas.List.{take-append-drop, take_at, drop_at, drop_more, drop-drop, ext_get_or, get_or-take, get_or-drop, length-replicate}
 use Rattle.epoch_store.specs.declared.Stored.{Stored}
 use Rattle.epoch_store.specs.declared.seat.Seat.{Seat}
-use Rattle.epoch_store.specs.Seat.{next_seat}
+use Rattle.epoch_store.specs.Seat.{gate_behind, next_seat}
 use Rattle.epoch_store.specs.Store.{spelled, front, IsEntry, Follows, IsChain, StoreAt, StoreOf, LeavesEither}
 use Rattle.ports.specs.Disk.{Moment, Leaves, is_torn, written, settled, torn_at}
 
@@ -35,6 +35,11 @@ written_within place (b ∷ bytes) image some within =
 
 length-spelled : (e : Stored) → length (spelled e) ≡ 16
 length-spelled e = refl
+
+-- the gate behind some entries stands where their bytes end
+pub front-length : (tag : List ℕ) (entries : List Stored) → length tag ≡ 32 → length (front tag entries) ≡ gate_behind entries
+front-length tag [] long = omega (arith, long, length-append (codes "FFSTORE1") tag)
+front-length tag (e ∷ entries) long = omega (arith, front-length tag entries long, length-append (front tag entries) (1 ∷ spelled e), length-spelled e)
 
 -- the file of a store, cut at its gate and right behind it
 store_front : (tag image : List ℕ) (state : Stored) (seat : Seat) (store : StoreAt tag image state seat) → take seat.gate image ≡ front tag (state ∷ store.older)

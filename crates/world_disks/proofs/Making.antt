@@ -9,13 +9,13 @@ use Rattle.ports.specs.DiskSteps.{Came, makes, runs}
 use Rattle.ports.specs.MemoryDisk.{DiskState, is_settled, moment_of, with_write}
 use Rattle.epoch_store.specs.Seat.{store_length}
 use Rattle.epoch_store.specs.Store.{IsChain, first_entry, front, made}
-use Rattle.epoch_store.proofs.FileLemmas.{written_within}
+use Rattle.epoch_store.proofs.FileLemmas.{front-length, written_within}
 use Rattle.world_rules.specs.Disks.{made_disk}
 use Rattle.world_disks.specs.Held.{HoldsDisk}
 use Rattle.world_disks.specs.Laws.{IsNew, MakesAsTold}
 use Rattle.world_disks.proofs.Turns.{Up, pass_on, passes_next, up_next}
 use Rattle.world_disks.proofs.Idle.{idle_runs, times_called}
-use Rattle.world_disks.proofs.Puts.{fits_is, length-front, not_one, sync_passes, with_synced, write_passes}
+use Rattle.world_disks.proofs.Puts.{fits_is, not_one, sync_passes, with_synced, write_passes}
 
 -- what is written to an empty file is the file
 written_new : (bytes : List ℕ) → 0 < length bytes → written 0 bytes [] ≡ bytes
@@ -24,7 +24,7 @@ written_new bytes some =
     written_within 0 bytes [] some (omega arith) ∙ ap (λ (b : List ℕ). bytes ++ b) none ∙ append-nil bytes
 
 length-made : (tag : List ℕ) (mask : Mask) → length tag ≡ 32 → length (made tag (first_entry mask)) ≡ store_length 1
-length-made tag mask long = omega (arith, long, length-front tag (first_entry mask ∷ []), length-append (front tag (first_entry mask ∷ [])) (0 ∷ []))
+length-made tag mask long = omega (arith, long, front-length tag (first_entry mask ∷ []) long, length-append (front tag (first_entry mask ∷ [])) (0 ∷ []))
 
 chain-first : (mask : Mask) → mask.0 < 2 ^ 31 → IsChain (first_entry mask ∷ [])
 chain-first mask small = (record { next_small = omega arith; epoch_small = omega arith; mask_small = small }, tt, tt)

@@ -1,6 +1,6 @@
 -- The calls that put an entry.
 use Rattle.std.proofs.Common.{◌≡◌, ◌≢◌, ◌⊎◌, inl, inr, ℕ, ◌+◌, ◌*◌, ◌<◌, ◌≤◌, Bool, true, false, cond, eqb, List, [], ◌∷◌, ◌++◌, length, take, drop, Option, None, Some, refl, sym, ap, ◌∙◌, subst, arith, append_assoc, length-append}
-use Rattle.std.specs.Prelude.{◌%◌, nat_le, codes}
+use Rattle.std.specs.Prelude.{◌%◌, nat_le}
 use Rattle.std.proofs.lemmas.Bool.{cases_lt, cases_Bool, le-leb, lt-ltb, eqb-true, eq-eqb}
 use Rattle.std.proofs.lemmas.Bool.Decides.{nat_tests}
 use Rattle.std.proofs.lemmas.List.{take_at, drop_at}
@@ -11,9 +11,10 @@ use Rattle.ports.specs.DiskCalls.{DiskCall, ToWrite, ToSync}
 use Rattle.ports.specs.DiskSteps.{Came, makes, runs}
 use Rattle.ports.specs.MemoryDisk.{DiskState, fits, garbled, is_settled, moment_of, picked, stopped_by, with_write}
 use Rattle.epoch_store.specs.declared.Stored.{Stored}
+use Rattle.epoch_store.specs.Seat.{entry_length}
 use Rattle.epoch_store.specs.Asked.{put_calls}
 use Rattle.epoch_store.specs.Store.{Follows, IsEntry, StoreAt, front, spelled}
-use Rattle.epoch_store.proofs.FileLemmas.{written_within, with_entry}
+use Rattle.epoch_store.proofs.FileLemmas.{front-length, written_within, with_entry}
 use Rattle.world_rules.specs.Disks as rules
 use Rattle.world_rules.specs.Disks.{ArmedStop, Disk, after_put, gate_of, leaves_open, opens_gate, put_passes, seat_of, stopped, stopped_in_put}
 use Rattle.world_disks.specs.Held.{ComesAs, HoldsDisk, armed_as, crashed}
@@ -49,10 +50,6 @@ sync_stops d outcome turn = rw turn refl
 length-spelled : (e : Stored) → length (spelled e) ≡ 16
 length-spelled e = refl
 
-pub length-front : (tag : List ℕ) (entries : List Stored) → length (front tag entries) ≡ 8 + length tag + 17 * length entries
-length-front tag [] = omega (arith, length-append (codes "FFSTORE1") tag)
-length-front tag (e ∷ entries) = omega (arith, length-front tag entries, length-append (front tag entries) (1 ∷ spelled e), length-spelled e)
-
 -- one byte is written over
 written_at : (head tail : List ℕ) (gate x y : ℕ) → gate ≡ length head → written gate (y ∷ []) (head ++ x ∷ tail) ≡ head ++ y ∷ tail
 written_at head tail gate x y place =
@@ -68,7 +65,7 @@ pub record Shape (tag : List ℕ) (e : Disk) (kept : Stored) (shut : ℕ) (image
   pub full : written (gate_of e + 1) (spelled kept ++ 0 ∷ []) image ≡ front tag (e.state ∷ e.older) ++ shut ∷ (spelled kept ++ 0 ∷ rest)
 
 pub place_of : (tag : List ℕ) (e : Disk) → length tag ≡ 32 → gate_of e ≡ length (front tag (e.state ∷ e.older))
-place_of tag e long = omega (arith, long, length-front tag (e.state ∷ e.older))
+place_of tag e long = sym (front-length tag (e.state ∷ e.older) long)
 
 shape_of : (tag : List ℕ) (n : ℕ) (d : DiskState) (e : Disk) (kept : Stored) (h : HoldsDisk tag n d e) → Shape tag e kept h.shut (front tag (e.state ∷ e.older) ++ h.shut ∷ h.rest)
 shape_of tag n d e kept h =
@@ -148,7 +145,7 @@ lets-fewer (Some arm) j k fewer lets = omega (arith, fewer, lets)
 abbrev bytes_of : Stored → List ℕ
 bytes_of kept = spelled kept ++ 0 ∷ []
 
-length-bytes : (kept : Stored) → length (bytes_of kept) ≡ 17
+length-bytes : (kept : Stored) → length (bytes_of kept) ≡ entry_length
 length-bytes kept = omega (arith, length-append (spelled kept) (0 ∷ []), length-spelled kept)
 
 abbrev first_call : ℕ → Stored → List DiskCall
