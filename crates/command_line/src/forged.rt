@@ -7,8 +7,7 @@ ghost use Rattle.journal.specs.Texts.{body_text, certificate_text, note_text};
 ghost use Rattle.world_rules.specs.Walk.{owner_text};
 
 use arrayvec::ArrayString;
-use ff_ids::{AccBody, MemberId, NoteBody};
-use fields::digit;
+use ff_ids::{AccBody, MemberId, NoteBody, digit};
 use itoa::Buffer;
 use records::{Body, CertBody};
 

@@ -1,4 +1,5 @@
 pub mod FaultLemmas
+pub mod HexLemmas
 pub mod MaskLemmas
 pub mod Rows
 pub mod BitLemmas

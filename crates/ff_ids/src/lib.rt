@@ -6,9 +6,11 @@ ghost use Rattle.std.specs.Prelude.{◌≡◌, ◌<◌, ◌≤◌, ◌^◌, leng
 ghost use Rattle.ff_ids.specs.Masks.{enables, enabled, good_mask as is_good, all_rings as mask_of_all};
 ghost use Rattle.ff_ids.specs.Views.{in_view_by};
 
+mod digits;
 mod summary;
 mod text;
 
+pub use digits::{Digits, digit, digit_byte};
 use std::marker::Model;
 pub use summary::{EntryList, RecordKey, Summary, SummaryEntry};
 

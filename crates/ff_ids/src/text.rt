@@ -5,8 +5,7 @@ ghost use Rattle.std.specs.Fmt.{decimal};
 ghost use Rattle.hex.specs.Hex.{encode_lower};
 ghost use Rattle.ff_ids.specs.Texts.{accusation_text, fault_text};
 
-use crate::{AccBody, Epoch, Fault, Mask, MemberId, RingNo};
-use fields::Digits;
+use crate::{AccBody, Digits, Epoch, Fault, Mask, MemberId, RingNo};
 use std::fmt;
 
 impl fmt::Display for MemberId {

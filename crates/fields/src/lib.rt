@@ -1,6 +1,5 @@
-//! Floor: base. Reads and writes big-endian numbers and bytes, one field after the other, and hexadecimal digits, and
-//! has the one error of calls that can fail only for want of memory. It does not know what the fields mean. Any crate
-//! may call it.
+//! Floor: base. Reads and writes big-endian numbers and bytes, one field after the other, and has the one error of
+//! calls that can fail only for want of memory. It does not know what the fields mean. Any crate may call it.
 #![tactic(auto)]
 
 ghost use Rattle.std.specs.Prelude.{◌≡◌, ◌<◌, ◌↔◌, ◌∷◌, ◌++◌, [], length, take, slice_index, IsTrue, IsErr, IfOk, IfErr, OnOk, OnErr};
@@ -8,9 +7,6 @@ ghost use Rattle.std.specs.Int.{w16, w32, w64, to_be_bytes, from_be_bytes};
 ghost use Rattle.std.specs.List.{list_all};
 ghost use Rattle.fields.specs.Names.{is_name, is_name_byte};
 
-mod digits;
-
-pub use digits::{Digits, add_digits, digit};
 use std::alloc::{AllocError, AllocFailed, Global};
 use std::marker::Model;
 

@@ -2,6 +2,7 @@
 //! the events; `node_loop` and the crates of worlds write them.
 #![tactic(auto)]
 
+mod digits;
 mod event;
 mod fault;
 mod hex_word;
@@ -11,6 +12,7 @@ mod turn;
 mod words;
 mod writing;
 
+pub use digits::add_digits;
 pub use event::{Event, What};
 pub use fault::EventFault;
 pub use reading::read_event;

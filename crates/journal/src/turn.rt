@@ -6,10 +6,11 @@ ghost use Rattle.journal.specs.declared.turn.Turn.{Turn as OneTurn};
 ghost use Rattle.journal.specs.Words.{Reads, among, number, token_at, whole};
 ghost use Rattle.journal.specs.Turns.{FindsTurn, GivesTurn, HeardTakesMemory, IsGivenTurn, IsTurn, TurnFailsAs, bytes_or_dash, every_heard, heard_at, heard_found, heard_text, heard_word, or_no_bytes, turn_at, turn_text};
 
+use crate::digits::add_digits;
 use crate::fault::EventFault;
 use crate::hex_word::{HexWord, digits_or_dash};
 use crate::words::{Misread, Words, end, literal, number};
-use fields::{Bytes, NoMemory, add_digits};
+use fields::{Bytes, NoMemory};
 use life_events::write_text;
 use std::alloc::Global;
 

@@ -4,9 +4,10 @@ ghost use Rattle.std.specs.Prelude.{◌≡◌, ℕ, ◌++◌, Some, OnOk, OnErr,
 ghost use Rattle.hex.specs.Hex.{encode_lower};
 ghost use Rattle.journal.specs.Texts.{answer_text, body_text, event_text, flag_text, verdict_text, what_text};
 
+use crate::digits::add_digits;
 use crate::event::{Event, What};
-use ff_ids::{Fault, MemberId};
-use fields::{Digits, NoMemory, add_digits};
+use ff_ids::{Digits, Fault, MemberId};
+use fields::NoMemory;
 use life_events::write_text;
 use records::Body;
 use std::fmt;

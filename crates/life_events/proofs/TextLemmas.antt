@@ -1,8 +1,10 @@
 -- What is written at the end of a list, and what it began with.
-use Rattle.std.proofs.Common.{◌≡◌, ℕ, List, [], ◌++◌, Option, Some, None, Result, Ok, Err, OnOk, is_err, false, ap, ◌∙◌}
+use Rattle.std.proofs.Common.{◌≡◌, ℕ, List, [], ◌++◌, length, take, Option, Some, None, Result, Ok, Err, OnOk, is_err, false, ap, ◌∙◌, arith}
 use Rattle.std.specs.Fmt.{AppendsText, WritesText}
 use Rattle.std.specs.declared.fmt.Error.{Error}
 use Rattle.std.proofs.lemmas.Fmt.{contents_after_writes}
+use Rattle.std.proofs.lemmas.List.{take-append-le, length-take}
+use Rattle.std.proofs.Math.Seq.{take-append_seam}
 use Rattle.arrayvec.specs.ArrayString.{ArrayString}
 
 abbrev took : ArrayString → List ℕ → ArrayString → Type 0
@@ -18,3 +20,10 @@ copied None s t old new empty writes is_new = tt
 pub on_ok : (r : Result (Unit {0}) Error) (P : Type 0) → is_err r ≡ false → OnOk r P → P
 on_ok (Ok x) P e h = h
 on_ok (Err x) P e h = absurd cc
+
+-- A list that was added to begins with what it held.
+pub begins : (a b more : List ℕ) → take (length a) b ≡ a → take (length a) (b ++ more) ≡ a
+begins a b more h = take-append-le (length a) b more (omega (arith, length-take (length a) b, ap length h)) ∙ h
+
+pub begins_so : (a b more : List ℕ) → b ≡ a ++ more → take (length a) b ≡ a
+begins_so a b more h = rw h (take-append_seam a more)

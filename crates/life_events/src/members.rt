@@ -9,7 +9,7 @@ use fields::NoMemory;
 
 /// Adds the numbers in order with one space between two, or `nobody`. Where memory is refused, `out` begins
 /// with what it held.
-#[tactic(auto, using(fields::proofs::FrontLemmas::begins, fields::proofs::FrontLemmas::begins_so))]
+#[tactic(auto, using(crate::proofs::TextLemmas::begins, crate::proofs::TextLemmas::begins_so))]
 pub fn add_members(members: &[MemberId], out: &mut Vec<u8>) -> Result<(), NoMemory>
     ensures ok { OnOk result (out.new.items ≡ out.old.items ++ members_text members.now) }
     ensures refused { OnErr result (take (length out.old.items) out.new.items ≡ out.old.items) }

@@ -1,5 +1,5 @@
 -- A node's life: how it began, and the calls that it has answered since.
-use Rattle.std.specs.Prelude.{◌≡◌, ℕ, Bool, true, false, ◌==◌, List, [], ◌∷◌, ◌++◌, ◌<◌, ◌≤◌, Some, None, fold, filter}
+use Rattle.std.specs.Prelude.{◌≡◌, ℕ, Bool, true, false, ◌==◌, List, [], ◌∷◌, ◌++◌, ◌≤◌, Some, None, fold, filter}
 use Rattle.std.specs.List.{list_any, AllByRecursion}
 use Rattle.ff_ids.specs.declared.Group.{Group}
 use Rattle.ff_ids.specs.declared.NoteBody.{NoteBody}

@@ -1,5 +1,5 @@
 -- The mask of an answer: it is the one mask with these rings, and good.
-use Rattle.std.proofs.Common.{◌≡◌, ◌≢◌, ℕ, zero, suc, ◌+◌, ◌-◌, ◌*◌, ◌^◌, ◌<◌, inl, inr, Bool, true, false, not, eqb, cond, [], ◌∷◌, refl, sym, ap, ◌∙◌, subst, arith, pow-suc, eq-eqb, ◌↔◌, ◌⊎◌}
+use Rattle.std.proofs.Common.{◌≡◌, ◌≢◌, ℕ, zero, suc, ◌+◌, ◌-◌, ◌^◌, ◌<◌, inl, inr, Bool, true, false, not, eqb, cond, [], ◌∷◌, refl, sym, ap, ◌∙◌, arith, eq-eqb, ◌↔◌, ◌⊎◌}
 use Rattle.std.specs.Prelude.{◌&&◌, ◌||◌}
 use Rattle.std.specs.List.{list_all, range_with_len}
 use Rattle.std.specs.Int.{bit_at}

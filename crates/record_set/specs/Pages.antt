@@ -1,5 +1,5 @@
 -- The summary of a page, made of what is held.
-use Rattle.std.specs.Prelude.{◌≡◌, ℕ, zero, suc, ◌+◌, ◌*◌, ◌^◌, ◌<◌, Bool, true, is_some, IfSome, if◌then◌else◌, List, Option, Some, None, map, filter}
+use Rattle.std.specs.Prelude.{◌≡◌, ℕ, ◌*◌, ◌<◌, true, is_some, IfSome, List, Option, Some, None, map, filter}
 use Rattle.std.specs.List.{range_with_len}
 use Rattle.std.specs.FinMap.{contains_key}
 use Rattle.std.specs.Option.{option_map_or}

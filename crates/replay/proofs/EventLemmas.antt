@@ -1,9 +1,7 @@
 -- What an event on the kept life makes of the recorded one.
-use Rattle.std.proofs.Common.{◌≡◌, ℕ, Bool, true, false, cond, List, [], ◌∷◌, ◌++◌, Option, Some, None, Result, Ok, Err, refl, ap, sym, ◌∙◌, subst, append_assoc, ◌+◌, add-one, zero-add}
+use Rattle.std.proofs.Common.{◌≡◌, ℕ, Bool, true, false, cond, List, [], ◌∷◌, ◌++◌, Option, Some, None, Result, Ok, Err, refl, ap, sym, ◌∙◌, subst, append_assoc, ◌+◌, add-one}
 use Rattle.std.specs.Prelude.{codes}
 use Rattle.std.specs.Fmt.{decimal}
-use Rattle.std.specs.List.{filter, range_with_len}
-use Rattle.ff_ids.proofs.MaskLemmas.{range_with_len-push}
 use Rattle.std.specs.Result.{OnErr, OnOk, result_err}
 use Rattle.std.proofs.lemmas.Grind.{flat_map-append}
 use Rattle.std.proofs.lemmas.List.{append-nil}
@@ -18,7 +16,7 @@ use Rattle.ff_ids.specs.Faults.{accusation_fault, join_fault}
 use Rattle.ff_ids.specs.Lives.{opening}
 use Rattle.ff_ids.specs.Steps.{Accuses, Event, Joins, Report, Stepped, Ticks, after_accusation, after_tick, joined, nothing, unchanged, unless_fault}
 use Rattle.ff_ids.specs.Texts.{fault_text}
-use Rattle.ff_ids.specs.Views.{State, all_numbers, in_view, is_member, view}
+use Rattle.ff_ids.specs.Views.{State, is_member}
 use Rattle.membership.specs.Holds.{Holds}
 use Rattle.membership.specs.Life as kept
 use Rattle.membership.specs.Reports.{Answers}

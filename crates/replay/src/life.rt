@@ -1,12 +1,11 @@
 //! The life that is being recorded, and what a line brings to it. What is written behind a line goes to the
 //! end of a text, as `specs/` of the trace says.
 
-ghost use Rattle.std.specs.Prelude.{◌≡◌, ◌<◌, ◌≤◌, ◌+◌, ◌++◌, ◌∷◌, [], ℕ, true, List, Option, IfOk, OnOk, OnErr, length, codes, filter};
-ghost use Rattle.std.specs.List.{range_with_len};
+ghost use Rattle.std.specs.Prelude.{◌≡◌, ◌<◌, ◌≤◌, ◌+◌, ◌++◌, ◌∷◌, [], ℕ, true, List, Option, IfOk, OnOk, OnErr, length, codes};
 ghost use Rattle.ff_ids.specs.Faults.{note_fault, accusation_fault};
 ghost use Rattle.ff_ids.specs.Steps.{after_accusation};
 ghost use Rattle.ff_ids.specs.Masks.{ring_count};
-ghost use Rattle.ff_ids.specs.Views.{State, in_view, monitor, view};
+ghost use Rattle.ff_ids.specs.Views.{State, monitor, view};
 ghost use Rattle.life_events.specs.Events.{members_text};
 ghost use Rattle.membership.specs.Holds.{Holds};
 ghost use Rattle.membership.specs.Life.{has_joined};

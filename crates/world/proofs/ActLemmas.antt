@@ -1,5 +1,5 @@
 -- A call of a node, as a part of a line.
-use Rattle.std.proofs.Common.{◌≡◌, ℕ, zero, suc, List, [], ◌∷◌, ◌++◌, Option, Some, None, map, length, take, drop, refl, ap, sym, ◌∙◌, subst, append-nil, append_assoc}
+use Rattle.std.proofs.Common.{◌≡◌, ℕ, zero, suc, List, [], ◌∷◌, ◌++◌, Option, Some, None, map, length, refl, ap, sym, ◌∙◌, subst, append-nil, append_assoc}
 use Rattle.std.proofs.Math.ListN.{set}
 use Rattle.std.specs.Prelude.{fold, Ok}
 use Rattle.std.specs.List.{slice_get}
@@ -7,8 +7,6 @@ use Rattle.std.proofs.lemmas.List.Concat.{flat_map-append}
 use Rattle.std.specs.Option.{option_map}
 use Rattle.std.proofs.lemmas.Option.{slice_get-map}
 use Rattle.journal.specs.declared.event.Event as journal
-use Rattle.signer.proofs.OnwardLemmas.{front-trans, front-after}
-use Rattle.node_core.specs.Told.{IsFront}
 use Rattle.node_rules.specs.Lives.{Input}
 use Rattle.world_rules.specs.Calls.{OnDisk, called_on}
 use Rattle.world_rules.specs.Counts.{counts_of, with_event}
@@ -98,23 +96,6 @@ calls-goes s before base v out later_out c m at x later sent k i events h is fou
         written = written ∙ ap (λ (z : List ℕ). z ++ call_lines m (length v.sent) events) h.written ∙ lines-told base c d m (length v.sent) events told;
       },
     )
-
-split-at : (xs : List journal.Event) (i : ℕ) → xs ≡ take i xs ++ drop i xs
-split-at [] zero = refl
-split-at [] (suc i) = refl
-split-at (x ∷ xs) zero = refl
-split-at (x ∷ xs) (suc i) = ap (λ (ys : List journal.Event). x ∷ ys) (split-at xs i)
-
-told-append : (m n : ℕ) (xs ys : List journal.Event) → told_in m n (xs ++ ys) ≡ told_in m n xs ++ told_in m n ys
-told-append m n [] ys = refl
-told-append m n (x ∷ xs) ys = ap (λ (zs : List Told). told_in m n (x ∷ []) ++ zs) (told-append m n xs ys)
-
-lines-split : (m n : ℕ) (events : List journal.Event) (i : ℕ) → call_lines m n events ≡ call_lines m n (take i events) ++ call_lines m n (drop i events)
-lines-split m n events i =
-    ap (call_lines m n) (split-at events i) ∙ ap told_lines (told-append m n (take i events) (drop i events)) ∙ flat_map-append told_line (told_in m n (take i events)) (told_in m n (drop i events))
-
-pub lines-front : (old : List ℕ) (m n : ℕ) (events : List journal.Event) (i : ℕ) → IsFront (old ++ call_lines m n (take i events)) (old ++ call_lines m n events)
-lines-front old m n events i = front-after old (call_lines m n (take i events)) (call_lines m n events) (record { more = call_lines m n (drop i events); is = lines-split m n events i })
 
 -- the numbers stay where the one at this place keeps its own
 pub numbers-kept : (xs : List StationState) (at : ℕ) (x later : StationState) → slice_get xs at ≡ Some x → later.member ≡ x.member → map (λ y. y.member) (set xs at later) ≡ map (λ y. y.member) xs

@@ -20,8 +20,8 @@ use Rattle.world.specs.declared.fault.WorldFault.{WorldFault}
 use Rattle.world.specs.declared.fault.WorldFault.TheVariants as faults
 use Rattle.world.specs.Holding.{Holds, Kept}
 use Rattle.world_station.specs.Holding.{HoldsCurrent, HoldsLife}
-use Rattle.world.specs.Courses.{At, Replies, behind_text, body_in, course_of, signs}
-use Rattle.world.proofs.CourseLemmas.{front-refl, front-more}
+use Rattle.world.specs.Courses.{At, Replies, body_in, course_of, signs}
+use Rattle.world.proofs.CourseLemmas.{front-refl}
 
 -- nothing is told
 pub holds-quiet : (s : Setting) (w : Meant) (before : List Told) (v : Kept) → Holds s w before v → Holds s w (before ++ []) v

@@ -3,7 +3,6 @@ use Rattle.std.proofs.Common.{◌≡◌, ℕ, ◌+◌, List, [], ◌∷◌, ◌+
 use Rattle.std.specs.Prelude.{fold, Result, Ok, Err, OnOk}
 use Rattle.std.proofs.Math.ListN.{set}
 use Rattle.journal.specs.declared.event.Event as journal
-use Rattle.node_core.specs.Told.{IsFront}
 use Rattle.node_rules.specs.Calls.{Call}
 use Rattle.world_rules.specs.Settings.{Setting}
 use Rattle.world_rules.specs.Counts.{Counts as Counted, counts_of, with_event}
@@ -22,7 +21,6 @@ use Rattle.world.specs.Counting.{AreKept, kept}
 use Rattle.world.specs.Courses.{IsPlace, Replies, WritesText, began_text, behind_text, starts_if_left}
 use Rattle.world.specs.Holding.{Holds, Kept}
 use Rattle.world.specs.Telling.{told_lines}
-use Rattle.world.proofs.AnswerLemmas.{ok_answer}
 use Rattle.world.proofs.CallLemmas.{holds-called}
 
 -- The answer of the rules, the world behind it, and what is written.
@@ -77,7 +75,7 @@ began-replies s w before v old new m at life later events kept (Ok done) h there
     (b.answer, ap (λ (a : Answer). Ok a) b.same, record { holds = b.holds; written = written ∙ ap (λ (z : List ℕ). old ++ z) (sym b.text) })
 began-replies s w before v old new m at life later events kept (Err (faults.Forged who body)) h there own counts written = absurd written
 began-replies s w before v old new m at life later events kept (Err faults.OutOfMemory) h there own counts written =
-    written.0
+    written
 
 pub begun-replies : (s : Setting) (w : Meant) (before : List Told) (v : Kept) (old new : List ℕ) (m at life : ℕ) (later : StationState) (events : List journal.Event) (kept : counted.Counts) (result : Result (Unit {0}) WorldFault) → (h : Holds s w before v)
     → StartsNode s h.ots h.tree (w.stations m) (spent_of w (Some m)) later (Ok (starts.Began life events)) → IsPlace v at m → later.member ≡ m

@@ -1,15 +1,13 @@
 -- Parts of a line, one after another: what each adds to what was told, and how they go together.
-use Rattle.std.proofs.Common.{◌≡◌, ℕ, zero, suc, ◌+◌, Bool, true, false, cond, List, [], ◌∷◌, ◌++◌, Option, Some, None, refl, ap, sym, ◌∙◌, subst, append_assoc}
+use Rattle.std.proofs.Common.{◌≡◌, ℕ, ◌+◌, List, [], ◌∷◌, ◌++◌, Option, None, refl, ap, sym, ◌∙◌, subst, append_assoc, length, take, drop, take-append-drop}
 use Rattle.std.specs.Prelude.{Result, Ok, Err}
-use Rattle.std.specs.List.{slice_get}
 use Rattle.std.proofs.lemmas.List.Concat.{flat_map-append}
 use Rattle.node_core.specs.Told.{IsFront}
 use Rattle.signer.proofs.OnwardLemmas.{front-trans, front-after}
-use Rattle.node_rules.specs.Lives.{Input, Delivers, Ticks}
+use Rattle.node_rules.specs.Lives.{Delivers}
 use Rattle.world_rules.specs.Settings.{Setting}
-use Rattle.world_rules.specs.Worlds.{Life, Named, Station, is_running}
 use Rattle.world_rules.specs.Forgeries.{Forgery, forgery}
-use Rattle.world_rules.specs.Steps.{Answer, Course, Told, and_then, answered, calls, calls_running, flows, flows_next, flows_one, given_bytes, gives, gives_each, hands, hands_sent, quiet, tells_got, ticks, unless_forged}
+use Rattle.world_rules.specs.Steps.{Course, Told, and_then, answered, calls, hands, quiet, unless_forged}
 use Rattle.world.specs.declared.fault.WorldFault.{WorldFault}
 use Rattle.world.specs.declared.fault.WorldFault.TheVariants as faults
 use Rattle.world.specs.Telling.{told_line, told_lines}
@@ -27,6 +25,10 @@ front-refl xs = record { more = []; is = sym (nil-right xs) }
 
 pub front-more : {X : Type 0} (xs ys : List X) → IsFront xs (xs ++ ys)
 front-more xs ys = record { more = ys; is = refl }
+
+-- what begins with a text has it in front
+pub front-began : (xs ys : List ℕ) → take (length xs) ys ≡ xs → IsFront xs ys
+front-began xs ys began = record { more = drop (length xs) ys; is = sym (take-append-drop (length xs) ys) ∙ ap (λ (z : List ℕ). z ++ drop (length xs) ys) began }
 
 pub front-lines : (base : List ℕ) (xs ys : List Told) → IsFront xs ys → IsFront (base ++ told_lines xs) (base ++ told_lines ys)
 front-lines base xs ys h =

@@ -1,9 +1,8 @@
 -- Turns of the loops that play a line.
-use Rattle.std.proofs.Common.{◌≡◌, ℕ, suc, Bool, true, false, List, [], ◌∷◌, Option, Some, refl, ap, sym, ◌∙◌, subst}
+use Rattle.std.proofs.Common.{◌≡◌, ℕ, suc, true, false, List, ◌∷◌, Option, Some, refl, ap, sym, ◌∙◌, subst}
 use Rattle.std.specs.Prelude.{Result, Ok, Err, is_err}
 use Rattle.std.proofs.lemmas.Bool.{false≢true}
 use Rattle.std.specs.List.{slice_get}
-use Rattle.node_core.specs.Told.{IsFront}
 use Rattle.node_rules.specs.Lives.{Ticks}
 use Rattle.world_rules.specs.Settings.{Setting}
 use Rattle.world_rules.specs.Forgeries.{Forgery}

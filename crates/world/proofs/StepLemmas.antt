@@ -18,7 +18,7 @@ use Rattle.world_rules.specs.Walk.{behind_line}
 use Rattle.world.specs.declared.fault.WorldFault.{WorldFault}
 use Rattle.world.specs.declared.fault.WorldFault.TheVariants as faults
 use Rattle.world.specs.Answers.{PlaysLine, Steps}
-use Rattle.world.specs.Telling.{answer_text, told_lines}
+use Rattle.world.specs.Telling.{told_lines}
 use Rattle.world.specs.Holding.{Kept}
 use Rattle.world.specs.Courses.{CanStart, NamesLiar, Replies, before_opening, behind_text, does_or_opens, starts_if_left}
 use Rattle.world.proofs.CourseLemmas.{front-refl, front-more}

@@ -51,16 +51,16 @@ Goes s before base v out r (Err faults.OutOfMemory) = IsFront base out
 
 -- ---- parts of lines
 
--- These lines were written; or memory was refused, and a front of them is.
+-- These lines were written; or memory was refused, and what was written stays.
 abbrev pub WritesLines : List ℕ → List ℕ → List ℕ → Result (Unit {0}) NoMemory → Type 0
 WritesLines old new lines (Ok done) = new ≡ old ++ lines
-WritesLines old new lines (Err refused) = IsFront old new × IsFront new (old ++ lines)
+WritesLines old new lines (Err refused) = IsFront old new
 
 -- The same of a part that answers for a world.
 abbrev pub WritesText : List ℕ → List ℕ → List ℕ → Result (Unit {0}) WorldFault → Type 0
 WritesText old new text (Ok done) = new ≡ old ++ text
 WritesText old new text (Err (faults.Forged who body)) = ⊥
-WritesText old new text (Err faults.OutOfMemory) = IsFront old new × IsFront new (old ++ text)
+WritesText old new text (Err faults.OutOfMemory) = IsFront old new
 
 -- What is written for a life that began.
 abbrev pub began_text : ℕ → ℕ → ℕ → List journal.Event → List ℕ

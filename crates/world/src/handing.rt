@@ -6,6 +6,7 @@ ghost use Rattle.std.specs.Option.{option_map};
 ghost use Rattle.world_rules.specs.Settings.{Setting};
 ghost use Rattle.world_rules.specs.Steps.{Course, Told, flows, flows_one, gives, gives_each, hands, hands_sent};
 ghost use Rattle.world_rules.specs.Worlds.{World as Meant, is_running as runs, named_so, running as running_in};
+ghost use Rattle.world_text.specs.Lines.{Began};
 ghost use Rattle.world.specs.Courses.{At, FlowsOne, Goes, IsPlace, IsRunner, got_by, hands_each, hands_if};
 ghost use Rattle.world.specs.Holding.{Holds, given_under, numbers};
 ghost use Rattle.world.specs.Telling.{told_line};
@@ -49,7 +50,7 @@ impl World {
         requires { at < length self.now.stations }
         ensures ok { (s : Setting) (w : Meant) (told : List Told) (m : ℕ) → Holds s w told self.now → IsPlace self.now at m
             → OnOk result (out.new.items ≡ out.old.items ++ told_line (got_by s w m number)) }
-        ensures refused { OnErr result (out.new.items ≡ out.old.items) }
+        ensures refused { OnErr result (Began out.old.items out.new.items) }
     {
         let station = &self.stations[at];
         let event = Event {

@@ -1,6 +1,6 @@
 //! A line that is played.
 
-ghost use Rattle.std.specs.Prelude.{◌≡◌, ◌<◌, ◌++◌, ◌∷◌, if◌then◌else◌, [], ℕ, List, true, Ok, Some, None, IfOk, IfErr, IfSome, OnOk, OnErr, length};
+ghost use Rattle.std.specs.Prelude.{◌≡◌, ◌<◌, ◌++◌, ◌∷◌, [], ℕ, List, true, Ok, Some, None, IfOk, IfErr, IfSome, OnOk, OnErr, length};
 ghost use Rattle.ff_ids.specs.Views.{State, monitor as monitor_in, view};
 ghost use Rattle.membership.specs.Holds.{Holds as Stands};
 ghost use Rattle.world_rules.specs.Refusals.{node_named as node_in, why_not as refusal};

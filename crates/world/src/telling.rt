@@ -60,8 +60,9 @@ fn add_numbered(
     }
 }
 
-/// The line of the event.
-fn add_line(
+/// Adds a line for the event of this node. A call counts its datagrams from 0, and the world has sent so many before. Where
+/// memory is refused, a part of it may be there.
+pub fn add_event(
     alloc: Global,
     who: MemberId,
     before: usize,
@@ -76,27 +77,7 @@ fn add_line(
     Ok(())
 }
 
-/// Adds a line for the event of this node. A call counts its datagrams from 0, and the world has sent so many before. Where
-/// memory is refused, `out` is as it was.
-pub fn add_event(
-    alloc: Global,
-    who: MemberId,
-    before: usize,
-    event: &Event,
-    out: &mut Vec<u8>,
-) -> Result<(), NoMemory>
-    ensures ok { OnOk result (out.new.items ≡ out.old.items ++ told_line (numbered who before event.now)) }
-    ensures refused { OnErr result (out.new.items ≡ out.old.items) }
-{
-    let held = out.len();
-    let added = add_line(alloc, who, before, event, out);
-    if added.is_err() {
-        out.truncate(held);
-    }
-    added
-}
-
-/// Adds a line for each event of this node, as above. Where memory is refused, lines of the first ones may be there.
+/// Adds a line for each event of this node, as above. Where memory is refused, a part may be there.
 pub fn add_events(
     alloc: Global,
     who: MemberId,
@@ -106,7 +87,6 @@ pub fn add_events(
 ) -> Result<(), NoMemory>
     ensures ok { OnOk result (out.new.items ≡ out.old.items ++ call_lines who before events.now) }
     ensures front { IsFront out.old.items out.new.items }
-    ensures due { IsFront out.new.items (out.old.items ++ call_lines who before events.now) }
 {
     for event in events {
         add_event(alloc, who, before, event, out)?;

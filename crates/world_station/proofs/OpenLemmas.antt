@@ -1,5 +1,5 @@
 -- A store that is made or opened on a node's disk.
-use Rattle.std.proofs.Common.{◌≡◌, ℕ, ◌^◌, ◌<◌, ◌≤◌, false, List, length, Some, Result, Ok, Err, sym, subst, arith}
+use Rattle.std.proofs.Common.{◌≡◌, ℕ, ◌^◌, ◌<◌, false, List, length, Some, Result, Ok, Err, sym, subst}
 use Rattle.std.specs.Prelude.{is_err}
 use Rattle.ff_ids.specs.declared.Mask.{Mask}
 use Rattle.ports.specs.DiskSteps.{Came, runs}

@@ -7,7 +7,8 @@ ghost use Rattle.schedule_world.specs.Grammar.{spelled_epoch};
 ghost use Rattle.world_text.specs.Lines.{Began, accusation_end, accusation_line, accusation_middle, bytes_text, group_end, group_text, line_text, note_end, note_line};
 
 use ff_ids::{Epoch, Group, Mask, MemberId, NoteBody, RingNo};
-use fields::{Name, NoMemory, add_digits};
+use fields::{Name, NoMemory};
+use journal::add_digits;
 use life_events::write_text;
 use lms_ots::OtsKind;
 use lms_tree::TreeKind;

@@ -3,7 +3,6 @@ use Rattle.ff_ids.specs.Masks.{good_mask}
 use Rattle.rebuttal.proofs.Switching.{switch, switch_off}
 use Rattle.rebuttal.proofs.Answering.{IsAsked, IsFull, good_parts, again, in_group, without_exact, again_exact, again_lacks, again_good, not_all}
 use Rattle.rebuttal.proofs.Masks.{answering-is, lowest-to}
-use Rattle.rebuttal.specs.Rebuttals.{answering_mask}
 use Rattle.rebuttal.proofs.answer_mask.Goals as goal
 
 pub switched-without-requires : goal.switched-without-requires

@@ -1,7 +1,7 @@
 use Rattle.std.proofs.Common.{rules, ◌≡◌, ◌<◌, ◌+◌, ◌*◌, ◌++◌, ◌∷◌, [], ◌/◌, ◌%◌, length, take, get_or, ℕ, List, ap, ◌∙◌, append_assoc, arith, length-append}
 use Rattle.std.specs.Prelude.{slice_index}
 use Rattle.hex.specs.Hex.{encode_lower, encode_with, lower_digits}
-use Rattle.fields.proofs.HexLemmas.{encode_lower-more}
+use Rattle.ff_ids.proofs.HexLemmas.{encode_lower-more}
 use Rattle.command_line.proofs.forged.add_digits.Goals as goal
 
 pub loop-byte-init : goal.loop-byte-init

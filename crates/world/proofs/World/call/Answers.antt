@@ -8,7 +8,6 @@ use Rattle.world.specs.Holding.{Holds, Kept, numbers}
 use Rattle.world.specs.Courses.{At, Goes, IsPlace}
 use Rattle.std.proofs.lemmas.Result.{err_from_is_err_and}
 use Rattle.node_rules.specs.Lives.{Delivers}
-use Rattle.node_core.specs.Told.{IsFront}
 use Rattle.journal.specs.declared.event.Event as journal
 use Rattle.world_rules.specs.Counts.{counts_of}
 use Rattle.world_rules.specs.Steps.{calls}
@@ -57,7 +56,7 @@ returns-in_err-tell_all-clause-calls c = λ s before base k m at place.
     let numbered : numbers (kept_after v c.args.at later c.deliver.new.out v.counts) ≡ numbers v = numbers-kept v.stations c.args.at x later found c.in_ok-events.ensures.member in
     let later_place : IsPlace (kept_after v c.args.at later c.deliver.new.out v.counts) c.args.at m = ap (λ (z : List ℕ). slice_get z c.args.at) numbered ∙ there in
     let lines = c.in_err-tell_all.ensures.lines m later_place in
-    rw (p.1, p.2) (front-on s before base v c.args.out.now.items c.tell_all.new.out.items k here lines.0)
+    rw (p.1, p.2) (front-on s before base v c.args.out.now.items c.tell_all.new.out.items k here lines)
 
 pub returns-clause-numbers : goal.returns-clause-numbers
 returns-clause-numbers c =

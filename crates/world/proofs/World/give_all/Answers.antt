@@ -1,9 +1,6 @@
 use Rattle.std.proofs.Common.{◌≡◌, ℕ, List, Some, None, ap, sym, ◌∙◌}
-use Rattle.std.specs.Prelude.{Result}
 use Rattle.std.specs.Option.{option_map}
 use Rattle.world_rules.specs.Settings.{nodes}
-use Rattle.world_rules.specs.Forgeries.{Forgery}
-use Rattle.world_rules.specs.Steps.{Course, gives_each}
 use Rattle.world.specs.Holding.{numbers}
 use Rattle.std.proofs.lemmas.Result.{err_from_is_err_and}
 use Rattle.std.specs.Prelude.{Vec}

@@ -1,9 +1,8 @@
-use Rattle.std.proofs.Common.{◌≡◌, ℕ, List, ◌++◌, Option, Some, map, ap, sym, ◌∙◌}
+use Rattle.std.proofs.Common.{◌≡◌, ℕ, List, ◌++◌, Some, map, ap, sym, ◌∙◌}
 use Rattle.std.specs.List.{slice_get}
-use Rattle.world_rules.specs.Steps.{hands_sent, tells_got}
-use Rattle.world.specs.Courses.{At}
+use Rattle.world_rules.specs.Steps.{tells_got}
 use Rattle.std.proofs.lemmas.Result.{err_from_is_err_and}
-use Rattle.world.proofs.CourseLemmas.{front-at}
+use Rattle.world.proofs.CourseLemmas.{front-at, front-began, front-on}
 use Rattle.world.proofs.HandingLemmas.{goes-sent}
 use Rattle.world.proofs.WorldLemmas.{at-got}
 use Rattle.world.proofs.World.hand_sent.Goals as goal
@@ -16,8 +15,8 @@ returns-in_err-bytes-clause-hands c = λ s before base k m at place.
 pub returns-in_err-tell_got-clause-hands : goal.returns-in_err-tell_got-clause-hands
 returns-in_err-tell_got-clause-hands c = λ s before base k m at place.
     let p = err_from_is_err_and c.from_residual-in_err-tell_got.result c.from_residual-in_err-tell_got.ensures.1 in
-    let same : At s before base c.args.self.now c.tell_got.new.out.items k = record { holds = at.holds; written = c.in_err-tell_got.ensures.refused ∙ at.written } in
-    rw (p.1, p.2) (front-at s before base c.args.self.now c.tell_got.new.out.items k same)
+    rw (p.1, p.2)
+    (front-on s before base c.args.self.now c.args.out.now.items c.tell_got.new.out.items k at (front-began c.args.out.now.items c.tell_got.new.out.items c.in_err-tell_got.ensures.refused))
 
 pub returns-clause-hands : goal.returns-clause-hands
 returns-clause-hands c = λ s before base k m at place.

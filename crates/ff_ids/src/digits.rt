@@ -1,10 +1,9 @@
 // Bytes as hexadecimal digits.
 
-ghost use Rattle.std.specs.Prelude.{◌≡◌, ◌<◌, ◌++◌, [], ◌∷◌, Some, OnOk, OnErr, length, take, slice_index};
+ghost use Rattle.std.specs.Prelude.{◌≡◌, ◌<◌, [], ◌∷◌, Some, slice_index};
 ghost use Rattle.std.specs.Char.{encode_utf8};
 ghost use Rattle.hex.specs.Hex.{encode_lower, lower_digits};
 
-use crate::NoMemory;
 use std::fmt;
 
 /// Bytes that are written as two lower case digits each.
@@ -12,7 +11,7 @@ use std::fmt;
 pub struct Digits<'a>(pub &'a [u8]);
 
 /// The digit of this value.
-fn digit_byte(value: u8) -> u8
+pub fn digit_byte(value: u8) -> u8
     requires { value < 16 }
     ensures { result ≡ slice_index lower_digits value }
 {
@@ -37,16 +36,4 @@ impl<'a> fmt::Display for Digits<'a> {
         }
         Ok(())
     }
-}
-
-/// Adds the digits of the bytes, with one reservation of room. Where memory is refused, `out` begins with what it held.
-pub fn add_digits(bytes: &[u8], out: &mut Vec<u8>) -> Result<(), NoMemory>
-    ensures ok { OnOk result (out.new.items ≡ out.old.items ++ encode_lower bytes.now) }
-    ensures refused { OnErr result (take (length out.old.items) out.new.items ≡ out.old.items) }
-{
-    out.reserve(2 * bytes.len())?;
-    for byte in bytes {
-        out.extend_from_slice(&[digit_byte(*byte / 16), digit_byte(*byte % 16)])?;
-    }
-    Ok(())
 }

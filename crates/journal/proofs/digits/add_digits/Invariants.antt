@@ -1,6 +1,6 @@
 use Rattle.std.proofs.Common.{◌≡◌, ◌++◌, length, take}
 use Rattle.hex.specs.Hex.{encode_lower}
-use Rattle.fields.proofs.digits.add_digits.Given as goal
+use Rattle.journal.proofs.digits.add_digits.Given as goal
 
 abbrev pub invariant-loop-byte : goal.invariant-loop-byte
 invariant-loop-byte l = record {

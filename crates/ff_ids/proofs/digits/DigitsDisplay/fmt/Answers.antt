@@ -1,8 +1,8 @@
 use Rattle.std.proofs.Common.{◌<◌, length, rules, refl}
 use Rattle.std.proofs.lemmas.Grind.{put_three}
 use Rattle.hex.specs.Hex.{encode_with}
-use Rattle.fields.proofs.HexLemmas.{encode_lower-more}
-use Rattle.fields.proofs.digits.DigitsDisplay.fmt.Goals as goal
+use Rattle.ff_ids.proofs.HexLemmas.{encode_lower-more}
+use Rattle.ff_ids.proofs.digits.DigitsDisplay.fmt.Goals as goal
 
 pub loop-byte-init : goal.loop-byte-init
 unfolding encode_with

@@ -2,9 +2,9 @@ use Rattle.std.proofs.Common.{rules, ◌≡◌, ◌++◌, ◌∷◌, [], ◌+◌
 use Rattle.std.specs.Prelude.{slice_index}
 use Rattle.std.proofs.Math.Seq.{take-length}
 use Rattle.hex.specs.Hex.{encode_lower, encode_with, lower_digits}
-use Rattle.fields.proofs.HexLemmas.{encode_lower-more}
-use Rattle.fields.proofs.FrontLemmas.{begins}
-use Rattle.fields.proofs.digits.add_digits.Goals as goal
+use Rattle.ff_ids.proofs.HexLemmas.{encode_lower-more}
+use Rattle.life_events.proofs.TextLemmas.{begins}
+use Rattle.journal.proofs.digits.add_digits.Goals as goal
 
 one_more : (old out new bytes : List ℕ) (i high low : ℕ) → i < length bytes → out ≡ old ++ encode_lower (take i bytes)
     → high ≡ slice_index lower_digits (get_or bytes i 0 / 16) → low ≡ slice_index lower_digits (get_or bytes i 0 % 16)

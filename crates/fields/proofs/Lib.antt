@@ -1,2 +1,0 @@
-pub mod HexLemmas
-pub mod FrontLemmas
