@@ -4,8 +4,8 @@ ghost use Rattle.std.specs.Prelude.{◌≡◌, true};
 
 use fields::Bytes;
 use ports::{
-    Failed, Given, LinkAnswer, MemoryClock, MemoryLink, MemorySink, MemorySource, Opened, Received,
-    Sent, Source, Taken, write_all,
+    Clock, Failed, Given, Link, LinkAnswer, MemoryClock, MemoryLink, MemorySink, MemorySource,
+    Opened, Received, Sent, Sink, Source, Taken, write_all,
 };
 use std::test::Fail;
 
