@@ -223,10 +223,12 @@ class PanelDrawing:
 
     def moments(self, layout):
         y = layout.top + layout.wire_y
-        last = -1.0
+        last = stroke = -9.0
         for position, text in layout.moments:
             x = self.scale.across(position)
-            self.page.line("wire", x, y - 2, x, y + 2)
+            if x >= stroke + 3:
+                self.page.line("wire", x, y - 2, x, y + 2)
+                stroke = x
             width = text_width(text, 10)
             if x > last + 5 and x + 3 + width <= self.page.width - 6:
                 self.page.text("moment", x + 3, y + 12, text)
