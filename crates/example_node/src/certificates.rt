@@ -4,11 +4,10 @@ ghost use Rattle.std.specs.Prelude.{◌≡◌, IfOk, All};
 ghost use Rattle.node_core.specs.Begins.{IsCheckedIn};
 ghost use Rattle.example_node.specs.declared.keys.TheConstants.{GROUP};
 
-use crate::failure::Failure;
-use crate::keys::{GROUP, make_store, open};
+use anyhow::{Result, anyhow};
+use crate::keys::{GROUP, make_store, new_disk, open};
 use ff_ids::MemberId;
 use lms_tree::PublicKey;
-use ports::MemoryDisk;
 use records::{CertBody, Checked, read_record, write_record};
 use std::alloc::Global;
 
@@ -25,8 +24,8 @@ const SECRET: [u8; 32] = [0; 32];
 
 impl Directory {
     /// The authority certifies these keys, each with its member's number.
-    pub fn make(alloc: Global, keys: &[(u16, PublicKey)]) -> Result<Directory, Failure> {
-        let mut disk = MemoryDisk::new(alloc, 700, 200, Vec::new(alloc))?;
+    pub fn make(alloc: Global, keys: &[(u16, PublicKey)]) -> Result<Directory> {
+        let mut disk = new_disk(alloc)?;
         let authority = make_store(alloc, &SECRET, &mut disk)?;
         let mut signer = open(alloc, &SECRET, &mut disk)?.signer;
         let mut certificates = Vec::new(alloc);
@@ -39,7 +38,7 @@ impl Directory {
             };
             let signed = signer.sign_certificate(alloc, &mut disk, cert)?;
             let mut bytes = Vec::new(alloc);
-            write_record(signed.rec(), &mut bytes)?;
+            write_record(signed.rec(), &mut bytes).or(Err(anyhow!("no memory for a record")))?;
             certificates.push(bytes)?;
         }
         Ok(Directory {
@@ -49,7 +48,7 @@ impl Directory {
     }
 
     /// The certificates, each checked under the authority's key.
-    pub fn check(&self, alloc: Global) -> Result<Vec<Checked>, Failure>
+    pub fn check(&self, alloc: Global) -> Result<Vec<Checked>>
         ensures { IfOk result (λ checked. All (IsCheckedIn GROUP self.now.authority) checked.items) }
     {
         let mut checked = Vec::new(alloc);
@@ -61,12 +60,14 @@ impl Directory {
 }
 
 /// The record in these bytes, if the authority has signed it.
-fn check_one(alloc: Global, authority: &PublicKey, bytes: &[u8]) -> Result<Checked, Failure>
+fn check_one(alloc: Global, authority: &PublicKey, bytes: &[u8]) -> Result<Checked>
     ensures { IfOk result (λ checked. IsCheckedIn GROUP authority.now checked) }
 {
-    let (record, _length) = read_record(alloc, bytes)?;
+    let Ok((record, _length)) = read_record(alloc, bytes) else {
+        return Err(anyhow!("a certificate is no record"));
+    };
     match Checked::new(&GROUP, authority, record) {
         Ok(checked) => Ok(checked),
-        Err(_) => Err(Failure::Certificate),
+        Err(_) => Err(anyhow!("a certificate is not the authority's")),
     }
 }

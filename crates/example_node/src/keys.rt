@@ -1,10 +1,10 @@
-//! The group, and keys with the stores that keep their leaves from signing twice.
+//! The group, and keys with the stores that keep a leaf from signing twice.
 
 ghost use Rattle.std.specs.Prelude.{◌≡◌, IfOk, false};
 ghost use Rattle.lms_tree.specs.Lms.{public_of};
 ghost use Rattle.example_node.specs.declared.keys.TheConstants.{GROUP};
 
-use crate::failure::Failure;
+use anyhow::{Result, anyhow};
 use epoch_store::{Store, make};
 use ff_ids::{Group, Mask};
 use lms_ots::OtsKind;
@@ -30,17 +30,18 @@ const ALL_RINGS: Mask = Mask(7);
 /// The name of a store's file.
 const STORE: &str = "store";
 
+/// An empty disk in memory. A real one is a file: `edges::FileDisk`, or one of the application's own.
+pub fn new_disk(alloc: Global) -> Result<MemoryDisk> {
+    MemoryDisk::new(alloc, 700, 200, Vec::new(alloc)).or(Err(anyhow!("no memory for a disk")))
+}
+
 /// The key of a secret: 32 leaves, each of which signs once. The same secret gives the same key at each start.
-fn key_of(alloc: Global, secret: &[u8; 32]) -> Result<SecretKey, Failure> {
-    Ok(make_key(alloc, OtsKind::W4, TreeKind::H5, secret)?)
+fn key_of(alloc: Global, secret: &[u8; 32]) -> Result<SecretKey> {
+    make_key(alloc, OtsKind::W4, TreeKind::H5, secret).or(Err(anyhow!("no memory for a key")))
 }
 
 /// Makes the store of a key that has never signed. Once for each secret, and never again.
-pub fn make_store(
-    alloc: Global,
-    secret: &[u8; 32],
-    disk: &mut MemoryDisk,
-) -> Result<PublicKey, Failure> {
+pub fn make_store(alloc: Global, secret: &[u8; 32], disk: &mut MemoryDisk) -> Result<PublicKey> {
     let public = key_of(alloc, secret)?.public();
     make(disk, STORE, &store_tag(&GROUP, &public), ALL_RINGS)?;
     Ok(public)
@@ -55,11 +56,7 @@ pub struct Opened {
 }
 
 /// Opens the store: the key goes on at the first leaf that is not spent.
-pub fn open(
-    alloc: Global,
-    secret: &[u8; 32],
-    disk: &mut MemoryDisk,
-) -> Result<Opened, Failure>
+pub fn open(alloc: Global, secret: &[u8; 32], disk: &mut MemoryDisk) -> Result<Opened>
     ensures group { IfOk result (λ o. o.signer.group ≡ GROUP) }
     ensures key { IfOk result (λ o. o.public ≡ public_of o.signer.key) }
     ensures open { IfOk result (λ o. o.signer.closed ≡ false) }
@@ -67,12 +64,10 @@ pub fn open(
     let key = key_of(alloc, secret)?;
     let public = key.public();
     let (tree, leaves) = key.split();
-    let Ok(store) = Store::open(disk, STORE, &store_tag(&GROUP, &public)) else {
-        return Err(Failure::Store);
-    };
+    let store = Store::open(disk, STORE, &store_tag(&GROUP, &public))?;
     let next = store.state().next;
     if next > public.tree.leaf_count() {
-        return Err(Failure::Store);
+        return Err(anyhow!("the store is of a longer key"));
     }
     Ok(Opened {
         signer: Signer::open(GROUP, tree, leaves, store),

@@ -4,14 +4,13 @@
 #![tactic(auto)]
 
 mod certificates;
-mod failure;
 mod keys;
 mod member;
 mod network;
 mod report;
 
 use certificates::Directory;
-use failure::Failure;
+use anyhow::Result;
 use ff_ids::MemberId;
 use lms_tree::PublicKey;
 use member::{Member, enroll};
@@ -19,12 +18,11 @@ use network::Network;
 use ports::MemoryDisk;
 use report::{print_changes, print_monitors, print_views};
 use std::alloc::Global;
-use std::io;
 
 /// Rounds in which a member is found, or found silent and removed.
 const ROUNDS: u8 = 8;
 
-fn pass_time(rt: &HostRuntime, network: &mut Network) -> Result<(), Failure> {
+fn pass_time(rt: &HostRuntime, network: &mut Network) -> Result<()> {
     for _ in 0..ROUNDS {
         network.round(rt)?;
     }
@@ -38,13 +36,13 @@ fn start(
     number: u16,
     directory: &Directory,
     disk: MemoryDisk,
-) -> Result<(), Failure> {
+) -> Result<()> {
     let (member, answer) = Member::start(rt.alloc(), MemberId::new(number), directory, disk)?;
     print_changes(rt, member.number(), &answer.events)?;
     network.join(member)
 }
 
-fn play(rt: &HostRuntime, network: &mut Network) -> Result<(), Failure> {
+fn play(rt: &HostRuntime, network: &mut Network) -> Result<()> {
     // Once, before any member runs: each makes a key with its store, and the authority certifies the keys.
     let (first, first_disk) = enroll(rt.alloc(), 1)?;
     let (second, second_disk) = enroll(rt.alloc(), 2)?;
@@ -71,9 +69,9 @@ fn play(rt: &HostRuntime, network: &mut Network) -> Result<(), Failure> {
     pass_time(rt, network)
 }
 
-fn main(rt: HostRuntime) -> io::Result<()> {
+fn main(rt: HostRuntime) -> Result<()> {
     let mut network = Network::new(rt.alloc());
     let played = play(&rt, &mut network);
     network.end();
-    Ok(played?)
+    played
 }

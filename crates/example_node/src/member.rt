@@ -1,8 +1,8 @@
 //! One member: a node of the library over a disk of its own.
 
 use crate::certificates::Directory;
-use crate::failure::Failure;
-use crate::keys::{GROUP, Opened, make_store, open};
+use anyhow::{Result, ensure};
+use crate::keys::{GROUP, Opened, make_store, new_disk, open};
 use ff_ids::MemberId;
 use lms_tree::PublicKey;
 use membership::Membership;
@@ -38,8 +38,8 @@ fn secret_of(number: u16) -> [u8; 32] {
 }
 
 /// Makes the member's key and, on a new disk, its store.
-pub fn enroll(alloc: Global, number: u16) -> Result<(PublicKey, MemoryDisk), Failure> {
-    let mut disk = MemoryDisk::new(alloc, 700, 200, Vec::new(alloc))?;
+pub fn enroll(alloc: Global, number: u16) -> Result<(PublicKey, MemoryDisk)> {
+    let mut disk = new_disk(alloc)?;
     let public = make_store(alloc, &secret_of(number), &mut disk)?;
     Ok((public, disk))
 }
@@ -51,7 +51,7 @@ impl Member {
         number: MemberId,
         directory: &Directory,
         mut disk: MemoryDisk,
-    ) -> Result<(Member, Answer), Failure> {
+    ) -> Result<(Member, Answer)> {
         let Opened {
             signer,
             public,
@@ -64,16 +64,14 @@ impl Member {
             certificates: directory.check(alloc)?,
             nonce_seed,
         };
-        if !kit.is_sound(&public) {
-            return Err(Failure::Certificate);
-        }
+        ensure!(kit.is_sound(&public), "no certificate of this member's key");
         let mut answer = Answer::new(alloc);
         let node = Node::start(alloc, kit, signer, &mut disk, &mut answer.events)?;
         Ok((Member { number, node, disk }, answer))
     }
 
     /// A datagram came, from whomever.
-    pub fn deliver(&mut self, alloc: Global, bytes: &[u8]) -> Result<Answer, Failure> {
+    pub fn deliver(&mut self, alloc: Global, bytes: &[u8]) -> Result<Answer> {
         let mut answer = Answer::new(alloc);
         let Answer { events, out } = &mut answer;
         self.node
@@ -82,7 +80,7 @@ impl Member {
     }
 
     /// A tick has passed. The clock is the application's.
-    pub fn tick(&mut self, alloc: Global) -> Result<Answer, Failure> {
+    pub fn tick(&mut self, alloc: Global) -> Result<Answer> {
         let mut answer = Answer::new(alloc);
         if self.node.membership().now() < u64::MAX {
             let Answer { events, out } = &mut answer;

@@ -1,6 +1,6 @@
 //! The members that run here, and the network between them: a list of datagrams.
 
-use crate::failure::Failure;
+use anyhow::Result;
 use crate::member::{Answer, Member};
 use crate::report::print_changes;
 use ff_ids::MemberId;
@@ -34,13 +34,13 @@ impl Network {
     }
 
     /// A member that has started runs here from now on.
-    pub fn join(&mut self, member: Member) -> Result<(), Failure> {
+    pub fn join(&mut self, member: Member) -> Result<()> {
         self.members.push(member)?;
         Ok(())
     }
 
     /// A tick of each member, and all that follows from it.
-    pub fn round(&mut self, rt: &HostRuntime) -> Result<(), Failure> {
+    pub fn round(&mut self, rt: &HostRuntime) -> Result<()> {
         for place in 0..self.members.len() {
             let Some(member) = self.members.get_mut(place) else {
                 continue;
@@ -53,7 +53,7 @@ impl Network {
     }
 
     /// An answer of this member: its changes are printed, and its datagrams are on their way.
-    fn take(&mut self, rt: &HostRuntime, from: MemberId, answer: &Answer) -> Result<(), Failure> {
+    fn take(&mut self, rt: &HostRuntime, from: MemberId, answer: &Answer) -> Result<()> {
         print_changes(rt, from, &answer.events)?;
         for (to, bytes) in answer.out.as_slice() {
             let copy = bytes.as_slice().to_vec(rt.alloc())?;
@@ -64,7 +64,7 @@ impl Network {
 
     /// Hands over each datagram that is on its way, and those that follow, up to 1,000. One to a member that does not
     /// run is lost.
-    fn hand_over(&mut self, rt: &HostRuntime) -> Result<(), Failure> {
+    fn hand_over(&mut self, rt: &HostRuntime) -> Result<()> {
         for _ in 0..1_000u16 {
             if self.under_way.is_empty() {
                 return Ok(());
@@ -75,7 +75,7 @@ impl Network {
         Ok(())
     }
 
-    fn hand_over_one(&mut self, rt: &HostRuntime, to: MemberId, bytes: &[u8]) -> Result<(), Failure> {
+    fn hand_over_one(&mut self, rt: &HostRuntime, to: MemberId, bytes: &[u8]) -> Result<()> {
         for place in 0..self.members.len() {
             let Some(member) = self.members.get_mut(place) else {
                 continue;

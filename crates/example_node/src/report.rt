@@ -1,6 +1,6 @@
 //! What an application asks of a member, in lines.
 
-use crate::failure::Failure;
+use anyhow::Result;
 use crate::member::Member;
 use ff_ids::{MEMBERS, MemberId, RingNo};
 use journal::What;
@@ -8,7 +8,7 @@ use membership::Membership;
 use node_core::Events;
 
 /// The changes of this member's view among the events of a call, as they came.
-pub fn print_changes(rt: &HostRuntime, observer: MemberId, events: &Events) -> Result<(), Failure> {
+pub fn print_changes(rt: &HostRuntime, observer: MemberId, events: &Events) -> Result<()> {
     let observer = observer.get();
     for event in events.as_slice() {
         let moment = event.moment;
@@ -26,7 +26,7 @@ pub fn print_changes(rt: &HostRuntime, observer: MemberId, events: &Events) -> R
 }
 
 /// Who is in the view of each member.
-pub fn print_views(rt: &HostRuntime, members: &[Member]) -> Result<(), Failure> {
+pub fn print_views(rt: &HostRuntime, members: &[Member]) -> Result<()> {
     for member in members {
         print!(rt; "view of {}:", member.number().get())?;
         print_view(rt, member.membership())?;
@@ -34,7 +34,7 @@ pub fn print_views(rt: &HostRuntime, members: &[Member]) -> Result<(), Failure> 
     Ok(())
 }
 
-fn print_view(rt: &HostRuntime, membership: &Membership) -> Result<(), Failure> {
+fn print_view(rt: &HostRuntime, membership: &Membership) -> Result<()> {
     for number in 0..MEMBERS {
         if membership.in_view(MemberId::new(number)) {
             print!(rt; " {number}")?;
@@ -45,7 +45,7 @@ fn print_view(rt: &HostRuntime, membership: &Membership) -> Result<(), Failure> 
 }
 
 /// Who monitors whom on each ring, in the view of this member.
-pub fn print_monitors(rt: &HostRuntime, membership: &Membership) -> Result<(), Failure> {
+pub fn print_monitors(rt: &HostRuntime, membership: &Membership) -> Result<()> {
     for ring in 0..=2 * membership.group().t {
         print!(rt; "ring {ring}:")?;
         for number in 0..MEMBERS {
@@ -62,7 +62,7 @@ fn print_monitor(
     membership: &Membership,
     ring: RingNo,
     member: MemberId,
-) -> Result<(), Failure> {
+) -> Result<()> {
     if membership.in_view(member) && membership.is_member(member) {
         if let Some(monitor) = membership.monitor(ring, member) {
             print!(rt; " {} monitors {};", monitor.get(), member.get())?;
