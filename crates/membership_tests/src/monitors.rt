@@ -1,6 +1,6 @@
 //! The monitors among members that joined, and the comparisons of a question.
 
-ghost use Rattle.std.specs.Prelude.{◌≡◌, ◌+◌, [], length};
+ghost use Rattle.std.specs.Prelude.{◌≡◌, ◌+◌, ◌<◌, [], length};
 
 use ff_ids::{Group, MemberId, RingNo};
 use monitor_rule::Rings;
