@@ -54,12 +54,6 @@ begun-so s w before v m at life later events kept h there own st counts =
 
 -- ---- what was written of it
 
-abbrev kept_of : Counted → counted.Counts
-kept_of c = record { sent = kept c.sent; notes = kept c.notes; accusations = kept c.accusations; refused = kept c.refused; removed = kept c.removed; removed_correct = kept c.removed_correct; spent = kept c.spent }
-
-are-kept : (c : Counted) → AreKept (kept_of c) c
-are-kept c = record { sent = refl; notes = refl; accusations = refl; refused = refl; removed = refl; removed_correct = refl; spent = refl }
-
 -- A life that began at a place is kept.
 abbrev HoldsBegun : Setting → Meant → List Told → Kept → ℕ → ℕ → StationState → List journal.Event → Type 0
 HoldsBegun s w told v m life later events = (h : Holds s w told v) × StartsNode s h.ots h.tree (w.stations m) (spent_of w (Some m)) later (Ok (starts.Began life events))
@@ -74,8 +68,7 @@ began-replies s w before v old new m at life later events kept (Ok done) h there
     let b : Begun s w before v m at life later events kept = begun-so s w before v m at life later events kept h.0 there own h.1 counts in
     (b.answer, ap (λ (a : Answer). Ok a) b.same, record { holds = b.holds; written = written ∙ ap (λ (z : List ℕ). old ++ z) (sym b.text) })
 began-replies s w before v old new m at life later events kept (Err (faults.Forged who body)) h there own counts written = absurd written
-began-replies s w before v old new m at life later events kept (Err faults.OutOfMemory) h there own counts written =
-    written
+began-replies s w before v old new m at life later events kept (Err faults.OutOfMemory) h there own counts written = written
 
 pub begun-replies : (s : Setting) (w : Meant) (before : List Told) (v : Kept) (old new : List ℕ) (m at life : ℕ) (later : StationState) (events : List journal.Event) (kept : counted.Counts) (result : Result (Unit {0}) WorldFault) → (h : Holds s w before v)
     → StartsNode s h.ots h.tree (w.stations m) (spent_of w (Some m)) later (Ok (starts.Began life events)) → IsPlace v at m → later.member ≡ m

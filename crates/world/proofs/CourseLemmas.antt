@@ -1,16 +1,15 @@
 -- Parts of a line, one after another: what each adds to what was told, and how they go together.
 use Rattle.std.proofs.Common.{◌≡◌, ℕ, ◌+◌, List, [], ◌∷◌, ◌++◌, Option, None, refl, ap, sym, ◌∙◌, subst, append_assoc, length, take, drop, take-append-drop}
 use Rattle.std.specs.Prelude.{Result, Ok, Err}
-use Rattle.std.proofs.lemmas.List.Concat.{flat_map-append}
 use Rattle.node_core.specs.Told.{IsFront}
-use Rattle.signer.proofs.OnwardLemmas.{front-trans, front-after}
+use Rattle.signer.proofs.OnwardLemmas.{front-trans}
 use Rattle.node_rules.specs.Lives.{Delivers}
 use Rattle.world_rules.specs.Settings.{Setting}
 use Rattle.world_rules.specs.Forgeries.{Forgery, forgery}
 use Rattle.world_rules.specs.Steps.{Course, Told, and_then, answered, calls, hands, quiet, unless_forged}
 use Rattle.world.specs.declared.fault.WorldFault.{WorldFault}
 use Rattle.world.specs.declared.fault.WorldFault.TheVariants as faults
-use Rattle.world.specs.Telling.{told_line, told_lines}
+use Rattle.world.specs.Telling.{told_lines}
 use Rattle.world.specs.Holding.{Kept}
 use Rattle.world.specs.Courses.{At, Goes, Replies, Tests}
 
@@ -29,10 +28,6 @@ front-more xs ys = record { more = ys; is = refl }
 -- what begins with a text has it in front
 pub front-began : (xs ys : List ℕ) → take (length xs) ys ≡ xs → IsFront xs ys
 front-began xs ys began = record { more = drop (length xs) ys; is = sym (take-append-drop (length xs) ys) ∙ ap (λ (z : List ℕ). z ++ drop (length xs) ys) began }
-
-pub front-lines : (base : List ℕ) (xs ys : List Told) → IsFront xs ys → IsFront (base ++ told_lines xs) (base ++ told_lines ys)
-front-lines base xs ys h =
-    front-after base (told_lines xs) (told_lines ys) (record { more = told_lines h.more; is = ap told_lines h.is ∙ flat_map-append told_line xs h.more })
 
 abbrev pub the_ok : Course → Result Course Forgery
 the_ok c = Ok c
