@@ -19,7 +19,8 @@ use Rattle.node_rules.specs.Calls.{Call, tells}
 use Rattle.node_rules.specs.Ticking.{is_by, has_accused, monitored_rings, ring_for as ring_of, accusation_on, wants_accusation, accuses, accuses_all}
 use Rattle.node_core.specs.declared.NodeFault.{NodeFault}
 use Rattle.journal.specs.declared.event.Event as journal
-use Rattle.node_core.specs.Ticks.{StopsAt, RunsAccusing}
+use Rattle.node_core.specs.Ticks.{accusing, RunsAccusing}
+use Rattle.node_core.specs.Signatures.{StopsAt}
 use Rattle.std.proofs.Common.{length}
 use Rattle.std.proofs.lemmas.Bool.{cases_Bool, false≢true}
 use Rattle.std.specs.Prelude.{take}
@@ -200,6 +201,6 @@ pub found-behind : (done rest : List ℕ) (m : ℕ) → IsFoundBehind (done ++ m
 found-behind [] rest m = record { found = refl; front = refl }
 found-behind (x ∷ done) rest m = let h = found-behind done rest m in record { found = h.found; front = ap (λ xs. x ∷ xs) h.front }
 
-pub err-accusing : (P : Call → Type 0) (Q : Call → Call → Type 0) (s : Setting) (silent : List ℕ) (c : Call) (answer : Result (Unit {0}) NodeFault) → IsErr answer → StopsAt Q s silent (accuses_all s silent c) c → RunsAccusing P Q s silent c answer
+pub err-accusing : (P : Call → Type 0) (Q : Call → Call → Type 0) (s : Setting) (silent : List ℕ) (c : Call) (answer : Result (Unit {0}) NodeFault) → IsErr answer → StopsAt Q (accusing s) silent (accuses_all s silent c) c → RunsAccusing P Q s silent c answer
 err-accusing P Q s silent c (Ok x) err h = absurd (false≢true err)
 err-accusing P Q s silent c (Err e) err h = h

@@ -1,18 +1,20 @@
--- A whole delivery.
+-- What a call gives, by its answer.
 use Rattle.std.proofs.Common.{◌≡◌, ℕ, Bool, true, false, inl, inr, List, ◌++◌, refl, ap, sym, ◌∙◌, subst, Result, Ok, Err, take}
 use Rattle.std.specs.Prelude.{IfErr, OnOk, is_err}
 use Rattle.ports.specs.Count.{counted}
 use Rattle.std.proofs.lemmas.Bool.{cases_Bool}
-use Rattle.records.specs.declared.Record.{Record}
 use Rattle.datagram.specs.Grammar.{read_of}
 use Rattle.node_rules.specs.Nodes.{Setting, Node}
 use Rattle.node_rules.specs.Calls.{Call, begun}
-use Rattle.node_rules.specs.Deliveries.{hears, handles, handles_all, delivered, delivered_until}
+use Rattle.node_rules.specs.Deliveries.{hears, handles, handles_all, delivered}
+use Rattle.node_rules.specs.OnDisks.{Input, Delivers, IsCut}
+use Rattle.node_rules.specs.Lives.{call_of}
+use Rattle.node_rules.proofs.Called.{cut-answering, until-is}
 use Rattle.node_core.specs.declared.NodeFault.{NodeFault}
 use Rattle.node_core.specs.declared.NodeFault.TheVariants as faults
 use Rattle.node_core.specs.Playing.{Kept, IsNode, IsAt, IsBehind, Plays, Stops}
 use Rattle.node_core.specs.Hears.{RunsHearing}
-use Rattle.node_core.specs.Answers.{Lent, Gives, GivesFront, Stands, Delivers}
+use Rattle.node_core.specs.Answers.{Lent, Gives, GivesFront, Stands, GivesCall}
 use Rattle.journal.specs.declared.event.Event as journal
 use Rattle.node_core.specs.Told.{IsFront}
 use Rattle.node_core.proofs.TellingLemmas.{front-behind}
@@ -31,10 +33,6 @@ delivered-is : (s : Setting) (n : Node) (bytes : List ℕ) → delivered s n byt
 unfolding delivered
 delivered-is s n bytes = refl
 
-until-is : (s : Setting) (n : Node) (records : List Record) (r : Record) → delivered_until s n records r ≡ handles false s (handles_all s records (begun n)) r
-unfolding delivered_until
-until-is s n records r = refl
-
 -- a front of what was due was given
 pub front-given : (v : Kept) (old new : Lent) (c : Call) → IsBehind old.events old.sent v c → new.events ≡ v.telling.events → new.sent ≡ v.telling.sent → Stands old new → GivesFront old new c
 front-given v old new c behind events sent stands = record {
@@ -46,40 +44,54 @@ front-given v old new c behind events sent stands = record {
   sent_front = front-behind old.sent stands.sent.more c.sent new.sent stands.sent.is (subst (λ (xs : List (ℕ × List ℕ)). IsFront xs (old.sent ++ c.sent)) (sym sent) behind.sent);
 }
 
-by_answer : (s : Setting) (n : Node) (bytes : List ℕ) (v1 v2 : Kept) (old new : Lent) (done : Result (Unit {0}) NodeFault)
-    → RunsHearing (Plays s old.events old.sent v1) (Stops s old.events old.sent v1) s (read_of bytes) (begun n) done → IfErr done (λ e. e ≡ faults.StoreFault) → v1.telling.failed ≡ false
-    → v2 ≡ record v1 { telling = v2.telling; ended = v2.ended } → new.events ≡ v1.telling.events → new.sent ≡ v1.telling.sent → Delivers s n bytes v2 old new done
-by_answer s n bytes v1 v2 old new (Ok x) ran cause fine same events sent =
-    subst (λ c. Gives s v2 old new c) (sym (delivered-is s n bytes)) (gives-from s v1 v2 old new (hears s (read_of bytes) (begun n)) (ran.at fine) same events sent)
-by_answer s n bytes v1 v2 old new (Err e) ran cause fine same events sent =
-    let until = handles false s (handles_all s (take ran.place ran.records) (begun n)) ran.at in
-    let is = until-is s n (take ran.place ran.records) ran.at in
-    subst (λ f. Delivers s n bytes v2 old new (Err f)) (sym cause)
-    (record {
-      from = ran.from;
-      records = ran.records;
-      read = ran.is;
-      place = ran.place;
-      at = ran.at;
-      found = ran.found;
-      ended = ap (λ (c : Call). c.ended) is ∙ ran.runs.ended fine;
-      gives = subst (λ c. Gives s v2 old new c) (sym is) (gives-from s v1 v2 old new until (ran.runs.at fine) same events sent);
-    })
+-- A call was made, or it ended in a put that failed, if memory sufficed.
+abbrev pub RunsCall : Type 0 → (Call → Type 0) → (Call → Call → Type 0) → Setting → Node → Input → Result (Unit {0}) NodeFault → Type 0
+RunsCall Sufficed P Q s n i (Ok done) = P (call_of s n i)
+RunsCall Sufficed P Q s n i (Err fault) = (c : Call) × ((Sufficed → IsCut s n i c) × Q (call_of s n i) c)
 
-due-of : (s : Setting) (n : Node) (bytes : List ℕ) (v1 : Kept) (es : List journal.Event) (os : List (ℕ × List ℕ)) (done : Result (Unit {0}) NodeFault)
-    → RunsHearing (Plays s es os v1) (Stops s es os v1) s (read_of bytes) (begun n) done → v1.telling.failed ≡ true → IsBehind es os v1 (hears s (read_of bytes) (begun n))
-due-of s n bytes v1 es os (Ok x) ran failed = ran.due
-due-of s n bytes v1 es os (Err e) ran failed = ran.runs.due failed
+pub hearing-ran : (s : Setting) (es : List journal.Event) (os : List (ℕ × List ℕ)) (n : Node) (bytes : List ℕ) (v : Kept) (done : Result (Unit {0}) NodeFault)
+    → RunsHearing (Plays s es os v) (Stops s es os v) s (read_of bytes) (begun n) done → RunsCall (v.telling.failed ≡ false) (Plays s es os v) (Stops s es os v) s n (Delivers bytes) done
+hearing-ran s es os n bytes v (Ok x) ran = subst (Plays s es os v) (sym (delivered-is s n bytes)) ran
+hearing-ran s es os n bytes v (Err e) ran =
+    let c : Call = handles false s (handles_all s (take ran.place ran.records) (begun n)) ran.at in (
+      c,
+      (
+        λ fine. cut-answering s n bytes c
+            (record {
+              from = ran.from;
+              records = ran.records;
+              read = ran.is;
+              place = ran.place;
+              at = ran.at;
+              found = ran.found;
+              is = sym (until-is s n (take ran.place ran.records) ran.at);
+              over = ran.runs.ended fine;
+            }),
+        subst (λ (x : Call). Stops s es os v x c) (sym (delivered-is s n bytes)) ran.runs,
+      ),
+    )
 
-pub delivers-by : (s : Setting) (n : Node) (bytes : List ℕ) (v1 v2 : Kept) (old new : Lent) (done answer : Result (Unit {0}) NodeFault)
-    → RunsHearing (Plays s old.events old.sent v1) (Stops s old.events old.sent v1) s (read_of bytes) (begun n) done → IfErr done (λ e. e ≡ faults.StoreFault)
+by_answer : (s : Setting) (n : Node) (i : Input) (v1 v2 : Kept) (old new : Lent) (done : Result (Unit {0}) NodeFault)
+    → RunsCall (v1.telling.failed ≡ false) (Plays s old.events old.sent v1) (Stops s old.events old.sent v1) s n i done → IfErr done (λ e. e ≡ faults.StoreFault) → v1.telling.failed ≡ false
+    → v2 ≡ record v1 { telling = v2.telling; ended = v2.ended } → new.events ≡ v1.telling.events → new.sent ≡ v1.telling.sent → GivesCall s n i v2 old new done
+by_answer s n i v1 v2 old new (Ok x) ran cause fine same events sent = gives-from s v1 v2 old new (call_of s n i) (ran.at fine) same events sent
+by_answer s n i v1 v2 old new (Err e) ran cause fine same events sent =
+    subst (λ f. GivesCall s n i v2 old new (Err f)) (sym cause)
+    (record { call = ran.0; cut = ran.1.0 fine; gives = gives-from s v1 v2 old new ran.0 (ran.1.1.at fine) same events sent })
+
+due-of : (s : Setting) (n : Node) (i : Input) (v1 : Kept) (es : List journal.Event) (os : List (ℕ × List ℕ)) (done : Result (Unit {0}) NodeFault)
+    → RunsCall (v1.telling.failed ≡ false) (Plays s es os v1) (Stops s es os v1) s n i done → v1.telling.failed ≡ true → IsBehind es os v1 (call_of s n i)
+due-of s n i v1 es os (Ok x) ran failed = ran.due
+due-of s n i v1 es os (Err e) ran failed = ran.1.1.due failed
+
+pub gives-by : (s : Setting) (n : Node) (i : Input) (v1 v2 : Kept) (old new : Lent) (done answer : Result (Unit {0}) NodeFault)
+    → RunsCall (v1.telling.failed ≡ false) (Plays s old.events old.sent v1) (Stops s old.events old.sent v1) s n i done → IfErr done (λ e. e ≡ faults.StoreFault)
     → (v1.telling.failed ≡ true → answer ≡ Err faults.OutOfMemory) → (v1.telling.failed ≡ false → answer ≡ done)
-    → v2 ≡ record v1 { telling = v2.telling; ended = v2.ended } → new.events ≡ v1.telling.events → new.sent ≡ v1.telling.sent → Stands old new → Delivers s n bytes v2 old new answer
-delivers-by s n bytes v1 v2 old new done answer ran cause memory going same events sent stands =
+    → v2 ≡ record v1 { telling = v2.telling; ended = v2.ended } → new.events ≡ v1.telling.events → new.sent ≡ v1.telling.sent → Stands old new → GivesCall s n i v2 old new answer
+gives-by s n i v1 v2 old new done answer ran cause memory going same events sent stands =
     elim (cases_Bool v1.telling.failed) [
-      | inl failed ↦ subst (λ r. Delivers s n bytes v2 old new r) (sym (memory failed))
-          (front-given v1 old new (delivered s n bytes) (subst (λ c. IsBehind old.events old.sent v1 c) (sym (delivered-is s n bytes)) (due-of s n bytes v1 old.events old.sent done ran failed)) events sent stands)
-      | inr fine ↦ subst (λ r. Delivers s n bytes v2 old new r) (sym (going fine)) (by_answer s n bytes v1 v2 old new done ran cause fine same events sent)
+      | inl failed ↦ subst (λ r. GivesCall s n i v2 old new r) (sym (memory failed)) (front-given v1 old new (call_of s n i) (due-of s n i v1 old.events old.sent done ran failed) events sent stands)
+      | inr fine ↦ subst (λ r. GivesCall s n i v2 old new r) (sym (going fine)) (by_answer s n i v1 v2 old new done ran cause fine same events sent)
     ]
 
 calm-done : (done : Result (Unit {0}) NodeFault) (x y : ℕ) → y ≡ counted (is_err done) x → OnOk done (y ≡ x)

@@ -1,6 +1,6 @@
 -- A whole tick.
 use Rattle.std.proofs.Common.{◌≡◌, ℕ, ◌-◌, Bool, true, false, inl, inr, eqb, List, refl, ap, sym, ◌∙◌, subst}
-use Rattle.std.specs.Prelude.{Result, Ok, Err, IsErr, IfErr, take, ◌/◌, ◌%◌}
+use Rattle.std.specs.Prelude.{Result, Ok, Err, IsErr, take, ◌/◌, ◌%◌}
 use Rattle.std.specs.List.{slice_get}
 use Rattle.std.proofs.lemmas.Bool.{cases_Bool, false≢true}
 use Rattle.ff_ids.specs.declared.Group.{Group}
@@ -13,15 +13,16 @@ use Rattle.detector.specs.Watching.{watched}
 use Rattle.journal.specs.declared.event.Event as journal
 use Rattle.node_rules.specs.Nodes.{Setting, Node, state_of, certificate_of}
 use Rattle.node_rules.specs.Calls.{Call, begun, lives}
-use Rattle.node_rules.specs.Ticking.{accuses, accuses_all, gossips, pings_all, due_tick, is_due, watched_by, silent_at, round_of, passed, probed_at, ticked, ticked_until}
+use Rattle.node_rules.specs.Ticking.{accuses, accuses_all, gossips, pings_all, due_tick, is_due, watched_by, silent_at, round_of, passed, probed_at, ticked}
+use Rattle.node_rules.specs.OnDisks.{Ticks as Ticked}
+use Rattle.node_rules.proofs.Called.{cut-accusing, until-ticked}
 use Rattle.node_core.specs.declared.NodeFault.{NodeFault}
-use Rattle.node_core.specs.declared.NodeFault.TheVariants as faults
 use Rattle.node_core.specs.Playing.{Kept, IsNode, IsAt, IsBehind, Plays, Stops, Extends, Grows}
-use Rattle.node_core.specs.Answers.{Lent, Stands}
 use Rattle.node_core.specs.Told.{Tellings}
-use Rattle.node_core.specs.Ticks.{StopsAt, RunsDue, RunsTick, GivesTick, seen}
+use Rattle.node_core.specs.Signatures.{StopsAt}
+use Rattle.node_core.specs.Ticks.{accusing, RunsDue, RunsTick, seen}
 use Rattle.node_core.proofs.PlayLemmas.{setting-group, setting-me}
-use Rattle.node_core.proofs.DeliverLemmas.{gives-from, front-given}
+use Rattle.node_core.proofs.DeliverLemmas.{RunsCall}
 use Rattle.node_core.proofs.ExtendLemmas.{extends-same, extends-trans, extends-pings_all, extends-gossips, extends-due}
 use Rattle.node_core.proofs.DueLemmas.{behind-extends, behind-same}
 
@@ -50,9 +51,9 @@ silent-due : (s : Setting) (n : Node) → is_due s (now_of s n) ≡ true → sil
 unfolding silent_at
 silent-due s n due = rw due refl
 
-until-is : (s : Setting) (n : Node) (accused : List ℕ) (m : ℕ) → ticked_until s n accused m ≡ accuses false s (accuses_all s accused (seen s (passed s n))) m
-unfolding ticked_until probed_at
-until-is s n accused m = refl
+probed-seen : (s : Setting) (n : Node) → probed_at s n ≡ seen s (passed s n)
+unfolding probed_at
+probed-seen s n = refl
 
 -- What is found at a due tick.
 pub record FindsDue (s : Setting) (n : Node) (silent : List ℕ) (pings : List (ℕ × ℕ)) (round : ℕ) : Type 0 where
@@ -69,7 +70,7 @@ due-found s n silent pings round f =
 
 -- the disk failed in an accusation
 pub err-due : (s : Setting) (es : List journal.Event) (os : List (ℕ × List ℕ)) (v : Kept) (silent : List ℕ) (pings : List (ℕ × ℕ)) (round : ℕ) (c : Call) (answer : Result (Unit {0}) NodeFault) → IsErr answer
-    → StopsAt (Stops s es os v) s silent (accuses_all s silent c) c → RunsDue (Plays s es os v) (Stops s es os v) s silent pings round c answer
+    → StopsAt (Stops s es os v) (accusing s) silent (accuses_all s silent c) c → RunsDue (Plays s es os v) (Stops s es os v) s silent pings round c answer
 err-due s es os v silent pings round c (Ok x) err h = absurd (false≢true err)
 err-due s es os v silent pings round c (Err e) err h =
     let ran = h.2.1 in
@@ -104,9 +105,9 @@ due-ran s es os n v silent pings round (Err fault) h f = (
   h.1,
   (
     λ fine. ap (λ (xs : List ℕ). slice_get xs h.0) (silent-due s n f.due ∙ sym f.silent_is) ∙ h.2.0,
-    subst (λ x. Stops s es os v x (ticked_until s n (take h.0 (silent_at s n)) h.1)) (due-found s n silent pings round f)
+    subst (λ x. Stops s es os v x (accuses false s (accuses_all s (take h.0 (silent_at s n)) (probed_at s n)) h.1)) (due-found s n silent pings round f)
         (subst (λ x. Stops s es os v (due_tick s silent pings round (seen s (passed s n))) x)
-        (ap (λ (xs : List ℕ). accuses false s (accuses_all s (take h.0 xs) (seen s (passed s n))) h.1) (f.silent_is ∙ sym (silent-due s n f.due)) ∙ sym (until-is s n (take h.0 (silent_at s n)) h.1)) h.2.1),
+        (ap (λ (xs : List ℕ). accuses false s (accuses_all s (take h.0 xs) (seen s (passed s n))) h.1) (f.silent_is ∙ sym (silent-due s n f.due)) ∙ ap (λ (x : Call). accuses false s (accuses_all s (take h.0 (silent_at s n)) x) h.1) (sym (probed-seen s n))) h.2.1),
   ),
 )
 
@@ -183,31 +184,13 @@ seen-at s es os v c d due at same is holds =
 
 -- ---- what is given
 
-by_answer : (s : Setting) (n : Node) (v1 v2 : Kept) (old new : Lent) (done : Result (Unit {0}) NodeFault)
-    → RunsTick (v1.telling.failed ≡ false) (Plays s old.events old.sent v1) (Stops s old.events old.sent v1) s n done → IfErr done (λ e. e ≡ faults.StoreFault) → v1.telling.failed ≡ false
-    → v2 ≡ record v1 { telling = v2.telling; ended = v2.ended } → new.events ≡ v1.telling.events → new.sent ≡ v1.telling.sent → GivesTick s n v2 old new done
-by_answer s n v1 v2 old new (Ok x) ran cause fine same events sent = gives-from s v1 v2 old new (ticked s n) (ran.at fine) same events sent
-by_answer s n v1 v2 old new (Err e) ran cause fine same events sent =
-    let stopped = ran.2.1 in
-    subst (λ f. GivesTick s n v2 old new (Err f)) (sym cause)
-    (record {
-      place = ran.0;
-      at = ran.1;
-      found = ran.2.0 fine;
-      ended = stopped.ended fine;
-      gives = gives-from s v1 v2 old new (ticked_until s n (take ran.0 (silent_at s n)) ran.1) (stopped.at fine) same events sent;
-    })
-
-due-of : (s : Setting) (n : Node) (v1 : Kept) (es : List journal.Event) (os : List (ℕ × List ℕ)) (done : Result (Unit {0}) NodeFault) → RunsTick (v1.telling.failed ≡ false) (Plays s es os v1) (Stops s es os v1) s n done → v1.telling.failed ≡ true → IsBehind es os v1 (ticked s n)
-due-of s n v1 es os (Ok x) ran failed = ran.due
-due-of s n v1 es os (Err e) ran failed = ran.2.1.due failed
-
-pub gives-by : (s : Setting) (n : Node) (v1 v2 : Kept) (old new : Lent) (done answer : Result (Unit {0}) NodeFault)
-    → RunsTick (v1.telling.failed ≡ false) (Plays s old.events old.sent v1) (Stops s old.events old.sent v1) s n done → IfErr done (λ e. e ≡ faults.StoreFault)
-    → (v1.telling.failed ≡ true → answer ≡ Err faults.OutOfMemory) → (v1.telling.failed ≡ false → answer ≡ done)
-    → v2 ≡ record v1 { telling = v2.telling; ended = v2.ended } → new.events ≡ v1.telling.events → new.sent ≡ v1.telling.sent → Stands old new → GivesTick s n v2 old new answer
-gives-by s n v1 v2 old new done answer ran cause memory going same events sent stands =
-    elim (cases_Bool v1.telling.failed) [
-      | inl failed ↦ subst (λ r. GivesTick s n v2 old new r) (sym (memory failed)) (front-given v1 old new (ticked s n) (due-of s n v1 old.events old.sent done ran failed) events sent stands)
-      | inr fine ↦ subst (λ r. GivesTick s n v2 old new r) (sym (going fine)) (by_answer s n v1 v2 old new done ran cause fine same events sent)
-    ]
+pub tick-ran : (s : Setting) (es : List journal.Event) (os : List (ℕ × List ℕ)) (n : Node) (v : Kept) (done : Result (Unit {0}) NodeFault)
+    → RunsTick (v.telling.failed ≡ false) (Plays s es os v) (Stops s es os v) s n done → RunsCall (v.telling.failed ≡ false) (Plays s es os v) (Stops s es os v) s n Ticked done
+tick-ran s es os n v (Ok x) ran = ran
+tick-ran s es os n v (Err e) ran =
+    let silent : List ℕ = take ran.0 (silent_at s n) in
+    let c : Call = accuses false s (accuses_all s silent (probed_at s n)) ran.1 in
+    let stops : Stops s es os v (ticked s n) c = ran.2.1 in (
+      c,
+      (λ fine. cut-accusing s n c (record { place = ran.0; at = ran.1; found = ran.2.0 fine; is = sym (until-ticked s n silent ran.1); over = stops.ended fine }), stops),
+    )

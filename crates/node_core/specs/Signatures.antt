@@ -1,5 +1,5 @@
 -- What a wanted signature is, and how a call runs that may meet a failing disk.
-use Rattle.std.specs.Prelude.{◌≡◌, ℕ, ◌+◌, Bool, true, false, List, Some, Result, Ok, Err, take}
+use Rattle.std.specs.Prelude.{◌≡◌, ℕ, ◌+◌, Bool, true, false, List, Some, Result, Ok, Err, fold, take}
 use Rattle.std.specs.List.{slice_get}
 use Rattle.records.specs.declared.Record.{Record}
 use Rattle.node_rules.specs.Deliveries.{handles, handles_all}
@@ -24,8 +24,11 @@ abbrev pub Runs : (Call → Type 0) → (Call → Call → Type 0) → (Bool →
 Runs P Q call (Ok done) = P (call true)
 Runs P Q call (Err fault) = Q (call true) (call false)
 
--- All records are handled, or the disk failed in the answer to one, behind those before it.
+-- The disk failed in one of these steps, behind those before it, in this whole call.
+abbrev pub StopsAt : {X : Type 0} → (Call → Call → Type 0) → (Bool → Call → X → Call) → List X → Call → Call → Type 0
+StopsAt {X} Q step xs whole c = (i : ℕ) × (x : X) × ((slice_get xs i ≡ Some x) × Q whole (step false (fold (step true) c (take i xs)) x))
+
+-- All records are handled, or the disk failed in the answer to one.
 abbrev pub RunsAll : (Call → Type 0) → (Call → Call → Type 0) → Setting → List Record → Call → Result (Unit {0}) NodeFault → Type 0
 RunsAll P Q s records c (Ok done) = P (handles_all s records c)
-RunsAll P Q s records c (Err fault) =
-    (i : ℕ) × (r : Record) × ((slice_get records i ≡ Some r) × Q (handles_all s records c) (handles false s (handles_all s (take i records) c) r))
+RunsAll P Q s records c (Err fault) = StopsAt Q (λ works c r. handles works s c r) records (handles_all s records c) c

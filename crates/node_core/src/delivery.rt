@@ -14,9 +14,9 @@ ghost use Rattle.node_core.specs.declared.NodeFault.TheVariants as faults;
 ghost use Rattle.node_core.specs.Playing.{Plays, Stops, Grows, IsNode};
 ghost use Rattle.node_core.specs.Spending.{SignsNothing, Spends, SpendsIn};
 ghost use Rattle.node_core.specs.Hears.{RunsHearing};
-ghost use Rattle.node_rules.specs.OnDisks.{delivered_on, hears_on};
+ghost use Rattle.node_rules.specs.OnDisks.{Delivers, delivered_on, hears_on};
 ghost use Rattle.node_core.specs.OnDisks.{ComesTo, FollowsDisk, on_disk, storage};
-ghost use Rattle.node_core.specs.Answers.{Delivers, Stands, IsEnded};
+ghost use Rattle.node_core.specs.Answers.{GivesCall, Stands, IsEnded};
 ghost use Rattle.node_rules.specs.Nodes.{Node as RulesNode};
 
 use crate::telling::Telling;
@@ -140,7 +140,7 @@ impl Node {
         events: &mut Events,
     ) -> Result<(), NodeFault>
         ensures step { (s : Setting) (n : RulesNode) → IsNode s self.old n → self.old.ended ≡ false
-            → Delivers s n bytes.now self.new (record { events = events.old; sent = out.old }) (record { events = events.new; sent = out.new }) result }
+            → GivesCall s n (Delivers bytes.now) self.new (record { events = events.old; sent = out.old }) (record { events = events.new; sent = out.new }) result }
         ensures over { (self.old.ended ≡ true) ↔ IsEnded result }
         ensures ended { self.new.ended ≡ is_err result }
         ensures still { self.old.ended ≡ true → (self.new ≡ self.old) × (disk.new ≡ disk.old) × (events.new ≡ events.old) × (out.new ≡ out.old) }

@@ -8,9 +8,9 @@ ghost use Rattle.node_rules.specs.Calls.{begun};
 ghost use Rattle.node_core.specs.declared.NodeFault.TheVariants as faults;
 ghost use Rattle.node_core.specs.Playing.{IsNode};
 ghost use Rattle.node_core.specs.Spending.{SignsNothing, Spends, SpendsIn};
-ghost use Rattle.node_core.specs.Answers.{Stands, IsEnded};
-ghost use Rattle.node_core.specs.Ticks.{RunsDue, RunsTick, GivesTick};
-ghost use Rattle.node_rules.specs.OnDisks.{due_on, ticked_on};
+ghost use Rattle.node_core.specs.Answers.{GivesCall, Stands, IsEnded};
+ghost use Rattle.node_core.specs.Ticks.{RunsDue, RunsTick};
+ghost use Rattle.node_rules.specs.OnDisks.{Ticks, due_on, ticked_on};
 ghost use Rattle.node_core.specs.OnDisks.{ComesTo, FollowsDisk, on_disk, storage};
 ghost use Rattle.journal.specs.declared.event.Event as journal;
 ghost use Rattle.node_rules.specs.Nodes.{Setting};
@@ -128,7 +128,7 @@ impl Node {
     ) -> Result<(), NodeFault>
         requires { self.old.membership.moment < 2 ^ 64 - 1 }
         ensures step { (s : Setting) (n : RulesNode) → IsNode s self.old n → self.old.ended ≡ false
-            → GivesTick s n self.new (record { events = events.old; sent = out.old }) (record { events = events.new; sent = out.new }) result }
+            → GivesCall s n Ticks self.new (record { events = events.old; sent = out.old }) (record { events = events.new; sent = out.new }) result }
         ensures over { (self.old.ended ≡ true) ↔ IsEnded result }
         ensures ended { self.new.ended ≡ is_err result }
         ensures still { self.old.ended ≡ true → (self.new ≡ self.old) × (disk.new ≡ disk.old) × (events.new ≡ events.old) × (out.new ≡ out.old) }

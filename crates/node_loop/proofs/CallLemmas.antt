@@ -1,5 +1,5 @@
 -- How one call of the node is served.
-use Rattle.std.proofs.Common.{◌≡◌, ◌<◌, ◌≤◌, arith, ℕ, inl, inr, true, false, List, [], ◌∷◌, ◌++◌, Option, Some, None, Result, Ok, Err, refl, sym, ap, ◌∙◌, subst, take, cond}
+use Rattle.std.proofs.Common.{◌≡◌, ◌<◌, ◌≤◌, arith, ℕ, inl, inr, true, false, List, [], ◌∷◌, ◌++◌, Option, Some, None, Result, Ok, Err, refl, sym, ap, ◌∙◌, subst, cond}
 use Rattle.std.proofs.lemmas.Bool.{false≢true}
 use Rattle.std.specs.Result.{is_err}
 use Rattle.std.specs.Prelude.{Bool, IfErr, OnOk, nat_lt}
@@ -21,20 +21,17 @@ use Rattle.records.specs.declared.Body.TheVariants.{Certificate}
 use Rattle.records.specs.declared.Record.{Record}
 use Rattle.validate.specs.Certified.{Certificates, certificate_of as kept_certificate}
 use Rattle.node_core.specs.Told.{IsFront}
-use Rattle.node_core.specs.Answers.{Lent}
-use Rattle.node_core.specs.Answers as core
-use Rattle.node_core.specs.Ticks.{GivesTick}
+use Rattle.node_core.specs.Answers.{Lent, GivesCall}
 use Rattle.node_rules.specs.Nodes.{Setting, Node, Holding, certificate_in, certificate_of, state_of}
 use Rattle.node_rules.specs.Calls.{Call}
-use Rattle.node_rules.specs.Deliveries.{delivered_until}
-use Rattle.node_rules.specs.Ticking.{silent_at, ticked_until}
-use Rattle.node_rules.specs.Lives.{Input, Delivers, Ticks, call_of}
+use Rattle.node_rules.specs.OnDisks.{Input, Ticks, IsCut}
+use Rattle.node_rules.specs.Lives.{call_of}
 use Rattle.node_loop.specs.declared.fault.ServeFault.{ServeFault}
 use Rattle.node_loop.specs.declared.fault.ServeFault.TheVariants as faults
 use Rattle.node_loop.specs.Turns.{Act, Calls}
 use Rattle.node_loop.specs.Courses.{Course, acted, gives, may_tick, moves, served, tells_all}
 use Rattle.node_loop.specs.Writing.{Answers, Before, Extends, GoesOn, IsAt, IsBeyond, IsWithin, Settles, Standing, Stands, standing}
-use Rattle.node_loop.specs.Serving.{IsCut, IsStarved, IsStopped, Serves, starves}
+use Rattle.node_loop.specs.Serving.{IsStarved, IsStopped, Serves, starves}
 use Rattle.node_loop.proofs.CourseLemmas.{Grows, grows-refl, grows-tells_all, node-gives, served-cons, served-nil, tells_all-append}
 use Rattle.node_loop.proofs.TellLemmas.{at-within, beyond, within-grows}
 use Rattle.node_loop.proofs.ServeLemmas.{breaks-off}
@@ -261,52 +258,30 @@ lent events sent = record { events = events; sent = sent }
 pub lent-none : (P : Lent → Type 0) (es : List journal.Event) (os : List (ℕ × List ℕ)) → es ≡ [] → os ≡ [] → P (lent es os) → P (lent [] [])
 lent-none P es os no_events no_sent h = subst (λ (xs : List journal.Event). P (lent xs [])) no_events (subst (λ (xs : List (ℕ × List ℕ)). P (lent es xs)) no_sent h)
 
-pub serves-delivery : (s : Setting) (before : Before) (v0 v : Kept) (link later : Option LinkState) (taken after : Option (List ℕ)) (older newer : List Moment) (sent sent1 : ℕ) (r : Course) (bytes : List ℕ)
+pub serves-call : (s : Setting) (before : Before) (v0 v : Kept) (link later : Option LinkState) (taken after : Option (List ℕ)) (older newer : List Moment) (sent sent1 : ℕ) (r : Course) (input : Input)
     (events : List journal.Event) (out : List (ℕ × List ℕ)) (done : Result (Unit {0}) NodeFault) (answer : Result (Unit {0}) ServeFault)
-    → Stands s before (standing v0 link taken older sent) r → core.Delivers s r.node bytes v (lent [] []) (lent events out) done → v.ended ≡ is_err done → SpendsIn done v0.signer v.signer older newer [] events
-    → Answers done answer → Extends taken after link later
+    → Stands s before (standing v0 link taken older sent) r → acted s r (Calls input) ≡ gives (call_of s r.node input) r → GivesCall s r.node input v (lent [] []) (lent events out) done
+    → v.ended ≡ is_err done → SpendsIn done v0.signer v.signer older newer [] events → Answers done answer → Extends taken after link later
     → ((r1 : Course) → IsAt before (standing v link taken newer sent) r1 → Settles before (standing v later after newer sent1) (tells_all events r1) answer)
-    → Serves s before (Calls (Delivers bytes) ∷ []) r (standing v later after newer sent1) answer
-serves-delivery s before v0 v link later taken after older newer sent sent1 r bytes events out (Ok x) answer st d over spends answers more settles =
-    let c = call_of s r.node (Delivers bytes) in
+    → Serves s before (Calls input ∷ []) r (standing v later after newer sent1) answer
+serves-call s before v0 v link later taken after older newer sent sent1 r input events out (Ok x) answer st acts d over spends answers more settles =
+    let c = call_of s r.node input in
     let lives = told-spent events c.told spends.spent v0.signer v.signer older newer d.told (ap spent_told spends.after_is ∙ spends.tells) spends.key in
-    whole-call s before (standing v later after newer sent1) r (Delivers bytes) c x answer refl d.is answers
+    whole-call s before (standing v later after newer sent1) r input c x answer acts d.is answers
     (told-so before (standing v later after newer sent1) r c events answer d.told (settles (moves c r) (moved s before v0 v link taken older newer sent r c st d.is lives)))
-serves-delivery s before v0 v link later taken after older newer sent sent1 r bytes events out (Err node.StoreFault) answer st d over spends answers more settles =
-    let c = delivered_until s r.node (take d.place d.records) d.at in
+serves-call s before v0 v link later taken after older newer sent sent1 r input events out (Err node.StoreFault) answer st acts d over spends answers more settles =
+    let c = d.call in
     let lives = told-spent events c.told spends.spent v0.signer v.signer older newer d.gives.told (ap spent_told spends.after_is ∙ spends.tells) spends.key in
-    cut-call s before (standing v later after newer sent1) r (Delivers bytes) c answer (record { from = d.from; records = d.records; read = d.read; place = d.place; at = d.at; found = d.found; is = refl; ended = d.ended }) d.gives.is answers
+    cut-call s before (standing v later after newer sent1) r input c answer d.cut d.gives.is answers
     (told-so before (standing v later after newer sent1) r c events answer d.gives.told (settles (moves c r) (moved s before v0 v link taken older newer sent r c st d.gives.is lives)))
-serves-delivery s before v0 v link later taken after older newer sent sent1 r bytes events out (Err node.OutOfMemory) answer st d over spends answers more settles =
-    starved-call s before v0 v link later taken after older newer sent sent1 r (Delivers bytes) events spends.spent answer st over spends.key
-    (subst (λ es. IsFront es (call_of s r.node (Delivers bytes)).told) (sym d.events_added) d.events_front) answers more settles
-serves-delivery s before v0 v link later taken after older newer sent sent1 r bytes events out (Err (node.Exhausted next)) answer st d over spends answers more settles = absurd d
-serves-delivery s before v0 v link later taken after older newer sent sent1 r bytes events out (Err node.Ended) answer st d over spends answers more settles = absurd d
+serves-call s before v0 v link later taken after older newer sent sent1 r input events out (Err node.OutOfMemory) answer st acts d over spends answers more settles =
+    starved-call s before v0 v link later taken after older newer sent sent1 r input events spends.spent answer st over spends.key
+    (subst (λ es. IsFront es (call_of s r.node input).told) (sym d.events_added) d.events_front) answers more settles
+serves-call s before v0 v link later taken after older newer sent sent1 r input events out (Err (node.Exhausted next)) answer st acts d over spends answers more settles = absurd d
+serves-call s before v0 v link later taken after older newer sent sent1 r input events out (Err node.Ended) answer st acts d over spends answers more settles = absurd d
 
-tick-acted : (s : Setting) (r : Course) → may_tick s r.node ≡ true → acted s r (Calls Ticks) ≡ gives (call_of s r.node Ticks) r
+pub tick-acted : (s : Setting) (r : Course) → may_tick s r.node ≡ true → acted s r (Calls Ticks) ≡ gives (call_of s r.node Ticks) r
 tick-acted s r may = ap (λ b. cond b (gives (call_of s r.node Ticks) r) r) may
-
-pub serves-tick : (s : Setting) (before : Before) (v0 v : Kept) (link later : Option LinkState) (taken after : Option (List ℕ)) (older newer : List Moment) (sent sent1 : ℕ) (r : Course)
-    (events : List journal.Event) (out : List (ℕ × List ℕ)) (done : Result (Unit {0}) NodeFault) (answer : Result (Unit {0}) ServeFault)
-    → Stands s before (standing v0 link taken older sent) r → may_tick s r.node ≡ true → GivesTick s r.node v (lent [] []) (lent events out) done → v.ended ≡ is_err done → SpendsIn done v0.signer v.signer older newer [] events
-    → Answers done answer → Extends taken after link later
-    → ((r1 : Course) → IsAt before (standing v link taken newer sent) r1 → Settles before (standing v later after newer sent1) (tells_all events r1) answer)
-    → Serves s before (Calls Ticks ∷ []) r (standing v later after newer sent1) answer
-serves-tick s before v0 v link later taken after older newer sent sent1 r events out (Ok x) answer st may d over spends answers more settles =
-    let c = call_of s r.node Ticks in
-    let lives = told-spent events c.told spends.spent v0.signer v.signer older newer d.told (ap spent_told spends.after_is ∙ spends.tells) spends.key in
-    whole-call s before (standing v later after newer sent1) r Ticks c x answer (tick-acted s r may) d.is answers
-    (told-so before (standing v later after newer sent1) r c events answer d.told (settles (moves c r) (moved s before v0 v link taken older newer sent r c st d.is lives)))
-serves-tick s before v0 v link later taken after older newer sent sent1 r events out (Err node.StoreFault) answer st may d over spends answers more settles =
-    let c = ticked_until s r.node (take d.place (silent_at s r.node)) d.at in
-    let lives = told-spent events c.told spends.spent v0.signer v.signer older newer d.gives.told (ap spent_told spends.after_is ∙ spends.tells) spends.key in
-    cut-call s before (standing v later after newer sent1) r Ticks c answer (record { place = d.place; member = d.at; found = d.found; is = refl; ended = d.ended }) d.gives.is answers
-    (told-so before (standing v later after newer sent1) r c events answer d.gives.told (settles (moves c r) (moved s before v0 v link taken older newer sent r c st d.gives.is lives)))
-serves-tick s before v0 v link later taken after older newer sent sent1 r events out (Err node.OutOfMemory) answer st may d over spends answers more settles =
-    starved-call s before v0 v link later taken after older newer sent sent1 r Ticks events spends.spent answer st over spends.key
-    (subst (λ es. IsFront es (call_of s r.node Ticks).told) (sym d.events_added) d.events_front) answers more settles
-serves-tick s before v0 v link later taken after older newer sent sent1 r events out (Err (node.Exhausted next)) answer st may d over spends answers more settles = absurd d
-serves-tick s before v0 v link later taken after older newer sent sent1 r events out (Err node.Ended) answer st may d over spends answers more settles = absurd d
 
 -- whether a tick can be counted
 pub may-count : (s : Setting) (before : Before) (w : Standing) (r : Course) → Stands s before w r → w.node.membership.moment < 18446744073709551615 → may_tick s r.node ≡ true

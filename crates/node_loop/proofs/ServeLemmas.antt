@@ -1,13 +1,14 @@
 -- How acts are served, some behind others.
 use Rattle.std.proofs.Common.{◌≡◌, ◌⊎◌, inl, inr, List, [], ◌∷◌, ◌++◌, Result, Ok, Err, refl, sym, ap, ◌∙◌, subst, append_assoc, append-nil}
 use Rattle.node_rules.specs.Nodes.{Setting}
+use Rattle.node_rules.specs.OnDisks.{IsCut}
 use Rattle.node_rules.specs.Lives.{call_of}
 use Rattle.node_loop.specs.declared.fault.ServeFault.{ServeFault}
 use Rattle.node_loop.specs.declared.fault.ServeFault.TheVariants as faults
 use Rattle.node_loop.specs.Turns.{Act, Calls}
 use Rattle.node_loop.specs.Courses.{Course, gives, served, tells_all}
 use Rattle.node_loop.specs.Writing.{Before, IsBeyond, IsWithin, Standing, Stands}
-use Rattle.node_loop.specs.Serving.{IsCut, IsStopped, IsWhole, BreaksOff, IsStarved, Serves, starves}
+use Rattle.node_loop.specs.Serving.{IsStopped, IsWhole, BreaksOff, IsStarved, Serves, starves}
 use Rattle.node_loop.proofs.CourseLemmas.{Grows, grows-refl, grows-served, served-append}
 use Rattle.node_loop.proofs.TellLemmas.{within-grows}
 

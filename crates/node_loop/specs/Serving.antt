@@ -1,45 +1,16 @@
 -- How a life is served, by the answer.
-use Rattle.std.specs.Prelude.{◌≡◌, ℕ, ◌⊎◌, true, List, ◌∷◌, ◌++◌, Option, Some, Result, Ok, Err, take}
-use Rattle.std.specs.List.{slice_get}
-use Rattle.records.specs.declared.Record.{Record}
-use Rattle.datagram.specs.declared.Datagram.TheVariants as kinds
-use Rattle.datagram.specs.Grammar.{read_of}
+use Rattle.std.specs.Prelude.{◌≡◌, ℕ, ◌⊎◌, true, List, ◌∷◌, ◌++◌, Option, Some, Result, Ok, Err}
 use Rattle.signer.specs.Lives.{Spent}
 use Rattle.validate.specs.Certified.{certificate_of as kept_certificate}
 use Rattle.node_rules.specs.Nodes.{Setting, Node, certificate_of}
 use Rattle.node_rules.specs.Calls.{Call}
-use Rattle.node_rules.specs.Deliveries.{delivered_until}
-use Rattle.node_rules.specs.Ticking.{silent_at, ticked_until}
-use Rattle.node_rules.specs.Lives.{Input, Delivers, Ticks, call_of}
+use Rattle.node_rules.specs.OnDisks.{Input, IsCut}
+use Rattle.node_rules.specs.Lives.{call_of}
 use Rattle.node_loop.specs.declared.fault.ServeFault.{ServeFault}
 use Rattle.node_loop.specs.declared.fault.ServeFault.TheVariants as faults
 use Rattle.node_loop.specs.Turns.{Act, Calls, Outlook}
 use Rattle.node_loop.specs.Courses.{Course, gives, served, tells_all}
 use Rattle.node_loop.specs.Writing.{Before, IsBeyond, IsWithin, Standing, Stands}
-
--- The disk fails in the answer to a record of the datagram.
-pub record IsCutDelivery (s : Setting) (n : Node) (bytes : List ℕ) (c : Call) : Type 0 where
-  pub from : ℕ
-  pub records : List Record
-  pub read : read_of bytes ≡ Ok (kinds.Records from records)
-  pub place : ℕ
-  pub at : Record
-  pub found : slice_get records place ≡ Some at
-  pub is : c ≡ delivered_until s n (take place records) at
-  pub ended : c.ended ≡ true
-
--- The disk fails in the accusation of a silent member.
-pub record IsCutTick (s : Setting) (n : Node) (c : Call) : Type 0 where
-  pub place : ℕ
-  pub member : ℕ
-  pub found : slice_get (silent_at s n) place ≡ Some member
-  pub is : c ≡ ticked_until s n (take place (silent_at s n)) member
-  pub ended : c.ended ≡ true
-
--- The call is this one, up to where the disk fails.
-abbrev pub IsCut : Setting → Node → Input → Call → Type 0
-IsCut s n (Delivers bytes) c = IsCutDelivery s n bytes c
-IsCut s n Ticks c = IsCutTick s n c
 
 -- The course up to a call in which the disk fails, and what that call gives.
 pub record IsStopped (s : Setting) (acts : List Act) (start whole : Course) : Type 0 where

@@ -40,13 +40,14 @@ use Rattle.node_rules.specs.Nodes.{Setting, Node, state_of, event_of, certificat
 use Rattle.node_rules.specs.Pages.{page, partner, page_number, lacking}
 use Rattle.node_rules.specs.Refusals.{refusal}
 use Rattle.node_rules.specs.Calls.{Call, begun, tells, lives, takes, spends, signs, signs_and_sends, wants, stops, sends, sends_to_all, is_used_up, own_record}
-use Rattle.node_rules.specs.Deliveries.{answer_to, answers, judged, handles, handles_all, is_other, gives, replies, exchanges, pinged, ponged_by, hears, delivered, delivered_until}
-use Rattle.node_rules.specs.Ticking.{accusation_on, ring_for, has_accused, wants_accusation, accuses, accuses_all, is_due, silent_in, watched_by, pings_in, probes_after, pings_all, summary_to, round_of, passed, probed_at, due_tick, ticked, ticked_until}
+use Rattle.node_rules.specs.Deliveries.{answer_to, answers, judged, handles, handles_all, is_other, gives, replies, exchanges, pinged, ponged_by, hears, delivered}
+use Rattle.node_rules.specs.Ticking.{accusation_on, ring_for, has_accused, wants_accusation, accuses, accuses_all, is_due, silent_in, watched_by, pings_in, probes_after, pings_all, summary_to, round_of, passed, probed_at, due_tick, ticked}
 use Rattle.node_rules.specs.Starting.{blank, opened, started, first_note}
 use Rattle.node_rules.specs.Lives.{Input, Delivers, Ticks, call_of, after_calls}
 use Rattle.node_rules.specs.OnRings.{Succeeds}
 use Rattle.node_rules.specs.OneExchange.{Life, node_after, IsCorrect, IsWithinRanges, IsOfBytes}
 use Rattle.node_rules.specs.Addressing.{AddressesOthers, HasPort}
+use Rattle.node_rules.proofs.Called.{delivered_until, ticked_until}
 use Rattle.node_rules.proofs.Small.{state_of-lives, state-takes, node-sends}
 use Rattle.node_rules.proofs.Accusations.{found, found-number, lively, watches, listed-viewed}
 use Rattle.node_rules.proofs.RingLemmas.{ring-lowest, neighbours-are, accused-addressed}

@@ -31,12 +31,13 @@ use Rattle.node_rules.specs.Nodes.{Setting, Node, Holding, state_of, event_of, w
 use Rattle.node_rules.specs.Pages.{page, partner, page_number, lacking, fitting}
 use Rattle.node_rules.specs.Refusals.{refusal}
 use Rattle.node_rules.specs.Calls.{Call, begun, tells, lives, takes, spends, signs, signs_and_sends, wants, stops, sends, sends_to_all, is_used_up, own_record}
-use Rattle.node_rules.specs.Deliveries.{answer_to, answers, judged, handles, handles_all, is_other, gives, replies, exchanges, pinged, ponged_by, hears, delivered, delivered_until}
-use Rattle.node_rules.specs.Ticking.{accusation_on, ring_for, has_accused, wants_accusation, accuses, accuses_all, is_due, silent_in, pings_in, pings_all, summary_to, round_of, passed, probed_at, due_tick, ticked, ticked_until}
+use Rattle.node_rules.specs.Deliveries.{answer_to, answers, judged, handles, handles_all, is_other, gives, replies, exchanges, pinged, ponged_by, hears, delivered}
+use Rattle.node_rules.specs.Ticking.{accusation_on, ring_for, has_accused, wants_accusation, accuses, accuses_all, is_due, silent_in, pings_in, pings_all, summary_to, round_of, passed, probed_at, due_tick, ticked}
 use Rattle.node_rules.specs.Starting.{blank, opened, started, first_note}
 use Rattle.node_rules.specs.Lives.{Input, Delivers, Ticks, call_of, after_calls}
 use Rattle.node_rules.specs.Verdicts.{records_in, when_handled}
 use Rattle.node_rules.specs.Known.{made_by, signed_in, accepted_of, accepted_in, gathered, records_of, IsOfKnown, SendsKnown}
+use Rattle.node_rules.proofs.Called.{delivered_until, ticked_until}
 use Rattle.node_rules.proofs.Accusations.{In-from_filter_map}
 use Rattle.node_rules.proofs.Handling.{node-handles}
 

@@ -26,11 +26,12 @@ use Rattle.node_rules.specs.Nodes.{Setting, Node, state_of, event_of, neighbours
 use Rattle.node_rules.specs.Pages.{page, lacking}
 use Rattle.node_rules.specs.Refusals.{refusal}
 use Rattle.node_rules.specs.Calls.{Call, begun, tells, lives, takes, spends, signs, signs_and_sends, wants, sends, sends_to_all, stops, is_used_up, own_record, told_of}
-use Rattle.node_rules.specs.Deliveries.{answer_to, answers, judged, handles, handles_all, is_other, gives, replies, hears, delivered, delivered_until}
+use Rattle.node_rules.specs.Deliveries.{answer_to, answers, judged, handles, handles_all, is_other, gives, replies, hears, delivered}
 use Rattle.node_rules.specs.Lives.{is_of_life}
 use Rattle.node_rules.specs.Stopping.{StopsBehind, WantsAnswer}
 use Rattle.node_rules.specs.Verdicts.{all_at, told_that, is_apart, is_took, records_in, when_handled, when_all_handled, verdict_on, verdicts, is_bad_form, bad_forms, OnlyTells}
 use Rattle.node_rules.specs.Answering.{is_of_signing, accusation_to_answer, asked_by, answered_with, answers_told, records_told, to_each, answer_sent, answers_sent}
+use Rattle.node_rules.proofs.Called.{delivered_until}
 use Rattle.node_rules.proofs.Small.{node-sends_to_all, state-takes, state-signs, stored-takes}
 
 pub nil-right : {A : Type 0} (xs : List A) → xs ++ [] ≡ xs
@@ -572,7 +573,7 @@ records-delivered s n bytes from records h = rw h (records-handled s n records)
 
 -- ---- a delivery in which the disk fails
 
-node-all : (s : Setting) (records : List Record) (c : Call) → (handles_all s records c).node ≡ when_all_handled s c.node records
+pub node-all : (s : Setting) (records : List Record) (c : Call) → (handles_all s records c).node ≡ when_all_handled s c.node records
 node-all s [] c = refl
 node-all s (r ∷ records) c = node-all s records (handles true s c r) ∙ ap (λ n. when_all_handled s n records) (node-handles true s c r)
 

@@ -14,10 +14,11 @@ use Rattle.journal.specs.declared.event.What.TheVariants as told
 use Rattle.node_rules.specs.Nodes.{Setting, Node}
 use Rattle.node_rules.specs.Refusals.{refusal}
 use Rattle.node_rules.specs.Calls.{Call, begun, tells, lives, takes, signs, wants, stops, sends, sends_to_all, is_used_up}
-use Rattle.node_rules.specs.Deliveries.{answer_to, handles, handles_all, delivered, delivered_until}
-use Rattle.node_rules.specs.Ticking.{accuses, accuses_all, probed_at, ticked, ticked_until}
+use Rattle.node_rules.specs.Deliveries.{answer_to, handles, handles_all, delivered}
+use Rattle.node_rules.specs.Ticking.{accuses, accuses_all, probed_at, ticked}
 use Rattle.node_rules.specs.Lives.{is_of_life, Input, call_of}
 use Rattle.node_rules.specs.Verdicts.{is_apart}
+use Rattle.node_rules.proofs.Called.{delivered_until, ticked_until}
 use Rattle.node_rules.proofs.Carrying.{Carries, beside-apart, carries-sends_to_all, carries-wants, carries-handles, carries-handles_all, carries-delivered, carries-delivered_until, carries-accuses, carries-accuses_all, carries-probed_at, carries-ticked, carries-ticked_until, carries-call}
 
 -- Each step of a call keeps it.

@@ -14,6 +14,8 @@ pub mod Sendings
 pub mod Gains
 pub mod RingLemmas
 pub mod GoingOn
+pub mod Called
+pub mod Stopping
 mod Growth
 mod Upholding
 mod Correctness

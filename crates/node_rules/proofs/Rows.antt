@@ -24,7 +24,8 @@ use Rattle.node_rules.specs.Nodes.{Setting, state_of, certificate_of, neighbours
 use Rattle.rebuttal.specs.Rebuttals.{answering_mask}
 use Rattle.node_rules.specs.Refusals.{refusal}
 use Rattle.node_rules.specs.Calls.{Call, lives, sends, takes, signs, signs_and_sends, wants}
-use Rattle.node_rules.specs.Deliveries.{handles, delivered, delivered_until}
+use Rattle.node_rules.specs.Deliveries.{handles, delivered}
+use Rattle.node_rules.specs.OnDisks.{Delivers, called, delivered_on, handles_on}
 use Rattle.node_rules.specs.Starting.{started}
 use Rattle.node_rules.specs.Answering.{records_told, answers_sent}
 use Rattle.node_rules.specs.Gaining.{gained}
@@ -136,9 +137,9 @@ unfolding all_numbers started signs signs_and_sends wants takes lives state_of d
 disabled = refl
 
 -- The disk fails in the answer: the life is over.
-stopped : let c = delivered_until (setting 1) noted.node [] (record { body = acc 2 1 1 0; signature = 5 ∷ [] }) in
+stopped : let c = called (setting 1) noted.node (Delivers (given (acc 2 1 1 0))) (Some 0) in
     (c.told ≡ at0 (told.Took (acc 2 1 1 0) None) ∷ at0 told.Stopped ∷ []) × (c.sent ≡ []) × (c.ended ≡ true)
-unfolding all_numbers started signs signs_and_sends wants takes lives state_of delivered delivered_until handles refusal sends certificate_of neighbours answering_mask bits_where read_of whole_of datagram_at head_at items_at content_at records_at counted_at record_at body_at certificate_at note_at accusation_at key_at signature_at head_bytes records_bytes note_bytes accusation_bytes
+unfolding all_numbers started signs signs_and_sends wants takes lives state_of delivered called delivered_on handles_on handles refusal sends certificate_of neighbours answering_mask bits_where read_of whole_of datagram_at head_at items_at content_at records_at counted_at record_at body_at certificate_at note_at accusation_at key_at signature_at head_bytes records_bytes note_bytes accusation_bytes
 stopped = (refl, refl, refl)
 
 -- The key is used up: no answer is signed, and the life goes on.

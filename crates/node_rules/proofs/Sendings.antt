@@ -19,11 +19,11 @@ use Rattle.journal.specs.declared.event.What.TheVariants as told
 use Rattle.node_rules.specs.Nodes.{Setting, Node, state_of, event_of}
 use Rattle.node_rules.specs.Pages.{page, lacking}
 use Rattle.node_rules.specs.Calls.{Call, begun, tells, lives, takes, spends, signs, sends, own_record}
-use Rattle.node_rules.specs.Deliveries.{answer_to, is_other, gives, replies, delivered, delivered_until}
-use Rattle.node_rules.specs.Ticking.{ticked_until}
+use Rattle.node_rules.specs.Deliveries.{answer_to, is_other, gives, replies, delivered}
 use Rattle.node_rules.specs.Lives.{is_of_life, Input, call_of}
 use Rattle.node_rules.specs.Verdicts.{all_at, told_that, is_apart}
-use Rattle.node_rules.specs.Sending.{is_sent, sendings, TellsSendings, Brings, given, reply}
+use Rattle.node_rules.specs.Sending.{is_sent, sendings, TellsSendings, SentIsTold, Brings, given, reply}
+use Rattle.node_rules.proofs.Called.{delivered_until, holds-called, ticked_until}
 use Rattle.node_rules.proofs.Small.{node-sends}
 use Rattle.node_rules.proofs.Handling.{nil-right, that-tells, unlived, map-append, apart-over, that-sends}
 use Rattle.node_rules.proofs.Carrying.{Carries, beside-apart, carries-call, carries-delivered_until, carries-ticked_until}
@@ -102,6 +102,9 @@ delivered_until-sendings s n records r = carries-delivered_until s TellsSendings
 
 pub ticked_until-sendings : (s : Setting) (n : Node) (silent : List ℕ) (m : ℕ) → TellsSendings (ticked_until s n silent m)
 ticked_until-sendings s n silent m = carries-ticked_until s TellsSendings (sending s) n silent m refl
+
+pub called-sendings : SentIsTold
+called-sendings s n = holds-called s n (λ i call. TellsSendings call) (call-sendings s n) (λ bytes. delivered_until-sendings s n) (ticked_until-sendings s n)
 
 -- ---- pings, pongs and summaries
 

@@ -11,14 +11,13 @@ use Rattle.records.specs.declared.Record.{Record}
 use Rattle.records.specs.declared.Body.TheVariants.{Accusation}
 use Rattle.datagram.specs.declared.Datagram.{Datagram}
 use Rattle.datagram.specs.Spelling.{datagram_bytes}
-use Rattle.node_rules.specs.Deliveries.{delivered_until}
-use Rattle.node_rules.specs.Ticking.{ticked_until}
 use Rattle.journal.specs.declared.event.Event as journal
 use Rattle.journal.specs.declared.event.What as whats
 use Rattle.journal.specs.declared.event.What.TheVariants as told
 use Rattle.node_rules.specs.Nodes.{Setting, Node, state_of, event_of}
 use Rattle.node_rules.specs.Calls.{Call, begun, tells, lives, takes, signs, sends, told_of}
-use Rattle.node_rules.specs.Lives.{is_of_life, told_by, TellsItsLife, Input, call_of}
+use Rattle.node_rules.specs.Lives.{is_of_life, told_by, TellsItsLife, EachCallTellsItsLife, Input, call_of}
+use Rattle.node_rules.proofs.Called.{delivered_until, holds-called, ticked_until}
 use Rattle.node_rules.proofs.Keeping.{Keeps, keeps-call, keeps-delivered_until, keeps-ticked_until}
 
 abbrev of_life : List journal.Event → List journal.Event
@@ -135,3 +134,6 @@ delivered_until-tells s n records r = keeps-delivered_until s (TellsItsLife s n)
 
 pub ticked_until-tells : (s : Setting) (n : Node) (silent : List ℕ) (m : ℕ) → TellsItsLife s n (ticked_until s n silent m)
 ticked_until-tells s n silent m = keeps-ticked_until s (TellsItsLife s n) (telling s n) n silent m (begins s n)
+
+pub called-tells : EachCallTellsItsLife
+called-tells s n = holds-called s n (λ i call. TellsItsLife s n call) (call-tells s n) (λ bytes. delivered_until-tells s n) (ticked_until-tells s n)

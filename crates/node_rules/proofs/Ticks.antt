@@ -28,7 +28,7 @@ use Rattle.journal.specs.declared.event.What.TheVariants as told
 use Rattle.node_rules.specs.Nodes.{Setting, Node, state_of, neighbours_and}
 use Rattle.node_rules.specs.Pages.{page, partner, page_number}
 use Rattle.node_rules.specs.Calls.{Call, begun, tells, lives, signs, wants, stops, sends, is_used_up}
-use Rattle.node_rules.specs.Ticking.{ring_for, accusation_on, is_by, has_accused, accuses, accuses_all, is_due, silent_in, pings_in, round_of, pings_all, summary_to, passed, probed_at, due_tick, ticked, ticked_until, silent_at}
+use Rattle.node_rules.specs.Ticking.{ring_for, accusation_on, is_by, has_accused, accuses, accuses_all, is_due, silent_in, pings_in, round_of, pings_all, summary_to, passed, probed_at, due_tick, ticked, silent_at}
 use Rattle.node_rules.specs.Lives.{Input, Delivers, Ticks as Tick, call_of}
 use Rattle.node_rules.specs.Verdicts.{all_at, told_that, is_apart}
 use Rattle.node_rules.specs.Answering.{to_each}
@@ -36,6 +36,7 @@ use Rattle.node_rules.specs.Accusing.{MayAccuse, AccusesTheSilent, TellsAccusati
 use Rattle.node_rules.specs.Stopping.{StopsBehind}
 use Rattle.node_rules.specs.OnRings.{Rises}
 use Rattle.node_rules.specs.Outgoing.{at_tick, to_accuse, accusation_of, accusation_by, accusations_out, pings_out, summary_out, goes_out, unaccused, accusing_told}
+use Rattle.node_rules.proofs.Called.{ticked_until}
 use Rattle.node_rules.proofs.Small.{node-sends, state-signs, stored-signs}
 use Rattle.node_rules.proofs.Accusations.{is_at, OnlyKept, own_accusation, may_accuse, lively, accuses-is, is-monitor, step-accused, only_kept-accuses, only_kept-more, state-probed, silent-watched}
 use Rattle.node_rules.proofs.RingLemmas.{rises-lower}
@@ -420,7 +421,7 @@ stands-front s st c low front rest h =
     }
 
 -- when those in front have been accused
-stands-behind : (s : Setting) (st : State) (c : Call) (low : ℕ) (front rest : List ℕ) → Stands s st c low (front ++ rest) → (l : ℕ) × Stands s st (accuses_all s front c) l rest
+pub stands-behind : (s : Setting) (st : State) (c : Call) (low : ℕ) (front rest : List ℕ) → Stands s st c low (front ++ rest) → (l : ℕ) × Stands s st (accuses_all s front c) l rest
 stands-behind s st c low [] rest h = (low, h)
 stands-behind s st c low (m ∷ front) rest h =
     elim (cases_Bool (has_accused s st m)) [

@@ -1,13 +1,13 @@
 -- To whom a node's datagrams go.
-use Rattle.std.specs.Prelude.{◌≡◌, ℕ, ◌<◌, true, List, Some}
+use Rattle.std.specs.Prelude.{◌≡◌, ℕ, ◌<◌, true, List, Option, Some}
 use Rattle.std.specs.List.{AllByRecursion}
 use Rattle.records.specs.declared.CertBody.{CertBody}
 use Rattle.records.specs.declared.Record.{Record}
 use Rattle.epoch_store.specs.declared.Stored.{Stored}
 use Rattle.node_rules.specs.Nodes.{Setting, Node, certificate_of}
 use Rattle.node_rules.specs.Calls.{Call}
-use Rattle.node_rules.specs.Deliveries.{is_other, delivered_until}
-use Rattle.node_rules.specs.Ticking.{ticked_until}
+use Rattle.node_rules.specs.Deliveries.{is_other}
+use Rattle.node_rules.specs.OnDisks.{called}
 use Rattle.node_rules.specs.Lives.{Input, call_of, life_of}
 use Rattle.node_rules.specs.OneExchange.{Life, node_after, IsCorrect, IsWithinRanges, IsOfBytes}
 
@@ -15,16 +15,10 @@ use Rattle.node_rules.specs.OneExchange.{Life, node_after, IsCorrect, IsWithinRa
 abbrev pub AddressesOthers : Setting → Call → Type 0
 AddressesOthers s c = AllByRecursion (λ d. is_other s c.node d.0 ≡ true) c.sent
 
--- In every life each datagram goes to another member, whose certificate the node holds.
+-- In every life each datagram goes to another member, whose certificate the node holds, whichever put fails.
 abbrev pub OnlyCertifiedAreAddressed : Type 0
-OnlyCertifiedAreAddressed = (s : Setting) (seed : List ℕ) (certificates : List Record) (stored : Stored) (inputs : List Input) (i : Input)
-    → AddressesOthers s (call_of s (life_of s seed certificates stored inputs) i)
-
--- Also in a call in which the disk fails.
-abbrev pub OnlyCertifiedAreAddressedUntil : Type 0
-OnlyCertifiedAreAddressedUntil = (s : Setting) (seed : List ℕ) (certificates : List Record) (stored : Stored) (inputs : List Input)
-    → ((records : List Record) (r : Record) → AddressesOthers s (delivered_until s (life_of s seed certificates stored inputs) records r))
-    × ((silent : List ℕ) (m : ℕ) → AddressesOthers s (ticked_until s (life_of s seed certificates stored inputs) silent m))
+OnlyCertifiedAreAddressed = (s : Setting) (seed : List ℕ) (certificates : List Record) (stored : Stored) (inputs : List Input) (i : Input) (fails_at : Option ℕ)
+    → AddressesOthers s (called s (life_of s seed certificates stored inputs) i fails_at)
 
 -- The node holds a certificate of the member, with a port.
 pub record HasPort (n : Node) (m : ℕ) : Type 0 where

@@ -95,7 +95,3 @@ hears s (Ok (kinds.Records from records)) c = handles_all s records c
 -- These bytes are delivered, and the disk works.
 unfoldable pub delivered : Setting → Node → List ℕ → Call
 delivered s n bytes = hears s (read_of bytes) (begun n)
-
--- The disk fails in the answer to the record behind these.
-unfoldable pub delivered_until : Setting → Node → List Record → Record → Call
-delivered_until s n records r = handles false s (handles_all s records (begun n)) r

@@ -12,8 +12,7 @@ use Rattle.journal.specs.declared.event.What.TheVariants as told
 use Rattle.node_rules.specs.Nodes.{Setting, Node}
 use Rattle.node_rules.specs.Refusals.{refusal}
 use Rattle.node_rules.specs.Calls.{Call}
-use Rattle.node_rules.specs.Deliveries.{delivered_until}
-use Rattle.node_rules.specs.Ticking.{ticked_until}
+use Rattle.node_rules.specs.OnDisks.{called}
 use Rattle.node_rules.specs.Starting.{started}
 use Rattle.node_rules.specs.Lives.{Input, Delivers, Ticks, call_of, life_of}
 use Rattle.node_rules.specs.Verdicts.{records_in, when_handled}
@@ -64,13 +63,7 @@ pub record IsOfKnown (known : List Record) (bytes : List ℕ) : Type 0 where
 abbrev pub SendsKnown : Setting → List Record → Call → Type 0
 SendsKnown s known c = AllByRecursion (λ d. IsOfKnown (known ++ signed_in s c) d.1) c.sent
 
--- In every life each record that a call sends stands in the kit, or was accepted or signed before.
+-- In every life each record that a call sends stands in the kit, or was accepted or signed before, whichever put fails.
 abbrev pub OnlyKnownIsSent : Type 0
-OnlyKnownIsSent = (s : Setting) (seed : List ℕ) (certificates : List Record) (stored : Stored) (inputs : List Input) (i : Input)
-    → SendsKnown s (known_in s seed certificates stored inputs) (call_of s (life_of s seed certificates stored inputs) i)
-
--- Also in a call in which the disk fails.
-abbrev pub OnlyKnownIsSentUntil : Type 0
-OnlyKnownIsSentUntil = (s : Setting) (seed : List ℕ) (certificates : List Record) (stored : Stored) (inputs : List Input)
-    → ((records : List Record) (r : Record) → SendsKnown s (known_in s seed certificates stored inputs) (delivered_until s (life_of s seed certificates stored inputs) records r))
-    × ((silent : List ℕ) (m : ℕ) → SendsKnown s (known_in s seed certificates stored inputs) (ticked_until s (life_of s seed certificates stored inputs) silent m))
+OnlyKnownIsSent = (s : Setting) (seed : List ℕ) (certificates : List Record) (stored : Stored) (inputs : List Input) (i : Input) (fails_at : Option ℕ)
+    → SendsKnown s (known_in s seed certificates stored inputs) (called s (life_of s seed certificates stored inputs) i fails_at)

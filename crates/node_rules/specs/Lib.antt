@@ -5,6 +5,7 @@ pub mod Refusals
 pub mod Calls
 pub mod Deliveries
 pub mod Ticking
+pub mod OnDisks
 pub mod Starting
 pub mod Lives
 pub mod Vouching
@@ -19,4 +20,3 @@ pub mod Gaining
 pub mod OnRings
 pub mod OneExchange
 pub mod Addressing
-pub mod OnDisks

@@ -1,5 +1,5 @@
 -- A node's life: how it began, and the calls that it has answered since.
-use Rattle.std.specs.Prelude.{◌≡◌, ℕ, Bool, true, false, ◌==◌, List, [], ◌∷◌, ◌++◌, ◌≤◌, Some, None, fold, filter}
+use Rattle.std.specs.Prelude.{◌≡◌, ℕ, Bool, true, false, ◌==◌, List, [], ◌∷◌, ◌++◌, ◌≤◌, Option, Some, None, fold, filter}
 use Rattle.std.specs.List.{list_any, AllByRecursion}
 use Rattle.ff_ids.specs.declared.Group.{Group}
 use Rattle.ff_ids.specs.declared.NoteBody.{NoteBody}
@@ -22,16 +22,15 @@ use Rattle.journal.specs.declared.event.What.TheVariants as told
 use Rattle.node_rules.specs.Nodes.{Setting, Node, state_of}
 use Rattle.node_rules.specs.Calls.{Call, takes, told_of}
 use Rattle.node_rules.specs.Refusals.{refusal}
-use Rattle.node_rules.specs.Deliveries.{answering_note, delivered, delivered_until}
-use Rattle.node_rules.specs.Ticking.{ticked, ticked_until}
+use Rattle.node_rules.specs.Deliveries.{answering_note, delivered}
+use Rattle.node_rules.specs.Ticking.{ticked}
+use Rattle.node_rules.specs.OnDisks.{called}
+pub use Rattle.node_rules.specs.OnDisks.{Input, Delivers, Ticks}
 use Rattle.node_rules.specs.Starting.{started}
 
 -- ---- calls
 
-pub data Input : Type 0 where
-  Delivers : (bytes : List ℕ) → Input
-  Ticks : Input
-
+-- The whole call.
 abbrev pub call_of : Setting → Node → Input → Call
 call_of s n (Delivers bytes) = delivered s n bytes
 call_of s n Ticks = ticked s n
@@ -104,13 +103,9 @@ EachLifeIsJustified = (s : Setting) (n : Node) → IsJustified s.group (opening 
 abbrev pub AnswersHoldInLives : Type 0
 AnswersHoldInLives = (s : Setting) (n : Node) → RulesOut s.group (opening []) n.lived
 
--- Each call tells its life, also one in which the disk fails.
+-- Each call tells its life, whichever put fails in it.
 abbrev pub EachCallTellsItsLife : Type 0
-EachCallTellsItsLife = (s : Setting) (n : Node) (i : Input) → TellsItsLife s n (call_of s n i)
-
-abbrev pub StoppedCallsTellTheirLife : Type 0
-StoppedCallsTellTheirLife = (s : Setting) (n : Node) → ((records : List Record) (r : Record) → TellsItsLife s n (delivered_until s n records r))
-    × ((silent : List ℕ) (m : ℕ) → TellsItsLife s n (ticked_until s n silent m))
+EachCallTellsItsLife = (s : Setting) (n : Node) (i : Input) (fails_at : Option ℕ) → TellsItsLife s n (called s n i fails_at)
 
 abbrev pub OwnNoteIsKept : Type 0
 OwnNoteIsKept = (s : Setting) (seed : List ℕ) (certificates : List Record) (stored : Stored) (inputs : List Input) → HasRings s → IsKit s certificates → KeepsOwnNote s (life_of s seed certificates stored inputs)

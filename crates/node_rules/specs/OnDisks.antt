@@ -1,6 +1,6 @@
 -- The calls of a node over its disk, whatever that is: how far each comes, where it follows from the disk which puts of
--- the store succeed.
-use Rattle.std.specs.Prelude.{ℕ, Bool, true, ◌==◌, if◌then◌else◌, List, Result, Ok, fold}
+-- the store succeed. A disk of which no more is known than which put fails gives the one definition of a call.
+use Rattle.std.specs.Prelude.{◌≡◌, ℕ, zero, suc, Bool, true, false, not, ◌==◌, if◌then◌else◌, List, Option, Some, None, Result, Ok, fold}
 use Rattle.records.specs.declared.Record.{Record}
 use Rattle.epoch_store.specs.declared.Stored.{Stored}
 use Rattle.datagram.specs.declared.Datagram.{Datagram}
@@ -10,7 +10,11 @@ use Rattle.node_rules.specs.Nodes.{Setting, Node, state_of}
 use Rattle.node_rules.specs.Calls.{Call, begun}
 use Rattle.node_rules.specs.Deliveries.{handles, hears}
 use Rattle.node_rules.specs.Ticking.{accuses, gossips, is_due, passed, pings_all, pings_in, probed_at, round_of, silent_in}
-use Rattle.node_rules.specs.Lives.{Input, Delivers, Ticks}
+
+-- What a node is called with.
+pub data Input : Type 0 where
+  Delivers : (bytes : List ℕ) → Input
+  Ticks : Input
 
 -- How a disk takes what the store is to keep: whether the put succeeds, and the disk behind it, whether it does or not.
 pub record Storage (D : Type 0) : Type 0 where
@@ -73,3 +77,27 @@ ticked_on storage s n disk =
 abbrev pub called_on : {D : Type 0} → Storage D → Setting → Node → Input → D → OnDisk D
 called_on storage s n (Delivers bytes) disk = delivered_on storage s n bytes disk
 called_on storage s n Ticks disk = ticked_on storage s n disk
+
+-- ---- one put that fails, or none
+
+-- The number of the put that fails, counted from 0, if any does.
+abbrev pub fails_now : Option ℕ → Bool
+fails_now (Some zero) = true
+fails_now other = false
+
+abbrev pub behind_put : Option ℕ → Option ℕ
+behind_put (Some (suc puts)) = Some puts
+behind_put other = other
+
+abbrev pub counting : Storage (Option ℕ)
+counting = record { takes = λ kept fails_at. not (fails_now fails_at); behind = λ kept fails_at. behind_put fails_at }
+
+-- The call of a node in which this put fails, if any does. Where none does, the call is whole.
+unfoldable pub called : Setting → Node → Input → Option ℕ → Call
+called s n i fails_at = (called_on counting s n i fails_at).call
+
+-- The call ended in a put that failed.
+pub record IsCut (s : Setting) (n : Node) (i : Input) (c : Call) : Type 0 where
+  pub put : ℕ
+  pub is : c ≡ called s n i (Some put)
+  pub ended : c.ended ≡ true

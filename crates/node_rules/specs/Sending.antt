@@ -1,5 +1,5 @@
 -- That what is told as sent is what is sent, and what goes out where no records are delivered.
-use Rattle.std.specs.Prelude.{◌≡◌, ℕ, ◌+◌, Bool, true, false, if◌then◌else◌, List, [], ◌∷◌, ◌++◌, Ok, map}
+use Rattle.std.specs.Prelude.{◌≡◌, ℕ, ◌+◌, Bool, true, false, if◌then◌else◌, List, [], ◌∷◌, ◌++◌, Option, Ok, map}
 use Rattle.ff_ids.specs.declared.summary.Summary.{Summary}
 use Rattle.records.specs.declared.Record.{Record}
 use Rattle.datagram.specs.declared.Datagram.TheVariants as kinds
@@ -11,9 +11,8 @@ use Rattle.journal.specs.declared.event.What.TheVariants as told
 use Rattle.node_rules.specs.Nodes.{Setting, Node, state_of}
 use Rattle.node_rules.specs.Pages.{page, lacking}
 use Rattle.node_rules.specs.Calls.{Call}
-use Rattle.node_rules.specs.Deliveries.{is_other, delivered, delivered_until}
-use Rattle.node_rules.specs.Ticking.{ticked_until}
-use Rattle.node_rules.specs.Lives.{Input, call_of}
+use Rattle.node_rules.specs.Deliveries.{is_other, delivered}
+use Rattle.node_rules.specs.OnDisks.{Input, called}
 use Rattle.node_rules.specs.Verdicts.{all_at, told_that, is_apart}
 
 -- ---- what is told of it
@@ -32,10 +31,7 @@ abbrev pub TellsSendings : Call → Type 0
 TellsSendings c = map (λ e. e.what) (told_that is_sent c) ≡ sendings 0 c.sent
 
 abbrev pub SentIsTold : Type 0
-SentIsTold = (s : Setting) (n : Node) (i : Input) → TellsSendings (call_of s n i)
-
-abbrev pub SentIsToldUntil : Type 0
-SentIsToldUntil = (s : Setting) (n : Node) → ((records : List Record) (r : Record) → TellsSendings (delivered_until s n records r)) × ((silent : List ℕ) (m : ℕ) → TellsSendings (ticked_until s n silent m))
+SentIsTold = (s : Setting) (n : Node) (i : Input) (fails_at : Option ℕ) → TellsSendings (called s n i fails_at)
 
 -- ---- pings, pongs and summaries
 

@@ -1,15 +1,17 @@
 -- What a call tells and sends in which the disk fails.
-use Rattle.std.specs.Prelude.{◌≡◌, ℕ, true, false, List, [], ◌∷◌, ◌++◌, Some}
+use Rattle.std.specs.Prelude.{◌≡◌, ℕ, ◌-◌, true, false, List, [], ◌∷◌, ◌++◌, Option, Some, None, Ok}
 use Rattle.ff_ids.specs.declared.AccBody.{AccBody}
 use Rattle.records.specs.declared.Record.{Record}
+use Rattle.datagram.specs.declared.Datagram.TheVariants as kinds
+use Rattle.datagram.specs.Grammar.{read_of}
 use Rattle.journal.specs.declared.event.What as whats
 use Rattle.journal.specs.declared.event.What.TheVariants as told
 use Rattle.node_rules.specs.Nodes.{Setting, Node, state_of}
 use Rattle.node_rules.specs.Calls.{Call, is_used_up}
-use Rattle.node_rules.specs.Deliveries.{delivered_until}
-use Rattle.node_rules.specs.Ticking.{has_accused, accuses_all, probed_at, silent_at, ticked_until}
-use Rattle.node_rules.specs.Lives.{Input, call_of}
-use Rattle.node_rules.specs.Verdicts.{all_at, told_that, is_apart, when_all_handled, verdict_on}
+use Rattle.node_rules.specs.Ticking.{has_accused, accuses_all, probed_at, silent_at}
+use Rattle.node_rules.specs.OnDisks.{Input, Delivers, Ticks, called}
+use Rattle.node_rules.specs.Lives.{call_of}
+use Rattle.node_rules.specs.Verdicts.{all_at, told_that, is_apart, is_took, when_all_handled, verdict_on, verdicts}
 use Rattle.node_rules.specs.Answering.{asked_by, records_told, answers_sent}
 use Rattle.node_rules.specs.Outgoing.{at_tick, unaccused, accusations_out, accusing_told}
 
@@ -26,20 +28,64 @@ pub record WantsAnswer (s : Setting) (n : Node) (r : Record) : Type 0 where
   pub asked : asked_by s n r ≡ Some accusation
   pub left : is_used_up s n ≡ false
 
--- Where the disk fails in the answer to a record, the records before it are told and answered as ever, the verdict on
--- it is told, and nothing behind it.
+-- The puts for the answers to these records.
+abbrev pub puts_for : Setting → Node → List Record → ℕ
+puts_for s n records = (when_all_handled s n records).stored.next - n.stored.next
+
+-- The put for the answer to a record of the datagram, behind those for the records before it.
+pub record StopsAnswering (s : Setting) (n : Node) (bytes : List ℕ) (put : ℕ) : Type 0 where
+  pub from : ℕ
+  pub before : List Record
+  pub at : Record
+  pub behind : List Record
+  pub read : read_of bytes ≡ Ok (kinds.Records from (before ++ at ∷ behind))
+  pub wants : WantsAnswer s (when_all_handled s n before) at
+  pub puts : put ≡ puts_for s n before
+
+-- Where it fails, the records before it are told and answered as ever, the verdict on it is told, and nothing behind it.
 abbrev pub StoppedDeliveryEnds : Type 0
-StoppedDeliveryEnds = (s : Setting) (n : Node) (records : List Record) (r : Record) → WantsAnswer s (when_all_handled s n records) r
-    → StopsBehind (state_of s n).moment (records_told s n records ++ verdict_on s (when_all_handled s n records) r ∷ []) (answers_sent s n records) (delivered_until s n records r)
+StoppedDeliveryEnds = (s : Setting) (n : Node) (bytes : List ℕ) (put : ℕ) (stop : StopsAnswering s n bytes put)
+    → StopsBehind (state_of s n).moment (records_told s n stop.before ++ verdict_on s (when_all_handled s n stop.before) stop.at ∷ [])
+        (answers_sent s n stop.before) (called s n (Delivers bytes) (Some put))
 
--- Where the disk fails in the accusation of a silent member, the accusations of those before it are told and sent as
--- ever, and no ping and no summary goes out.
+-- Its verdict is the last.
+abbrev pub StoppedVerdictsAreTold : Type 0
+StoppedVerdictsAreTold = (s : Setting) (n : Node) (bytes : List ℕ) (put : ℕ) (stop : StopsAnswering s n bytes put)
+    → told_that is_took (called s n (Delivers bytes) (Some put)) ≡ all_at (state_of s n).moment (verdicts s n (stop.before ++ stop.at ∷ []))
+
+-- The puts for the accusations of these at a tick.
+abbrev pub puts_against : Setting → Node → List ℕ → ℕ
+puts_against s n silent = (accuses_all s silent (probed_at s n)).node.stored.next - n.stored.next
+
+-- The put for the accusation of a member that is silent at the tick, behind those for the members before it.
+pub record StopsAccusing (s : Setting) (n : Node) (put : ℕ) : Type 0 where
+  pub before : List ℕ
+  pub at : ℕ
+  pub behind : List ℕ
+  pub silent : silent_at s n ≡ before ++ at ∷ behind
+  pub unaccused : has_accused s (state_of s (at_tick s n)) at ≡ false
+  pub left : is_used_up s (accuses_all s before (probed_at s n)).node ≡ false
+  pub puts : put ≡ puts_against s n before
+
+-- Where it fails, the accusations of those before it are told and sent as ever, and no ping and no summary goes out.
 abbrev pub StoppedTickEnds : Type 0
-StoppedTickEnds = (s : Setting) (n : Node) (before : List ℕ) (m : ℕ) (behind : List ℕ) → silent_at s n ≡ before ++ m ∷ behind
-    → let p = at_tick s n in let st = state_of s p in
-    has_accused s st m ≡ false → is_used_up s (accuses_all s before (probed_at s n)).node ≡ false
-    → StopsBehind st.moment (accusing_told s st p.stored.next (unaccused s st before) ++ told.Silent m ∷ []) (accusations_out s st p.stored.next (unaccused s st before)) (ticked_until s n before m)
+StoppedTickEnds = (s : Setting) (n : Node) (put : ℕ) (stop : StopsAccusing s n put) → let p = at_tick s n in let st = state_of s p in
+    StopsBehind st.moment (accusing_told s st p.stored.next (unaccused s st stop.before) ++ told.Silent stop.at ∷ [])
+        (accusations_out s st p.stored.next (unaccused s st stop.before)) (called s n Ticks (Some put))
 
--- A call in which the disk works doesn't end the life.
+-- A call that a failing put ends, ends so.
+abbrev pub StopsIn : Setting → Node → Input → ℕ → Type 0
+StopsIn s n (Delivers bytes) put = StopsAnswering s n bytes put
+StopsIn s n Ticks put = StopsAccusing s n put
+
+abbrev pub OnlySignaturesStop : Type 0
+OnlySignaturesStop = (s : Setting) (n : Node) (i : Input) (put : ℕ) → (called s n i (Some put)).ended ≡ true → StopsIn s n i put
+
+-- A call in which no put fails is whole, and so is one that no failing put ends. It doesn't end the life.
+pub record GoesOnWhole (s : Setting) (n : Node) (i : Input) : Type 0 where
+  pub whole : called s n i None ≡ call_of s n i
+  pub others : (fails_at : Option ℕ) → (called s n i fails_at).ended ≡ false → called s n i fails_at ≡ call_of s n i
+  pub goes_on : (call_of s n i).ended ≡ false
+
 abbrev pub WholeCallsGoOn : Type 0
-WholeCallsGoOn = (s : Setting) (n : Node) (i : Input) → (call_of s n i).ended ≡ false
+WholeCallsGoOn = (s : Setting) (n : Node) (i : Input) → GoesOnWhole s n i

@@ -117,7 +117,3 @@ ticked s n =
 -- The members that are silent at the tick.
 unfoldable pub silent_at : Setting → Node → List ℕ
 silent_at s n = let p = (passed s n).node in silent_in s p (state_of s p)
-
--- The disk fails in the accusation of the member behind these.
-unfoldable pub ticked_until : Setting → Node → List ℕ → ℕ → Call
-ticked_until s n accused m = accuses false s (accuses_all s accused (probed_at s n)) m

@@ -10,7 +10,7 @@ use Rattle.journal.specs.declared.event.What.TheVariants as told
 use Rattle.node_rules.specs.Nodes.{Setting, Node, state_of}
 use Rattle.node_rules.specs.Refusals.{refusal}
 use Rattle.node_rules.specs.Calls.{Call, begun}
-use Rattle.node_rules.specs.Deliveries.{handles, delivered, delivered_until}
+use Rattle.node_rules.specs.Deliveries.{handles, delivered}
 
 -- These, at this moment.
 abbrev pub all_at : ℕ → List whats.What → List journal.Event
@@ -59,10 +59,6 @@ verdicts s n (r ∷ records) = verdict_on s n r ∷ verdicts s (when_handled s n
 -- A delivery tells the verdicts on the records that were read, in order, and no other.
 abbrev pub VerdictsAreTold : Type 0
 VerdictsAreTold = (s : Setting) (n : Node) (bytes : List ℕ) → told_that is_took (delivered s n bytes) ≡ all_at (state_of s n).moment (verdicts s n (records_in (read_of bytes)))
-
--- Where the disk fails in the answer to a record, its verdict is the last.
-abbrev pub StoppedVerdictsAreTold : Type 0
-StoppedVerdictsAreTold = (s : Setting) (n : Node) (records : List Record) (r : Record) → told_that is_took (delivered_until s n records r) ≡ all_at (state_of s n).moment (verdicts s n (records ++ r ∷ []))
 
 -- ---- bytes that are no datagram
 

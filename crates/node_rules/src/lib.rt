@@ -3,19 +3,19 @@
 //! nothing. The contracts of all nodes and worlds cite it.
 #![tactic(auto)]
 
-ghost use Rattle.node_rules.specs.Lives.{EachLifeIsJustified, AnswersHoldInLives, EachCallTellsItsLife, StoppedCallsTellTheirLife, OwnNoteIsKept, OwnAnswersAreAccepted};
+ghost use Rattle.node_rules.specs.Lives.{EachLifeIsJustified, AnswersHoldInLives, EachCallTellsItsLife, OwnNoteIsKept, OwnAnswersAreAccepted};
 ghost use Rattle.node_rules.specs.Vouching.{LivesAreVouchedFor, NoIndexBeyondTheKey};
 ghost use Rattle.node_rules.specs.Accusing.{HasAccusedIsKept, OwnAccusationsAreAccepted, OnlyTheSilentAreAccused};
-ghost use Rattle.node_rules.specs.Verdicts.{VerdictsAreTold, StoppedVerdictsAreTold, BadFormsAreTold};
+ghost use Rattle.node_rules.specs.Verdicts.{VerdictsAreTold, BadFormsAreTold};
 ghost use Rattle.node_rules.specs.Answering.{AnswersAreTold, RecordsAreTold, AnswersAreSent};
 ghost use Rattle.node_rules.specs.Outgoing.{TickSends, TickTells};
-ghost use Rattle.node_rules.specs.Stopping.{StoppedDeliveryEnds, StoppedTickEnds, WholeCallsGoOn};
-ghost use Rattle.node_rules.specs.Sending.{SentIsTold, SentIsToldUntil, PingsBring, PongsBring, SummariesBring};
+ghost use Rattle.node_rules.specs.Stopping.{StoppedDeliveryEnds, StoppedVerdictsAreTold, StoppedTickEnds, OnlySignaturesStop, WholeCallsGoOn};
+ghost use Rattle.node_rules.specs.Sending.{SentIsTold, PingsBring, PongsBring, SummariesBring};
 ghost use Rattle.node_rules.specs.Gaining.{RecordsAreLived, TicksAreLived};
 ghost use Rattle.node_rules.specs.OnRings.{RingForIsLowest, NeighboursAreSuccessors, AccusedAreAddressed};
 ghost use Rattle.node_rules.specs.OneExchange.{WhatIsHeldIsTheLife, WhatIsHeldCanBeSent, SummariesAreAnswered, OneExchangeIsEnough, NothingLackingIsEnough};
-ghost use Rattle.node_rules.specs.Known.{OnlyKnownIsSent, OnlyKnownIsSentUntil};
-ghost use Rattle.node_rules.specs.Addressing.{OnlyCertifiedAreAddressed, OnlyCertifiedAreAddressedUntil, AddresseesHavePorts};
+ghost use Rattle.node_rules.specs.Known.{OnlyKnownIsSent};
+ghost use Rattle.node_rules.specs.Addressing.{OnlyCertifiedAreAddressed, AddresseesHavePorts};
 
 /// In every life of a node each member that leaves the view does so at a tick, and an accusation accepted earlier
 /// against it stood in each state between, for the timeout at least.
@@ -30,10 +30,9 @@ pub fn answers_hold_in_lives()
 {}
 
 /// What a call tells of the view and of accusations is what the events tell that it adds to the life, in order; also
-/// where the disk fails in it.
+/// where a put fails in it.
 pub fn each_call_tells_its_life()
-    ensures whole { EachCallTellsItsLife }
-    ensures stopped { StoppedCallsTellTheirLife }
+    ensures { EachCallTellsItsLife }
 {}
 
 /// As long as each call is answered, the node's newest note is the one that its store keeps.
@@ -107,34 +106,32 @@ pub fn ticks_go_out()
     ensures told { TickTells }
 {}
 
-/// Where the disk fails in an answer or in an accusation, what comes before it is told and sent as ever, nothing behind
-/// it is, and the life is over. A call in which the disk works ends no life.
+/// Where the put for an answer or for an accusation fails, what comes before it is told and sent as ever, nothing behind
+/// it is, and the life is over. No other put ends a call, and a call that none ends is whole and ends no life.
 pub fn stopped_calls_end()
     ensures delivery { StoppedDeliveryEnds }
     ensures tick { StoppedTickEnds }
+    ensures only { OnlySignaturesStop }
     ensures others { WholeCallsGoOn }
 {}
 
 /// In every life each record that a call sends stands in the kit, or was accepted or signed before in the life, or is
-/// signed in that call; also in a call in which the disk fails.
+/// signed in that call; also in a call in which a put fails.
 pub fn only_known_is_sent()
-    ensures whole { OnlyKnownIsSent }
-    ensures stopped { OnlyKnownIsSentUntil }
+    ensures { OnlyKnownIsSent }
 {}
 
 /// In every life each datagram of a call goes to another member, whose certificate the node holds; also in a call in
-/// which the disk fails. That certificate has a port, where the node is correct and what it is handed is bytes.
+/// which a put fails. That certificate has a port, where the node is correct and what it is handed is bytes.
 pub fn only_certified_are_addressed()
-    ensures whole { OnlyCertifiedAreAddressed }
-    ensures stopped { OnlyCertifiedAreAddressedUntil }
+    ensures others { OnlyCertifiedAreAddressed }
     ensures ports { AddresseesHavePorts }
 {}
 
 /// What a call tells as sent is what it sends, in order, each with its place among the datagrams of the call; also in a
-/// call in which the disk fails.
+/// call in which a put fails.
 pub fn sent_is_told()
-    ensures whole { SentIsTold }
-    ensures stopped { SentIsToldUntil }
+    ensures { SentIsTold }
 {}
 
 /// Where a ping, a pong or a summary is delivered, that is told, and beside datagrams nothing else. Where the sender is

@@ -1,13 +1,14 @@
-use Rattle.node_rules.proofs.Handling.{delivery-ends}
-use Rattle.node_rules.proofs.GoingOn.{whole-goes_on}
-use Rattle.node_rules.proofs.Ticks.{tick-ends}
+use Rattle.node_rules.proofs.Stopping.{delivery-stops, only-signatures, tick-stops, whole-calls}
 use Rattle.node_rules.proofs.stopped_calls_end.Goals as goal
 
 pub returns-clause-delivery : goal.returns-clause-delivery
-returns-clause-delivery c = delivery-ends
+returns-clause-delivery c = delivery-stops
 
 pub returns-clause-tick : goal.returns-clause-tick
-returns-clause-tick c = tick-ends
+returns-clause-tick c = tick-stops
+
+pub returns-clause-only : goal.returns-clause-only
+returns-clause-only c = only-signatures
 
 pub returns-clause-others : goal.returns-clause-others
-returns-clause-others c = whole-goes_on
+returns-clause-others c = whole-calls

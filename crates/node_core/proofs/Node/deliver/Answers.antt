@@ -8,7 +8,7 @@ use Rattle.std.proofs.Common.{refl, Err}
 use Rattle.node_core.specs.declared.NodeFault.TheVariants as faults
 use Rattle.node_core.specs.contracts.Node.{the_view}
 use Rattle.node_core.proofs.TellingLemmas.{nil-right}
-use Rattle.node_core.proofs.DeliverLemmas.{calm-by, delivers-by}
+use Rattle.node_core.proofs.DeliverLemmas.{calm-by, gives-by, hearing-ran}
 use Rattle.node_core.proofs.SpendLemmas.{open-by, open-further, call-spends, idle-spends}
 use Rattle.node_core.proofs.DueLemmas.{plays-at}
 use Rattle.std.proofs.Common.{true, rules}
@@ -16,7 +16,7 @@ use Rattle.std.proofs.lemmas.Bool.{false≢true}
 use Rattle.std.specs.Prelude.{is_err}
 use Rattle.node_core.specs.OnDisks.{ComesTo, on_disk, storage}
 use Rattle.datagram.specs.Grammar.{read_of}
-use Rattle.node_rules.specs.OnDisks.{delivered_on}
+use Rattle.node_rules.specs.OnDisks.{Delivers, delivered_on}
 use Rattle.node_core.proofs.DiskLemmas.{delivered-on-is, follows-by}
 use Rattle.node_core.proofs.Node.deliver.Goals as goal
 use Rattle.epoch_store.specs.declared.seat.Seat.{Seat}
@@ -34,7 +34,7 @@ returns-clause-step g c = λ s n is0 going.
       sent = ap (λ (t : Tellings). t.sent) over ∙ sym (nil-right os);
       before = ap (λ (t : Tellings). t.before) over;
     }) in
-    let ran = c.hear_bytes-heard.ensures.plays s es os (begun n) p in
+    let ran = hearing-ran s es os n c.args.bytes.now c.hear_bytes-heard.new.self c.hear_bytes-heard.result (c.hear_bytes-heard.ensures.plays s es os (begun n) p) in
     let grows = c.hear_bytes-heard.ensures.grows in
     let old : Lent = record { events = es; sent = os } in
     let new : Lent = record { events = c.finish.new.events; sent = c.finish.new.out } in
@@ -42,7 +42,7 @@ returns-clause-step g c = λ s n is0 going.
       events = record { more = grows.events.more; is = c.finish.ensures.events ∙ grows.events.is ∙ ap (λ (t : Tellings). t.events ++ grows.events.more) over };
       sent = record { more = grows.sent.more; is = c.finish.ensures.sent ∙ grows.sent.is ∙ ap (λ (t : Tellings). t.sent ++ grows.sent.more) over };
     } in
-    delivers-by s n c.args.bytes.now c.hear_bytes-heard.new.self c.finish.new.self old new c.hear_bytes-heard.result c.finish.result ran c.hear_bytes-heard.ensures.cause c.finish.ensures.failed c.finish.ensures.going c.finish.ensures.frame c.finish.ensures.events c.finish.ensures.sent stands
+    gives-by s n (Delivers c.args.bytes.now) c.hear_bytes-heard.new.self c.finish.new.self old new c.hear_bytes-heard.result c.finish.result ran c.hear_bytes-heard.ensures.cause c.finish.ensures.failed c.finish.ensures.going c.finish.ensures.frame c.finish.ensures.events c.finish.ensures.sent stands
 
 pub returns-clause-spends : goal.returns-clause-spends
 returns-clause-spends g c =

@@ -1,10 +1,10 @@
-use Rattle.std.proofs.Common.{ℕ, List, subst}
+use Rattle.std.proofs.Common.{ℕ, List, refl, subst}
 use Rattle.journal.specs.declared.event.Event as journal
-use Rattle.node_core.specs.Answers as core
-use Rattle.node_core.specs.Answers.{Lent}
+use Rattle.node_core.specs.Answers.{Lent, GivesCall}
 use Rattle.node_core.specs.Playing.{Kept}
+use Rattle.node_rules.specs.OnDisks.{Delivers}
 use Rattle.node_core.specs.Spending.{SpendsIn}
-use Rattle.node_loop.proofs.CallLemmas.{lent, lent-none, serves-delivery}
+use Rattle.node_loop.proofs.CallLemmas.{lent, lent-none, serves-call}
 use Rattle.node_loop.proofs.calls.deliver.Goals as goal
 
 pub returns-clause-serves : goal.returns-clause-serves
@@ -15,7 +15,7 @@ returns-clause-serves g c = λ s before r at.
     let done = c.deliver-done.result in
     let older = g.D.Disk.moments c.args.disk.now in
     let newer = g.D.Disk.moments c.deliver-done.new.disk in
-    let step = lent-none (λ (l : Lent). core.Delivers s r.node c.args.bytes.now v l (lent events out) done) c.new-events.result c.new-outbox.result c.new-events.ensures c.new-outbox.ensures (c.deliver-done.ensures.step s r.node at.node c.requires.going) in
+    let step = lent-none (λ (l : Lent). GivesCall s r.node (Delivers c.args.bytes.now) v l (lent events out) done) c.new-events.result c.new-outbox.result c.new-events.ensures c.new-outbox.ensures (c.deliver-done.ensures.step s r.node at.node c.requires.going) in
     let spends = subst (λ (es : List journal.Event). SpendsIn done c.args.node.now.signer v.signer older newer es events) c.new-events.ensures c.deliver-done.ensures.spends in
-    serves-delivery s before c.args.node.now v (g.L.Link.contents c.args.link.now) (g.L.Link.contents c.settle.new.link) (g.O.Sink.taken c.args.out.now) (g.O.Sink.taken c.settle.new.out) older newer c.args.sent.now c.settle.new.sent r c.args.bytes.now
-    events out done c.settle.result at step c.deliver-done.ensures.ended spends c.settle.ensures.answers c.settle.ensures.extends (λ r1 at1. c.settle.ensures.settles before newer r1 at1)
+    serves-call s before c.args.node.now v (g.L.Link.contents c.args.link.now) (g.L.Link.contents c.settle.new.link) (g.O.Sink.taken c.args.out.now) (g.O.Sink.taken c.settle.new.out) older newer c.args.sent.now c.settle.new.sent r (Delivers c.args.bytes.now)
+    events out done c.settle.result at refl step c.deliver-done.ensures.ended spends c.settle.ensures.answers c.settle.ensures.extends (λ r1 at1. c.settle.ensures.settles before newer r1 at1)

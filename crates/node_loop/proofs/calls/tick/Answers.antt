@@ -1,10 +1,10 @@
 use Rattle.std.proofs.Common.{ℕ, List, subst, ap, arith}
 use Rattle.journal.specs.declared.event.Event as journal
-use Rattle.node_core.specs.Answers.{Lent}
-use Rattle.node_core.specs.Ticks.{GivesTick}
+use Rattle.node_core.specs.Answers.{Lent, GivesCall}
+use Rattle.node_rules.specs.OnDisks.{Ticks}
 use Rattle.node_core.specs.Playing.{Kept}
 use Rattle.node_core.specs.Spending.{SpendsIn}
-use Rattle.node_loop.proofs.CallLemmas.{goes-same, lent, lent-none, may-count, may-not, no-tick, serves-tick}
+use Rattle.node_loop.proofs.CallLemmas.{goes-same, lent, lent-none, may-count, may-not, no-tick, serves-call, tick-acted}
 use Rattle.node_loop.proofs.calls.tick.Goals as goal
 
 pub returns-then-now-eq18446744073709551615-clause-spends : goal.returns-then-now-eq18446744073709551615-clause-spends
@@ -23,9 +23,9 @@ returns-clause-serves g c = λ s before r at.
     let done = c.tick-done.result in
     let older = g.D.Disk.moments c.args.disk.now in
     let newer = g.D.Disk.moments c.tick-done.new.disk in
-    let step = lent-none (λ (l : Lent). GivesTick s r.node v l (lent events out) done) c.new-events.result c.new-outbox.result c.new-events.ensures c.new-outbox.ensures (c.tick-done.ensures.step s r.node at.node c.requires.going) in
+    let step = lent-none (λ (l : Lent). GivesCall s r.node Ticks v l (lent events out) done) c.new-events.result c.new-outbox.result c.new-events.ensures c.new-outbox.ensures (c.tick-done.ensures.step s r.node at.node c.requires.going) in
     let spends = subst (λ (es : List journal.Event). SpendsIn done c.args.node.now.signer v.signer older newer es events) c.new-events.ensures c.tick-done.ensures.spends in
     let moment = ap (λ x. x.moment) c.membership.ensures in
     let may = may-count s before _ r at (omega (arith, moment, c.now.ensures.moment, c.if-now-eq18446744073709551615.false, c.now.type_inv)) in
-    serves-tick s before c.args.node.now v (g.L.Link.contents c.args.link.now) (g.L.Link.contents c.settle.new.link) (g.O.Sink.taken c.args.out.now) (g.O.Sink.taken c.settle.new.out) older newer c.args.sent.now c.settle.new.sent r
-    events out done c.settle.result at may step c.tick-done.ensures.ended spends c.settle.ensures.answers c.settle.ensures.extends (λ r1 at1. c.settle.ensures.settles before newer r1 at1)
+    serves-call s before c.args.node.now v (g.L.Link.contents c.args.link.now) (g.L.Link.contents c.settle.new.link) (g.O.Sink.taken c.args.out.now) (g.O.Sink.taken c.settle.new.out) older newer c.args.sent.now c.settle.new.sent r Ticks
+    events out done c.settle.result at (tick-acted s r may) step c.tick-done.ensures.ended spends c.settle.ensures.answers c.settle.ensures.extends (λ r1 at1. c.settle.ensures.settles before newer r1 at1)
