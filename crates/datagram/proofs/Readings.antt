@@ -7,6 +7,7 @@ use Rattle.std.proofs.lemmas.Bool.{eqb-true, ltb-false, le-ltb}
 use Rattle.std.proofs.lemmas.Bool.Decides.{nat_tests}
 use Rattle.std.proofs.lemmas.List.{append-nil}
 use Rattle.std.proofs.lemmas.List.Elements.{All-nil, All-cons, All-head, All-tail}
+use Rattle.ff_ids.specs.declared.TheConstants.{LAST_MEMBER, MEMBERS, PAGES, PAGE_MEMBERS, LAST_PAGE}
 use Rattle.fields.specs.Reading.{Reading, reading_of}
 use Rattle.ff_ids.specs.declared.summary.SummaryEntry.{SummaryEntry}
 use Rattle.ff_ids.specs.declared.summary.Summary.{Summary}
@@ -42,7 +43,7 @@ kind_at r = byte_at (number_within 1 4) r >>= λ kind. from_at kind.0 kind.1
 version_at : Reading → Result ((ℕ × ℕ) × Reading) ℕ
 version_at r = byte_at (number_within 1 1) r >>= λ version. kind_at version.1
 
-head_takes : (r : Reading) (h : ℕ × ℕ) (s : Reading) → IsBytes r.left → head_at r ≡ Ok (h, s) → Takes r (head_bytes h.0 h.1) s × (1 ≤ h.0) × (h.0 ≤ 4) × (h.1 < 1024)
+head_takes : (r : Reading) (h : ℕ × ℕ) (s : Reading) → IsBytes r.left → head_at r ≡ Ok (h, s) → Takes r (head_bytes h.0 h.1) s × (1 ≤ h.0) × (h.0 ≤ 4) × (h.1 < MEMBERS)
 unfolding head_at head_bytes from_at kind_at version_at
 head_takes r h s fits e =
     let a = bind_ok (number_at w16 (number_within letters letters) r) (λ name. version_at name.1) (h, s) e in
@@ -52,16 +53,16 @@ head_takes r h s fits e =
     let t0 = number_takes w16 (2 ^ 16) (number_within letters letters) (λ n. n) _ r a.0.0 a.0.1 wide16 (within_rule (2 ^ 16) letters letters (lit< tt)) fits a.1 in
     let t1 = byte_in_takes 1 1 a.0.1 b.0.0 b.0.1 t0.0.fits b.1 in
     let t2 = byte_in_takes 1 4 b.0.1 c.0.0 c.0.1 t1.0.fits c.1 in
-    let t3 = number_takes w16 (2 ^ 16) member_number (λ n. n) _ c.0.1 d.0.0 d.0.1 wide16 (within_rule (2 ^ 16) 0 1023 (lit< tt)) t2.0.fits d.1 in
+    let t3 = number_takes w16 (2 ^ 16) member_number (λ n. n) _ c.0.1 d.0.0 d.0.1 wide16 (within_rule (2 ^ 16) 0 LAST_MEMBER (lit< tt)) t2.0.fits d.1 in
     let name : a.0.0 ≡ letters = omega (arith, t0.1) in
     let version : b.0.0 ≡ 1 = omega (arith, t1.1, t1.2) in
     let named : Takes r (codes "FF") a.0.1 = subst (λ (n : ℕ). Takes r (to_be_bytes w16 n) a.0.1) name t0.0 in
     let versioned : Takes a.0.1 (1 ∷ []) b.0.1 = subst (λ (n : ℕ). Takes a.0.1 (n ∷ []) b.0.1) version t1.0 in
     let whole : (ℕ × ℕ) × Reading = ((c.0.0, d.0.0), d.0.1) in
-    subst (λ (y : (ℕ × ℕ) × Reading). Takes r (head_bytes y.0.0 y.0.1) y.1 × (1 ≤ y.0.0) × (y.0.0 ≤ 4) × (y.0.1 < 1024)) (ok_is whole (h, s) d.2)
+    subst (λ (y : (ℕ × ℕ) × Reading). Takes r (head_bytes y.0.0 y.0.1) y.1 × (1 ≤ y.0.0) × (y.0.0 ≤ 4) × (y.0.1 < MEMBERS)) (ok_is whole (h, s) d.2)
     (Takes-then _ _ _ _ _ named (Takes-then _ _ _ _ _ versioned (Takes-then _ _ _ _ _ t2.0 t3.0)), t2.1, t2.2, omega (arith, t3.1))
 
-head_again : (kind from : ℕ) → 1 ≤ kind → kind ≤ 4 → from < 1024 → Again head_at (kind, from) (head_bytes kind from)
+head_again : (kind from : ℕ) → 1 ≤ kind → kind ≤ 4 → from < MEMBERS → Again head_at (kind, from) (head_bytes kind from)
 unfolding head_at head_bytes from_at kind_at version_at
 head_again kind from low high sender =
     then_again (number_at w16 (number_within letters letters)) (λ name r. version_at r) letters (kind, from) (codes "FF") (1 ∷ (kind ∷ to_be_bytes w16 from))
@@ -69,7 +70,7 @@ head_again kind from low high sender =
     (then_again (byte_at (number_within 1 1)) (λ version r. kind_at r) 1 (kind, from) (1 ∷ []) (kind ∷ to_be_bytes w16 from) (byte_in_again 1 1 1 (omega arith) (omega arith))
     (then_again (byte_at (number_within 1 4)) from_at kind (kind, from) (kind ∷ []) (to_be_bytes w16 from) (byte_in_again 1 4 kind low high)
     (map_again (number_at w16 member_number) (λ f. (kind, f)) from (to_be_bytes w16 from)
-    (number_again w16 (2 ^ 16) member_number (λ n. n) _ from wide16 (within_rule (2 ^ 16) 0 1023 (lit< tt)) (omega arith, omega (arith, sender))))))
+    (number_again w16 (2 ^ 16) member_number (λ n. n) _ from wide16 (within_rule (2 ^ 16) 0 LAST_MEMBER (lit< tt)) (omega arith, omega (arith, sender))))))
 
 -- ---- nonces
 
@@ -90,26 +91,26 @@ record TakesEntries (page count : ℕ) (r : Reading) (q : Summary) (s : Reading)
   taken : Takes r (flat_map entry_bytes q.listed) s
   many : length q.listed ≡ count
   of : q.page ≡ page
-  rises : RisesFrom page (32 * page) q.listed
+  rises : RisesFrom page (PAGE_MEMBERS * page) q.listed
 
-entries_take : (page count : ℕ) → page < 32 → (r : Reading) (q : Summary) (s : Reading) → IsBytes r.left → entries_at page count r ≡ Ok (q, s) → TakesEntries page count r q s
+entries_take : (page count : ℕ) → page < PAGES → (r : Reading) (q : Summary) (s : Reading) → IsBytes r.left → entries_at page count r ≡ Ok (q, s) → TakesEntries page count r q s
 unfolding entries_at
 entries_take page count lt r q s fits e =
-    let a = bind_ok (items_at (entry_at page) next_member count (32 * page) [] r) (λ entries. Ok (record { page = page; listed = entries.0 }, entries.1)) (q, s) e in
-    let t = items_take entry_bytes (IsEntryFrom page) next_member (entry_at page) (entry_takes page lt) count (32 * page) [] r a.0.0 a.0.1 fits a.1 in
+    let a = bind_ok (items_at (entry_at page) next_member count (PAGE_MEMBERS * page) [] r) (λ entries. Ok (record { page = page; listed = entries.0 }, entries.1)) (q, s) e in
+    let t = items_take entry_bytes (IsEntryFrom page) next_member (entry_at page) (entry_takes page lt) count (PAGE_MEMBERS * page) [] r a.0.0 a.0.1 fits a.1 in
     let whole : Summary × Reading = (record { page = page; listed = a.0.0 }, a.0.1) in
     subst (λ (y : Summary × Reading). TakesEntries page count r y.0 y.1) (ok_is whole (q, s) a.2)
     (subst (λ (es : List SummaryEntry). TakesEntries page count r (record { page = page; listed = es }) a.0.1) (sym t.grown) (record { taken = t.taken; many = t.many; of = refl; rises = t.good }))
 
-entries_again : (s : Summary) → IsKept s → RisesFrom s.page (32 * s.page) s.listed → Again (entries_at s.page (length s.listed)) s (flat_map entry_bytes s.listed)
+entries_again : (s : Summary) → IsKept s → RisesFrom s.page (PAGE_MEMBERS * s.page) s.listed → Again (entries_at s.page (length s.listed)) s (flat_map entry_bytes s.listed)
 unfolding entries_at
 entries_again s kept rises =
-    map_again (items_at (entry_at s.page) next_member (length s.listed) (32 * s.page) []) (λ es. record { page = s.page; listed = es }) s.listed _
-    (items_again entry_bytes (IsEntryFrom s.page) next_member (entry_at s.page) (entry_again s.page kept.keeps.page) s.listed (32 * s.page) [] rises)
+    map_again (items_at (entry_at s.page) next_member (length s.listed) (PAGE_MEMBERS * s.page) []) (λ es. record { page = s.page; listed = es }) s.listed _
+    (items_again entry_bytes (IsEntryFrom s.page) next_member (entry_at s.page) (entry_again s.page kept.keeps.page) s.listed (PAGE_MEMBERS * s.page) [] rises)
 
 -- what is behind the page, and behind the flag
 count_at : ℕ → ℕ → Reading → Result ((Bool × Summary) × Reading) ℕ
-count_at page flag r = byte_at (number_within 0 32) r >>= λ count. entries_at page count.0 count.1 >>= λ q. Ok ((eqb flag 1, q.0), q.1)
+count_at page flag r = byte_at (number_within 0 PAGE_MEMBERS) r >>= λ count. entries_at page count.0 count.1 >>= λ q. Ok ((eqb flag 1, q.0), q.1)
 
 flag_at : ℕ → Reading → Result ((Bool × Summary) × Reading) ℕ
 flag_at page r = byte_at (number_within 0 1) r >>= λ flag. count_at page flag.0 flag.1
@@ -127,24 +128,24 @@ flag_small : (flag : Bool) → flag_number flag ≤ 1
 flag_small true = omega arith
 flag_small false = omega arith
 
-kept_from : (page count : ℕ) (r : Reading) (q : Summary) (s : Reading) → page ≤ 31 → TakesEntries page count r q s → IsKept q
+kept_from : (page count : ℕ) (r : Reading) (q : Summary) (s : Reading) → page ≤ LAST_PAGE → TakesEntries page count r q s → IsKept q
 kept_from page count r q s high t =
-    let rises : RisesFrom q.page (32 * q.page) q.listed = subst (λ (p : ℕ). RisesFrom p (32 * p) q.listed) (sym t.of) t.rises in
+    let rises : RisesFrom q.page (PAGE_MEMBERS * q.page) q.listed = subst (λ (p : ℕ). RisesFrom p (PAGE_MEMBERS * p) q.listed) (sym t.of) t.rises in
     record {
-      keeps = record { page = omega (arith, t.of, high); listed = all_of q.page (32 * q.page) q.listed (omega arith) rises; rising = all_rise q.page (32 * q.page) q.listed rises };
-      entries = all_fit q.page (32 * q.page) q.listed rises;
+      keeps = record { page = omega (arith, t.of, high); listed = all_of q.page (PAGE_MEMBERS * q.page) q.listed (omega arith) rises; rising = all_rise q.page (PAGE_MEMBERS * q.page) q.listed rises };
+      entries = all_fit q.page (PAGE_MEMBERS * q.page) q.listed rises;
     }
 
 summary_takes : (r : Reading) (y : Bool × Summary) (s : Reading) → IsBytes r.left → summary_at r ≡ Ok (y, s) → Takes r (summary_bytes y.0 y.1) s × IsKept y.1
 unfolding summary_at summary_bytes count_at flag_at
 summary_takes r y s fits e =
-    let a = bind_ok (byte_at (number_within 0 31) r) (λ page. flag_at page.0 page.1) (y, s) e in
+    let a = bind_ok (byte_at (number_within 0 LAST_PAGE) r) (λ page. flag_at page.0 page.1) (y, s) e in
     let b = bind_ok (byte_at (number_within 0 1) a.0.1) (λ flag. count_at a.0.0 flag.0 flag.1) (y, s) a.2 in
-    let c = bind_ok (byte_at (number_within 0 32) b.0.1) (λ count. entries_at a.0.0 count.0 count.1 >>= λ q. Ok ((eqb b.0.0 1, q.0), q.1)) (y, s) b.2 in
+    let c = bind_ok (byte_at (number_within 0 PAGE_MEMBERS) b.0.1) (λ count. entries_at a.0.0 count.0 count.1 >>= λ q. Ok ((eqb b.0.0 1, q.0), q.1)) (y, s) b.2 in
     let d = bind_ok (entries_at a.0.0 c.0.0 c.0.1) (λ q. Ok ((eqb b.0.0 1, q.0), q.1)) (y, s) c.2 in
-    let t0 = byte_in_takes 0 31 r a.0.0 a.0.1 fits a.1 in
+    let t0 = byte_in_takes 0 LAST_PAGE r a.0.0 a.0.1 fits a.1 in
     let t1 = byte_in_takes 0 1 a.0.1 b.0.0 b.0.1 t0.0.fits b.1 in
-    let t2 = byte_in_takes 0 32 b.0.1 c.0.0 c.0.1 t1.0.fits c.1 in
+    let t2 = byte_in_takes 0 PAGE_MEMBERS b.0.1 c.0.0 c.0.1 t1.0.fits c.1 in
     let t3 = entries_take a.0.0 c.0.0 (omega (arith, t0.2)) c.0.1 d.0.0 d.0.1 t2.0.fits d.1 in
     let paged : Takes r (d.0.0.page ∷ []) a.0.1 = subst (λ (n : ℕ). Takes r (n ∷ []) a.0.1) (sym t3.of) t0.0 in
     let flagged : Takes a.0.1 (flag_number (eqb b.0.0 1) ∷ []) b.0.1 = subst (λ (n : ℕ). Takes a.0.1 (n ∷ []) b.0.1) (sym (flag_back b.0.0 t1.2)) t1.0 in
@@ -157,12 +158,12 @@ summary_again : (flag : Bool) (s : Summary) → IsKept s → Again summary_at (f
 unfolding summary_at summary_bytes count_at flag_at
 summary_again flag s kept =
     let rises = summary_rises s kept.keeps kept.entries in
-    let high : s.page ≤ 31 = omega (arith, kept.keeps.page) in
+    let high : s.page ≤ LAST_PAGE = omega (arith, kept.keeps.page) in
     let f = flag_number flag in
     let there =
-    then_again (byte_at (number_within 0 31)) flag_at s.page (eqb f 1, s) (s.page ∷ []) (f ∷ (length s.listed ∷ flat_map entry_bytes s.listed)) (byte_in_again 0 31 s.page (omega arith) high)
+    then_again (byte_at (number_within 0 LAST_PAGE)) flag_at s.page (eqb f 1, s) (s.page ∷ []) (f ∷ (length s.listed ∷ flat_map entry_bytes s.listed)) (byte_in_again 0 LAST_PAGE s.page (omega arith) high)
     (then_again (byte_at (number_within 0 1)) (count_at s.page) f (eqb f 1, s) (f ∷ []) (length s.listed ∷ flat_map entry_bytes s.listed) (byte_in_again 0 1 f (omega arith) (flag_small flag))
-    (then_again (byte_at (number_within 0 32)) (λ count r. entries_at s.page count r >>= λ q. Ok ((eqb f 1, q.0), q.1)) (length s.listed) (eqb f 1, s) (length s.listed ∷ []) (flat_map entry_bytes s.listed) (byte_in_again 0 32 (length s.listed) (omega arith) (listed_few s kept.keeps))
+    (then_again (byte_at (number_within 0 PAGE_MEMBERS)) (λ count r. entries_at s.page count r >>= λ q. Ok ((eqb f 1, q.0), q.1)) (length s.listed) (eqb f 1, s) (length s.listed ∷ []) (flat_map entry_bytes s.listed) (byte_in_again 0 PAGE_MEMBERS (length s.listed) (omega arith) (listed_few s kept.keeps))
     (map_again (entries_at s.page (length s.listed)) (λ q. (eqb f 1, q)) s (flat_map entry_bytes s.listed) (entries_again s kept rises)))) in
     subst (λ (b : Bool). Again summary_at (b, s) (summary_bytes flag s)) (flag_again flag) there
 
@@ -184,7 +185,7 @@ good_all : (records : List Record) → All IsSignedRecord records → AreGood re
 good_all [] h = tt
 good_all (x ∷ xs) h = (All-head IsSignedRecord x xs h, good_all xs (All-tail IsSignedRecord x xs h))
 
-records_take : (from : ℕ) (r : Reading) (xs : List Record) (s : Reading) → from < 1024 → IsBytes r.left → records_at r ≡ Ok (xs, s) → Takes r (records_bytes xs) s × IsRecordList from xs
+records_take : (from : ℕ) (r : Reading) (xs : List Record) (s : Reading) → from < MEMBERS → IsBytes r.left → records_at r ≡ Ok (xs, s) → Takes r (records_bytes xs) s × IsRecordList from xs
 unfolding records_at counted_at records_bytes
 records_take from r xs s sender fits e =
     let a = bind_ok (number_at w16 (number_within 1 65535) r) (λ count. counted_at count.0 count.1) (xs, s) e in
@@ -218,12 +219,12 @@ read_as_takes step view fields kind from r mid d s taken spelled front e =
     subst (λ (y : Datagram × Reading). Takes r (datagram_bytes y.0) y.1 × KeepsRules y.0) (ok_is made (d, s) a.2)
     (subst (λ (text : List ℕ). Takes r text a.0.1) (spelled a.0.0) (Takes-then _ _ _ _ _ front t.0), t.1)
 
-probe_takes : (from : ℕ) (mid : Reading) → from < 1024 → IsBytes mid.left → (n : ℕ) (later : Reading) → number_at w64 any_number mid ≡ Ok (n, later) → Takes mid (to_be_bytes w64 n) later × IsProbe from n
+probe_takes : (from : ℕ) (mid : Reading) → from < MEMBERS → IsBytes mid.left → (n : ℕ) (later : Reading) → number_at w64 any_number mid ≡ Ok (n, later) → Takes mid (to_be_bytes w64 n) later × IsProbe from n
 probe_takes from mid sender fits n later e =
     let t = nonce_takes mid n later fits e in
     (t.0, record { sender = sender; nonce_fits = t.1 })
 
-page_takes : (from : ℕ) (mid : Reading) → from < 1024 → IsBytes mid.left → (q : Bool × Summary) (later : Reading) → summary_at mid ≡ Ok (q, later) → Takes mid (summary_bytes q.0 q.1) later × IsPage from q.1
+page_takes : (from : ℕ) (mid : Reading) → from < MEMBERS → IsBytes mid.left → (q : Bool × Summary) (later : Reading) → summary_at mid ≡ Ok (q, later) → Takes mid (summary_bytes q.0 q.1) later × IsPage from q.1
 page_takes from mid sender fits q later e =
     let t = summary_takes mid q later fits e in
     (t.0, record { sender = sender; keeps = t.1.keeps; entries = t.1.entries })
@@ -231,7 +232,7 @@ page_takes from mid sender fits q later e =
 fourth : (kind : ℕ) → eqb kind 1 ≡ false → eqb kind 2 ≡ false → eqb kind 3 ≡ false → 1 ≤ kind → kind ≤ 4 → kind ≡ 4
 fourth kind one two three low high = grind (arith, nat_tests)
 
-content_takes : (kind from : ℕ) (r mid : Reading) (d : Datagram) (s : Reading) → 1 ≤ kind → kind ≤ 4 → from < 1024 → Takes r (head_bytes kind from) mid
+content_takes : (kind from : ℕ) (r mid : Reading) (d : Datagram) (s : Reading) → 1 ≤ kind → kind ≤ 4 → from < MEMBERS → Takes r (head_bytes kind from) mid
     → content_at kind from mid ≡ Ok (d, s) → Takes r (datagram_bytes d) s × KeepsRules d
 unfolding content_at
 content_takes kind from r mid d s low high sender front e =

@@ -1,7 +1,8 @@
 -- Reading a datagram from left to right. A step gives a value and what is left after it, or the place of the fault:
 -- the first byte of the first field that is cut short or breaks its rule.
-use Rattle.std.specs.Prelude.{◌≡◌, ℕ, zero, suc, ◌+◌, ◌*◌, ◌<◌, Bool, ◌==◌, nat_lt, if◌then◌else◌, List, [], ◌∷◌, ◌++◌, length, Result, Ok, Err, IsOkAnd}
+use Rattle.std.specs.Prelude.{◌≡◌, ℕ, zero, suc, ◌+◌, ◌*◌, ◌<◌, Bool, ◌==◌, nat_lt, if◌then◌else◌, List, [], ◌∷◌, ◌++◌, length, Result, Ok, Err, IsOkAnd, ◌-◌}
 use Rattle.std.specs.Int.{w16, w32, w64}
+use Rattle.ff_ids.specs.declared.TheConstants.{PAGE_MEMBERS, LAST_PAGE}
 use Rattle.fields.specs.Reading.{Reading, reading_of}
 use Rattle.ff_ids.specs.declared.summary.SummaryEntry.{SummaryEntry}
 use Rattle.ff_ids.specs.declared.summary.Summary.{Summary}
@@ -48,7 +49,7 @@ greatest_bits epoch = if epoch == 0 then 0 else 4294967295
 -- an entry of the page whose member is at least this one
 unfoldable pub entry_at : ℕ → ℕ → Reading → Result (SummaryEntry × Reading) ℕ
 entry_at page least r = do
-  member ← number_at w16 (number_within least (32 * page + 31)) r
+  member ← number_at w16 (number_within least (PAGE_MEMBERS * page + (PAGE_MEMBERS - 1))) r
   epoch ← number_at w64 any_number member.1
   mask ← number_at w32 (number_within 0 (greatest_bits epoch.0)) epoch.1
   rings ← number_at w32 (number_within 0 (greatest_bits epoch.0)) mask.1
@@ -61,13 +62,13 @@ next_member e = e.member + 1
 -- so many entries of the page
 unfoldable pub entries_at : ℕ → ℕ → Reading → Result (Summary × Reading) ℕ
 entries_at page count r =
-    items_at (entry_at page) next_member count (32 * page) [] r >>= λ entries. Ok (record { page = page; listed = entries.0 }, entries.1)
+    items_at (entry_at page) next_member count (PAGE_MEMBERS * page) [] r >>= λ entries. Ok (record { page = page; listed = entries.0 }, entries.1)
 
 unfoldable pub summary_at : Reading → Result ((Bool × Summary) × Reading) ℕ
 summary_at r = do
-  page ← byte_at (number_within 0 31) r
+  page ← byte_at (number_within 0 LAST_PAGE) r
   flag ← byte_at (number_within 0 1) page.1
-  count ← byte_at (number_within 0 32) flag.1
+  count ← byte_at (number_within 0 PAGE_MEMBERS) flag.1
   summary ← entries_at page.0 count.0 count.1
   Ok ((flag.0 == 1, summary.0), summary.1)
 

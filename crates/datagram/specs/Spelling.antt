@@ -2,6 +2,7 @@
 use Rattle.std.specs.Prelude.{◌≡◌, ℕ, ◌^◌, ◌<◌, ◌≤◌, Bool, true, false, List, ◌∷◌, ◌++◌, length, codes, All}
 use Rattle.std.specs.List.{flat_map}
 use Rattle.std.specs.Int.{w16, w32, w64, to_be_bytes}
+use Rattle.ff_ids.specs.declared.TheConstants.{MEMBERS, MASK_BITS}
 use Rattle.ff_ids.specs.declared.summary.SummaryEntry.{SummaryEntry}
 use Rattle.ff_ids.specs.declared.summary.Summary.{Summary}
 use Rattle.ff_ids.specs.Summaries.{IsSummary}
@@ -41,24 +42,24 @@ datagram_bytes (kinds.Records from records) = head_bytes 4 from ++ records_bytes
 
 pub record IsEntry (e : SummaryEntry) : Type 0 where
   pub epoch_fits : e.epoch < 2 ^ 64
-  pub mask_fits : e.mask.0 < 2 ^ 32
-  pub rings_fit : e.rings < 2 ^ 32
+  pub mask_fits : e.mask.0 < 2 ^ MASK_BITS
+  pub rings_fit : e.rings < 2 ^ MASK_BITS
 
 pub record IsSignedRecord (r : Record) : Type 0 where
   pub body : IsBody r.body
   pub signature : HasLength r.signature
 
 pub record IsProbe (from nonce : ℕ) : Type 0 where
-  pub sender : from < 1024
+  pub sender : from < MEMBERS
   pub nonce_fits : nonce < 2 ^ 64
 
 pub record IsPage (from : ℕ) (s : Summary) : Type 0 where
-  pub sender : from < 1024
+  pub sender : from < MEMBERS
   pub keeps : IsSummary s
   pub entries : All IsEntry s.listed
 
 pub record IsRecordList (from : ℕ) (records : List Record) : Type 0 where
-  pub sender : from < 1024
+  pub sender : from < MEMBERS
   pub some : 0 < length records
   pub few : length records < 2 ^ 16
   pub each : All IsSignedRecord records

@@ -1,6 +1,7 @@
 //! Reading datagrams.
 
 ghost use Rattle.std.specs.Prelude.{◌≡◌, ◌+◌, ◌*◌, ◌<◌, ◌≤◌, [], List, ℕ, IfOk, Result, Ok};
+ghost use Rattle.ff_ids.specs.declared.TheConstants.{PAGES, PAGE_MEMBERS};
 ghost use Rattle.fields.specs.Reading.{Reading, reading_of};
 ghost use Rattle.records.specs.Grammar.{Reads, Passes};
 ghost use Rattle.datagram.specs.declared.Datagram.{Datagram as Sent};
@@ -9,7 +10,7 @@ ghost use Rattle.datagram.specs.Grammar.{greatest_bits, entry_at, entries_at, su
 
 use crate::Datagram;
 use crate::fields_in::{byte_within, head, u16_within, u32_up_to, u64_any};
-use ff_ids::{Mask, MemberId, Summary, SummaryEntry};
+use ff_ids::{LAST_PAGE, Mask, MemberId, PAGE_MEMBERS, Summary, SummaryEntry};
 use fields::Reader;
 use records::steps::Misread;
 use records::{FormFault, RecordList, next_record, pass_record};
@@ -28,10 +29,10 @@ fn greatest_bits(epoch: u64) -> u32
 /// An entry of this page whose member is at least `least`.
 #[tactic(auto, unfolding(crate::specs::Grammar::entry_at))]
 fn entry(reader: &mut Reader, page: u8, least: u16) -> Result<SummaryEntry, Misread>
-    requires { page < 32 }
+    requires { page < PAGES }
     ensures { Reads (λ e. e) result reader.new (entry_at page least reader.old) }
 {
-    let member = u16_within(reader, least, 32 * page as u16 + 31)?;
+    let member = u16_within(reader, least, PAGE_MEMBERS * page as u16 + (PAGE_MEMBERS - 1))?;
     let epoch = u64_any(reader)?;
     let most = greatest_bits(epoch);
     let mask = u32_up_to(reader, most)?;
@@ -44,16 +45,16 @@ fn entry(reader: &mut Reader, page: u8, least: u16) -> Result<SummaryEntry, Misr
     })
 }
 
-/// So many entries of this page, at most 32.
+/// So many entries of this page, at most `PAGE_MEMBERS`.
 #[tactic(auto, unfolding(crate::specs::Grammar::entries_at))]
 fn entries(reader: &mut Reader, page: u8, count: u8) -> Result<Summary, Misread>
-    requires page { page < 32 }
-    requires few { count ≤ 32 }
+    requires page { page < PAGES }
+    requires few { count ≤ PAGE_MEMBERS }
     ensures { Reads (λ s. s) result reader.new (entries_at page count reader.old) }
 {
     let mut summary = Summary::new();
     summary.page = page;
-    let mut least = 32 * page as u16;
+    let mut least = PAGE_MEMBERS * page as u16;
     for _entry in 0..count {
         let entry = entry(reader, page, least)?;
         least = entry.member.get() + 1;
@@ -67,9 +68,9 @@ fn entries(reader: &mut Reader, page: u8, count: u8) -> Result<Summary, Misread>
 fn summary(reader: &mut Reader) -> Result<(bool, Summary), Misread>
     ensures { Reads (λ s. s) result reader.new (summary_at reader.old) }
 {
-    let page = byte_within(reader, 0, 31)?;
+    let page = byte_within(reader, 0, LAST_PAGE)?;
     let flag = byte_within(reader, 0, 1)?;
-    let count = byte_within(reader, 0, 32)?;
+    let count = byte_within(reader, 0, PAGE_MEMBERS as u8)?;
     let summary = entries(reader, page, count)?;
     Ok((flag == 1, summary))
 }
