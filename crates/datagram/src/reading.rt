@@ -32,7 +32,11 @@ fn entry(reader: &mut Reader, page: u8, least: u16) -> Result<SummaryEntry, Misr
     requires { page < PAGES }
     ensures { Reads (λ e. e) result reader.new (entry_at page least reader.old) }
 {
-    let member = u16_within(reader, least, PAGE_MEMBERS * page as u16 + (PAGE_MEMBERS - 1))?;
+    let member = u16_within(
+        reader,
+        least,
+        PAGE_MEMBERS * page as u16 + (PAGE_MEMBERS - 1),
+    )?;
     let epoch = u64_any(reader)?;
     let most = greatest_bits(epoch);
     let mask = u32_up_to(reader, most)?;

@@ -4,8 +4,8 @@ ghost use Rattle.std.specs.Prelude.{◌≡◌, IfOk, All};
 ghost use Rattle.node_core.specs.Begins.{IsCheckedIn};
 ghost use Rattle.example_node.specs.declared.keys.TheConstants.{GROUP};
 
-use anyhow::{Result, anyhow};
 use crate::keys::{GROUP, make_store, new_disk, open};
+use anyhow::{Result, anyhow};
 use ff_ids::MemberId;
 use lms_tree::PublicKey;
 use records::{CertBody, Checked, read_record, write_record};

@@ -9,8 +9,8 @@ mod member;
 mod network;
 mod report;
 
-use certificates::Directory;
 use anyhow::Result;
+use certificates::Directory;
 use ff_ids::MemberId;
 use lms_tree::PublicKey;
 use member::{Member, enroll};

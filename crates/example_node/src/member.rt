@@ -1,8 +1,8 @@
 //! One member: a node of the library over a disk of its own.
 
 use crate::certificates::Directory;
-use anyhow::{Result, ensure};
 use crate::keys::{GROUP, Opened, make_store, new_disk, open};
+use anyhow::{Result, ensure};
 use ff_ids::MemberId;
 use lms_tree::PublicKey;
 use membership::Membership;

@@ -1,7 +1,7 @@
 //! What an application asks of a member, in lines.
 
-use anyhow::Result;
 use crate::member::Member;
+use anyhow::Result;
 use ff_ids::{MEMBERS, MemberId, RingNo};
 use journal::What;
 use membership::Membership;

@@ -4,6 +4,7 @@ use Rattle.std.specs.Prelude.{All, not, nat_eq, ◌||◌}
 use Rattle.std.proofs.lemmas.Bool.{and_parts, and_from}
 use Rattle.std.specs.List.{AllByRecursion, list_any, list_all}
 use Rattle.std.specs.Result.{is_ok}
+use Rattle.ff_ids.specs.declared.TheConstants.{MAX_TOLERANCE}
 use Rattle.ff_ids.specs.declared.Group.{Group}
 use Rattle.lms_tree.specs.declared.key.PublicKey.{PublicKey}
 use Rattle.lms_tree.specs.declared.secret.Secret.{Secret}
@@ -88,7 +89,7 @@ vouchable s kit signer e k left =
     let group : s.group ≡ kit.group = setting-group s kit.group kit.me kit.authority key e in
     let me : s.me ≡ kit.me = setting-me s kit.group kit.me kit.authority key e in
     record {
-      rings = record { some = subst (λ (g : Group). 1 ≤ g.t) (sym group) k.group.some; few = subst (λ (g : Group). g.t ≤ 15) (sym group) k.group.few };
+      rings = record { some = subst (λ (g : Group). 1 ≤ g.t) (sym group) k.group.some; few = subst (λ (g : Group). g.t ≤ MAX_TOLERANCE) (sym group) k.group.few };
       kit = record {
         all = apart-certificates (recs_of kit.certificates.items) k.certificates.apart;
         own = subst (λ (m : ℕ). list_any (λ r. is_certificate_for m r.body) (recs_of kit.certificates.items) ≡ true) (sym me) k.certificates.among;

@@ -9,6 +9,7 @@ use Rattle.std.proofs.lemmas.Bool.{cond_both, and_parts, cases_Bool, eqb-true}
 use Rattle.std.proofs.lemmas.Bool.Decides.{nat_tests}
 use Rattle.std.proofs.lemmas.List.FromFn.{get_or-range_with_len, length-range_with_len}
 use Rattle.std.proofs.lemmas.List.Kept.{IsStrictlyIncreasing-filter}
+use Rattle.ff_ids.specs.declared.TheConstants.{MAX_RINGS, PAGES, PAGE_MEMBERS}
 use Rattle.ff_ids.specs.Summaries.{IsSummary, members_of, page_of_member}
 use Rattle.ff_ids.specs.declared.summary.SummaryEntry.{SummaryEntry}
 use Rattle.ff_ids.specs.declared.summary.Summary.{Summary}
@@ -55,7 +56,7 @@ unfolding rings_of
 entry-is set held m h =
     let note : note_held held m ≡ note_in (held_under set (keys.Note m)) = ap (λ o. option_and_then (λ r. note_of_body r.body) o) (sym (h (keys.Note m))) ∙ note-rec (held_under set (keys.Note m)) in
     let ring : ℕ → RecordKey = λ r. keys.Accusation m (record { 0 = r }) in
-    let rings : rings_held held m ≡ rings_of set m = bits_same _ _ 31 (λ r lt. ap is_some (sym (h (ring r))) ∙ some-rec (held_under set (ring r))) in
+    let rings : rings_held held m ≡ rings_of set m = bits_same _ _ MAX_RINGS (λ r lt. ap is_some (sym (h (ring r))) ∙ some-rec (held_under set (ring r))) in
     ap (λ o. entry_with m o (rings_held held m)) note ∙ ap (λ x. entry_with m (note_in (held_under set (keys.Note m))) x) rings
 
 map-same : (f g : ℕ → SummaryEntry) (xs : List ℕ) → ((x : ℕ) → f x ≡ g x) → map f xs ≡ map g xs
@@ -65,10 +66,10 @@ map-same f g (x ∷ xs) h = rw (h x) (ap (λ ys. g x ∷ ys) (map-same f g xs h)
 pub page-is : (set : Held) (n : Node) (number : ℕ) → HoldsRecords set n.held → page n number ≡ summary_of set number
 unfolding page certified_of
 page-is set n number h =
-    let certified : filter (has_certificate n.held) (range_with_len (32 * number) 32) ≡ filter (λ m. contains_key set (keys.Certificate m)) (range_with_len (32 * number) 32) =
-    filter-same (has_certificate n.held) (λ m. contains_key set (keys.Certificate m)) (range_with_len (32 * number) 32) (λ m. ap is_some (sym (h (keys.Certificate m))) ∙ some-rec (held_under set (keys.Certificate m))) in
+    let certified : filter (has_certificate n.held) (range_with_len (PAGE_MEMBERS * number) PAGE_MEMBERS) ≡ filter (λ m. contains_key set (keys.Certificate m)) (range_with_len (PAGE_MEMBERS * number) PAGE_MEMBERS) =
+    filter-same (has_certificate n.held) (λ m. contains_key set (keys.Certificate m)) (range_with_len (PAGE_MEMBERS * number) PAGE_MEMBERS) (λ m. ap is_some (sym (h (keys.Certificate m))) ∙ some-rec (held_under set (keys.Certificate m))) in
     ap (λ xs. record { page = number; listed = map (entry_held n.held) xs }) certified
-    ∙ ap (λ es. record { page = number; listed = es }) (map-same (entry_held n.held) (entry_of set) (filter (λ m. contains_key set (keys.Certificate m)) (range_with_len (32 * number) 32)) (λ m. entry-is set n.held m h))
+    ∙ ap (λ es. record { page = number; listed = es }) (map-same (entry_held n.held) (entry_of set) (filter (λ m. contains_key set (keys.Certificate m)) (range_with_len (PAGE_MEMBERS * number) PAGE_MEMBERS)) (λ m. entry-is set n.held m h))
 
 -- ---- what is lacking
 
@@ -123,7 +124,7 @@ length-front (suc n) (x ∷ xs) h = ap suc (length-front n xs (omega (arith, h))
 
 -- ---- a page is a summary
 
-made-in : (set : Held) (number a n : ℕ) (q : ℕ → Bool) → ((m : ℕ) → a ≤ m → m < a + n → m / 32 ≡ number) → All (λ (e : SummaryEntry). page_of_member e.member ≡ number) (map (entry_of set) (filter q (range_with_len a n)))
+made-in : (set : Held) (number a n : ℕ) (q : ℕ → Bool) → ((m : ℕ) → a ≤ m → m < a + n → m / PAGE_MEMBERS ≡ number) → All (λ (e : SummaryEntry). page_of_member e.member ≡ number) (map (entry_of set) (filter q (range_with_len a n)))
 made-in set number a zero q each = λ k d h. absurd (omega arith)
 made-in set number a (suc n) q each =
     let rest = made-in set number (a + 1) n q (λ m low high. each m (omega (arith, low)) (omega (arith, high))) in
@@ -165,21 +166,21 @@ members_made : (held : Held) (ms : List ℕ) → members_of (map (entry_of held)
 members_made held [] = refl
 members_made held (m ∷ ms) = ap (λ (t : List ℕ). m ∷ t) (members_made held ms)
 
-pub page-keeps : (set : Held) (number : ℕ) → number < 32 → list_all noted (summary_of set number).listed ≡ true → IsSummary (summary_of set number)
+pub page-keeps : (set : Held) (number : ℕ) → number < PAGES → list_all noted (summary_of set number).listed ≡ true → IsSummary (summary_of set number)
 unfolding certified_of
 page-keeps set number below notes =
     let q : ℕ → Bool = λ m. contains_key set (keys.Certificate m) in
-    let in_page = made-in set number (32 * number) 32 q (λ m low high. omega (arith, low, high)) in
+    let in_page = made-in set number (PAGE_MEMBERS * number) PAGE_MEMBERS q (λ m low high. omega (arith, low, high)) in
     let noted_all = noted-all (summary_of set number).listed notes in
     record {
       page = below;
       listed = λ k d lt. record { in_page = in_page k d lt; unnoted = bare (get_or (summary_of set number).listed k d) (noted_all k d lt) };
-      rising = subst IsStrictlyIncreasing (sym (members_made set (filter q (range_with_len (32 * number) 32)))) (IsStrictlyIncreasing-filter q (range_with_len (32 * number) 32) (range_rises (32 * number) 32));
+      rising = subst IsStrictlyIncreasing (sym (members_made set (filter q (range_with_len (PAGE_MEMBERS * number) PAGE_MEMBERS)))) (IsStrictlyIncreasing-filter q (range_with_len (PAGE_MEMBERS * number) PAGE_MEMBERS) (range_rises (PAGE_MEMBERS * number) PAGE_MEMBERS));
     }
 
 -- ---- the code's steps
 
-pub page-writable : (from : ℕ) (flag : Bool) (set : Held) (number : ℕ) (s : Summary) → s ≡ summary_of set number → number < 32 → list_all noted s.listed ≡ true → IsWritable (kinds.Summary from flag s)
+pub page-writable : (from : ℕ) (flag : Bool) (set : Held) (number : ℕ) (s : Summary) → s ≡ summary_of set number → number < PAGES → list_all noted s.listed ≡ true → IsWritable (kinds.Summary from flag s)
 page-writable from flag set number s is below notes =
     subst (λ x. IsWritable (kinds.Summary from flag x)) (sym is) (summary_writable from flag (summary_of set number) (page-keeps set number below (ap (λ x. list_all noted x.listed) (sym is) ∙ notes)))
 

@@ -9,6 +9,7 @@ use Rattle.std.proofs.lemmas.List.{append_assoc}
 use Rattle.std.proofs.Common.{arith, eq-eqb, inl, inr}
 use Rattle.std.proofs.lemmas.Bool.Decides.{nat_tests}
 use Rattle.std.proofs.lemmas.Cmp.{nat_cmp_total}
+use Rattle.ff_ids.specs.declared.TheConstants.{MEMBERS}
 use Rattle.ff_ids.specs.declared.RingNo.{RingNo}
 use Rattle.ring_order.specs.Hashed.{hashed_places}
 use Rattle.node_core.proofs.TellingLemmas.{front-refl, front-trans, nil-right, map-append}
@@ -555,7 +556,7 @@ grows-refl a = record { going = λ ok. ok; stuck = λ failed. refl; events = fro
 -- the list of all that are wanted is that of the addressees
 pub all-wanted : (s : Setting) (v : Kept) (n : Node) (also : Option ℕ) (listed : List (Option ℕ)) → IsNode s v n → v.membership.group ≡ v.group
     → ((st : State) → Holds v.membership st → listed ≡ also ∷ map (λ ring. successor st ring v.me) (range_with_len 0 (ring_count v.membership.group.t)))
-    → wanted_of listed 1024 ≡ addressees s also (state_of s n)
+    → wanted_of listed MEMBERS ≡ addressees s also (state_of s n)
 unfolding all_numbers
 all-wanted s v n also listed is same h =
     let st : State = state_of s n in
@@ -563,7 +564,7 @@ all-wanted s v n also listed is same h =
     let m : s.me ≡ v.me = setting-me s v.group v.me v.authority v.signer.key is.setting in
     let these : listed ≡ listed_on s.group s.me st also =
     h st is.holds ∙ ap (λ (x : Group). listed_on x v.me st also) (same ∙ sym g) ∙ ap (λ x. listed_on s.group x st also) (sym m) in
-    ap (λ xs. wanted_of xs 1024) these ∙ addressees-are s st also
+    ap (λ xs. wanted_of xs MEMBERS) these ∙ addressees-are s st also
 
 -- ---- signatures
 

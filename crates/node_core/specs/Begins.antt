@@ -1,5 +1,6 @@
 -- A node whose first note is signed, and not yet accepted.
 use Rattle.std.specs.Prelude.{◌≡◌, ℕ, ◌<◌, ◌≤◌, All, Bool, true, false, not, nat_eq, List, [], ◌∷◌, ◌++◌, Result, Ok, Err}
+use Rattle.ff_ids.specs.declared.TheConstants.{MAX_TOLERANCE}
 use Rattle.records.specs.declared.Body.TheVariants.{Note, Certificate}
 use Rattle.records.specs.declared.Record.{Record}
 use Rattle.records.specs.declared.Body.{Body}
@@ -142,7 +143,7 @@ HasKey me own r = (c : CertBody) → r.body ≡ Certificate c → c.member ≡ m
 -- The numbers of a group of which a node may be a member.
 pub record IsGroup (group : Group) : Type 0 where
   pub some : 1 ≤ group.t
-  pub few : group.t ≤ 15
+  pub few : group.t ≤ MAX_TOLERANCE
   pub waits : 1 ≤ group.timeout
   pub ends : group.timeout ≤ 10000
   pub period : 0 < group.period

@@ -2,6 +2,7 @@
 use Rattle.std.specs.Prelude.{◌≡◌, ℕ, ◌≤◌, ◌<◌, Bool, false, true, List, ◌++◌, length}
 use Rattle.std.specs.Option.{option_map}
 use Rattle.std.specs.Result.{is_ok}
+use Rattle.ff_ids.specs.declared.TheConstants.{MAX_TOLERANCE}
 use Rattle.ff_ids.specs.declared.Group.{Group}
 use Rattle.ff_ids.specs.declared.summary.RecordKey.{RecordKey}
 use Rattle.ff_ids.specs.Masks.{good_mask}
@@ -93,7 +94,7 @@ pub record Extends (c d : Call) : Type 0 where
 -- What holds between calls of the parts.
 pub record IsReady (group : Group) (me : ℕ) (membership : Life) (detector : Probing) (signer : SignerState) : Type 0 where
   pub some : 1 ≤ group.t
-  pub few : group.t ≤ 15
+  pub few : group.t ≤ MAX_TOLERANCE
   pub period : 0 < group.period
   pub membership_group : membership.group ≡ group
   pub detector_group : detector.group ≡ group

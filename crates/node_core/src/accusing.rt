@@ -3,6 +3,7 @@
 ghost use Rattle.std.specs.Prelude.{◌≡◌, ℕ, ◌≤◌, ◌<◌, ◌&&◌, ◌∷◌, List, Option, Some, true, filter, take, IfErr, IfSome, is_err, OnOk, false, fold};
 ghost use Rattle.std.specs.List.{list_any, range_with_len, slice_get};
 ghost use Rattle.std.specs.Option.{option_map};
+ghost use Rattle.ff_ids.specs.declared.TheConstants.{MASK_BITS, MAX_TOLERANCE};
 ghost use Rattle.ff_ids.specs.Masks.{ring_count, enables, enabled};
 ghost use Rattle.ff_ids.specs.Views.{State, monitor, is_number};
 ghost use Rattle.membership.specs.Life.{has_joined};
@@ -41,7 +42,7 @@ fn is_by(kept: Option<AccBody>, me: MemberId) -> bool
 
 /// Whether an accusation by this member against another is kept.
 fn has_accused(membership: &Membership, me: MemberId, member: MemberId) -> bool
-    requires few { membership.now.group.t ≤ 15 }
+    requires few { membership.now.group.t ≤ MAX_TOLERANCE }
     ensures { (st : State) → Holds membership.now st
         → result ≡ list_any (λ ring. is_accused_by me (kept_against st.kept member ring)) (range_with_len 0 (ring_count membership.now.group.t)) }
 {
@@ -63,7 +64,7 @@ fn monitors_on(
 ) -> bool
     requires joined { has_joined membership.now member ≡ true }
     requires ring { ring.0 < ring_count membership.now.group.t }
-    requires few { ring.0 < 32 }
+    requires few { ring.0 < MASK_BITS }
     ensures { (st : State) → Holds membership.now st → result ≡ (enables note.now.mask.0 ring.0 && is_number (monitor st ring.0 member) me) }
 {
     note.mask.enables(ring) && membership.monitor(ring, member) == Some(me)
@@ -76,7 +77,7 @@ fn ring_for(
     member: MemberId,
     note: &NoteBody,
 ) -> Option<RingNo>
-    requires few { membership.now.group.t ≤ 15 }
+    requires few { membership.now.group.t ≤ MAX_TOLERANCE }
     requires joined { has_joined membership.now member ≡ true }
     ensures ring { (st : State) → Holds membership.now st → option_map (λ r. r.0) result
         ≡ slice_get (filter (λ ring. is_number (monitor st ring member) me) (enabled (ring_count membership.now.group.t) note.now.mask.0)) 0 }

@@ -9,7 +9,7 @@ ghost use Rattle.node_core.specs.Exchanging.{noted, IsLacking};
 
 use crate::hearing::bytes_of;
 use datagram::{Datagram, records_head};
-use ff_ids::{MemberId, Summary, SummaryEntry};
+use ff_ids::{LAST_PAGE, MemberId, Summary, SummaryEntry};
 use fields::NoMemory;
 use gossip::lacks;
 use record_set::RecordSet;
@@ -49,7 +49,7 @@ pub(crate) fn page_bytes(
 {
     let mut summary = Summary::new();
     records.page(page, &mut summary);
-    if page > 31 || !are_noted(summary.entries()) {
+    if page > LAST_PAGE || !are_noted(summary.entries()) {
         return Err(NoMemory);
     }
     bytes_of(

@@ -4,7 +4,7 @@ ghost use Rattle.std.specs.Prelude.{◌≡◌, ◌↔◌, [], All, true};
 ghost use Rattle.node_core.specs.Begins.{IsCheckedIn, IsGroup, IsKit};
 
 use crate::certificates::are_certificates_of;
-use ff_ids::{Group, MemberId};
+use ff_ids::{Group, MAX_TOLERANCE, MemberId};
 use fields::Bytes;
 use journal::Event;
 use lms_tree::PublicKey;
@@ -23,12 +23,12 @@ pub struct Kit {
     pub nonce_seed: [u8; 32],
 }
 
-/// Whether the numbers are those of a group: t from 1 to 15, a timeout of 1 to 10,000 ticks, a period of 1 to 1,000, and
+/// Whether the numbers are those of a group: t from 1 to `MAX_TOLERANCE`, a timeout of 1 to 10,000 ticks, a period of 1 to 1,000, and
 /// 1 to 16 misses.
 fn is_group(group: &Group) -> bool
     ensures { (result ≡ true) ↔ IsGroup group.now }
 {
-    (1..=15).contains(&group.t)
+    (1..=MAX_TOLERANCE).contains(&group.t)
         && (1..=10_000).contains(&group.timeout)
         && (1..=1_000).contains(&group.period)
         && (1..=16).contains(&group.misses)

@@ -2,6 +2,7 @@
 
 ghost use Rattle.std.specs.Prelude.{◌≡◌, ◌≤◌, ℕ, true, false, List, [], None, IfOk, map, fold, All};
 ghost use Rattle.std.specs.FinMap.{empty};
+ghost use Rattle.ff_ids.specs.declared.TheConstants.{MAX_TOLERANCE};
 ghost use Rattle.ff_ids.specs.Lives.{opening};
 ghost use Rattle.membership.specs.Holds.{Holds};
 ghost use Rattle.journal.specs.declared.event.Event as journal;
@@ -31,7 +32,7 @@ pub struct Roll {
 impl Roll {
     /// Nobody is certified yet. The room for all is taken here.
     pub fn open(alloc: Global, group: Group) -> Result<Roll, NoMemory>
-        requires { group.t ≤ 15 }
+        requires { group.t ≤ MAX_TOLERANCE }
         ensures group { IfOk result (λ r. r.membership.group ≡ group) }
         ensures holds { IfOk result (λ r. Holds r.membership (opening [])) }
         ensures roster { IfOk result (λ r. r.roster ≡ empty) }
@@ -48,7 +49,7 @@ impl Roll {
     fn take(&mut self, rec: Checked, cert: CertBody)
         requires certificate { rec.rec.body ≡ bodies.Certificate cert }
         requires tolerance { rec.t ≡ self.old.membership.group.t }
-        requires few { self.old.membership.group.t ≤ 15 }
+        requires few { self.old.membership.group.t ≤ MAX_TOLERANCE }
         ensures plays { (s : Setting) (es : List journal.Event) (os : List (ℕ × List ℕ)) (v : Kept) (c : Call) → IsAt s es os (with_roll v self.old) c
             → v.group ≡ self.old.membership.group → v.telling.failed ≡ false → certificate_of c.node cert.member ≡ None
             → IsAt s es os (with_roll v self.new) (takes s rec.rec c) }
@@ -66,7 +67,7 @@ impl Roll {
     /// Takes the certificates, in order, of numbers that have none.
     pub fn take_all(&mut self, certificates: Vec<Checked>)
         requires all { All (IsCertificateFor self.old.membership.group.t) certificates.items }
-        requires few { self.old.membership.group.t ≤ 15 }
+        requires few { self.old.membership.group.t ≤ MAX_TOLERANCE }
         ensures plays { (s : Setting) (es : List journal.Event) (os : List (ℕ × List ℕ)) (v : Kept) (c : Call) → IsAt s es os (with_roll v self.old) c
             → v.group ≡ self.old.membership.group → v.telling.failed ≡ false → AreNew s c (map (λ x. x.rec) certificates.items)
             → IsAt s es os (with_roll v self.new) (takes_all s (map (λ x. x.rec) certificates.items) c) }

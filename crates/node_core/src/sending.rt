@@ -2,6 +2,7 @@
 
 ghost use Rattle.std.specs.Prelude.{◌≡◌, ℕ, ◌≤◌, ◌<◌, ◌++◌, ◌∷◌, List, Option, IfOk, [], length, take, map, true, if◌then◌else◌};
 ghost use Rattle.std.specs.List.{list_any, range_with_len};
+ghost use Rattle.ff_ids.specs.declared.TheConstants.{MAX_TOLERANCE};
 ghost use Rattle.ff_ids.specs.Masks.{ring_count};
 ghost use Rattle.ff_ids.specs.Views.{State, successor, is_number};
 ghost use Rattle.membership.specs.Life.{has_joined};
@@ -20,7 +21,7 @@ ghost use Rattle.node_core.specs.Neighbours.{addressees};
 use crate::Node;
 use arrayvec::ArrayVec;
 use datagram::records_head;
-use ff_ids::{MEMBERS, MemberId, RingNo};
+use ff_ids::{MAX_RINGS, MEMBERS, MemberId, RingNo};
 use fields::NoMemory;
 use membership::Membership;
 use records::{Record, write_record};
@@ -37,14 +38,17 @@ pub(crate) fn datagram_of(alloc: Global, from: MemberId, rec: &Record) -> Result
     Ok(bytes)
 }
 
+/// How many members a record goes to at most: one on each ring, and one more.
+const RECIPIENTS: usize = MAX_RINGS as usize + 1;
+
 /// The successors of the member on each ring, behind one more.
 fn list_successors(
     membership: &Membership,
     me: MemberId,
     also: Option<MemberId>,
-) -> ArrayVec<Option<MemberId>, 32>
+) -> ArrayVec<Option<MemberId>, RECIPIENTS>
     requires joined { has_joined membership.now me ≡ true }
-    requires few { membership.now.group.t ≤ 15 }
+    requires few { membership.now.group.t ≤ MAX_TOLERANCE }
     ensures { (st : State) → Holds membership.now st
         → result.items ≡ also ∷ map (λ ring. successor st ring me) (range_with_len 0 (ring_count membership.now.group.t)) }
 {

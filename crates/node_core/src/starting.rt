@@ -2,6 +2,7 @@
 
 ghost use Rattle.std.specs.Prelude.{◌≡◌, ◌≤◌, ◌<◌, ◌^◌, ◌+◌, ℕ, true, false, List, [], ◌∷◌, length, IfOk, IfErr, OnErr, All, is_err};
 ghost use Rattle.std.specs.List.{list_any};
+ghost use Rattle.ff_ids.specs.declared.TheConstants.{MAX_TOLERANCE};
 ghost use Rattle.ff_ids.specs.Masks.{good_mask};
 ghost use Rattle.ports.specs.Count.{counted};
 ghost use Rattle.lms_tree.specs.Leaves.{index_count};
@@ -40,7 +41,7 @@ use std::alloc::Global;
 /// The mask of a life's first note: the stored one, or that of all rings where it isn't good.
 fn first_mask(group: &Group, stored: Mask) -> Mask
     requires some { 1 ≤ group.now.t }
-    requires few { group.now.t ≤ 15 }
+    requires few { group.now.t ≤ MAX_TOLERANCE }
     ensures value { result.0 ≡ mask_at_first group.now.t stored.0 }
     ensures good { good_mask group.now.t result.0 ≡ true }
 {
@@ -66,7 +67,7 @@ fn open_parts(
     certificates: Vec<Checked>,
     seed: [u8; 32],
 ) -> Result<Parts, NoMemory>
-    requires few { group.now.t ≤ 15 }
+    requires few { group.now.t ≤ MAX_TOLERANCE }
     requires misses { group.now.misses ≤ 16 }
     requires certificates { All (IsCertificateFor group.now.t) certificates.items }
     requires apart { AreApart (recs_of certificates.items) }
@@ -103,7 +104,7 @@ fn sign_first<D: Disk>(
     me: MemberId,
 ) -> Result<First, NodeFault>
     requires some { 1 ≤ group.now.t }
-    requires few { group.now.t ≤ 15 }
+    requires few { group.now.t ≤ MAX_TOLERANCE }
     requires open { signer.old.closed ≡ false }
     ensures faults { D.faults disk.new ≡ counted (is_store_fault result) (D.faults disk.old) }
     ensures signed { IfOk result (λ f. IsFirst signer.old signer.new group.now.t me f) }

@@ -7,7 +7,7 @@ use Rattle.ff_ids.specs.Masks.{bits_where}
 use Rattle.ff_ids.specs.declared.NoteBody.{NoteBody}
 use Rattle.ff_ids.specs.declared.summary.RecordKey.TheVariants as keys
 use Rattle.ff_ids.specs.Notes.{newest}
-use Rattle.ff_ids.specs.Views.{all_numbers}
+use Rattle.ff_ids.specs.Views.{all_numbers, in_view_by}
 use Rattle.records.specs.declared.CertBody.{CertBody}
 use Rattle.records.specs.declared.Body.TheVariants.{Certificate}
 use Rattle.records.specs.declared.Record.{Record}
@@ -58,7 +58,7 @@ three = life (setting 3) (certificate 3 ∷ [])
 enough : let notes = known one (hears_note 2 4 ∷ []) three [] in
     (lacking (node_after one (hears_note 2 4 ∷ [])) (page (node_after three []) 0) ≡ given one (hears_note 2 4 ∷ []) three [])
     × (newest notes 1 ≡ noted 1 1) × (newest notes 2 ≡ noted 2 4) × (newest notes 3 ≡ noted 3 1)
-unfolding all_numbers started signs signs_and_sends wants takes lives state_of delivered handles refusal sends certificate_of neighbours answering_mask bits_where page lacking read_of whole_of datagram_at head_at items_at content_at records_at counted_at record_at body_at certificate_at note_at accusation_at key_at signature_at head_bytes records_bytes note_bytes accusation_bytes certificate_bytes key_bytes
+unfolding all_numbers in_view_by started signs signs_and_sends wants takes lives state_of delivered handles refusal sends certificate_of neighbours answering_mask bits_where page lacking read_of whole_of datagram_at head_at items_at content_at records_at counted_at record_at body_at certificate_at note_at accusation_at key_at signature_at head_bytes records_bytes note_bytes accusation_bytes certificate_bytes key_bytes
 enough = (refl, refl, refl, refl)
 
 -- A note that is less is raised, and one that is greater stays.
@@ -66,7 +66,7 @@ abbrev three_beside : Life
 three_beside = life (setting 3) (certificate 2 ∷ certificate 3 ∷ [])
 
 raised : (newest (known one (hears_note 2 4 ∷ []) three_beside (hears_note 2 3 ∷ [])) 2 ≡ noted 2 4) × (newest (known one (hears_note 2 4 ∷ []) three_beside (hears_note 2 5 ∷ [])) 2 ≡ noted 2 5)
-unfolding all_numbers started signs signs_and_sends wants takes lives state_of delivered handles refusal sends certificate_of neighbours answering_mask bits_where page lacking read_of whole_of datagram_at head_at items_at content_at records_at counted_at record_at body_at certificate_at note_at accusation_at key_at signature_at head_bytes records_bytes note_bytes accusation_bytes certificate_bytes key_bytes
+unfolding all_numbers in_view_by started signs signs_and_sends wants takes lives state_of delivered handles refusal sends certificate_of neighbours answering_mask bits_where page lacking read_of whole_of datagram_at head_at items_at content_at records_at counted_at record_at body_at certificate_at note_at accusation_at key_at signature_at head_bytes records_bytes note_bytes accusation_bytes certificate_bytes key_bytes
 raised = (refl, refl)
 
 -- A note of node 3 itself that it doesn't know is refused: its own note would have to be at least that.
@@ -74,7 +74,7 @@ abbrev one_beside : Life
 one_beside = life (setting 1) (certificate 1 ∷ certificate 3 ∷ [])
 
 own_note_counts : newest (known one_beside (hears_note 3 9 ∷ []) three []) 3 ≡ noted 3 1
-unfolding all_numbers started signs signs_and_sends wants takes lives state_of delivered handles refusal sends certificate_of neighbours answering_mask bits_where page lacking read_of whole_of datagram_at head_at items_at content_at records_at counted_at record_at body_at certificate_at note_at accusation_at key_at signature_at head_bytes records_bytes note_bytes accusation_bytes certificate_bytes key_bytes
+unfolding all_numbers in_view_by started signs signs_and_sends wants takes lives state_of delivered handles refusal sends certificate_of neighbours answering_mask bits_where page lacking read_of whole_of datagram_at head_at items_at content_at records_at counted_at record_at body_at certificate_at note_at accusation_at key_at signature_at head_bytes records_bytes note_bytes accusation_bytes certificate_bytes key_bytes
 own_note_counts = refl
 
 -- Where a signature verifies under the key whose id begins with the same byte, and the two keep different certificates
@@ -90,7 +90,7 @@ strict_one = life (strict 1) (certified 1 0 ∷ certified 2 5 ∷ [])
 
 certificates_count : (newest (known strict_one (hears_note 2 4 ∷ []) (life (strict 3) (certified 2 5 ∷ certified 3 0 ∷ [])) []) 2 ≡ noted 2 4)
     × (newest (known strict_one (hears_note 2 4 ∷ []) (life (strict 3) (certified 2 6 ∷ certified 3 0 ∷ [])) []) 2 ≡ None)
-unfolding all_numbers started signs signs_and_sends wants takes lives state_of delivered handles refusal sends certificate_of neighbours answering_mask bits_where page lacking read_of whole_of datagram_at head_at items_at content_at records_at counted_at record_at body_at certificate_at note_at accusation_at key_at signature_at head_bytes records_bytes note_bytes accusation_bytes certificate_bytes key_bytes
+unfolding all_numbers in_view_by started signs signs_and_sends wants takes lives state_of delivered handles refusal sends certificate_of neighbours answering_mask bits_where page lacking read_of whole_of datagram_at head_at items_at content_at records_at counted_at record_at body_at certificate_at note_at accusation_at key_at signature_at head_bytes records_bytes note_bytes accusation_bytes certificate_bytes key_bytes
 certificates_count = (refl, refl)
 
 -- ---- the law applies
@@ -145,7 +145,7 @@ one_certificate me m c kept =
     ]
 
 strangers : newest (notes_after (alone 1) []) 3 ≡ None
-unfolding all_numbers started signs takes lives state_of
+unfolding all_numbers in_view_by started signs takes lives state_of
 strangers = refl
 
 meet : Meet (alone 1) (alone 3) [] [] []
@@ -164,11 +164,11 @@ abbrev told : List ℕ
 told = datagram_bytes (kinds.Records 1 (given (alone 1) [] (alone 3) []))
 
 holds : HoldsAllLacking (sized 1) (node_after (alone 1) []) (page (node_after (alone 3) []) 0) told
-unfolding all_numbers started signs takes lives state_of page lacking bits_where head_bytes records_bytes note_bytes certificate_bytes key_bytes
+unfolding all_numbers in_view_by started signs takes lives state_of page lacking bits_where head_bytes records_bytes note_bytes certificate_bytes key_bytes
 holds = record { whole = refl; spelled = refl }
 
 own_note : newest (notes_after (alone 1) []) 1 ≡ noted 1 1
-unfolding all_numbers started signs takes lives state_of
+unfolding all_numbers in_view_by started signs takes lives state_of
 own_note = refl
 
 applies : HasAtLeast (notes_after (alone 3) (Delivers told ∷ [])) 1 (record { member = 1; epoch = 1; mask = record { 0 = 7 } })

@@ -4,8 +4,9 @@ use Rattle.std.specs.List.{AllByRecursion, list_any, slice_get}
 use Rattle.std.specs.Option.{option_and_then, option_map_or}
 use Rattle.std.specs.Ordering.{eq_by_cmp}
 use Rattle.std.proofs.lemmas.Bool.{cases_Bool}
-use Rattle.std.proofs.lemmas.Nat.{pow_below}
+use Rattle.ff_ids.proofs.MaskLemmas.{good_mask-fits}
 use Rattle.std.proofs.lemmas.List.Elements.{recursion_from_All}
+use Rattle.ff_ids.specs.declared.TheConstants.{MASK_BITS, MAX_TOLERANCE, MEMBERS}
 use Rattle.ff_ids.specs.declared.AccBody.{AccBody}
 use Rattle.ff_ids.specs.declared.NoteBody.{NoteBody}
 use Rattle.ff_ids.specs.declared.summary.RecordKey.{RecordKey}
@@ -29,7 +30,6 @@ use Rattle.datagram.specs.Spelling.{IsSignedRecord, IsRecordList}
 use Rattle.datagram.specs.Grammar.{read_of}
 use Rattle.datagram.proofs.Readings.{read_found}
 use Rattle.detector.specs.Watching.{newest_epoch}
-use Rattle.rebuttal.proofs.Answering.{good_parts}
 use Rattle.node_rules.specs.Nodes.{Setting, Node, Holding, state_of, event_of, with_record}
 use Rattle.node_rules.specs.Refusals.{refusal}
 use Rattle.node_rules.specs.Calls.{Call, begun, lives, takes, spends, signs, own_record, is_used_up}
@@ -76,8 +76,8 @@ formed-signs s b c this formed = formed-takes s (own_record s c.node b) (spends 
 
 -- What a node is opened with is within its ranges.
 record IsRanged (s : Setting) : Type 0 where
-  me : s.me < 1024
-  few : s.group.t ≤ 15
+  me : s.me < MEMBERS
+  few : s.group.t ≤ MAX_TOLERANCE
   indexes : s.indexes < 2 ^ 64
   lengths : (key : PublicKey) (r : Record) → s.verifies key r ≡ true → HasLength r.signature
 
@@ -87,9 +87,6 @@ pub record Formed (s : Setting) (own : PublicKey) (n : Node) : Type 0 where
   pub epoch : n.stored.epoch ≤ n.stored.next
 
 -- ---- own records
-
-good-fits : (t mask : ℕ) → t ≤ 15 → good_mask t mask ≡ true → mask < 2 ^ 32
-good-fits t mask few good = omega (arith, (good_parts t mask good).fits, pow_below (ring_count t) 32 (omega arith))
 
 own-signed : (s : Setting) (own : PublicKey) (b : Body) (n : Node) → IsRanged s → OwnSignaturesVerify s own → n.stored.next < s.indexes → IsBody b → IsSignedRecord (own_record s n b)
 own-signed s own b n ranged sign left body = record { body = body; signature = ranged.lengths own (own_record s n b) (sign n.stored.next b left) }
@@ -112,7 +109,7 @@ next-formed s n mask ranged le left good =
       member_number = ranged.me;
       has_epoch = omega arith;
       epoch_fits = omega (arith, ranged.indexes, le, left);
-      mask_fits = good-fits s.group.t mask ranged.few good;
+      mask_fits = good_mask-fits s.group.t mask ranged.few good;
     }
 
 formed-answers : (s : Setting) (own : PublicKey) (r : Record) (a : AccBody) (c : Call) → IsRanged s → 1 ≤ s.group.t → OwnSignaturesVerify s own → IsSignedRecord r → refusal s c.node r ≡ None → r.body ≡ Accusation a → eqb a.accused s.me ≡ true
@@ -148,7 +145,7 @@ accused-body s own n m ring ranged h found =
     let epoch : newest_epoch st m ≡ x.epoch = ap (λ o. option_map_or (λ (y : NoteBody). y.epoch) o 0) note.1 in
     record {
       accuser_number = ranged.me;
-      accused_number = subst (λ k. k < 1024) who body.member_number;
+      accused_number = subst (λ k. k < MEMBERS) who body.member_number;
       has_epoch = subst (λ k. 0 < k) (sym epoch) body.has_epoch;
       epoch_fits = subst (λ k. k < 2 ^ 64) (sym epoch) body.epoch_fits;
     }
@@ -204,7 +201,7 @@ formed-started s own seed certificates stored all mine good sign left ranged spe
       member_number = ranged.me;
       has_epoch = omega arith;
       epoch_fits = omega (arith, ranged.indexes, epoch, left);
-      mask_fits = good-fits s.group.t (first_mask s.group.t stored.mask.0) ranged.few (first-good s.group.t stored.mask.0);
+      mask_fits = good_mask-fits s.group.t (first_mask s.group.t stored.mask.0) ranged.few (first-good s.group.t stored.mask.0);
     } in
     let index : c.node.stored.next < s.indexes = subst (λ k. k.next < s.indexes) (sym kept) left in
     record {

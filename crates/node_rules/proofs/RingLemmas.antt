@@ -5,6 +5,7 @@ use Rattle.std.specs.List.{list_any, range_with_len, slice_get, Contains}
 use Rattle.std.specs.Option.{option_and_then}
 use Rattle.std.proofs.lemmas.Bool.{cond_both, cases_Bool, eqb-true, eq-eqb, and_parts, and_from, false≢true}
 use Rattle.std.proofs.lemmas.Bool.Decides.{nat_tests}
+use Rattle.ff_ids.specs.declared.TheConstants.{MEMBERS}
 use Rattle.ff_ids.specs.declared.NoteBody.{NoteBody}
 use Rattle.ff_ids.specs.Masks.{ring_count, enables}
 use Rattle.ff_ids.specs.Notes.{newest}
@@ -165,11 +166,11 @@ neighbours-are s st =
       λ m h. Contains-from_In (in_order listed) m (in_order-listed listed m (successor-number st h.ring s.me m h.follows) (listed-succeeds s st m h)),
     )
 
-small-number : (m : ℕ) → m < 1024 → In all_numbers m
+small-number : (m : ℕ) → m < MEMBERS → In all_numbers m
 small-number m low = subst (λ xs. In xs m) (sym all_length.1.are) (In-range 0 all_length.0 m (omega arith) (omega (arith, low, all_length.1.long)))
 
 pub accused-addressed : (s : Setting) (st : State) (m : ℕ) → Rises 0 (neighbours_and s m st) × ((to : ℕ) → Contains (neighbours_and s m st) to → (to ≡ m) ⊎ Succeeds s st to)
-    × (m < 1024 → Contains (neighbours_and s m st) m) × ((to : ℕ) → Succeeds s st to → Contains (neighbours_and s m st) to)
+    × (m < MEMBERS → Contains (neighbours_and s m st) m) × ((to : ℕ) → Succeeds s st to → Contains (neighbours_and s m st) to)
 unfolding neighbours_and
 accused-addressed s st m =
     let listed : List ℕ = m ∷ successors s st in (

@@ -4,7 +4,7 @@ use Rattle.ff_ids.specs.Masks.{bits_where}
 use Rattle.ff_ids.specs.declared.Group.{Group}
 use Rattle.ff_ids.specs.declared.AccBody.{AccBody}
 use Rattle.ff_ids.specs.declared.Fault.TheVariants as faults
-use Rattle.ff_ids.specs.Views.{all_numbers}
+use Rattle.ff_ids.specs.Views.{all_numbers, in_view_by}
 use Rattle.lms_ots.specs.declared.OtsKind.TheVariants.{W8}
 use Rattle.lms_tree.specs.declared.TreeKind.TheVariants.{H5}
 use Rattle.lms_tree.specs.declared.key.PublicKey.{PublicKey}
@@ -79,7 +79,7 @@ abbrev at0 : whats.What → journal.Event
 at0 what = record { moment = 0; what = what }
 
 starts : first.told ≡ at0 (told.Spent 0 (note 1 1 7)) ∷ at0 (told.Entered 1) ∷ []
-unfolding all_numbers started signs takes lives state_of
+unfolding all_numbers in_view_by started signs takes lives state_of
 starts = refl
 
 -- A ping is answered, and what is no datagram is named with its place.
@@ -90,11 +90,11 @@ abbrev pong : List ℕ
 pong = 70 ∷ 70 ∷ 1 ∷ 2 ∷ 0 ∷ 1 ∷ 0 ∷ 0 ∷ 0 ∷ 0 ∷ 0 ∷ 0 ∷ 1 ∷ 2 ∷ []
 
 pinged : let c = delivered (setting 1) first.node ping in (c.told ≡ at0 (told.Ping 2 258) ∷ at0 (told.Sent 0 2 pong) ∷ []) × (c.sent ≡ (2, pong) ∷ [])
-unfolding all_numbers started signs takes lives state_of delivered sends certificate_of read_of whole_of datagram_at head_at items_at content_at head_bytes
+unfolding all_numbers in_view_by started signs takes lives state_of delivered sends certificate_of read_of whole_of datagram_at head_at items_at content_at head_bytes
 pinged = (refl, refl)
 
 cut : let c = delivered (setting 1) first.node (70 ∷ 70 ∷ []) in (c.told ≡ at0 (told.BadForm 2) ∷ []) × (c.sent ≡ [])
-unfolding all_numbers started signs takes lives state_of delivered sends certificate_of read_of whole_of datagram_at head_at items_at content_at
+unfolding all_numbers in_view_by started signs takes lives state_of delivered sends certificate_of read_of whole_of datagram_at head_at items_at content_at
 cut = (refl, refl)
 
 -- The bytes of a datagram of member 2 with a record of this body.
@@ -107,7 +107,7 @@ noted = delivered (setting 1) first.node (given (note 2 1 7))
 
 takes_a_note : (noted.told ≡ at0 (told.Took (note 2 1 7) None) ∷ at0 (told.Entered 2) ∷ [])
     × ((delivered (setting 1) noted.node (given (note 2 1 7))).told ≡ at0 (told.Took (note 2 1 7) (Some faults.Known)) ∷ [])
-unfolding all_numbers started signs takes lives state_of delivered handles refusal sends certificate_of read_of whole_of datagram_at head_at items_at content_at records_at counted_at record_at body_at certificate_at note_at accusation_at key_at signature_at head_bytes records_bytes note_bytes
+unfolding all_numbers in_view_by started signs takes lives state_of delivered handles refusal sends certificate_of read_of whole_of datagram_at head_at items_at content_at records_at counted_at record_at body_at certificate_at note_at accusation_at key_at signature_at head_bytes records_bytes note_bytes
 takes_a_note = (refl, refl)
 
 -- An accusation is answered: the ring is disabled, and the next answer enables it again.
@@ -125,21 +125,21 @@ abbrev own : ℕ → ℕ → ℕ → List ℕ
 own index epoch mask = datagram_bytes (kinds.Records 1 (record { body = note 1 epoch mask; signature = index ∷ [] } ∷ []))
 
 answered : once.told ≡ at0 (told.Took (acc 2 1 1 0) None) ∷ at0 (told.Spent 1 (note 1 2 6)) ∷ at0 (told.Fell (accused 2 1 1 0)) ∷ at0 (told.Sent 0 2 (own 1 2 6)) ∷ []
-unfolding all_numbers started signs signs_and_sends wants takes lives state_of delivered handles refusal sends certificate_of neighbours answering_mask bits_where read_of whole_of datagram_at head_at items_at content_at records_at counted_at record_at body_at certificate_at note_at accusation_at key_at signature_at head_bytes records_bytes note_bytes accusation_bytes
+unfolding all_numbers in_view_by started signs signs_and_sends wants takes lives state_of delivered handles refusal sends certificate_of neighbours answering_mask bits_where read_of whole_of datagram_at head_at items_at content_at records_at counted_at record_at body_at certificate_at note_at accusation_at key_at signature_at head_bytes records_bytes note_bytes accusation_bytes
 answered = refl
 
 answered_again : twice.told ≡ at0 (told.Took (acc 2 1 2 1) None) ∷ at0 (told.Spent 2 (note 1 3 5)) ∷ at0 (told.Fell (accused 2 1 2 1)) ∷ at0 (told.Sent 0 2 (own 2 3 5)) ∷ []
-unfolding all_numbers started signs signs_and_sends wants takes lives state_of delivered handles refusal sends certificate_of neighbours answering_mask bits_where read_of whole_of datagram_at head_at items_at content_at records_at counted_at record_at body_at certificate_at note_at accusation_at key_at signature_at head_bytes records_bytes note_bytes accusation_bytes
+unfolding all_numbers in_view_by started signs signs_and_sends wants takes lives state_of delivered handles refusal sends certificate_of neighbours answering_mask bits_where read_of whole_of datagram_at head_at items_at content_at records_at counted_at record_at body_at certificate_at note_at accusation_at key_at signature_at head_bytes records_bytes note_bytes accusation_bytes
 answered_again = refl
 
 disabled : thrice.told ≡ at0 (told.Took (acc 2 1 3 1) (Some faults.RingDisabled)) ∷ []
-unfolding all_numbers started signs signs_and_sends wants takes lives state_of delivered handles refusal sends certificate_of neighbours answering_mask bits_where read_of whole_of datagram_at head_at items_at content_at records_at counted_at record_at body_at certificate_at note_at accusation_at key_at signature_at head_bytes records_bytes note_bytes accusation_bytes
+unfolding all_numbers in_view_by started signs signs_and_sends wants takes lives state_of delivered handles refusal sends certificate_of neighbours answering_mask bits_where read_of whole_of datagram_at head_at items_at content_at records_at counted_at record_at body_at certificate_at note_at accusation_at key_at signature_at head_bytes records_bytes note_bytes accusation_bytes
 disabled = refl
 
 -- The disk fails in the answer: the life is over.
 stopped : let c = called (setting 1) noted.node (Delivers (given (acc 2 1 1 0))) (Some 0) in
     (c.told ≡ at0 (told.Took (acc 2 1 1 0) None) ∷ at0 told.Stopped ∷ []) × (c.sent ≡ []) × (c.ended ≡ true)
-unfolding all_numbers started signs signs_and_sends wants takes lives state_of delivered called delivered_on handles_on handles refusal sends certificate_of neighbours answering_mask bits_where read_of whole_of datagram_at head_at items_at content_at records_at counted_at record_at body_at certificate_at note_at accusation_at key_at signature_at head_bytes records_bytes note_bytes accusation_bytes
+unfolding all_numbers in_view_by started signs signs_and_sends wants takes lives state_of delivered called delivered_on handles_on handles refusal sends certificate_of neighbours answering_mask bits_where read_of whole_of datagram_at head_at items_at content_at records_at counted_at record_at body_at certificate_at note_at accusation_at key_at signature_at head_bytes records_bytes note_bytes accusation_bytes
 stopped = (refl, refl, refl)
 
 -- The key is used up: no answer is signed, and the life goes on.
@@ -148,7 +148,7 @@ last_life = started (setting 1) seed (certificate 1 ∷ certificate 2 ∷ []) (r
 
 used_up : ((delivered (setting 1) (delivered (setting 1) last_life.node (given (note 2 1 7))).node (given (acc 2 1 32 0))).told
     ≡ at0 (told.Took (acc 2 1 32 0) None) ∷ at0 (told.Exhausted 32) ∷ [])
-unfolding all_numbers started signs signs_and_sends wants takes lives state_of delivered handles refusal sends certificate_of neighbours answering_mask bits_where read_of whole_of datagram_at head_at items_at content_at records_at counted_at record_at body_at certificate_at note_at accusation_at key_at signature_at head_bytes records_bytes note_bytes accusation_bytes
+unfolding all_numbers in_view_by started signs signs_and_sends wants takes lives state_of delivered handles refusal sends certificate_of neighbours answering_mask bits_where read_of whole_of datagram_at head_at items_at content_at records_at counted_at record_at body_at certificate_at note_at accusation_at key_at signature_at head_bytes records_bytes note_bytes accusation_bytes
 used_up = refl
 
 -- Two accusations in one datagram: the first is answered, and the second is at an epoch that the answer has ended.
@@ -158,5 +158,5 @@ two_records = record { body = acc 2 1 1 0; signature = 5 ∷ [] } ∷ record { b
 one_answer : (records_told (setting 1) noted.node two_records ≡ told.Took (acc 2 1 1 0) None ∷ told.Spent 1 (note 1 2 6) ∷ told.Took (acc 2 1 1 1) (Some (faults.OtherEpoch 2)) ∷ [])
     × (answers_sent (setting 1) noted.node two_records ≡ (2, own 1 2 6) ∷ [])
     × (gained (setting 1) noted.node two_records ≡ Accuses (accused 2 1 1 0) ∷ Notes (record { member = 1; epoch = 2; mask = record { 0 = 6 } }) ∷ [])
-unfolding all_numbers started signs signs_and_sends wants takes lives state_of delivered handles refusal sends certificate_of neighbours answering_mask bits_where read_of whole_of datagram_at head_at items_at content_at records_at counted_at record_at body_at certificate_at note_at accusation_at key_at signature_at head_bytes records_bytes note_bytes accusation_bytes
+unfolding all_numbers in_view_by started signs signs_and_sends wants takes lives state_of delivered handles refusal sends certificate_of neighbours answering_mask bits_where read_of whole_of datagram_at head_at items_at content_at records_at counted_at record_at body_at certificate_at note_at accusation_at key_at signature_at head_bytes records_bytes note_bytes accusation_bytes
 one_answer = (refl, refl, refl)

@@ -6,6 +6,7 @@ use Rattle.std.specs.Int.{w16, to_be_bytes}
 use Rattle.std.proofs.lemmas.Bool.{cond_both, leb-true}
 use Rattle.std.proofs.lemmas.List.{length-append}
 use Rattle.std.proofs.lemmas.List.Elements.{All-from_recursion}
+use Rattle.ff_ids.specs.declared.TheConstants.{MEMBERS}
 use Rattle.ff_ids.specs.declared.summary.RecordKey.{RecordKey}
 use Rattle.ff_ids.specs.declared.summary.Summary.{Summary}
 use Rattle.records.specs.declared.Record.{Record}
@@ -71,7 +72,7 @@ unfolding records_bytes
 records-bytes_long records = omega (arith, length-append (to_be_bytes w16 (length records)) (flat_map record_bytes records), two_bytes (length records))
 
 -- Records that have a spelling, and fit, are a datagram.
-is-datagram : (from : ℕ) (records : List Record) → from < 1024 → 0 < length records → AllByRecursion IsSignedRecord records → length (flat_map record_bytes records) ≤ 32760
+is-datagram : (from : ℕ) (records : List Record) → from < MEMBERS → 0 < length records → AllByRecursion IsSignedRecord records → length (flat_map record_bytes records) ≤ 32760
     → IsDatagram (datagram_bytes (kinds.Records from records)) (kinds.Records from records)
 is-datagram from records sender some all short =
     record {
@@ -80,7 +81,7 @@ is-datagram from records sender some all short =
       few = omega (arith, length-append (head_bytes 4 from) (records_bytes records), head-long 4 from, records-bytes_long records, short);
     }
 
-pub lacking-datagram : (s : Setting) (n : Node) (theirs : Summary) → s.me < 1024 → ((k : RecordKey) (r : Record) → n.held k ≡ Some r → IsSignedRecord r) → 0 < length (lacking n theirs)
+pub lacking-datagram : (s : Setting) (n : Node) (theirs : Summary) → s.me < MEMBERS → ((k : RecordKey) (r : Record) → n.held k ≡ Some r → IsSignedRecord r) → 0 < length (lacking n theirs)
     → IsDatagram (datagram_bytes (kinds.Records s.me (lacking n theirs))) (kinds.Records s.me (lacking n theirs))
 lacking-datagram s n theirs me formed some = is-datagram s.me (lacking n theirs) me some (lacking-all n theirs formed) (lacking-short n theirs)
 

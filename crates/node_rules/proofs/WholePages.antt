@@ -8,6 +8,7 @@ use Rattle.std.proofs.lemmas.Bool.{cases_Bool, eqb-true, false≢true, and_from}
 use Rattle.std.proofs.lemmas.Bool.Decides.{nat_tests}
 use Rattle.std.proofs.lemmas.List.Elements.{filter_map-append}
 use Rattle.std.proofs.lemmas.List.Sums.{fold-append}
+use Rattle.ff_ids.specs.declared.TheConstants.{PAGE_MEMBERS}
 use Rattle.ff_ids.specs.declared.NoteBody.{NoteBody}
 use Rattle.ff_ids.specs.declared.summary.RecordKey.{RecordKey}
 use Rattle.ff_ids.specs.declared.summary.RecordKey.TheVariants as keys
@@ -106,21 +107,21 @@ find-in p (x ∷ xs) y e =
           (inr r.0, r.1)
     ]
 
-on_page : (m number : ℕ) → page_of_member m ≡ number → (32 * number ≤ m) × (m < 32 * number + 32)
+on_page : (m number : ℕ) → page_of_member m ≡ number → (PAGE_MEMBERS * number ≤ m) × (m < PAGE_MEMBERS * number + PAGE_MEMBERS)
 on_page m number e = (omega (arith, e), omega (arith, e))
 
 listed : (n : Node) (number m : ℕ) → has_certificate n.held m ≡ true → page_of_member m ≡ number → In (page n number).listed (entry_held n.held m)
 unfolding page
 listed n number m has of =
     let within = on_page m number of in
-    In-map (entry_held n.held) (filter (has_certificate n.held) (range_with_len (32 * number) 32)) m
-    (In-filter (has_certificate n.held) (range_with_len (32 * number) 32) m (In-range 32 (32 * number) m within.0 within.1) has)
+    In-map (entry_held n.held) (filter (has_certificate n.held) (range_with_len (PAGE_MEMBERS * number) PAGE_MEMBERS)) m
+    (In-filter (has_certificate n.held) (range_with_len (PAGE_MEMBERS * number) PAGE_MEMBERS) m (In-range PAGE_MEMBERS (PAGE_MEMBERS * number) m within.0 within.1) has)
 
 listed-of : (n : Node) (number : ℕ) (e : SummaryEntry) → In (page n number).listed e → (entry_held n.held e.member ≡ e) × (has_certificate n.held e.member ≡ true)
 unfolding page
 listed-of n number e i =
-    let r = In-from_map (entry_held n.held) (filter (has_certificate n.held) (range_with_len (32 * number) 32)) e i in
-    let f = In-from_filter (has_certificate n.held) (range_with_len (32 * number) 32) r.0 r.1.0 in
+    let r = In-from_map (entry_held n.held) (filter (has_certificate n.held) (range_with_len (PAGE_MEMBERS * number) PAGE_MEMBERS)) e i in
+    let f = In-from_filter (has_certificate n.held) (range_with_len (PAGE_MEMBERS * number) PAGE_MEMBERS) r.0 r.1.0 in
     let number_is : r.0 ≡ e.member = ap (λ (x : SummaryEntry). x.member) r.1.1 in
     (sym (ap (entry_held n.held) number_is) ∙ r.1.1, sym (ap (has_certificate n.held) number_is) ∙ f.1)
 

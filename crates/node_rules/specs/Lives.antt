@@ -1,6 +1,7 @@
 -- A node's life: how it began, and the calls that it has answered since.
 use Rattle.std.specs.Prelude.{◌≡◌, ℕ, Bool, true, false, ◌==◌, List, [], ◌∷◌, ◌++◌, ◌≤◌, Option, Some, None, fold, filter}
 use Rattle.std.specs.List.{list_any, AllByRecursion}
+use Rattle.ff_ids.specs.declared.TheConstants.{MAX_TOLERANCE}
 use Rattle.ff_ids.specs.declared.Group.{Group}
 use Rattle.ff_ids.specs.declared.NoteBody.{NoteBody}
 use Rattle.ff_ids.specs.Masks.{good_mask}
@@ -82,10 +83,10 @@ pub record KeepsOwnNote (s : Setting) (n : Node) : Type 0 where
 
 -- ---- laws
 
--- The group has at least three rings, and at most 31.
+-- The group has at least three rings, and at most `MAX_RINGS`.
 pub record HasRings (s : Setting) : Type 0 where
   pub some : 1 ≤ s.group.t
-  pub few : s.group.t ≤ 15
+  pub few : s.group.t ≤ MAX_TOLERANCE
 
 -- The kit has certificates, the node's own among them.
 pub record IsKit (s : Setting) (certificates : List Record) : Type 0 where

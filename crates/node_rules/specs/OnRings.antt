@@ -1,5 +1,6 @@
 -- Which ring an accusation is on, and who a node's neighbours are, by the rings themselves.
 use Rattle.std.specs.Prelude.{◌≡◌, ℕ, ◌+◌, ◌<◌, ◌≤◌, true, List, [], ◌∷◌, Contains, Some, None, ◌⊎◌}
+use Rattle.ff_ids.specs.declared.TheConstants.{MEMBERS}
 use Rattle.ff_ids.specs.declared.NoteBody.{NoteBody}
 use Rattle.ff_ids.specs.Masks.{ring_count, enables}
 use Rattle.ff_ids.specs.Notes.{newest}
@@ -52,5 +53,5 @@ abbrev pub AccusedAreAddressed : Type 0
 AccusedAreAddressed = (s : Setting) (st : State) (m : ℕ)
     → Rises 0 (neighbours_and s m st)
     × ((to : ℕ) → Contains (neighbours_and s m st) to → (to ≡ m) ⊎ Succeeds s st to)
-    × (m < 1024 → Contains (neighbours_and s m st) m)
+    × (m < MEMBERS → Contains (neighbours_and s m st) m)
     × ((to : ℕ) → Succeeds s st to → Contains (neighbours_and s m st) to)

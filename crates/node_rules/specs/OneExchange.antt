@@ -2,6 +2,7 @@
 use Rattle.std.specs.Prelude.{◌≡◌, ℕ, Bool, ◌^◌, ◌<◌, ◌≤◌, true, false, List, [], ◌∷◌, ◌++◌, length, slice_index, Some, filter_map, ◌↔◌}
 use Rattle.std.specs.List.{AllByRecursion, slice_get}
 use Rattle.std.specs.Ordering.{is_lt}
+use Rattle.ff_ids.specs.declared.TheConstants.{MEMBERS}
 use Rattle.ff_ids.specs.declared.AccBody.{AccBody}
 use Rattle.ff_ids.specs.declared.NoteBody.{NoteBody}
 use Rattle.ff_ids.specs.declared.summary.RecordKey.{RecordKey}
@@ -58,7 +59,7 @@ pub record IsCorrect (l : Life) : Type 0 where
 -- What it began with is within its ranges: whatever verifies has the length of a signature, and the epoch that the store
 -- kept isn't above its next index.
 pub record IsWithinRanges (l : Life) : Type 0 where
-  pub me : l.setting.me < 1024
+  pub me : l.setting.me < MEMBERS
   pub indexes : l.setting.indexes < 2 ^ 64
   pub lengths : (key : PublicKey) (r : Record) → l.setting.verifies key r ≡ true → HasLength r.signature
   pub certificates : AllByRecursion IsSignedRecord l.certificates

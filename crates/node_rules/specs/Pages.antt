@@ -2,6 +2,7 @@
 use Rattle.std.specs.Prelude.{ℕ, Bool, ◌-◌, ◌*◌, nat_le, if◌then◌else◌, List, [], ◌∷◌, length, Option, None, is_some, map, filter, filter_map, unwrap_or}
 use Rattle.std.specs.List.{range_with_len, last_or}
 use Rattle.std.specs.Option.{option_and_then}
+use Rattle.ff_ids.specs.declared.TheConstants.{MAX_RINGS, PAGE_MEMBERS}
 use Rattle.ff_ids.specs.declared.NoteBody.{NoteBody}
 use Rattle.ff_ids.specs.declared.summary.SummaryEntry.{SummaryEntry}
 use Rattle.ff_ids.specs.declared.summary.Summary.{Summary}
@@ -21,7 +22,7 @@ note_held held m = option_and_then (λ r. note_of_body r.body) (held (keys.Note 
 
 -- The rings on which an accusation against the member is held.
 abbrev pub rings_held : Holding → ℕ → ℕ
-rings_held held m = bits_where (λ ring. is_some (held (keys.Accusation m (record { 0 = ring })))) 31
+rings_held held m = bits_where (λ ring. is_some (held (keys.Accusation m (record { 0 = ring })))) MAX_RINGS
 
 -- What the node holds of the member.
 abbrev pub entry_held : Holding → ℕ → SummaryEntry
@@ -31,9 +32,9 @@ entry_held held m = entry_with m (note_held held m) (rings_held held m)
 abbrev pub has_certificate : Holding → ℕ → Bool
 has_certificate held m = is_some (held (keys.Certificate m))
 
--- An entry for each of the page's 32 numbers that has a certificate.
+-- An entry for each of the page's numbers that has a certificate.
 unfoldable pub page : Node → ℕ → Summary
-page n number = record { page = number; listed = map (entry_held n.held) (filter (has_certificate n.held) (range_with_len (32 * number) 32)) }
+page n number = record { page = number; listed = map (entry_held n.held) (filter (has_certificate n.held) (range_with_len (PAGE_MEMBERS * number) PAGE_MEMBERS)) }
 
 -- ---- gossip's round
 

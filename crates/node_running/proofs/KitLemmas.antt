@@ -4,6 +4,7 @@ use Rattle.std.specs.Prelude.{slice_set}
 use Rattle.std.specs.List.{AllByRecursion, list_any}
 use Rattle.std.proofs.lemmas.Bool.{false≢true}
 use Rattle.std.proofs.lemmas.List.{get_or-set_same, get_or-set_other, length-set, length-replicate}
+use Rattle.ff_ids.specs.declared.TheConstants.{MEMBERS}
 use Rattle.sha2.specs.Sha256.{sha256}
 use Rattle.secrets.specs.Secrets.{key_id}
 use Rattle.schedule_texts.specs.declared.line.Kinds.{Kinds}
@@ -235,7 +236,7 @@ record FitsBody (owner : Owner) (authority : PublicKey) (named : List Bool) (own
   is : u ≡ record { group = Some owner.group; own = Some own; authority = Some authority; millis = Some millis; certificates = certificates }
   owner_is : IsOwner owner own
   pace : 1 ≤ millis
-  room : length named ≡ 1024
+  room : length named ≡ MEMBERS
   listed : AllByRecursion (IsListed owner.group authority named) certificates
   apart : AreApart (recs_of certificates)
   found : HasOwn owner.member ownkey certificates
@@ -343,7 +344,7 @@ step (kit.Authorized owner authority) ws (lines.Tick millis) u is fits = record 
   is = ap (λ (v : SetUp). sets v (lines.Tick millis)) fits.is;
   owner_is = fits.owner_is;
   pace = is.low;
-  room = length-replicate 1024 false;
+  room = length-replicate MEMBERS false;
   listed = tt;
   apart = tt;
   found = tt;

@@ -1,6 +1,7 @@
 -- Where a life is recorded, and which lines may be run on it.
 use Rattle.std.proofs.Common.{◌≡◌, ℕ, ◌+◌, ◌≤◌, true, false, Option, Some, None, refl, ap, sym, ◌∙◌, arith}
 use Rattle.std.proofs.lemmas.Bool.{false≢true}
+use Rattle.ff_ids.specs.declared.TheConstants.{MAX_TOLERANCE}
 use Rattle.ff_ids.specs.Masks.{ring_count}
 use Rattle.ff_ids.specs.Steps.{Joins, Notes, Accuses}
 use Rattle.schedule_direct.specs.declared.direct.Direct.{Direct}
@@ -106,7 +107,7 @@ in_body t number ticks r lines.Life b stands =
     }
 in_body t number ticks r lines.End b stands = tt
 
-first-moment : (t number timeout : ℕ) → t ≤ 15 → 1 ≤ number → IsPlaced (direct.Body t 0) number (answer None (lines.Group t timeout)).recorded
+first-moment : (t number timeout : ℕ) → t ≤ MAX_TOLERANCE → 1 ≤ number → IsPlaced (direct.Body t 0) number (answer None (lines.Group t timeout)).recorded
 unfolding state_of
 first-moment t number timeout small some = record { small = small; tolerance = refl; moment = omega arith; life = some }
 

@@ -1,5 +1,6 @@
 -- The life that is kept, and the recorded life that it stands for.
 use Rattle.std.specs.Prelude.{◌≡◌, ℕ, ◌+◌, ◌<◌, ◌≤◌, List, ◌++◌, Option, Some, None, length}
+use Rattle.ff_ids.specs.declared.TheConstants.{MAX_TOLERANCE, MAX_RINGS}
 use Rattle.ff_ids.specs.Masks.{ring_count}
 use Rattle.membership.specs.Holds.{Holds}
 use Rattle.schedule_direct.specs.declared.direct.Direct.{Direct}
@@ -28,10 +29,10 @@ pub record Tells (a : Answer) (life : Life) (before later : List ℕ) : Type 0 w
   pub plays : Plays (Some life) a.recorded
   pub text : later ≡ before ++ answer_text a
 
--- A life that is recorded has the tolerance of the text's group, at most 15, as many ticks at the most as the text had, and a
+-- A life that is recorded has the tolerance of the text's group, at most `MAX_TOLERANCE`, as many ticks at the most as the text had, and a
 -- number that is no more than the lines.
 pub record InBody (t number ticks : ℕ) (r : Recorded) : Type 0 where
-  pub small : t ≤ 15
+  pub small : t ≤ MAX_TOLERANCE
   pub tolerance : r.group.t ≡ t
   pub moment : (state_of r).moment ≤ ticks
   pub life : r.life ≤ number
@@ -48,14 +49,14 @@ IsPlaced direct.Headed number (Some r) = ⊥
 
 -- The line may be run on this life: its numbers are in the ranges of the group, and no count passes its type.
 abbrev pub FitsLife : Life → DirectLine → Type 0
-FitsLife life (lines.Member m ps) = (length ps ≡ ring_count life.membership.group.t) × (length ps ≤ 31)
+FitsLife life (lines.Member m ps) = (length ps ≡ ring_count life.membership.group.t) × (length ps ≤ MAX_RINGS)
 FitsLife life (lines.Tick n) = life.membership.moment + n ≤ most_ticks
 FitsLife life (lines.Monitor ring m) = ring.0 < ring_count life.membership.group.t
 FitsLife life lines.Life = life.number ≤ text_lines
 FitsLife life _ = Unit {0}
 
 abbrev pub FitsFirst : DirectLine → Type 0
-FitsFirst (lines.Group t timeout) = t ≤ 15
+FitsFirst (lines.Group t timeout) = t ≤ MAX_TOLERANCE
 FitsFirst _ = Unit {0}
 
 abbrev pub FitsOn : Option Life → DirectLine → Type 0

@@ -2,6 +2,7 @@
 //! end of a text, as `specs/` of the trace says.
 
 ghost use Rattle.std.specs.Prelude.{◌≡◌, ◌<◌, ◌≤◌, ◌+◌, ◌++◌, ◌∷◌, [], ℕ, true, List, Option, IfOk, OnOk, OnErr, length, codes};
+ghost use Rattle.ff_ids.specs.declared.TheConstants.{MAX_RINGS, MAX_TOLERANCE};
 ghost use Rattle.ff_ids.specs.Faults.{note_fault, accusation_fault};
 ghost use Rattle.ff_ids.specs.Steps.{after_accusation};
 ghost use Rattle.ff_ids.specs.Masks.{ring_count};
@@ -73,7 +74,7 @@ fn monitor_of<L: Ledger>(
 impl Life {
     /// The first life of a group of tolerance `t`.
     fn first(alloc: Global, t: u8, timeout: u32) -> Result<Life, NoMemory>
-        requires { t ≤ 15 }
+        requires { t ≤ MAX_TOLERANCE }
         ensures { IfOk result (λ life. PlaysOne life (first_life (plain_group t timeout))) }
     {
         let group = Group {
@@ -98,7 +99,7 @@ impl Life {
         text: &mut Vec<u8>,
     ) -> Result<(), NoMemory>
         requires rings { length places.now ≡ ring_count self.old.membership.group.t }
-        requires few { length places.now ≤ 31 }
+        requires few { length places.now ≤ MAX_RINGS }
         ensures { (r : Recorded) → PlaysOne self.old r → OnOk result (Tells (answer_in r (DirectLine.Member member places.now)) self.new text.old.items text.new.items) }
     {
         match self

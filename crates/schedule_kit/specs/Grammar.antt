@@ -1,6 +1,7 @@
 -- The grammar of the text of a member: which words are which line, and where; and the reader's progress.
 use Rattle.std.specs.Prelude.{◌≡◌, ℕ, ◌≤◌, ◌==◌, if◌then◌else◌, Bool, true, false, List, [], ◌∷◌, length, replicate, Option, Some, None, Result, Ok, codes, slice_set}
 use Rattle.std.specs.Fmt.{decimal}
+use Rattle.ff_ids.specs.declared.TheConstants.{LAST_MEMBER, MEMBERS}
 use Rattle.ff_ids.specs.declared.Group.{Group}
 use Rattle.lms_tree.specs.declared.key.PublicKey.{PublicKey}
 use Rattle.lms_tree.specs.declared.secret.Secret.{Secret}
@@ -25,7 +26,7 @@ use Rattle.schedule_kit.specs.Rows.{checked_as, is_ended, is_named, row_for}
 
 -- What holds of each value that a reader reaches: there is a place for each number of a member.
 abbrev pub IsSound : KitText → Type 0
-IsSound (kit.Body owner authority named own) = length named ≡ 1024
+IsSound (kit.Body owner authority named own) = length named ≡ MEMBERS
 IsSound _ = Unit {0}
 
 -- `self M SECRET`, and the key of these kinds that the secret gives
@@ -34,7 +35,7 @@ pub record SpellsOwn (kinds : Kinds) (ws : List (List ℕ)) (m : ℕ) (secret : 
   pub same : ws ≡ codes "self" ∷ decimal m ∷ word ∷ []
   pub spells : SpellsBytes word secret
   pub long : length secret ≡ 32
-  pub member_high : m ≤ 1023
+  pub member_high : m ≤ LAST_MEMBER
   pub made : own_key ≡ key_from kinds.ots kinds.tree secret
 
 -- `authority KEY`
@@ -61,7 +62,7 @@ pub record SpellsCert (g : Group) (authority : PublicKey) (named : List Bool) (w
   pub spells : SpellsBytes signature_word signed_by
   pub some : 1 ≤ length signed_by
   pub few : length signed_by ≤ 9004
-  pub member_high : cert.member ≤ 1023
+  pub member_high : cert.member ≤ LAST_MEMBER
   pub port_low : 1 ≤ cert.port
   pub port_high : cert.port ≤ 65535
   pub new : is_named named cert.member ≡ false
@@ -88,7 +89,7 @@ IsKit _ ws _ = ⊥
 
 -- no member has a certificate
 abbrev pub nobody : Owner → PublicKey → KitText
-nobody owner authority = kit.Body owner authority (replicate 1024 false) None
+nobody owner authority = kit.Body owner authority (replicate MEMBERS false) None
 
 -- The member of the certificate has one, and where it is the owner, this is the key in it.
 abbrev pub certifying : CertBody → KitText → KitText

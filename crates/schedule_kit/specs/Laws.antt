@@ -4,6 +4,7 @@ use Rattle.std.specs.Prelude.{is_ok}
 use Rattle.std.specs.Fmt.{decimal}
 use Rattle.std.proofs.lemmas.Bool.{and_parts, leb-true, le-leb, not-false, not-true}
 use Rattle.std.proofs.lemmas.Slice.Eq.{bytes_eq-Decides}
+use Rattle.ff_ids.specs.declared.TheConstants.{LAST_MEMBER}
 use Rattle.lms_tree.specs.declared.key.PublicKey.{PublicKey}
 use Rattle.lms_tree.specs.declared.kind.SigFault.{SigFault}
 use Rattle.lms_tree.specs.Lms.{key_bytes, verdict_of}
@@ -72,7 +73,7 @@ own_spelled : (kinds : Kinds) (args : List (List ℕ)) → length args ≡ 2 →
 own_spelled kinds args many good =
     let p = or_none _ _ good in
     let q = or_none _ _ p.1 in
-    let a = number-good 0 1023 (first_word args) p.0 in
+    let a = number-good 0 LAST_MEMBER (first_word args) p.0 in
     let h = hex-good 32 (second_word args) q.0 in
     let ws = two_words args many in
     let x = a.spelled in
@@ -108,7 +109,7 @@ cert_spelled g authority named args many good none =
     let q = or_none _ _ p.1 in
     let r = or_none _ _ q.1 in
     let s = or_none _ _ r.1 in
-    let a = number-good 0 1023 (first_word args) p.0 in
+    let a = number-good 0 LAST_MEMBER (first_word args) p.0 in
     let b = number-good 1 65535 (second_word args) q.0 in
     let k = key-good (third_word args) r.0 in
     let d = signed_good (fourth_word args) (hex_of (fourth_word args)) refl s.0 in
@@ -190,7 +191,7 @@ row_read form word args l below named may h =
 
 own_read : (g : Group) (kinds : Kinds) (ws : List (List ℕ)) (m : ℕ) (secret : List ℕ) (own_key : Secret) (h : SpellsOwn kinds ws m secret own_key) → Reads (kit.Kinded g kinds) words.Own (decimal m ∷ h.word ∷ []) (lines.Own m secret own_key)
 own_read g kinds ws m secret own_key h =
-    let x = number-decimal 0 1023 m (omega arith) h.member_high (omega arith) in
+    let x = number-decimal 0 LAST_MEMBER m (omega arith) h.member_high (omega arith) in
     let y = hex-read 32 h.word secret h.spells h.long in
     let u = number_in-decimal m (omega (arith, h.member_high)) in
     let made = sym h.made in
@@ -215,7 +216,7 @@ signed_read word bytes h some few =
 cert_read : (owner : Owner) (authority : PublicKey) (named : List Bool) (own : Option PublicKey) (ws : List (List ℕ)) (c : CheckedRecord) (h : SpellsCert owner.group authority named ws c)
     → Reads (kit.Body owner authority named own) words.Cert (decimal h.cert.member ∷ decimal h.cert.port ∷ h.key_word ∷ h.signature_word ∷ []) (lines.Cert c)
 cert_read owner authority named own ws c h =
-    let x = number-decimal 0 1023 h.cert.member (omega arith) h.member_high (omega arith) in
+    let x = number-decimal 0 LAST_MEMBER h.cert.member (omega arith) h.member_high (omega arith) in
     let y = number-decimal 1 65535 h.cert.port h.port_low h.port_high (omega arith) in
     let z = key-read h.key_word h.cert.key h.key in
     let s = signed_read h.signature_word h.signed_by h.spells h.some h.few in

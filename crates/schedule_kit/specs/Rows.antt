@@ -1,6 +1,7 @@
 -- The rows of the text of a member: each line word, where its line may stand, what the words behind it must be, what
 -- line they are, and what refuses it as a whole.
 use Rattle.std.specs.Prelude.{ℕ, Bool, true, false, not, ◌&&◌, if◌then◌else◌, is_ok, List, [], ◌∷◌, length, Option, Some, None, Result, Ok, Err, codes, slice_index_or, bytes_eq}
+use Rattle.ff_ids.specs.declared.TheConstants.{LAST_MEMBER}
 use Rattle.ff_ids.specs.declared.Group.{Group}
 use Rattle.lms_tree.specs.declared.key.PublicKey.{PublicKey}
 use Rattle.lms_tree.specs.Lms.{key_bytes, verdict_of}
@@ -48,7 +49,7 @@ may_stand _ _ = false
 
 -- the number of a member
 abbrev pub member : Field
-member word = number 0 1023 word
+member word = number 0 LAST_MEMBER word
 
 -- M SECRET
 abbrev pub own_fields : List Field

@@ -12,7 +12,7 @@ ghost use Rattle.schedule_kit.specs.Rows.{TakesMemory, cert_fault, cert_fields, 
 
 use crate::line::KitLine;
 use crate::read::take_member;
-use ff_ids::Group;
+use ff_ids::{Group, MEMBERS};
 use fields::Bytes;
 use hex::decode_to_slice;
 use line_text::{BadWord, LineFault, Words};
@@ -58,7 +58,7 @@ fn take_signature(words: &mut Words, room: &mut [u8; 9_004]) -> Result<usize, Ba
 fn is_good(
     group: &Group,
     authority: &PublicKey,
-    named: &[bool; 1024],
+    named: &[bool; MEMBERS as usize],
     cert: &CertBody,
     signature: &[u8],
 ) -> bool
@@ -75,7 +75,7 @@ pub(crate) fn cert_line(
     alloc: Global,
     group: &Group,
     authority: &PublicKey,
-    named: &[bool; 1024],
+    named: &[bool; MEMBERS as usize],
     args: Words,
 ) -> Result<KitLine, LineFault>
     ensures { AnswersBy TakesMemory (refused_whole (cert_fault group.now authority.now named.now args.entry) (fields_line cert_fields (cert_line group.now authority.now) args.entry)) result }

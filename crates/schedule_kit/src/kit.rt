@@ -55,7 +55,7 @@ pub enum KitText {
     Body {
         owner: Owner,
         authority: PublicKey,
-        named: [bool; 1024],
+        named: [bool; MEMBERS as usize],
         own: Option<PublicKey>,
     },
     /// The line `end`.

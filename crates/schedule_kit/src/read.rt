@@ -9,7 +9,7 @@ ghost use Rattle.schedule_kit.specs.declared.line.KitLine.TheVariants.{Header};
 ghost use Rattle.schedule_kit.specs.Rows.{TakesMemory, authority_fields, authority_line, line_word, member, own_fields, own_line, tick_fields, tick_line};
 
 use crate::line::{KitLine, LineWord};
-use ff_ids::MemberId;
+use ff_ids::{LAST_MEMBER, MemberId};
 use line_text::{BadWord, LineFault, Words};
 use schedule_texts::{Kinds, take_key};
 use secrets::make_key;
@@ -55,7 +55,7 @@ pub(crate) fn take_member(words: &mut Words) -> Result<MemberId, BadWord>
     ensures value { IfOk result (λ m. m ≡ number_in (first_word words.old)) }
     ensures moved { words.new ≡ behind words.old }
 {
-    let number = words.number(0, 1023)?;
+    let number = words.number(0, LAST_MEMBER as u64)?;
     Ok(MemberId::new(number as u16))
 }
 

@@ -2,6 +2,7 @@
 -- reader's progress.
 use Rattle.std.specs.Prelude.{◌≡◌, ℕ, ◌≤◌, false, true, List, [], ◌∷◌, length, replicate, Option, Result, codes, slice_set}
 use Rattle.std.specs.Fmt.{decimal}
+use Rattle.ff_ids.specs.declared.TheConstants.{LAST_MEMBER, MEMBERS}
 use Rattle.line_text.specs.declared.bad_word.BadWord.{BadWord}
 use Rattle.line_text.specs.Answers.{Progress, moved, next_line}
 use Rattle.line_text.specs.Frame as frame
@@ -15,7 +16,7 @@ use Rattle.schedule_texts.specs.Spelling.{SpellsGroup, SpellsKey, SpellsKinds, S
 
 -- What holds of each value that a reader reaches: there is a place for each number of a member.
 abbrev pub IsSound : RosterText → Type 0
-IsSound (roster.Body named) = length named ≡ 1024
+IsSound (roster.Body named) = length named ≡ MEMBERS
 IsSound _ = Unit {0}
 
 -- `cert M PORT KEY`
@@ -23,7 +24,7 @@ pub record SpellsCert (ws : List (List ℕ)) (c : CertBody) : Type 0 where
   pub word : List ℕ
   pub same : ws ≡ codes "cert" ∷ decimal c.member ∷ decimal c.port ∷ word ∷ []
   pub key : SpellsKey word c.key
-  pub member_high : c.member ≤ 1023
+  pub member_high : c.member ≤ LAST_MEMBER
   pub port_low : 1 ≤ c.port
   pub port_high : c.port ≤ 65535
 
@@ -59,7 +60,7 @@ pub record IsRoster (form : RosterText) (ws : List (List ℕ)) (l : RosterLine) 
 
 -- no member is named
 abbrev pub nobody : RosterText
-nobody = roster.Body (replicate 1024 false)
+nobody = roster.Body (replicate MEMBERS false)
 
 -- the member of this number is named as well
 abbrev pub naming : ℕ → RosterText → RosterText

@@ -2,6 +2,7 @@
 use Rattle.std.proofs.Common.{◌≡◌, ℕ, ◌<◌, ◌&&◌, ◌^◌, true, false, not, leb, List, [], ◌∷◌, length, Some, None, Ok, refl, ap, arith, codes}
 use Rattle.std.specs.Fmt.{decimal}
 use Rattle.std.proofs.lemmas.Bool.{and_parts, leb-true, le-leb, not-true}
+use Rattle.ff_ids.specs.declared.TheConstants.{LAST_MEMBER}
 use Rattle.line_text.specs.Fields.{number_in}
 use Rattle.line_text.specs.Frame.{behind, first_of, first_word, row_line, second_word, third_word, word_tests}
 use Rattle.line_text.specs.Numbers.{number_of}
@@ -31,9 +32,9 @@ cert_spelled form args many good =
     let p = or_none _ _ good in
     let q = or_none _ _ p.1 in
     let r = or_none _ _ q.1 in
-    let a = few_good (λ m. (leb 0 m && leb m 1023) && not (is_named form m)) (first_word args) (number_of (first_word args)) refl p.0 in
-    let fit = and_parts (leb 0 (number_in (first_word args)) && leb (number_in (first_word args)) 1023) (not (is_named form (number_in (first_word args)))) a.1 in
-    let range = and_parts (leb 0 (number_in (first_word args))) (leb (number_in (first_word args)) 1023) fit.0 in
+    let a = few_good (λ m. (leb 0 m && leb m LAST_MEMBER) && not (is_named form m)) (first_word args) (number_of (first_word args)) refl p.0 in
+    let fit = and_parts (leb 0 (number_in (first_word args)) && leb (number_in (first_word args)) LAST_MEMBER) (not (is_named form (number_in (first_word args)))) a.1 in
+    let range = and_parts (leb 0 (number_in (first_word args))) (leb (number_in (first_word args)) LAST_MEMBER) fit.0 in
     let b = number-good 1 65535 (second_word args) q.0 in
     let k = key-good (third_word args) r.0 in
     let ws = three_words args many in
@@ -44,7 +45,7 @@ cert_spelled form args many good =
         word = third_word args;
         same = cc;
         key = k;
-        member_high = leb-true (number_in (first_word args)) 1023 range.1;
+        member_high = leb-true (number_in (first_word args)) LAST_MEMBER range.1;
         port_low = b.low;
         port_high = b.high;
       };
@@ -90,7 +91,7 @@ body_started _ h = absurd h
 cert_read : (form : RosterText) (ws : List (List ℕ)) (c : CertBody) (h : SpellsCert ws c) → is_named form c.member ≡ false → may_stand form words.Cert ≡ true → Reads (row_of form words.Cert) (decimal c.member ∷ decimal c.port ∷ h.word ∷ []) (lines.Cert c)
 cert_read form ws c h new may =
     let small : c.member < 2 ^ 64 = omega (arith, h.member_high) in
-    let x = few_read (λ m. (leb 0 m && leb m 1023) && not (is_named form m)) c.member small (rw (le-leb 0 c.member (omega arith), le-leb c.member 1023 h.member_high, new) refl) in
+    let x = few_read (λ m. (leb 0 m && leb m LAST_MEMBER) && not (is_named form m)) c.member small (rw (le-leb 0 c.member (omega arith), le-leb c.member LAST_MEMBER h.member_high, new) refl) in
     let y = number-decimal 1 65535 c.port h.port_low h.port_high (omega arith) in
     let z = key-read h.word c.key h.key in
     let u = number_in-decimal c.member small in

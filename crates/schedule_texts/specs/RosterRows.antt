@@ -1,5 +1,6 @@
 -- The rows of the text that asks an authority for certificates.
 use Rattle.std.specs.Prelude.{ℕ, Bool, true, false, not, ◌&&◌, List, [], ◌∷◌, Option, Result, codes, slice_index_or}
+use Rattle.ff_ids.specs.declared.TheConstants.{LAST_MEMBER}
 use Rattle.line_text.specs.declared.bad_word.BadWord.{BadWord}
 use Rattle.line_text.specs.Fields.{Field, is_within, number_in, number_that}
 use Rattle.line_text.specs.Frame.{Row, first_word, second_word, third_word, word_among}
@@ -37,7 +38,7 @@ may_stand _ _ = false
 
 -- the number of a member that no line before names
 abbrev pub new_member : RosterText → Field
-new_member form word = number_that (λ m. is_within 0 1023 m && not (is_named form m)) word
+new_member form word = number_that (λ m. is_within 0 LAST_MEMBER m && not (is_named form m)) word
 
 -- M PORT KEY
 abbrev pub cert_fields : RosterText → List Field

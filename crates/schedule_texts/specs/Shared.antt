@@ -1,5 +1,6 @@
 -- What the words behind a line word must be, and what they say, in the lines that several texts have.
 use Rattle.std.specs.Prelude.{ℕ, ◌==◌, if◌then◌else◌, List, [], ◌∷◌, Option, Some, None, Result, Ok, Err, is_ok, is_some}
+use Rattle.ff_ids.specs.declared.TheConstants.{MAX_TOLERANCE}
 use Rattle.ff_ids.specs.declared.Group.{Group}
 use Rattle.lms_ots.specs.declared.kind.OtsKind.{OtsKind}
 use Rattle.lms_ots.specs.declared.kind.OtsKind.TheVariants.{W1, W2, W4, W8}
@@ -23,7 +24,7 @@ hex_in word = or_nothing (hex_of word)
 
 -- T TIMEOUT PERIOD MISSES TAG
 abbrev pub group_fields : List Field
-group_fields = number 1 15 ∷ number 1 10000 ∷ number 1 1000 ∷ number 1 16 ∷ hex 16 ∷ []
+group_fields = number 1 MAX_TOLERANCE ∷ number 1 10000 ∷ number 1 1000 ∷ number 1 16 ∷ hex 16 ∷ []
 
 abbrev pub group_in : List (List ℕ) → Group
 group_in args = record {

@@ -3,6 +3,7 @@ use Rattle.std.proofs.Common.{◌≡◌, ℕ, zero, suc, ◌<◌, ◌≤◌, ◌
 use Rattle.std.specs.Prelude.{is_ok, is_some}
 use Rattle.std.specs.Fmt.{decimal}
 use Rattle.std.proofs.lemmas.Bool.{eq-eqb, eqb-true}
+use Rattle.ff_ids.specs.declared.TheConstants.{MAX_TOLERANCE}
 use Rattle.ff_ids.specs.declared.Group.{Group}
 use Rattle.lms_ots.specs.declared.kind.OtsKind.{OtsKind}
 use Rattle.lms_ots.specs.declared.kind.OtsKind.TheVariants.{W1, W2, W4, W8}
@@ -73,7 +74,7 @@ group-spelled args many good =
     let r = or_none _ _ q.1 in
     let s = or_none _ _ r.1 in
     let u = or_none _ _ s.1 in
-    let a = number-good 1 15 (first_word args) p.0 in
+    let a = number-good 1 MAX_TOLERANCE (first_word args) p.0 in
     let b = number-good 1 10000 (second_word args) q.0 in
     let c = number-good 1 1000 (third_word args) r.0 in
     let d = number-good 1 16 (fourth_word args) s.0 in
@@ -111,7 +112,7 @@ pub record AreRead {V : Type 0} (text : List ℕ) (words_long : ℕ) (tests : Li
 pub group-read : (ws : List (List ℕ)) (g : Group) → SpellsGroup ws g → AreRead (codes "group") 5 (word_tests group_fields) group_in ws g
 group-read ws g h =
     let r = h.group in
-    let x = number-decimal 1 15 g.t r.t_low r.t_high (omega arith) in
+    let x = number-decimal 1 MAX_TOLERANCE g.t r.t_low r.t_high (omega arith) in
     let y = number-decimal 1 10000 g.timeout r.timeout_low r.timeout_high (omega arith) in
     let z = number-decimal 1 1000 g.period r.period_low r.period_high (omega arith) in
     let v = number-decimal 1 16 g.misses r.misses_low r.misses_high (omega arith) in

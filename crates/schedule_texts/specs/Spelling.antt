@@ -1,6 +1,7 @@
 -- How the lines that several texts have are spelled: numbers in decimal, bytes in hexadecimal digits of either case.
 use Rattle.std.specs.Prelude.{◌≡◌, ℕ, ◌≤◌, List, [], ◌∷◌, length, codes}
 use Rattle.std.specs.Fmt.{decimal}
+use Rattle.ff_ids.specs.declared.TheConstants.{MAX_TOLERANCE}
 use Rattle.ff_ids.specs.declared.Group.{Group}
 use Rattle.lms_ots.specs.Ots as ots
 use Rattle.lms_tree.specs.declared.key.PublicKey.{PublicKey}
@@ -12,7 +13,7 @@ use Rattle.schedule_texts.specs.declared.line.Kinds.{Kinds}
 -- The numbers of a group are within their limits, and its tag has 16 bytes.
 pub record IsGroup (g : Group) : Type 0 where
   pub t_low : 1 ≤ g.t
-  pub t_high : g.t ≤ 15
+  pub t_high : g.t ≤ MAX_TOLERANCE
   pub timeout_low : 1 ≤ g.timeout
   pub timeout_high : g.timeout ≤ 10000
   pub period_low : 1 ≤ g.period

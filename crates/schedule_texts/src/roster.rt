@@ -1,6 +1,7 @@
 //! The text that asks an authority for certificates, line by line.
 
 ghost use Rattle.std.specs.Prelude.{◌≡◌, ◌≤◌, codes, length, slice_index_or, false, IfOk};
+ghost use Rattle.ff_ids.specs.declared.TheConstants.{LAST_MEMBER};
 ghost use Rattle.line_text.specs.Answers.{AnswersBy, refusal};
 ghost use Rattle.line_text.specs.Fields.{number_in};
 ghost use Rattle.line_text.specs.Frame.{behind, fields_line, first_word, row_line, word_or_bad};
@@ -11,7 +12,7 @@ ghost use Rattle.schedule_texts.specs.RosterGrammar.{IsRoster, IsSound, after, n
 
 use crate::line::RosterLine;
 use crate::shared::{read_group, read_kinds, read_secret, take_key, take_port};
-use ff_ids::{MEMBERS, MemberId};
+use ff_ids::{LAST_MEMBER, MEMBERS, MemberId};
 use line_text::{BadWord, Form, LineFault, Words};
 use records::CertBody;
 use std::alloc::Global;
@@ -29,7 +30,7 @@ pub enum RosterText {
     Kinded,
     /// The secret: certificates come next, or the line `end`. `named` says of each number whether a certificate was
     /// asked for.
-    Body { named: [bool; 1024] },
+    Body { named: [bool; MEMBERS as usize] },
     /// The line `end`.
     Ended,
 }
@@ -95,7 +96,7 @@ fn may_stand(form: &RosterText, word: LineWord) -> bool
 
 /// Whether a line before names the member of this number.
 fn is_named(form: &RosterText, number: u16) -> bool
-    requires { number ≤ 1023 }
+    requires { number ≤ LAST_MEMBER }
     ensures { result ≡ is_named form.now number }
 {
     match form {
@@ -110,7 +111,7 @@ fn take_new_member(form: &RosterText, words: &mut Words) -> Result<MemberId, Bad
     ensures value { IfOk result (λ m. m ≡ number_in (first_word words.old)) }
     ensures moved { words.new ≡ behind words.old }
 {
-    let number = words.number(0, 1023)? as u16;
+    let number = words.number(0, LAST_MEMBER as u64)? as u16;
     if is_named(form, number) {
         Err(BadWord::Limit)
     } else {

@@ -7,7 +7,7 @@ ghost use Rattle.line_text.specs.Frame.{behind, fields_line, first_word};
 ghost use Rattle.schedule_texts.specs.Shared.{group_fields, group_in, height, key, key_in_word, kinds_fields, kinds_in, ots_in_word, ots_of_width, port, secret_fields, secret_in, tree_in_word, tree_of_height, width};
 
 use crate::line::Kinds;
-use ff_ids::Group;
+use ff_ids::{Group, MAX_TOLERANCE};
 use line_text::{BadWord, Words};
 use lms_ots::OtsKind;
 use lms_tree::{PublicKey, TreeKind};
@@ -17,7 +17,7 @@ pub fn read_group(args: Words) -> Result<Group, BadWord>
     ensures { result ≡ fields_line group_fields group_in args.entry }
 {
     let mut args = args.exactly(5)?;
-    let t = args.number(1, 15)?;
+    let t = args.number(1, MAX_TOLERANCE as u64)?;
     let timeout = args.number(1, 10_000)?;
     let period = args.number(1, 1_000)?;
     let misses = args.number(1, 16)?;

@@ -2,6 +2,7 @@
 use Rattle.std.specs.Prelude.{◌≡◌, ℕ, ◌+◌, ◌*◌, ◌-◌, ◌^◌, ◌≤◌, ◌<◌, ◌⊎◌, ◌||◌, Bool, true, false, IsTrue, List, [], ◌∷◌, ◌++◌, length, Option, Some, None, Result, codes}
 use Rattle.std.specs.Fmt.{decimal}
 use Rattle.std.specs.List.{Contains}
+use Rattle.ff_ids.specs.declared.TheConstants.{LAST_MEMBER, MAX_TOLERANCE, ALL_BITS}
 use Rattle.fields.specs.Names.{is_name}
 use Rattle.lms_ots.specs.Ots.{width}
 use Rattle.lms_tree.specs.Kinds.{height}
@@ -17,9 +18,9 @@ use Rattle.schedule_world.specs.Rows.{has_node, is_body, is_ended, is_grouped, i
 
 -- What holds of each value that a reader reaches.
 abbrev pub IsSound : WorldText → Type 0
-IsSound (world.Grouped t) = t ≤ 15
-IsSound (world.Roster t names node) = t ≤ 15
-IsSound (world.Body t ticks) = (t ≤ 15) × (ticks ≤ most_ticks)
+IsSound (world.Grouped t) = t ≤ MAX_TOLERANCE
+IsSound (world.Roster t names node) = t ≤ MAX_TOLERANCE
+IsSound (world.Body t ticks) = (t ≤ MAX_TOLERANCE) × (ticks ≤ most_ticks)
 IsSound _ = Unit {0}
 
 -- the members that a roster has named
@@ -86,7 +87,7 @@ Stands w _ = IsTrue (is_body w)
 
 -- The member is named for the first time, as one of 32.
 pub record IsNewcomer (names : List ℕ) (m : ℕ) : Type 0 where
-  pub range : m ≤ 1023
+  pub range : m ≤ LAST_MEMBER
   pub few : length names < most_members
   pub unnamed : Contains names m → ⊥
 
@@ -97,25 +98,25 @@ IsEpoch (Some epoch) = (1 ≤ epoch) × (epoch ≤ 2 ^ 64 - 1)
 -- Each number is in its range, the bytes are no more than there may be, and a name is one.
 abbrev pub InRange : WorldText → WorldLine → Type 0
 InRange w (lines.Group g) =
-    (1 ≤ g.t) × (g.t ≤ 15) × (1 ≤ g.timeout) × (g.timeout ≤ 10000) × (1 ≤ g.period) × (g.period ≤ 1000) × (1 ≤ g.misses) × (g.misses ≤ 16) × (length g.tag ≡ 16)
+    (1 ≤ g.t) × (g.t ≤ MAX_TOLERANCE) × (1 ≤ g.timeout) × (g.timeout ≤ 10000) × (1 ≤ g.period) × (g.period ≤ 1000) × (1 ≤ g.misses) × (g.misses ≤ 16) × (length g.tag ≡ 16)
 InRange w (lines.Kinds ots tree) = height tree ≤ 10
 InRange w (lines.Node m) = IsNewcomer (named w) m
 InRange w (lines.Liar m) = IsNewcomer (named w) m
-InRange w (lines.Start m) = m ≤ 1023
-InRange w (lines.Stop m outcome) = (m ≤ 1023) × (outcome ≤ 65535)
-InRange w (lines.Arm m calls outcome) = (m ≤ 1023) × (calls ≤ 1000) × (outcome ≤ 65535)
-InRange w (lines.Tick m ticks) = (m ≤ 1023) × (1 ≤ ticks) × (ticks ≤ 10000) × (ticks_of w + ticks ≤ most_ticks)
-InRange w (lines.Deliver datagram m) = (datagram ≤ 2 ^ 64 - 1) × (m ≤ 1023)
+InRange w (lines.Start m) = m ≤ LAST_MEMBER
+InRange w (lines.Stop m outcome) = (m ≤ LAST_MEMBER) × (outcome ≤ 65535)
+InRange w (lines.Arm m calls outcome) = (m ≤ LAST_MEMBER) × (calls ≤ 1000) × (outcome ≤ 65535)
+InRange w (lines.Tick m ticks) = (m ≤ LAST_MEMBER) × (1 ≤ ticks) × (ticks ≤ 10000) × (ticks_of w + ticks ≤ most_ticks)
+InRange w (lines.Deliver datagram m) = (datagram ≤ 2 ^ 64 - 1) × (m ≤ LAST_MEMBER)
 InRange w (lines.Flow most) = (1 ≤ most) × (most ≤ 100000)
-InRange w (lines.Raw m bytes) = (m ≤ 1023) × (length bytes ≤ raw_bytes)
+InRange w (lines.Raw m bytes) = (m ≤ LAST_MEMBER) × (length bytes ≤ raw_bytes)
 InRange w (lines.SignNote key n name) =
-    (key ≤ 1023) × (n.member ≤ 1023) × (1 ≤ n.epoch) × (n.epoch ≤ 2 ^ 64 - 1) × (n.mask.0 ≤ 2 ^ 32 - 1) × IsTrue (is_name name)
+    (key ≤ LAST_MEMBER) × (n.member ≤ LAST_MEMBER) × (1 ≤ n.epoch) × (n.epoch ≤ 2 ^ 64 - 1) × (n.mask.0 ≤ ALL_BITS) × IsTrue (is_name name)
 InRange w (lines.SignAccusation key accuser accused epoch ring name) =
-    (key ≤ 1023) × (accuser ≤ 1023) × (accused ≤ 1023) × IsEpoch epoch × (ring.0 ≤ 255) × IsTrue (is_name name)
-InRange w (lines.Give name m) = IsTrue (is_name name) × (m ≤ 1023)
+    (key ≤ LAST_MEMBER) × (accuser ≤ LAST_MEMBER) × (accused ≤ LAST_MEMBER) × IsEpoch epoch × (ring.0 ≤ 255) × IsTrue (is_name name)
+InRange w (lines.Give name m) = IsTrue (is_name name) × (m ≤ LAST_MEMBER)
 InRange w (lines.GiveAll name) = IsTrue (is_name name)
-InRange w (lines.View m) = m ≤ 1023
-InRange w (lines.Monitor m ring other) = (m ≤ 1023) × (ring.0 ≤ 2 * tolerance w) × (other ≤ 1023)
+InRange w (lines.View m) = m ≤ LAST_MEMBER
+InRange w (lines.Monitor m ring other) = (m ≤ LAST_MEMBER) × (ring.0 ≤ 2 * tolerance w) × (other ≤ LAST_MEMBER)
 InRange w _ = Unit {0}
 
 -- These words are this line, which may stand here, with its numbers, bytes and name in range.

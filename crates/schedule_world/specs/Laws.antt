@@ -4,6 +4,7 @@ use Rattle.std.specs.Fmt.{decimal}
 use Rattle.std.proofs.Math.Nat.{min-le_left, min-le_right, le-min}
 use Rattle.std.proofs.lemmas.Bool.{and_parts, eqb-true}
 use Rattle.std.proofs.lemmas.Slice.Eq.{bytes_eq-Decides}
+use Rattle.ff_ids.specs.declared.TheConstants.{LAST_MEMBER, MAX_TOLERANCE, ALL_BITS}
 use Rattle.lms_ots.specs.Ots as ots
 use Rattle.lms_tree.specs.Kinds as trees
 use Rattle.line_text.specs.declared.bad_word.BadWord.{BadWord}
@@ -53,7 +54,7 @@ fits w words.Group args many good =
     let r = or_none _ _ q.1 in
     let s = or_none _ _ r.1 in
     let v = or_none _ _ s.1 in
-    let a = number-good 1 15 (first_word args) p.0 in
+    let a = number-good 1 MAX_TOLERANCE (first_word args) p.0 in
     let b = number-good 1 10000 (second_word args) q.0 in
     let c = number-good 1 1000 (third_word args) r.0 in
     let d = number-good 1 16 (fourth_word args) s.0 in
@@ -89,14 +90,14 @@ fits w words.Liar args many good =
     record { in_range = a.1; digits = []; spells = tt; words = cc }
 fits w words.Begin args many good = alone w words.Begin args many tt tt refl
 fits w words.Start args many good =
-    let a = number-good 0 1023 (first_word args) (or_none _ _ good).0 in
+    let a = number-good 0 LAST_MEMBER (first_word args) (or_none _ _ good).0 in
     let a_is = a.spelled in
     let ws = one_word args many in
     record { in_range = a.high; digits = []; spells = tt; words = cc }
 fits w words.Stop args many good =
     let p = or_none _ _ good in
     let q = or_none _ _ p.1 in
-    let a = number-good 0 1023 (first_word args) p.0 in
+    let a = number-good 0 LAST_MEMBER (first_word args) p.0 in
     let b = number-good 0 65535 (second_word args) q.0 in
     let a_is = a.spelled in
     let b_is = b.spelled in
@@ -106,7 +107,7 @@ fits w words.Arm args many good =
     let p = or_none _ _ good in
     let q = or_none _ _ p.1 in
     let r = or_none _ _ q.1 in
-    let a = number-good 0 1023 (first_word args) p.0 in
+    let a = number-good 0 LAST_MEMBER (first_word args) p.0 in
     let b = number-good 0 1000 (second_word args) q.0 in
     let c = number-good 0 65535 (third_word args) r.0 in
     let a_is = a.spelled in
@@ -119,7 +120,7 @@ fits w words.Tick args many good =
     let q = or_none _ _ p.1 in
     let left = ticks_left w in
     let n = number_in (second_word args) in
-    let a = number-good 0 1023 (first_word args) p.0 in
+    let a = number-good 0 LAST_MEMBER (first_word args) p.0 in
     let b = number-good 1 (min left 10000) (second_word args) q.0 in
     let a_is = a.spelled in
     let b_is = b.spelled in
@@ -131,7 +132,7 @@ fits w words.Deliver args many good =
     let p = or_none _ _ good in
     let q = or_none _ _ p.1 in
     let a = number-good 0 (2 ^ 64 - 1) (first_word args) p.0 in
-    let b = number-good 0 1023 (second_word args) q.0 in
+    let b = number-good 0 LAST_MEMBER (second_word args) q.0 in
     let a_is = a.spelled in
     let b_is = b.spelled in
     let ws = two_words args many in
@@ -144,7 +145,7 @@ fits w words.Flow args many good =
 fits w words.Raw args many good =
     let p = or_none _ _ good in
     let q = or_none _ _ p.1 in
-    let a = number-good 0 1023 (first_word args) p.0 in
+    let a = number-good 0 LAST_MEMBER (first_word args) p.0 in
     let b = dash-good raw_bytes (second_word args) q.0 in
     let a_is = a.spelled in
     let ws = two_words args many in
@@ -155,10 +156,10 @@ fits w words.SignNote args many good =
     let r = or_none _ _ q.1 in
     let s = or_none _ _ r.1 in
     let v = or_none _ _ s.1 in
-    let a = number-good 0 1023 (first_word args) p.0 in
-    let b = number-good 0 1023 (second_word args) q.0 in
+    let a = number-good 0 LAST_MEMBER (first_word args) p.0 in
+    let b = number-good 0 LAST_MEMBER (second_word args) q.0 in
     let c = number-good 1 (2 ^ 64 - 1) (third_word args) r.0 in
-    let d = number-good 0 (2 ^ 32 - 1) (fourth_word args) s.0 in
+    let d = number-good 0 ALL_BITS (fourth_word args) s.0 in
     let name = name-good (fifth_word args) v.0 in
     let a_is = a.spelled in
     let b_is = b.spelled in
@@ -173,9 +174,9 @@ fits w words.SignAccusation args many good =
     let s = or_none _ _ r.1 in
     let v = or_none _ _ s.1 in
     let x = or_none _ _ v.1 in
-    let a = number-good 0 1023 (first_word args) p.0 in
-    let b = number-good 0 1023 (second_word args) q.0 in
-    let c = number-good 0 1023 (third_word args) r.0 in
+    let a = number-good 0 LAST_MEMBER (first_word args) p.0 in
+    let b = number-good 0 LAST_MEMBER (second_word args) q.0 in
+    let c = number-good 0 LAST_MEMBER (third_word args) r.0 in
     let d = epoch-good (fourth_word args) s.0 in
     let f = number-good 0 255 (fifth_word args) v.0 in
     let name = name-good (sixth_word args) x.0 in
@@ -190,7 +191,7 @@ fits w words.Give args many good =
     let p = or_none _ _ good in
     let q = or_none _ _ p.1 in
     let name = name-good (first_word args) p.0 in
-    let b = number-good 0 1023 (second_word args) q.0 in
+    let b = number-good 0 LAST_MEMBER (second_word args) q.0 in
     let b_is = b.spelled in
     let ws = two_words args many in
     record { in_range = (name, b.high); digits = []; spells = tt; words = cc }
@@ -199,7 +200,7 @@ fits w words.GiveAll args many good =
     let ws = one_word args many in
     record { in_range = name; digits = []; spells = tt; words = cc }
 fits w words.View args many good =
-    let a = number-good 0 1023 (first_word args) (or_none _ _ good).0 in
+    let a = number-good 0 LAST_MEMBER (first_word args) (or_none _ _ good).0 in
     let a_is = a.spelled in
     let ws = one_word args many in
     record { in_range = a.high; digits = []; spells = tt; words = cc }
@@ -207,9 +208,9 @@ fits w words.Monitor args many good =
     let p = or_none _ _ good in
     let q = or_none _ _ p.1 in
     let r = or_none _ _ q.1 in
-    let a = number-good 0 1023 (first_word args) p.0 in
+    let a = number-good 0 LAST_MEMBER (first_word args) p.0 in
     let b = number-good 0 (2 * tolerance w) (second_word args) q.0 in
-    let c = number-good 0 1023 (third_word args) r.0 in
+    let c = number-good 0 LAST_MEMBER (third_word args) r.0 in
     let a_is = a.spelled in
     let b_is = b.spelled in
     let c_is = c.spelled in
@@ -314,7 +315,7 @@ tick_fits : (w : WorldText) (n : ℕ) → is_body w ≡ true → ticks_of w + n 
 tick_fits (world.Body t ticks) n body h = omega (arith, h)
 tick_fits _ n body h = cc
 
-tolerance_small : (w : WorldText) → IsSound w → tolerance w ≤ 15
+tolerance_small : (w : WorldText) → IsSound w → tolerance w ≤ MAX_TOLERANCE
 tolerance_small (world.Grouped t) h = h
 tolerance_small (world.Roster t names node) h = h
 tolerance_small (world.Body t ticks) h = h.0
@@ -323,7 +324,7 @@ tolerance_small _ h = omega arith
 reads : (w : WorldText) (digits : List ℕ) (l : WorldLine) → IsSound w → Stands w l → InRange w l → SpellsDigits digits l → row_line (row_for w (spelled_words digits l)) (behind (spelled_words digits l)) ≡ Ok l
 reads w digits lines.Header sound s h d = rw s refl
 reads w digits (lines.Group g) sound s h d =
-    let a = number-decimal 1 15 g.t h.0 h.1 (omega arith) in
+    let a = number-decimal 1 MAX_TOLERANCE g.t h.0 h.1 (omega arith) in
     let b = number-decimal 1 10000 g.timeout h.2 h.3 (omega arith) in
     let c = number-decimal 1 1000 g.period h.4 h.5 (omega arith) in
     let e = number-decimal 1 16 g.misses h.6 h.7 (omega arith) in
@@ -353,17 +354,17 @@ reads w digits (lines.Liar m) sound s h d =
     row_read w words.Liar (decimal m ∷ []) (lines.Liar m) s refl (rw a refl) (rw a_is refl)
 reads w digits lines.Begin sound s h d = row_read w words.Begin [] lines.Begin s refl refl refl
 reads w digits (lines.Start m) sound s h d =
-    let a = number-decimal 0 1023 m (omega arith) h (omega arith) in
+    let a = number-decimal 0 LAST_MEMBER m (omega arith) h (omega arith) in
     let a_is = number_in-decimal m (omega (arith, h)) in
     row_read w words.Start (decimal m ∷ []) (lines.Start m) s refl (rw a refl) (rw a_is refl)
 reads w digits (lines.Stop m outcome) sound s h d =
-    let a = number-decimal 0 1023 m (omega arith) h.0 (omega arith) in
+    let a = number-decimal 0 LAST_MEMBER m (omega arith) h.0 (omega arith) in
     let b = number-decimal 0 65535 outcome (omega arith) h.1 (omega arith) in
     let a_is = number_in-decimal m (omega (arith, h.0)) in
     let b_is = number_in-decimal outcome (omega (arith, h.1)) in
     row_read w words.Stop (decimal m ∷ decimal outcome ∷ []) (lines.Stop m outcome) s refl (rw (a, b) refl) (rw (a_is, b_is) refl)
 reads w digits (lines.Arm m calls outcome) sound s h d =
-    let a = number-decimal 0 1023 m (omega arith) h.0 (omega arith) in
+    let a = number-decimal 0 LAST_MEMBER m (omega arith) h.0 (omega arith) in
     let b = number-decimal 0 1000 calls (omega arith) h.1 (omega arith) in
     let c = number-decimal 0 65535 outcome (omega arith) h.2 (omega arith) in
     let a_is = number_in-decimal m (omega (arith, h.0)) in
@@ -373,14 +374,14 @@ reads w digits (lines.Arm m calls outcome) sound s h d =
 reads w digits (lines.Tick m n) sound s h d =
     let most : n ≤ min (ticks_left w) 10000 = le-min (tick_fits w n s h.3) h.2 in
     let wide : min (ticks_left w) 10000 < 2 ^ 64 = omega (arith, min-le_right (ticks_left w) 10000) in
-    let a = number-decimal 0 1023 m (omega arith) h.0 (omega arith) in
+    let a = number-decimal 0 LAST_MEMBER m (omega arith) h.0 (omega arith) in
     let b = number-decimal 1 (min (ticks_left w) 10000) n h.1 most wide in
     let a_is = number_in-decimal m (omega (arith, h.0)) in
     let b_is = number_in-decimal n (omega (arith, h.2)) in
     row_read w words.Tick (decimal m ∷ decimal n ∷ []) (lines.Tick m n) s refl (rw (a, b) refl) (rw (a_is, b_is) refl)
 reads w digits (lines.Deliver datagram m) sound s h d =
     let a = number-decimal 0 (2 ^ 64 - 1) datagram (omega arith) h.0 (omega arith) in
-    let b = number-decimal 0 1023 m (omega arith) h.1 (omega arith) in
+    let b = number-decimal 0 LAST_MEMBER m (omega arith) h.1 (omega arith) in
     let a_is = number_in-decimal datagram (omega (arith, h.0)) in
     let b_is = number_in-decimal m (omega (arith, h.1)) in
     row_read w words.Deliver (decimal datagram ∷ decimal m ∷ []) (lines.Deliver datagram m) s refl (rw (a, b) refl) (rw (a_is, b_is) refl)
@@ -389,17 +390,17 @@ reads w digits (lines.Flow most) sound s h d =
     let a_is = number_in-decimal most (omega (arith, h.1)) in
     row_read w words.Flow (decimal most ∷ []) (lines.Flow most) s refl (rw a refl) (rw a_is refl)
 reads w digits (lines.Raw m bytes) sound s h d =
-    let a = number-decimal 0 1023 m (omega arith) h.0 (omega arith) in
+    let a = number-decimal 0 LAST_MEMBER m (omega arith) h.0 (omega arith) in
     let b = dash-again raw_bytes digits bytes d h.1 in
     let b_good = b.0 in
     let b_same = b.1 in
     let a_is = number_in-decimal m (omega (arith, h.0)) in
     row_read w words.Raw (decimal m ∷ digits ∷ []) (lines.Raw m bytes) s refl (rw (a, b_good) refl) (rw (a_is, b_same) refl)
 reads w digits (lines.SignNote key n name) sound s h d =
-    let a = number-decimal 0 1023 key (omega arith) h.0 (omega arith) in
-    let b = number-decimal 0 1023 n.member (omega arith) h.1 (omega arith) in
+    let a = number-decimal 0 LAST_MEMBER key (omega arith) h.0 (omega arith) in
+    let b = number-decimal 0 LAST_MEMBER n.member (omega arith) h.1 (omega arith) in
     let c = number-decimal 1 (2 ^ 64 - 1) n.epoch h.2 h.3 (omega arith) in
-    let e = number-decimal 0 (2 ^ 32 - 1) n.mask.0 (omega arith) h.4 (omega arith) in
+    let e = number-decimal 0 ALL_BITS n.mask.0 (omega arith) h.4 (omega arith) in
     let f = name-again name h.5 in
     let a_is = number_in-decimal key (omega (arith, h.0)) in
     let b_is = number_in-decimal n.member (omega (arith, h.1)) in
@@ -407,9 +408,9 @@ reads w digits (lines.SignNote key n name) sound s h d =
     let e_is = number_in-decimal n.mask.0 (omega (arith, h.4)) in
     row_read w words.SignNote (decimal key ∷ decimal n.member ∷ decimal n.epoch ∷ decimal n.mask.0 ∷ name ∷ []) (lines.SignNote key n name) s refl (rw (a, b, c, e, f) refl) (rw (a_is, b_is, c_is, e_is) refl)
 reads w digits (lines.SignAccusation key accuser accused epoch ring name) sound s h d =
-    let a = number-decimal 0 1023 key (omega arith) h.0 (omega arith) in
-    let b = number-decimal 0 1023 accuser (omega arith) h.1 (omega arith) in
-    let c = number-decimal 0 1023 accused (omega arith) h.2 (omega arith) in
+    let a = number-decimal 0 LAST_MEMBER key (omega arith) h.0 (omega arith) in
+    let b = number-decimal 0 LAST_MEMBER accuser (omega arith) h.1 (omega arith) in
+    let c = number-decimal 0 LAST_MEMBER accused (omega arith) h.2 (omega arith) in
     let e = epoch-spelled epoch h.3 in
     let e_good = e.0 in
     let e_is = e.1 in
@@ -423,21 +424,21 @@ reads w digits (lines.SignAccusation key accuser accused epoch ring name) sound 
     (rw (a, b, c, e_good, f, n) refl) (rw (a_is, b_is, c_is, e_is, f_is) refl)
 reads w digits (lines.Give name m) sound s h d =
     let a = name-again name h.0 in
-    let b = number-decimal 0 1023 m (omega arith) h.1 (omega arith) in
+    let b = number-decimal 0 LAST_MEMBER m (omega arith) h.1 (omega arith) in
     let b_is = number_in-decimal m (omega (arith, h.1)) in
     row_read w words.Give (name ∷ decimal m ∷ []) (lines.Give name m) s refl (rw (a, b) refl) (rw b_is refl)
 reads w digits (lines.GiveAll name) sound s h d =
     let a = name-again name h in
     row_read w words.GiveAll (name ∷ []) (lines.GiveAll name) s refl (rw a refl) refl
 reads w digits (lines.View m) sound s h d =
-    let a = number-decimal 0 1023 m (omega arith) h (omega arith) in
+    let a = number-decimal 0 LAST_MEMBER m (omega arith) h (omega arith) in
     let a_is = number_in-decimal m (omega (arith, h)) in
     row_read w words.View (decimal m ∷ []) (lines.View m) s refl (rw a refl) (rw a_is refl)
 reads w digits (lines.Monitor m ring other) sound s h d =
     let small = tolerance_small w sound in
-    let a = number-decimal 0 1023 m (omega arith) h.0 (omega arith) in
+    let a = number-decimal 0 LAST_MEMBER m (omega arith) h.0 (omega arith) in
     let b = number-decimal 0 (2 * tolerance w) ring.0 (omega arith) h.1 (omega (arith, small)) in
-    let c = number-decimal 0 1023 other (omega arith) h.2 (omega arith) in
+    let c = number-decimal 0 LAST_MEMBER other (omega arith) h.2 (omega arith) in
     let a_is = number_in-decimal m (omega (arith, h.0)) in
     let b_is = number_in-decimal ring.0 (omega (arith, h.1, small)) in
     let c_is = number_in-decimal other (omega (arith, h.2)) in

@@ -3,6 +3,7 @@
 use Rattle.std.specs.Prelude.{ℕ, ◌*◌, ◌-◌, ◌^◌, ◌&&◌, ◌==◌, nat_le, nat_lt, not, min, is_some, Bool, true, false, if◌then◌else◌, List, [], ◌∷◌, length, Option, Some, None, Result, Ok, Err, codes}
 use Rattle.std.specs.List.{list_any}
 use Rattle.std.specs.Str.{bytes_eq}
+use Rattle.ff_ids.specs.declared.TheConstants.{LAST_MEMBER, MAX_TOLERANCE, ALL_BITS}
 use Rattle.lms_ots.specs.declared.kind.OtsKind.{OtsKind}
 use Rattle.lms_ots.specs.declared.kind.OtsKind.TheVariants.{W1, W2, W4, W8}
 use Rattle.lms_tree.specs.declared.kind.TreeKind.{TreeKind}
@@ -88,11 +89,15 @@ may_stand w _ = is_body w
 
 -- the number of a member
 abbrev pub member : Field
-member word = number 0 1023 word
+member word = number 0 LAST_MEMBER word
+
+-- the mask of a note
+abbrev pub mask : Field
+mask word = number 0 ALL_BITS word
 
 -- the number of a member that may be named here
 abbrev pub newcomer : WorldText → Field
-newcomer w word = number_that (λ n. nat_le n 1023 && may_name w n) word
+newcomer w word = number_that (λ n. nat_le n LAST_MEMBER && may_name w n) word
 
 -- the kind of one-time signatures that has the width
 abbrev pub ots_of : ℕ → Option OtsKind
@@ -126,7 +131,7 @@ outcome word = number 0 65535 word
 
 -- T TIMEOUT PERIOD MISSES TAG, the tag being 16 bytes
 abbrev pub group_fields : List Field
-group_fields = number 1 15 ∷ number 1 10000 ∷ number 1 1000 ∷ number 1 16 ∷ hex 16 ∷ []
+group_fields = number 1 MAX_TOLERANCE ∷ number 1 10000 ∷ number 1 1000 ∷ number 1 16 ∷ hex 16 ∷ []
 
 -- W H
 abbrev pub kinds_fields : List Field
@@ -170,7 +175,7 @@ raw_fields = member ∷ hex_up_to raw_bytes ∷ []
 
 -- KEY M EPOCH MASK NAME
 abbrev pub sign_note_fields : List Field
-sign_note_fields = member ∷ member ∷ epoch ∷ number_32 ∷ name ∷ []
+sign_note_fields = member ∷ member ∷ epoch ∷ mask ∷ name ∷ []
 
 -- KEY A B EPOCH RING NAME, the ring being any that a record can name
 abbrev pub sign_accusation_fields : List Field

@@ -8,6 +8,7 @@ use Rattle.std.proofs.lemmas.Bool.{and_parts, eqb-true, le-leb, leb-true, not-tr
 use Rattle.std.proofs.lemmas.Cmp.{nat_eq_equiv}
 use Rattle.std.proofs.lemmas.Map.Views.{Contains-from_any, list_any-from_Contains}
 use Rattle.std.proofs.lemmas.Slice.Eq.{bytes_eq-Decides}
+use Rattle.ff_ids.specs.declared.TheConstants.{LAST_MEMBER}
 use Rattle.fields.specs.Names.{is_name}
 use Rattle.lms_ots.specs.declared.kind.OtsKind.{OtsKind}
 use Rattle.lms_ots.specs.declared.kind.OtsKind.TheVariants.{W1, W2, W4, W8}
@@ -60,7 +61,7 @@ fitting-decimal fits n small fit = rw (number_of-decimal n small) (rw fit refl)
 -- ## Members that are named
 
 abbrev is_new : WorldText → ℕ → Bool
-is_new w n = leb n 1023 && may_name w n
+is_new w n = leb n LAST_MEMBER && may_name w n
 
 named_apart : (names : List ℕ) (n : ℕ) → list_any (λ m. eqb n m) names ≡ false → Contains names n → ⊥
 named_apart names n apart has =
@@ -71,7 +72,7 @@ apart : (names : List ℕ) (n : ℕ) (b : Bool) → list_any (λ m. eqb n m) nam
 apart names n true is un = absurd (un (Contains-from_any {eq = nat_eq} eqb-true n names is))
 apart names n false is un = refl
 
-new_member : (w : WorldText) (n : ℕ) → n ≤ 1023 → may_name w n ≡ true → IsNewcomer (named w) n
+new_member : (w : WorldText) (n : ℕ) → n ≤ LAST_MEMBER → may_name w n ≡ true → IsNewcomer (named w) n
 new_member (world.Roster t names node) n low may =
     let q = and_parts _ _ may in
     record { range = low; few = ltb-true (length names) most_members q.0; unnamed = named_apart names n (not-true _ q.1) }
@@ -81,11 +82,11 @@ pub newcomer-good : (w : WorldText) (word : List ℕ) → newcomer w word ≡ No
 newcomer-good w word e =
     let f = fitting-good (is_new w) word e in
     let p = and_parts _ _ f.fit in
-    (f.spelled, new_member w (number_in word) (leb-true (number_in word) 1023 p.0) p.1)
+    (f.spelled, new_member w (number_in word) (leb-true (number_in word) LAST_MEMBER p.0) p.1)
 
 new_again : (w : WorldText) (n : ℕ) → is_roster w ≡ true → IsNewcomer (named w) n → is_new w n ≡ true
 new_again (world.Roster t names node) n roster h =
-    let low = le-leb n 1023 h.range in
+    let low = le-leb n LAST_MEMBER h.range in
     let few = lt-ltb (length names) most_members h.few in
     let other = apart names n (list_any (λ m. eqb n m) names) refl h.unnamed in
     rw (low, few, other) refl

@@ -1,6 +1,7 @@
 //! The lines below `begin` that take no memory, read word by word.
 
 ghost use Rattle.std.specs.Prelude.{◌≡◌, ◌≤◌, []};
+ghost use Rattle.ff_ids.specs.declared.TheConstants.{MAX_TOLERANCE};
 ghost use Rattle.line_text.specs.Frame.{fields_line, word_or_bad};
 ghost use Rattle.schedule_world.specs.Rows.{arm_fields, deliver_fields, flow_fields, line_of, line_word, member_fields, monitor_fields, stop_fields, tick_fields};
 
@@ -125,7 +126,7 @@ pub(crate) fn view_line(args: Words) -> Result<WorldLine, BadWord>
 }
 
 pub(crate) fn monitor_line(t: u8, args: Words) -> Result<WorldLine, BadWord>
-    requires { t ≤ 15 }
+    requires { t ≤ MAX_TOLERANCE }
     ensures { result ≡ fields_line (monitor_fields t) (line_of LineWord.Monitor) args.entry }
 {
     let mut args = args.exactly(3)?;

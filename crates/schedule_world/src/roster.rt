@@ -7,7 +7,7 @@ ghost use Rattle.schedule_world.specs.Rows.{group_fields, kinds_fields, line_of,
 use crate::line::{LineWord, WorldLine};
 use crate::take::{take_height, take_newcomer, take_width};
 use crate::text::WorldText;
-use ff_ids::Group;
+use ff_ids::{Group, MAX_TOLERANCE};
 use line_text::{BadWord, Words};
 
 #[tactic(auto, using(crate::proofs::ReadingLemmas::header_read))]
@@ -25,7 +25,7 @@ pub(crate) fn group_line(args: Words) -> Result<WorldLine, BadWord>
     ensures { result ≡ fields_line group_fields (line_of LineWord.Group) args.entry }
 {
     let mut args = args.exactly(5)?;
-    let t = args.number(1, 15)?;
+    let t = args.number(1, MAX_TOLERANCE as u64)?;
     let timeout = args.number(1, 10_000)?;
     let period = args.number(1, 1_000)?;
     let misses = args.number(1, 16)?;

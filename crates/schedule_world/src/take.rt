@@ -7,7 +7,7 @@ ghost use Rattle.line_text.specs.Frame.{behind, first_word};
 ghost use Rattle.schedule_world.specs.Rows.{epoch, epoch_in, epoch_or_now, height, member, newcomer, ots_in, outcome, tree_in, width};
 
 use crate::text::WorldText;
-use ff_ids::{Epoch, MemberId};
+use ff_ids::{Epoch, LAST_MEMBER, MemberId};
 use fields::Name;
 use line_text::{BadWord, Words};
 use lms_ots::OtsKind;
@@ -19,7 +19,7 @@ pub(crate) fn take_member(words: &mut Words) -> Result<MemberId, BadWord>
     ensures value { IfOk result (λ n. n ≡ number_in (first_word words.old)) }
     ensures moved { words.new ≡ behind words.old }
 {
-    let number = words.number(0, 1023)?;
+    let number = words.number(0, LAST_MEMBER as u64)?;
     Ok(MemberId::new(number as u16))
 }
 

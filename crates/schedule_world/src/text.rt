@@ -1,6 +1,7 @@
 //! The world form, line by line.
 
 ghost use Rattle.std.specs.Prelude.{◌≡◌, ◌+◌, ◌<◌, ◌≤◌, length};
+ghost use Rattle.ff_ids.specs.declared.TheConstants.{MAX_TOLERANCE};
 ghost use Rattle.line_text.specs.Answers.{AnswersBy};
 ghost use Rattle.line_text.specs.Frame.{fields_line};
 ghost use Rattle.schedule_world.specs.Rows.{TakesMemory, fields_of, is_ended, is_start, line_of, may_name, may_stand, row_for, ticks_left, tolerance};
@@ -91,7 +92,7 @@ impl WorldText {
 
     /// The line of this line word.
     fn line_of(&self, alloc: Global, word: LineWord, args: Words) -> Result<WorldLine, LineFault>
-        requires { tolerance self.now ≤ 15 }
+        requires { tolerance self.now ≤ MAX_TOLERANCE }
         ensures { AnswersBy TakesMemory (fields_line (fields_of self.now word) (line_of word) args.entry) result }
     {
         match word {

@@ -7,6 +7,7 @@ use Rattle.std.proofs.lemmas.Bool.{le-leb}
 use Rattle.std.proofs.lemmas.Bool.Decides.{nat_tests}
 use Rattle.std.proofs.lemmas.Fmt.{decimal_by_steps, length-decimal-le}
 use Rattle.std.proofs.lemmas.List.Folds.{list_all-append}
+use Rattle.ff_ids.specs.declared.TheConstants.{MEMBERS}
 use Rattle.fields.specs.Names.{is_name, is_name_byte}
 
 digit_named : (d : ℕ) → d < 10 → is_name_byte (48 + d) ≡ true
@@ -26,7 +27,7 @@ more_named n ds h e =
 digits_named : (n : ℕ) → n < 2 ^ 64 → are_named (decimal n) ≡ true
 digits_named n small = decimal_by_steps (λ m ds. are_named ds ≡ true) one_named more_named n small
 
-pub named : (letter n : ℕ) → is_name_byte letter ≡ true → n < 1024 → IsTrue (is_name (letter ∷ decimal n))
+pub named : (letter n : ℕ) → is_name_byte letter ≡ true → n < MEMBERS → IsTrue (is_name (letter ∷ decimal n))
 named letter n small h =
     let short = length-decimal-le 4 n (omega arith) (omega arith) (omega arith) in
     let low : leb 1 (length (letter ∷ decimal n)) ≡ true = le-leb 1 (length (letter ∷ decimal n)) (omega arith) in

@@ -8,6 +8,7 @@ use Rattle.std.proofs.lemmas.List.{length-take}
 use Rattle.std.proofs.lemmas.List.FromFn.{length-range_with_len}
 use Rattle.std.proofs.lemmas.Map.Views.{list_any-from_Contains}
 use Rattle.std.proofs.lemmas.Nat.{mul-le}
+use Rattle.ff_ids.specs.declared.TheConstants.{LAST_MEMBER, MEMBERS}
 use Rattle.rand_core.specs.Stream.{Stream}
 use Rattle.rand_chacha.specs.ChaCha.{of_seed}
 use Rattle.sha2.specs.Sha256.{sha256}
@@ -30,10 +31,10 @@ use Rattle.soak_lines.proofs.DrawLemmas.{AreWords, drawn}
 abbrev body : ℕ → WorldText
 body ticks = world.Body 2 ticks
 
-notes_stand : (round a n t : ℕ) (rest : List WorldLine) → round ≤ 1000 → a + n ≤ 1024 → IsSchedule (body t) rest → IsSchedule (body t) (notes round (range_with_len a n) ++ rest)
+notes_stand : (round a n t : ℕ) (rest : List WorldLine) → round ≤ 1000 → a + n ≤ MEMBERS → IsSchedule (body t) rest → IsSchedule (body t) (notes round (range_with_len a n) ++ rest)
 notes_stand round a zero t rest high few h = h
 notes_stand round a (suc n) t rest high few h =
-    let m : a ≤ 1023 = omega arith in
+    let m : a ≤ LAST_MEMBER = omega arith in
     let name = named 110 a refl (omega arith) in
     (refl, (m, m, omega arith, omega arith, omega arith, name), (refl, name, notes_stand round (a + 1) n t rest high (omega arith) h))
 
@@ -41,10 +42,10 @@ notes_or_none : (p : Plan) (b : Bool) (round t : ℕ) (rest : List WorldLine) �
 notes_or_none p true round t rest is high h = notes_stand round p.correct (p.members - p.correct) t rest high (omega (arith, is.within, is.few)) h
 notes_or_none p false round t rest is high h = h
 
-ticks_stand : (a n t u : ℕ) (rest : List WorldLine) → a + n ≤ 1024 → u ≡ t + n → u ≤ 100000 → IsSchedule (body u) rest → IsSchedule (body t) (map (λ m. lines.Tick m 1) (range_with_len a n) ++ rest)
+ticks_stand : (a n t u : ℕ) (rest : List WorldLine) → a + n ≤ MEMBERS → u ≡ t + n → u ≤ 100000 → IsSchedule (body u) rest → IsSchedule (body t) (map (λ m. lines.Tick m 1) (range_with_len a n) ++ rest)
 ticks_stand a zero t u rest few sum high h = subst (λ (k : ℕ). IsSchedule (body k) rest) (let e : u ≡ t = omega arith in e) h
 ticks_stand a (suc n) t u rest few sum high h =
-    let m : a ≤ 1023 = omega arith in
+    let m : a ≤ LAST_MEMBER = omega arith in
     (refl, (m, omega arith, omega arith, omega arith), ticks_stand (a + 1) n (t + 1) u rest (omega arith) (omega arith) high h)
 
 left_words : (correct : ℕ) (some : List ℕ) (words : Stream) → 0 < correct → correct ≤ 32 → AreWords words → AreWords (accusations correct some words).1
@@ -54,13 +55,13 @@ left_words correct (liar ∷ some) words low high are =
     let ring = drawn 5 (draw correct words).1 (omega arith) (omega arith) victim.left in
     left_words correct some (draw 5 (draw correct words).1).1 low high ring.left
 
-accusations_stand : (correct a n t : ℕ) (words : Stream) (rest : List WorldLine) → 0 < correct → correct ≤ 32 → a + n ≤ 1024 → AreWords words → IsSchedule (body t) rest
+accusations_stand : (correct a n t : ℕ) (words : Stream) (rest : List WorldLine) → 0 < correct → correct ≤ 32 → a + n ≤ MEMBERS → AreWords words → IsSchedule (body t) rest
     → IsSchedule (body t) ((accusations correct (range_with_len a n) words).0 ++ rest)
 accusations_stand correct a zero t words rest low high few are h = h
 accusations_stand correct a (suc n) t words rest low high few are h =
     let victim = drawn correct words low (omega arith) are in
     let ring = drawn 5 (draw correct words).1 (omega arith) (omega arith) victim.left in
-    let m : a ≤ 1023 = omega arith in
+    let m : a ≤ LAST_MEMBER = omega arith in
     let name = named 97 a refl (omega arith) in (
       refl,
       (m, m, omega (arith, victim.below), tt, omega (arith, ring.below), name),
@@ -87,10 +88,10 @@ rounds_stand p round (suc more) t words is low high few are =
 
 -- ## The roster
 
-starts_stand : (a n : ℕ) (rest : List WorldLine) → a + n ≤ 1024 → IsSchedule (body 0) rest → IsSchedule (body 0) (map lines.Start (range_with_len a n) ++ rest)
+starts_stand : (a n : ℕ) (rest : List WorldLine) → a + n ≤ MEMBERS → IsSchedule (body 0) rest → IsSchedule (body 0) (map lines.Start (range_with_len a n) ++ rest)
 starts_stand a zero rest few h = h
 starts_stand a (suc n) rest few h =
-    let m : a ≤ 1023 = omega arith in
+    let m : a ≤ LAST_MEMBER = omega arith in
     (refl, m, starts_stand (a + 1) n rest (omega arith) h)
 
 range_more : (a n k : ℕ) → a + n ≡ k → range_with_len a (suc n) ≡ range_with_len a n ++ k ∷ []

@@ -1,6 +1,7 @@
 //! The names under which the liars' records are kept.
 
 ghost use Rattle.std.specs.Prelude.{◌≡◌, ◌<◌, IfOk};
+ghost use Rattle.ff_ids.specs.declared.TheConstants.{MEMBERS};
 ghost use Rattle.soak_lines.specs.Workload.{accusation_name, note_name};
 
 use fields::{Name, NoMemory};
@@ -8,7 +9,7 @@ use std::alloc::Global;
 
 /// The name of the latest note of this member: `n` and its number.
 pub(crate) fn note_name(alloc: Global, member: u16) -> Result<Name, NoMemory>
-    requires { member < 1024 }
+    requires { member < MEMBERS }
     ensures { IfOk result (λ name. name ≡ note_name member) }
 {
     let text = format!(in alloc; "n{member}")?;
@@ -17,7 +18,7 @@ pub(crate) fn note_name(alloc: Global, member: u16) -> Result<Name, NoMemory>
 
 /// The name of the latest accusation by this member: `a` and its number.
 pub(crate) fn accusation_name(alloc: Global, member: u16) -> Result<Name, NoMemory>
-    requires { member < 1024 }
+    requires { member < MEMBERS }
     ensures { IfOk result (λ name. name ≡ accusation_name member) }
 {
     let text = format!(in alloc; "a{member}")?;

@@ -1,6 +1,7 @@
 //! One line, and the place behind it.
 
 ghost use Rattle.std.specs.Prelude.{◌≡◌, ◌<◌, ◌≤◌, IfOk, OnErr};
+ghost use Rattle.ff_ids.specs.declared.TheConstants.{MEMBERS};
 ghost use Rattle.soak_lines.specs.Workload.{accusation_by, note_line, words_of};
 ghost use Rattle.soak_lines.specs.Places.{IsHead, IsPlace, IsPlan, IsStep};
 ghost use Rattle.soak_lines.specs.Turns.{head_turn, round_turn, turn_at};
@@ -27,7 +28,7 @@ pub(crate) struct Turn {
 /// The note that the liar signs in this round: its epoch rises by 1 in ten rounds, and it enables all five rings.
 fn note_line(alloc: Global, round: u16, liar: u16) -> Result<WorldLine, NoMemory>
     requires round { 1 ≤ round }
-    requires liar { liar < 1024 }
+    requires liar { liar < MEMBERS }
     ensures { IfOk result (λ line. line ≡ note_line round liar) }
 {
     let name = note_name(alloc, liar)?;
@@ -53,7 +54,7 @@ fn accusation_line(
     words: &mut ChaCha20Rng,
 ) -> Result<WorldLine, NoMemory>
     requires correct { (0 < correct) × (correct ≤ 32) }
-    requires liar { liar < 1024 }
+    requires liar { liar < MEMBERS }
     ensures drawn { IfOk result (λ line. (line, words_of words.new) ≡ accusation_by correct liar (words_of words.old)) }
     ensures same { OnErr result (words.new ≡ words.old) }
 {

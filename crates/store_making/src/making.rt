@@ -1,6 +1,7 @@
 //! From the text of a secret to the store of its key.
 
 ghost use Rattle.std.specs.Prelude.{◌≡◌, ◌≤◌, ◌++◌, ◌∷◌, [], ℕ, true, Option, List, IfOk, codes, string_bytes};
+ghost use Rattle.ff_ids.specs.declared.TheConstants.{MAX_TOLERANCE};
 ghost use Rattle.hex.specs.Hex.{encode_lower};
 ghost use Rattle.authority.specs.OfDisk.{of_disk};
 ghost use Rattle.authority.specs.Telling.{is_writable};
@@ -49,7 +50,7 @@ fn make_and_tell<O: Sink, D: Disk>(
     out: &mut O,
     disk: &mut D,
 ) -> Result<(), Halt>
-    requires tolerance { setting.now.group.t ≤ 15 }
+    requires tolerance { setting.now.group.t ≤ MAX_TOLERANCE }
     requires prepared { IsPrepared setting.now prepared.now }
     requires sink { O.is_open out.old ≡ true }
     ensures sink { O.is_open out.new ≡ is_writable result }

@@ -2,7 +2,7 @@
 use Rattle.std.proofs.Common.{◌≡◌, ℕ, List, [], ◌∷◌, ◌++◌, length, None, refl, lit<}
 use Rattle.std.specs.Prelude.{codes}
 use Rattle.ff_ids.specs.declared.AccBody.{AccBody}
-use Rattle.ff_ids.specs.Views.{all_numbers}
+use Rattle.ff_ids.specs.Views.{all_numbers, in_view_by}
 use Rattle.life_events.specs.declared.event.What.TheVariants as what
 use Rattle.line_text.specs.Frame.{judge}
 use Rattle.trace.specs.Answers.{state_of}
@@ -24,29 +24,29 @@ schedule =
 
 -- the events of its only life: at the tick the accusation expires, and the accused is removed
 removed : events_in (walk_over schedule) ≡ record { moment = 0; what = what.Entered 1 } ∷ record { moment = 0; what = what.Entered 2 } ∷ record { moment = 1; what = what.Expired (record { accuser = 1; accused = 2; epoch = 1; ring = record { 0 = 0 } }) } ∷ record { moment = 1; what = what.Removed 2 } ∷ []
-unfolding all_numbers state_of judge
+unfolding all_numbers in_view_by state_of judge
 removed = refl
 
 one_life : length (lives_in (walk_over schedule)) ≡ 1
-unfolding all_numbers state_of judge
+unfolding all_numbers in_view_by state_of judge
 one_life = refl
 
 taken_whole : (replayed schedule).cause ≡ None
-unfolding all_numbers state_of judge
+unfolding all_numbers in_view_by state_of judge
 taken_whole = refl
 
 -- the note of the member is accepted, and then the accusation, which expires under the tick
 note_accepted : AcceptsNote (walk_over schedule) 5 1 (record { member = 2; epoch = 1; mask = record { 0 = 7 } })
-unfolding all_numbers state_of judge
+unfolding all_numbers in_view_by state_of judge
 note_accepted = record { t = _; r = _; at = refl; during = refl; number = refl; line = refl; verdict = refl }
 
 abbrev accusation : AccBody
 accusation = record { accuser = 1; accused = 2; epoch = 1; ring = record { 0 = 0 } }
 
 accusation_accepted : AcceptsAccusation (walk_over schedule) 6 1 accusation
-unfolding all_numbers state_of judge
+unfolding all_numbers in_view_by state_of judge
 accusation_accepted = record { t = _; r = _; at = refl; during = refl; number = refl; line = refl; verdict = refl }
 
 accusation_expires : Expires (walk_over schedule) 7 1 1 accusation
-unfolding all_numbers state_of judge
+unfolding all_numbers in_view_by state_of judge
 accusation_expires = record { t = _; r = _; at = refl; during = refl; number = refl; reported = (0, lit< tt, refl) }

@@ -4,6 +4,7 @@ use Rattle.std.specs.Prelude.{OnOk, filter_map, Result, Ok, Err}
 use Rattle.std.specs.List.{AllByRecursion, list_any, range_with_len}
 use Rattle.std.proofs.lemmas.Bool.{cases_Bool}
 use Rattle.std.proofs.lemmas.List.Elements.{filter-append}
+use Rattle.ff_ids.specs.declared.TheConstants.{MAX_TOLERANCE, MEMBERS}
 use Rattle.ff_ids.specs.declared.Group.{Group}
 use Rattle.lms_ots.specs.declared.OtsKind.{OtsKind}
 use Rattle.lms_tree.specs.declared.TreeKind.{TreeKind}
@@ -253,7 +254,7 @@ made-so : (g : Group) (ots : OtsKind) (tree : TreeKind) (correct liars : List �
 unfolding setting_for
 made-so g ots tree correct liars = refl
 
-pub is-world : (g : Group) (ots : OtsKind) (tree : TreeKind) (correct liars : List ℕ) (s : Setting) → s ≡ setting_for g ots tree correct liars → g.t ≤ 15 → IsWorld s g ots tree
+pub is-world : (g : Group) (ots : OtsKind) (tree : TreeKind) (correct liars : List ℕ) (s : Setting) → s ≡ setting_for g ots tree correct liars → g.t ≤ MAX_TOLERANCE → IsWorld s g ots tree
 is-world g ots tree correct liars s is few = subst (λ (z : Setting). IsWorld z g ots tree) (sym is) (record { made = made-so g ots tree correct liars; few = few })
 
 -- ---- the beginning and the end
@@ -285,14 +286,14 @@ builds-first g ots tree correct liars signing v key next authority nobody no_lia
     }
 
 -- all numbers are below the last one
-listed-all : (listed : List ℕ) (n : ℕ) → n ≡ 1024 → in_order listed ≡ listed_below listed n
+listed-all : (listed : List ℕ) (n : ℕ) → n ≡ MEMBERS → in_order listed ≡ listed_below listed n
 listed-all listed n all = ap (filter (λ m. list_any (λ x. eqb x m) listed)) all_length.1.are ∙ ap (listed_below listed) (all_length.1.long ∙ sym all)
 
-all-nodes : (s : Setting) (n : ℕ) → n ≡ 1024 → nodes s ≡ listed_below s.correct n
+all-nodes : (s : Setting) (n : ℕ) → n ≡ MEMBERS → nodes s ≡ listed_below s.correct n
 unfolding nodes
 all-nodes s n all = listed-all s.correct n all
 
-all-certified : (s : Setting) (n : ℕ) → n ≡ 1024 → certificates s ≡ map (record_of s) (certified_from s 0 (listed_below (s.correct ++ s.liars) n))
+all-certified : (s : Setting) (n : ℕ) → n ≡ MEMBERS → certificates s ≡ map (record_of s) (certified_from s 0 (listed_below (s.correct ++ s.liars) n))
 unfolding by_authority members
 all-certified s n all = ap (λ (ms : List ℕ). map (record_of s) (certified_from s 0 ms)) (listed-all (s.correct ++ s.liars) n all)
 
@@ -306,7 +307,7 @@ unfolding by_authority begun_world
 first-issued s = bodies-issued s 0 (members s)
 
 -- What is built of all members is the world that is begun.
-pub holds-built : (s : Setting) (ots : OtsKind) (tree : TreeKind) (n : ℕ) (signing : LeavesOf) (v : Kept) → n ≡ 1024 → IsWorld s v.authority.group ots tree → ((m : ℕ) → is_node s m ≡ true → is_liar s m ≡ false) → Builds s ots tree n signing v → Holds s (begun_world s) [] v
+pub holds-built : (s : Setting) (ots : OtsKind) (tree : TreeKind) (n : ℕ) (signing : LeavesOf) (v : Kept) → n ≡ MEMBERS → IsWorld s v.authority.group ots tree → ((m : ℕ) → is_node s m ≡ true → is_liar s m ≡ false) → Builds s ots tree n signing v → Holds s (begun_world s) [] v
 unfolding begun_world
 holds-built s ots tree n signing v all world apart h =
     record {

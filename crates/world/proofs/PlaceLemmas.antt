@@ -6,6 +6,7 @@ use Rattle.std.proofs.lemmas.Bool.{cases_Bool, cond_both, eqb-true, eq-eqb, fals
 use Rattle.std.proofs.lemmas.Bool.Decides.{nat_tests}
 use Rattle.std.proofs.lemmas.List.Quantifiers.{position-Some}
 use Rattle.std.proofs.lemmas.Option.{slice_get-map, slice_get-get_or}
+use Rattle.ff_ids.specs.declared.TheConstants.{MEMBERS}
 use Rattle.ff_ids.specs.Views.{all_numbers}
 use Rattle.membership.proofs.NumberLemmas.{all_length}
 use Rattle.node_rules.specs.Nodes.{in_order}
@@ -87,7 +88,7 @@ any-range p a (suc n) m low high =
     above apart = grind (arith, nat_tests)
 
 -- a member's number is listed in order exactly where it is listed
-pub any-in_order : (listed : List ℕ) (m : ℕ) → m < 1024 → list_any (λ x. eqb x m) (in_order listed) ≡ list_any (λ x. eqb x m) listed
+pub any-in_order : (listed : List ℕ) (m : ℕ) → m < MEMBERS → list_any (λ x. eqb x m) (in_order listed) ≡ list_any (λ x. eqb x m) listed
 any-in_order listed m low =
     let p : ℕ → Bool = λ k. list_any (λ x. eqb x k) listed in
     ap (λ (xs : List ℕ). list_any (λ x. eqb x m) (filter p xs)) all_length.1.are ∙ any-range p 0 all_length.0 m (omega arith) (omega (arith, low, all_length.1.long))
@@ -105,7 +106,7 @@ abbrev pub IsListed : List ℕ → ℕ → List ℕ → Option ℕ → Type 0
 IsListed listed m numbers None = list_any (λ x. eqb x m) listed ≡ false
 IsListed listed m numbers (Some at) = (list_any (λ x. eqb x m) listed ≡ true) × (slice_get numbers at ≡ Some m)
 
-pub listed-place : (listed : List ℕ) (m : ℕ) (numbers : List ℕ) (o : Option ℕ) → m < 1024 → numbers ≡ in_order listed → IsFound m numbers o → IsListed listed m numbers o
+pub listed-place : (listed : List ℕ) (m : ℕ) (numbers : List ℕ) (o : Option ℕ) → m < MEMBERS → numbers ≡ in_order listed → IsFound m numbers o → IsListed listed m numbers o
 listed-place listed m numbers None low is h = sym (any-in_order listed m low) ∙ ap (list_any (λ x. eqb x m)) (sym is) ∙ h
 listed-place listed m numbers (Some at) low is h =
     (sym (any-in_order listed m low) ∙ ap (list_any (λ x. eqb x m)) (sym is) ∙ listed-at numbers m at h, h)
@@ -170,8 +171,8 @@ liar-place : (s : Setting) (v : Kept) (m : ℕ) (o : Option ℕ) → IsListed s.
 liar-place s v m None h = h
 liar-place s v m (Some at) h = h
 
-pub is-node-place : (s : Setting) (v : Kept) (m : ℕ) (o : Option ℕ) → m < 1024 → numbers v ≡ nodes s → o ≡ position (λ x. eqb x.member m) v.stations → IsNodePlace s v m o
+pub is-node-place : (s : Setting) (v : Kept) (m : ℕ) (o : Option ℕ) → m < MEMBERS → numbers v ≡ nodes s → o ≡ position (λ x. eqb x.member m) v.stations → IsNodePlace s v m o
 is-node-place s v m o low is found = node-place s v m o (listed-place s.correct m (numbers v) o low (is ∙ nodes-are s) (found-position (λ (x : StationState). x.member) m v.stations o found))
 
-pub is-liar-place : (s : Setting) (v : Kept) (m : ℕ) (o : Option ℕ) → m < 1024 → map (λ x. x.member) v.liars ≡ in_order s.liars → o ≡ position (λ x. eqb x.member m) v.liars → IsLiarPlace s v m o
+pub is-liar-place : (s : Setting) (v : Kept) (m : ℕ) (o : Option ℕ) → m < MEMBERS → map (λ x. x.member) v.liars ≡ in_order s.liars → o ≡ position (λ x. eqb x.member m) v.liars → IsLiarPlace s v m o
 is-liar-place s v m o low is found = liar-place s v m o (listed-place s.liars m (map (λ x. x.member) v.liars) o low is (found-position (λ (x : Liar). x.member) m v.liars o found))

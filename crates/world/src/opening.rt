@@ -1,6 +1,7 @@
 //! How a world begins: keys are made, the authority certifies all members in order of number, and each node has a new store.
 
 ghost use Rattle.std.specs.Prelude.{◌≡◌, ◌<◌, ◌≤◌, ◌+◌, [], IfOk, OnOk, length};
+ghost use Rattle.ff_ids.specs.declared.TheConstants.{MAX_TOLERANCE};
 ghost use Rattle.lms_tree.specs.Kinds.{height};
 ghost use Rattle.lms_tree.specs.Lms.{public_of};
 ghost use Rattle.node_core.specs.Begins.{IsGroup};
@@ -110,7 +111,7 @@ impl World {
         signing: &mut SigningKey,
     ) -> Result<(), NoMemory>
         requires key { self.old.authority.key ≡ public_of signing.old.key }
-        requires few { self.old.authority.group.t ≤ 15 }
+        requires few { self.old.authority.group.t ≤ MAX_TOLERANCE }
         ensures ok { OnOk result (AddsNode self.old self.new signing.old member (key_from kinds.ots kinds.tree (secret_in_world self.old.authority.group.tag member))) }
         ensures next { OnOk result (signing.new ≡ record signing.old { next = signing.old.next + 1 }) }
     {
@@ -147,7 +148,7 @@ impl World {
         signing: &mut SigningKey,
     ) -> Result<(), NoMemory>
         requires key { self.old.authority.key ≡ public_of signing.old.key }
-        requires few { self.old.authority.group.t ≤ 15 }
+        requires few { self.old.authority.group.t ≤ MAX_TOLERANCE }
         ensures builds { (s : Setting) → s ≡ setting_for self.old.authority.group kinds.ots kinds.tree nodes.now liars.now → IsApart nodes.now liars.now
             → Builds s kinds.ots kinds.tree member signing.old self.old → OnOk result (Builds s kinds.ots kinds.tree (member + 1) signing.new self.new) }
         ensures key { OnOk result (self.new.authority.key ≡ public_of signing.new.key) }

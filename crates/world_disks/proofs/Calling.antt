@@ -1,9 +1,10 @@
 -- Calls of nodes over disks in memory, and the first note of a life.
 use Rattle.std.proofs.Common.{◌≡◌, ℕ, ◌+◌, ◌^◌, ◌<◌, ◌≤◌, Bool, true, false, not, eqb, cond, List, refl, sym, ap, ◌∙◌, subst, arith, inl, inr}
-use Rattle.std.proofs.Math.Nat.{pow-le-pow_right}
+use Rattle.ff_ids.proofs.MaskLemmas.{below-rings}
 use Rattle.std.proofs.lemmas.Bool.{and_parts, cases_Bool, ltb-true}
 use Rattle.std.proofs.lemmas.Bool.Decides.{nat_tests}
 use Rattle.std.proofs.lemmas.Nat.{pow_pos}
+use Rattle.ff_ids.specs.declared.TheConstants.{MAX_TOLERANCE}
 use Rattle.ff_ids.specs.Masks.{good_mask, ring_count}
 use Rattle.ports.specs.DiskSteps.{Came, runs}
 use Rattle.ports.specs.MemoryDisk.{DiskState}
@@ -34,20 +35,15 @@ use Rattle.world_disks.proofs.Puts.{put_as_told}
 
 -- ---- what may be signed next may be put
 
-fewer-bits : (t mask : ℕ) → t ≤ 15 → mask < 2 ^ ring_count t → mask < 2 ^ 31
-fewer-bits t mask few within =
-    let below : 2 ^ ring_count t ≤ 2 ^ 31 = pow-le-pow_right {n = 2} (omega arith) {i = ring_count t} {j = 31} (omega (arith, few)) in
-    omega (arith, within, below)
-
-may-come : (s : Setting) (kept : Stored) (body : Body) → s.group.t ≤ 15 → MaySign s kept body → MayComeNext kept body
+may-come : (s : Setting) (kept : Stored) (body : Body) → s.group.t ≤ MAX_TOLERANCE → MaySign s kept body → MayComeNext kept body
 may-come s kept (Certificate c) few may = tt
-may-come s kept (Note n) few may = (may.follows, fewer-bits s.group.t n.mask.0 few may.rings)
+may-come s kept (Note n) few may = (may.follows, below-rings s.group.t n.mask.0 few may.rings)
 may-come s kept (Accusation a) few may = tt
 
 left-below : (next indexes : ℕ) → next ≤ indexes → eqb next indexes ≡ false → next < indexes
 left-below next indexes within apart = grind (arith, nat_tests, within, apart)
 
-put-next : (tag : List ℕ) (s : Setting) (body : Body) (d : DiskState) (e : Disk) → s.group.t ≤ 15 → s.indexes ≤ 32768 → HoldsDisk tag s.indexes d e → MaySign s e.state body
+put-next : (tag : List ℕ) (s : Setting) (body : Body) (d : DiskState) (e : Disk) → s.group.t ≤ MAX_TOLERANCE → s.indexes ≤ 32768 → HoldsDisk tag s.indexes d e → MaySign s e.state body
     → ComesAs tag s.indexes (runs (put_calls (seat_of tag e) (stored_after e.state body)) d) (put_passes e) (after_put (stored_after e.state body) e) (stopped_in_put (stored_after e.state body) e)
 put-next tag s body d e few small h may =
     let next : MayComeNext e.state body = may-come s e.state body few may in
@@ -57,7 +53,7 @@ put-next tag s body d e few small h may =
 
 -- ---- a store on the one disk takes what the other does
 
-put-kept : (tag : List ℕ) (s : Setting) (kept : Stored) (body : Body) (d : PlacedStore) (e : Disk) → s.group.t ≤ 15 → s.indexes ≤ 32768 → Keeps tag s.indexes kept d e → MaySign s kept body
+put-kept : (tag : List ℕ) (s : Setting) (kept : Stored) (body : Body) (d : PlacedStore) (e : Disk) → s.group.t ≤ MAX_TOLERANCE → s.indexes ≤ 32768 → Keeps tag s.indexes kept d e → MaySign s kept body
     → ComesAs tag s.indexes (put_on (stored_after kept body) d) (put_passes e) (after_put (stored_after kept body) e) (stopped_in_put (stored_after kept body) e)
 unfolding put_on
 put-kept tag s kept body d e few small k may =
@@ -89,7 +85,7 @@ fell-behind tag n came false behind stop c fails = c.1
 abbrev Fell : List ℕ → ℕ → PlacedStore → Disk → Type 0
 Fell tag n d e = HoldsDisk tag n (crashed 0 d.disk) e
 
-alike : (tag : List ℕ) (s : Setting) → s.group.t ≤ 15 → s.indexes ≤ 32768 → AreAlike s placed world_storage (Keeps tag s.indexes) (Fell tag s.indexes)
+alike : (tag : List ℕ) (s : Setting) → s.group.t ≤ MAX_TOLERANCE → s.indexes ≤ 32768 → AreAlike s placed world_storage (Keeps tag s.indexes) (Fell tag s.indexes)
 alike tag s few small =
     record {
       takes = λ kept body d e k may.

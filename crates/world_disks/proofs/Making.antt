@@ -1,6 +1,7 @@
 -- The calls that make a store on a new disk.
 use Rattle.std.proofs.Common.{◌≡◌, inl, inr, ℕ, ◌+◌, ◌^◌, ◌<◌, false, List, [], ◌∷◌, ◌++◌, length, drop, None, Some, refl, sym, ap, ◌∙◌, subst, arith, length-append, append-nil}
 use Rattle.std.proofs.lemmas.List.{drop_all}
+use Rattle.ff_ids.specs.declared.TheConstants.{MAX_RINGS}
 use Rattle.ff_ids.specs.declared.Mask.{Mask}
 use Rattle.ports.specs.Disk.{Moment, settled, written, wrote}
 use Rattle.ports.specs.declared.memory_disk.Arm.{Arm}
@@ -26,7 +27,7 @@ written_new bytes some =
 length-made : (tag : List ℕ) (mask : Mask) → length tag ≡ 32 → length (made tag (first_entry mask)) ≡ store_length 1
 length-made tag mask long = omega (arith, long, front-length tag (first_entry mask ∷ []) long, length-append (front tag (first_entry mask ∷ [])) (0 ∷ []))
 
-chain-first : (mask : Mask) → mask.0 < 2 ^ 31 → IsChain (first_entry mask ∷ [])
+chain-first : (mask : Mask) → mask.0 < 2 ^ MAX_RINGS → IsChain (first_entry mask ∷ [])
 chain-first mask small = (record { next_small = omega arith; epoch_small = omega arith; mask_small = small }, tt, tt)
 
 up_new : (n : ℕ) (d : DiskState) → IsNew n d → Up d None

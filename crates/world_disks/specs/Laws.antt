@@ -1,5 +1,6 @@
 -- What holds of disks in memory that stand for disks of nodes.
 use Rattle.std.specs.Prelude.{◌≡◌, ℕ, ◌+◌, ◌*◌, ◌^◌, ◌<◌, ◌≤◌, true, false, List, [], ◌++◌, None, Some, Result, length}
+use Rattle.ff_ids.specs.declared.TheConstants.{MAX_TOLERANCE, MAX_RINGS}
 use Rattle.ports.specs.MemoryDisk.{DiskState, moments_of}
 use Rattle.ports.specs.DiskSteps.{runs}
 use Rattle.ff_ids.specs.declared.Mask.{Mask}
@@ -58,18 +59,18 @@ pub record IsNew (indexes : ℕ) (d : DiskState) : Type 0 where
 
 -- The calls that make a store on it pass.
 abbrev pub MakesAsTold : Type 0
-MakesAsTold = (tag name : List ℕ) (indexes : ℕ) (d : DiskState) (mask : Mask) → IsNew indexes d → length tag ≡ 32 → mask.0 < 2 ^ 31
+MakesAsTold = (tag name : List ℕ) (indexes : ℕ) (d : DiskState) (mask : Mask) → IsNew indexes d → length tag ≡ 32 → mask.0 < 2 ^ MAX_RINGS
     → let came = runs (make_calls name tag (first_entry mask)) d in
     (came.failed ≡ false) × HoldsDisk tag indexes came.disk (made_disk mask)
 
 -- A call of a node, whose key has no more indexes than any has, over a disk in memory is the call over the disk of the
 -- rules for which it stands.
 abbrev pub CallsAsTold : Type 0
-CallsAsTold = (tag : List ℕ) (s : Setting) (n : Node) (i : Input) (d : PlacedStore) (e : Disk) → s.group.t ≤ 15 → s.indexes ≤ 32768 → Keeps tag s.indexes n.stored d e
+CallsAsTold = (tag : List ℕ) (s : Setting) (n : Node) (i : Input) (d : PlacedStore) (e : Disk) → s.group.t ≤ MAX_TOLERANCE → s.indexes ≤ 32768 → Keeps tag s.indexes n.stored d e
     → ComesTo tag s.indexes (called_on placed s n i d) (rules.called_on s n i e)
 
 -- The calls that put what the store is to keep behind the first note of a life.
 abbrev pub StartsAsTold : Type 0
-StartsAsTold = (tag seed : List ℕ) (certificates : List Record) (s : Setting) (d : DiskState) (e : Disk) → s.group.t ≤ 15 → s.indexes ≤ 32768 → HoldsDisk tag s.indexes d e → may_start s e.state ≡ true
+StartsAsTold = (tag seed : List ℕ) (certificates : List Record) (s : Setting) (d : DiskState) (e : Disk) → s.group.t ≤ MAX_TOLERANCE → s.indexes ≤ 32768 → HoldsDisk tag s.indexes d e → may_start s e.state ≡ true
     → let kept = (started s seed certificates e.state).node.stored in
     ComesAs tag s.indexes (runs (put_calls (seat_of tag e) kept) d) (put_passes e) (after_put kept e) (stopped_in_put kept e)

@@ -4,7 +4,7 @@ use Rattle.std.specs.Prelude.{Result, Ok, Err, IsTrue}
 use Rattle.std.specs.List.{list_any}
 use Rattle.std.proofs.lemmas.Bool.{eqb-true, false≢true, false_from_ne_true}
 use Rattle.std.proofs.lemmas.List.{append_assoc}
-use Rattle.ff_ids.specs.declared.TheConstants.{MEMBERS}
+use Rattle.ff_ids.specs.declared.TheConstants.{MEMBERS, MAX_TOLERANCE}
 use Rattle.ff_ids.specs.declared.Group.{Group}
 use Rattle.lms_ots.specs.declared.OtsKind.{OtsKind}
 use Rattle.lms_tree.specs.declared.TreeKind.{TreeKind}
@@ -46,7 +46,7 @@ pub record IsEmpty (r : Roster) : Type 0 where
 
 pub record HasGroup (r : Roster) : Type 0 where
   pub some : 1 ≤ r.group.t
-  pub few : r.group.t ≤ 15
+  pub few : r.group.t ≤ MAX_TOLERANCE
 
 -- Who is listed is among the names, and the nodes and the liars are apart.
 pub record IsNamed (r : Roster) (names : List ℕ) : Type 0 where

@@ -1,7 +1,7 @@
 -- What holds in each world that lines lead to, none of which is forged.
 use Rattle.std.specs.Prelude.{◌≡◌, ◌⊎◌, ℕ, ◌<◌, ◌≤◌, Bool, true, false, ◌&&◌, ◌==◌, List, [], ◌++◌, Some, Ok, filter, flat_map, map, take}
 use Rattle.std.specs.List.{AllByRecursion, slice_get}
-use Rattle.ff_ids.specs.declared.TheConstants.{MEMBERS}
+use Rattle.ff_ids.specs.declared.TheConstants.{MEMBERS, MAX_TOLERANCE}
 use Rattle.ff_ids.specs.Lives.{opening, IsJustified}
 use Rattle.records.specs.declared.Record.{Record}
 use Rattle.signer.specs.Lives.{IsOnce}
@@ -24,11 +24,11 @@ pub data Reached (s : Setting) : World → List Told → Type 0 where
   opens_so : Reached s (begun_world s) []
   goes : (w : World) (told : List Told) (line : WorldLine) (a : Answer) → Reached s w told → step s w line ≡ Ok a → Reached s a.world (told ++ a.told)
 
--- The group has at least three rings, and at most 31; each node's number is a member's; and nobody is both a node and a
+-- The group has at least three rings, and at most `MAX_RINGS`; each node's number is a member's; and nobody is both a node and a
 -- liar.
 pub record IsSetting (s : Setting) : Type 0 where
   pub some : 1 ≤ s.group.t
-  pub few : s.group.t ≤ 15
+  pub few : s.group.t ≤ MAX_TOLERANCE
   pub numbered : (m : ℕ) → is_node s m ≡ true → m < MEMBERS
   pub apart : (m : ℕ) → is_node s m ≡ true → is_liar s m ≡ false
 

@@ -1,6 +1,7 @@
 -- A world: what its nodes have come to, the datagrams that were sent, the records that are kept under names, and the
 -- signatures that were made.
 use Rattle.std.specs.Prelude.{ℕ, Bool, not, ◌==◌, if◌then◌else◌, bytes_eq, List, [], ◌∷◌, ◌++◌, length, Option, Some, None, is_some, filter, filter_map, find, option_to_list}
+use Rattle.ff_ids.specs.Masks.{all_rings}
 use Rattle.records.specs.declared.Record.{Record}
 use Rattle.epoch_store.specs.declared.Stored.{Stored}
 use Rattle.signer.specs.Lives.{Spent}

@@ -3,6 +3,7 @@ use Rattle.std.proofs.Common.{◌≡◌, ℕ, ◌+◌, ◌-◌, ◌*◌, ◌/◌
 use Rattle.std.specs.Prelude.{Result, Ok, Err, flat_map}
 use Rattle.std.specs.List.{AllByRecursion}
 use Rattle.std.proofs.lemmas.Nat.{mul-le}
+use Rattle.ff_ids.specs.declared.TheConstants.{MAX_TOLERANCE}
 use Rattle.line_text.specs.declared.bad_word.BadWord.{BadWord}
 use Rattle.line_text.specs.declared.bad_word.BadWord.TheVariants as bad
 use Rattle.line_text.specs.Answers.{Progress}
@@ -35,7 +36,7 @@ use Rattle.world_soak.proofs.ReadingLemmas.{read-again}
 
 -- ---- the reader's progress
 
-small : (w : WorldText) → IsSound w → tolerance w ≤ 15
+small : (w : WorldText) → IsSound w → tolerance w ≤ MAX_TOLERANCE
 small (form.Grouped t) sound = sound
 small (form.Roster t names node) sound = sound
 small (form.Body t ticks) sound = sound.0

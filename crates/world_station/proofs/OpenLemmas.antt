@@ -16,7 +16,7 @@ use Rattle.world_disks.proofs.Making.{make_as_told}
 use Rattle.world_rules.specs.Disks.{Disk, lets_pass, made_disk, opening_calls, stopped}
 
 -- The store was made, and the disk is new.
-pub made-so : (tag name : List ℕ) (indexes : ℕ) (d r : DiskState) (mask : Mask) (result : Result (Unit {0}) StoreError) → IsNew indexes d → length tag ≡ 32 → mask.0 < 2 ^ 31 → is_err result ≡ false
+pub made-so : (tag name : List ℕ) (indexes : ℕ) (d r : DiskState) (mask : Mask) (result : Result (Unit {0}) StoreError) → IsNew indexes d → length tag ≡ 32 → mask.0 < 2 ^ MAX_RINGS → is_err result ≡ false
     → MakesFrom name tag (first_entry mask) result (Some d) (Some r) → HoldsDisk tag indexes r (made_disk mask)
 made-so tag name indexes d r mask (Err error) new long small going makes = cc
 made-so tag name indexes d r mask (Ok done) new long small going makes =

@@ -1,6 +1,7 @@
 -- A world's numbers, and what a node of it is opened with.
 use Rattle.std.proofs.Common.{◌≡◌, ℕ, ◌≤◌, List, Option, Some, None, Result, Ok, Err, refl, sym, ap, ◌∙◌, subst}
 use Rattle.std.specs.Prelude.{IfOk, IfSome}
+use Rattle.ff_ids.specs.declared.TheConstants.{MAX_TOLERANCE}
 use Rattle.fields.specs.declared.NoMemory.{NoMemory}
 use Rattle.ff_ids.specs.declared.Group.{Group}
 use Rattle.lms_ots.specs.declared.OtsKind.{OtsKind}
@@ -23,8 +24,8 @@ pub group-is : (s : Setting) (g : Group) (ots : OtsKind) (tree : TreeKind) → I
 unfolding setting_for
 group-is s g ots tree w = ap (λ (x : Setting). x.group) w.made
 
-pub few-rings : (s : Setting) (g : Group) (ots : OtsKind) (tree : TreeKind) → IsWorld s g ots tree → s.group.t ≤ 15
-few-rings s g ots tree w = subst (λ (x : Group). x.t ≤ 15) (sym (group-is s g ots tree w)) w.few
+pub few-rings : (s : Setting) (g : Group) (ots : OtsKind) (tree : TreeKind) → IsWorld s g ots tree → s.group.t ≤ MAX_TOLERANCE
+few-rings s g ots tree w = subst (λ (x : Group). x.t ≤ MAX_TOLERANCE) (sym (group-is s g ots tree w)) w.few
 
 pub indexes-are : (s : Setting) (g : Group) (ots : OtsKind) (tree : TreeKind) → IsWorld s g ots tree → s.indexes ≡ leaf_count tree
 unfolding setting_for

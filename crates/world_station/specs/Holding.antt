@@ -1,5 +1,7 @@
 -- Which place of the rules a node's place stands for.
 use Rattle.std.specs.Prelude.{◌≡◌, ℕ, ◌≤◌, false, List, [], ◌++◌, Option, Some, None, IfSome, length, map, option_to_list}
+use Rattle.ff_ids.specs.declared.TheConstants.{MAX_TOLERANCE}
+use Rattle.ff_ids.specs.Masks.{all_rings}
 use Rattle.ff_ids.specs.declared.Group.{Group}
 use Rattle.lms_ots.specs.declared.OtsKind.{OtsKind}
 use Rattle.lms_tree.specs.declared.TreeKind.{TreeKind}
@@ -19,7 +21,7 @@ use Rattle.world_station.specs.Stations.{StationState}
 -- The world is of this group, with keys of these kinds.
 pub record IsWorld (s : Setting) (g : Group) (ots : OtsKind) (tree : TreeKind) : Type 0 where
   pub made : s ≡ setting_for g ots tree s.correct s.liars
-  pub few : g.t ≤ 15
+  pub few : g.t ≤ MAX_TOLERANCE
 
 -- The authority is the world's, and has certified all its members.
 pub record Certifies (s : Setting) (a : Certifying) : Type 0 where

@@ -2,6 +2,7 @@
 
 ghost use Rattle.std.specs.Prelude.{◌≡◌, ◌≤◌, [], IfOk, None, Some, filter_map, is_some};
 ghost use Rattle.std.specs.Option.{option_map, option_map_or};
+ghost use Rattle.ff_ids.specs.declared.TheConstants.{MAX_TOLERANCE};
 ghost use Rattle.ff_ids.specs.Masks.{ring_count};
 ghost use Rattle.lms_ots.specs.declared.OtsKind.{OtsKind};
 ghost use Rattle.lms_tree.specs.declared.TreeKind.{TreeKind};
@@ -95,7 +96,7 @@ impl Station {
         member: MemberId,
         key: SecretKey,
     ) -> Result<Station, NoMemory>
-        requires { group.now.t ≤ 15 }
+        requires { group.now.t ≤ MAX_TOLERANCE }
         ensures member { IfOk result (λ station. station.member ≡ member) }
         ensures public { IfOk result (λ station. station.public ≡ public_of key) }
         ensures holds { IfOk result (λ station. (s : Setting) (ots : OtsKind) (tree : TreeKind) → IsWorld s group.now ots tree → key ≡ owner_key group.now ots tree (Some member)

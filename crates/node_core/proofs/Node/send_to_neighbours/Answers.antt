@@ -1,5 +1,6 @@
 use Rattle.std.proofs.Common.{◌≡◌, ℕ, List, Option, subst, sym, ap, ◌∙◌, arith, cond}
 use Rattle.std.specs.List.{list_any}
+use Rattle.ff_ids.specs.declared.TheConstants.{MEMBERS}
 use Rattle.ff_ids.specs.Views.{is_number}
 use Rattle.node_rules.specs.Calls.{sends, sends_to_all}
 use Rattle.node_core.specs.Playing.{Plays, IsNode}
@@ -29,7 +30,7 @@ loop-number-preserved c = (
 pub returns-clause-plays : goal.returns-clause-plays
 returns-clause-plays c = λ s es os call d p spelled.
     let listed : List (Option ℕ) = c.list_successors-listed.result.items in
-    let last : c.loop-number.number ≡ 1024 = omega (arith, c.loop-number-test.false, c.loop-number.auto.number-end) in
+    let last : c.loop-number.number ≡ MEMBERS = omega (arith, c.loop-number-test.false, c.loop-number.auto.number-end) in
     let v = the_view c.self.inside in
     from-fine s es os c.args.self.now c.loop-number.self call (sends_to_all s (addressees s c.args.also (state_of s call.node)) d call) p c.loop-number.invariant.1
     (extends-sends_to_all s (addressees s c.args.also (state_of s call.node)) d call) (λ h.

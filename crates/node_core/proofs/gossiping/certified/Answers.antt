@@ -1,5 +1,6 @@
 use Rattle.std.proofs.Common.{◌≡◌, ℕ, List, Bool, cond, [], ◌∷◌, ◌++◌, ap, ◌∙◌, arith, is_some, filter}
 use Rattle.std.specs.List.{range_with_len}
+use Rattle.ff_ids.specs.declared.TheConstants.{MEMBERS}
 use Rattle.ff_ids.specs.Views.{all_numbers}
 use Rattle.validate.specs.Certified.{certificate_of}
 use Rattle.node_core.proofs.GossipLemmas.{filter-more}
@@ -15,5 +16,5 @@ loop-number-preserved c =
 pub returns : goal.returns
 unfolding all_numbers
 returns c =
-    let last : c.loop-number.number ≡ 1024 = omega (arith, c.loop-number-test.false, c.loop-number.auto.number-end) in
+    let last : c.loop-number.number ≡ MEMBERS = omega (arith, c.loop-number-test.false, c.loop-number.auto.number-end) in
     c.loop-number.invariant ∙ ap (λ (k : ℕ). filter (λ m. is_some (certificate_of c.args.roster.now m)) (range_with_len 0 k)) last

@@ -1,4 +1,5 @@
 use Rattle.std.proofs.Common.{◌≡◌, ℕ, ◌+◌, List, refl, ap, sym, ◌∙◌, subst, arith}
+use Rattle.ff_ids.specs.declared.TheConstants.{MEMBERS}
 use Rattle.ff_ids.specs.declared.Group.{Group}
 use Rattle.lms_ots.specs.declared.OtsKind.{OtsKind}
 use Rattle.lms_tree.specs.declared.TreeKind.{TreeKind}
@@ -54,6 +55,6 @@ returns c =
     let s : Setting = setting_for g ots tree correct liars in
     let v : Kept = c.loop-number.world in
     let so = c.loop-number.invariant in
-    let all : c.loop-number.number ≡ 1024 = omega (arith, c.loop-number-test.false, c.loop-number.auto) in
+    let all : c.loop-number.number ≡ MEMBERS = omega (arith, c.loop-number-test.false, c.loop-number.auto) in
     let world : IsWorld s v.authority.group ots tree = subst (λ (z : Group). IsWorld s z ots tree) (sym so.1) (is-world g ots tree correct liars s refl c.requires.group.few) in
     holds-built s ots tree c.loop-number.number c.loop-number.signing v all world (is-apart g ots tree correct liars s refl c.requires.apart) so.2

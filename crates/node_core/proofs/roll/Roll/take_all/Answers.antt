@@ -1,5 +1,6 @@
 use Rattle.std.proofs.Common.{rules, ◌≡◌, ◌≤◌, length, List, [], ◌∷◌, ◌++◌, refl, ap, sym, subst, ◌∙◌}
 use Rattle.std.proofs.lemmas.List.{append_assoc}
+use Rattle.ff_ids.specs.declared.TheConstants.{MAX_TOLERANCE}
 use Rattle.records.specs.declared.CertBody.{CertBody}
 use Rattle.records.specs.declared.Body.TheVariants as bodies
 use Rattle.records.specs.Signing.{CheckedRecord}
@@ -18,7 +19,7 @@ take-requires-clause-tolerance c =
     (at-behind (IsCertificateFor c.args.self.now.membership.group.t) c.loop-rec.yielded c.in-Some.rec c.next.new.self.rest.items c.args.certificates.items parts c.requires.all).tolerance ∙ ap (λ g. g.t) (sym c.loop-rec.invariant.group)
 
 pub take-requires-clause-few : goal.take-requires-clause-few
-take-requires-clause-few c = subst (λ g. g.t ≤ 15) (sym c.loop-rec.invariant.group) c.requires.few
+take-requires-clause-few c = subst (λ g. g.t ≤ MAX_TOLERANCE) (sym c.loop-rec.invariant.group) c.requires.few
 
 pub loop-rec-preserved-in-Certificate : goal.loop-rec-preserved-in-Certificate
 loop-rec-preserved-in-Certificate c =
