@@ -9,8 +9,6 @@ use Rattle.epoch_store.specs.Store.{IsSettled, StoreAt}
 use Rattle.journal.specs.declared.event.Event as journal
 use Rattle.lms_tree.specs.Leaves.{index_count}
 use Rattle.lms_tree.specs.Lms.{public_of}
-use Rattle.lms_tree.specs.declared.key.PublicKey.{PublicKey}
-use Rattle.lms_tree.specs.declared.secret.Secret.{Secret}
 use Rattle.ports.specs.Count.{counted}
 use Rattle.ports.specs.Disk.{Fails, Moment, stays}
 use Rattle.secrets.specs.Secrets.{nonce_seed}

@@ -1,8 +1,9 @@
-use Rattle.std.proofs.Common.{Ok, Err, subst, sym, ap}
+use Rattle.std.proofs.Common.{false, Ok, Err, subst, sym, ap, ◌∙◌}
 use Rattle.ports.specs.MemoryDisk.{DiskState}
+use Rattle.epoch_store.specs.Calls.{StoreState}
 use Rattle.world_disks.specs.Held.{HoldsDisk}
 use Rattle.world_disks.proofs.Reading.{read_as_told}
-use Rattle.world_rules.specs.Disks.{after_calls, opening_calls, stopped}
+use Rattle.world_rules.specs.Disks.{after_calls, opening_calls, seat_of, stopped}
 use Rattle.world_station.specs.Stations.{StationState}
 use Rattle.world_station.proofs.OpenLemmas.{unopened}
 use Rattle.world_station.proofs.station.Station.open_store.Goals as goal
@@ -12,7 +13,8 @@ returns-in-Ok-clause-opens c = λ indexes e h.
     let inside = c.self.inside in
     let held = subst (λ (x : StationState). HoldsDisk x.tag indexes x.disk e) (sym c.self.view_is) h in
     let came = read_as_told inside.tag _ indexes inside.disk c.open.new.disk e (Ok c.in-Ok.store) held c.in-Ok.ensures.not_taken c.in-Ok.ensures.reads c.in-Ok.ensures.follows in
-    (came.0, came.1, subst (λ (x : StationState). HoldsDisk x.tag indexes c.open.new.disk (after_calls (opening_calls e) e)) c.self.view_is came.2)
+    let found : StationState → StoreState = λ x. record { state = e.state; seat = seat_of x.tag e; failed = false } in
+    (came.0, came.1 ∙ ap found c.self.view_is, subst (λ (x : StationState). HoldsDisk x.tag indexes c.open.new.disk (after_calls (opening_calls e) e)) c.self.view_is came.2)
 
 pub returns-in-Err : goal.returns-in-Err
 returns-in-Err c = record {

@@ -1,8 +1,8 @@
-use Rattle.std.proofs.Common.{◌≡◌, Option, Ok, eq-eqb, inl, subst, sym, ap, ◌∙◌}
+use Rattle.std.proofs.Common.{◌≡◌, ℕ, false, List, Option, Ok, eq-eqb, inl, subst, sym, ap, ◌∙◌}
 use Rattle.lms_tree.specs.Kinds.{leaf_count}
 use Rattle.epoch_store.specs.declared.Stored.{Stored}
 use Rattle.epoch_store.specs.Calls.{StoreState}
-use Rattle.world_rules.specs.Disks.{after_calls, opening_calls, stopped}
+use Rattle.world_rules.specs.Disks.{after_calls, opening_calls, seat_of, stopped}
 use Rattle.world_rules.specs.Steps.{with_disk}
 use Rattle.world_station.specs.Answers.{OpensStore, opened_place}
 use Rattle.world_station.specs.Holding.{HoldsStation}
@@ -46,5 +46,7 @@ returns-clause-starts c = λ s ots tree place spent w certified h idle.
     let came = subst (λ (o : Option StoreState). OpensStore x.tag s.indexes place.disk now.disk (Ok o)) c.in-Some.is (c.in_ok-store.ensures.opens s.indexes place.disk h.disk) in
     let held : HoldsStation s ots tree (opened_place place) spent now =
     subst (HoldsStation s ots tree (opened_place place) spent) (sym c.open_store.ensures.frame) (with-disk s ots tree place spent x now.disk (after_calls (opening_calls place.disk) place.disk) h idle came.2) in
+    let found : List ℕ → StoreState = λ t. record { state = place.disk.state; seat = seat_of t place.disk; failed = false } in
+    let mark : x.tag ≡ now.tag = sym (ap (λ (y : StationState). y.tag) c.open_store.ensures.frame) in
     starts-behind s ots tree place spent c.begin_life.new.self c.begin_life.result came.0
-    (c.begin_life.ensures.begins s ots tree (opened_place place) spent w certified held idle came.1)
+    (c.begin_life.ensures.begins s ots tree (opened_place place) spent w certified held idle (came.1 ∙ ap found mark))
