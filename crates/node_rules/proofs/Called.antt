@@ -11,7 +11,6 @@ use Rattle.records.specs.declared.Body.{Body}
 use Rattle.records.specs.declared.Body.TheVariants.{Certificate, Note, Accusation}
 use Rattle.records.specs.declared.Record.{Record}
 use Rattle.epoch_store.specs.declared.Stored.{Stored}
-use Rattle.signer.specs.Signing.{stored_after}
 use Rattle.signer.proofs.StepLemmas.{next_index}
 use Rattle.datagram.specs.declared.Datagram.{Datagram}
 use Rattle.datagram.specs.declared.Datagram.TheVariants as kinds
@@ -493,7 +492,7 @@ put-accusing s n before at behind is over =
     let d : OnDisk (Option ℕ) = counts (probed_at s n) (Some it.put) in
     let d1 : OnDisk (Option ℕ) = fold (accuses_on counting s) d silent in
     let there : d1.call ≡ accuses false s (accuses_all s before (probed_at s n)) at = ap (λ (o : OnDisk (Option ℕ)). o.call) (accused-on counting s d silent)
-        ∙ ap (λ (xs : List ℕ). (fold (steps_on counting (λ works c x. accuses works s c x)) d xs).call) is ∙ it.comes_there in
+    ∙ ap (λ (xs : List ℕ). (fold (steps_on counting (λ works c x. accuses works s c x)) d xs).call) is ∙ it.comes_there in
     elim (cases_Bool (is_due s st)) [
       | inr never ↦ absurd (not-nothing before (sym is ∙ other (is_due s st) _ _ never))
       | inl due ↦

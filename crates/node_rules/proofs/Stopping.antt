@@ -1,5 +1,5 @@
 -- Calls that a failing put ends: in the answer to a record or in the accusation of a silent member, and nowhere else.
-use Rattle.std.proofs.Common.{◌≡◌, ℕ, ◌+◌, ◌-◌, Bool, true, false, eqb, cond, List, [], ◌∷◌, ◌++◌, Option, Some, None, inl, inr, refl, ap, sym, ◌∙◌, subst, arith}
+use Rattle.std.proofs.Common.{◌≡◌, ℕ, ◌+◌, ◌-◌, Bool, true, false, eqb, List, ◌∷◌, ◌++◌, Option, Some, None, inl, inr, refl, ap, sym, ◌∙◌, subst, arith}
 use Rattle.std.specs.Prelude.{Result, Ok, Err, fold}
 use Rattle.std.proofs.lemmas.Bool.{cases_Bool}
 use Rattle.ff_ids.specs.declared.AccBody.{AccBody}
@@ -16,20 +16,20 @@ use Rattle.journal.specs.declared.event.What.TheVariants as told
 use Rattle.node_rules.specs.Nodes.{Setting, Node, state_of, neighbours, neighbours_and}
 use Rattle.node_rules.specs.Refusals.{refusal}
 use Rattle.node_rules.specs.Calls.{Call, begun, lives, tells, takes, wants, is_used_up}
-use Rattle.node_rules.specs.Deliveries.{answer_to, answers, judged, handles, handles_all, hears}
+use Rattle.node_rules.specs.Deliveries.{answer_to, answers, judged, handles, handles_all}
 use Rattle.node_rules.specs.Ticking.{accusation_on, ring_for, has_accused, wants_accusation, accuses, accuses_all, gossips, is_due, passed, pings_all, pings_in, probed_at, round_of, silent_in, silent_at}
-use Rattle.node_rules.specs.OnDisks.{Input, Delivers, Ticks, OnDisk, handles_on, hears_on, delivered_on, accuses_on, due_on, ticked_on, counting, called}
+use Rattle.node_rules.specs.OnDisks.{Input, Delivers, Ticks, OnDisk, hears_on, delivered_on, accuses_on, due_on, ticked_on, counting, called}
 use Rattle.node_rules.specs.Lives.{call_of}
-use Rattle.node_rules.specs.Verdicts.{when_all_handled, all_at, told_that, is_took, verdicts}
+use Rattle.node_rules.specs.Verdicts.{when_all_handled, told_that, is_took}
 use Rattle.node_rules.specs.Answering.{accusation_to_answer}
 use Rattle.node_rules.specs.Outgoing.{at_tick}
-use Rattle.node_rules.specs.Stopping.{WantsAnswer, StopsAnswering, StopsAccusing, StopsBehind, StoppedDeliveryEnds, StoppedVerdictsAreTold, StoppedTickEnds, StopsIn, OnlySignaturesStop, GoesOnWhole, WholeCallsGoOn}
+use Rattle.node_rules.specs.Stopping.{WantsAnswer, StopsAnswering, StopsAccusing, StopsBehind, StoppedDeliveryEnds, StoppedVerdictsAreTold, StoppedTickEnds, OnlySignaturesStop, WholeCallsGoOn}
 use Rattle.node_rules.proofs.Small.{stored-takes}
 use Rattle.node_rules.proofs.GoingOn.{on-hears, on-probed, whole-goes_on}
 use Rattle.node_rules.proofs.Handling.{delivery-ends, node-all, until-told}
 use Rattle.node_rules.proofs.Ticks.{Stands, stands-behind, starts, stored-probed, tick-ends}
 use Rattle.node_rules.proofs.OwnNote.{stored-lives}
-use Rattle.node_rules.proofs.Called.{ComesSoFar, IsWhole, accused-on, all-accuse, all-handle, called-none, called-so_far, chosen, counts, delivered_until, ended-apart, handled-on, on-gossips, other, put-accusing, put-answering, stopped-at, ticked_until}
+use Rattle.node_rules.proofs.Called.{ComesSoFar, accused-on, all-accuse, all-handle, called-none, called-so_far, chosen, counts, delivered_until, ended-apart, handled-on, on-gossips, other, put-accusing, put-answering, stopped-at}
 
 less : (n k put : ℕ) → put ≡ (n + k) - n → put ≡ k
 less n k put e = omega (arith, e)
@@ -44,7 +44,7 @@ answering-is : (s : Setting) (n : Node) (bytes : List ℕ) (put : ℕ) (stop : S
 answering-is s n bytes put stop =
     let it = put-answering s n bytes stop.from stop.before stop.at stop.behind stop.read (delivery-ends s n stop.before stop.at stop.wants).over in
     let same : put ≡ it.put =
-        less n.stored.next it.put put (stop.puts ∙ ap (λ (x : Node). x.stored.next - n.stored.next) (sym (node-all s stop.before (begun n))) ∙ ap (λ k. k - n.stored.next) it.counted) in
+    less n.stored.next it.put put (stop.puts ∙ ap (λ (x : Node). x.stored.next - n.stored.next) (sym (node-all s stop.before (begun n))) ∙ ap (λ k. k - n.stored.next) it.counted) in
     ap (λ k. called s n (Delivers bytes) (Some k)) same ∙ it.is
 
 pub delivery-stops : StoppedDeliveryEnds
@@ -106,7 +106,7 @@ only-hears s n bytes put (Ok (kinds.Pong from nonce)) read over = absurd (ended-
 only-hears s n bytes put (Ok (kinds.Summary from flag theirs)) read over = absurd (ended-apart _ over (on-hears s (Ok (kinds.Summary from flag theirs)) (begun n)))
 only-hears s n bytes put (Ok (kinds.Records from records)) read over =
     let h = stopped-at (λ works c x. handles works s c x) records (begun n) put (all-handle s) refl
-        (ap (λ (o : OnDisk (Option ℕ)). o.call.ended) (sym (handled-on counting s (counts (begun n) (Some put)) records)) ∙ over) in
+    (ap (λ (o : OnDisk (Option ℕ)). o.call.ended) (sym (handled-on counting s (counts (begun n) (Some put)) records)) ∙ over) in
     let c : Call = handles_all s h.before (begun n) in
     let here : c.node ≡ when_all_handled s n h.before = node-all s h.before (begun n) in
     record {
@@ -133,7 +133,7 @@ tick-stops s n put stop =
     let ends = tick-ends s n stop.before stop.at stop.behind stop.silent stop.unaccused stop.left in
     let it = put-accusing s n stop.before stop.at stop.behind stop.silent ends.over in
     let same : put ≡ it.put =
-        less n.stored.next it.put put (stop.puts ∙ ap (λ k. k - n.stored.next) (it.counted ∙ ap (λ k. k + it.put) (next-probed s n))) in
+    less n.stored.next it.put put (stop.puts ∙ ap (λ k. k - n.stored.next) (it.counted ∙ ap (λ k. k + it.put) (next-probed s n))) in
     subst (StopsBehind _ _ _) (sym (ap (λ k. called s n Ticks (Some k)) same ∙ it.is)) ends
 
 -- an accusation that ends the call is wanted
@@ -164,7 +164,7 @@ only-accuses s n put over =
     let silent : List ℕ = silent_in s (at_tick s n) st in
     let c0 : Call = probed_at s n in
     let h = stopped-at (λ works c x. accuses works s c x) silent c0 put (all-accuse s) (on-probed s n)
-        (ap (λ (o : OnDisk (Option ℕ)). o.call.ended) (sym (accused-on counting s (counts c0 (Some put)) silent)) ∙ over) in
+    (ap (λ (o : OnDisk (Option ℕ)). o.call.ended) (sym (accused-on counting s (counts c0 (Some put)) silent)) ∙ over) in
     let c : Call = accuses_all s h.before c0 in
     let wanted = wanted-accuses s c h.at h.on h.over in
     let whole : Stands s st c0 0 (h.before ++ h.at ∷ h.behind) = subst (Stands s st c0 0) h.split (starts s n) in

@@ -46,7 +46,7 @@ pub record StopsAnswering (s : Setting) (n : Node) (bytes : List ℕ) (put : ℕ
 abbrev pub StoppedDeliveryEnds : Type 0
 StoppedDeliveryEnds = (s : Setting) (n : Node) (bytes : List ℕ) (put : ℕ) (stop : StopsAnswering s n bytes put)
     → StopsBehind (state_of s n).moment (records_told s n stop.before ++ verdict_on s (when_all_handled s n stop.before) stop.at ∷ [])
-        (answers_sent s n stop.before) (called s n (Delivers bytes) (Some put))
+    (answers_sent s n stop.before) (called s n (Delivers bytes) (Some put))
 
 -- Its verdict is the last.
 abbrev pub StoppedVerdictsAreTold : Type 0
@@ -71,7 +71,7 @@ pub record StopsAccusing (s : Setting) (n : Node) (put : ℕ) : Type 0 where
 abbrev pub StoppedTickEnds : Type 0
 StoppedTickEnds = (s : Setting) (n : Node) (put : ℕ) (stop : StopsAccusing s n put) → let p = at_tick s n in let st = state_of s p in
     StopsBehind st.moment (accusing_told s st p.stored.next (unaccused s st stop.before) ++ told.Silent stop.at ∷ [])
-        (accusations_out s st p.stored.next (unaccused s st stop.before)) (called s n Ticks (Some put))
+    (accusations_out s st p.stored.next (unaccused s st stop.before)) (called s n Ticks (Some put))
 
 -- A call that a failing put ends, ends so.
 abbrev pub StopsIn : Setting → Node → Input → ℕ → Type 0
