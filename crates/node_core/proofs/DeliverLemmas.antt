@@ -1,5 +1,5 @@
 -- What a call gives, by its answer.
-use Rattle.std.proofs.Common.{◌≡◌, ℕ, Bool, true, false, inl, inr, List, ◌++◌, refl, ap, sym, ◌∙◌, subst, Result, Ok, Err, take}
+use Rattle.std.proofs.Common.{◌≡◌, ℕ, Bool, true, false, inl, inr, List, ◌++◌, refl, sym, ◌∙◌, subst, Result, Ok, Err, take}
 use Rattle.std.specs.Prelude.{IfErr, OnOk, is_err}
 use Rattle.ports.specs.Count.{counted}
 use Rattle.std.proofs.lemmas.Bool.{cases_Bool}

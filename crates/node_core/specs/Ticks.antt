@@ -1,5 +1,5 @@
 -- How a tick of a node goes, by its answer.
-use Rattle.std.specs.Prelude.{◌≡◌, ℕ, Bool, true, false, Option, Some, List, ◌++◌, Result, Ok, Err, fold, take}
+use Rattle.std.specs.Prelude.{◌≡◌, ℕ, Bool, false, Option, Some, List, ◌++◌, Result, Ok, Err, fold, take}
 use Rattle.std.specs.List.{slice_get}
 use Rattle.journal.specs.declared.event.Event as journal
 use Rattle.node_rules.specs.Nodes.{Setting, Node, state_of}

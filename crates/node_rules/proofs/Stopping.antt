@@ -1,5 +1,5 @@
 -- Calls that a failing put ends: in the answer to a record or in the accusation of a silent member, and nowhere else.
-use Rattle.std.proofs.Common.{◌≡◌, ℕ, ◌+◌, ◌-◌, Bool, true, false, eqb, cond, List, [], ◌∷◌, ◌++◌, Option, Some, None, inl, inr, refl, ap, sym, ◌∙◌, subst, arith}
+use Rattle.std.proofs.Common.{◌≡◌, ℕ, ◌+◌, ◌-◌, Bool, true, false, eqb, List, ◌∷◌, ◌++◌, Option, Some, None, inl, inr, refl, ap, sym, ◌∙◌, subst, arith}
 use Rattle.std.specs.Prelude.{Result, Ok, Err, fold}
 use Rattle.std.proofs.lemmas.Bool.{cases_Bool}
 use Rattle.ff_ids.specs.declared.AccBody.{AccBody}
@@ -16,20 +16,20 @@ use Rattle.journal.specs.declared.event.What.TheVariants as told
 use Rattle.node_rules.specs.Nodes.{Setting, Node, state_of, neighbours, neighbours_and}
 use Rattle.node_rules.specs.Refusals.{refusal}
 use Rattle.node_rules.specs.Calls.{Call, begun, lives, tells, takes, wants, is_used_up}
-use Rattle.node_rules.specs.Deliveries.{answer_to, answers, judged, handles, handles_all, hears}
+use Rattle.node_rules.specs.Deliveries.{answer_to, answers, judged, handles, handles_all}
 use Rattle.node_rules.specs.Ticking.{accusation_on, ring_for, has_accused, wants_accusation, accuses, accuses_all, gossips, is_due, passed, pings_all, pings_in, probed_at, round_of, silent_in, silent_at}
-use Rattle.node_rules.specs.OnDisks.{Input, Delivers, Ticks, OnDisk, handles_on, hears_on, delivered_on, accuses_on, due_on, ticked_on, counting, called}
+use Rattle.node_rules.specs.OnDisks.{Input, Delivers, Ticks, OnDisk, hears_on, delivered_on, accuses_on, due_on, ticked_on, counting, called}
 use Rattle.node_rules.specs.Lives.{call_of}
-use Rattle.node_rules.specs.Verdicts.{when_all_handled, all_at, told_that, is_took, verdicts}
+use Rattle.node_rules.specs.Verdicts.{when_all_handled, told_that, is_took}
 use Rattle.node_rules.specs.Answering.{accusation_to_answer}
 use Rattle.node_rules.specs.Outgoing.{at_tick}
-use Rattle.node_rules.specs.Stopping.{WantsAnswer, StopsAnswering, StopsAccusing, StopsBehind, StoppedDeliveryEnds, StoppedVerdictsAreTold, StoppedTickEnds, StopsIn, OnlySignaturesStop, GoesOnWhole, WholeCallsGoOn}
+use Rattle.node_rules.specs.Stopping.{WantsAnswer, StopsAnswering, StopsAccusing, StopsBehind, StoppedDeliveryEnds, StoppedVerdictsAreTold, StoppedTickEnds, OnlySignaturesStop, WholeCallsGoOn}
 use Rattle.node_rules.proofs.Small.{stored-takes}
 use Rattle.node_rules.proofs.GoingOn.{on-hears, on-probed, whole-goes_on}
 use Rattle.node_rules.proofs.Handling.{delivery-ends, node-all, until-told}
 use Rattle.node_rules.proofs.Ticks.{Stands, stands-behind, starts, stored-probed, tick-ends}
 use Rattle.node_rules.proofs.OwnNote.{stored-lives}
-use Rattle.node_rules.proofs.Called.{ComesSoFar, IsWhole, accused-on, all-accuse, all-handle, called-none, called-so_far, chosen, counts, delivered_until, ended-apart, handled-on, on-gossips, other, put-accusing, put-answering, stopped-at, ticked_until}
+use Rattle.node_rules.proofs.Called.{ComesSoFar, accused-on, all-accuse, all-handle, called-none, called-so_far, chosen, counts, delivered_until, ended-apart, handled-on, on-gossips, other, put-accusing, put-answering, stopped-at}
 
 less : (n k put : ℕ) → put ≡ (n + k) - n → put ≡ k
 less n k put e = omega (arith, e)

@@ -1,6 +1,6 @@
 -- The calls of a node over its disk, whatever that is: how far each comes, where it follows from the disk which puts of
 -- the store succeed. A disk of which no more is known than which put fails gives the one definition of a call.
-use Rattle.std.specs.Prelude.{◌≡◌, ℕ, zero, suc, Bool, true, false, not, ◌==◌, if◌then◌else◌, List, Option, Some, None, Result, Ok, fold}
+use Rattle.std.specs.Prelude.{◌≡◌, ℕ, zero, suc, Bool, true, false, not, ◌==◌, if◌then◌else◌, List, Option, Some, Result, Ok, fold}
 use Rattle.records.specs.declared.Record.{Record}
 use Rattle.epoch_store.specs.declared.Stored.{Stored}
 use Rattle.datagram.specs.declared.Datagram.{Datagram}

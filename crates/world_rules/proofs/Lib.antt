@@ -8,4 +8,3 @@ pub mod LineSteps
 pub mod Once
 pub mod Telling
 pub mod Alike
-pub mod AsStorage

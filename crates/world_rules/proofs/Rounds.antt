@@ -18,7 +18,7 @@ use Rattle.node_rules.specs.Starting.{started}
 use Rattle.node_rules.specs.Pages.{page, partner, page_number, lacking}
 use Rattle.node_rules.specs.Ticking.{accuses, passed, probed_at}
 use Rattle.world_rules.specs.Settings.{Setting, nodes, members, by_authority}
-use Rattle.world_rules.specs.Calls.{delivered_on, due_on, ticked_on}
+use Rattle.node_rules.specs.OnDisks.{accuses_on, delivered_on, due_on, handles_on, ticked_on}
 use Rattle.world_rules.specs.Worlds.{World, begun_world}
 use Rattle.world_rules.specs.Forgeries.{forgery}
 use Rattle.world_rules.specs.Refusals.{why_not}
@@ -42,7 +42,7 @@ abbrev gathered : World
 gathered = rounds 3 (1 ∷ 2 ∷ 3 ∷ []) (plays three (begun_world three) (lines.Start 1 ∷ lines.Start 2 ∷ lines.Start 3 ∷ []))
 
 sees_all : (says three gathered (lines.View 1) ≡ answers (verdicts.Sees (1 ∷ 2 ∷ 3 ∷ []))) × (says three gathered (lines.View 2) ≡ answers (verdicts.Sees (1 ∷ 2 ∷ 3 ∷ []))) × (says three gathered (lines.View 3) ≡ answers (verdicts.Sees (1 ∷ 2 ∷ 3 ∷ [])))
-unfolding all_numbers in_view_by started signs signs_and_sends wants takes lives state_of handles refusal sends certificate_of neighbours neighbours_and answering_mask bits_where read_of whole_of datagram_at head_at items_at content_at records_at counted_at record_at body_at certificate_at note_at accusation_at key_at signature_at head_bytes records_bytes note_bytes accusation_bytes certificate_bytes key_bytes nodes members by_authority begun_world delivered_on forgery why_not calls hands starts starts_in_vain step page partner page_number lacking accuses passed probed_at summary_at entries_at entry_at entry_bytes summary_bytes ticked_on due_on
+unfolding all_numbers in_view_by started signs signs_and_sends wants takes lives state_of handles refusal sends certificate_of neighbours neighbours_and answering_mask bits_where read_of whole_of datagram_at head_at items_at content_at records_at counted_at record_at body_at certificate_at note_at accusation_at key_at signature_at head_bytes records_bytes note_bytes accusation_bytes certificate_bytes key_bytes nodes members by_authority begun_world delivered_on handles_on forgery why_not calls hands starts starts_in_vain step page partner page_number lacking accuses passed probed_at summary_at entries_at entry_at entry_bytes summary_bytes ticked_on due_on accuses_on
 sees_all = (refl, refl, refl)
 
 -- ---- two nodes, of which one stops and starts again
@@ -55,7 +55,7 @@ met = plays two (begun_world two) (lines.Start 1 ∷ lines.Start 2 ∷ lines.Tic
 
 -- One summary is enough for both.
 sees_both : (says two met (lines.View 1) ≡ answers (verdicts.Sees (1 ∷ 2 ∷ []))) × (says two met (lines.View 2) ≡ answers (verdicts.Sees (1 ∷ 2 ∷ [])))
-unfolding all_numbers in_view_by started signs signs_and_sends wants takes lives state_of handles refusal sends certificate_of neighbours neighbours_and answering_mask bits_where read_of whole_of datagram_at head_at items_at content_at records_at counted_at record_at body_at certificate_at note_at accusation_at key_at signature_at head_bytes records_bytes note_bytes accusation_bytes certificate_bytes key_bytes nodes members by_authority begun_world delivered_on forgery why_not calls hands starts starts_in_vain step page partner page_number lacking accuses passed probed_at summary_at entries_at entry_at entry_bytes summary_bytes ticked_on due_on
+unfolding all_numbers in_view_by started signs signs_and_sends wants takes lives state_of handles refusal sends certificate_of neighbours neighbours_and answering_mask bits_where read_of whole_of datagram_at head_at items_at content_at records_at counted_at record_at body_at certificate_at note_at accusation_at key_at signature_at head_bytes records_bytes note_bytes accusation_bytes certificate_bytes key_bytes nodes members by_authority begun_world delivered_on handles_on forgery why_not calls hands starts starts_in_vain step page partner page_number lacking accuses passed probed_at summary_at entries_at entry_at entry_bytes summary_bytes ticked_on due_on accuses_on
 sees_both = (refl, refl)
 
 abbrev left_alone : World
@@ -63,7 +63,7 @@ left_alone = plays two met (lines.Stop 2 0 ∷ lines.Tick 1 7 ∷ lines.Flow 100
 
 -- It is accused at the fourth tick, and removed at the eighth.
 sees_itself : (says two left_alone (lines.View 1) ≡ answers (verdicts.Sees (1 ∷ []))) × (says two left_alone (lines.View 2) ≡ refused verdicts.NotRunning)
-unfolding all_numbers in_view_by started signs signs_and_sends wants takes lives state_of handles refusal sends certificate_of neighbours neighbours_and answering_mask bits_where read_of whole_of datagram_at head_at items_at content_at records_at counted_at record_at body_at certificate_at note_at accusation_at key_at signature_at head_bytes records_bytes note_bytes accusation_bytes certificate_bytes key_bytes nodes members by_authority begun_world delivered_on forgery why_not calls hands starts starts_in_vain step page partner page_number lacking accuses passed probed_at summary_at entries_at entry_at entry_bytes summary_bytes ticked_on due_on
+unfolding all_numbers in_view_by started signs signs_and_sends wants takes lives state_of handles refusal sends certificate_of neighbours neighbours_and answering_mask bits_where read_of whole_of datagram_at head_at items_at content_at records_at counted_at record_at body_at certificate_at note_at accusation_at key_at signature_at head_bytes records_bytes note_bytes accusation_bytes certificate_bytes key_bytes nodes members by_authority begun_world delivered_on handles_on forgery why_not calls hands starts starts_in_vain step page partner page_number lacking accuses passed probed_at summary_at entries_at entry_at entry_bytes summary_bytes ticked_on due_on accuses_on
 sees_itself = (refl, refl)
 
 abbrev back : World
@@ -71,5 +71,5 @@ back = plays two left_alone (lines.Start 2 ∷ lines.Tick 2 1 ∷ lines.Flow 100
 
 sees_both_again : (says two left_alone (lines.Start 2) ≡ Ok (Some (verdicts.Began 2), tells 2 0 (told.Spent 1 (note 2 2 7) ∷ told.Entered 2 ∷ [])))
     × (says two back (lines.View 1) ≡ answers (verdicts.Sees (1 ∷ 2 ∷ []))) × (says two back (lines.View 2) ≡ answers (verdicts.Sees (1 ∷ 2 ∷ [])))
-unfolding all_numbers in_view_by started signs signs_and_sends wants takes lives state_of handles refusal sends certificate_of neighbours neighbours_and answering_mask bits_where read_of whole_of datagram_at head_at items_at content_at records_at counted_at record_at body_at certificate_at note_at accusation_at key_at signature_at head_bytes records_bytes note_bytes accusation_bytes certificate_bytes key_bytes nodes members by_authority begun_world delivered_on forgery why_not calls hands starts starts_in_vain step page partner page_number lacking accuses passed probed_at summary_at entries_at entry_at entry_bytes summary_bytes ticked_on due_on
+unfolding all_numbers in_view_by started signs signs_and_sends wants takes lives state_of handles refusal sends certificate_of neighbours neighbours_and answering_mask bits_where read_of whole_of datagram_at head_at items_at content_at records_at counted_at record_at body_at certificate_at note_at accusation_at key_at signature_at head_bytes records_bytes note_bytes accusation_bytes certificate_bytes key_bytes nodes members by_authority begun_world delivered_on handles_on forgery why_not calls hands starts starts_in_vain step page partner page_number lacking accuses passed probed_at summary_at entries_at entry_at entry_bytes summary_bytes ticked_on due_on accuses_on
 sees_both_again = (refl, refl, refl)

@@ -29,7 +29,7 @@ use Rattle.node_rules.specs.Calls.{lives, sends, takes, signs, signs_and_sends, 
 use Rattle.node_rules.specs.Deliveries.{handles}
 use Rattle.node_rules.specs.Starting.{started}
 use Rattle.world_rules.specs.Settings.{Owner, Setting, nodes, members, by_authority}
-use Rattle.world_rules.specs.Calls.{delivered_on}
+use Rattle.node_rules.specs.OnDisks.{delivered_on, handles_on}
 use Rattle.world_rules.specs.Worlds.{World, begun_world}
 use Rattle.world_rules.specs.Forgeries.{Forgery, forgery}
 use Rattle.world_rules.specs.Refusals.{why_not}
@@ -122,7 +122,7 @@ abbrev pub one : Setting
 one = setting 32 (1 ∷ []) (2 ∷ [])
 
 starts_first : says one (begun_world one) (lines.Start 1) ≡ Ok (Some (verdicts.Began 1), tells 1 0 (told.Spent 0 (note 1 1 7) ∷ told.Entered 1 ∷ []))
-unfolding all_numbers in_view_by started signs signs_and_sends wants takes lives state_of handles refusal sends certificate_of neighbours neighbours_and answering_mask bits_where read_of whole_of datagram_at head_at items_at content_at records_at counted_at record_at body_at certificate_at note_at accusation_at key_at signature_at head_bytes records_bytes note_bytes accusation_bytes certificate_bytes key_bytes nodes members by_authority begun_world delivered_on forgery why_not calls hands starts starts_in_vain step
+unfolding all_numbers in_view_by started signs signs_and_sends wants takes lives state_of handles refusal sends certificate_of neighbours neighbours_and answering_mask bits_where read_of whole_of datagram_at head_at items_at content_at records_at counted_at record_at body_at certificate_at note_at accusation_at key_at signature_at head_bytes records_bytes note_bytes accusation_bytes certificate_bytes key_bytes nodes members by_authority begun_world delivered_on handles_on forgery why_not calls hands starts starts_in_vain step
 starts_first = refl
 
 abbrev pub base : World
@@ -138,7 +138,7 @@ pong = 70 ∷ 70 ∷ 1 ∷ 2 ∷ 0 ∷ 1 ∷ 0 ∷ 0 ∷ 0 ∷ 0 ∷ 0 ∷ 0 ∷
 takes_any_bytes : (says one base (lines.Raw 1 ping) ≡ brings (told.Ping 2 258 ∷ told.Sent 0 2 pong ∷ []))
     × (says one base (lines.Raw 1 (70 ∷ 70 ∷ [])) ≡ brings (told.BadForm 2 ∷ []))
     × (says one base (lines.Raw 2 (0 ∷ [])) ≡ refused verdicts.NotNode)
-unfolding all_numbers in_view_by started signs signs_and_sends wants takes lives state_of handles refusal sends certificate_of neighbours neighbours_and answering_mask bits_where read_of whole_of datagram_at head_at items_at content_at records_at counted_at record_at body_at certificate_at note_at accusation_at key_at signature_at head_bytes records_bytes note_bytes accusation_bytes certificate_bytes key_bytes nodes members by_authority begun_world delivered_on forgery why_not calls hands starts starts_in_vain step
+unfolding all_numbers in_view_by started signs signs_and_sends wants takes lives state_of handles refusal sends certificate_of neighbours neighbours_and answering_mask bits_where read_of whole_of datagram_at head_at items_at content_at records_at counted_at record_at body_at certificate_at note_at accusation_at key_at signature_at head_bytes records_bytes note_bytes accusation_bytes certificate_bytes key_bytes nodes members by_authority begun_world delivered_on handles_on forgery why_not calls hands starts starts_in_vain step
 takes_any_bytes = (refl, refl, refl)
 
 -- A liar's note is kept under a name, and is accepted once.
@@ -151,7 +151,7 @@ given_note = plays one signed_note (lines.Give (codes "a") 1 ∷ [])
 gives_a_note : (says one base (lines.SignNote 2 (record { member = 2; epoch = 1; mask = record { 0 = 7 } }) (codes "a")) ≡ answers (verdicts.Spends 0))
     × (says one signed_note (lines.Give (codes "a") 1) ≡ brings (told.Took (note 2 1 7) None ∷ told.Entered 2 ∷ []))
     × (says one given_note (lines.Give (codes "a") 1) ≡ brings (told.Took (note 2 1 7) (Some faults.Known) ∷ []))
-unfolding all_numbers in_view_by started signs signs_and_sends wants takes lives state_of handles refusal sends certificate_of neighbours neighbours_and answering_mask bits_where read_of whole_of datagram_at head_at items_at content_at records_at counted_at record_at body_at certificate_at note_at accusation_at key_at signature_at head_bytes records_bytes note_bytes accusation_bytes certificate_bytes key_bytes nodes members by_authority begun_world delivered_on forgery why_not calls hands starts starts_in_vain step
+unfolding all_numbers in_view_by started signs signs_and_sends wants takes lives state_of handles refusal sends certificate_of neighbours neighbours_and answering_mask bits_where read_of whole_of datagram_at head_at items_at content_at records_at counted_at record_at body_at certificate_at note_at accusation_at key_at signature_at head_bytes records_bytes note_bytes accusation_bytes certificate_bytes key_bytes nodes members by_authority begun_world delivered_on handles_on forgery why_not calls hands starts starts_in_vain step
 gives_a_note = (refl, refl, refl)
 
 -- Its accusations are answered. The third is of the newest epoch that node 1 has signed.
@@ -174,7 +174,7 @@ own index epoch mask = datagram_bytes (kinds.Records 1 (record { body = note 1 e
 answers_accusations : (says one before_b (lines.Give (codes "b") 1) ≡ brings (told.Took (Accusation (acc 2 1 1 0)) None ∷ told.Spent 1 (note 1 2 6) ∷ told.Fell (acc 2 1 1 0) ∷ told.Sent 0 2 (own 1 2 6) ∷ []))
     × (says one before_c (lines.Give (codes "c") 1) ≡ brings (told.Took (Accusation (acc 2 1 2 1)) None ∷ told.Spent 2 (note 1 3 5) ∷ told.Fell (acc 2 1 2 1) ∷ told.Sent 1 2 (own 2 3 5) ∷ []))
     × (says one before_d (lines.Give (codes "d") 1) ≡ brings (told.Took (Accusation (acc 2 1 3 1)) (Some faults.RingDisabled) ∷ []))
-unfolding all_numbers in_view_by started signs signs_and_sends wants takes lives state_of handles refusal sends certificate_of neighbours neighbours_and answering_mask bits_where read_of whole_of datagram_at head_at items_at content_at records_at counted_at record_at body_at certificate_at note_at accusation_at key_at signature_at head_bytes records_bytes note_bytes accusation_bytes certificate_bytes key_bytes nodes members by_authority begun_world delivered_on forgery why_not calls hands starts starts_in_vain step
+unfolding all_numbers in_view_by started signs signs_and_sends wants takes lives state_of handles refusal sends certificate_of neighbours neighbours_and answering_mask bits_where read_of whole_of datagram_at head_at items_at content_at records_at counted_at record_at body_at certificate_at note_at accusation_at key_at signature_at head_bytes records_bytes note_bytes accusation_bytes certificate_bytes key_bytes nodes members by_authority begun_world delivered_on handles_on forgery why_not calls hands starts starts_in_vain step
 answers_accusations = (refl, refl, refl)
 
 -- A note that somebody made with the key of node 1 is forged.
@@ -182,7 +182,7 @@ abbrev forged : List ℕ
 forged = datagram_bytes (kinds.Records 2 (record { body = note 1 9 7; signature = signature_by (Some 1) 5 (note 1 9 7) } ∷ []))
 
 finds_the_forged : says one base (lines.Raw 1 forged) ≡ Err (record { who = Some 1; body = note 1 9 7 })
-unfolding all_numbers in_view_by started signs signs_and_sends wants takes lives state_of handles refusal sends certificate_of neighbours neighbours_and answering_mask bits_where read_of whole_of datagram_at head_at items_at content_at records_at counted_at record_at body_at certificate_at note_at accusation_at key_at signature_at head_bytes records_bytes note_bytes accusation_bytes certificate_bytes key_bytes nodes members by_authority begun_world delivered_on forgery why_not calls hands starts starts_in_vain step
+unfolding all_numbers in_view_by started signs signs_and_sends wants takes lives state_of handles refusal sends certificate_of neighbours neighbours_and answering_mask bits_where read_of whole_of datagram_at head_at items_at content_at records_at counted_at record_at body_at certificate_at note_at accusation_at key_at signature_at head_bytes records_bytes note_bytes accusation_bytes certificate_bytes key_bytes nodes members by_authority begun_world delivered_on handles_on forgery why_not calls hands starts starts_in_vain step
 finds_the_forged = refl
 
 -- Why lines can't be done, the first row of the table that holds.
@@ -197,5 +197,5 @@ refuses_in_order : (says one base (lines.Start 2) ≡ refused verdicts.NotNode)
     × (says one base (lines.Monitor 1 (record { 0 = 0 }) 3) ≡ refused verdicts.UnknownMember)
     × (says one base (lines.Monitor 1 (record { 0 = 0 }) 2) ≡ answers (verdicts.MonitoredBy (Some 1)))
     × (says one base (lines.View 1) ≡ answers (verdicts.Sees (1 ∷ [])))
-unfolding all_numbers in_view_by started signs signs_and_sends wants takes lives state_of handles refusal sends certificate_of neighbours neighbours_and answering_mask bits_where read_of whole_of datagram_at head_at items_at content_at records_at counted_at record_at body_at certificate_at note_at accusation_at key_at signature_at head_bytes records_bytes note_bytes accusation_bytes certificate_bytes key_bytes nodes members by_authority begun_world delivered_on forgery why_not calls hands starts starts_in_vain step
+unfolding all_numbers in_view_by started signs signs_and_sends wants takes lives state_of handles refusal sends certificate_of neighbours neighbours_and answering_mask bits_where read_of whole_of datagram_at head_at items_at content_at records_at counted_at record_at body_at certificate_at note_at accusation_at key_at signature_at head_bytes records_bytes note_bytes accusation_bytes certificate_bytes key_bytes nodes members by_authority begun_world delivered_on handles_on forgery why_not calls hands starts starts_in_vain step
 refuses_in_order = (refl, refl, refl, refl, refl, refl, refl, refl, refl, refl, refl)

@@ -19,15 +19,15 @@ use Rattle.journal.specs.declared.event.What.TheVariants as happened
 use Rattle.node_rules.specs.Nodes as node
 use Rattle.node_rules.specs.Calls.{Call, begun, lives, takes, signs, spends, told_of, whats_of}
 use Rattle.node_rules.specs.Starting.{blank, opened, first_note, started}
-use Rattle.node_rules.specs.Lives.{Input, Delivers, Ticks, TellsItsLife, is_of_life, told_by}
-use Rattle.node_rules.proofs.Telling.{call-tells, delivered_until-tells, ticked_until-tells}
+use Rattle.node_rules.specs.Lives.{Input, TellsItsLife, is_of_life, told_by}
+use Rattle.node_rules.proofs.Telling.{called-tells}
 use Rattle.world_rules.specs.Settings.{Setting, certificates, setting_of}
 use Rattle.world_rules.specs.Disks.{Disk}
 use Rattle.world_rules.specs.Calls.{OnDisk, called_on}
 use Rattle.world_rules.specs.Worlds.{Life, Station, World, begun_world, lives_of}
 use Rattle.world_rules.specs.Steps.{Told, first_call, first_life, life_over, numbered_from, station_after, told_in, with_disk, with_input}
-use Rattle.world_rules.specs.Laws.{ComesSoFar, EachRemovalIsJustified, tells_life}
-use Rattle.world_rules.proofs.SoFar.{so_far}
+use Rattle.world_rules.specs.Laws.{EachRemovalIsJustified, tells_life}
+use Rattle.world_rules.proofs.SoFar.{come-so-far}
 use Rattle.world_rules.proofs.LineSteps.{Keeps, keeps-reached}
 use Rattle.world_rules.proofs.Once.{at-station}
 
@@ -36,14 +36,8 @@ of_life told = filter (λ e. is_of_life e.what) told
 
 -- ---- a call tells its life
 
-so_far-tells : (s : node.Setting) (n : node.Node) (i : Input) (c : Call) → ComesSoFar s n i c → TellsItsLife s n c
-so_far-tells s n (Delivers bytes) c (inl whole) = subst (TellsItsLife s n) (sym whole.is) (call-tells s n (Delivers bytes))
-so_far-tells s n (Delivers bytes) c (inr cut) = subst (TellsItsLife s n) (sym cut.is) (delivered_until-tells s n _ cut.at)
-so_far-tells s n Ticks c (inl whole) = subst (TellsItsLife s n) (sym whole.is) (call-tells s n Ticks)
-so_far-tells s n Ticks c (inr cut) = subst (TellsItsLife s n) (sym cut.is) (ticked_until-tells s n _ cut.at)
-
 pub call-on-tells : (s : node.Setting) (n : node.Node) (i : Input) (d : Disk) → TellsItsLife s n (called_on s n i d).call
-call-on-tells s n i d = so_far-tells s n i _ (so_far s n i d)
+call-on-tells s n i d = let it = come-so-far s n i d in subst (TellsItsLife s n) (sym it.1) (called-tells s n i it.0)
 
 told_by-append : (g : Group) (st : State) (xs ys : List Event) → told_by g st (xs ++ ys) ≡ told_by g st xs ++ told_by g (after g st xs) ys
 told_by-append g st [] ys = refl

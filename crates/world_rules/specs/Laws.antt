@@ -1,17 +1,12 @@
 -- What holds in each world that lines lead to, none of which is forged.
-use Rattle.std.specs.Prelude.{◌≡◌, ◌⊎◌, ℕ, ◌<◌, ◌≤◌, Bool, true, false, ◌&&◌, ◌==◌, List, [], ◌++◌, Some, Ok, filter, flat_map, map, take}
-use Rattle.std.specs.List.{AllByRecursion, slice_get}
+use Rattle.std.specs.Prelude.{◌≡◌, ℕ, ◌<◌, ◌≤◌, Bool, true, false, ◌&&◌, ◌==◌, List, [], ◌++◌, Option, Some, Ok, filter, flat_map, map}
+use Rattle.std.specs.List.{AllByRecursion}
 use Rattle.ff_ids.specs.declared.TheConstants.{MEMBERS, MAX_TOLERANCE}
 use Rattle.ff_ids.specs.Lives.{opening, IsJustified}
-use Rattle.records.specs.declared.Record.{Record}
 use Rattle.signer.specs.Lives.{IsOnce}
-use Rattle.datagram.specs.declared.Datagram.TheVariants as kinds
-use Rattle.datagram.specs.Grammar.{read_of}
 use Rattle.node_rules.specs.Nodes as node
-use Rattle.node_rules.specs.Calls.{Call}
-use Rattle.node_rules.specs.Deliveries.{delivered, delivered_until}
-use Rattle.node_rules.specs.Ticking.{silent_at, ticked, ticked_until}
-use Rattle.node_rules.specs.Lives.{Input, Delivers, Ticks, is_of_life, told_by}
+use Rattle.node_rules.specs.OnDisks.{Input, called}
+use Rattle.node_rules.specs.Lives.{is_of_life, told_by}
 use Rattle.schedule_world.specs.declared.line.WorldLine.{WorldLine}
 use Rattle.world_rules.specs.Settings.{Setting, is_node, is_liar}
 use Rattle.world_rules.specs.Disks.{Disk}
@@ -34,38 +29,9 @@ pub record IsSetting (s : Setting) : Type 0 where
 
 -- ---- how far a call comes
 
--- The disk stopped in the answer to a record of the datagram: what came before is the definition's, and the life is over.
-pub record StopsAnswering (s : node.Setting) (n : node.Node) (bytes : List ℕ) (c : Call) : Type 0 where
-  pub from : ℕ
-  pub records : List Record
-  pub read : read_of bytes ≡ Ok (kinds.Records from records)
-  pub place : ℕ
-  pub at : Record
-  pub found : slice_get records place ≡ Some at
-  pub is : c ≡ delivered_until s n (take place records) at
-  pub over : c.ended ≡ true
-
--- The disk stopped in the accusation of a silent member.
-pub record StopsAccusing (s : node.Setting) (n : node.Node) (c : Call) : Type 0 where
-  pub place : ℕ
-  pub at : ℕ
-  pub found : slice_get (silent_at s n) place ≡ Some at
-  pub is : c ≡ ticked_until s n (take place (silent_at s n)) at
-  pub over : c.ended ≡ true
-
--- The call was answered whole.
-pub record IsWhole (c whole : Call) : Type 0 where
-  pub is : c ≡ whole
-  pub going : c.ended ≡ false
-
--- A call over a disk is the node's call, whole or as far as the disk let it come.
-abbrev pub ComesSoFar : node.Setting → node.Node → Input → Call → Type 0
-ComesSoFar s n (Delivers bytes) c = IsWhole c (delivered s n bytes) ⊎ StopsAnswering s n bytes c
-ComesSoFar s n Ticks c = IsWhole c (ticked s n) ⊎ StopsAccusing s n c
-
--- A call over a disk is the node's call, whole or up to the signature at which the disk stops.
+-- A call over a disk is the node's call in which one put fails, or none.
 abbrev pub CallsComeSoFar : Type 0
-CallsComeSoFar = (s : node.Setting) (n : node.Node) (i : Input) (d : Disk) → ComesSoFar s n i (called_on s n i d).call
+CallsComeSoFar = (s : node.Setting) (n : node.Node) (i : Input) (d : Disk) → (fails_at : Option ℕ) × ((called_on s n i d).call ≡ called s n i fails_at)
 
 -- ---- lives
 

@@ -5,8 +5,8 @@
 
 ghost use Rattle.world_rules.specs.Laws.{CallsComeSoFar, EachRemovalIsJustified, NodesSpendOnce};
 
-/// A call of a node over its disk is the node's call, whole; or, where an armed stop comes, the call up to the signature
-/// in which it does.
+/// A call of a node over its disk is the node's call, whole; or, where an armed stop comes, the call up to the put in
+/// which it does.
 pub fn calls_come_so_far()
     ensures { CallsComeSoFar }
 {}
