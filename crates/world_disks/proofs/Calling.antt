@@ -23,9 +23,9 @@ use Rattle.node_rules.specs.OnDisks.{OnDisk, called_on}
 use Rattle.node_rules.specs.Replies.{first_mask}
 use Rattle.node_rules.specs.Starting.{first_note}
 use Rattle.world_rules.specs.Calls as rules
+use Rattle.world_rules.specs.Calls.{world_storage}
 use Rattle.world_rules.specs.Disks.{Disk, after_put, gate_of, put_passes, seat_of, stopped_in_put}
-use Rattle.world_rules.proofs.Alike.{AreAlike, IsSame, called-same}
-use Rattle.world_rules.proofs.AsStorage.{called-as, world_storage}
+use Rattle.world_rules.proofs.Alike.{AreAlike, called-same}
 use Rattle.world_rules.proofs.CallSteps.{MaySign}
 use Rattle.world_rules.proofs.Once.{one-started}
 use Rattle.world_disks.specs.Held.{ComesAs, HoldsDisk, crashed}
@@ -104,8 +104,7 @@ alike tag s few small =
 pub calls_as_told : CallsAsTold
 calls_as_told tag s n i d e few small k =
     let x : OnDisk PlacedStore = called_on placed s n i d in
-    let P : OnDisk Disk → Type 0 = λ y. IsSame (Keeps tag s.indexes) (Fell tag s.indexes) x y in
-    let same = subst P (sym (called-as s n i e)) (called-same s placed world_storage (Keeps tag s.indexes) (Fell tag s.indexes) n i d e (alike tag s few small) k) in
+    let same = called-same s placed world_storage (Keeps tag s.indexes) (Fell tag s.indexes) n i d e (alike tag s few small) k in
     record {
       call = same.call;
       going = λ on. subst (λ (c : Call). Keeps tag s.indexes c.node.stored x.disk (rules.called_on s n i e).disk) same.call (same.stand (ap (λ (c : Call). c.ended) same.call ∙ on));

@@ -1,5 +1,5 @@
 -- No store of a world keeps a next index that its key doesn't have.
-use Rattle.std.proofs.Common.{◌≡◌, ℕ, ◌<◌, ◌≤◌, Bool, true, false, eqb, List, [], ◌∷◌, sym, subst, arith}
+use Rattle.std.proofs.Common.{◌≡◌, ℕ, ◌<◌, ◌≤◌, Bool, true, false, eqb, cond, List, [], ◌∷◌, sym, subst, arith}
 use Rattle.std.specs.Prelude.{Result, Ok, Err, fold}
 use Rattle.std.proofs.lemmas.Bool.{cond_both}
 use Rattle.std.proofs.lemmas.Bool.Decides.{nat_tests}
@@ -21,7 +21,9 @@ use Rattle.node_rules.specs.Lives.{Input, Delivers, Ticks}
 use Rattle.node_rules.proofs.Small.{node-sends, stored-takes, stored-signs}
 use Rattle.node_rules.proofs.OwnNote.{stored-lives}
 use Rattle.world_rules.specs.Disks.{Disk, after_put, stopped_in_put, put_passes}
-use Rattle.world_rules.specs.Calls.{OnDisk, puts, takes_step, steps_on, accuses_on, hears_on, delivered_on, due_on, ticked_on, called_on}
+use Rattle.node_rules.specs.OnDisks.{puts, takes_step, steps_on, accuses_on, hears_on, delivered_on, due_on, ticked_on}
+use Rattle.node_rules.proofs.Called.{accused-on, handled-on}
+use Rattle.world_rules.specs.Calls.{OnDisk, called_on, world_storage}
 use Rattle.world_rules.proofs.OnDisks.{left-state, next-after}
 use Rattle.world_laws.proofs.Handing.{Hands, AnyRecord, any-handed, hands-accuses, hands-called, hands-handles, hands-probed_at, joined}
 
@@ -60,34 +62,36 @@ pub record IsWithin (s : node.Setting) (d : OnDisk) : Type 0 where
   pub node : IsBounded s d.call.node.stored
   pub disk : IsBounded s d.disk.state
 
-within-step : (s : node.Setting) (step : Bool → Call) (d : OnDisk) → ((works : Bool) → IsBounded s (step works).node.stored) → IsWithin s d → IsWithin s (takes_step step d)
+within-step : (s : node.Setting) (step : Bool → Call) (d : OnDisk) → ((works : Bool) → IsBounded s (step works).node.stored) → IsWithin s d → IsWithin s (takes_step world_storage step d)
 within-step s step d steps h =
     let kept : Stored = (step true).node.stored in
-    cond_both {A = OnDisk} (eqb kept.next d.call.node.stored.next) (record d { call = step true }) (puts step d) (IsWithin s)
+    let left : (works : Bool) → IsBounded s (cond works (after_put kept d.disk) (stopped_in_put kept d.disk)).state = λ works.
+    cond_both {A = Disk} works (after_put kept d.disk) (stopped_in_put kept d.disk) (λ x. IsBounded s x.state) (λ good. steps true) (λ bad. left-state d.disk kept (IsBounded s) h.disk (steps true)) in
+    cond_both {A = OnDisk} (eqb kept.next d.call.node.stored.next) (record d { call = step true }) (puts world_storage step d) (IsWithin s)
     (λ plain. record { node = steps true; disk = h.disk })
-    (λ signing. cond_both {A = OnDisk} (put_passes d.disk) (record { call = step true; disk = after_put kept d.disk }) (record { call = step false; disk = stopped_in_put kept d.disk }) (IsWithin s)
-    (λ good. record { node = steps true; disk = steps true })
-    (λ bad. record { node = steps false; disk = left-state d.disk kept (IsBounded s) h.disk (steps true) }))
+    (λ signing. record { node = steps (put_passes d.disk); disk = left (put_passes d.disk) })
 
-within-steps : {X : Type 0} (s : node.Setting) (f : Bool → Call → X → Call) (xs : List X) (d : OnDisk) → ((works : Bool) (c : Call) (x : X) → IsBounded s c.node.stored → IsBounded s (f works c x).node.stored) → IsWithin s d → IsWithin s (fold (steps_on f) d xs)
+within-steps : {X : Type 0} (s : node.Setting) (f : Bool → Call → X → Call) (xs : List X) (d : OnDisk) → ((works : Bool) (c : Call) (x : X) → IsBounded s c.node.stored → IsBounded s (f works c x).node.stored) → IsWithin s d → IsWithin s (fold (steps_on world_storage f) d xs)
 within-steps s f [] d steps h = h
 within-steps s f (x ∷ xs) d steps h =
-    within-steps s f xs (steps_on f d x) steps
-    (cond_both {A = OnDisk} d.call.ended d (takes_step (λ works. f works d.call x) d) (IsWithin s) (λ over. h) (λ going. within-step s (λ works. f works d.call x) d (λ works. steps works d.call x h.node) h))
+    within-steps s f xs (steps_on world_storage f d x) steps
+    (cond_both {A = OnDisk} d.call.ended d (takes_step world_storage (λ works. f works d.call x) d) (IsWithin s) (λ over. h) (λ going. within-step s (λ works. f works d.call x) d (λ works. steps works d.call x h.node) h))
 
-disk-heard : (s : node.Setting) (heard : Result Datagram ℕ) (d : OnDisk) → IsWithin s d → IsBounded s (hears_on s heard d).disk.state
+disk-heard : (s : node.Setting) (heard : Result Datagram ℕ) (d : OnDisk) → IsWithin s d → IsBounded s (hears_on world_storage s heard d).disk.state
 disk-heard s (Err place) d h = h.disk
 disk-heard s (Ok (kinds.Ping from nonce)) d h = h.disk
 disk-heard s (Ok (kinds.Pong from nonce)) d h = h.disk
 disk-heard s (Ok (kinds.Summary from flag theirs)) d h = h.disk
 disk-heard s (Ok (kinds.Records from records)) d h =
+    subst (λ (x : OnDisk). IsBounded s x.disk.state) (sym (handled-on world_storage s d records))
     (within-steps s (λ works c x. handles works s c x) records d (λ works c r k. hands-handles s AnyRecord (λ c. IsBounded s c.node.stored) (bounding s) works c r tt k) h).disk
 
-disk-due : (s : node.Setting) (accused : List ℕ) (sent : List (ℕ × ℕ)) (round : ℕ) (d : OnDisk) → IsWithin s d → IsBounded s (due_on s accused sent round d).disk.state
+disk-due : (s : node.Setting) (accused : List ℕ) (sent : List (ℕ × ℕ)) (round : ℕ) (d : OnDisk) → IsWithin s d → IsBounded s (due_on world_storage s accused sent round d).disk.state
 unfolding due_on
 disk-due s accused sent round d h =
-    let d1 : OnDisk = fold (accuses_on s) d accused in
-    let h1 : IsWithin s d1 = within-steps s (λ works c x. accuses works s c x) accused d (λ works c m k. hands-accuses s AnyRecord (λ c. IsBounded s c.node.stored) (bounding s) works c m k) h in
+    let d1 : OnDisk = fold (accuses_on world_storage s) d accused in
+    let h1 : IsWithin s d1 = subst (IsWithin s) (sym (accused-on world_storage s d accused))
+    (within-steps s (λ works c x. accuses works s c x) accused d (λ works c m k. hands-accuses s AnyRecord (λ c. IsBounded s c.node.stored) (bounding s) works c m k) h) in
     cond_both {A = OnDisk} d1.call.ended d1 _ (λ x. IsBounded s x.disk.state) (λ over. h1.disk) (λ going. h1.disk)
 
 disk-called : (s : node.Setting) (n : Node) (i : Input) (d : Disk) → IsBounded s n.stored → IsBounded s d.state → IsBounded s (called_on s n i d).disk.state
@@ -98,7 +102,7 @@ disk-called s n Ticks d node disk =
     let st : State = state_of s p in
     let d0 : OnDisk = record { call = probed_at s n; disk = d } in
     let h0 : IsWithin s d0 = record { node = hands-probed_at s AnyRecord (λ c. IsBounded s c.node.stored) (bounding s) n node; disk = disk } in
-    cond_both {A = OnDisk} (is_due s st) (due_on s (silent_in s p st) (pings_in s p st) (round_of s st) d0) d0 (λ x. IsBounded s x.disk.state)
+    cond_both {A = OnDisk} (is_due s st) (due_on world_storage s (silent_in s p st) (pings_in s p st) (round_of s st) d0) d0 (λ x. IsBounded s x.disk.state)
     (λ due. disk-due s (silent_in s p st) (pings_in s p st) (round_of s st) d0 h0) (λ never. disk)
 
 pub bounded-called : (s : node.Setting) (n : Node) (i : Input) (d : Disk) → IsBounded s n.stored → IsBounded s d.state → IsWithin s (called_on s n i d)

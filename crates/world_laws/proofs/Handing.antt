@@ -22,12 +22,12 @@ use Rattle.node_rules.specs.Nodes.{Setting, Node, state_of, neighbours, neighbou
 use Rattle.node_rules.specs.Pages.{page, partner, page_number, lacking}
 use Rattle.node_rules.specs.Refusals.{refusal}
 use Rattle.node_rules.specs.Calls.{Call, begun, tells, lives, takes, signs, signs_and_sends, wants, stops, sends, sends_to_all, is_used_up, own_record}
-use Rattle.node_rules.specs.Deliveries.{answer_to, answers, judged, handles, handles_all, is_other, gives, replies, exchanges, pinged, ponged_by, hears, delivered, delivered_until}
-use Rattle.node_rules.specs.Ticking.{accusation_on, ring_for, has_accused, wants_accusation, accuses, accuses_all, is_due, silent_in, pings_in, probes_after, pings_all, summary_to, gossips, round_of, passed, probed_at, due_tick, ticked, ticked_until}
+use Rattle.node_rules.specs.Deliveries.{answer_to, answers, judged, handles, handles_all, is_other, gives, replies, exchanges, pinged, ponged_by, hears, delivered}
+use Rattle.node_rules.specs.Ticking.{accusation_on, ring_for, has_accused, wants_accusation, accuses, accuses_all, is_due, silent_in, pings_in, probes_after, pings_all, summary_to, gossips, round_of, passed, probed_at, due_tick, ticked}
 use Rattle.node_rules.specs.Lives.{Input, Delivers, Ticks as Tick}
 use Rattle.world_rules.specs.Disks.{Disk}
 use Rattle.world_rules.specs.Calls.{called_on}
-use Rattle.world_rules.specs.Laws.{ComesSoFar}
+use Rattle.node_rules.proofs.Called.{ComesSoFar, delivered_until, ticked_until}
 use Rattle.world_rules.proofs.SoFar.{so_far}
 
 -- Beside verdicts on records, what goes with a step of its own, and what no call of a node tells.

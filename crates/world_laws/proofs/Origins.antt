@@ -18,7 +18,7 @@ use Rattle.journal.specs.declared.event.What.TheVariants as told
 use Rattle.node_rules.specs.Nodes.{Setting, Node, event_of, neighbours}
 use Rattle.node_rules.specs.Refusals.{refusal}
 use Rattle.node_rules.specs.Calls.{Call, begun, tells, lives, takes, signs, wants, is_used_up}
-use Rattle.node_rules.specs.Deliveries.{answer_to, answering_note, answers, judged, handles, handles_all, hears, delivered, delivered_until}
+use Rattle.node_rules.specs.Deliveries.{answer_to, answering_note, answers, judged, handles, handles_all, hears, delivered}
 use Rattle.node_rules.specs.Lives.{Input, Delivers, Ticks}
 use Rattle.node_rules.specs.Verdicts.{when_all_handled}
 use Rattle.node_rules.proofs.Small.{node-sends}
@@ -26,7 +26,7 @@ use Rattle.node_rules.proofs.Handling.{nil-right, node-wants, node-handles, unre
 use Rattle.node_rules.proofs.Sendings.{ping-brings, pong-brings, summary-brings}
 use Rattle.world_rules.specs.Disks.{Disk}
 use Rattle.world_rules.specs.Calls.{called_on}
-use Rattle.world_rules.specs.Laws.{ComesSoFar}
+use Rattle.node_rules.proofs.Called.{ComesSoFar, delivered_until}
 use Rattle.world_rules.proofs.SoFar.{so_far}
 use Rattle.world_laws.proofs.Handing.{Hands, hands-so_far, joined}
 use Rattle.world_laws.proofs.Stopped.{split-at}

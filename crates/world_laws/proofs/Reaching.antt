@@ -26,7 +26,8 @@ use Rattle.world_rules.specs.Disks.{Disk}
 use Rattle.world_rules.specs.Calls.{OnDisk, called_on}
 use Rattle.world_rules.specs.Worlds.{Life, Station, World, begun_world, lives_of, next_of_liar, with_station}
 use Rattle.world_rules.specs.Steps.{Course, Told, comes, first_call, first_life, life_over, lies, numbered_from, signed_if_spent, signed_in, station_after, told_in, with_disk, with_input}
-use Rattle.world_rules.specs.Laws.{ComesSoFar, IsSetting, Reached}
+use Rattle.node_rules.proofs.Called.{ComesSoFar}
+use Rattle.world_rules.specs.Laws.{IsSetting, Reached}
 use Rattle.world_rules.proofs.OnDisks.{chosen, other}
 use Rattle.world_rules.proofs.SoFar.{so_far}
 use Rattle.world_rules.proofs.LineSteps.{IsFree, HasIndexLeft, Keeps, begins_life, keeps-reached}

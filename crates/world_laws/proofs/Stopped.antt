@@ -18,10 +18,10 @@ use Rattle.journal.specs.declared.event.What.TheVariants as told
 use Rattle.node_rules.specs.Nodes.{Setting, Node, state_of, event_of, neighbours, neighbours_and}
 use Rattle.node_rules.specs.Refusals.{refusal}
 use Rattle.node_rules.specs.Calls.{Call, begun, tells, lives, takes, spends, signs, wants, stops, sends, told_of, is_used_up}
-use Rattle.node_rules.specs.Deliveries.{answer_to, answers, judged, handles, handles_all, hears, delivered, delivered_until}
-use Rattle.node_rules.specs.Ticking.{accusation_on, ring_for, has_accused, wants_accusation, accuses, accuses_all, is_due, silent_in, pings_in, round_of, watched_by, passed, probed_at, due_tick, ticked, silent_at, ticked_until}
+use Rattle.node_rules.specs.Deliveries.{answer_to, answers, judged, handles, handles_all, hears, delivered}
+use Rattle.node_rules.specs.Ticking.{accusation_on, ring_for, has_accused, wants_accusation, accuses, accuses_all, is_due, silent_in, pings_in, round_of, watched_by, passed, probed_at, due_tick, ticked, silent_at}
 use Rattle.node_rules.specs.Lives.{Input, Delivers, Ticks, call_of}
-use Rattle.world_rules.specs.Laws.{ComesSoFar, StopsAnswering, StopsAccusing}
+use Rattle.node_rules.proofs.Called.{ComesSoFar, IsCutAccusing, IsCutAnswering, delivered_until, ticked_until}
 use Rattle.world_laws.proofs.Handing.{Hands, AnyRecord, hands-wants, hands-handles_all, hands-accuses_all, hands-gossips, joined}
 
 -- ---- what was told and lived stays
@@ -207,7 +207,7 @@ within-accused s silent place m c at =
     (within-grown front (accuses_all s (m ∷ split.0) front) (λ o p h. hands-accuses_all s AnyRecord (Holds o p) (growing o p s) (m ∷ split.0) front h))
     (within-accuses s front m))
 
-within-delivered : (s : Setting) (n : Node) (bytes : List ℕ) (c : Call) → StopsAnswering s n bytes c → Within (delivered s n bytes) c
+within-delivered : (s : Setting) (n : Node) (bytes : List ℕ) (c : Call) → IsCutAnswering s n bytes c → Within (delivered s n bytes) c
 unfolding delivered delivered_until
 within-delivered s n bytes c cut =
     subst (λ (x : Call). Within x c) (sym (ap (λ heard. hears s heard (begun n)) cut.read))
@@ -220,7 +220,7 @@ none-silent s n place m at never = gone place (sym (ap (λ b. slice_get (cond b 
     gone : (k : ℕ) → slice_get [] k ≡ Some m → ⊥
     gone k e = cc
 
-within-ticked : (s : Setting) (n : Node) (c : Call) → StopsAccusing s n c → Within (ticked s n) c
+within-ticked : (s : Setting) (n : Node) (c : Call) → IsCutAccusing s n c → Within (ticked s n) c
 unfolding ticked ticked_until due_tick silent_at
 within-ticked s n c cut =
     let p : Node = (passed s n).node in

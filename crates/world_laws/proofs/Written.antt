@@ -17,18 +17,18 @@ use Rattle.node_rules.specs.Nodes as node
 use Rattle.node_rules.specs.Nodes.{state_of, event_of}
 use Rattle.node_rules.specs.Calls.{Call, begun, lives, takes, spends, signs, own_record, told_of}
 use Rattle.node_rules.specs.Starting.{blank, opened, first_note, started}
-use Rattle.node_rules.specs.Lives.{Input, Delivers, Ticks, is_of_life}
+use Rattle.node_rules.specs.Lives.{is_of_life}
 use Rattle.node_rules.specs.Verdicts.{told_that}
 use Rattle.node_rules.specs.Sending.{is_sent, sendings, TellsSendings}
 use Rattle.node_rules.proofs.Handling.{nil-right, map-append, unlived}
-use Rattle.node_rules.proofs.Sendings.{call-sendings, delivered_until-sendings, ticked_until-sendings}
+use Rattle.node_rules.proofs.Sendings.{called-sendings}
 use Rattle.world_rules.specs.Settings.{Setting, Signed, by_authority, certificate, certificates, certified_from, is_liar, is_node, members, setting_of}
 use Rattle.world_rules.specs.Calls.{OnDisk, called_on}
 use Rattle.world_rules.specs.Worlds.{World, begun_world, spent_if_by, spent_of}
 use Rattle.world_rules.specs.Steps.{Told, first_call, numbered_from, signed_if_spent, signed_in, told_in}
-use Rattle.world_rules.specs.Laws.{ComesSoFar, IsSetting}
+use Rattle.world_rules.specs.Laws.{IsSetting}
 use Rattle.world_rules.proofs.OnDisks.{other}
-use Rattle.world_rules.proofs.SoFar.{so_far}
+use Rattle.world_rules.proofs.SoFar.{come-so-far}
 use Rattle.world_rules.proofs.LineSteps.{Keeps, keeps-reached}
 use Rattle.world_rules.proofs.Once.{authority-spent}
 use Rattle.world_laws.specs.Telling.{AuthoritySpendsOnce, IsSentAsTold, IsSpentAsTold, SendingIsTold, SpendingIsTold, spent_as, spent_if_told}
@@ -127,12 +127,6 @@ sent-more k sent told c tells h =
     ∙ ap (λ xs. sendings 0 sent ++ xs) (told-sent k (length sent) c.told ∙ ap (map (numbered_from (length sent))) tells ∙ numbered-sendings (length sent) 0 c.sent ∙ ap (λ n. sendings n c.sent) first)
     ∙ sym (sendings-append 0 sent c.sent)
 
-so-far-sendings : (s : node.Setting) (n : node.Node) (i : Input) (c : Call) → ComesSoFar s n i c → TellsSendings c
-so-far-sendings s n (Delivers bytes) c (inl whole) = subst TellsSendings (sym whole.is) (call-sendings s n (Delivers bytes))
-so-far-sendings s n (Delivers bytes) c (inr cut) = subst TellsSendings (sym cut.is) (delivered_until-sendings s n _ cut.at)
-so-far-sendings s n Ticks c (inl whole) = subst TellsSendings (sym whole.is) (call-sendings s n Ticks)
-so-far-sendings s n Ticks c (inr cut) = subst TellsSendings (sym cut.is) (ticked_until-sendings s n _ cut.at)
-
 -- Nothing was sent so far, or told as sent.
 record SendsNothing (c : Call) : Type 0 where
   told : told_that is_sent c ≡ []
@@ -179,7 +173,8 @@ sending-kept s =
       called = λ k i life c running free h.
           let own : node.Setting = setting_of s k in
           let d : OnDisk = called_on own life.node i (c.world.stations k).disk in
-          sent-more k c.world.sent c.told d.call (so-far-sendings own life.node i d.call (so_far own life.node i (c.world.stations k).disk)) h;
+          let it = come-so-far own life.node i (c.world.stations k).disk in
+          sent-more k c.world.sent c.told d.call (subst TellsSendings (sym it.1) (called-sendings own life.node i it.0)) h;
       began = λ k d c it idle left same h.
           let kept : Stored = (c.world.stations k).disk.state in
           sent-more k c.world.sent c.told (first_call s k kept) (started-sendings (setting_of s k) (s.nonces k kept.next) (certificates s) kept) h;
