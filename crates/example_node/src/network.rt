@@ -1,8 +1,8 @@
 //! The members that run here, and the network between them: a list of datagrams.
 
-use anyhow::Result;
 use crate::member::{Answer, Member};
 use crate::report::print_changes;
+use anyhow::Result;
 use ff_ids::MemberId;
 use ports::MemoryDisk;
 use std::alloc::Global;
