@@ -24,16 +24,16 @@ const SECRET: [u8; 32] = [0; 32];
 
 impl Directory {
     /// The authority certifies these keys, each with its member's number.
-    pub fn make(alloc: Global, keys: &[(u16, PublicKey)]) -> Result<Directory> {
+    pub fn make(alloc: Global, keys: &[(MemberId, PublicKey)]) -> Result<Directory> {
         let mut disk = new_disk(alloc)?;
         let authority = make_store(alloc, &SECRET, &mut disk)?;
         let mut signer = open(alloc, &SECRET, &mut disk)?.signer;
         let mut certificates = Vec::new(alloc);
-        for (number, key) in keys {
+        for (member, key) in keys {
             // The network here goes by numbers; a port is part of each certificate.
             let cert = CertBody {
-                member: MemberId::new(*number),
-                port: 20_000 + *number,
+                member: *member,
+                port: 20_000 + member.get(),
                 key: *key,
             };
             let signed = signer.sign_certificate(alloc, &mut disk, cert)?;

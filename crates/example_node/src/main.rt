@@ -12,12 +12,10 @@ mod report;
 use anyhow::Result;
 use certificates::Directory;
 use ff_ids::MemberId;
-use lms_tree::PublicKey;
 use member::{Member, enroll};
 use network::Network;
 use ports::MemoryDisk;
 use report::{print_changes, print_monitors, print_views};
-use std::alloc::Global;
 
 /// Rounds in which a member is found, or found silent and removed.
 const ROUNDS: u8 = 8;
@@ -33,26 +31,29 @@ fn pass_time(rt: &HostRuntime, network: &mut Network) -> Result<()> {
 fn start(
     rt: &HostRuntime,
     network: &mut Network,
-    number: u16,
+    number: MemberId,
     directory: &Directory,
     disk: MemoryDisk,
 ) -> Result<()> {
-    let (member, answer) = Member::start(rt.alloc(), MemberId::new(number), directory, disk)?;
+    let (member, answer) = Member::start(rt.alloc(), number, directory, disk)?;
     print_changes(rt, member.number(), &answer.events)?;
     network.join(member)
 }
 
+/// What happens, from the keys to the return of the third.
 fn play(rt: &HostRuntime, network: &mut Network) -> Result<()> {
+    let (one, two, three) = (MemberId::new(1), MemberId::new(2), MemberId::new(3));
     // Once, before any member runs: each makes a key with its store, and the authority certifies the keys.
-    let (first, first_disk) = enroll(rt.alloc(), 1)?;
-    let (second, second_disk) = enroll(rt.alloc(), 2)?;
-    let (third, third_disk) = enroll(rt.alloc(), 3)?;
-    let directory = Directory::make(rt.alloc(), &[(1, first), (2, second), (3, third)])?;
+    let (first, first_disk) = enroll(rt.alloc(), one)?;
+    let (second, second_disk) = enroll(rt.alloc(), two)?;
+    let (third, third_disk) = enroll(rt.alloc(), three)?;
+    let keys = [(one, first), (two, second), (three, third)];
+    let directory = Directory::make(rt.alloc(), &keys)?;
 
     println!(rt; "1, 2 and 3 start, each alone in its view")?;
-    start(rt, network, 1, &directory, first_disk)?;
-    start(rt, network, 2, &directory, second_disk)?;
-    start(rt, network, 3, &directory, third_disk)?;
+    start(rt, network, one, &directory, first_disk)?;
+    start(rt, network, two, &directory, second_disk)?;
+    start(rt, network, three, &directory, third_disk)?;
     pass_time(rt, network)?;
     if let Some(member) = network.members().first() {
         print_monitors(rt, member.membership())?;
@@ -65,7 +66,7 @@ fn play(rt: &HostRuntime, network: &mut Network) -> Result<()> {
     pass_time(rt, network)?;
 
     println!(rt; "3 starts again, over the store that it left")?;
-    start(rt, network, 3, &directory, left)?;
+    start(rt, network, three, &directory, left)?;
     pass_time(rt, network)
 }
 

@@ -33,12 +33,12 @@ pub struct Answer {
 }
 
 /// The secret of a member. A real one has 32 random bytes, and nobody else has it.
-fn secret_of(number: u16) -> [u8; 32] {
-    [(number % 256) as u8; 32]
+fn secret_of(number: MemberId) -> [u8; 32] {
+    [(number.get() % 256) as u8; 32]
 }
 
 /// Makes the member's key and, on a new disk, its store.
-pub fn enroll(alloc: Global, number: u16) -> Result<(PublicKey, MemoryDisk)> {
+pub fn enroll(alloc: Global, number: MemberId) -> Result<(PublicKey, MemoryDisk)> {
     let mut disk = new_disk(alloc)?;
     let public = make_store(alloc, &secret_of(number), &mut disk)?;
     Ok((public, disk))
@@ -56,7 +56,7 @@ impl Member {
             signer,
             public,
             nonce_seed,
-        } = open(alloc, &secret_of(number.get()), &mut disk)?;
+        } = open(alloc, &secret_of(number), &mut disk)?;
         let kit = Kit {
             group: GROUP,
             me: number,

@@ -1,5 +1,9 @@
 //! What an application asks of a member, in lines.
 
+<<<<<<< HEAD
+=======
+use crate::keys::GROUP;
+>>>>>>> 52432f27afb3b40858c17b03f006e6a1d368effa
 use crate::member::Member;
 use anyhow::Result;
 use ff_ids::{MEMBERS, MemberId, RingNo};
@@ -46,7 +50,7 @@ fn print_view(rt: &HostRuntime, membership: &Membership) -> Result<()> {
 
 /// Who monitors whom on each ring, in the view of this member.
 pub fn print_monitors(rt: &HostRuntime, membership: &Membership) -> Result<()> {
-    for ring in 0..=2 * membership.group().t {
+    for ring in 0..2 * GROUP.t + 1 {
         print!(rt; "ring {ring}:")?;
         for number in 0..MEMBERS {
             print_monitor(rt, membership, RingNo(ring), MemberId::new(number))?;
@@ -56,14 +60,16 @@ pub fn print_monitors(rt: &HostRuntime, membership: &Membership) -> Result<()> {
     Ok(())
 }
 
-/// The monitor of a member of the view. Who has no certificate has no place on a ring.
+/// The monitor of a member of the view, on a ring of the group. Who has no certificate has no place on it.
 fn print_monitor(
     rt: &HostRuntime,
     membership: &Membership,
     ring: RingNo,
     member: MemberId,
 ) -> Result<()> {
-    if membership.in_view(member) && membership.is_member(member) {
+    let rings = 2 * u16::from(membership.group().t) + 1;
+    let asked = membership.in_view(member) && membership.is_member(member);
+    if asked && u16::from(ring.0) < rings {
         if let Some(monitor) = membership.monitor(ring, member) {
             print!(rt; " {} monitors {};", monitor.get(), member.get())?;
         }
