@@ -1,9 +1,6 @@
 //! What an application asks of a member, in lines.
 
-<<<<<<< HEAD
-=======
 use crate::keys::GROUP;
->>>>>>> 52432f27afb3b40858c17b03f006e6a1d368effa
 use crate::member::Member;
 use anyhow::Result;
 use ff_ids::{MEMBERS, MemberId, RingNo};
