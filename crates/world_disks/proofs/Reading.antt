@@ -91,7 +91,8 @@ all_gates gates count gate place reaches further =
 read_whole : (tag name : List ℕ) (n gate : ℕ) (d r : DiskState) (e : Disk) → HoldsDisk tag n d e → gate ≡ gate_of e → ReadsOnTo (open_calls name) gate (Some d) (Some r)
     → (lets_pass e.armed (opening_calls e) ≡ true) × HoldsDisk tag n r (after_calls (opening_calls e) e)
 read_whole tag name n gate d r e h place reads =
-    let all : reads.gates ≡ length e.older + 2 = all_gates reads.gates (length e.older) gate place reads.reaches reads.no_further in
+    let placed : gate ≡ nth_gate (length e.older + 1) = omega (arith, place) in
+    let all : reads.gates ≡ length e.older + 2 = all_gates reads.gates (length e.older) gate placed reads.reaches reads.no_further in
     let came : record { disk = r; failed = false } ≡ runs (gate_reads reads.gates ++ open_calls name) d = some_same _ _ reads.came in
     let so : runs (gate_reads (length e.older + 2) ++ open_calls name) d ≡ record { disk = r; failed = false } = ap (λ (k : ℕ). runs (gate_reads k ++ open_calls name) d) (sym all) ∙ sym came in
     comes_passed tag n _ r (lets_pass e.armed (opening_calls e)) (after_calls (opening_calls e) e) (stopped e) so (open_as_told tag name n d e h)
