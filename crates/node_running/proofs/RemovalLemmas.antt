@@ -30,9 +30,11 @@ use Rattle.trace.proofs.UprightLemmas.{Left, left-by}
 use Rattle.node_rules.specs.Nodes.{Setting, Node, event_of, neighbours, neighbours_and, state_of}
 use Rattle.node_rules.specs.Refusals.{refusal}
 use Rattle.node_rules.specs.Calls.{Call, begun, is_used_up, lives, signs, spends, takes, tells, told_of, wants, whats_of}
-use Rattle.node_rules.specs.Deliveries.{answer_to, answers, delivered, delivered_until, handles, handles_all, hears, judged}
-use Rattle.node_rules.specs.Ticking.{accusation_on, accuses, accuses_all, has_accused, passed, probed_at, ring_for, silent_at, ticked, ticked_until, wants_accusation}
+use Rattle.node_rules.specs.Deliveries.{answer_to, answers, delivered, handles, handles_all, hears, judged}
+use Rattle.node_rules.specs.Ticking.{accusation_on, accuses, accuses_all, has_accused, passed, probed_at, ring_for, ticked, wants_accusation}
 use Rattle.node_rules.specs.Starting.{blank, first_note, opened, started}
+use Rattle.node_rules.specs.OnDisks.{IsCut}
+use Rattle.node_rules.proofs.Called.{delivered_until, holds-called, ticked_until}
 use Rattle.node_rules.specs.Lives.{AreCertificates, Input, Delivers, Ticks, TellsItsLife, call_of, is_of_life, told_by}
 use Rattle.node_rules.specs.Gaining.{accusation_events}
 use Rattle.node_rules.specs.Outgoing.{accusation_of, at_tick, to_accuse}
@@ -44,7 +46,6 @@ use Rattle.node_rules.proofs.Telling.{call-tells, delivered_until-tells, ticked_
 use Rattle.node_rules.proofs.OwnKey.{KeepsKey}
 use Rattle.node_loop.specs.Turns.{Act, Calls}
 use Rattle.node_loop.specs.Courses.{Course}
-use Rattle.node_loop.specs.Serving.{IsCut}
 use Rattle.node_running.specs.Removals.{Removes, node_behind}
 use Rattle.node_running.proofs.OriginLemmas.{all-came, at-append}
 
@@ -366,15 +367,11 @@ called-removed s n (Delivers bytes) at m i = absurd (none-removed s n (delivered
 called-removed s n Ticks at m i = record { tick = refl; away = tick-removed s n (ticked s n) at m (call-tells s n Ticks) (tickless-ticked s n) i }
 
 pub cut-removed : (s : Setting) (n : Node) (i : Input) (c : Call) (at m : ℕ) → IsCut s n i c → In c.told (removal at m) → RemovesNow s n i at m
-cut-removed s n (Delivers bytes) c at m cut i =
-    let front = take cut.place cut.records in
-    absurd (none-removed s n (delivered_until s n front cut.at) at m (delivered_until-tells s n front cut.at) (tickless-until s n front cut.at) (subst (λ (x : Call). In x.told (removal at m)) cut.is i))
-cut-removed s n Ticks c at m cut i =
-    let front = take cut.place (silent_at s n) in
-    record {
-      tick = refl;
-      away = tick-removed s n (ticked_until s n front cut.member) at m (ticked_until-tells s n front cut.member) (tickless-ticked_until s n front cut.member) (subst (λ (x : Call). In x.told (removal at m)) cut.is i);
-    }
+cut-removed s n i c at m cut among =
+    holds-called s n (λ i x. In x.told (removal at m) → RemovesNow s n i at m) (λ i. called-removed s n i at m)
+    (λ bytes front r j. absurd (none-removed s n (delivered_until s n front r) at m (delivered_until-tells s n front r) (tickless-until s n front r) j))
+    (λ front who j. record { tick = refl; away = tick-removed s n (ticked_until s n front who) at m (ticked_until-tells s n front who) (tickless-ticked_until s n front who) j })
+    i (Some cut.put) (subst (λ (x : Call). In x.told (removal at m)) cut.is among)
 
 -- ## The start
 

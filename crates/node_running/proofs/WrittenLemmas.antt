@@ -21,6 +21,7 @@ use Rattle.ports.specs.declared.link.LinkAnswer.{LinkAnswer}
 use Rattle.node_core.specs.Told.{IsFront}
 use Rattle.node_rules.specs.Nodes.{Setting}
 use Rattle.node_rules.specs.Calls.{Call}
+use Rattle.node_rules.specs.OnDisks.{IsCut}
 use Rattle.node_rules.specs.Lives.{Input, Delivers, Ticks, call_of}
 use Rattle.node_rules.specs.Vouching.{OwnSignaturesVerify}
 use Rattle.node_rules.proofs.OwnKey.{KeepsKey}
@@ -28,7 +29,7 @@ use Rattle.node_loop.specs.declared.fault.ServeFault.{ServeFault}
 use Rattle.node_loop.specs.declared.fault.ServeFault.TheVariants as serve
 use Rattle.node_loop.specs.Turns.{Act, Receives, Writes, Calls, Outlook, after_turn, delivery_of, life_acts, ticks_of, turn_acts, turn_in, turns_from}
 use Rattle.node_loop.specs.Courses.{Course, acted, datagram_in, fails_next, gives, hands_over, line_of, may_tick, moves, sends_one, served, tells, tells_all, tells_what, with_feed, writes_event}
-use Rattle.node_loop.specs.Serving.{BreaksOff, IsCut, IsStarved, IsStopped, IsWhole, starves}
+use Rattle.node_loop.specs.Serving.{BreaksOff, IsStarved, IsStopped, IsWhole, starves}
 use Rattle.node_loop.specs.Writing.{Before, Standing}
 use Rattle.node_loop.proofs.CourseLemmas.{served-nil}
 use Rattle.node_core.specs.Playing.{Kept}
