@@ -1,6 +1,7 @@
 -- A store that is made or opened on a node's disk.
 use Rattle.std.proofs.Common.{◌≡◌, ℕ, ◌^◌, ◌<◌, false, List, length, Some, Result, Ok, Err, sym, subst}
 use Rattle.std.specs.Prelude.{is_err}
+use Rattle.ff_ids.specs.declared.TheConstants.{MAX_RINGS}
 use Rattle.ff_ids.specs.declared.Mask.{Mask}
 use Rattle.ports.specs.DiskSteps.{Came, runs}
 use Rattle.ports.specs.MemoryDisk.{DiskState}
