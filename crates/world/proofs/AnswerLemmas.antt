@@ -8,6 +8,7 @@ use Rattle.records.specs.declared.Body.TheVariants.{Note, Accusation}
 use Rattle.schedule_world.specs.declared.line.WorldLine.TheVariants as lines
 use Rattle.schedule_world.specs.declared.line.WorldLine.{WorldLine}
 use Rattle.node_core.specs.Playing as node
+use Rattle.node_core.specs.Told.{IsFront}
 use Rattle.node_rules.specs.Nodes as rules
 use Rattle.world_rules.specs.Disks as disks
 use Rattle.world_rules.specs.Settings.{Setting, setting_of}

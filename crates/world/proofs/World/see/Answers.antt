@@ -1,4 +1,4 @@
-use Rattle.std.proofs.Common.{◌≡◌, ℕ, ◌<◌, List, Option, Some, None, length, refl, ap, sym, subst}
+use Rattle.std.proofs.Common.{◌≡◌, ℕ, ◌<◌, List, Option, Some, None, length, refl, ap, sym, ◌∙◌, subst}
 use Rattle.std.specs.Prelude.{Ok}
 use Rattle.std.specs.List.{slice_get}
 use Rattle.std.proofs.lemmas.Option.{slice_get_read}
@@ -29,9 +29,9 @@ returns-in_ok-members-in-Some c = λ s w before m h place.
     let now = current-at s w before v m c.args.at x held there found in
     let n : node.Kept = c.in-Some.node.now in
     let runs : HoldsCurrent s (w.stations m).disk m (Some n) (w.stations m).current = subst (λ (o : Option node.Kept). HoldsCurrent s (w.stations m).disk m o (w.stations m).current) (sym c.in-Some.ensures) now in
-    let said : verdicts.Verdict = verdicts.Sees c.in_ok-members-in-Some.members in
+    let said : verdicts.Verdict = verdicts.Sees c.from_vec.result in
     replies-same s before c.args.self.now c.args.out.now.items c.answer.new.out.items (Ok (asks s m viewed w)) (Ok (says said w)) c.answer.result
-    (ap (λ (a : Answer). ok_answer a) (asks-some s (w.stations m).disk m n (w.stations m).current viewed said w runs (λ one is. ap (λ (o : List ℕ). verdicts.Sees o) (sym (c.in_ok-members-in-Some.ensures (state_of (setting_of s m) one.node) (subst (λ (z : life.Life). Stands z (state_of (setting_of s m) one.node)) (sym c.membership.ensures) is.is.holds))))))
+    (ap (λ (a : Answer). ok_answer a) (asks-some s (w.stations m).disk m n (w.stations m).current viewed said w runs (λ one is. ap (λ (o : List ℕ). verdicts.Sees o) (sym (c.from_vec.ensures ∙ c.in_ok-members-in-Some.ensures (state_of (setting_of s m) one.node) (subst (λ (z : life.Life). Stands z (state_of (setting_of s m) one.node)) (sym c.membership.ensures) is.is.holds))))))
     (says-replies s w before c.args.self.now c.args.out.now.items c.answer.new.out.items said c.answer.result h c.answer.ensures.ok c.answer.ensures.refused c.answer.ensures.cause)
 
 pub returns-in-None : goal.returns-in-None
