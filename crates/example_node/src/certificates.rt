@@ -49,7 +49,7 @@ impl Directory {
 
     /// The certificates, each checked under the authority's key.
     pub fn check(&self, alloc: Global) -> Result<Vec<Checked>>
-        ensures { IfOk result (λ checked. All (IsCheckedIn GROUP self.now.authority) checked.items) }
+        ensures { IfOk result (λ cs. All (IsCheckedIn GROUP self.now.authority) cs.items) }
     {
         let mut checked = Vec::new(alloc);
         for bytes in &self.certificates {
