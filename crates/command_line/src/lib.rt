@@ -5,14 +5,14 @@
 mod command;
 mod ending;
 mod forged;
-mod run;
+mod running;
 mod soak;
-mod start;
+mod starting;
 mod status;
 mod words;
 
 pub use command::Command;
-pub use run::run;
-pub use start::start;
+pub use running::run;
+pub use starting::start;
 pub use status::Status;
 pub use words::words_of;

@@ -1,5 +1,5 @@
 use Rattle.command_line.proofs.UpheldLemmas.{all-of}
-use Rattle.command_line.proofs.run.run_named.Goals as goal
+use Rattle.command_line.proofs.running.run_named.Goals as goal
 
 pub returns-clause-command : goal.returns-clause-command
 returns-clause-command g c = (all-of c.args.command c.args.name.now _ _ _ _ _ _ c.run_command.result c.run_command.ensures.ends).command

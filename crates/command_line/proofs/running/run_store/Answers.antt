@@ -2,7 +2,7 @@ use Rattle.store_making.specs.Making.{Makes}
 use Rattle.authority.specs.OfDisk.{of_disk}
 use Rattle.play.specs.Plays.{standing}
 use Rattle.command_line.proofs.EndLemmas.{halt-ends}
-use Rattle.command_line.proofs.run.run_store.Goals as goal
+use Rattle.command_line.proofs.running.run_store.Goals as goal
 
 pub returns : goal.returns
 returns g c = record {

@@ -7,7 +7,7 @@ ghost use Rattle.command_line.specs.Commands.{command_of, is_over_link, is_over_
 ghost use Rattle.command_line.specs.Ends.{wires};
 ghost use Rattle.command_line.specs.Starts.{Ran, OnBoth};
 
-use crate::run::run;
+use crate::running::run;
 use crate::status::Status;
 use fields::NoMemory;
 use ports::{Clock, Disk, Link, Sink, Source};

@@ -2,7 +2,7 @@ use Rattle.authority.specs.OfDisk.{of_disk}
 use Rattle.play.specs.Plays.{standing}
 use Rattle.command_line.specs.Ends.{wires}
 use Rattle.command_line.proofs.NodeLemmas.{node-ends}
-use Rattle.command_line.proofs.run.run_member.Goals as goal
+use Rattle.command_line.proofs.running.run_member.Goals as goal
 
 pub returns : goal.returns
 returns g c = record {

@@ -1,4 +1,4 @@
-use Rattle.command_line.proofs.start.run_words.Goals as goal
+use Rattle.command_line.proofs.starting.run_words.Goals as goal
 
 pub returns-clause-ran : goal.returns-clause-ran
 returns-clause-ran g c = record {
