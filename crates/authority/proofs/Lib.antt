@@ -1,2 +1,6 @@
 pub mod SecretLemmas
 pub mod RosterLemmas
+pub mod MakingLemmas
+pub mod SigningLemmas
+pub mod OpeningLemmas
+pub mod EnrolLemmas

@@ -1,6 +1,7 @@
 -- A secret's text that is whole sets something up.
 use Rattle.std.proofs.Common.{◌≡◌, ℕ, List, ◌∷◌, Some, None, Ok, refl, sym, subst, ◌∙◌}
 use Rattle.line_text.specs.Answers.{Progress, moved}
+use Rattle.line_text.proofs.ShapeLemmas.{all-in_range}
 use Rattle.ff_ids.specs.declared.Group.{Group}
 use Rattle.schedule_texts.specs.declared.line.Kinds.{Kinds}
 use Rattle.schedule_texts.specs.declared.line.SecretLine.{SecretLine}
@@ -9,8 +10,10 @@ use Rattle.schedule_texts.specs.declared.secret.SecretText.{SecretText}
 use Rattle.schedule_texts.specs.declared.secret.SecretText.TheVariants as secret
 use Rattle.schedule_texts.specs.SecretGrammar.{IsSecret}
 use Rattle.schedule_texts.specs.SecretLaws.{secret-spelled}
+use Rattle.schedule_texts.specs.Shared.{group_shape, group_values}
 use Rattle.schedule_texts.specs.Spelling.{IsGroup}
-use Rattle.play.specs.Plays.{Standing}
+use Rattle.schedule_texts.specs.SharedLaws.{group-is}
+use Rattle.play.specs.Plays.{IoState}
 use Rattle.whole_text.specs.Gathered.{IsWhole, lines_from, unread}
 use Rattle.whole_text.proofs.GatherLemmas.{line-is}
 use Rattle.whole_text.proofs.ShapeLemmas.{IsNext, next-line}
@@ -44,7 +47,7 @@ behind-group g _ rest more group is later = absurd (let e = is.1.stands in cc)
 behind-header : (l : SecretLine) (rest : List (List ℕ)) (more : List SecretLine) → At secret.Headed l → lines_from secret_judging (moved secret_judging.after (record { number = 2; form = secret.Headed }) l) rest ≡ Ok more → SetsUp (told.Header ∷ l ∷ more)
 behind-header (told.Group g) rest more is later =
     let n = next-line secret_judging (record { number = 3; form = secret.Grouped }) rest more later refl in
-    subst (λ ls. SetsUp (told.Header ∷ told.Group g ∷ ls)) (sym n.lines_are) (behind-group g n.line n.rest n.more is.1.spells.group (at _ _ _ n) n.later)
+    subst (λ ls. SetsUp (told.Header ∷ told.Group g ∷ ls)) (sym n.lines_are) (behind-group g n.line n.rest n.more (group-is g (all-in_range group_shape is.1.args (group_values g) is.1.spells)) (at _ _ _ n) n.later)
 behind-header _ rest more is later = absurd (let e = is.1.stands in cc)
 
 behind-start : (l : SecretLine) (rest : List (List ℕ)) (more : List SecretLine) → At secret.Start l → lines_from secret_judging (moved secret_judging.after (unread secret.Start) l) rest ≡ Ok more → SetsUp (l ∷ more)
@@ -58,14 +61,14 @@ sets-up seen lines e =
     let n = next-line secret_judging (unread secret.Start) seen lines e refl in
     subst SetsUp (sym n.lines_are) (behind-start n.line n.rest n.more (at _ _ _ n) n.later)
 
-pub secret-read : (was now : Standing) (lines : List SecretLine) (s : Setting) → IsWhole secret_judging secret.Start was now lines → secret_setting lines ≡ Some s → Text.IsSecret was now s
+pub secret-read : (was now : IoState) (lines : List SecretLine) (s : Setting) → IsWhole secret_judging secret.Start was now lines → secret_setting lines ≡ Some s → Text.IsSecret was now s
 secret-read was now lines s whole is =
     let up = sets-up whole.seen_lines lines whole.are in
     let one : Some up.setting ≡ Some s = sym up.is ∙ is in
     let same : up.setting ≡ s = cc in
     record { lines = lines; whole = whole; setting = is; group = subst (λ x. IsGroup x.group) same up.group }
 
-pub never-unset : (was now : Standing) (lines : List SecretLine) → IsWhole secret_judging secret.Start was now lines → secret_setting lines ≡ None → ⊥
+pub never-unset : (was now : IoState) (lines : List SecretLine) → IsWhole secret_judging secret.Start was now lines → secret_setting lines ≡ None → ⊥
 never-unset was now lines whole is =
     let up = sets-up whole.seen_lines lines whole.are in
     let one : Some up.setting ≡ None = sym up.is ∙ is in cc

@@ -1,5 +1,8 @@
 pub mod Halts
 pub mod Settings
 pub mod Texts
-pub mod OfDisk
 pub mod Telling
+pub mod Making
+pub mod Lines
+pub mod Signing
+pub mod Enrolling

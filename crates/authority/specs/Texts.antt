@@ -1,7 +1,7 @@
 -- A whole text of an authority was read.
 use Rattle.std.specs.Prelude.{◌≡◌, ◌<◌, List, Some}
 use Rattle.std.specs.List.{AllByRecursion}
-use Rattle.play.specs.Plays.{Standing}
+use Rattle.play.specs.Plays.{IoState}
 use Rattle.schedule_texts.specs.declared.line.RosterLine.{RosterLine}
 use Rattle.schedule_texts.specs.declared.line.RosterLine.TheVariants as asked
 use Rattle.schedule_texts.specs.declared.line.SecretLine.{SecretLine}
@@ -21,14 +21,14 @@ abbrev pub HavePorts : List RosterLine → Type 0
 HavePorts lines = AllByRecursion HasPort lines
 
 -- The whole text of a secret was read, this is what it sets up, and nothing was written.
-pub record IsSecret (was now : Standing) (s : Setting) : Type 0 where
+pub record IsSecret (was now : IoState) (s : Setting) : Type 0 where
   pub lines : List SecretLine
   pub whole : IsWhole secret_judging secret.Start was now lines
   pub setting : secret_setting lines ≡ Some s
   pub group : IsGroup s.group
 
 -- A whole roster was read, these are its lines, this is what it sets up, and nothing was written.
-pub record IsRoster (was now : Standing) (s : Setting) (lines : List RosterLine) : Type 0 where
+pub record IsRoster (was now : IoState) (s : Setting) (lines : List RosterLine) : Type 0 where
   pub whole : IsWhole roster_judging roster.Start was now lines
   pub setting : roster_setting lines ≡ Some s
   pub group : IsGroup s.group

@@ -1,7 +1,7 @@
 //! The texts of an authority, read whole.
 
 ghost use Rattle.std.specs.Prelude.{◌≡◌, true, IfOk, IfErr};
-ghost use Rattle.play.specs.Plays.{standing};
+ghost use Rattle.play.specs.Plays.{io};
 ghost use Rattle.schedule_texts.specs.Spelling.{IsGroup};
 ghost use Rattle.schedule_texts.specs.declared.roster.RosterText.TheVariants as roster;
 ghost use Rattle.schedule_texts.specs.declared.secret.SecretText.TheVariants as secret;
@@ -59,15 +59,15 @@ pub fn read_secret_text<S: Source, O: Sink>(
     input: &mut S,
     out: &mut O,
 ) -> Result<Setting, Stop<BadWord>>
-    requires source { S.is_open input.old ≡ true }
-    requires sink { O.is_open out.old ≡ true }
-    ensures sink { O.is_open out.new ≡ true }
+    requires source { (S.state input.old).is_open ≡ true }
+    requires sink { (O.state out.old).is_open ≡ true }
+    ensures sink { (O.state out.new).is_open ≡ true }
     ensures sets { IfOk result (λ setting. IsSecret
-        (standing (S.left input.old) (O.taken out.old) (S.faults input.old) (O.faults out.old))
-        (standing (S.left input.new) (O.taken out.new) (S.faults input.new) (O.faults out.new)) setting) }
+        (io (S.state input.old) (O.state out.old))
+        (io (S.state input.new) (O.state out.new)) setting) }
     ensures unfinished { IfErr result (λ stop. IsUnfinished secret_judging secret.Start
-        (standing (S.left input.old) (O.taken out.old) (S.faults input.old) (O.faults out.old))
-        (standing (S.left input.new) (O.taken out.new) (S.faults input.new) (O.faults out.new)) stop) }
+        (io (S.state input.old) (O.state out.old))
+        (io (S.state input.new) (O.state out.new)) stop) }
 {
     match read_whole(alloc, SecretText::Start, input, out) {
         Ok(lines) => match secret_setting(&lines) {
@@ -91,15 +91,15 @@ pub fn read_roster<S: Source, O: Sink>(
     input: &mut S,
     out: &mut O,
 ) -> Result<Asked, Stop<BadWord>>
-    requires source { S.is_open input.old ≡ true }
-    requires sink { O.is_open out.old ≡ true }
-    ensures sink { O.is_open out.new ≡ true }
+    requires source { (S.state input.old).is_open ≡ true }
+    requires sink { (O.state out.old).is_open ≡ true }
+    ensures sink { (O.state out.new).is_open ≡ true }
     ensures asks { IfOk result (λ asked. IsRoster
-        (standing (S.left input.old) (O.taken out.old) (S.faults input.old) (O.faults out.old))
-        (standing (S.left input.new) (O.taken out.new) (S.faults input.new) (O.faults out.new)) asked.setting asked.lines.items) }
+        (io (S.state input.old) (O.state out.old))
+        (io (S.state input.new) (O.state out.new)) asked.setting asked.lines.items) }
     ensures unfinished { IfErr result (λ stop. IsUnfinished roster_judging roster.Start
-        (standing (S.left input.old) (O.taken out.old) (S.faults input.old) (O.faults out.old))
-        (standing (S.left input.new) (O.taken out.new) (S.faults input.new) (O.faults out.new)) stop) }
+        (io (S.state input.old) (O.state out.old))
+        (io (S.state input.new) (O.state out.new)) stop) }
 {
     match read_whole(alloc, RosterText::Start, input, out) {
         Ok(lines) => match roster_setting(&lines) {

@@ -1,10 +1,10 @@
-//! One call of a node, by which a script sees what stands where memory is refused in it: the answer, what the call told
-//! and sent, and what a later call answers and tells; or that memory was refused before the call.
+//! One call of a node, by which a script sees what stands where memory is refused in it: the answer, what the call reported
+//! and sent, and what a later call answers and reports; or that memory was refused before the call.
 
 mod scene;
 
+use fixtures::Player;
 use node_core::NodeFault;
-use node_scene::Player;
 pub use scene::Call;
 use scene::prepared;
 use std::io;
@@ -20,7 +20,7 @@ fn word_of(answer: Result<(), NodeFault>) -> &'static str {
     }
 }
 
-/// What the last call told, and how much it sent.
+/// What the last call reported, and how much it sent.
 fn print(rt: &HostRuntime, player: &Player, answer: Result<(), NodeFault>) -> io::Result<()> {
     println!(rt; "{}", word_of(answer))?;
     let Ok(told) = player.told(rt.alloc()) else {

@@ -20,8 +20,8 @@ fn failed() -> io::Error {
 
 /// Writes the line in one piece, as a node does.
 fn write_line<O: Sink>(out: &mut O, line: &str) -> io::Result<()>
-    requires open { O.is_open out.old ≡ true }
-    ensures going { OnOk result (O.is_open out.new ≡ true) }
+    requires open { (O.state out.old).is_open ≡ true }
+    ensures going { OnOk result ((O.state out.new).is_open ≡ true) }
 {
     match write_all(out, line.as_bytes()) {
         Ok(()) => Ok(()),
@@ -31,8 +31,8 @@ fn write_line<O: Sink>(out: &mut O, line: &str) -> io::Result<()>
 
 /// Writes the lines of a turn in which these bytes came.
 fn write_turn<O: Sink>(alloc: Global, out: &mut O, turn: u32, bytes: &[u8]) -> io::Result<()>
-    requires open { O.is_open out.old ≡ true }
-    ensures going { OnOk result (O.is_open out.new ≡ true) }
+    requires open { (O.state out.old).is_open ≡ true }
+    ensures going { OnOk result ((O.state out.new).is_open ≡ true) }
 {
     write_line(out, turn_line(alloc, turn, bytes)?.as_str())?;
     if !is_ping(bytes) {
@@ -51,8 +51,8 @@ fn receive_once<L: Link, O: Sink>(
     buf: &mut [u8],
     turn: u32,
 ) -> io::Result<()>
-    requires open { O.is_open out.old ≡ true }
-    ensures going { OnOk result (O.is_open out.new ≡ true) }
+    requires open { (O.state out.old).is_open ≡ true }
+    ensures going { OnOk result ((O.state out.new).is_open ≡ true) }
 {
     match link.receive(buf) {
         Received::Got(count) => write_turn(alloc, out, turn, &buf[..count]),
@@ -69,7 +69,7 @@ fn receive_turns<L: Link, O: Sink>(
     buf: &mut [u8],
     turns: u32,
 ) -> io::Result<()>
-    requires open { O.is_open out.old ≡ true }
+    requires open { (O.state out.old).is_open ≡ true }
 {
     for turn in 0..turns {
         receive_once(alloc, link, out, buf, turn)?;

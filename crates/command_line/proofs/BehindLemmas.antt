@@ -4,7 +4,7 @@ use Rattle.std.specs.Io.KnownBytes.{Appends, Consumes}
 use Rattle.std.proofs.KnownBytes.{Appends-trans, Consumes-whole}
 use Rattle.ports.specs.Contents.{IsUsedUp}
 use Rattle.ports.specs.Count.{counted, next_count}
-use Rattle.play.specs.Plays.{Standing, Unfailed}
+use Rattle.play.specs.Plays.{IoState, Unfailed}
 use Rattle.whole_text.specs.Gathered.{IsWhole, Judging, lines_from, owed_whole, told_of, unread}
 use Rattle.command_line.specs.Causes.{Says}
 use Rattle.command_line.specs.Ends.{Counts, Tells}
@@ -14,7 +14,7 @@ use Rattle.command_line.proofs.TraceLemmas.{at-end, seen-whole}
 use Rattle.command_line.specs.declared.status.Status.{Status}
 use Rattle.command_line.specs.declared.status.Status.TheVariants as status
 
-pub whole-traced : {F L : Type 0} (j : Judging F L) (form : F) (tell : List L → List ℕ) (lines : List L) (was between mid now : Standing) (cause s : Status) (text rest : List ℕ)
+pub whole-traced : {F L : Type 0} (j : Judging F L) (form : F) (tell : List L → List ℕ) (lines : List L) (was between mid now : IoState) (cause s : Status) (text rest : List ℕ)
     → IsWhole j form was between lines → Appends between.taken mid.taken text → mid.left ≡ between.left → tell lines ≡ text ++ rest → IsOwedBehind rest cause → Tells cause mid now s → TracedWhole (owed_whole j form tell) was now s
 whole-traced j form tell lines was between mid now cause s text rest whole wrote left told owing tells =
     let same = seen-whole whole.seen_lines whole.bytes whole.taken.whole in
@@ -49,7 +49,7 @@ IsDone (status.StoreTaken len) = Unit {0}
 IsDone _ = ⊥
 
 -- the counts behind one of them
-done-counts : (was mid now : Standing) (first : Status) → IsDone first → Unfailed was mid → now.read_faults ≡ mid.read_faults → now.write_faults ≡ mid.write_faults → Counts was now first
+done-counts : (was mid now : IoState) (first : Status) → IsDone first → Unfailed was mid → now.read_faults ≡ mid.read_faults → now.write_faults ≡ mid.write_faults → Counts was now first
 done-counts was mid now status.Ok done h r w = record { reads = r ∙ h.reads; writes = w ∙ h.writes }
 done-counts was mid now status.StoreFault done h r w = record { reads = r ∙ h.reads; writes = w ∙ h.writes }
 done-counts was mid now (status.StoreBroken place byte) done h r w = record { reads = r ∙ h.reads; writes = w ∙ h.writes }
@@ -63,12 +63,12 @@ done-counts was mid now status.ReadFault done h r w = absurd done
 done-counts was mid now status.WriteFault done h r w = absurd done
 done-counts was mid now status.LinkFault done h r w = record { reads = r ∙ h.reads; writes = w ∙ h.writes }
 
-pub done-by : (was mid now : Standing) (failed : Bool) (first : Status) (line : List ℕ) (s : Status) → IsDone first → Unfailed was mid → Says failed first line s → now.read_faults ≡ mid.read_faults → now.write_faults ≡ counted failed mid.write_faults → Counts was now s
+pub done-by : (was mid now : IoState) (failed : Bool) (first : Status) (line : List ℕ) (s : Status) → IsDone first → Unfailed was mid → Says failed first line s → now.read_faults ≡ mid.read_faults → now.write_faults ≡ counted failed mid.write_faults → Counts was now s
 done-by was mid now false first line s done h says r w = subst (Counts was now) (sym says.0) (done-counts was mid now first done h r w)
 done-by was mid now true first line s done h says r w = subst (Counts was now) (sym says.0) (inl (r ∙ h.reads), w ∙ ap next_count h.writes)
 
 -- where a write of the trace failed
-pub cut-by : (was mid now : Standing) (failed : Bool) (line : List ℕ) (s : Status) → mid.read_faults ≡ was.read_faults → mid.write_faults ≡ next_count was.write_faults → Says failed status.WriteFault line s → now.read_faults ≡ mid.read_faults → now.write_faults ≡ counted failed mid.write_faults → Counts was now s
+pub cut-by : (was mid now : IoState) (failed : Bool) (line : List ℕ) (s : Status) → mid.read_faults ≡ was.read_faults → mid.write_faults ≡ next_count was.write_faults → Says failed status.WriteFault line s → now.read_faults ≡ mid.read_faults → now.write_faults ≡ counted failed mid.write_faults → Counts was now s
 cut-by was mid now false line s reads writes says r w = subst (Counts was now) (sym says.0) (inl (r ∙ reads), w ∙ writes)
 cut-by was mid now true line s reads writes says r w = none_shorter _ says.1.short
 

@@ -11,7 +11,7 @@ use Rattle.text_trace.specs.Lines.{has_no_feed}
 use Rattle.trace.specs.Written.{IsWholeLine}
 use Rattle.trace.proofs.JustifiedLemmas.{IsTail, clear-front}
 use Rattle.trace.proofs.TextLemmas.{clear-append, clear-decimal}
-use Rattle.node_running.proofs.LineLemmas.{clear-body}
+use Rattle.node_command.proofs.LineLemmas.{clear-body}
 use Rattle.world_rules.specs.Walk.{owner_text}
 use Rattle.command_line.specs.Causes.{IsWritten, byte_text, cause_line}
 use Rattle.command_line.specs.declared.status.Status.TheVariants as status

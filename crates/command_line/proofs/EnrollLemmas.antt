@@ -20,7 +20,7 @@ use Rattle.epoch_store.specs.Calls.{AnswersAs, HoldsStore, OnRead, OpensAs, Stor
 use Rattle.epoch_store.specs.Reading.{Finds}
 use Rattle.epoch_store.specs.Store.{StoreOf}
 use Rattle.epoch_store.proofs.FoundLemmas.{one_state, store_found}
-use Rattle.play.specs.Plays.{Standing, Unfailed}
+use Rattle.play.specs.Plays.{IoState, Unfailed}
 use Rattle.play.specs.declared.stop.Stop.TheVariants as stop
 use Rattle.records.specs.declared.Body.TheVariants.{Certificate}
 use Rattle.records.specs.declared.CertBody.{CertBody}
@@ -35,13 +35,13 @@ use Rattle.authority.specs.declared.halt.Halt.{Halt}
 use Rattle.authority.specs.declared.halt.Halt.TheVariants as halt
 use Rattle.authority.specs.declared.setting.Setting.{Setting}
 use Rattle.authority.specs.Halts.{halt_for}
-use Rattle.authority.specs.OfDisk.{OfDisk}
+use Rattle.ports.specs.Outside.{OfDisk}
 use Rattle.authority.specs.Settings.{asked_in, key_of, roster_judging, roster_setting, tag_of, told_for}
 use Rattle.authority.specs.Telling.{IsTold}
 use Rattle.authority.specs.Texts.{IsRoster}
-use Rattle.enrolment.specs.Lines.{enrolled, lines_for, lines_within, signed_line, signed_lines, told_at_end}
-use Rattle.enrolment.specs.Signing.{IsPart}
-use Rattle.enrolment.specs.Enrolling.{AreEnrolled, Enrols, IsEnough, Spends, SpendsFronts}
+use Rattle.authority.specs.Lines.{enrolled, lines_for, lines_within, signed_line, signed_lines, told_at_end}
+use Rattle.authority.specs.Signing.{IsPart}
+use Rattle.authority.specs.Enrolling.{AreEnrolled, Enrols, IsEnough, Spends, SpendsFronts}
 use Rattle.command_line.specs.Causes.{for_word, status_of_halt}
 use Rattle.command_line.specs.Ends.{Counts, DiskCounts, Tells}
 use Rattle.command_line.specs.Enrolment.{Enrolment}
@@ -61,17 +61,17 @@ Answer = Result (Unit {0}) Halt
 
 -- ## The trace
 
-told-lines : (was between : Standing) (s : Setting) (lines : List RosterLine) (next : ℕ) → IsRoster was between s lines → told_at_end next lines ≡ lines_for next (asked_in lines) s
+told-lines : (was between : IoState) (s : Setting) (lines : List RosterLine) (next : ℕ) → IsRoster was between s lines → told_at_end next lines ≡ lines_for next (asked_in lines) s
 told-lines was between s lines next read = ap (λ o. told_for o (lines_for next (asked_in lines))) read.setting
 
 -- a part of the trace was written
-written : (was between mid now : Standing) (s : Setting) (lines : List RosterLine) (next : ℕ) (first answer : Status) (text rest : List ℕ) → IsRoster was between s lines → IsTold between mid text → lines_for next (asked_in lines) s ≡ text ++ rest → IsOwedBehind rest first → Tells first mid now answer
+written : (was between mid now : IoState) (s : Setting) (lines : List RosterLine) (next : ℕ) (first answer : Status) (text rest : List ℕ) → IsRoster was between s lines → IsTold between mid text → lines_for next (asked_in lines) s ≡ text ++ rest → IsOwedBehind rest first → Tells first mid now answer
     → TracedWhole (enrolled next) was now answer
 written was between mid now s lines next first answer text rest read told same owing tells =
     whole-traced roster_judging roster.Start (told_at_end next) lines was between mid now first answer text rest read.whole told.wrote told.left (told-lines was between s lines next read ∙ same) owing tells
 
 -- nothing was written behind the text, whatever store there is
-silent : (was between mid now : Standing) (s : Setting) (lines : List RosterLine) (first answer : Status) → IsRoster was between s lines → mid ≡ between → ((rest : List ℕ) → IsOwedBehind rest first) → Tells first mid now answer → (next : ℕ) → TracedWhole (enrolled next) was now answer
+silent : (was between mid now : IoState) (s : Setting) (lines : List RosterLine) (first answer : Status) → IsRoster was between s lines → mid ≡ between → ((rest : List ℕ) → IsOwedBehind rest first) → Tells first mid now answer → (next : ℕ) → TracedWhole (enrolled next) was now answer
 silent was between mid now s lines first answer read same owing tells next =
     let rest = lines_for next (asked_in lines) s in
     whole-traced roster_judging roster.Start (told_at_end next) lines was between mid now first answer [] rest read.whole
@@ -91,7 +91,7 @@ one-within : (s : Setting) (i : ℕ) (c : CertBody) (rest : List CertBody) → i
 one-within s i c rest few = rw (lt-ltb i (index_count (key_of s)) few) refl
 
 -- the lines of the first certificates were written
-first-written : (was between mid now : Standing) (s : Setting) (lines : List RosterLine) (next : ℕ) (done : List CertBody) (one : CertBody) (part : IsPart (asked_in lines) done one) (first answer : Status) → IsRoster was between s lines → next + length done ≤ index_count (key_of s)
+first-written : (was between mid now : IoState) (s : Setting) (lines : List RosterLine) (next : ℕ) (done : List CertBody) (one : CertBody) (part : IsPart (asked_in lines) done one) (first answer : Status) → IsRoster was between s lines → next + length done ≤ index_count (key_of s)
     → IsTold between mid (signed_lines s.group (key_of s) next done) → ((rest : List ℕ) → IsOwedBehind rest first) → Tells first mid now answer → TracedWhole (enrolled next) was now answer
 first-written was between mid now s lines next done one part first answer read few told owing tells =
     let rest = lines_within s.group (key_of s) (next + length done) (one ∷ part.rest) in
@@ -105,7 +105,7 @@ found-either : (name : List ℕ) (s : Setting) (done more : List CertBody) (o : 
 found-either name s done more o old new (inl e) = found-of name s done o old new e
 found-either name s done more o old new (inr e) = found-of name s more o old new e
 
-pub enroll-traced : (name : List ℕ) (was mid now : Standing) (old new : OfDisk) (r : Answer) (s : Status) → Enrols name was mid old new r → Tells (status_of_halt r) mid now s → TracedRoster was now old s
+pub enroll-traced : (name : List ℕ) (was mid now : IoState) (old new : OfDisk) (r : Answer) (s : Status) → Enrols name was mid old new r → Tells (status_of_halt r) mid now s → TracedRoster was now old s
 enroll-traced name was mid now old new (Ok _) s h t =
     let e = h.rest in
     as_.Opened e.opened (found-of name h.setting (asked_in h.lines) e.opened old new e.enrolled)
@@ -149,13 +149,13 @@ enroll-traced name was mid now old new (Err halt.OutOfMemory) s h t =
 
 -- ## The counts
 
-whole-unfailed : (was between mid : Standing) (s : Setting) (lines : List RosterLine) → IsRoster was between s lines → mid ≡ between → Unfailed was mid
+whole-unfailed : (was between mid : IoState) (s : Setting) (lines : List RosterLine) → IsRoster was between s lines → mid ≡ between → Unfailed was mid
 whole-unfailed was between mid s lines read same = subst (Unfailed was) (sym same) read.whole.unfailed
 
-told-unfailed : (was between mid : Standing) (s : Setting) (lines : List RosterLine) (text : List ℕ) → IsRoster was between s lines → IsTold between mid text → Unfailed was mid
+told-unfailed : (was between mid : IoState) (s : Setting) (lines : List RosterLine) (text : List ℕ) → IsRoster was between s lines → IsTold between mid text → Unfailed was mid
 told-unfailed was between mid s lines text read told = record { reads = told.unfailed.reads ∙ read.whole.unfailed.reads; writes = told.unfailed.writes ∙ read.whole.unfailed.writes }
 
-pub enroll-counts : (name : List ℕ) (was mid now : Standing) (old new : OfDisk) (r : Answer) (s : Status) → Enrols name was mid old new r → Tells (status_of_halt r) mid now s → Counts was now s
+pub enroll-counts : (name : List ℕ) (was mid now : IoState) (old new : OfDisk) (r : Answer) (s : Status) → Enrols name was mid old new r → Tells (status_of_halt r) mid now s → Counts was now s
 enroll-counts name was mid now old new (Ok _) s h t = done-by was mid now t.failed status.Ok t.line s tt (told-unfailed was h.between mid h.setting h.lines _ h.read h.rest.told) t.says t.reads t.writes
 enroll-counts name was mid now old new (Err (halt.Refused line w)) s h t = counts-by Every for_word (enrolled 0) was mid now t.failed (Err (stop.Refused line w)) t.line s for-words (h.0 (told_at_end 0)) t.says t.reads t.writes
 enroll-counts name was mid now old new (Err halt.ReadFault) s h t = counts-by Every for_word (enrolled 0) was mid now t.failed (Err stop.ReadFault) t.line s for-words (h.0 (told_at_end 0)) t.says t.reads t.writes
@@ -189,7 +189,7 @@ faults-either : (name : List ℕ) (s : Setting) (done more : List CertBody) (o :
 faults-either name s done more o old new (inl e) = e.faults
 faults-either name s done more o old new (inr e) = e.faults
 
-pub enroll-disk : (name : List ℕ) (was mid now : Standing) (old new : OfDisk) (r : Answer) (s : Status) → Enrols name was mid old new r → Tells (status_of_halt r) mid now s → DiskCounts old new s
+pub enroll-disk : (name : List ℕ) (was mid now : IoState) (old new : OfDisk) (r : Answer) (s : Status) → Enrols name was mid old new r → Tells (status_of_halt r) mid now s → DiskCounts old new s
 enroll-disk name was mid now old new (Ok _) s h t = or-cut t.failed status.Ok t.line s t.says (DiskCounts old new) h.rest.enrolled.faults (inl h.rest.enrolled.faults)
 enroll-disk name was mid now old new (Err (halt.Refused line w)) s h t = let same = ap (λ d. d.faults) h.1 in or-cut t.failed (status.BadInput line w) t.line s t.says (DiskCounts old new) same (inl same)
 enroll-disk name was mid now old new (Err halt.ReadFault) s h t = let same = ap (λ d. d.faults) h.1 in or-cut t.failed status.ReadFault t.line s t.says (DiskCounts old new) same (inl same)
@@ -227,7 +227,7 @@ rises o (c ∷ certs) =
     record { rising = (up.0, rest.rising); above = (omega arith, up.1) }
 
 -- these certificates were signed
-spends-certs : (was between : Standing) (s : Setting) (lines : List RosterLine) (o : Stored) (seat : Seat) (certs others : List CertBody) (old new : OfDisk) → IsRoster was between s lines → HoldsStore (tag_of s) o seat old.moments → asked_in lines ≡ certs ++ others
+spends-certs : (was between : IoState) (s : Setting) (lines : List RosterLine) (o : Stored) (seat : Seat) (certs others : List CertBody) (old new : OfDisk) → IsRoster was between s lines → HoldsStore (tag_of s) o seat old.moments → asked_in lines ≡ certs ++ others
     → Spends s o certs old new → SpendsFronts s o certs old new → Enrolment was old new
 spends-certs was between s lines o seat certs others old new read found first spends fronts =
     let up = rises o certs in
@@ -248,25 +248,25 @@ spends-certs was between s lines o seat certs others old new read found first sp
       any_moment = fronts;
     })
 
-untouched : (was : Standing) (old new : OfDisk) → new ≡ old → Enrolment was old new
+untouched : (was : IoState) (old new : OfDisk) → new ≡ old → Enrolment was old new
 untouched was old new same =
     inl (λ tag before spent ends. (
       subst (λ (d : OfDisk). Since (EndsLives tag before spent) old.moments d.moments) (sym same) (Since-same (EndsLives tag before spent) old.moments),
       subst (λ (d : OfDisk). EndsNow tag before spent d.moments) (sym same) ends,
     ))
 
-kept-over : (was : Standing) (old new : OfDisk) → Fails stays old.moments new.moments → Enrolment was old new
+kept-over : (was : IoState) (old new : OfDisk) → Fails stays old.moments new.moments → Enrolment was old new
 kept-over was old new fails = inl (λ tag before spent ends. kept_by_opening tag before spent old.moments new.moments ends fails)
 
 -- the first ones, or one more
 one-more : (certs done : List CertBody) (one : CertBody) (part : IsPart certs done one) → certs ≡ (done ++ one ∷ []) ++ part.rest
 one-more certs done one part = part.are ∙ sym (append_assoc done (one ∷ []) part.rest)
 
-spends-either : (name : List ℕ) (was between : Standing) (s : Setting) (lines : List RosterLine) (o : Stored) (done : List CertBody) (one : CertBody) (part : IsPart (asked_in lines) done one) (old new : OfDisk) → IsRoster was between s lines → AreEnrolled name s o done old new ⊎ AreEnrolled name s o (done ++ one ∷ []) old new → Enrolment was old new
+spends-either : (name : List ℕ) (was between : IoState) (s : Setting) (lines : List RosterLine) (o : Stored) (done : List CertBody) (one : CertBody) (part : IsPart (asked_in lines) done one) (old new : OfDisk) → IsRoster was between s lines → AreEnrolled name s o done old new ⊎ AreEnrolled name s o (done ++ one ∷ []) old new → Enrolment was old new
 spends-either name was between s lines o done one part old new read (inl e) = spends-certs was between s lines o e.seat done (one ∷ part.rest) old new read e.found part.are e.spends e.any_moment
 spends-either name was between s lines o done one part old new read (inr e) = spends-certs was between s lines o e.seat (done ++ one ∷ []) part.rest old new read e.found (one-more (asked_in lines) done one part) e.spends e.any_moment
 
-pub enroll-upheld : (name : List ℕ) (was mid : Standing) (old new : OfDisk) (r : Answer) → Enrols name was mid old new r → Enrolment was old new
+pub enroll-upheld : (name : List ℕ) (was mid : IoState) (old new : OfDisk) (r : Answer) → Enrols name was mid old new r → Enrolment was old new
 enroll-upheld name was mid old new (Ok _) h =
     let e = h.rest in
     spends-certs was h.between h.setting h.lines e.opened e.enrolled.seat (asked_in h.lines) [] old new h.read e.enrolled.found (sym (append-nil (asked_in h.lines))) e.enrolled.spends e.enrolled.any_moment
@@ -307,7 +307,7 @@ record IsSame (s : Setting) (lines : List RosterLine) (setting : Setting) (asked
   lines_are : lines ≡ asked
   setting_is : s ≡ setting
 
-same-roster : (was between : Standing) (all : List ℕ) (s : Setting) (lines : List RosterLine) (setting : Setting) (asked : List RosterLine) → was.left ≡ Some all → IsRoster was between s lines → lines_from roster_judging (unread roster.Start) (seen all) ≡ Ok asked → roster_setting asked ≡ Some setting → IsSame s lines setting asked
+same-roster : (was between : IoState) (all : List ℕ) (s : Setting) (lines : List RosterLine) (setting : Setting) (asked : List RosterLine) → was.left ≡ Some all → IsRoster was between s lines → lines_from roster_judging (unread roster.Start) (seen all) ≡ Ok asked → roster_setting asked ≡ Some setting → IsSame s lines setting asked
 same-roster was between all s lines setting asked left read are sets =
     let bytes : all ≡ read.whole.bytes = subst (λ o. IfSome o (λ x. x ≡ read.whole.bytes)) left (Consumes-whole was.left between.left read.whole.bytes (λ x. x ≡ read.whole.bytes) read.whole.read (at-end between.left read.whole.used_up) refl) in
     let both : Ok lines ≡ Ok asked = sym read.whole.are ∙ ap (lines_from roster_judging (unread roster.Start)) (sym (ap seen bytes ∙ seen-whole read.whole.seen_lines read.whole.bytes read.whole.taken.whole)) ∙ are in
@@ -352,7 +352,7 @@ not-gone s a o certs done one next same (inr none) part next_is gone =
     let z = ap length none in
     omega (arith, l, z)
 
-enroll-whole : (name : List ℕ) (was mid now : Standing) (old new : OfDisk) (r : Answer) (s : Status) (all : List ℕ) (asked : List RosterLine) (setting : Setting) (o : Stored) → was.left ≡ Some all → Enrols name was mid old new r → Counts was now s
+enroll-whole : (name : List ℕ) (was mid now : IoState) (old new : OfDisk) (r : Answer) (s : Status) (all : List ℕ) (asked : List RosterLine) (setting : Setting) (o : Stored) → was.left ≡ Some all → Enrols name was mid old new r → Counts was now s
     → lines_from roster_judging (unread roster.Start) (seen all) ≡ Ok asked → roster_setting asked ≡ Some setting → OnImage old.moments (λ image. StoreOf (tag_of setting) image o) → IsEnough setting o.next (asked_in asked) → NoneFailed was now old new → s ≡ status_of_halt r → IsComplete (status_of_halt r)
 enroll-whole name was mid now old new (Ok _) s all asked setting o left h counts are sets there enough fine is = inl refl
 enroll-whole name was mid now old new (Err (halt.Refused line w)) s all asked setting o left h counts are sets there enough fine is =
@@ -385,11 +385,11 @@ enroll-whole name was mid now old new (Err (halt.Exhausted next)) s all asked se
     absurd (not-gone setting e.opened o (asked_in asked) e.done e.one next found enough part e.next_is gone)
 enroll-whole name was mid now old new (Err halt.OutOfMemory) s all asked setting o left h counts are sets there enough fine is = inr refl
 
-enroll-told : (name : List ℕ) (left : Option (List ℕ)) (was mid now : Standing) (old new : OfDisk) (r : Answer) (s : Status) → was.left ≡ left → Enrols name was mid old new r → Tells (status_of_halt r) mid now s → Counts was now s
+enroll-told : (name : List ℕ) (left : Option (List ℕ)) (was mid now : IoState) (old new : OfDisk) (r : Answer) (s : Status) → was.left ≡ left → Enrols name was mid old new r → Tells (status_of_halt r) mid now s → Counts was now s
     → IfSome left (λ all. (lines : List RosterLine) (setting : Setting) (o : Stored) → lines_from roster_judging (unread roster.Start) (seen all) ≡ Ok lines → roster_setting lines ≡ Some setting → OnImage old.moments (λ image. StoreOf (tag_of setting) image o) → IsEnough setting o.next (asked_in lines) → NoneFailed was now old new → IsComplete s)
 enroll-told name None was mid now old new r s left h t counts = tt
 enroll-told name (Some all) was mid now old new r s left h t counts = λ lines setting o are sets there enough fine.
     first-answered was mid now t.failed (status_of_halt r) t.line s t.says counts fine.writes (enroll-whole name was mid now old new r s all lines setting o left h counts are sets there enough fine)
 
-pub enroll-completes : (name : List ℕ) (was mid now : Standing) (old new : OfDisk) (r : Answer) (s : Status) → Enrols name was mid old new r → Tells (status_of_halt r) mid now s → Counts was now s → EnrollCompletes was now old new s
+pub enroll-completes : (name : List ℕ) (was mid now : IoState) (old new : OfDisk) (r : Answer) (s : Status) → Enrols name was mid old new r → Tells (status_of_halt r) mid now s → Counts was now s → EnrollCompletes was now old new s
 enroll-completes name was mid now old new r s h t counts = enroll-told name was.left was mid now old new r s refl h t counts

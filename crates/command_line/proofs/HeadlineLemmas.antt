@@ -1,11 +1,11 @@
 -- What a replay upholds, from how it ended.
 use Rattle.std.proofs.Common.{◌≡◌, ℕ, Bool, true, false, List, [], ◌++◌, Option, Some, None, Ok, Err, sym, subst, ◌∙◌, ap, append-nil}
 use Rattle.std.specs.Option.{option_map}
-use Rattle.play.specs.Plays.{Standing}
+use Rattle.play.specs.Plays.{IoState}
 use Rattle.play.specs.declared.stop.Stop.TheVariants as stop
 use Rattle.records.specs.declared.Body.{Body}
 use Rattle.text_trace.specs.Lines.{seen}
-use Rattle.text_trace.specs.Trace.{Owed}
+use Rattle.text_trace.specs.Trace.{Continuation}
 use Rattle.trace.specs.Walk as direct
 use Rattle.trace.specs.Written.{IsJustified, IsTold}
 use Rattle.trace.proofs.AnswerLemmas.{rule-out}
@@ -18,14 +18,14 @@ use Rattle.world_laws.proofs.FlowWalks.{each-once}
 use Rattle.world_laws.proofs.ForgedLines.{texts-hand-over}
 use Rattle.world_laws.proofs.Walking.{texts-come, texts-lawful}
 use Rattle.world_text.specs.Lines.{line_text}
-use Rattle.world_trace.specs.Written.{GivesAll, GivesTold, output, told_in, world_walk}
-use Rattle.world_trace.proofs.ToldLemmas.{all-written, behind-told, front-told}
+use Rattle.command_line.specs.WorldWritten.{GivesAll, GivesTold, output, told_in, world_walk}
+use Rattle.command_line.proofs.WorldToldLemmas.{all-written, behind-told, front-told}
 use Rattle.world_replay.specs.declared.cause.Cause.{Cause}
 use Rattle.world_replay.specs.declared.cause.Cause.TheVariants as causes
 use Rattle.world_replay.specs.Causes as world
 use Rattle.world_replay.specs.Causes.{IsJudged, cause_of}
-use Rattle.any_replay.specs.Replayed.{is_world, replayed, replayed_as}
-use Rattle.any_replay.proofs.WaitLemmas.{unfed-adds-nothing}
+use Rattle.command_line.specs.Replayed.{is_world, replayed, replayed_as}
+use Rattle.command_line.proofs.ReplayWaitLemmas.{unfed-adds-nothing}
 use Rattle.command_line.specs.Causes.{IsWritten, RunEnd, cause_line, for_cause, status_by}
 use Rattle.command_line.specs.Ends.{EndsBy}
 use Rattle.command_line.specs.Headline.{DirectHeadline, Headline, HeadlineAs, OnForged, OnWhole, WorldHeadline}
@@ -39,7 +39,7 @@ use Rattle.command_line.specs.declared.status.Status.TheVariants as status
 silently : EndsSilently replayed
 silently = unfed-adds-nothing
 
-whole : {C : Type 0} → (owed : Owed C) (rest : List ℕ) (r : RunEnd C) → EndsSilently owed → IsOwed owed rest r → OnWhole r (rest ≡ [])
+whole : {C : Type 0} → (owed : Continuation C) (rest : List ℕ) (r : RunEnd C) → EndsSilently owed → IsOwed owed rest r → OnWhole r (rest ≡ [])
 whole owed rest (Ok _) quiet none = none
 whole owed rest (Err (stop.Refused line cause)) quiet none = none
 whole owed rest (Err stop.ReadFault) quiet none = none quiet
@@ -149,7 +149,7 @@ headline-as : (of_world : Bool) (lines : List (List ℕ)) (text rest line : List
 headline-as true lines text rest line failed r same cause whole is = world-headline lines text rest line failed r same cause whole is
 headline-as false lines text rest line failed r same cause whole is = direct-headline lines text rest line failed r same whole is
 
-pub headline : (was now : Standing) (s : Status) → EndsBy IsJudged for_cause replayed was now s → Headline was now s
+pub headline : (was now : IoState) (s : Status) → EndsBy IsJudged for_cause replayed was now s → Headline was now s
 headline was now s ends =
     let t = traced IsJudged for_cause replayed was now s ends in
     let all = whole replayed t.rest t.result silently t.whole in

@@ -1,16 +1,16 @@
 -- What the run of a member upholds of its journal, behind which the line of a cause may stand.
 use Rattle.std.proofs.Common.{ℕ, Bool, true, false, List, [], ◌++◌, Result, Ok, Err, sym, subst, ap, ◌∙◌, inl, inr, append-nil}
 use Rattle.std.proofs.KnownBytes.{Appends-trans}
-use Rattle.play.specs.Plays.{Standing}
+use Rattle.play.specs.Plays.{IoState}
 use Rattle.trace.specs.Written.{IsLineOf}
 use Rattle.trace.proofs.JustifiedLemmas.{among-tail, split}
-use Rattle.authority.specs.OfDisk.{OfDisk}
-use Rattle.node_running.specs.declared.halt.NodeHalt.{NodeHalt}
-use Rattle.node_running.specs.declared.halt.NodeHalt.TheVariants as halt
-use Rattle.node_running.specs.Removals.{AreWholeLines, IsReported, RemovalsRest, removal_line}
-use Rattle.node_running.specs.Running.{Feed, Takes}
+use Rattle.ports.specs.Outside.{OfDisk}
+use Rattle.node_command.specs.declared.halt.NodeHalt.{NodeHalt}
+use Rattle.node_command.specs.declared.halt.NodeHalt.TheVariants as halt
+use Rattle.node_command.specs.Removals.{AreWholeLines, IsReported, RemovalsRest, removal_line}
+use Rattle.node_command.specs.Running.{NetInputs, Takes}
 use Rattle.command_line.specs.Causes.{IsWritten, cause_line, status_of_node}
-use Rattle.command_line.specs.Ends.{RestsFed, SpendsFed, Tells, Wires, as_run}
+use Rattle.command_line.specs.Ends.{RestsFed, SpendsFed, Tells, NetState}
 use Rattle.command_line.specs.Journals.{JournalRests, NodeUpholds}
 use Rattle.command_line.proofs.EndLemmas.{none_shorter}
 use Rattle.command_line.proofs.CauseLines.{IsOther, bad-line, begins-other, broken-line, fault-line, link-line, store-line, tail-of, used-line}
@@ -37,7 +37,7 @@ none-behind : (P : List ℕ → Type 0) (text line : List ℕ) (failed : Bool) �
 none-behind P text line false h is = subst (Rests P) (sym (ap (λ (l : List ℕ). text ++ l) is ∙ append-nil text)) h
 none-behind P text line true h is = absurd (none_shorter _ is.short)
 
-cause-behind : (P : List ℕ → Type 0) (feed : Feed) (was between : Standing) (old : OfDisk) (r : Result (Unit {0}) NodeHalt) (line : List ℕ) (failed : Bool) → (h : RemovalsRest feed was between (as_run old) r) → Rests P h.bytes → IsWritten failed (cause_line (status_of_node r)) line
+cause-behind : (P : List ℕ → Type 0) (feed : NetInputs) (was between : IoState) (old : OfDisk) (r : Result (Unit {0}) NodeHalt) (line : List ℕ) (failed : Bool) → (h : RemovalsRest feed was between old r) → Rests P h.bytes → IsWritten failed (cause_line (status_of_node r)) line
     → Rests P (h.bytes ++ line)
 cause-behind P feed was between old (Ok done) line failed h rests is = none-behind P h.bytes line failed rests is
 cause-behind P feed was between old (Err (halt.Refused number w)) line failed h rests is = other-behind P h.bytes (cause_line (status.BadInput number w)) line failed rests h.ended (bad-line number w) is
@@ -49,14 +49,14 @@ cause-behind P feed was between old (Err halt.LinkFault) line failed h rests is 
 cause-behind P feed was between old (Err (halt.Exhausted next)) line failed h rests is = other-behind P h.bytes (cause_line (status.Exhausted next)) line failed rests h.ended (used-line next) is
 cause-behind P feed was between old (Err halt.OutOfMemory) line failed h rests is = none-behind P h.bytes line failed rests is
 
-journal-rests : (feed : Feed) (was between now : Standing) (old : OfDisk) (r : Result (Unit {0}) NodeHalt) (s : Status) → RemovalsRest feed was between (as_run old) r → Tells (status_of_node r) between now s → JournalRests feed was now old
+journal-rests : (feed : NetInputs) (was between now : IoState) (old : OfDisk) (r : Result (Unit {0}) NodeHalt) (s : Status) → RemovalsRest feed was between old r → Tells (status_of_node r) between now s → JournalRests feed was now old
 journal-rests feed was between now old r s h t = record {
   bytes = h.bytes ++ t.line;
   written = Appends-trans was.taken between.taken now.taken h.bytes t.line h.written t.wrote;
-  rests = cause-behind (IsReported was (as_run old) feed) feed was between old r t.line t.failed h h.rests t.says.1;
+  rests = cause-behind (IsReported was old feed) feed was between old r t.line t.failed h h.rests t.says.1;
 }
 
-pub node-upholds : (turns : ℕ) (was between now : Standing) (old new : OfDisk) (before : Wires) (r : Result (Unit {0}) NodeHalt) (s : Status) → Takes was between (as_run old) (as_run new) r → RestsFed turns was between old before r → SpendsFed turns was old new before → Tells (status_of_node r) between now s
+pub node-upholds : (turns : ℕ) (was between now : IoState) (old new : OfDisk) (before : NetState) (r : Result (Unit {0}) NodeHalt) (s : Status) → Takes was between old new r → RestsFed turns was between old before r → SpendsFed turns was old new before → Tells (status_of_node r) between now s
     → NodeUpholds turns was now old new before s
 node-upholds turns was between now old new before r s takes rests spends t = record {
   untouched = node-upheld was between now old new r s takes t;

@@ -12,3 +12,7 @@ pub mod NodeLemmas
 pub mod JournalLemmas
 pub mod OpenedLemmas
 pub mod SoakLemmas
+pub mod ReplayWaitLemmas
+pub mod ReplayLineLemmas
+pub mod WorldLineLemmas
+pub mod WorldToldLemmas

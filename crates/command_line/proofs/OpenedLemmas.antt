@@ -9,24 +9,24 @@ use Rattle.epoch_store.specs.Store.{StoreOf}
 use Rattle.lms_tree.specs.Leaves.{index_count}
 use Rattle.lms_tree.specs.Lms.{public_of}
 use Rattle.line_text.specs.declared.bad_word.BadWord.{BadWord}
-use Rattle.play.specs.Plays.{Standing}
+use Rattle.play.specs.Plays.{IoState}
 use Rattle.ports.specs.Count.{Rose}
-use Rattle.schedule_kit.specs.declared.kit.KitText.TheVariants as kit
-use Rattle.schedule_kit.specs.declared.line.KitLine.{KitLine}
+use Rattle.schedule_texts.specs.declared.kit.KitText.TheVariants as kit
+use Rattle.schedule_texts.specs.declared.kit_line.KitLine.{KitLine}
 use Rattle.secrets.specs.Secrets.{store_tag}
 use Rattle.text_trace.specs.Lines.{seen}
 use Rattle.whole_text.specs.Gathered.{lines_from, nothing, told_of, unread}
-use Rattle.authority.specs.OfDisk.{OfDisk}
-use Rattle.node_running.specs.declared.halt.NodeHalt.{NodeHalt}
-use Rattle.node_running.specs.declared.halt.NodeHalt.TheVariants as halt
-use Rattle.node_running.specs.declared.kit.Member.{Member}
-use Rattle.node_running.specs.declared.kit.Own.{Own}
-use Rattle.node_running.specs.Halts.{halt_for}
-use Rattle.node_running.specs.Members.{IsMember, SetUp, SetsUp, kit_judging, set_by, tag_of}
-use Rattle.node_running.specs.Running.{IsCaused, Takes}
-use Rattle.node_running.proofs.RunLemmas.{tag-long}
+use Rattle.ports.specs.Outside.{OfDisk}
+use Rattle.node_command.specs.declared.halt.NodeHalt.{NodeHalt}
+use Rattle.node_command.specs.declared.halt.NodeHalt.TheVariants as halt
+use Rattle.node_command.specs.declared.kit.Member.{Member}
+use Rattle.node_command.specs.declared.kit.Own.{Own}
+use Rattle.node_command.specs.Halts.{halt_for}
+use Rattle.node_command.specs.Members.{IsMember, SetUp, SetsUp, kit_judging, set_by, tag_of}
+use Rattle.node_command.specs.Running.{IsCaused, Takes}
+use Rattle.node_command.proofs.RunLemmas.{tag-long}
 use Rattle.command_line.specs.Causes.{Says, status_of_node}
-use Rattle.command_line.specs.Ends.{Counts, Tells, as_run}
+use Rattle.command_line.specs.Ends.{Counts, Tells}
 use Rattle.command_line.specs.Serving.{IsNodeDone, IsNodeWhole}
 use Rattle.command_line.specs.TracedAs.{NodeCompletes, NoneFailed, OnImage}
 use Rattle.command_line.proofs.CompleteLemmas.{rose}
@@ -50,7 +50,7 @@ same-up u a b x y =
     let owns : Some a.own ≡ Some b.own = ap (λ (z : SetUp). z.own) (sym x ∙ y) in
     record { group_is = cc; own_is = cc }
 
-same-member : (was between : Standing) (all : List ℕ) (lines : List KitLine) (a b : Member) → was.left ≡ Some all → IsMember was between a → lines_from kit_judging (unread kit.Start) (seen all) ≡ Ok lines → SetsUp (set_by lines) b → IsSame a b
+same-member : (was between : IoState) (all : List ℕ) (lines : List KitLine) (a b : Member) → was.left ≡ Some all → IsMember was between a → lines_from kit_judging (unread kit.Start) (seen all) ≡ Ok lines → SetsUp (set_by lines) b → IsSame a b
 same-member was between all lines a b left read are sets =
     let bytes : all ≡ read.whole.bytes = subst (λ o. IfSome o (λ x. x ≡ read.whole.bytes)) left (Consumes-whole was.left between.left read.whole.bytes (λ x. x ≡ read.whole.bytes) read.whole.read (at-end between.left read.whole.used_up) refl) in
     let both : Ok read.lines ≡ Ok lines = sym read.whole.are ∙ ap (lines_from kit_judging (unread kit.Start)) (sym (ap seen bytes ∙ seen-whole read.whole.seen_lines read.whole.bytes read.whole.taken.whole)) ∙ are in
@@ -63,7 +63,7 @@ same-tag a b same = ap (λ g. store_tag g (public_of a.own.key)) same.group_is �
 abbrev failed : StoreError → Result StoreState StoreError
 failed e = Err e
 
-node-opened : (was mid now : Standing) (old new : OfDisk) (r : Answer) (s : Status) (all : List ℕ) (lines : List KitLine) (m : Member) (o : Stored) → was.left ≡ Some all → IsCaused was (as_run old) (as_run new) r → lines_from kit_judging (unread kit.Start) (seen all) ≡ Ok lines
+node-opened : (was mid now : IoState) (old new : OfDisk) (r : Answer) (s : Status) (all : List ℕ) (lines : List KitLine) (m : Member) (o : Stored) → was.left ≡ Some all → IsCaused was old new r → lines_from kit_judging (unread kit.Start) (seen all) ≡ Ok lines
     → SetsUp (set_by lines) m → OnImage old.moments (λ image. StoreOf (tag_of m) image o) → o.next < index_count m.own.key → IsNodeDone (status_of_node r) → IsNodeWhole (status_of_node r)
 node-opened was mid now old new (Ok _) s all lines m o left cause are sets there some done = tt
 node-opened was mid now old new (Err (halt.Refused line w)) s all lines m o left cause are sets there some done = absurd done
@@ -86,14 +86,14 @@ node-opened was mid now old new (Err (halt.Exhausted next)) s all lines m o left
 node-opened was mid now old new (Err halt.OutOfMemory) s all lines m o left cause are sets there some done = tt
 
 -- no write failed, so that the answer is the first cause
-node-answered : (was now : Standing) (wrote : Bool) (first : Status) (line : List ℕ) (s : Status) → Says wrote first line s → Counts was now s → ¬ (Rose was.write_faults now.write_faults) → (s ≡ first → IsNodeWhole first) → IsNodeWhole s
+node-answered : (was now : IoState) (wrote : Bool) (first : Status) (line : List ℕ) (s : Status) → Says wrote first line s → Counts was now s → ¬ (Rose was.write_faults now.write_faults) → (s ≡ first → IsNodeWhole first) → IsNodeWhole s
 node-answered was now false first line s says counts written done = subst IsNodeWhole (sym says.0) (done says.0)
 node-answered was now true first line s says counts written done =
     let cut : Counts was now status.WriteFault = subst (Counts was now) says.0 counts in
     absurd (written (rose was.write_faults now.write_faults cut.1))
 
-node-opens : (left : Option (List ℕ)) (was mid now : Standing) (old new : OfDisk) (r : Answer) (s : Status) → was.left ≡ left → Takes was mid (as_run old) (as_run new) r → IfErr r (λ h. h ≡ halt.StoreFault → Rose old.faults new.faults)
-    → IsCaused was (as_run old) (as_run new) r → Tells (status_of_node r) mid now s → Counts was now s
+node-opens : (left : Option (List ℕ)) (was mid now : IoState) (old new : OfDisk) (r : Answer) (s : Status) → was.left ≡ left → Takes was mid old new r → IfErr r (λ h. h ≡ halt.StoreFault → Rose old.faults new.faults)
+    → IsCaused was old new r → Tells (status_of_node r) mid now s → Counts was now s
     → IfSome left (λ all. (lines : List KitLine) (m : Member) (o : Stored) → lines_from kit_judging (unread kit.Start) (seen all) ≡ Ok lines → SetsUp (set_by lines) m → OnImage old.moments (λ image. StoreOf (tag_of m) image o) → o.next < index_count m.own.key
     → NoneFailed was now old new → IsNodeWhole s)
 node-opens None was mid now old new r s left h store cause t counts = tt
@@ -102,7 +102,7 @@ node-opens (Some all) was mid now old new r s left h store cause t counts = λ l
     node-answered was now t.failed (status_of_node r) t.line s t.says counts fine.writes
     (λ is. node-opened was mid now old new r s all lines m o left cause are sets there some (node-whole was mid now old new r s all left h store counts none fine is))
 
-pub node-completes : (was mid now : Standing) (old new : OfDisk) (r : Answer) (s : Status) → Takes was mid (as_run old) (as_run new) r → IfErr r (λ h. h ≡ halt.StoreFault → Rose old.faults new.faults) → IsCaused was (as_run old) (as_run new) r
+pub node-completes : (was mid now : IoState) (old new : OfDisk) (r : Answer) (s : Status) → Takes was mid old new r → IfErr r (λ h. h ≡ halt.StoreFault → Rose old.faults new.faults) → IsCaused was old new r
     → Tells (status_of_node r) mid now s → Counts was now s → NodeCompletes was now old new s
 node-completes was mid now old new r s h store cause t counts = record {
   unrefused = node-unrefused was mid now old new r s h store t counts;

@@ -7,7 +7,7 @@ use Rattle.line_text.specs.declared.bad_word.BadWord.{BadWord}
 use Rattle.ports.specs.Count.{Rose, next_count}
 use Rattle.ports.specs.Disk.{Moment}
 use Rattle.epoch_store.specs.Calls.{HasLength}
-use Rattle.play.specs.Plays.{Standing, Unfailed}
+use Rattle.play.specs.Plays.{IoState, Unfailed}
 use Rattle.play.specs.declared.stop.Stop.TheVariants as stop
 use Rattle.schedule_texts.specs.declared.secret.SecretText.TheVariants as secret
 use Rattle.text_trace.specs.Lines.{seen}
@@ -15,10 +15,10 @@ use Rattle.text_trace.specs.Trace.{Every, Trace}
 use Rattle.authority.specs.declared.halt.Halt.{Halt}
 use Rattle.authority.specs.declared.halt.Halt.TheVariants as halt
 use Rattle.authority.specs.declared.setting.Setting.{Setting}
-use Rattle.authority.specs.OfDisk.{OfDisk}
+use Rattle.ports.specs.Outside.{OfDisk}
 use Rattle.authority.specs.Settings.{secret_judging, told_for}
 use Rattle.authority.specs.Texts.{IsSecret}
-use Rattle.store_making.specs.Making.{Makes, key_line_of, stored, told_at_end}
+use Rattle.authority.specs.Making.{Makes, key_line_of, stored, told_at_end}
 use Rattle.command_line.specs.Causes.{Says, for_word, status_of_halt}
 use Rattle.command_line.specs.Ends.{Counts, DiskCounts, Tells}
 use Rattle.command_line.specs.Traced.{IsComplete}
@@ -34,16 +34,16 @@ use Rattle.command_line.specs.declared.status.Status.TheVariants as status
 abbrev Answer : Type 0
 Answer = Result (Unit {0}) Halt
 
-told-line : (was between : Standing) (s : Setting) (read : IsSecret was between s) → told_at_end read.lines ≡ key_line_of s
+told-line : (was between : IoState) (s : Setting) (read : IsSecret was between s) → told_at_end read.lines ≡ key_line_of s
 told-line was between s read = ap (λ o. told_for o key_line_of) read.setting
 
 -- nothing was written behind the text
-silent : (was between mid now : Standing) (s : Setting) (first answer : Status) (read : IsSecret was between s) → mid ≡ between → IsOwedBehind (key_line_of s) first → Tells first mid now answer → TracedEither stored was now answer
+silent : (was between mid now : IoState) (s : Setting) (first answer : Status) (read : IsSecret was between s) → mid ≡ between → IsOwedBehind (key_line_of s) first → Tells first mid now answer → TracedEither stored was now answer
 silent was between mid now s first answer read same owing tells =
     inr (whole-traced secret_judging secret.Start told_at_end read.lines was between mid now first answer [] (key_line_of s) read.whole
     (subst (λ m. Appends between.taken m.taken []) (sym same) (Appends-nil between.taken)) (ap (λ m. m.left) same) (told-line was between s read) owing tells)
 
-pub store-traced : (name : List ℕ) (was mid now : Standing) (old new : OfDisk) (r : Answer) (s : Status) → Makes name was mid old new r → Tells (status_of_halt r) mid now s → TracedEither stored was now s
+pub store-traced : (name : List ℕ) (was mid now : IoState) (old new : OfDisk) (r : Answer) (s : Status) → Makes name was mid old new r → Tells (status_of_halt r) mid now s → TracedEither stored was now s
 store-traced name was mid now old new (Ok _) s h tells =
     inr (whole-traced secret_judging secret.Start told_at_end h.read.lines was h.between mid now status.Ok s (key_line_of h.setting) [] h.read.whole h.rest.1.wrote h.rest.1.left
     (told-line was h.between h.setting h.read ∙ sym (append-nil (key_line_of h.setting))) refl tells)
@@ -66,10 +66,10 @@ store-traced name was mid now old new (Err halt.OutOfMemory) s h tells =
 
 -- ## The counts
 
-whole-unfailed : (was between mid : Standing) (s : Setting) → IsSecret was between s → mid ≡ between → Unfailed was mid
+whole-unfailed : (was between mid : IoState) (s : Setting) → IsSecret was between s → mid ≡ between → Unfailed was mid
 whole-unfailed was between mid s read same = subst (Unfailed was) (sym same) read.whole.unfailed
 
-pub store-counts : (name : List ℕ) (was mid now : Standing) (old new : OfDisk) (r : Answer) (s : Status) → Makes name was mid old new r → Tells (status_of_halt r) mid now s → Counts was now s
+pub store-counts : (name : List ℕ) (was mid now : IoState) (old new : OfDisk) (r : Answer) (s : Status) → Makes name was mid old new r → Tells (status_of_halt r) mid now s → Counts was now s
 store-counts name was mid now old new (Ok _) s h t =
     done-by was mid now t.failed status.Ok t.line s tt (record { reads = h.rest.1.unfailed.reads ∙ h.read.whole.unfailed.reads; writes = h.rest.1.unfailed.writes ∙ h.read.whole.unfailed.writes }) t.says t.reads t.writes
 store-counts name was mid now old new (Err (halt.Refused line w)) s h t = counts-by Every for_word stored was mid now t.failed (Err (stop.Refused line w)) t.line s for-words (h.0 told_at_end) t.says t.reads t.writes
@@ -86,7 +86,7 @@ store-counts name was mid now old new (Err halt.OutOfMemory) s h t =
       | inr went ↦ done-by was mid now t.failed status.OutOfMemory t.line s tt (whole-unfailed was went.between mid went.setting went.read went.rest.0) t.says t.reads t.writes
     ]
 
-pub store-disk : (name : List ℕ) (was mid now : Standing) (old new : OfDisk) (r : Answer) (s : Status) → Makes name was mid old new r → Tells (status_of_halt r) mid now s → DiskCounts old new s
+pub store-disk : (name : List ℕ) (was mid now : IoState) (old new : OfDisk) (r : Answer) (s : Status) → Makes name was mid old new r → Tells (status_of_halt r) mid now s → DiskCounts old new s
 store-disk name was mid now old new (Ok _) s h t = or-cut t.failed status.Ok t.line s t.says (DiskCounts old new) h.rest.0.faults (inl h.rest.0.faults)
 store-disk name was mid now old new (Err (halt.Refused line w)) s h t = let same = ap (λ d. d.faults) h.1 in or-cut t.failed (status.BadInput line w) t.line s t.says (DiskCounts old new) same (inl same)
 store-disk name was mid now old new (Err halt.ReadFault) s h t = let same = ap (λ d. d.faults) h.1 in or-cut t.failed status.ReadFault t.line s t.says (DiskCounts old new) same (inl same)
@@ -103,7 +103,7 @@ store-disk name was mid now old new (Err halt.OutOfMemory) s h t =
 
 -- ## What it upholds, and where it is whole
 
-pub store-upheld : (name : List ℕ) (was mid now : Standing) (old new : OfDisk) (r : Answer) (s : Status) → Makes name was mid old new r → Tells (status_of_halt r) mid now s → OnMade s (IsStoreMade was old new)
+pub store-upheld : (name : List ℕ) (was mid now : IoState) (old new : OfDisk) (r : Answer) (s : Status) → Makes name was mid old new r → Tells (status_of_halt r) mid now s → OnMade s (IsStoreMade was old new)
 store-upheld name was mid now old new (Ok _) s h t =
     or-cut t.failed status.Ok t.line s t.says (λ x. OnMade x (IsStoreMade was old new)) (record { setting = h.setting; between = h.between; read = h.read; image = h.rest.0.image }) tt
 store-upheld name was mid now old new (Err (halt.Refused line w)) s h t = or-cut t.failed (status.BadInput line w) t.line s t.says (λ x. OnMade x (IsStoreMade was old new)) tt tt
@@ -116,7 +116,7 @@ store-upheld name was mid now old new (Err (halt.Exhausted next)) s h t = absurd
 store-upheld name was mid now old new (Err halt.OutOfMemory) s h t = or-cut t.failed status.OutOfMemory t.line s t.says (λ x. OnMade x (IsStoreMade was old new)) tt tt
 
 -- no write failed, so that the answer is the first cause
-pub first-answered : (was mid now : Standing) (failed : Bool) (first : Status) (line : List ℕ) (s : Status) → Says failed first line s → Counts was now s → ¬ (Rose was.write_faults now.write_faults) → (s ≡ first → IsComplete first) → IsComplete s
+pub first-answered : (was mid now : IoState) (failed : Bool) (first : Status) (line : List ℕ) (s : Status) → Says failed first line s → Counts was now s → ¬ (Rose was.write_faults now.write_faults) → (s ≡ first → IsComplete first) → IsComplete s
 first-answered was mid now false first line s says counts written complete = subst IsComplete (sym says.0) (complete says.0)
 first-answered was mid now true first line s says counts written complete =
     let cut : Counts was now status.WriteFault = subst (Counts was now) says.0 counts in
@@ -129,7 +129,7 @@ empty-taken (m ∷ past) len has empty some = some (sym has ∙ empty)
 abbrev cause_of : Trace BadWord → Option BadWord
 cause_of t = t.cause
 
-store-whole : (name : List ℕ) (was mid now : Standing) (old new : OfDisk) (r : Answer) (s : Status) (all : List ℕ) → was.left ≡ Some all → Makes name was mid old new r → Tells (status_of_halt r) mid now s → Counts was now s
+store-whole : (name : List ℕ) (was mid now : IoState) (old new : OfDisk) (r : Answer) (s : Status) (all : List ℕ) → was.left ≡ Some all → Makes name was mid old new r → Tells (status_of_halt r) mid now s → Counts was now s
     → (stored (seen all)).cause ≡ None → OnImage old.moments (λ image. length image ≡ 0) → NoneFailed was now old new → s ≡ status_of_halt r → IsComplete (status_of_halt r)
 store-whole name was mid now old new (Ok _) s all left h t counts none empty fine is = inl refl
 store-whole name was mid now old new (Err (halt.Refused line w)) s all left h t counts none empty fine is =
@@ -149,11 +149,11 @@ store-whole name was mid now old new (Err (halt.StoreTaken len)) s all left h t 
 store-whole name was mid now old new (Err (halt.Exhausted next)) s all left h t counts none empty fine is = absurd h.rest
 store-whole name was mid now old new (Err halt.OutOfMemory) s all left h t counts none empty fine is = inr refl
 
-store-told : (name : List ℕ) (left : Option (List ℕ)) (was mid now : Standing) (old new : OfDisk) (r : Answer) (s : Status) → was.left ≡ left → Makes name was mid old new r → Tells (status_of_halt r) mid now s → Counts was now s
+store-told : (name : List ℕ) (left : Option (List ℕ)) (was mid now : IoState) (old new : OfDisk) (r : Answer) (s : Status) → was.left ≡ left → Makes name was mid old new r → Tells (status_of_halt r) mid now s → Counts was now s
     → IfSome left (λ all. (stored (seen all)).cause ≡ None → OnImage old.moments (λ image. length image ≡ 0) → NoneFailed was now old new → IsComplete s)
 store-told name None was mid now old new r s left h t counts = tt
 store-told name (Some all) was mid now old new r s left h t counts = λ none empty fine.
     first-answered was mid now t.failed (status_of_halt r) t.line s t.says counts fine.writes (store-whole name was mid now old new r s all left h t counts none empty fine)
 
-pub store-completes : (name : List ℕ) (was mid now : Standing) (old new : OfDisk) (r : Answer) (s : Status) → Makes name was mid old new r → Tells (status_of_halt r) mid now s → Counts was now s → StoreCompletes was now old new s
+pub store-completes : (name : List ℕ) (was mid now : IoState) (old new : OfDisk) (r : Answer) (s : Status) → Makes name was mid old new r → Tells (status_of_halt r) mid now s → Counts was now s → StoreCompletes was now old new s
 store-completes name was mid now old new r s h t counts = store-told name was.left was mid now old new r s refl h t counts

@@ -5,10 +5,10 @@ use Rattle.std.specs.Io.KnownBytes.{Appends, Consumes, IsAtEnd}
 use Rattle.std.proofs.KnownBytes.{Appends-nil, Appends-trans, Consumes-nil, Consumes-whole}
 use Rattle.std.proofs.lemmas.List.{append_cancel_left, take_all}
 use Rattle.ports.specs.Contents.{IsUsedUp}
-use Rattle.play.specs.Plays.{Standing, Lines, Runs, Starved, IsAdmitted, IsLast, bytes_of, Follows}
+use Rattle.play.specs.Plays.{Follows, IoState, IsAdmitted, IsLast, Lines, Runs, Starved, bytes_of}
 use Rattle.play.specs.declared.stop.Stop.TheVariants as stop
 use Rattle.text_trace.specs.Lines.{has_no_feed, line_bytes, seen, seen_bytes, text_lines, AreWhole, IsFed, IsNext}
-use Rattle.text_trace.specs.Trace.{Owed, Trace, Writes, Refuses}
+use Rattle.text_trace.specs.Trace.{Continuation, Trace, Writes, Refuses}
 use Rattle.text_trace.proofs.TraceLemmas.{free-as}
 use Rattle.text_trace.proofs.WholeLemmas.{whole-one, whole-join, rest-next, cut-next, fed-next}
 use Rattle.text_trace.proofs.LineLemmas.{lines_of-rest}
@@ -25,7 +25,7 @@ at-end None none = tt
 at-end (Some left) none = none
 
 -- Before the line of the cause: these bytes were taken, and a front of their trace was written.
-record Fronted {C : Type 0} (P : C → Type 0) (owed : Owed C) (was now : Standing) (result : RunEnd C) : Type 0 where
+record Fronted {C : Type 0} (P : C → Type 0) (owed : Continuation C) (was now : IoState) (result : RunEnd C) : Type 0 where
   bytes : List ℕ
   text : List ℕ
   rest : List ℕ
@@ -98,7 +98,7 @@ numbered {C} lines bytes (Some one) left line refusal whole is counted =
     let all = ap length (whole.first one ∙ ap (λ (x : List (List ℕ)). lines ++ x) (last-only one left is)) ∙ length-append lines (one ∷ []) in
     inl (omega (arith, all, counted))
 
-refused : {C : Type 0} → (owed : Owed C) (lines : List (List ℕ)) (bytes text : List ℕ) (refusal : C) (last : Option (List ℕ)) (left : Option (List ℕ))
+refused : {C : Type 0} → (owed : Continuation C) (lines : List (List ℕ)) (bytes text : List ℕ) (refusal : C) (last : Option (List ℕ)) (left : Option (List ℕ))
     → AreWhole lines bytes → IsLast last left → Refuses C (Is owed) lines last text refusal → owed (seen (bytes ++ bytes_of last)) ≡ record { output = text; cause = Some refusal }
 refused {C} owed lines bytes text refusal None left whole is refuses =
     let same : seen (bytes ++ []) ≡ lines = whole.first [] ∙ append-nil lines in
@@ -119,7 +119,7 @@ begins line rest is =
     ]
 
 -- the trace of a text that a line refuses is known, whatever stands behind the line
-refused-all : {C : Type 0} → (owed : Owed C) (lines : List (List ℕ)) (bytes text rest : List ℕ) (refusal : C) (last : Option (List ℕ))
+refused-all : {C : Type 0} → (owed : Continuation C) (lines : List (List ℕ)) (bytes text rest : List ℕ) (refusal : C) (last : Option (List ℕ))
     → AreWhole lines bytes → IsLast last (Some rest) → Refuses C (Is owed) lines last text refusal → owed (seen ((bytes ++ bytes_of last) ++ rest)) ≡ record { output = text; cause = Some refusal }
 refused-all {C} owed lines bytes text rest refusal None whole is refuses =
     let none : (bytes ++ []) ++ rest ≡ bytes ++ [] = ap (λ (behind : List ℕ). (bytes ++ []) ++ behind) is ∙ append-nil (bytes ++ []) in
@@ -131,7 +131,7 @@ refused-all {C} owed lines bytes text rest refusal (Some line) whole is refuses 
     ap seen (append_assoc bytes line rest) ∙ whole.first (line ++ rest) ∙ ap (λ (x : List (List ℕ)). lines ++ x) next.same in
     rw same (refuses owed refl next.others)
 
-pub refused-told : {C : Type 0} → (owed : Owed C) (lines : List (List ℕ)) (bytes text : List ℕ) (refusal : C) (last before after : Option (List ℕ))
+pub refused-told : {C : Type 0} → (owed : Continuation C) (lines : List (List ℕ)) (bytes text : List ℕ) (refusal : C) (last before after : Option (List ℕ))
     → Consumes before after (bytes ++ bytes_of last) → AreWhole lines bytes → IsLast last after → Refuses C (Is owed) lines last text refusal
     → IfSome before (λ all. owed (seen all) ≡ record { output = text; cause = Some refusal })
 refused-told {C} owed lines bytes text refusal last None after took whole is refuses = tt
@@ -140,11 +140,11 @@ refused-told {C} owed lines bytes text refusal last (Some all) (Some rest) took 
     rw took (refused-all owed lines bytes text rest refusal last whole is refuses)
 
 -- a front of what is owed, of which more is owed
-record OwedBehind {C : Type 0} (owed : Owed C) (bytes text : List ℕ) : Type 0 where
+record OwedBehind {C : Type 0} (owed : Continuation C) (bytes text : List ℕ) : Type 0 where
   rest : List ℕ
   same : (owed (seen bytes)).output ≡ text ++ rest
 
-abbrev behind : {C : Type 0} → (owed : Owed C) (lines : List (List ℕ)) (bytes part text : List ℕ) → AreWhole lines bytes → Writes C (Is owed) lines text → OwedBehind owed (bytes ++ part) text
+abbrev behind : {C : Type 0} → (owed : Continuation C) (lines : List (List ℕ)) (bytes part text : List ℕ) → AreWhole lines bytes → Writes C (Is owed) lines text → OwedBehind owed (bytes ++ part) text
 behind {C} owed lines bytes part text whole writes =
     let goes = writes owed refl in
     record {
@@ -152,7 +152,7 @@ behind {C} owed lines bytes part text whole writes =
       same = rw (whole.first part) (ap (λ (t : Trace C). t.output) (goes.same (seen part)));
     }
 
-follows : {C : Type 0} → (owed : Owed C) (lines : List (List ℕ)) (bytes text : List ℕ) (last : Option (List ℕ)) → AreWhole lines bytes → Follows C (Is owed) lines last text → OwedBehind owed (bytes ++ bytes_of last) text
+follows : {C : Type 0} → (owed : Continuation C) (lines : List (List ℕ)) (bytes text : List ℕ) (last : Option (List ℕ)) → AreWhole lines bytes → Follows C (Is owed) lines last text → OwedBehind owed (bytes ++ bytes_of last) text
 follows {C} owed lines bytes text None whole ends =
     let same : seen (bytes ++ []) ≡ lines = whole.first [] ∙ append-nil lines in
     record { rest = []; same = rw same (ap (λ (t : Trace C). t.output) (ends owed refl) ∙ sym (append-nil text)) }
@@ -162,7 +162,7 @@ follows {C} owed lines bytes text (Some line) whole writes =
     record { rest = more.rest; same = subst (λ (b : List ℕ). (owed (seen b)).output ≡ text ++ more.rest) (append-nil (bytes ++ line)) more.same }
 
 -- a front of a text that is owed
-shorter : {C : Type 0} → (owed : Owed C) (bytes text more : List ℕ) (count : ℕ) → OwedBehind owed bytes (text ++ more) → OwedBehind owed bytes (text ++ take count more)
+shorter : {C : Type 0} → (owed : Continuation C) (bytes text more : List ℕ) (count : ℕ) → OwedBehind owed bytes (text ++ more) → OwedBehind owed bytes (text ++ take count more)
 shorter {C} owed bytes text more count is = record {
   rest = drop count more ++ is.rest;
   same =
@@ -171,7 +171,7 @@ shorter {C} owed bytes text more count is = record {
 }
 
 -- behind whole lines and a part of a line nothing is owed, where nothing is written at the end alone
-silent : {C : Type 0} → (owed : Owed C) (lines : List (List ℕ)) (part text : List ℕ) (writes : Writes C (Is owed) lines text) → has_no_feed part ≡ true → length part ≤ line_bytes → EndsSilently owed
+silent : {C : Type 0} → (owed : Continuation C) (lines : List (List ℕ)) (part text : List ℕ) (writes : Writes C (Is owed) lines text) → has_no_feed part ≡ true → length part ≤ line_bytes → EndsSilently owed
     → ((writes owed refl).later (seen part)).output ≡ []
 silent {C} owed lines [] text writes clear short quiet =
     let goes = writes owed refl in
@@ -191,7 +191,7 @@ no-front [] rest none = refl
 no-front (b ∷ front) rest none = cc
 
 -- where nothing is written before the end of a text, no whole lines have a trace
-nothing-early : {C : Type 0} → (owed : Owed C) (lines : List (List ℕ)) (text : List ℕ) → Writes C (Is owed) lines text → SpeaksAtEnd owed → text ≡ []
+nothing-early : {C : Type 0} → (owed : Continuation C) (lines : List (List ℕ)) (text : List ℕ) → Writes C (Is owed) lines text → SpeaksAtEnd owed → text ≡ []
 nothing-early {C} owed lines text writes late =
     let goes = writes owed refl in
     let one : List (List ℕ) = (97 ∷ []) ∷ [] in
@@ -199,7 +199,7 @@ nothing-early {C} owed lines text writes late =
     no-front text (goes.later one).output (sym long ∙ late lines (97 ∷ []) refl)
 
 -- whole lines and a part of a line, where a read failed
-unread : {C : Type 0} → (owed : Owed C) (lines : List (List ℕ)) (bytes part text : List ℕ) → AreWhole lines bytes → has_no_feed part ≡ true → Writes C (Is owed) lines text → IsUnread owed (bytes ++ part) text
+unread : {C : Type 0} → (owed : Continuation C) (lines : List (List ℕ)) (bytes part text : List ℕ) → AreWhole lines bytes → has_no_feed part ≡ true → Writes C (Is owed) lines text → IsUnread owed (bytes ++ part) text
 unread {C} owed lines bytes part text whole clear writes =
     let same = sym (seen-whole lines bytes whole) in
     record {
@@ -212,15 +212,15 @@ unread {C} owed lines bytes part text whole clear writes =
     }
 
 -- nothing was taken or written
-unmoved : {C : Type 0} → (P : C → Type 0) (owed : Owed C) (was now : Standing) → now ≡ was → Fronted P owed was now (Err stop.OutOfMemory)
+unmoved : {C : Type 0} → (P : C → Type 0) (owed : Continuation C) (was now : IoState) → now ≡ was → Fronted P owed was now (Err stop.OutOfMemory)
 unmoved {C} P owed was now same = record {
   bytes = [];
   text = [];
   rest = (owed (seen [])).output;
-  read = subst (λ (n : Standing). Consumes was.left n.left []) (sym same) (Consumes-nil was.left);
+  read = subst (λ (n : IoState). Consumes was.left n.left []) (sym same) (Consumes-nil was.left);
   few = lit≤ tt;
   number = tt;
-  wrote = subst (λ (n : Standing). Appends was.taken n.taken []) (sym same) (Appends-nil was.taken);
+  wrote = subst (λ (n : IoState). Appends was.taken n.taken []) (sym same) (Appends-nil was.taken);
   front = refl;
   whole = tt;
   refused = tt;
@@ -229,7 +229,7 @@ unmoved {C} P owed was now same = record {
   first = inl refl;
 }
 
-admitted : {C : Type 0} → (P : C → Type 0) (owed : Owed C) (lines : List (List ℕ)) (bytes : List ℕ) (last left : Option (List ℕ)) → AreWhole lines bytes → IsAdmitted C P (Is owed) lines last left → AreUnrefused P owed (bytes ++ bytes_of last) ⊎ IsUnrefusedText owed (bytes ++ bytes_of last) left
+admitted : {C : Type 0} → (P : C → Type 0) (owed : Continuation C) (lines : List (List ℕ)) (bytes : List ℕ) (last left : Option (List ℕ)) → AreWhole lines bytes → IsAdmitted C P (Is owed) lines last left → AreUnrefused P owed (bytes ++ bytes_of last) ⊎ IsUnrefusedText owed (bytes ++ bytes_of last) left
 admitted {C} P owed lines bytes None left whole is =
     let same : seen (bytes ++ []) ≡ lines = whole.first [] ∙ append-nil lines in
     inr (record { used_up = is.0; none = rw same (is.1 owed refl) })
@@ -243,11 +243,11 @@ admitted {C} P owed lines bytes (Some line) left whole is =
           (is.1 owed refl);
     })
 
-upto-admitted : {C : Type 0} → (P : C → Type 0) (owed : Owed C) (lines : List (List ℕ)) (last left : Option (List ℕ)) → IsAdmitted C P (Is owed) lines last left → IsUpToLine (bytes_of last)
+upto-admitted : {C : Type 0} → (P : C → Type 0) (owed : Continuation C) (lines : List (List ℕ)) (last left : Option (List ℕ)) → IsAdmitted C P (Is owed) lines last left → IsUpToLine (bytes_of last)
 upto-admitted {C} P owed lines None left is = inl (refl, lit≤ tt)
 upto-admitted {C} P owed lines (Some line) left is = inr is.0
 
-starved : {C : Type 0} → (P : C → Type 0) (owed : Owed C) (was now : Standing) → Starved C P (Is owed) text_lines was now → Fronted P owed was now (Err stop.OutOfMemory)
+starved : {C : Type 0} → (P : C → Type 0) (owed : Continuation C) (was now : IoState) → Starved C P (Is owed) text_lines was now → Fronted P owed was now (Err stop.OutOfMemory)
 starved {C} P owed was now stood =
     let more = behind owed stood.lines stood.bytes (bytes_of stood.last) stood.text stood.taken.whole stood.writes in
     record {
@@ -266,7 +266,7 @@ starved {C} P owed was now stood =
       first = inr (admitted P owed stood.lines stood.bytes stood.last now.left stood.taken.whole stood.admitted);
     }
 
-fronted : {C : Type 0} → (P : C → Type 0) (owed : Owed C) (was now : Standing) (result : RunEnd C) → Runs C P (Is owed) text_lines was now result → Fronted P owed was now result
+fronted : {C : Type 0} → (P : C → Type 0) (owed : Continuation C) (was now : IoState) (result : RunEnd C) → Runs C P (Is owed) text_lines was now result → Fronted P owed was now result
 fronted {C} P owed was now (Ok _) stood = record {
   bytes = stood.bytes;
   text = stood.text;
@@ -337,7 +337,7 @@ fronted {C} P owed was now (Err stop.WriteFault) stood =
     }
 fronted {C} P owed was now (Err stop.OutOfMemory) stood = elim stood [ inl same ↦ unmoved P owed was now same | inr wanting ↦ starved P owed was now wanting ]
 
-pub traced : {C : Type 0} → (P : C → Type 0) (refusal : ℕ → C → Status) (owed : Owed C) (was now : Standing) (s : Status) → EndsBy P refusal owed was now s → TracedBy P refusal owed was now s
+pub traced : {C : Type 0} → (P : C → Type 0) (refusal : ℕ → C → Status) (owed : Continuation C) (was now : IoState) (s : Status) → EndsBy P refusal owed was now s → TracedBy P refusal owed was now s
 traced {C} P refusal owed was now s ends =
     let f = fronted P owed was ends.between ends.result ends.runs in
     let t = ends.tells in

@@ -1,16 +1,16 @@
 -- What holds of each command, from how its run ended.
 use Rattle.std.proofs.Common.{◌≡◌, ◌≢◌, Bool, true, false, List, ℕ, sym, ◌∙◌, ap, inl, Result, Ok, Err}
-use Rattle.play.specs.Plays.{Standing}
+use Rattle.play.specs.Plays.{IoState}
 use Rattle.play.specs.declared.stop.Stop.TheVariants as stop
-use Rattle.text_trace.specs.Trace.{Every, Owed}
+use Rattle.text_trace.specs.Trace.{Every, Continuation}
 use Rattle.world_replay.specs.Causes.{IsJudged}
-use Rattle.any_replay.specs.Replayed.{replayed}
+use Rattle.command_line.specs.Replayed.{replayed}
 use Rattle.verifier.specs.Answered.{verified}
 use Rattle.authority.specs.declared.halt.Halt.{Halt}
 use Rattle.authority.specs.declared.halt.Halt.TheVariants as halt
-use Rattle.authority.specs.OfDisk.{OfDisk}
+use Rattle.ports.specs.Outside.{OfDisk}
 use Rattle.command_line.specs.Causes.{RunEnd, Says, for_cause, for_word, status_by, status_of_halt}
-use Rattle.command_line.specs.Ends.{Counts, DiskCounts, DiskCountsAs, EndsBy, Wires, as_run}
+use Rattle.command_line.specs.Ends.{Counts, DiskCounts, DiskCountsAs, EndsBy, NetState}
 use Rattle.command_line.specs.EndsAs.{EndsAs}
 use Rattle.command_line.specs.TracedAs.{CompletesAs, TracedAs}
 use Rattle.command_line.specs.Traced.{Completes, TracedBy}
@@ -33,7 +33,7 @@ use Rattle.command_line.specs.declared.status.Status.{Status}
 use Rattle.command_line.specs.declared.status.Status.TheVariants as status
 
 -- what holds of a run of the command
-pub record AllOf (c : Command) (was now : Standing) (old new : OfDisk) (before : Wires) (s : Status) : Type 0 where
+pub record AllOf (c : Command) (was now : IoState) (old new : OfDisk) (before : NetState) (s : Status) : Type 0 where
   pub command : s ≢ status.Usage
   pub traced : TracedAs c was now old new s
   pub complete : CompletesAs c was now old new s
@@ -54,19 +54,19 @@ text-faults refusal old new (Err stop.ReadFault) are same = ap (λ d. d.faults) 
 text-faults refusal old new (Err stop.WriteFault) are same = inl (ap (λ d. d.faults) same)
 text-faults refusal old new (Err stop.OutOfMemory) are same = ap (λ d. d.faults) same
 
-text-disk : {C : Type 0} → (P : C → Type 0) (refusal : ℕ → C → Status) (owed : Owed C) (was now : Standing) (old new : OfDisk) (s : Status) → AreRefusals refusal → EndsBy P refusal owed was now s → new ≡ old → DiskCounts old new s
+text-disk : {C : Type 0} → (P : C → Type 0) (refusal : ℕ → C → Status) (owed : Continuation C) (was now : IoState) (old new : OfDisk) (s : Status) → AreRefusals refusal → EndsBy P refusal owed was now s → new ≡ old → DiskCounts old new s
 text-disk P refusal owed was now old new s are e same =
     or-cut e.tells.failed (status_by refusal e.result) e.tells.line s e.tells.says (DiskCounts old new) (text-faults refusal old new e.result are same) (inl (ap (λ d. d.faults) same))
 
 -- what holds of a run over a text
-record OfText {C : Type 0} (P : C → Type 0) (refusal : ℕ → C → Status) (owed : Owed C) (was now : Standing) (old new : OfDisk) (s : Status) : Type 0 where
+record OfText {C : Type 0} (P : C → Type 0) (refusal : ℕ → C → Status) (owed : Continuation C) (was now : IoState) (old new : OfDisk) (s : Status) : Type 0 where
   command : s ≢ status.Usage
   traced_by : TracedBy P refusal owed was now s
   complete : Completes owed was now s
   counts : Counts was now s
   faults : DiskCounts old new s
 
-of-text : {C : Type 0} → (P : C → Type 0) (refusal : ℕ → C → Status) (owed : Owed C) (was now : Standing) (old new : OfDisk) (s : Status) → AreRefusals refusal → EndsBy P refusal owed was now s → new ≡ old → OfText P refusal owed was now old new s
+of-text : {C : Type 0} → (P : C → Type 0) (refusal : ℕ → C → Status) (owed : Continuation C) (was now : IoState) (old new : OfDisk) (s : Status) → AreRefusals refusal → EndsBy P refusal owed was now s → new ≡ old → OfText P refusal owed was now old new s
 of-text P refusal owed was now old new s are e same =
     let t = traced P refusal owed was now s e in
     let n = ends-counts P refusal owed was now s are e in
@@ -94,7 +94,7 @@ halt-command : (failed : Bool) (r : Result (Unit {0}) Halt) (line : List ℕ) (s
 halt-command false r line s says e = halt-used r (sym says.0 ∙ e)
 halt-command true r line s says e = let same : status.WriteFault ≡ status.Usage = sym says.0 ∙ e in cc
 
-pub all-of : (c : Command) (name : List ℕ) (was now : Standing) (old new : OfDisk) (before after : Wires) (s : Status) → EndsAs c name was now old new before after s → AllOf c was now old new before s
+pub all-of : (c : Command) (name : List ℕ) (was now : IoState) (old new : OfDisk) (before after : NetState) (s : Status) → EndsAs c name was now old new before after s → AllOf c was now old new before s
 all-of Replay name was now old new before after s h =
     let t = of-text IsJudged for_cause replayed was now old new s for-causes h.0 h.1 in
     record { command = t.command; traced = t.traced_by; complete = t.complete; upholds = headline was now s h.0; counts = t.counts; faults = t.faults }
@@ -122,14 +122,14 @@ all-of Enroll name was now old new before after s h =
       faults = enroll-disk name was h.between now old new h.result s h.stands h.tells;
     }
 all-of (Node turns) name was now old new before after s h =
-    let n = node-counts was h.between now (as_run old) (as_run new) h.result s h.takes h.tells in
+    let n = node-counts was h.between now old new h.result s h.takes h.tells in
     record {
       command = node-command h.tells.failed h.result h.tells.line s h.tells.says;
-      traced = node-traced was h.between now (as_run old) (as_run new) h.result s h.takes h.tells;
+      traced = node-traced was h.between now old new h.result s h.takes h.tells;
       complete = node-completes was h.between now old new h.result s h.takes h.store_fault h.cause h.tells n;
       upholds = node-upholds turns was h.between now old new before h.result s h.takes h.removals h.spends h.tells;
       counts = n;
-      faults = node-disk was h.between now old new h.result s h.takes h.calm h.store_fault h.tells;
+      faults = node-disk was h.between now old new h.result s h.takes h.no_disk_fault h.store_fault h.tells;
     }
 all-of (Soak seed members rounds) name was now old new before after s h = record {
   command = soak-command seed members rounds was now s h.0;

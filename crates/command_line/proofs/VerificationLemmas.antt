@@ -2,7 +2,7 @@
 use Rattle.std.proofs.Common.{◌≡◌, ℕ, Bool, true, false, List, [], ◌∷◌, Some, Result, Ok, Err, refl, sym, ◌∙◌}
 use Rattle.line_text.specs.declared.bad_word.BadWord.{BadWord}
 use Rattle.line_text.specs.Answers.{Progress}
-use Rattle.play.specs.Plays.{Standing}
+use Rattle.play.specs.Plays.{IoState}
 use Rattle.play.specs.declared.stop.Stop.TheVariants as stop
 use Rattle.text_trace.specs.Lines.{seen}
 use Rattle.text_trace.specs.Trace.{Every, Trace}
@@ -48,14 +48,14 @@ refused-silent [] p a w is = refused-end (is_ended p.form) a w is
 refused-silent (bytes ∷ lines) p a w is =
     refused-judged (judge p bytes) (λ l. answered (behind p l) (asked_after a l) lines) (λ l. refused-silent lines (behind p l) (asked_after a l)) w is
 
-silent : (was now : Standing) (s : Status) (r : RunEnd BadWord) (t : Traced verified was now s) → IsCause (verified (seen t.bytes)).cause r → IsEarly verified t.text r → OnStopped r (t.text ≡ [])
+silent : (was now : IoState) (s : Status) (r : RunEnd BadWord) (t : Traced verified was now s) → IsCause (verified (seen t.bytes)).cause r → IsEarly verified t.text r → OnStopped r (t.text ≡ [])
 silent was now s (Ok _) t refused early = tt
 silent was now s (Err (stop.Refused line word)) t refused early = no-front t.text t.rest (sym t.front ∙ refused-silent (seen t.bytes) opening asked.Nothing word refused)
 silent was now s (Err stop.ReadFault) t refused early = early late
 silent was now s (Err stop.WriteFault) t refused early = tt
 silent was now s (Err stop.OutOfMemory) t refused early = early late
 
-pub verification : (was now : Standing) (s : Status) → Ends verified was now s → Verification was now s
+pub verification : (was now : IoState) (s : Status) → Ends verified was now s → Verification was now s
 verification was now s ends =
     let t = traced Every for_word verified was now s ends in
     record { trace = t; silent = silent was now s t.result t t.refused t.early }

@@ -4,21 +4,20 @@ use Rattle.std.specs.Io.KnownBytes.{Appends}
 use Rattle.line_text.specs.declared.bad_word.BadWord.{BadWord}
 use Rattle.ports.specs.Count.{Rose, counted, next_count}
 use Rattle.ports.specs.Link.{LinkState}
+use Rattle.ports.specs.Outside.{OfClock, OfDisk, OfLink}
 use Rattle.play.specs.Plays as plays
-use Rattle.play.specs.Plays.{Standing, Unfailed}
+use Rattle.play.specs.Plays.{IoState, Unfailed}
 use Rattle.text_trace.specs.Lines.{text_lines}
-use Rattle.text_trace.specs.Trace.{Every, Owed}
+use Rattle.text_trace.specs.Trace.{Every, Continuation}
 use Rattle.authority.specs.declared.halt.Halt.{Halt}
-use Rattle.authority.specs.OfDisk.{OfDisk}
-use Rattle.store_making.specs.Making.{Makes}
-use Rattle.enrolment.specs.Enrolling.{Enrols}
-use Rattle.node_running.specs.declared.halt.NodeHalt.{NodeHalt}
-use Rattle.node_running.specs.declared.halt.NodeHalt.TheVariants as node
-use Rattle.node_running.specs.Journal.{around}
-use Rattle.node_running.specs.Opening as opening
-use Rattle.node_running.specs.Removals.{RemovalsRest}
-use Rattle.node_running.specs.Running.{Feed, IsCaused, Runs, Takes}
-use Rattle.node_running.specs.Spendings.{Spends}
+use Rattle.authority.specs.Making.{Makes}
+use Rattle.authority.specs.Enrolling.{Enrols}
+use Rattle.node_command.specs.declared.halt.NodeHalt.{NodeHalt}
+use Rattle.node_command.specs.declared.halt.NodeHalt.TheVariants as node
+use Rattle.node_command.specs.Journal.{environment}
+use Rattle.node_command.specs.Removals.{RemovalsRest}
+use Rattle.node_command.specs.Running.{NetInputs, IsCaused, Runs, Takes}
+use Rattle.node_command.specs.Spendings.{Spends}
 use Rattle.command_line.specs.Causes.{RunEnd, Says, for_word, status_by, status_of_halt, status_of_node}
 use Rattle.command_line.specs.declared.command.Command.{Command}
 use Rattle.command_line.specs.declared.command.Command.TheVariants.{Node}
@@ -26,11 +25,11 @@ use Rattle.command_line.specs.declared.status.Status.{Status}
 use Rattle.command_line.specs.declared.status.Status.TheVariants as status
 
 -- Just this is owed.
-abbrev pub Is : {C : Type 0} → Owed C → Owed C → Type 0
+abbrev pub Is : {C : Type 0} → Continuation C → Continuation C → Type 0
 Is owed f = f ≡ owed
 
 -- A run that stopped for the first status says so and no more, and answers this status; a write of the line may fail.
-pub record Tells (first : Status) (was now : Standing) (s : Status) : Type 0 where
+pub record Tells (first : Status) (was now : IoState) (s : Status) : Type 0 where
   pub failed : Bool
   pub line : List ℕ
   pub says : Says failed first line s
@@ -42,71 +41,67 @@ pub record Tells (first : Status) (was now : Standing) (s : Status) : Type 0 whe
 -- A run over a text that owes this ends so: the loop stopped for a first cause, or came to the end, and the line of that
 -- cause is the last that is written. A line that is refused has this status; memory is refused for none that a cause refuses
 -- of which P holds.
-pub record EndsBy {C : Type 0} (P : C → Type 0) (refusal : ℕ → C → Status) (owed : Owed C) (was now : Standing) (s : Status) : Type 0 where
+pub record EndsBy {C : Type 0} (P : C → Type 0) (refusal : ℕ → C → Status) (owed : Continuation C) (was now : IoState) (s : Status) : Type 0 where
   pub result : RunEnd C
-  pub between : Standing
+  pub between : IoState
   pub runs : plays.Runs C P (Is owed) text_lines was between result
   pub tells : Tells (status_by refusal result) between now s
 
 -- The same where a line is refused for a bad word alone.
-abbrev pub Ends : Owed BadWord → Standing → Standing → Status → Type 0
+abbrev pub Ends : Continuation BadWord → IoState → IoState → Status → Type 0
 Ends owed was now s = EndsBy Every for_word owed was now s
 
 -- A command of an authority ended for some answer, with P of how it then stood; and the line of its cause is the last that
 -- is written.
-pub record HaltEnds (P : Standing → Result (Unit {0}) Halt → Type 0) (now : Standing) (s : Status) : Type 0 where
+pub record HaltEnds (P : IoState → Result (Unit {0}) Halt → Type 0) (now : IoState) (s : Status) : Type 0 where
   pub result : Result (Unit {0}) Halt
-  pub between : Standing
+  pub between : IoState
   pub stands : P between result
   pub tells : Tells (status_of_halt result) between now s
 
 -- How the making of a store ends, and an enrolment.
-abbrev pub StoreEnds : List ℕ → Standing → Standing → OfDisk → OfDisk → Status → Type 0
+abbrev pub StoreEnds : List ℕ → IoState → IoState → OfDisk → OfDisk → Status → Type 0
 StoreEnds name was now old new s = HaltEnds (λ between result. Makes name was between old new result) now s
 
-abbrev pub EnrollEnds : List ℕ → Standing → Standing → OfDisk → OfDisk → Status → Type 0
+abbrev pub EnrollEnds : List ℕ → IoState → IoState → OfDisk → OfDisk → Status → Type 0
 EnrollEnds name was now old new s = HaltEnds (λ between result. Enrols name was between old new result) now s
 
 -- What a node is served over: what the link holds and how often it failed, the clock's last reading and those to come.
-pub record Wires : Type 0 where
+pub record NetState : Type 0 where
   pub contents : Option LinkState
   pub faults : ℕ
   pub reading : ℕ
   pub readings : Option (List ℕ)
 
-abbrev pub wires : Option LinkState → ℕ → ℕ → Option (List ℕ) → Wires
-wires contents faults reading readings = record { contents = contents; faults = faults; reading = reading; readings = readings }
+abbrev pub net_state : OfLink → OfClock → NetState
+net_state link clock = record { contents = link.contents; faults = link.faults; reading = clock.reading; readings = clock.coming }
 
--- a disk as a node's run tells it: all but its calls
-abbrev pub as_run : OfDisk → opening.OfDisk
-as_run d = opening.of_disk d.faults d.moments
-
--- What the run of a member took, wrote, did and left, where link and clock tell.
-abbrev pub RunsFed : ℕ → Standing → Standing → OfDisk → OfDisk → Wires → Wires → Result (Unit {0}) NodeHalt → Type 0
+-- What the run of a member took, wrote, did and left, where link and clock are modelled.
+abbrev pub RunsFed : ℕ → IoState → IoState → OfDisk → OfDisk → NetState → NetState → Result (Unit {0}) NodeHalt → Type 0
 RunsFed turns was between old new before after result =
-    (feed : Feed) → before.contents ≡ Some feed.link → before.readings ≡ Some feed.readings → before.reading ≡ feed.reading → turns ≡ feed.turns
-    → Runs feed was between (around was.taken before.contents (as_run old)) (around between.taken after.contents (as_run new)) result
+    (feed : NetInputs) → before.contents ≡ Some feed.link → before.readings ≡ Some feed.readings → before.reading ≡ feed.reading → turns ≡ feed.turns
+    → Runs feed was between (environment was.taken before.contents old) (environment between.taken after.contents new) result
 
--- What the removals rest on that the run of a member has written, where link and clock tell.
-abbrev pub RestsFed : ℕ → Standing → Standing → OfDisk → Wires → Result (Unit {0}) NodeHalt → Type 0
+-- What the removals rest on that the run of a member has written, where link and clock are modelled.
+abbrev pub RestsFed : ℕ → IoState → IoState → OfDisk → NetState → Result (Unit {0}) NodeHalt → Type 0
 RestsFed turns was between old before result =
-    (feed : Feed) → before.contents ≡ Some feed.link → before.readings ≡ Some feed.readings → before.reading ≡ feed.reading → turns ≡ feed.turns
-    → RemovalsRest feed was between (as_run old) result
+    (feed : NetInputs) → before.contents ≡ Some feed.link → before.readings ≡ Some feed.readings → before.reading ≡ feed.reading → turns ≡ feed.turns
+    → RemovalsRest feed was between old result
 
 -- What it has spent.
-abbrev pub SpendsFed : ℕ → Standing → OfDisk → OfDisk → Wires → Type 0
+abbrev pub SpendsFed : ℕ → IoState → OfDisk → OfDisk → NetState → Type 0
 SpendsFed turns was old new before =
-    (feed : Feed) → before.contents ≡ Some feed.link → before.readings ≡ Some feed.readings → before.reading ≡ feed.reading → turns ≡ feed.turns
-    → Spends was (as_run old) (as_run new)
+    (feed : NetInputs) → before.contents ≡ Some feed.link → before.readings ≡ Some feed.readings → before.reading ≡ feed.reading → turns ≡ feed.turns
+    → Spends was old new
 
 -- How the run of a member ends: it ended for some answer, and the line of its cause is the last that is written. What it took
--- of its text, and which side failed, is said whatever link and clock tell.
-pub record NodeEnds (turns : ℕ) (was now : Standing) (old new : OfDisk) (before after : Wires) (s : Status) : Type 0 where
+-- of its text, and which side failed, is said whether or not link and clock are modelled.
+pub record NodeEnds (turns : ℕ) (was now : IoState) (old new : OfDisk) (before after : NetState) (s : Status) : Type 0 where
   pub result : Result (Unit {0}) NodeHalt
-  pub between : Standing
-  pub takes : Takes was between (as_run old) (as_run new) result
-  pub cause : IsCaused was (as_run old) (as_run new) result
-  pub calm : OnOk result (new.faults ≡ old.faults)
+  pub between : IoState
+  pub takes : Takes was between old new result
+  pub cause : IsCaused was old new result
+  pub no_disk_fault : OnOk result (new.faults ≡ old.faults)
   pub store_fault : IfErr result (λ h. h ≡ node.StoreFault → Rose old.faults new.faults)
   pub link_fault : IfErr result (λ h. h ≡ node.LinkFault → after.faults ≡ next_count before.faults)
   pub runs : RunsFed turns was between old new before after result
@@ -140,7 +135,7 @@ FaultsAs (Some command) old new s = DiskCountsAs command old new s
 
 -- The counts of faults after a run: a cause that is no fault leaves both, a fault raises its own by one. Where the line
 -- of a read fault can't be written, both rise.
-abbrev pub Counts : Standing → Standing → Status → Type 0
+abbrev pub Counts : IoState → IoState → Status → Type 0
 Counts was now status.ReadFault = (now.read_faults ≡ next_count was.read_faults) × (now.write_faults ≡ was.write_faults)
 Counts was now status.WriteFault =
     ((now.read_faults ≡ was.read_faults) ⊎ (now.read_faults ≡ next_count was.read_faults)) × (now.write_faults ≡ next_count was.write_faults)

@@ -1,22 +1,22 @@
 -- What a replay upholds: what the removals that it took and wrote rest on, and what an accepted note rules out; of a schedule
 -- of a world, what no liar brought about.
 use Rattle.std.specs.Prelude.{◌≡◌, ℕ, Bool, true, false, List, [], ◌++◌, Ok, Err}
-use Rattle.play.specs.Plays.{Standing}
+use Rattle.play.specs.Plays.{IoState}
 use Rattle.play.specs.declared.stop.Stop.TheVariants as stop
 use Rattle.signer.specs.Lives.{IsRising}
 use Rattle.text_trace.specs.Lines.{seen}
 use Rattle.trace.specs.Lives.{IsJustifiedWalk}
-use Rattle.trace.specs.Replies.{EndsAcceptance, RuleOut}
+use Rattle.trace.specs.Replies.{NoteRevokes, NoteSupersedes}
 use Rattle.trace.specs.Walk.{walk_over}
 use Rattle.trace.specs.Written.{IsJustified, IsTold}
 use Rattle.world_rules.specs.Forgeries.{Forgery}
 use Rattle.world_laws.specs.Flows.{flowed_in}
 use Rattle.world_laws.specs.Texts.{IsComeTo, IsForgedAt, IsLawfulStage}
-use Rattle.world_trace.specs.Written.{GivesAll, GivesTold, told_in, world_walk}
+use Rattle.command_line.specs.WorldWritten.{GivesAll, GivesTold, told_in, world_walk}
 use Rattle.world_replay.specs.declared.cause.Cause.{Cause}
 use Rattle.world_replay.specs.declared.cause.Cause.TheVariants as causes
 use Rattle.world_replay.specs.Causes.{IsJudged}
-use Rattle.any_replay.specs.Replayed.{is_world, replayed}
+use Rattle.command_line.specs.Replayed.{is_world, replayed}
 use Rattle.command_line.specs.Causes.{RunEnd, for_cause}
 use Rattle.command_line.specs.Traced.{TracedBy}
 use Rattle.command_line.specs.declared.status.Status.{Status}
@@ -31,14 +31,14 @@ OnWhole (Err stop.OutOfMemory) P = Unit {0}
 
 -- A text of the direct form. Each whole line that was written, and each event of what was taken, that gives a removal is the
 -- report of a tick of a life, and rests on an accusation that was accepted in it and stood in each state between, for the
--- timeout; and each removal of a life is told. Behind an accepted note no older accusation is accepted or expires in that
+-- timeout; and each removal of a life is reported. Behind an accepted note no older accusation is accepted or expires in that
 -- life, and one that it answers expires only where it was accepted again, and stood for the timeout since.
 pub record DirectHeadline (lines : List (List ℕ)) (text line : List ℕ) (result : RunEnd Cause) : Type 0 where
   pub written : IsJustified lines (text ++ line)
   pub taken : IsJustifiedWalk (walk_over lines)
   pub told : OnWhole result (IsTold lines text)
-  pub rule_out : RuleOut (walk_over lines)
-  pub ends_acceptance : EndsAcceptance (walk_over lines)
+  pub rule_out : NoteSupersedes (walk_over lines)
+  pub ends_acceptance : NoteRevokes (walk_over lines)
 
 -- P of what a line handed over that is forged, where that stopped the run.
 abbrev pub OnForged : RunEnd Cause → (Forgery → Type 0) → Type 0
@@ -49,11 +49,11 @@ OnForged (Err stop.WriteFault) P = Unit {0}
 OnForged (Err stop.OutOfMemory) P = Unit {0}
 OnForged (Ok _) P = Unit {0}
 
--- A schedule of a world. The lines that were taken lead to a world, none of them is forged, and what its nodes told is as no
+-- A schedule of a world. The lines that were taken lead to a world, none of them is forged, and what its nodes reported is as no
 -- liar can help: each removal rests on a verified accusation that stood for the timeout, and each key spends once. Flows hand
 -- over each datagram at most once. What is named as forged is handed over by a line that ends so in this world, and verifies
--- under a key that never signed it. Each whole line that was written that gives an event gives one that was told, and each
--- event that was told is written.
+-- under a key that never signed it. Each whole line that was written that gives an event gives one that was reported, and each
+-- event that was reported is written.
 pub record WorldHeadline (lines : List (List ℕ)) (text line : List ℕ) (result : RunEnd Cause) : Type 0 where
   pub played : IsComeTo (world_walk lines).stage (told_in lines)
   pub lawful : IsLawfulStage (world_walk lines).stage (told_in lines)
@@ -68,7 +68,7 @@ HeadlineAs true lines text line result = WorldHeadline lines text line result
 HeadlineAs false lines text line result = DirectHeadline lines text line result
 
 -- Of the text that was taken, what was written of its trace, and the line of the cause behind it.
-pub record Headline (was now : Standing) (s : Status) : Type 0 where
+pub record Headline (was now : IoState) (s : Status) : Type 0 where
   pub trace : TracedBy IsJudged for_cause replayed was now s
   pub whole : OnWhole trace.result (trace.rest ≡ [])
   pub upheld : HeadlineAs (is_world (seen trace.bytes)) (seen trace.bytes) trace.text trace.line trace.result

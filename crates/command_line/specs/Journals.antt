@@ -1,31 +1,31 @@
 -- What the run of a member upholds of the journal that it writes.
 use Rattle.std.specs.Prelude.{◌≡◌, ℕ, List, Some}
 use Rattle.std.specs.Io.KnownBytes.{Appends}
-use Rattle.play.specs.Plays.{Standing}
+use Rattle.play.specs.Plays.{IoState}
 use Rattle.trace.specs.Written.{IsLineOf}
-use Rattle.authority.specs.OfDisk.{OfDisk}
-use Rattle.node_running.specs.Removals.{IsReported, removal_line}
-use Rattle.node_running.specs.Running.{Feed}
-use Rattle.node_running.specs.Spendings.{Spends}
-use Rattle.command_line.specs.Ends.{Wires, as_run}
+use Rattle.ports.specs.Outside.{OfDisk}
+use Rattle.node_command.specs.Removals.{IsReported, removal_line}
+use Rattle.node_command.specs.Running.{NetInputs}
+use Rattle.node_command.specs.Spendings.{Spends}
+use Rattle.command_line.specs.Ends.{NetState}
 use Rattle.command_line.specs.Serving.{NodeUpheld}
 use Rattle.command_line.specs.declared.status.Status.{Status}
 
 -- Each whole line that was written, the line of a cause among them, and that gives a removal: the life reports it by a tick of
 -- one of its turns, and it rests on an accusation.
-pub record JournalRests (feed : Feed) (was now : Standing) (old : OfDisk) : Type 0 where
+pub record JournalRests (feed : NetInputs) (was now : IoState) (old : OfDisk) : Type 0 where
   pub bytes : List ℕ
   pub written : Appends was.taken now.taken bytes
-  pub rests : (moment m : ℕ) → IsLineOf (removal_line moment m) bytes → IsReported was (as_run old) feed (removal_line moment m)
+  pub rests : (moment m : ℕ) → IsLineOf (removal_line moment m) bytes → IsReported was old feed (removal_line moment m)
 
--- P of what link and clock tell, and how many turns are run, where they tell.
-abbrev pub OnFeed : ℕ → Wires → (Feed → Type 0) → Type 0
+-- P of what link and clock hold, and how many turns are run, where they are modelled.
+abbrev pub OnFeed : ℕ → NetState → (NetInputs → Type 0) → Type 0
 OnFeed turns before P =
-    (feed : Feed) → before.contents ≡ Some feed.link → before.readings ≡ Some feed.readings → before.reading ≡ feed.reading → turns ≡ feed.turns → P feed
+    (feed : NetInputs) → before.contents ≡ Some feed.link → before.readings ≡ Some feed.readings → before.reading ≡ feed.reading → turns ≡ feed.turns → P feed
 
 -- The headline for a member's run, under every status: what its removals rest on, and that it spends each index once, each epoch
 -- too, from those on that its store had.
-pub record NodeUpholds (turns : ℕ) (was now : Standing) (old new : OfDisk) (before : Wires) (s : Status) : Type 0 where
+pub record NodeUpholds (turns : ℕ) (was now : IoState) (old new : OfDisk) (before : NetState) (s : Status) : Type 0 where
   pub untouched : NodeUpheld was now old new s
   pub removals : OnFeed turns before (λ feed. JournalRests feed was now old)
-  pub spends : OnFeed turns before (λ feed. Spends was (as_run old) (as_run new))
+  pub spends : OnFeed turns before (λ feed. Spends was old new)

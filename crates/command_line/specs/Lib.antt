@@ -14,3 +14,8 @@ pub mod Journals
 pub mod Verification
 pub mod Upheld
 pub mod Starts
+pub mod Replayed
+pub mod ReplayAnswers
+pub mod ReplayOwing
+pub mod ReplayLaws
+pub mod WorldWritten

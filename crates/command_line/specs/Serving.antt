@@ -1,14 +1,14 @@
 -- What was taken of a member's text, and what was written beside the journal of its life.
 use Rattle.std.specs.Prelude.{◌≡◌, ◌≤◌, ℕ, Bool, List, length, Option, None, IfSome, Ok}
 use Rattle.std.specs.Io.KnownBytes.{Appends, Consumes}
-use Rattle.play.specs.Plays.{Standing}
+use Rattle.play.specs.Plays.{IoState}
 use Rattle.ports.specs.Contents.{IsUsedUp}
-use Rattle.schedule_kit.specs.declared.kit.KitText.TheVariants as kit
-use Rattle.schedule_kit.specs.declared.line.KitLine.{KitLine}
+use Rattle.schedule_texts.specs.declared.kit.KitText.TheVariants as kit
+use Rattle.schedule_texts.specs.declared.kit_line.KitLine.{KitLine}
 use Rattle.text_trace.specs.Lines.{seen, text_lines}
 use Rattle.whole_text.specs.Gathered.{lines_from, nothing, owed_whole, unread}
-use Rattle.authority.specs.OfDisk.{OfDisk}
-use Rattle.node_running.specs.Members.{kit_judging}
+use Rattle.ports.specs.Outside.{OfDisk}
+use Rattle.node_command.specs.Members.{kit_judging}
 use Rattle.command_line.specs.Causes.{Says, cause_line}
 use Rattle.command_line.specs.Traced.{Traced}
 use Rattle.command_line.specs.declared.status.Status.{Status}
@@ -25,7 +25,7 @@ IsBehindText _ = Unit {0}
 
 -- The whole text of a member was taken, none of whose lines is refused; the line of the first cause was written last, or a front
 -- of it where a write failed.
-pub record TakenWhole (was now : Standing) (s : Status) : Type 0 where
+pub record TakenWhole (was now : IoState) (s : Status) : Type 0 where
   pub cause : Status
   pub failed : Bool
   pub bytes : List ℕ
@@ -40,7 +40,7 @@ pub record TakenWhole (was now : Standing) (s : Status) : Type 0 where
   pub are : lines_from kit_judging (unread kit.Start) (seen bytes) ≡ Ok lines
 
 -- The text of a member was cut off, and nothing is told of it then, whatever would be told at its end; or it was taken whole.
-pub data NodeTraced (was now : Standing) (s : Status) : Type 0 where
+pub data NodeTraced (was now : IoState) (s : Status) : Type 0 where
   CutOff : ((tell : List KitLine → List ℕ) → Traced (owed_whole kit_judging kit.Start tell) was now s) → NodeTraced was now s
   Whole : TakenWhole was now s → NodeTraced was now s
 
@@ -65,13 +65,13 @@ IsNodeWhole status.OutOfMemory = Unit {0}
 IsNodeWhole _ = ⊥
 
 -- Nothing was written but the line of this answer, and the disk is as it was.
-pub record IsUntouched (s : Status) (was now : Standing) (old new : OfDisk) : Type 0 where
+pub record IsUntouched (s : Status) (was now : IoState) (old new : OfDisk) : Type 0 where
   pub wrote : Appends was.taken now.taken (cause_line s)
   pub faults : new.faults ≡ old.faults
   pub moments : new.moments ≡ old.moments
 
 -- Where the text is refused, a read failed, or the port can't be bound, nothing was written or done.
-abbrev pub NodeUpheld : Standing → Standing → OfDisk → OfDisk → Status → Type 0
+abbrev pub NodeUpheld : IoState → IoState → OfDisk → OfDisk → Status → Type 0
 NodeUpheld was now old new (status.BadInput line w) = IsUntouched (status.BadInput line w) was now old new
 NodeUpheld was now old new status.ReadFault = IsUntouched status.ReadFault was now old new
 NodeUpheld was now old new status.LinkFault = IsUntouched status.LinkFault was now old new

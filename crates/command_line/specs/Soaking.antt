@@ -1,7 +1,7 @@
 -- How a workload is run: nothing is read, and what was counted is written, or what it hands over that is forged is named.
 use Rattle.std.specs.Prelude.{◌≡◌, ℕ, Bool, List, [], ◌++◌, None}
 use Rattle.std.specs.Io.KnownBytes.{Appends}
-use Rattle.play.specs.Plays.{Standing}
+use Rattle.play.specs.Plays.{IoState}
 use Rattle.ports.specs.Count.{Rose}
 use Rattle.authority.specs.Telling.{IsCut, IsTold}
 use Rattle.soak_lines.specs.Workload.{workload}
@@ -10,9 +10,9 @@ use Rattle.world_rules.specs.Forgeries.{Forgery}
 use Rattle.world_rules.specs.Walk.{events_in}
 use Rattle.world_laws.specs.Flows.{flowed_in}
 use Rattle.world_laws.specs.Texts.{IsComeTo, IsForgedAt, IsLawfulStage}
-use Rattle.world_soak.specs.declared.summary.Summary.{Summary}
-use Rattle.world_soak.specs.Soaking.{IsFoundForged, IsSummary, workload_walk}
-use Rattle.world_soak.specs.Summaries.{summary_text}
+use Rattle.world_replay.specs.declared.summary.Summary.{Summary}
+use Rattle.world_replay.specs.Soaking.{IsFoundForged, IsSummary, workload_walk}
+use Rattle.world_replay.specs.Summaries.{summary_text}
 use Rattle.command_line.specs.Causes.{IsFront, Says}
 use Rattle.command_line.specs.Ends.{Tells}
 use Rattle.command_line.specs.Traced.{IsComplete}
@@ -29,7 +29,7 @@ abbrev pub summed_text : (seed members rounds : ℕ) → IsSummed seed members r
 summed_text seed members rounds summed = summary_text seed members rounds summed.summary.lines summed.summary.counts
 
 -- What was done before the line of the cause for which it stopped.
-abbrev pub Soaks : ℕ → ℕ → ℕ → Standing → Standing → Status → Type 0
+abbrev pub Soaks : ℕ → ℕ → ℕ → IoState → IoState → Status → Type 0
 Soaks seed members rounds was now status.Ok = (summed : IsSummed seed members rounds) × IsTold was now (summed_text seed members rounds summed)
 Soaks seed members rounds was now (status.Forged line who body) = IsFoundForged (workload_walk seed members rounds) line (record { who = who; body = body }) × (now ≡ was)
 Soaks seed members rounds was now status.WriteFault = (summed : IsSummed seed members rounds) × IsCut was now (summed_text seed members rounds summed)
@@ -37,9 +37,9 @@ Soaks seed members rounds was now status.OutOfMemory = now ≡ was
 Soaks seed members rounds was now _ = ⊥
 
 -- The run of a workload ends so: it stopped for a first cause, and the line of that cause is the last that is written.
-pub record SoakEnds (seed members rounds : ℕ) (was now : Standing) (s : Status) : Type 0 where
+pub record SoakEnds (seed members rounds : ℕ) (was now : IoState) (s : Status) : Type 0 where
   pub first : Status
-  pub between : Standing
+  pub between : IoState
   pub soaks : Soaks seed members rounds was between first
   pub tells : Tells first between now s
 
@@ -52,7 +52,7 @@ IsSoaked seed members rounds text status.OutOfMemory = text ≡ []
 IsSoaked seed members rounds text _ = ⊥
 
 -- That was written, and behind it the line of the first cause, or a front of it where a write failed. Nothing was read.
-pub record TracedSoak (seed members rounds : ℕ) (was now : Standing) (s : Status) : Type 0 where
+pub record TracedSoak (seed members rounds : ℕ) (was now : IoState) (s : Status) : Type 0 where
   pub first : Status
   pub failed : Bool
   pub text : List ℕ
@@ -63,7 +63,7 @@ pub record TracedSoak (seed members rounds : ℕ) (was now : Standing) (s : Stat
   pub soaked : IsSoaked seed members rounds text first
 
 -- Where no line of the workload hands over what is forged, and no write failed, all of it is run, unless memory is refused.
-abbrev pub SoakCompletes : ℕ → ℕ → ℕ → Standing → Standing → Status → Type 0
+abbrev pub SoakCompletes : ℕ → ℕ → ℕ → IoState → IoState → Status → Type 0
 SoakCompletes seed members rounds was now s = (workload_walk seed members rounds).cause ≡ None → ¬ (Rose was.write_faults now.write_faults) → IsComplete s
 
 -- P of what a line handed over that is forged, where that stopped the run.
@@ -71,9 +71,9 @@ abbrev pub OnForged : Status → (Forgery → Type 0) → Type 0
 OnForged (status.Forged line who body) P = P (record { who = who; body = body })
 OnForged _ P = Unit {0}
 
--- What the workload came to, of which the summary counts, is a world in which no line is forged, and what was told of it is as
+-- What the workload came to, of which the summary counts, is a world in which no line is forged, and what was reported of it is as
 -- no liar can help. What is named as forged was handed over, and verifies under a key that never signed it.
-pub record SoakUpheld (seed members rounds : ℕ) (was now : Standing) (s : Status) : Type 0 where
+pub record SoakUpheld (seed members rounds : ℕ) (was now : IoState) (s : Status) : Type 0 where
   pub trace : TracedSoak seed members rounds was now s
   pub played : IsComeTo (workload_walk seed members rounds).stage (events_in (workload_walk seed members rounds))
   pub lawful : IsLawfulStage (workload_walk seed members rounds).stage (events_in (workload_walk seed members rounds))

@@ -2,7 +2,7 @@
 use Rattle.std.specs.Prelude.{◌≡◌, ◌≤◌, ◌<◌, ◌⊎◌, ℕ, Bool, List, [], ◌∷◌, ◌++◌, length, Some, None, IfSome, Ok}
 use Rattle.std.specs.Io.KnownBytes.{Appends, Consumes}
 use Rattle.line_text.specs.declared.bad_word.BadWord.{BadWord}
-use Rattle.play.specs.Plays.{Standing}
+use Rattle.play.specs.Plays.{IoState}
 use Rattle.ports.specs.Contents.{IsUsedUp}
 use Rattle.ports.specs.Count.{Rose}
 use Rattle.ports.specs.Disk.{Moment}
@@ -12,25 +12,25 @@ use Rattle.epoch_store.specs.Calls.{HoldsStore}
 use Rattle.epoch_store.specs.Store.{StoreOf}
 use Rattle.schedule_texts.specs.declared.line.RosterLine.{RosterLine}
 use Rattle.schedule_texts.specs.declared.roster.RosterText.TheVariants as roster
-use Rattle.schedule_kit.specs.declared.kit.KitText.TheVariants as kit
-use Rattle.schedule_kit.specs.declared.line.KitLine.{KitLine}
+use Rattle.schedule_texts.specs.declared.kit.KitText.TheVariants as kit
+use Rattle.schedule_texts.specs.declared.kit_line.KitLine.{KitLine}
 use Rattle.lms_tree.specs.Leaves.{index_count}
 use Rattle.text_trace.specs.Lines.{seen, text_lines}
-use Rattle.text_trace.specs.Trace.{Owed}
+use Rattle.text_trace.specs.Trace.{Continuation}
 use Rattle.world_replay.specs.Causes.{IsJudged}
-use Rattle.any_replay.specs.Replayed.{replayed}
+use Rattle.command_line.specs.Replayed.{replayed}
 use Rattle.verifier.specs.Answered.{verified}
 use Rattle.whole_text.specs.Gathered.{lines_from, unread}
 use Rattle.authority.specs.declared.setting.Setting.{Setting}
-use Rattle.authority.specs.OfDisk.{OfDisk}
+use Rattle.ports.specs.Outside.{OfDisk}
 use Rattle.authority.specs.Settings.{asked_in, roster_judging, roster_setting, tag_of}
-use Rattle.store_making.specs.Making.{stored}
-use Rattle.enrolment.specs.Enrolling.{IsEnough}
-use Rattle.enrolment.specs.Lines.{enrolled}
+use Rattle.authority.specs.Making.{stored}
+use Rattle.authority.specs.Enrolling.{IsEnough}
+use Rattle.authority.specs.Lines.{enrolled}
 use Rattle.command_line.specs.Causes.{Says, for_cause}
-use Rattle.node_running.specs.declared.kit.Member.{Member}
-use Rattle.node_running.specs.Members as node
-use Rattle.node_running.specs.Members.{SetsUp, kit_judging, set_by}
+use Rattle.node_command.specs.declared.kit.Member.{Member}
+use Rattle.node_command.specs.Members as node
+use Rattle.node_command.specs.Members.{SetsUp, kit_judging, set_by}
 use Rattle.command_line.specs.Serving.{NodeTraced, OnUnrefused, IsNodeDone, IsNodeWhole}
 use Rattle.command_line.specs.Soaking.{SoakCompletes, TracedSoak}
 use Rattle.command_line.specs.Traced.{Completes, IsComplete, Traced, TracedBy}
@@ -57,7 +57,7 @@ IsOwedBehind rest (status.StoreTaken len) = Unit {0}
 
 -- The whole text was taken, none of whose lines is refused. Written was a front of its trace, and behind it the line of the
 -- first cause, or a front of it where a write failed.
-pub record TracedWhole (owed : Owed BadWord) (was now : Standing) (s : Status) : Type 0 where
+pub record TracedWhole (owed : Continuation BadWord) (was now : IoState) (s : Status) : Type 0 where
   pub cause : Status
   pub failed : Bool
   pub bytes : List ℕ
@@ -74,7 +74,7 @@ pub record TracedWhole (owed : Owed BadWord) (was now : Standing) (s : Status) :
   pub owing : IsOwedBehind rest cause
 
 -- A text that was cut off, or taken whole.
-abbrev pub TracedEither : Owed BadWord → Standing → Standing → Status → Type 0
+abbrev pub TracedEither : Continuation BadWord → IoState → IoState → Status → Type 0
 TracedEither owed was now s = Traced owed was now s ⊎ TracedWhole owed was now s
 
 -- A store with this state was found, of the key of some setting.
@@ -85,13 +85,13 @@ pub record IsFound (o : Stored) (old : OfDisk) : Type 0 where
 
 -- The roster was cut off, or no store was found: then the trace is told whatever store there is. Else it is told by the next
 -- index of the store that was found.
-pub data TracedRoster (was now : Standing) (old : OfDisk) (s : Status) : Type 0 where
+pub data TracedRoster (was now : IoState) (old : OfDisk) (s : Status) : Type 0 where
   CutOff : ((next : ℕ) → Traced (enrolled next) was now s) → TracedRoster was now old s
   Unopened : ((next : ℕ) → TracedWhole (enrolled next) was now s) → TracedRoster was now old s
   Opened : (o : Stored) → IsFound o old → TracedWhole (enrolled o.next) was now s → TracedRoster was now old s
 
 -- What was written beside the trace of what was taken, for each command.
-abbrev pub TracedAs : Command → Standing → Standing → OfDisk → OfDisk → Status → Type 0
+abbrev pub TracedAs : Command → IoState → IoState → OfDisk → OfDisk → Status → Type 0
 TracedAs Replay was now old new s = TracedBy IsJudged for_cause replayed was now s
 TracedAs Verify was now old new s = Traced verified was now s
 TracedAs Store was now old new s = TracedEither stored was now s
@@ -101,24 +101,24 @@ TracedAs (Soak seed members rounds) was now old new s = TracedSoak seed members 
 
 -- ## Where all of it is run
 
--- Of the file that is told P holds.
+-- Of the file that is modelled P holds.
 abbrev pub OnImage : List Moment → (List ℕ → Type 0) → Type 0
 OnImage [] P = ⊥
 OnImage (now ∷ past) P = P now.image
 
 -- The source, the sink and the disk didn't fail.
-pub record NoneFailed (was now : Standing) (old new : OfDisk) : Type 0 where
+pub record NoneFailed (was now : IoState) (old new : OfDisk) : Type 0 where
   pub reads : ¬ (Rose was.read_faults now.read_faults)
   pub writes : ¬ (Rose was.write_faults now.write_faults)
   pub disk : ¬ (Rose old.faults new.faults)
 
 -- A store is made where no line of the text is refused, and the file is empty.
-abbrev pub StoreCompletes : Standing → Standing → OfDisk → OfDisk → Status → Type 0
+abbrev pub StoreCompletes : IoState → IoState → OfDisk → OfDisk → Status → Type 0
 StoreCompletes was now old new s = IfSome was.left (λ all. (stored (seen all)).cause ≡ None → OnImage old.moments (λ image. length image ≡ 0)
     → NoneFailed was now old new → IsComplete s)
 
 -- Certificates are signed where no line of the roster is refused, and the file is a store of its key that has an index for each.
-abbrev pub EnrollCompletes : Standing → Standing → OfDisk → OfDisk → Status → Type 0
+abbrev pub EnrollCompletes : IoState → IoState → OfDisk → OfDisk → Status → Type 0
 EnrollCompletes was now old new s = IfSome was.left (λ all. (lines : List RosterLine) (setting : Setting) (o : Stored)
     → lines_from roster_judging (unread roster.Start) (seen all) ≡ Ok lines → roster_setting lines ≡ Some setting
     → OnImage old.moments (λ image. StoreOf (tag_of setting) image o) → IsEnough setting o.next (asked_in lines)
@@ -126,23 +126,23 @@ EnrollCompletes was now old new s = IfSome was.left (λ all. (lines : List Roste
 
 -- A node's life comes to its end, its store is found broken or used up, or its port can't be bound, where no line of its text
 -- is refused and nothing failed.
-abbrev pub NodeEndsWell : Standing → Standing → OfDisk → OfDisk → Status → Type 0
+abbrev pub NodeEndsWell : IoState → IoState → OfDisk → OfDisk → Status → Type 0
 NodeEndsWell was now old new s = OnUnrefused was.left (NoneFailed was now old new → IsNodeDone s)
 
 -- Where the text sets up a member, and the file is a store of its key with an index left, the store is found neither broken nor
 -- used up.
-abbrev pub NodeOpens : Standing → Standing → OfDisk → OfDisk → Status → Type 0
+abbrev pub NodeOpens : IoState → IoState → OfDisk → OfDisk → Status → Type 0
 NodeOpens was now old new s = IfSome was.left (λ all. (lines : List KitLine) (m : Member) (o : Stored)
     → lines_from kit_judging (unread kit.Start) (seen all) ≡ Ok lines → SetsUp (set_by lines) m
     → OnImage old.moments (λ image. StoreOf (node.tag_of m) image o) → o.next < index_count m.own.key
     → NoneFailed was now old new → IsNodeWhole s)
 
-pub record NodeCompletes (was now : Standing) (old new : OfDisk) (s : Status) : Type 0 where
+pub record NodeCompletes (was now : IoState) (old new : OfDisk) (s : Status) : Type 0 where
   pub unrefused : NodeEndsWell was now old new s
   pub opened : NodeOpens was now old new s
 
 -- When all of a command is run: where no line refuses the text and nothing failed.
-abbrev pub CompletesAs : Command → Standing → Standing → OfDisk → OfDisk → Status → Type 0
+abbrev pub CompletesAs : Command → IoState → IoState → OfDisk → OfDisk → Status → Type 0
 CompletesAs Replay was now old new s = Completes replayed was now s
 CompletesAs Verify was now old new s = Completes verified was now s
 CompletesAs Store was now old new s = StoreCompletes was now old new s

@@ -1,15 +1,15 @@
 -- What each command upholds, beside how its run ends.
-use Rattle.play.specs.Plays.{Standing}
+use Rattle.play.specs.Plays.{IoState}
 use Rattle.epoch_store.specs.Calls.{SettlesAs}
 use Rattle.epoch_store.specs.Store.{made}
 use Rattle.authority.specs.declared.setting.Setting.{Setting}
-use Rattle.authority.specs.OfDisk.{OfDisk}
+use Rattle.ports.specs.Outside.{OfDisk}
 use Rattle.authority.specs.Settings.{tag_of}
 use Rattle.authority.specs.Texts.{IsSecret}
-use Rattle.store_making.specs.Making.{first_of}
+use Rattle.authority.specs.Making.{first_of}
 use Rattle.command_line.specs.Enrolment.{Enrolment}
 use Rattle.command_line.specs.Headline.{Headline}
-use Rattle.command_line.specs.Ends.{Wires}
+use Rattle.command_line.specs.Ends.{NetState}
 use Rattle.command_line.specs.Journals.{NodeUpholds}
 use Rattle.command_line.specs.Soaking.{SoakUpheld}
 use Rattle.command_line.specs.Verification.{Verification}
@@ -24,14 +24,14 @@ OnMade status.Ok P = P
 OnMade _ P = Unit {0}
 
 -- The whole text was taken, and sets this up; the file is just the store of that key, settled: each crash leaves it.
-pub record IsStoreMade (was : Standing) (old new : OfDisk) : Type 0 where
+pub record IsStoreMade (was : IoState) (old new : OfDisk) : Type 0 where
   pub setting : Setting
-  pub between : Standing
+  pub between : IoState
   pub read : IsSecret was between setting
   pub image : SettlesAs (λ _. made (tag_of setting) (first_of setting)) old.moments new.moments
 
 -- What each command upholds beyond its trace.
-abbrev pub Upholds : Command → Standing → Standing → OfDisk → OfDisk → Wires → Status → Type 0
+abbrev pub Upholds : Command → IoState → IoState → OfDisk → OfDisk → NetState → Status → Type 0
 Upholds Replay was now old new before s = Headline was now s
 Upholds Verify was now old new before s = Verification was now s
 Upholds Store was now old new before s = OnMade s (IsStoreMade was old new)

@@ -1,7 +1,8 @@
 // How a run ends: the line of its cause, and the status.
 
-ghost use Rattle.std.specs.Prelude.{◌≡◌, ◌≢◌, true, Option, List, ℕ};
-ghost use Rattle.play.specs.Plays.{standing};
+ghost use Rattle.std.specs.Prelude.{◌≡◌, ◌≢◌, true};
+ghost use Rattle.play.specs.Plays.{io};
+ghost use Rattle.ports.specs.Outside.{OfSource};
 ghost use Rattle.command_line.specs.Ends.{Tells};
 
 use crate::status::Status;
@@ -9,10 +10,10 @@ use ports::{Sink, write_all};
 
 /// Writes the line that gives the first cause of a stop, if it has one, and answers how the run ended.
 pub(crate) fn conclude<O: Sink>(out: &mut O, first: Status) -> Status
-    requires open { first ≢ Status.WriteFault → O.is_open out.old ≡ true }
-    ensures { (left : Option (List ℕ)) (faults : ℕ) → Tells first
-        (standing left (O.taken out.old) faults (O.faults out.old))
-        (standing left (O.taken out.new) faults (O.faults out.new)) result }
+    requires open { first ≢ Status.WriteFault → (O.state out.old).is_open ≡ true }
+    ensures { (source : OfSource) → Tells first
+        (io source (O.state out.old))
+        (io source (O.state out.new)) result }
 {
     if first == Status::WriteFault {
         return first;

@@ -68,7 +68,8 @@ fn add_note(note: &NoteBody, text: &mut ArrayString<256>)
 
 fn add_accusation(accusation: &AccBody, text: &mut ArrayString<256>)
     requires { length text.old.bytes + 160 ≤ 256 }
-    ensures text { text.new.bytes ≡ text.old.bytes ++ codes "accuse " ++ accusation_text accusation.now }
+    ensures text { text.new.bytes
+        ≡ text.old.bytes ++ codes "accuse " ++ accusation_text accusation.now }
     ensures short { length text.new.bytes ≤ length text.old.bytes + 160 }
 {
     text.push_str("accuse ");
@@ -105,7 +106,9 @@ fn add_owner(who: Option<MemberId>, text: &mut ArrayString<256>)
 
 /// The line that says which line hands over a forged record, whose key seems to have signed it, and what it says.
 pub(crate) fn forged_line(line: u32, who: Option<MemberId>, body: &Body) -> ArrayString<256>
-    ensures { result.bytes ≡ codes "forged " ++ decimal line ++ codes " " ++ owner_text who ++ codes " " ++ body_text body.now ++ 10 ∷ [] }
+    ensures { result.bytes
+        ≡ codes "forged " ++ decimal line ++ codes " " ++ owner_text who ++ codes " " ++ body_text
+        body.now ++ 10 ∷ [] }
 {
     let mut text = ArrayString::new();
     text.push_str("forged ");

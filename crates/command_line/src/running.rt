@@ -1,37 +1,35 @@
 // The top call.
 
 ghost use Rattle.std.specs.Prelude.{◌≡◌, ◌≢◌, ◌↔◌, true, false, map, IfSome, string_bytes};
-ghost use Rattle.authority.specs.OfDisk.{of_disk};
-ghost use Rattle.play.specs.Plays.{standing};
+ghost use Rattle.play.specs.Plays.{io};
 ghost use Rattle.world_replay.specs.Causes.{IsJudged};
-ghost use Rattle.any_replay.specs.Replayed.{replayed};
+ghost use Rattle.command_line.specs.Replayed.{replayed};
 ghost use Rattle.verifier.specs.Answered.{verified};
 ghost use Rattle.command_line.specs.Causes.{for_cause};
 ghost use Rattle.command_line.specs.Commands.{FitsCommand, command_of, is_over_link, is_over_store, is_over_text, store_in, takes_link, takes_store, takes_text};
-ghost use Rattle.command_line.specs.Ends.{Counts, DiskCountsAs, EndsBy, Ends, EnrollEnds, FaultsAs, NodeEnds, StoreEnds, wires};
+ghost use Rattle.command_line.specs.Ends.{Counts, DiskCountsAs, EndsBy, Ends, EnrollEnds, FaultsAs, NodeEnds, StoreEnds, net_state};
 ghost use Rattle.command_line.specs.EndsAs.{EndsAs};
 ghost use Rattle.command_line.specs.TracedAs.{CompletesAs, TracedAs};
 ghost use Rattle.command_line.specs.Upheld.{Upholds};
 
 use crate::command::{Command, store_in};
 use crate::ending::conclude;
+use crate::replay;
 use crate::soak::run_soak;
 use crate::status::Status;
-use any_replay::replay;
-use enrolment::enroll;
-use node_running::run_node;
+use authority::{enroll, make_store};
+use node_command::run_node;
 use ports::{Clock, Disk, Link, Sink, Source};
 use std::alloc::Global;
-use store_making::make_store;
 use verifier::verify_input;
 
 /// Plays a recorded text, and answers how the run ended.
 fn run_replay<S: Source, O: Sink>(alloc: Global, input: &mut S, out: &mut O) -> Status
-    requires source { S.is_open input.old ≡ true }
-    requires sink { O.is_open out.old ≡ true }
+    requires source { (S.state input.old).is_open ≡ true }
+    requires sink { (O.state out.old).is_open ≡ true }
     ensures ends { EndsBy IsJudged for_cause replayed
-        (standing (S.left input.old) (O.taken out.old) (S.faults input.old) (O.faults out.old))
-        (standing (S.left input.new) (O.taken out.new) (S.faults input.new) (O.faults out.new)) result }
+        (io (S.state input.old) (O.state out.old))
+        (io (S.state input.new) (O.state out.new)) result }
 {
     let ended = replay(alloc, input, out);
     conclude(out, Status::from(ended))
@@ -39,11 +37,11 @@ fn run_replay<S: Source, O: Sink>(alloc: Global, input: &mut S, out: &mut O) -> 
 
 /// Answers whether a signature is good, and how the run ended.
 fn run_verify<S: Source, O: Sink>(alloc: Global, input: &mut S, out: &mut O) -> Status
-    requires source { S.is_open input.old ≡ true }
-    requires sink { O.is_open out.old ≡ true }
+    requires source { (S.state input.old).is_open ≡ true }
+    requires sink { (O.state out.old).is_open ≡ true }
     ensures ends { Ends verified
-        (standing (S.left input.old) (O.taken out.old) (S.faults input.old) (O.faults out.old))
-        (standing (S.left input.new) (O.taken out.new) (S.faults input.new) (O.faults out.new)) result }
+        (io (S.state input.old) (O.state out.old))
+        (io (S.state input.new) (O.state out.new)) result }
 {
     let ended = verify_input(alloc, input, out);
     conclude(out, Status::from(ended))
@@ -57,13 +55,12 @@ fn run_store<S: Source, O: Sink, D: Disk>(
     out: &mut O,
     disk: &mut D,
 ) -> Status
-    requires source { S.is_open input.old ≡ true }
-    requires sink { O.is_open out.old ≡ true }
+    requires source { (S.state input.old).is_open ≡ true }
+    requires sink { (O.state out.old).is_open ≡ true }
     ensures ends { StoreEnds name.now
-        (standing (S.left input.old) (O.taken out.old) (S.faults input.old) (O.faults out.old))
-        (standing (S.left input.new) (O.taken out.new) (S.faults input.new) (O.faults out.new))
-        (of_disk (D.faults disk.old) (D.calls disk.old) (D.moments disk.old))
-        (of_disk (D.faults disk.new) (D.calls disk.new) (D.moments disk.new)) result }
+        (io (S.state input.old) (O.state out.old))
+        (io (S.state input.new) (O.state out.new))
+        (D.state disk.old) (D.state disk.new) result }
 {
     let ended = make_store(alloc, name, input, out, disk);
     conclude(out, Status::from(ended))
@@ -77,13 +74,12 @@ fn run_enroll<S: Source, O: Sink, D: Disk>(
     out: &mut O,
     disk: &mut D,
 ) -> Status
-    requires source { S.is_open input.old ≡ true }
-    requires sink { O.is_open out.old ≡ true }
+    requires source { (S.state input.old).is_open ≡ true }
+    requires sink { (O.state out.old).is_open ≡ true }
     ensures ends { EnrollEnds name.now
-        (standing (S.left input.old) (O.taken out.old) (S.faults input.old) (O.faults out.old))
-        (standing (S.left input.new) (O.taken out.new) (S.faults input.new) (O.faults out.new))
-        (of_disk (D.faults disk.old) (D.calls disk.old) (D.moments disk.old))
-        (of_disk (D.faults disk.new) (D.calls disk.new) (D.moments disk.new)) result }
+        (io (S.state input.old) (O.state out.old))
+        (io (S.state input.new) (O.state out.new))
+        (D.state disk.old) (D.state disk.new) result }
 {
     let ended = enroll(alloc, name, input, out, disk);
     conclude(out, Status::from(ended))
@@ -100,15 +96,14 @@ fn run_member<S: Source, O: Sink, D: Disk, L: Link, C: Clock>(
     link: &mut L,
     clock: &mut C,
 ) -> Status
-    requires source { S.is_open input.old ≡ true }
-    requires sink { O.is_open out.old ≡ true }
+    requires source { (S.state input.old).is_open ≡ true }
+    requires sink { (O.state out.old).is_open ≡ true }
     ensures ends { NodeEnds turns
-        (standing (S.left input.old) (O.taken out.old) (S.faults input.old) (O.faults out.old))
-        (standing (S.left input.new) (O.taken out.new) (S.faults input.new) (O.faults out.new))
-        (of_disk (D.faults disk.old) (D.calls disk.old) (D.moments disk.old))
-        (of_disk (D.faults disk.new) (D.calls disk.new) (D.moments disk.new))
-        (wires (L.contents link.old) (L.faults link.old) (C.reading clock.old) (C.coming clock.old))
-        (wires (L.contents link.new) (L.faults link.new) (C.reading clock.new) (C.coming clock.new)) result }
+        (io (S.state input.old) (O.state out.old))
+        (io (S.state input.new) (O.state out.new))
+        (D.state disk.old) (D.state disk.new)
+        (net_state (L.state link.old) (C.state clock.old))
+        (net_state (L.state link.new) (C.state clock.new)) result }
 {
     let ended = run_node(alloc, name, turns, input, out, disk, link, clock);
     conclude(out, Status::from(ended))
@@ -126,15 +121,14 @@ fn run_command<S: Source, O: Sink, D: Disk, L: Link, C: Clock>(
     clock: &mut C,
 ) -> Status
     requires fits { FitsCommand command }
-    requires source { S.is_open input.old ≡ true }
-    requires sink { O.is_open out.old ≡ true }
+    requires source { (S.state input.old).is_open ≡ true }
+    requires sink { (O.state out.old).is_open ≡ true }
     ensures ends { EndsAs command name.now
-        (standing (S.left input.old) (O.taken out.old) (S.faults input.old) (O.faults out.old))
-        (standing (S.left input.new) (O.taken out.new) (S.faults input.new) (O.faults out.new))
-        (of_disk (D.faults disk.old) (D.calls disk.old) (D.moments disk.old))
-        (of_disk (D.faults disk.new) (D.calls disk.new) (D.moments disk.new))
-        (wires (L.contents link.old) (L.faults link.old) (C.reading clock.old) (C.coming clock.old))
-        (wires (L.contents link.new) (L.faults link.new) (C.reading clock.new) (C.coming clock.new)) result }
+        (io (S.state input.old) (O.state out.old))
+        (io (S.state input.new) (O.state out.new))
+        (D.state disk.old) (D.state disk.new)
+        (net_state (L.state link.old) (C.state clock.old))
+        (net_state (L.state link.new) (C.state clock.new)) result }
     ensures input { takes_text command ≡ false → input.new ≡ input.old }
     ensures disk { takes_store command ≡ false → disk.new ≡ disk.old }
     ensures link { takes_link command ≡ false → link.new ≡ link.old }
@@ -166,38 +160,33 @@ fn run_named<S: Source, O: Sink, D: Disk, L: Link, C: Clock>(
     clock: &mut C,
 ) -> Status
     requires fits { FitsCommand command }
-    requires source { S.is_open input.old ≡ true }
-    requires sink { O.is_open out.old ≡ true }
+    requires source { (S.state input.old).is_open ≡ true }
+    requires sink { (O.state out.old).is_open ≡ true }
     ensures command { result ≢ Status.Usage }
     ensures ends { EndsAs command name.now
-        (standing (S.left input.old) (O.taken out.old) (S.faults input.old) (O.faults out.old))
-        (standing (S.left input.new) (O.taken out.new) (S.faults input.new) (O.faults out.new))
-        (of_disk (D.faults disk.old) (D.calls disk.old) (D.moments disk.old))
-        (of_disk (D.faults disk.new) (D.calls disk.new) (D.moments disk.new))
-        (wires (L.contents link.old) (L.faults link.old) (C.reading clock.old) (C.coming clock.old))
-        (wires (L.contents link.new) (L.faults link.new) (C.reading clock.new) (C.coming clock.new)) result }
+        (io (S.state input.old) (O.state out.old))
+        (io (S.state input.new) (O.state out.new))
+        (D.state disk.old) (D.state disk.new)
+        (net_state (L.state link.old) (C.state clock.old))
+        (net_state (L.state link.new) (C.state clock.new)) result }
     ensures traced { TracedAs command
-        (standing (S.left input.old) (O.taken out.old) (S.faults input.old) (O.faults out.old))
-        (standing (S.left input.new) (O.taken out.new) (S.faults input.new) (O.faults out.new))
-        (of_disk (D.faults disk.old) (D.calls disk.old) (D.moments disk.old))
-        (of_disk (D.faults disk.new) (D.calls disk.new) (D.moments disk.new)) result }
+        (io (S.state input.old) (O.state out.old))
+        (io (S.state input.new) (O.state out.new))
+        (D.state disk.old) (D.state disk.new) result }
     ensures complete { CompletesAs command
-        (standing (S.left input.old) (O.taken out.old) (S.faults input.old) (O.faults out.old))
-        (standing (S.left input.new) (O.taken out.new) (S.faults input.new) (O.faults out.new))
-        (of_disk (D.faults disk.old) (D.calls disk.old) (D.moments disk.old))
-        (of_disk (D.faults disk.new) (D.calls disk.new) (D.moments disk.new)) result }
+        (io (S.state input.old) (O.state out.old))
+        (io (S.state input.new) (O.state out.new))
+        (D.state disk.old) (D.state disk.new) result }
     ensures upholds { Upholds command
-        (standing (S.left input.old) (O.taken out.old) (S.faults input.old) (O.faults out.old))
-        (standing (S.left input.new) (O.taken out.new) (S.faults input.new) (O.faults out.new))
-        (of_disk (D.faults disk.old) (D.calls disk.old) (D.moments disk.old))
-        (of_disk (D.faults disk.new) (D.calls disk.new) (D.moments disk.new))
-        (wires (L.contents link.old) (L.faults link.old) (C.reading clock.old) (C.coming clock.old)) result }
+        (io (S.state input.old) (O.state out.old))
+        (io (S.state input.new) (O.state out.new))
+        (D.state disk.old) (D.state disk.new)
+        (net_state (L.state link.old) (C.state clock.old)) result }
     ensures counts { Counts
-        (standing (S.left input.old) (O.taken out.old) (S.faults input.old) (O.faults out.old))
-        (standing (S.left input.new) (O.taken out.new) (S.faults input.new) (O.faults out.new)) result }
+        (io (S.state input.old) (O.state out.old))
+        (io (S.state input.new) (O.state out.new)) result }
     ensures faults { DiskCountsAs command
-        (of_disk (D.faults disk.old) (D.calls disk.old) (D.moments disk.old))
-        (of_disk (D.faults disk.new) (D.calls disk.new) (D.moments disk.new)) result }
+        (D.state disk.old) (D.state disk.new) result }
     ensures input { takes_text command ≡ false → input.new ≡ input.old }
     ensures disk { takes_store command ≡ false → disk.new ≡ disk.old }
     ensures link { takes_link command ≡ false → link.new ≡ link.old }
@@ -217,61 +206,62 @@ pub fn run<S: Source, O: Sink, D: Disk, L: Link, C: Clock>(
     link: &mut L,
     clock: &mut C,
 ) -> Status
-    requires source { S.is_open input.old ≡ true }
-    requires sink { O.is_open out.old ≡ true }
+    requires source { (S.state input.old).is_open ≡ true }
+    requires sink { (O.state out.old).is_open ≡ true }
 
     // The words alone decide whether there is a command; without one nothing is touched.
     ensures usage { (result ≡ Status.Usage) ↔ (command_of (map string_bytes words.now) ≡ None) }
     ensures untouched { result ≡ Status.Usage → (input.new ≡ input.old) × (out.new ≡ out.old) }
 
     // What is taken and written, by how the run ended.
-    ensures ends { IfSome (command_of (map string_bytes words.now)) (λ command. EndsAs command (store_in (map string_bytes words.now))
-        (standing (S.left input.old) (O.taken out.old) (S.faults input.old) (O.faults out.old))
-        (standing (S.left input.new) (O.taken out.new) (S.faults input.new) (O.faults out.new))
-        (of_disk (D.faults disk.old) (D.calls disk.old) (D.moments disk.old))
-        (of_disk (D.faults disk.new) (D.calls disk.new) (D.moments disk.new))
-        (wires (L.contents link.old) (L.faults link.old) (C.reading clock.old) (C.coming clock.old))
-        (wires (L.contents link.new) (L.faults link.new) (C.reading clock.new) (C.coming clock.new)) result) }
+    ensures ends { IfSome (command_of (map string_bytes words.now))
+        (λ command. EndsAs command (store_in (map string_bytes words.now))
+        (io (S.state input.old) (O.state out.old))
+        (io (S.state input.new) (O.state out.new))
+        (D.state disk.old) (D.state disk.new)
+        (net_state (L.state link.old) (C.state clock.old))
+        (net_state (L.state link.new) (C.state clock.new)) result) }
 
     // What is written is a front of the trace of what was taken, and behind it the line of the cause.
     ensures traced { IfSome (command_of (map string_bytes words.now)) (λ command. TracedAs command
-        (standing (S.left input.old) (O.taken out.old) (S.faults input.old) (O.faults out.old))
-        (standing (S.left input.new) (O.taken out.new) (S.faults input.new) (O.faults out.new))
-        (of_disk (D.faults disk.old) (D.calls disk.old) (D.moments disk.old))
-        (of_disk (D.faults disk.new) (D.calls disk.new) (D.moments disk.new)) result) }
+        (io (S.state input.old) (O.state out.old))
+        (io (S.state input.new) (O.state out.new))
+        (D.state disk.old) (D.state disk.new) result) }
 
     // Where no line refuses the text, nothing failed, and the store that a command takes is as it wants it, all of it is
     // run, unless memory is refused.
-    ensures complete { IfSome (command_of (map string_bytes words.now)) (λ command. CompletesAs command
-        (standing (S.left input.old) (O.taken out.old) (S.faults input.old) (O.faults out.old))
-        (standing (S.left input.new) (O.taken out.new) (S.faults input.new) (O.faults out.new))
-        (of_disk (D.faults disk.old) (D.calls disk.old) (D.moments disk.old))
-        (of_disk (D.faults disk.new) (D.calls disk.new) (D.moments disk.new)) result) }
+    ensures complete { IfSome (command_of (map string_bytes words.now))
+        (λ command. CompletesAs command
+        (io (S.state input.old) (O.state out.old))
+        (io (S.state input.new) (O.state out.new))
+        (D.state disk.old) (D.state disk.new) result) }
 
     // What the trace that was written rests on: in a replay each removal on an accusation that stood unanswered for
     // the timeout; to a text that asks about a signature nothing is answered before its end. What is signed of
     // certificates spends indexes from the next one found on, each once, whatever ends the run.
     ensures upholds { IfSome (command_of (map string_bytes words.now)) (λ command. Upholds command
-        (standing (S.left input.old) (O.taken out.old) (S.faults input.old) (O.faults out.old))
-        (standing (S.left input.new) (O.taken out.new) (S.faults input.new) (O.faults out.new))
-        (of_disk (D.faults disk.old) (D.calls disk.old) (D.moments disk.old))
-        (of_disk (D.faults disk.new) (D.calls disk.new) (D.moments disk.new))
-        (wires (L.contents link.old) (L.faults link.old) (C.reading clock.old) (C.coming clock.old)) result) }
+        (io (S.state input.old) (O.state out.old))
+        (io (S.state input.new) (O.state out.new))
+        (D.state disk.old) (D.state disk.new)
+        (net_state (L.state link.old) (C.state clock.old)) result) }
 
     // A cause that is no fault leaves both counts as they were; a fault raises its own by one.
     ensures counts { Counts
-        (standing (S.left input.old) (O.taken out.old) (S.faults input.old) (O.faults out.old))
-        (standing (S.left input.new) (O.taken out.new) (S.faults input.new) (O.faults out.new)) result }
+        (io (S.state input.old) (O.state out.old))
+        (io (S.state input.new) (O.state out.new)) result }
 
     // So does the disk's, which a command without a store doesn't touch; a node served may raise it by more than one. A
     // command that serves no node touches neither link nor clock.
     ensures faults { FaultsAs (command_of (map string_bytes words.now))
-        (of_disk (D.faults disk.old) (D.calls disk.old) (D.moments disk.old))
-        (of_disk (D.faults disk.new) (D.calls disk.new) (D.moments disk.new)) result }
-    ensures input { is_over_text (command_of (map string_bytes words.now)) ≡ false → input.new ≡ input.old }
-    ensures disk { is_over_store (command_of (map string_bytes words.now)) ≡ false → disk.new ≡ disk.old }
-    ensures link { is_over_link (command_of (map string_bytes words.now)) ≡ false → link.new ≡ link.old }
-    ensures clock { is_over_link (command_of (map string_bytes words.now)) ≡ false → clock.new ≡ clock.old }
+        (D.state disk.old) (D.state disk.new) result }
+    ensures input { is_over_text (command_of (map string_bytes words.now)) ≡ false
+        → input.new ≡ input.old }
+    ensures disk { is_over_store (command_of (map string_bytes words.now)) ≡ false
+        → disk.new ≡ disk.old }
+    ensures link { is_over_link (command_of (map string_bytes words.now)) ≡ false
+        → link.new ≡ link.old }
+    ensures clock { is_over_link (command_of (map string_bytes words.now)) ≡ false
+        → clock.new ≡ clock.old }
 {
     let Some(command) = Command::of(words) else {
         return Status::Usage;

@@ -1,16 +1,17 @@
 // The run of a workload.
 
-ghost use Rattle.std.specs.Prelude.{◌≡◌, ◌≢◌, ◌≤◌, ℕ, true, List, Option};
-ghost use Rattle.play.specs.Plays.{standing};
+ghost use Rattle.std.specs.Prelude.{◌≡◌, ◌≢◌, ◌≤◌, true};
+ghost use Rattle.play.specs.Plays.{io};
+ghost use Rattle.ports.specs.Outside.{OfSource};
 ghost use Rattle.soak_lines.specs.Workload.{workload};
-ghost use Rattle.world_soak.specs.Soaking.{IsSummary, workload_walk};
+ghost use Rattle.world_replay.specs.Soaking.{IsSummary, workload_walk};
 ghost use Rattle.command_line.specs.Soaking.{SoakEnds, Soaks};
 
 use crate::ending::conclude;
 use crate::status::Status;
 use ports::{Failed, Sink, write_all};
 use std::alloc::Global;
-use world_soak::{SoakFault, Summary, soak, write_summary};
+use world_replay::{SoakFault, Summary, soak, write_summary};
 
 /// Writes the summary, and answers how that went.
 fn tell_summary<O: Sink>(
@@ -21,12 +22,13 @@ fn tell_summary<O: Sink>(
     summary: &Summary,
     out: &mut O,
 ) -> Status
-    requires sink { O.is_open out.old ≡ true }
-    requires summed { IsSummary (workload seed members rounds) (workload_walk seed members rounds) summary.now }
-    ensures sink { result ≢ Status.WriteFault → O.is_open out.new ≡ true }
-    ensures soaks { (left : Option (List ℕ)) (faults : ℕ) → Soaks seed members rounds
-        (standing left (O.taken out.old) faults (O.faults out.old))
-        (standing left (O.taken out.new) faults (O.faults out.new)) result }
+    requires sink { (O.state out.old).is_open ≡ true }
+    requires summed { IsSummary (workload seed members rounds) (workload_walk seed members rounds)
+        summary.now }
+    ensures sink { result ≢ Status.WriteFault → (O.state out.new).is_open ≡ true }
+    ensures soaks { (source : OfSource) → Soaks seed members rounds
+        (io source (O.state out.old))
+        (io source (O.state out.new)) result }
 {
     let mut text = Vec::new(alloc);
     match write_summary(seed, members, rounds, summary, &mut text) {
@@ -48,11 +50,11 @@ fn soak_and_tell<O: Sink>(
 ) -> Status
     requires members { (3 ≤ members) × (members ≤ 32) }
     requires rounds { (1 ≤ rounds) × (rounds ≤ 1000) }
-    requires sink { O.is_open out.old ≡ true }
-    ensures sink { result ≢ Status.WriteFault → O.is_open out.new ≡ true }
-    ensures soaks { (left : Option (List ℕ)) (faults : ℕ) → Soaks seed members rounds
-        (standing left (O.taken out.old) faults (O.faults out.old))
-        (standing left (O.taken out.new) faults (O.faults out.new)) result }
+    requires sink { (O.state out.old).is_open ≡ true }
+    ensures sink { result ≢ Status.WriteFault → (O.state out.new).is_open ≡ true }
+    ensures soaks { (source : OfSource) → Soaks seed members rounds
+        (io source (O.state out.old))
+        (io source (O.state out.new)) result }
 {
     match soak(alloc, seed, members, rounds) {
         Ok(summary) => tell_summary(alloc, seed, members, rounds, &summary, out),
@@ -71,10 +73,10 @@ pub(crate) fn run_soak<O: Sink>(
 ) -> Status
     requires members { (3 ≤ members) × (members ≤ 32) }
     requires rounds { (1 ≤ rounds) × (rounds ≤ 1000) }
-    requires sink { O.is_open out.old ≡ true }
-    ensures ends { (left : Option (List ℕ)) (faults : ℕ) → SoakEnds seed members rounds
-        (standing left (O.taken out.old) faults (O.faults out.old))
-        (standing left (O.taken out.new) faults (O.faults out.new)) result }
+    requires sink { (O.state out.old).is_open ≡ true }
+    ensures ends { (source : OfSource) → SoakEnds seed members rounds
+        (io source (O.state out.old))
+        (io source (O.state out.new)) result }
 {
     let first = soak_and_tell(alloc, seed, members, rounds, out);
     conclude(out, first)

@@ -1,10 +1,9 @@
 // From the words of the command line to the status.
 
 ghost use Rattle.std.specs.Prelude.{◌≡◌, true, false, map, string_bytes, IfOk, IfErr, OnOk, OnErr};
-ghost use Rattle.authority.specs.OfDisk.{of_disk};
-ghost use Rattle.play.specs.Plays.{standing};
+ghost use Rattle.play.specs.Plays.{io};
 ghost use Rattle.command_line.specs.Commands.{command_of, is_over_link, is_over_store};
-ghost use Rattle.command_line.specs.Ends.{wires};
+ghost use Rattle.command_line.specs.Ends.{net_state};
 ghost use Rattle.command_line.specs.Starts.{Ran, OnBoth};
 
 use crate::running::run;
@@ -23,19 +22,21 @@ fn run_words<S: Source, O: Sink, D: Disk, L: Link, C: Clock>(
     link: &mut L,
     clock: &mut C,
 ) -> Status
-    requires source { S.is_open input.old ≡ true }
-    requires sink { O.is_open out.old ≡ true }
+    requires source { (S.state input.old).is_open ≡ true }
+    requires sink { (O.state out.old).is_open ≡ true }
     ensures untouched { result ≡ Status.Usage → (input.new ≡ input.old) × (out.new ≡ out.old) }
     ensures ran { Ran (map string_bytes words.now)
-        (standing (S.left input.old) (O.taken out.old) (S.faults input.old) (O.faults out.old))
-        (standing (S.left input.new) (O.taken out.new) (S.faults input.new) (O.faults out.new))
-        (of_disk (D.faults disk.old) (D.calls disk.old) (D.moments disk.old))
-        (of_disk (D.faults disk.new) (D.calls disk.new) (D.moments disk.new))
-        (wires (L.contents link.old) (L.faults link.old) (C.reading clock.old) (C.coming clock.old))
-        (wires (L.contents link.new) (L.faults link.new) (C.reading clock.new) (C.coming clock.new)) result }
-    ensures disk { is_over_store (command_of (map string_bytes words.now)) ≡ false → disk.new ≡ disk.old }
-    ensures link { is_over_link (command_of (map string_bytes words.now)) ≡ false → link.new ≡ link.old }
-    ensures clock { is_over_link (command_of (map string_bytes words.now)) ≡ false → clock.new ≡ clock.old }
+        (io (S.state input.old) (O.state out.old))
+        (io (S.state input.new) (O.state out.new))
+        (D.state disk.old) (D.state disk.new)
+        (net_state (L.state link.old) (C.state clock.old))
+        (net_state (L.state link.new) (C.state clock.new)) result }
+    ensures disk { is_over_store (command_of (map string_bytes words.now)) ≡ false
+        → disk.new ≡ disk.old }
+    ensures link { is_over_link (command_of (map string_bytes words.now)) ≡ false
+        → link.new ≡ link.old }
+    ensures clock { is_over_link (command_of (map string_bytes words.now)) ≡ false
+        → clock.new ≡ clock.old }
 {
     run(alloc, words, input, out, disk, link, clock)
 }
@@ -51,25 +52,33 @@ pub fn start<S: Source, O: Sink, D: Disk, L: Link, C: Clock>(
     link: &mut L,
     clock: &mut C,
 ) -> Status
-    requires source { IfOk input.old (λ from. S.is_open from ≡ true) }
-    requires sink { O.is_open out.old ≡ true }
+    requires source { IfOk input.old (λ from. (S.state from).is_open ≡ true) }
+    requires sink { (O.state out.old).is_open ≡ true }
     ensures unread { IfErr words (λ status. result ≡ status) }
     ensures unread_untouched { OnErr words ((input.new ≡ input.old) × (out.new ≡ out.old)) }
     ensures starved { OnOk words (OnErr input.old (result ≡ Status.OutOfMemory)) }
     ensures starved_untouched { OnErr input.old (out.new ≡ out.old) }
     ensures untouched { OnOk words (result ≡ Status.Usage → out.new ≡ out.old) }
-    ensures ran { IfOk words (λ all. OnBoth input.old input.new (λ was now. Ran (map string_bytes all.items)
-        (standing (S.left was) (O.taken out.old) (S.faults was) (O.faults out.old))
-        (standing (S.left now) (O.taken out.new) (S.faults now) (O.faults out.new))
-        (of_disk (D.faults disk.old) (D.calls disk.old) (D.moments disk.old))
-        (of_disk (D.faults disk.new) (D.calls disk.new) (D.moments disk.new))
-        (wires (L.contents link.old) (L.faults link.old) (C.reading clock.old) (C.coming clock.old))
-        (wires (L.contents link.new) (L.faults link.new) (C.reading clock.new) (C.coming clock.new)) result)) }
-    ensures disk { IfOk words (λ all. is_over_store (command_of (map string_bytes all.items)) ≡ false → disk.new ≡ disk.old) }
-    ensures link { IfOk words (λ all. is_over_link (command_of (map string_bytes all.items)) ≡ false → link.new ≡ link.old) }
-    ensures clock { IfOk words (λ all. is_over_link (command_of (map string_bytes all.items)) ≡ false → clock.new ≡ clock.old) }
-    ensures unread_outside { OnErr words ((disk.new ≡ disk.old) × (link.new ≡ link.old) × (clock.new ≡ clock.old)) }
-    ensures starved_outside { OnErr input.old ((disk.new ≡ disk.old) × (link.new ≡ link.old) × (clock.new ≡ clock.old)) }
+    ensures ran { IfOk words (λ all. OnBoth input.old input.new
+        (λ was now. Ran (map string_bytes all.items)
+        (io (S.state was) (O.state out.old))
+        (io (S.state now) (O.state out.new))
+        (D.state disk.old) (D.state disk.new)
+        (net_state (L.state link.old) (C.state clock.old))
+        (net_state (L.state link.new) (C.state clock.new)) result)) }
+    ensures disk { IfOk words
+        (λ all. is_over_store (command_of (map string_bytes all.items)) ≡ false
+        → disk.new ≡ disk.old) }
+    ensures link { IfOk words
+        (λ all. is_over_link (command_of (map string_bytes all.items)) ≡ false
+        → link.new ≡ link.old) }
+    ensures clock { IfOk words
+        (λ all. is_over_link (command_of (map string_bytes all.items)) ≡ false
+        → clock.new ≡ clock.old) }
+    ensures unread_outside { OnErr words
+        ((disk.new ≡ disk.old) × (link.new ≡ link.old) × (clock.new ≡ clock.old)) }
+    ensures starved_outside { OnErr input.old
+        ((disk.new ≡ disk.old) × (link.new ≡ link.old) × (clock.new ≡ clock.old)) }
 {
     match (words, input) {
         (Err(status), _) => status,

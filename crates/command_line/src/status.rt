@@ -12,7 +12,7 @@ use authority::Halt;
 use ff_ids::MemberId;
 use itoa::Buffer;
 use line_text::BadWord;
-use node_running::NodeHalt;
+use node_command::NodeHalt;
 use play::Stop;
 use records::Body;
 use world_replay::Cause;
@@ -138,7 +138,8 @@ fn byte_word(digits: &mut Buffer, byte: Option<u8>) -> &str
 
 /// The line that says where a file is no store.
 fn broken_line(place: u64, byte: Option<u8>) -> ArrayString<256>
-    ensures { result.bytes ≡ codes "store broken " ++ decimal place ++ 32 ∷ [] ++ byte_text byte ++ 10 ∷ [] }
+    ensures { result.bytes
+        ≡ codes "store broken " ++ decimal place ++ 32 ∷ [] ++ byte_text byte ++ 10 ∷ [] }
 {
     let mut digits = Buffer::new();
     let mut text = ArrayString::new();
@@ -152,7 +153,8 @@ fn broken_line(place: u64, byte: Option<u8>) -> ArrayString<256>
 
 /// The line that says which line is refused, and for which word.
 fn refusal_line(line: u32, word: BadWord) -> ArrayString<256>
-    ensures { result.bytes ≡ codes "bad " ++ decimal line ++ 32 ∷ [] ++ bad_word_text word ++ 10 ∷ [] }
+    ensures { result.bytes
+        ≡ codes "bad " ++ decimal line ++ 32 ∷ [] ++ bad_word_text word ++ 10 ∷ [] }
 {
     let mut digits = Buffer::new();
     let mut text = ArrayString::new();

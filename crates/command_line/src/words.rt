@@ -26,7 +26,8 @@ fn all_but_first(alloc: Global, mut all: Args) -> Result<Vec<String>, AllocError
 /// refused in reading them, that is the answer.
 pub fn words_of(alloc: Global, arguments: io::Result<Args>) -> Result<Vec<String>, Status>
     ensures { MatchResult arguments
-        (λ all. MatchResult result (λ words. words.items ≡ drop 1 (into_iter_items all)) (λ status. status ≡ Status.OutOfMemory))
+        (λ all. MatchResult result (λ words. words.items ≡ drop 1 (into_iter_items all))
+        (λ status. status ≡ Status.OutOfMemory))
         (λ fault. result ≡ Err (refused_words (error_kind fault))) }
 {
     match arguments {

@@ -12,7 +12,8 @@ use records::steps::{Misread, member};
 
 /// One byte: a number of this range.
 pub(crate) fn byte_within(reader: &mut Reader, least: u8, most: u8) -> Result<u8, Misread>
-    ensures reads { Reads (λ n. n) result reader.new (byte_at (number_within least most) reader.old) }
+    ensures reads { Reads (λ n. n) result reader.new
+        (byte_at (number_within least most) reader.old) }
     ensures range { IfOk result (λ n. (least ≤ n) × (n ≤ most)) }
 {
     let place = reader.place();
@@ -24,7 +25,8 @@ pub(crate) fn byte_within(reader: &mut Reader, least: u8, most: u8) -> Result<u8
 
 /// Two bytes: a number of this range.
 pub(crate) fn u16_within(reader: &mut Reader, least: u16, most: u16) -> Result<u16, Misread>
-    ensures reads { Reads (λ n. n) result reader.new (number_at w16 (number_within least most) reader.old) }
+    ensures reads { Reads (λ n. n) result reader.new
+        (number_at w16 (number_within least most) reader.old) }
     ensures range { IfOk result (λ n. (least ≤ n) × (n ≤ most)) }
 {
     let place = reader.place();

@@ -16,5 +16,7 @@ pub fn one_datagram()
 
 /// A head with the number of the records, and the records behind it, are their datagram.
 pub fn records_follow_their_head()
-    ensures { (from : ℕ) (records : List Signed) → (head_bytes 4 from ++ to_be_bytes w16 (length records)) ++ flat_map record_bytes records ≡ datagram_bytes (Records from records) }
+    ensures { (from : ℕ) (records : List Signed)
+        → (head_bytes 4 from ++ to_be_bytes w16 (length records)) ++ flat_map record_bytes records
+        ≡ datagram_bytes (Records from records) }
 {}

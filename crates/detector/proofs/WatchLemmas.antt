@@ -13,7 +13,7 @@ use Rattle.ff_ids.specs.declared.TheConstants.{MEMBERS}
 use Rattle.ff_ids.specs.declared.NoteBody.{NoteBody}
 use Rattle.ff_ids.specs.Masks.{ring_count, enables, enabled}
 use Rattle.ff_ids.specs.Notes.{newest}
-use Rattle.ff_ids.specs.Rings.{Key, cyc}
+use Rattle.ff_ids.specs.Rings.{Key, is_between}
 use Rattle.ring_order.proofs.KeyOrder.{before_ranked}
 use Rattle.ff_ids.specs.Views.{State, in_view, key_of, monitor, successor, is_number}
 use Rattle.ff_ids.proofs.MaskLemmas.{range_with_len-push}
@@ -135,7 +135,7 @@ keyed : (s : State) (ring : ℕ) → Keyed (key_of s ring)
 keyed s ring = record { number = λ m. refl }
 
 -- Nothing lies between a member and itself at the start.
-near_start : (m x : Key) → m.number ≢ x.number → cyc m m x ≡ false
+near_start : (m x : Key) → m.number ≢ x.number → is_between m m x ≡ false
 near_start m x other =
     let r = before_ranked x in
     r.agrees m m other other ∙ ap is_lt (tied_itself r.total m)
@@ -148,7 +148,7 @@ monitor-of_successor s ring m x h below is =
       passes = is;
       other = λ e. h.other (sym e);
       nearest = λ w w_below w_is apart. ⊎_elim
-          (λ t. subst (λ k. cyc (key_of s ring m) (key_of s ring k) (key_of s ring x) ≡ false) (sym (eqb-true w m t)) (near_start (key_of s ring m) (key_of s ring x) (λ e. h.other (sym e))))
+          (λ t. subst (λ k. is_between (key_of s ring m) (key_of s ring k) (key_of s ring x) ≡ false) (sym (eqb-true w m t)) (near_start (key_of s ring m) (key_of s ring x) (λ e. h.other (sym e))))
           (λ t. h.nearest w w_below w_is (eqb-false w m t))
           (either_bool (eqb w m));
     }

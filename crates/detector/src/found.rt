@@ -61,7 +61,8 @@ impl Found {
         requires misses { misses ≤ 16 }
         requires few { length probes.now ≤ WATCHED }
         ensures { self.new
-            ≡ record self.old { silent = map (λ p. p.member) (filter (all_missed misses) probes.now) } }
+            ≡ record self.old
+            { silent = map (λ p. p.member) (filter (all_missed misses) probes.now) } }
     {
         list_silent(probes, misses, &mut self.silent);
     }

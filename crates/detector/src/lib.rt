@@ -50,7 +50,8 @@ impl Model for Detector {
 
     ghost view = { λ d. record { group = d.group; words = d.words; probes = d.probes.items } };
 
-    ghost invariant = { λ d. IsReady d.group (vec_capacity d.watched) (vec_capacity d.probes) (vec_capacity d.spare) };
+    ghost invariant = { λ d. IsReady d.group (vec_capacity d.watched) (vec_capacity d.probes)
+        (vec_capacity d.spare) };
 }
 
 impl Detector {
@@ -97,7 +98,8 @@ impl Detector {
     /// pong that comes again counts again while its ping is kept. One that doesn't count changes nothing.
     pub fn pong(&mut self, from: MemberId, nonce: u64) -> bool
         ensures value { (h : History) → StandsFor self.old h → result ≡ counts h from nonce }
-        ensures holds { (h : History) → StandsFor self.old h → StandsFor self.new (ponged h from nonce) }
+        ensures holds { (h : History) → StandsFor self.old h
+            → StandsFor self.new (ponged h from nonce) }
         ensures same { result ≡ false → self.new ≡ self.old }
         ensures group { self.new.group ≡ self.old.group }
     {

@@ -1,5 +1,5 @@
--- A file or a socket of the system, as contracts see it: no call tells what it holds.
-use Rattle.std.specs.Prelude.{ℕ, Bool, true, List, []}
+-- A file or a socket of the system, as contracts see it: what it holds is not modelled.
+use Rattle.std.specs.Prelude.{ℕ, Bool, true, false, List, []}
 use Rattle.ports.specs.declared.Opened as opened
 use Rattle.ports.specs.Disk.{Moment}
 use Rattle.ports.specs.Count.{next_count, counted}
@@ -19,6 +19,10 @@ after_open opened.TheVariants.Done device = record device { is_open = true }
 after_open opened.TheVariants.Failed device = record device { faults = next_count device.faults }
 after_open opened.TheVariants.OutOfMemory device = device
 
--- no moment of the file is told
+-- what was open is closed
+abbrev pub closed : Device → Device
+closed device = record device { is_open = false }
+
+-- no moment of the file is modelled
 abbrev pub untold : List Moment
 untold = []

@@ -5,7 +5,7 @@ ghost use Rattle.ports.specs.Count.{next_count};
 
 use ports::{Clock, Disk, Failed, Link, Opened, Received, Sent};
 
-/// A disk, or a link, whose every call fails. It tells no file.
+/// A disk, or a link, whose every call fails. No file is modelled.
 #[derive(Drop)]
 pub struct Absent {
     faults: u64,
@@ -26,13 +26,7 @@ impl Absent {
 }
 
 impl Disk for Absent {
-    ghost faults = { λ d. d.faults };
-
-    ghost moments = { λ _. [] };
-
-    ghost calls = { λ _. None };
-
-    ghost state = { λ _. None };
+    ghost state = { λ d. record { faults = d.faults; calls = None; moments = []; model = None } };
 
     fn open(&mut self, _name: &str) -> Opened
         ensures answer { result ≡ Opened.Failed }
@@ -80,9 +74,7 @@ impl Disk for Absent {
 }
 
 impl Link for Absent {
-    ghost faults = { λ d. d.faults };
-
-    ghost contents = { λ _. None };
+    ghost state = { λ d. record { contents = None; faults = d.faults } };
 
     fn bind(&mut self, _port: u16) -> Opened
         ensures answer { result ≡ Opened.Failed }
@@ -116,9 +108,7 @@ impl Link for Absent {
 pub struct NoClock;
 
 impl Clock for NoClock {
-    ghost reading = { λ _. 0 };
-
-    ghost coming = { λ _. None };
+    ghost state = { λ _. record { reading = 0; coming = None } };
 
     fn now(&mut self) -> u64
         ensures { result ≡ 0 }

@@ -5,13 +5,11 @@
 //! The source and the sink reveal what their reader and writer reveal: over the toolchain's own standard input and
 //! output that is nothing. A file, a socket and the clock reveal nothing: their clauses say when a call fails and is
 //! counted, and tests move real bytes.
-//!
-//! The source and the sink reveal what their reader and writer reveal: over the toolchain's own standard input and
-//! output that is nothing. A file, a socket and the clock reveal nothing: their clauses say when a call fails and is
-//! counted, and tests move real bytes.
 #![tactic(auto)]
 
-ghost use Rattle.std.specs.Prelude.{◌≡◌, true, false, IfOk};
+ghost use Rattle.std.specs.Prelude.{◌≡◌, true, false, length, IfOk};
+ghost use Rattle.std.specs.Io.{ReadsAtMost, WritesAtMost};
+ghost use Rattle.std.specs.Io.KnownBytes.{ReadConsumes, WriteAppends};
 ghost use Rattle.std.specs.Io.Buffered.{reader_remaining};
 ghost use Rattle.ports.specs.Count.{next_count};
 
@@ -26,11 +24,43 @@ pub use file_disk::FileDisk;
 use ports::{Given, Sink, Source, Taken};
 pub use real_clock::RealClock;
 use std::alloc::Global;
-use std::io::{BufReader, Read, Write};
+use std::io::{self, BufReader, Read, Write};
 pub use udp_link::UdpLink;
 
 /// How many bytes a source reads at a time.
 const BUFFER: usize = 65_536;
+
+/// How often a call is made that a signal interrupts each time.
+const TRIES: u32 = 8;
+
+/// One read, made again where a signal interrupts it.
+fn read_uninterrupted<R: Read>(reader: &mut R, buf: &mut [u8]) -> io::Result<usize>
+    ensures bound { ReadsAtMost result buf.new }
+    ensures room { length buf.new ≡ length buf.old }
+    ensures bytes { ReadConsumes (R.remaining reader.old) (R.remaining reader.new) result buf.new }
+{
+    for _ in 0..TRIES {
+        match reader.read(buf) {
+            Err(error) if error.kind() == io::ErrorKind::Interrupted => {}
+            answer => return answer,
+        }
+    }
+    Err(io::ErrorKind::Interrupted.into())
+}
+
+/// One write, made again where a signal interrupts it.
+fn write_uninterrupted<W: Write>(writer: &mut W, bytes: &[u8]) -> io::Result<usize>
+    ensures bound { WritesAtMost result bytes.now }
+    ensures bytes { WriteAppends (W.contents writer.old) (W.contents writer.new) result bytes.now }
+{
+    for _ in 0..TRIES {
+        match writer.write(bytes) {
+            Err(error) if error.kind() == io::ErrorKind::Interrupted => {}
+            answer => return answer,
+        }
+    }
+    Err(io::ErrorKind::Interrupted.into())
+}
 
 /// A reader as a source, through a buffer of 64 KiB.
 #[derive(Drop)]
@@ -45,7 +75,8 @@ impl<R: Read + Drop> StdSource<R> {
     pub fn new(alloc: Global, reader: R) -> Result<StdSource<R>, NoMemory>
         ensures open { IfOk result (λ s. s.is_open ≡ true) }
         ensures faults { IfOk result (λ s. s.faults ≡ 0) }
-        ensures left { IfOk result (λ s. reader_remaining R.remaining s.reader ≡ R.remaining reader) }
+        ensures left { IfOk result
+            (λ s. reader_remaining R.remaining s.reader ≡ R.remaining reader) }
     {
         match BufReader::with_capacity(alloc, BUFFER, reader) {
             Ok(reader) => Ok(StdSource {
@@ -79,17 +110,17 @@ impl<R: Read + Drop> StdSource<R> {
 }
 
 impl<R: Read + Drop> Source for StdSource<R> {
-    ghost faults = { λ s. s.faults };
-
-    ghost left = { λ s. reader_remaining R.remaining s.reader };
-
-    ghost is_open = { λ s. s.is_open };
+    ghost state = { λ s. record {
+      left = reader_remaining R.remaining s.reader;
+      faults = s.faults;
+      is_open = s.is_open;
+    } };
 
     fn read(&mut self, buf: &mut [u8]) -> Taken {
         if buf.is_empty() {
             return Taken::Got(0);
         }
-        match self.reader.read(buf) {
+        match read_uninterrupted(&mut self.reader, buf) {
             Ok(0) => self.end(),
             Ok(count) => Taken::Got(count),
             Err(_) => self.fail(),
@@ -135,17 +166,17 @@ impl<W: Write + Drop> StdSink<W> {
 }
 
 impl<W: Write + Drop> Sink for StdSink<W> {
-    ghost faults = { λ s. s.faults };
-
-    ghost taken = { λ s. W.contents s.writer };
-
-    ghost is_open = { λ s. s.is_open };
+    ghost state = { λ s. record {
+      taken = W.contents s.writer;
+      faults = s.faults;
+      is_open = s.is_open;
+    } };
 
     fn write(&mut self, bytes: &[u8]) -> Given {
         if bytes.is_empty() {
             return Given::Took(0);
         }
-        match self.writer.write(bytes) {
+        match write_uninterrupted(&mut self.writer, bytes) {
             Ok(count) if count > 0 => Given::Took(count),
             _ => self.fail(),
         }

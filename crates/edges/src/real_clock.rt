@@ -7,7 +7,7 @@ use ports::Clock;
 use std::marker::Model;
 use std::{io, time};
 
-/// The monotonic clock of the system. It tells no reading to come. Where it cannot be read, the last reading is given
+/// The monotonic clock of the system. No reading to come is modelled. Where it cannot be read, the last reading is given
 /// again, 0 before any.
 #[derive(Drop)]
 pub struct RealClock<'a, R: time::Clock> {
@@ -39,9 +39,7 @@ impl<'a, R: time::Clock> RealClock<'a, R> {
 }
 
 impl<'a, R: time::Clock> Clock for RealClock<'a, R> {
-    ghost reading = { λ c. c };
-
-    ghost coming = { λ _. None };
+    ghost state = { λ c. record { reading = c; coming = None } };
 
     fn now(&mut self) -> u64
         ensures kept { self.new ≡ result }

@@ -6,6 +6,7 @@ ghost use Rattle.ports.specs.Link.{Binds, Receives, Sends};
 ghost use Rattle.ports.specs.Device.{open_failed, receive_failed, ReceivedAtMost, send_failed};
 ghost use Rattle.edges.specs.Device.{after_call, after_open};
 
+use crate::TRIES;
 use ports::{Link, Opened, Received, Sent};
 use std::io;
 use std::marker::Model;
@@ -15,7 +16,7 @@ use std::time::Duration;
 /// How long a receive waits for a datagram, in milliseconds.
 const PATIENCE: u64 = 20;
 
-/// A UDP socket of 127.0.0.1. It tells no content. Before a `bind` that was `Done` the other calls fail. A receive
+/// A UDP socket of 127.0.0.1. Its content is not modelled. Before a `bind` that was `Done` the other calls fail. A receive
 /// waits for at most 20 milliseconds, and then answers `Nothing`.
 #[derive(Drop)]
 pub struct UdpLink<'a, R: Net> {
@@ -45,22 +46,35 @@ fn opened(socket: &Option<UdpSocket>) -> io::Result<&UdpSocket>
     socket.as_ref().ok_or(io::ErrorKind::NotConnected.into())
 }
 
-/// The number of bytes received, if a datagram came in time.
+/// The number of bytes received, if a datagram came in time and signals left the receive alone. A process that was
+/// stopped and goes on has such a signal.
 fn receive(socket: &Option<UdpSocket>, buf: &mut [u8]) -> io::Result<Option<usize>>
     ensures shut { IsNone socket.now → IsErr result }
     ensures fits { IfOk result (λ got. IfSome got (λ n. n ≤ length buf.old)) }
 {
-    match opened(socket)?.recv(buf) {
-        Ok(count) => Ok(Some(count)),
-        Err(error) if error.kind() == io::ErrorKind::WouldBlock => Ok(None),
-        Err(error) => Err(error),
+    let socket = opened(socket)?;
+    for _ in 0..TRIES {
+        match socket.recv(buf) {
+            Ok(count) => return Ok(Some(count)),
+            Err(error) if error.kind() == io::ErrorKind::WouldBlock => return Ok(None),
+            Err(error) if error.kind() == io::ErrorKind::Interrupted => {}
+            Err(error) => return Err(error),
+        }
     }
+    Ok(None)
 }
 
 fn send(socket: &Option<UdpSocket>, port: u16, bytes: &[u8]) -> io::Result<usize>
     ensures shut { IsNone socket.now → IsErr result }
 {
-    opened(socket)?.send_to(bytes, (Ipv4Addr::LOCALHOST, port))
+    let socket = opened(socket)?;
+    for _ in 0..TRIES {
+        match socket.send_to(bytes, (Ipv4Addr::LOCALHOST, port)) {
+            Err(error) if error.kind() == io::ErrorKind::Interrupted => {}
+            answer => return answer,
+        }
+    }
+    Err(io::ErrorKind::Interrupted.into())
 }
 
 impl<'a, R: Net> UdpLink<'a, R> {
@@ -83,9 +97,7 @@ impl<'a, R: Net> UdpLink<'a, R> {
 }
 
 impl<'a, R: Net> Link for UdpLink<'a, R> {
-    ghost faults = { λ l. l.faults };
-
-    ghost contents = { λ _. None };
+    ghost state = { λ l. record { contents = None; faults = l.faults } };
 
     fn bind(&mut self, port: u16) -> Opened
         ensures faults { self.new.faults ≡ counted (open_failed result) self.old.faults }

@@ -1,4 +1,4 @@
--- How calls of a disk whose state is told join into those of a store.
+-- How calls of a disk whose state is modelled join into those of a store.
 use Rattle.std.proofs.Common.{◌≡◌, ℕ, suc, ◌+◌, ◌-◌, ◌*◌, ◌<◌, ◌≤◌, Bool, true, false, Option, None, Some, List, [], ◌∷◌, ◌++◌, refl, sym, ap, ◌∙◌, subst, arith, append_assoc, append-nil, Result, Ok, Err}
 use Rattle.ports.specs.Disk.{Moment}
 use Rattle.ports.specs.DiskCalls.{DiskCall, ToOpen, ToRead, ToSync}
@@ -16,7 +16,7 @@ use Rattle.epoch_store.specs.Calls.{StoreState, ReadsGate, SettlesAs, same, is_f
 use Rattle.epoch_store.specs.Asked.{open_calls, gate_reads, RefusedInHead, RefusedAtGate}
 use Rattle.epoch_store.specs.Followed.{OpensFile, Reaches, PassesGates, ReadsOnTo, FailsReading, ReadsGatesFrom}
 
--- reading comes to the gate, where the file is told
+-- reading comes to the gate, where the file is modelled
 abbrev pub ReachesIn : List ℕ → List Moment → Option Stored → Seat → Type 0
 ReachesIn tag [] before seat = Unit {0}
 ReachesIn tag (now ∷ past) before seat = Reaches tag now.image before seat

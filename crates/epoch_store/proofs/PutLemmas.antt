@@ -10,7 +10,7 @@ use Rattle.ports.specs.Disk.{Moment, Leaves, Since, IsAmong, Fails, settled, tor
 use Rattle.ports.proofs.MomentLemmas.{settled_only}
 use Rattle.ports.proofs.SinceLemmas.{Since-same, Since-weaken, Since-trans}
 
--- where nothing is told
+-- where nothing is modelled
 pub untold : (P : Moment → Type 0) (newer : List Moment) → newer ≡ [] → Since P [] newer
 untold P newer none = rw none (Since-same P [])
 

@@ -58,7 +58,7 @@ pub record AnswersAs (tag image : List ℕ) (result : Result StoreState StoreErr
   pub only : (other : Reading) → Reads tag image other → other ≡ reading
   pub answer : result ≡ answer_of image reading
 
--- the answer of opening, where the file is told
+-- the answer of opening, where the file is modelled
 abbrev pub OpensAs : List ℕ → List Moment → Result StoreState StoreError → Type 0
 OpensAs tag [] result = Unit {0}
 OpensAs tag (now ∷ past) result = OnRead result (AnswersAs tag now.image result)
@@ -72,7 +72,7 @@ IsNotTaken (Err (Broken place byte)) = Unit {0}
 IsNotTaken (Err (OtherKey place byte)) = Unit {0}
 IsNotTaken (Err OutOfMemory) = Unit {0}
 
--- a length of the file, where it is told
+-- a length of the file, where it is modelled
 abbrev pub HasLength : List Moment → ℕ → Type 0
 HasLength [] n = Unit {0}
 HasLength (now ∷ past) n = length now.image ≡ n
@@ -160,7 +160,7 @@ abbrev pub ReadsEntries : List ℕ → List Moment → Result StoreState StoreEr
 ReadsEntries tag [] result = IsNotTaken result
 ReadsEntries tag (now ∷ past) result = OnRead result (EntriesAnswer tag now.image result)
 
--- the file is this store, where it is told
+-- the file is this store, where it is modelled
 abbrev pub HoldsStore : List ℕ → Stored → Seat → List Moment → Type 0
 HoldsStore tag state seat [] = Unit {0}
 HoldsStore tag state seat (now ∷ past) = StoreAt tag now.image state seat

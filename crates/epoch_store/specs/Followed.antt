@@ -1,4 +1,4 @@
--- What each call of a store makes of a disk whose state is told, and which calls fail.
+-- What each call of a store makes of a disk whose state is modelled, and which calls fail.
 use Rattle.std.specs.Prelude.{◌≡◌, ℕ, ◌+◌, ◌-◌, ◌*◌, ◌<◌, ◌≤◌, max, true, false, Option, None, Some, List, [], ◌∷◌, ◌++◌, Result, Ok, Err}
 use Rattle.ports.specs.Disk.{Moment}
 use Rattle.ports.specs.DiskCalls.{DiskCall, ToOpen, ToMeasure}
@@ -14,7 +14,7 @@ use Rattle.epoch_store.specs.Calls.{StoreState}
 use Rattle.epoch_store.specs.Reading.{Stands, window}
 use Rattle.epoch_store.specs.Asked.{make_calls, gate_reads}
 
--- the file was opened or not; memory is refused only where the state isn't told
+-- the file was opened or not; memory is refused only where the state isn't modelled
 abbrev pub OpensFile : List ℕ → Option DiskState → Option DiskState → Result Unit StoreError → Type 0
 OpensFile name older newer (Ok value) = came_to newer false ≡ runs_on (ToOpen name ∷ []) older
 OpensFile name older newer (Err Fault) = came_to newer true ≡ runs_on (ToOpen name ∷ []) older
@@ -39,7 +39,7 @@ pub data Reaches (tag image : List ℕ) : Option Stored → Seat → Type 0 wher
   begins : Reaches tag image None (first_seat tag)
   passes : (before : Option Stored) (seat : Seat) (e : Stored) → Reaches tag image before seat → Stands before (window image seat) (Ok (Entry e)) → Reaches tag image (Some e) (next_seat seat e)
 
--- reading passes so many gates, where the file is told
+-- reading passes so many gates, where the file is modelled
 abbrev pub PassesGates : List ℕ → List Moment → ℕ → Type 0
 PassesGates tag [] gates = Unit {0}
 PassesGates tag (now ∷ past) gates = (before : Option Stored) × Reaches tag now.image before (nth_seat tag gates)
@@ -60,7 +60,7 @@ pub record FailsReading (tag : List ℕ) (first : List DiskCall) (moments : List
   pub came : came_to newer true ≡ runs_on (gate_reads gates ++ first) older
 
 -- after some calls, the gates are read: up to the closed one, to the place where the file is refused, or up to a call
--- that fails; memory is refused only where the state isn't told
+-- that fails; memory is refused only where the state isn't modelled
 abbrev pub ReadsGatesFrom : List ℕ → List DiskCall → List Moment → Result StoreState StoreError → Option DiskState → Option DiskState → Type 0
 ReadsGatesFrom tag first moments (Ok store) older newer = ReadsOnTo first store.seat.gate older newer
 ReadsGatesFrom tag first moments (Err Fault) older newer = FailsReading tag first moments older newer

@@ -1,4 +1,4 @@
--- A store on a disk whose state is told: which puts succeed, and what is behind them.
+-- A store on a disk whose state is modelled: which puts succeed, and what is behind them.
 use Rattle.std.specs.Prelude.{ℕ, ◌+◌, ◌%◌, ◌==◌, Bool, true, false, not, if◌then◌else◌}
 use Rattle.ports.specs.MemoryDisk.{DiskState}
 use Rattle.ports.specs.DiskSteps.{Came, runs}

@@ -67,7 +67,7 @@ made tag first = front tag (first ∷ []) ++ 0 ∷ []
 abbrev pub made_seat : List ℕ → Stored → Seat
 made_seat tag first = next_seat (first_seat tag) first
 
--- the newest moment is a settled file that is this store; nothing is told of a disk without moments
+-- the newest moment is a settled file that is this store; nothing is said of a disk without moments
 abbrev pub IsSettled : List ℕ → Stored → Seat → List Moment → Type 0
 IsSettled tag state seat [] = Unit {0}
 IsSettled tag state seat (now ∷ past) = (now ≡ settled now.image) × StoreAt tag now.image state seat

@@ -71,11 +71,15 @@ impl From<Failed> for StoreError {
 
 /// Writes the bytes at a place, and syncs.
 fn write_synced<D: Disk>(disk: &mut D, place: u64, bytes: &[u8]) -> Result<(), Failed>
-    ensures faults { D.faults disk.new ≡ counted (is_err result) (D.faults disk.old) }
-    ensures calls { Makes result (ToSync ∷ ToWrite place bytes.now ∷ []) (D.calls disk.old) (D.calls disk.new) }
-    ensures follows { came_to (D.state disk.new) (is_err result) ≡ runs_on (ToSync ∷ ToWrite place bytes.now ∷ []) (D.state disk.old) }
-    ensures tears { Fails (torn_at place (length bytes.now)) (D.moments disk.old) (D.moments disk.new) }
-    ensures stores { OnOk result (SettlesAs (written place bytes.now) (D.moments disk.old) (D.moments disk.new)) }
+    ensures faults { (D.state disk.new).faults ≡ counted (is_err result) (D.state disk.old).faults }
+    ensures calls { Makes result (ToSync ∷ ToWrite place bytes.now ∷ []) (D.state disk.old).calls
+        (D.state disk.new).calls }
+    ensures follows { came_to (D.state disk.new).model (is_err result)
+        ≡ runs_on (ToSync ∷ ToWrite place bytes.now ∷ []) (D.state disk.old).model }
+    ensures tears { Fails (torn_at place (length bytes.now)) (D.state disk.old).moments
+        (D.state disk.new).moments }
+    ensures stores { OnOk result (SettlesAs (written place bytes.now) (D.state disk.old).moments
+        (D.state disk.new).moments) }
 {
     disk.write_at(place, bytes)?;
     disk.sync()
@@ -83,10 +87,12 @@ fn write_synced<D: Disk>(disk: &mut D, place: u64, bytes: &[u8]) -> Result<(), F
 
 /// Opens the file of that name.
 fn open_file<D: Disk>(disk: &mut D, name: &str) -> Result<(), StoreError>
-    ensures faults { D.faults disk.new ≡ counted (is_fault result) (D.faults disk.old) }
-    ensures called { D.calls disk.new ≡ with_call (ToOpen name.now) (D.calls disk.old) }
-    ensures follows { OpensFile name.now (D.state disk.old) (D.state disk.new) result }
-    ensures opens { IsOpened (D.moments disk.old) (D.moments disk.new) result }
+    ensures faults { (D.state disk.new).faults
+        ≡ counted (is_fault result) (D.state disk.old).faults }
+    ensures called { (D.state disk.new).calls
+        ≡ with_call (ToOpen name.now) (D.state disk.old).calls }
+    ensures follows { OpensFile name.now (D.state disk.old).model (D.state disk.new).model result }
+    ensures opens { IsOpened (D.state disk.old).moments (D.state disk.new).moments result }
 {
     match disk.open(name) {
         Opened::Done => Ok(()),
@@ -123,14 +129,20 @@ fn made_bytes(tag: &[u8; 32], first: Stored) -> ArrayVec<u8, 58>
 /// changed, nor after `OutOfMemory`, which comes from opening alone.
 pub fn make<D: Disk>(disk: &mut D, name: &str, tag: &[u8; 32], mask: Mask) -> Result<(), StoreError>
     requires { mask.0 < 2 ^ MAX_RINGS }
-    ensures faults { D.faults disk.new ≡ counted (is_fault result) (D.faults disk.old) }
-    ensures calls { MakesStore name.now tag.now (first_entry mask) result (D.calls disk.old) (D.calls disk.new) }
-    ensures follows { MakesFrom name.now tag.now (first_entry mask) result (D.state disk.old) (D.state disk.new) }
-    ensures taken { MakesWhereEmpty (D.moments disk.old) result }
-    ensures made { OnOk result (SettlesAs (λ _. made tag.now (first_entry mask)) (D.moments disk.old) (D.moments disk.new)) }
-    ensures store { OnOk result (IsSettled tag.now (first_entry mask) (made_seat tag.now (first_entry mask)) (D.moments disk.new)) }
-    ensures refused { OnRefusal result (D.moments disk.new ≡ D.moments disk.old) }
-    ensures any_moment { Fails (torn_at 0 (store_length 1)) (D.moments disk.old) (D.moments disk.new) }
+    ensures faults { (D.state disk.new).faults
+        ≡ counted (is_fault result) (D.state disk.old).faults }
+    ensures calls { MakesStore name.now tag.now (first_entry mask) result (D.state disk.old).calls
+        (D.state disk.new).calls }
+    ensures follows { MakesFrom name.now tag.now (first_entry mask) result (D.state disk.old).model
+        (D.state disk.new).model }
+    ensures taken { MakesWhereEmpty (D.state disk.old).moments result }
+    ensures made { OnOk result (SettlesAs (λ _. made tag.now (first_entry mask))
+        (D.state disk.old).moments (D.state disk.new).moments) }
+    ensures store { OnOk result (IsSettled tag.now (first_entry mask)
+        (made_seat tag.now (first_entry mask)) (D.state disk.new).moments) }
+    ensures refused { OnRefusal result ((D.state disk.new).moments ≡ (D.state disk.old).moments) }
+    ensures any_moment { Fails (torn_at 0 (store_length 1)) (D.state disk.old).moments
+        (D.state disk.new).moments }
 {
     open_file(disk, name)?;
     let len = disk.len()?;
@@ -149,14 +161,17 @@ pub fn make<D: Disk>(disk: &mut D, name: &str, tag: &[u8; 32], mask: Mask) -> Re
 
 /// Reads the first 40 bytes, and checks that they are the header of a store of this tag.
 fn read_head<D: Disk>(disk: &mut D, tag: &[u8; 32]) -> Result<(), StoreError>
-    ensures faults { D.faults disk.new ≡ counted (is_fault result) (D.faults disk.old) }
-    ensures called { D.calls disk.new ≡ with_call (ToRead 0 header_length) (D.calls disk.old) }
-    ensures follows { came_to (D.state disk.new) (is_fault result) ≡ runs_on (ToRead 0 header_length ∷ []) (D.state disk.old) }
+    ensures faults { (D.state disk.new).faults
+        ≡ counted (is_fault result) (D.state disk.old).faults }
+    ensures called { (D.state disk.new).calls
+        ≡ with_call (ToRead 0 header_length) (D.state disk.old).calls }
+    ensures follows { came_to (D.state disk.new).model (is_fault result)
+        ≡ runs_on (ToRead 0 header_length ∷ []) (D.state disk.old).model }
     ensures near { RefusedInHead result }
-    ensures reads { ReadsHead tag.now (D.moments disk.old) result }
+    ensures reads { ReadsHead tag.now (D.state disk.old).moments result }
     ensures not_taken { IsNotTaken result }
-    ensures same { OnRead result (D.moments disk.new ≡ D.moments disk.old) }
-    ensures stays { Fails stays (D.moments disk.old) (D.moments disk.new) }
+    ensures same { OnRead result ((D.state disk.new).moments ≡ (D.state disk.old).moments) }
+    ensures stays { Fails stays (D.state disk.old).moments (D.state disk.new).moments }
 {
     let mut head = [0; HEAD_LEN];
     let count = disk.read_at(0, &mut head)?;
@@ -166,14 +181,17 @@ fn read_head<D: Disk>(disk: &mut D, tag: &[u8; 32]) -> Result<(), StoreError>
 /// Reads what stands in a seat.
 fn read_gate<D: Disk>(disk: &mut D, before: Option<Stored>, seat: Seat) -> Result<Gate, StoreError>
     requires { seat.gate < 2 ^ 32 }
-    ensures faults { D.faults disk.new ≡ counted (is_fault result) (D.faults disk.old) }
-    ensures called { D.calls disk.new ≡ with_call (ToRead seat.gate entry_length) (D.calls disk.old) }
-    ensures follows { came_to (D.state disk.new) (is_fault result) ≡ runs_on (ToRead seat.gate entry_length ∷ []) (D.state disk.old) }
+    ensures faults { (D.state disk.new).faults
+        ≡ counted (is_fault result) (D.state disk.old).faults }
+    ensures called { (D.state disk.new).calls
+        ≡ with_call (ToRead seat.gate entry_length) (D.state disk.old).calls }
+    ensures follows { came_to (D.state disk.new).model (is_fault result)
+        ≡ runs_on (ToRead seat.gate entry_length ∷ []) (D.state disk.old).model }
     ensures near { RefusedAtGate seat result }
-    ensures reads { ReadsGate before seat (D.moments disk.old) result }
+    ensures reads { ReadsGate before seat (D.state disk.old).moments result }
     ensures found { FindsGate before result }
-    ensures same { OnRead result (D.moments disk.new ≡ D.moments disk.old) }
-    ensures stays { Fails stays (D.moments disk.old) (D.moments disk.new) }
+    ensures same { OnRead result ((D.state disk.new).moments ≡ (D.state disk.old).moments) }
+    ensures stays { Fails stays (D.state disk.old).moments (D.state disk.new).moments }
 {
     let mut bytes = [0; ENTRY_LEN];
     let count = disk.read_at(seat.gate, &mut bytes)?;
@@ -188,14 +206,16 @@ fn read_gate<D: Disk>(disk: &mut D, before: Option<Stored>, seat: Seat) -> Resul
 
 /// Reads entry after entry from the first seat on, up to the first closed gate.
 fn read_entries<D: Disk>(disk: &mut D, tag: &[u8; 32]) -> Result<Store, StoreError>
-    ensures faults { D.faults disk.new ≡ counted (is_fault result) (D.faults disk.old) }
-    ensures calls { ReadsGates [] result (D.calls disk.old) (D.calls disk.new) }
-    ensures follows { ReadsGatesFrom tag.now [] (D.moments disk.old) result (D.state disk.old) (D.state disk.new) }
-    ensures reads { ReadsEntries tag.now (D.moments disk.old) result }
+    ensures faults { (D.state disk.new).faults
+        ≡ counted (is_fault result) (D.state disk.old).faults }
+    ensures calls { ReadsGates [] result (D.state disk.old).calls (D.state disk.new).calls }
+    ensures follows { ReadsGatesFrom tag.now [] (D.state disk.old).moments result
+        (D.state disk.old).model (D.state disk.new).model }
+    ensures reads { ReadsEntries tag.now (D.state disk.old).moments result }
     ensures not_taken { IsNotTaken result }
     ensures runs { IfOk result (λ store. store.failed ≡ false) }
-    ensures same { OnRead result (D.moments disk.new ≡ D.moments disk.old) }
-    ensures stays { Fails stays (D.moments disk.old) (D.moments disk.new) }
+    ensures same { OnRead result ((D.state disk.new).moments ≡ (D.state disk.old).moments) }
+    ensures stays { Fails stays (D.state disk.old).moments (D.state disk.new).moments }
 {
     let mut before = None;
     let mut seat = Seat::first(tag);
@@ -219,15 +239,19 @@ fn read_entries<D: Disk>(disk: &mut D, tag: &[u8; 32]) -> Result<Store, StoreErr
 
 /// Reads the file whole.
 fn read_store<D: Disk>(disk: &mut D, tag: &[u8; 32]) -> Result<Store, StoreError>
-    ensures faults { D.faults disk.new ≡ counted (is_fault result) (D.faults disk.old) }
-    ensures calls { ReadsGates (ToRead 0 header_length ∷ []) result (D.calls disk.old) (D.calls disk.new) }
-    ensures follows { ReadsGatesFrom tag.now (ToRead 0 header_length ∷ []) (D.moments disk.old) result (D.state disk.old) (D.state disk.new) }
-    ensures reads { OpensAs tag.now (D.moments disk.old) result }
+    ensures faults { (D.state disk.new).faults
+        ≡ counted (is_fault result) (D.state disk.old).faults }
+    ensures calls { ReadsGates (ToRead 0 header_length ∷ []) result (D.state disk.old).calls
+        (D.state disk.new).calls }
+    ensures follows { ReadsGatesFrom tag.now (ToRead 0 header_length ∷ [])
+        (D.state disk.old).moments result (D.state disk.old).model (D.state disk.new).model }
+    ensures reads { OpensAs tag.now (D.state disk.old).moments result }
     ensures not_taken { IsNotTaken result }
     ensures runs { IfOk result (λ store. store.failed ≡ false) }
-    ensures store { IfOk result (λ store. HoldsStore tag.now store.state store.seat (D.moments disk.old)) }
-    ensures same { OnRead result (D.moments disk.new ≡ D.moments disk.old) }
-    ensures stays { Fails stays (D.moments disk.old) (D.moments disk.new) }
+    ensures store { IfOk result (λ store. HoldsStore tag.now store.state store.seat
+        (D.state disk.old).moments) }
+    ensures same { OnRead result ((D.state disk.new).moments ≡ (D.state disk.old).moments) }
+    ensures stays { Fails stays (D.state disk.old).moments (D.state disk.new).moments }
 {
     match read_head(disk, tag) {
         Ok(()) => read_entries(disk, tag),
@@ -263,15 +287,20 @@ impl Store {
     /// file that a crash leaves is one that a crash before the call might have left; and but for `Fault` and
     /// `OutOfMemory`, which comes from opening alone, the file is settled as it was.
     pub fn open<D: Disk>(disk: &mut D, name: &str, tag: &[u8; 32]) -> Result<Store, StoreError>
-        ensures faults { D.faults disk.new ≡ counted (is_fault result) (D.faults disk.old) }
-        ensures calls { ReadsGates (open_calls name.now) result (D.calls disk.old) (D.calls disk.new) }
-        ensures follows { ReadsGatesFrom tag.now (open_calls name.now) (D.moments disk.old) result (D.state disk.old) (D.state disk.new) }
-        ensures reads { OpensAs tag.now (D.moments disk.old) result }
+        ensures faults { (D.state disk.new).faults
+            ≡ counted (is_fault result) (D.state disk.old).faults }
+        ensures calls { ReadsGates (open_calls name.now) result (D.state disk.old).calls
+            (D.state disk.new).calls }
+        ensures follows { ReadsGatesFrom tag.now (open_calls name.now) (D.state disk.old).moments
+            result (D.state disk.old).model (D.state disk.new).model }
+        ensures reads { OpensAs tag.now (D.state disk.old).moments result }
         ensures not_taken { IsNotTaken result }
         ensures runs { IfOk result (λ store. store.failed ≡ false) }
-        ensures store { IfOk result (λ store. IsSettled tag.now store.state store.seat (D.moments disk.new)) }
-        ensures settles { OnRead result (SettlesAs same (D.moments disk.old) (D.moments disk.new)) }
-        ensures any_moment { Fails stays (D.moments disk.old) (D.moments disk.new) }
+        ensures store { IfOk result (λ store. IsSettled tag.now store.state store.seat
+            (D.state disk.new).moments) }
+        ensures settles { OnRead result
+            (SettlesAs same (D.state disk.old).moments (D.state disk.new).moments) }
+        ensures any_moment { Fails stays (D.state disk.old).moments (D.state disk.new).moments }
     {
         open_file(disk, name)?;
         disk.sync()?;
@@ -296,9 +325,12 @@ impl Store {
         requires runs { self.old.failed ≡ false }
         requires entry { IsEntry next }
         requires follows { Follows self.old.state next }
-        ensures faults { D.faults disk.new ≡ counted (is_err result) (D.faults disk.old) }
-        ensures calls { Makes result (put_calls self.old.seat next) (D.calls disk.old) (D.calls disk.new) }
-        ensures follows { came_to (D.state disk.new) (is_err result) ≡ runs_on (put_calls self.old.seat next) (D.state disk.old) }
+        ensures faults { (D.state disk.new).faults
+            ≡ counted (is_err result) (D.state disk.old).faults }
+        ensures calls { Makes result (put_calls self.old.seat next) (D.state disk.old).calls
+            (D.state disk.new).calls }
+        ensures follows { came_to (D.state disk.new).model (is_err result)
+            ≡ runs_on (put_calls self.old.seat next) (D.state disk.old).model }
         ensures fault { IfErr result (λ e. e ≡ Fault) }
         ensures put { OnOk result (self.new ≡ record {
           state = next;
@@ -306,12 +338,16 @@ impl Store {
           failed = false;
         }) }
         ensures failed { OnErr result (self.new ≡ record self.old { failed = true }) }
-        ensures any_moment { (tag : List ℕ) → IsSettled tag self.old.state self.old.seat (D.moments disk.old)
-            → Since (LeavesEither tag self.old.state next) (D.moments disk.old) (D.moments disk.new) }
-        ensures settled { OnOk result ((tag : List ℕ) → IsSettled tag self.old.state self.old.seat (D.moments disk.old)
-            → IsSettled tag next (next_seat self.old.seat next) (D.moments disk.new)) }
-        ensures leaves { OnOk result ((tag : List ℕ) → IsSettled tag self.old.state self.old.seat (D.moments disk.old)
-            → LeavesState tag next (D.moments disk.new)) }
+        ensures any_moment { (tag : List ℕ)
+            → IsSettled tag self.old.state self.old.seat (D.state disk.old).moments
+            → Since (LeavesEither tag self.old.state next) (D.state disk.old).moments
+            (D.state disk.new).moments }
+        ensures settled { OnOk result ((tag : List ℕ)
+            → IsSettled tag self.old.state self.old.seat (D.state disk.old).moments
+            → IsSettled tag next (next_seat self.old.seat next) (D.state disk.new).moments) }
+        ensures leaves { OnOk result ((tag : List ℕ)
+            → IsSettled tag self.old.state self.old.seat (D.state disk.old).moments
+            → LeavesState tag next (D.state disk.new).moments) }
     {
         self.failed = true;
         write_synced(disk, self.seat.gate + 1, &entry_bytes(next))?;

@@ -19,8 +19,8 @@ abbrev pub is_below : Key → Key → Bool
 is_below a b = is_lt (key_cmp a b)
 
 -- Going round the ring from a, b comes strictly before c.
-abbrev pub cyc : Key → Key → Key → Bool
-cyc a b c = (is_below a b && is_below b c) || (is_below b c && is_below c a) || (is_below c a && is_below a b)
+abbrev pub is_between : Key → Key → Key → Bool
+is_between a b c = (is_below a b && is_below b c) || (is_below b c && is_below c a) || (is_below c a && is_below a b)
 
 -- The keys of the list other than that of the member.
 abbrev pub others : ℕ → List Key → List Key
@@ -28,7 +28,7 @@ others member keys = filter (λ k. not (k.number == member)) keys
 
 -- No key of the list lies strictly between the two, going round from the first to the second.
 abbrev pub none_between : List Key → Key → Key → Bool
-none_between keys from until = list_all (λ w. not (cyc from w until)) keys
+none_between keys from until = list_all (λ w. not (is_between from w until)) keys
 
 -- Of the listed members other than m, the one with nobody else between it and m.
 abbrev pub nearest_before : List Key → Key → Option ℕ
@@ -42,10 +42,10 @@ nearest_after keys m = option_map (λ v. v.number) (find (λ v. none_between (ot
 pub record IsNearestBefore (keys : List Key) (m v : Key) : Type 0 where
   pub listed : Contains keys v
   pub other : v.number ≢ m.number
-  pub nearest : All (λ w. w.number ≢ m.number → cyc v w m ≡ false) keys
+  pub nearest : All (λ w. w.number ≢ m.number → is_between v w m ≡ false) keys
 
 -- v is listed and isn't m, and no listed member other than m lies strictly between m and v.
 pub record IsNearestAfter (keys : List Key) (m v : Key) : Type 0 where
   pub listed : Contains keys v
   pub other : v.number ≢ m.number
-  pub nearest : All (λ w. w.number ≢ m.number → cyc m w v ≡ false) keys
+  pub nearest : All (λ w. w.number ≢ m.number → is_between m w v ≡ false) keys

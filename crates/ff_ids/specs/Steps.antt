@@ -58,12 +58,12 @@ abbrev pub after_note : State → NoteBody → Stepped
 after_note s n = settled s (record s { notes = n ∷ s.notes }) []
 
 -- Kept accusations are in order of the accused, then of the ring.
-abbrev pub comes_first : AccBody → AccBody → Bool
-comes_first a b = nat_lt a.accused b.accused || ((a.accused == b.accused) && nat_lt a.ring.0 b.ring.0)
+abbrev pub precedes : AccBody → AccBody → Bool
+precedes a b = nat_lt a.accused b.accused || ((a.accused == b.accused) && nat_lt a.ring.0 b.ring.0)
 
 abbrev pub with_kept : AccBody × ℕ → List (AccBody × ℕ) → List (AccBody × ℕ)
 with_kept p [] = p ∷ []
-with_kept p (q ∷ kept) = if comes_first q.0 p.0 then q ∷ with_kept p kept else p ∷ q ∷ kept
+with_kept p (q ∷ kept) = if precedes q.0 p.0 then q ∷ with_kept p kept else p ∷ q ∷ kept
 
 -- An accusation without a fault is kept from now on.
 abbrev pub after_accusation : State → AccBody → State

@@ -55,7 +55,8 @@ fn lacks_ring(there: Option<&SummaryEntry>, here: &SummaryEntry, ring: RingNo) -
 /// Whether an accusation on this ring is kept here and lacked there.
 fn is_wanted(there: Option<&SummaryEntry>, here: &SummaryEntry, ring: RingNo) -> bool
     requires { ring.0 < MASK_BITS }
-    ensures { result ≡ (enables here.now.rings ring.0 && lacks_ring (option_copied there.entry) here.now ring.0) }
+    ensures { result ≡ (enables here.now.rings ring.0 && lacks_ring (option_copied there.entry)
+        here.now ring.0) }
 {
     Mask(here.rings).enables(ring) && lacks_ring(there, here, ring)
 }
@@ -66,8 +67,10 @@ fn push_certificates(
     theirs: &[SummaryEntry],
     out: &mut Vec<RecordKey>,
 ) -> Result<(), NoMemory>
-    ensures ok { OnOk result (out.new.items ≡ out.old.items ++ certificates_lacking mine.now theirs.now) }
-    ensures front { OnErr result (IsFront out.old.items out.new.items (certificates_lacking mine.now theirs.now)) }
+    ensures ok { OnOk result
+        (out.new.items ≡ out.old.items ++ certificates_lacking mine.now theirs.now) }
+    ensures front { OnErr result
+        (IsFront out.old.items out.new.items (certificates_lacking mine.now theirs.now)) }
 {
     for here in mine {
         if entry_of(theirs, here.member).is_none() {
@@ -84,7 +87,8 @@ fn push_notes(
     out: &mut Vec<RecordKey>,
 ) -> Result<(), NoMemory>
     ensures ok { OnOk result (out.new.items ≡ out.old.items ++ notes_lacking mine.now theirs.now) }
-    ensures front { OnErr result (IsFront out.old.items out.new.items (notes_lacking mine.now theirs.now)) }
+    ensures front { OnErr result
+        (IsFront out.old.items out.new.items (notes_lacking mine.now theirs.now)) }
 {
     for here in mine {
         if here.epoch > 0 && is_behind(entry_of(theirs, here.member), here) {
@@ -100,8 +104,11 @@ fn push_rings(
     here: &SummaryEntry,
     out: &mut Vec<RecordKey>,
 ) -> Result<(), NoMemory>
-    ensures ok { OnOk result (out.new.items ≡ out.old.items ++ rings_lacking (option_copied there.entry) here.now) }
-    ensures front { OnErr result (IsFront out.old.items out.new.items (rings_lacking (option_copied there.entry) here.now)) }
+    ensures ok { OnOk result
+        (out.new.items ≡ out.old.items ++ rings_lacking (option_copied there.entry) here.now) }
+    ensures front { OnErr result
+        (IsFront out.old.items out.new.items
+        (rings_lacking (option_copied there.entry) here.now)) }
 {
     for number in 0..MASK_BITS {
         let ring = RingNo(number);
@@ -118,8 +125,10 @@ fn push_accusations(
     theirs: &[SummaryEntry],
     out: &mut Vec<RecordKey>,
 ) -> Result<(), NoMemory>
-    ensures ok { OnOk result (out.new.items ≡ out.old.items ++ accusations_lacking mine.now theirs.now) }
-    ensures front { OnErr result (IsFront out.old.items out.new.items (accusations_lacking mine.now theirs.now)) }
+    ensures ok { OnOk result
+        (out.new.items ≡ out.old.items ++ accusations_lacking mine.now theirs.now) }
+    ensures front { OnErr result
+        (IsFront out.old.items out.new.items (accusations_lacking mine.now theirs.now)) }
 {
     for here in mine {
         push_rings(entry_of(theirs, here.member), here, out)?;
@@ -134,7 +143,8 @@ fn push_lacking(
     out: &mut Vec<RecordKey>,
 ) -> Result<(), NoMemory>
     ensures ok { OnOk result (out.new.items ≡ out.old.items ++ differ mine.now theirs.now) }
-    ensures front { OnErr result (IsFront out.old.items out.new.items (differ mine.now theirs.now)) }
+    ensures front { OnErr result
+        (IsFront out.old.items out.new.items (differ mine.now theirs.now)) }
 {
     push_certificates(mine, theirs, out)?;
     push_notes(mine, theirs, out)?;
@@ -148,8 +158,10 @@ fn push_lacking(
 /// the order of the entries here, then of the rings. After want of memory `out` holds a front of them behind what
 /// it held.
 pub fn lacks(mine: &Summary, theirs: &Summary, out: &mut Vec<RecordKey>) -> Result<(), NoMemory>
-    ensures ok { OnOk result (out.new.items ≡ out.old.items ++ differ mine.now.listed theirs.now.listed) }
-    ensures front { OnErr result (IsFront out.old.items out.new.items (differ mine.now.listed theirs.now.listed)) }
+    ensures ok { OnOk result
+        (out.new.items ≡ out.old.items ++ differ mine.now.listed theirs.now.listed) }
+    ensures front { OnErr result
+        (IsFront out.old.items out.new.items (differ mine.now.listed theirs.now.listed)) }
 {
     push_lacking(mine.entries(), theirs.entries(), out)
 }

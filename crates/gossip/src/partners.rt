@@ -55,7 +55,8 @@ fn successor_or_other(
 ) -> Option<MemberId>
     requires tolerance { membership.now.group.t ≤ MAX_TOLERANCE }
     requires member { has_joined membership.now me ≡ true }
-    ensures { (s : State) → Holds membership.now s → result ≡ partner_in membership.now.group.t s certified.now me round }
+    ensures { (s : State) → Holds membership.now s
+        → result ≡ partner_in membership.now.group.t s certified.now me round }
 {
     let rings = 2 * membership.group().t + 1;
     let ring = RingNo((round % rings as u64) as u8);
@@ -77,11 +78,14 @@ pub fn partner(
     requires tolerance { membership.now.group.t ≤ MAX_TOLERANCE }
     requires members { AreMembers membership.now certified.now }
     requires own { is_listed certified.now me ≡ true }
-    ensures value { (s : State) → Holds membership.now s → result ≡ partner_in membership.now.group.t s certified.now me round }
+    ensures value { (s : State) → Holds membership.now s
+        → result ≡ partner_in membership.now.group.t s certified.now me round }
     // None comes exactly where no other is certified.
-    ensures none { (s : State) → Holds membership.now s → NotesOfMembers s → (result ≡ None) ↔ (others certified.now me ≡ []) }
+    ensures none { (s : State) → Holds membership.now s → NotesOfMembers s
+        → (result ≡ None) ↔ (others certified.now me ≡ []) }
     // It is another that is certified.
-    ensures other { (s : State) → Holds membership.now s → NotesOfMembers s → IfSome result (λ p. is_listed (others certified.now me) p ≡ true) }
+    ensures other { (s : State) → Holds membership.now s → NotesOfMembers s
+        → IfSome result (λ p. is_listed (others certified.now me) p ≡ true) }
 {
     successor_or_other(membership, certified, me, round)
 }

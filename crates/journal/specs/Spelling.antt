@@ -62,7 +62,7 @@ abbrev pub IsMonitor : Option ℕ → Type 0
 IsMonitor None = Unit {0}
 IsMonitor (Some m) = m < MEMBERS
 
--- A fault of a record about this member. A text tells of a note of one's own that is ahead only what isn't in the
+-- A fault of a record about this member. A text says of a note of one's own that is ahead only what isn't in the
 -- record: its member is that of the record.
 abbrev pub IsFault : ℕ → Fault → Type 0
 IsFault m (faults.OtherCertificate port key) = IsPort port × IsKeyOf key

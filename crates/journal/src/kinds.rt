@@ -161,7 +161,8 @@ pub fn kind_of_event(words: &mut Words) -> Result<Kind, Misread>
 
 /// The next word, as the first of a body.
 pub fn kind_of_body(words: &mut Words) -> Result<BodyKind, Misread>
-    ensures { Reads (λ k. k) result words.new (token_at (among body_word every_body_kind) words.old) }
+    ensures { Reads (λ k. k) result words.new
+        (token_at (among body_word every_body_kind) words.old) }
 {
     let place = words.place();
     let word = words.next().ok_or(Misread { place })?;
@@ -170,7 +171,8 @@ pub fn kind_of_body(words: &mut Words) -> Result<BodyKind, Misread>
 
 /// The next word, as the first of a fault.
 pub fn kind_of_fault(words: &mut Words) -> Result<FaultKind, Misread>
-    ensures { Reads (λ k. k) result words.new (token_at (among fault_word every_fault_kind) words.old) }
+    ensures { Reads (λ k. k) result words.new
+        (token_at (among fault_word every_fault_kind) words.old) }
 {
     let place = words.place();
     let word = words.next().ok_or(Misread { place })?;

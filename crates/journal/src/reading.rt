@@ -266,7 +266,8 @@ fn what<'a>(words: &mut Words<'a>) -> Result<Found<'a>, Misread>
 
 #[tactic(auto, unfolding(crate::specs::Grammar::event_at))]
 fn moment_and_what<'a>(words: &mut Words<'a>) -> Result<(u64, Found<'a>), Misread>
-    ensures { Reads (λ x. record { moment = x.0; what = what_found x.1 }) result words.new (event_at words.old) }
+    ensures { Reads (λ x. record { moment = x.0; what = what_found x.1 }) result words.new
+        (event_at words.old) }
 {
     literal(words, b"at")?;
     let moment = number_64(words)?;

@@ -101,7 +101,8 @@ fn ticks(words: &mut Words) -> Result<u8, Misread>
 
 #[tactic(auto, unfolding(crate::specs::Turns::turn_at))]
 fn turn_parts<'a>(words: &mut Words<'a>) -> Result<(u32, FoundHeard<'a>, u8), Misread>
-    ensures { Reads (λ x. record { number = x.0; heard = heard_found x.1; ticks = x.2 }) result words.new (turn_at words.old) }
+    ensures { Reads (λ x. record { number = x.0; heard = heard_found x.1; ticks = x.2 }) result
+        words.new (turn_at words.old) }
 {
     literal(words, b"turn")?;
     let number = turn_number(words)?;
@@ -124,7 +125,8 @@ fn whole_turn(text: &[u8]) -> Result<(u32, FoundHeard, u8), Misread>
 /// What was heard, with what it takes of memory.
 fn kept(alloc: Global, found: FoundHeard) -> Result<Heard, EventFault>
     ensures value { IfOk result (λ heard. heard ≡ heard_found found.entry) }
-    ensures memory { IfErr result (λ e. (e ≡ OutOfMemory) × HeardTakesMemory (heard_found found.entry)) }
+    ensures memory { IfErr result
+        (λ e. (e ≡ OutOfMemory) × HeardTakesMemory (heard_found found.entry)) }
 {
     match found {
         FoundHeard::Got(Some(digits)) => match digits.decode(alloc) {

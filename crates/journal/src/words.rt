@@ -45,7 +45,8 @@ fn first_space(text: &[u8]) -> Option<usize>
 #[tactic(auto, using(line_text::proofs::WordLemmas::parts_alone, line_text::proofs::WordLemmas::parts_at))]
 fn first_part(text: &[u8]) -> (&[u8], Option<&[u8]>)
     ensures parts { parts text.now ≡ result.0.now ∷ parts_left result.1 }
-    ensures lengths { MatchOption result.1 (length result.0.now ≡ length text.now) (λ rest. length text.now ≡ length result.0.now + 1 + length rest.now) }
+    ensures lengths { MatchOption result.1 (length result.0.now ≡ length text.now)
+        (λ rest. length text.now ≡ length result.0.now + 1 + length rest.now) }
 {
     match first_space(text) {
         None => (text, None),
@@ -76,7 +77,8 @@ impl<'a> Words<'a> {
     /// Takes the next word.
     #[tactic(auto, using(crate::proofs::WordLemmas::passed_on))]
     pub fn next(&mut self) -> Option<&'a [u8]>
-        ensures word { MatchOption result (self.old.words ≡ []) (λ w. self.old.words ≡ w.now ∷ self.new.words) }
+        ensures word { MatchOption result (self.old.words ≡ [])
+            (λ w. self.old.words ≡ w.now ∷ self.new.words) }
         ensures moved { IfSome result (λ w. self.new ≡ passed self.old.place w.now self.new.words) }
     {
         let (word, rest) = first_part(self.rest?);

@@ -37,7 +37,10 @@ impl<'a> fmt::Display for BodyText<'a> {
 }
 
 fn write_took(body: &Body, fault: Option<Fault>, out: &mut Vec<u8>) -> Result<(), NoMemory>
-    ensures ok { OnOk result (out.new.items ≡ out.old.items ++ (codes "took " ++ body_text body.now ++ codes " : " ++ verdict_text fault)) }
+    ensures ok { OnOk result
+        (out.new.items
+        ≡ out.old.items ++ (codes "took " ++ body_text body.now ++ codes " : " ++ verdict_text
+        fault)) }
     ensures refused { OnErr result (out.new.items ≡ out.old.items) }
 {
     let body = BodyText(body);
@@ -61,7 +64,10 @@ fn flag_word(flag: bool) -> &'static str
 
 /// Where memory is refused, `out` begins with what it held.
 fn write_sent(number: u64, to: MemberId, bytes: &[u8], out: &mut Vec<u8>) -> Result<(), NoMemory>
-    ensures ok { OnOk result (out.new.items ≡ out.old.items ++ (codes "sent " ++ decimal number ++ codes " " ++ decimal to ++ codes " " ++ encode_lower bytes.now)) }
+    ensures ok { OnOk result
+        (out.new.items
+        ≡ out.old.items ++ (codes "sent " ++ decimal number ++ codes " " ++ decimal to ++ codes
+        " " ++ encode_lower bytes.now)) }
     ensures refused { OnErr result (take (length out.old.items) out.new.items ≡ out.old.items) }
 {
     write_text(format_args!("sent {number} {to} "), out)?;

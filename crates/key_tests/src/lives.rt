@@ -2,10 +2,10 @@
 
 use ff_ids::{AccBody, Epoch, Group, Mask, MemberId, RingNo};
 use fields::Reader;
-use key_lives::play::{Act, Holder, play};
 use lms_ots::OtsKind;
 use lms_tree::TreeKind;
 use records::Checked;
+use signer::key_lives::{Act, Holder, play};
 use std::test::Fail;
 
 const HOLDER: Holder = Holder {

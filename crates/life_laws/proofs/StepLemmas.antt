@@ -10,7 +10,7 @@ use Rattle.ff_ids.specs.Notes.{newest}
 use Rattle.ff_ids.specs.Views.{State, is_member, has_expired, viewed_by, in_view, is_unanswered_by, stands}
 use Rattle.ff_ids.specs.Faults.{note_fault, accusation_fault, facts_of}
 use Rattle.ff_ids.proofs.FaultLemmas.{passed, passes}
-use Rattle.ff_ids.specs.Steps.{Event, Joins, Notes, Accuses, Ticks, joined, with_kept, comes_first, is_due, after_note, after_accusation, after_tick, unless_fault, unchanged, step}
+use Rattle.ff_ids.specs.Steps.{Event, Joins, Notes, Accuses, Ticks, joined, with_kept, precedes, is_due, after_note, after_accusation, after_tick, unless_fault, unchanged, step}
 use Rattle.life_laws.proofs.Lists.{In, In-from_filter, In-from_map, In-append_cases, some_passes, any_from_In}
 use Rattle.life_laws.proofs.ViewLemmas.{IsViewed-from, in_view-noted, AllJoined, stands-joined, stands-from}
 use Rattle.life_laws.proofs.NoteLemmas.{newest-fits}
@@ -30,7 +30,7 @@ pub In-with_kept : (p q : AccBody × ℕ) (xs : List (AccBody × ℕ)) → In (w
 In-with_kept p q [] = λ h. elim h [ inl e ↦ inl e | inr i ↦ absurd i ]
 In-with_kept p q (x ∷ xs) =
     let T : List (AccBody × ℕ) → Type 0 = λ ys. In ys q → (p ≡ q) ⊎ In (x ∷ xs) q in
-    cond_both (comes_first x.0 p.0) (x ∷ with_kept p xs) (p ∷ x ∷ xs) T
+    cond_both (precedes x.0 p.0) (x ∷ with_kept p xs) (p ∷ x ∷ xs) T
     (λ yes. λ h. elim h [ inl e ↦ inr (inl e) | inr i ↦ elim (In-with_kept p q xs i) [ inl e ↦ inl e | inr j ↦ inr (inr j) ] ])
     (λ no. λ h. elim h [ inl e ↦ inl e | inr i ↦ inr i ])
 

@@ -8,7 +8,7 @@ use Rattle.std.proofs.lemmas.Fmt.{decimal-digits_value, digits_decimal, digits_v
 use Rattle.std.proofs.lemmas.Str.Parse.{IsNumeralModel, numerals_by_fold}
 use Rattle.line_text.specs.declared.bad_word.BadWord.{BadWord}
 use Rattle.line_text.specs.declared.bad_word.BadWord.TheVariants as bad
-use Rattle.line_text.specs.Fields.{Field, bad_number, is_within, number, number_32, number_in, or_zero}
+use Rattle.line_text.specs.Fields.{Test, bad_number, is_within, number, number_32, number_in, or_zero}
 use Rattle.line_text.specs.Frame.{field_tests, fields_line, first_of, first_word, second_word, third_word, fourth_word, word_tests}
 use Rattle.line_text.specs.Numbers.{read_digits, has_leading_zero, is_numeral, fits_64, number_of}
 use Rattle.line_text.proofs.FrameLemmas.{or_none, passed, unless_ok}
@@ -112,7 +112,7 @@ number_in-decimal n small = ap or_zero (number_of-decimal n small)
 -- ## A row
 
 -- The words pass the row's tests, and are this line.
-pub record Passed {L : Type 0} (fields : List Field) (line : List (List ℕ) → L) (words : List (List ℕ)) (l : L) : Type 0 where
+pub record Passed {L : Type 0} (fields : List Test) (line : List (List ℕ) → L) (words : List (List ℕ)) (l : L) : Type 0 where
   pub many : length words ≡ length fields
   pub good : first_of (word_tests fields words) ≡ None
   pub same : line words ≡ l
@@ -123,7 +123,7 @@ right x = Ok x
 ok_is : {L : Type 0} (x y : L) → right x ≡ right y → x ≡ y
 ok_is x y e = cc
 
-pub fields_line-ok : {L : Type 0} (fields : List Field) (line : List (List ℕ) → L) (words : List (List ℕ)) (l : L) → fields_line fields line words ≡ Ok l → Passed fields line words l
+pub fields_line-ok : {L : Type 0} (fields : List Test) (line : List (List ℕ) → L) (words : List (List ℕ)) (l : L) → fields_line fields line words ≡ Ok l → Passed fields line words l
 fields_line-ok fields line words l e =
     let u = unless_ok (first_of (field_tests fields words)) (right (line words)) l e in
     let p = or_none _ _ u.0 in
@@ -133,7 +133,7 @@ fields_line-ok fields line words l e =
       same = ok_is (line words) l u.1;
     }
 
-pub fields_line-good : {L : Type 0} (fields : List Field) (line : List (List ℕ) → L) (words : List (List ℕ)) → length words ≡ length fields → first_of (word_tests fields words) ≡ None → fields_line fields line words ≡ Ok (line words)
+pub fields_line-good : {L : Type 0} (fields : List Test) (line : List (List ℕ) → L) (words : List (List ℕ)) → length words ≡ length fields → first_of (word_tests fields words) ≡ None → fields_line fields line words ≡ Ok (line words)
 fields_line-good fields line words many good = rw (eq-eqb (length words) (length fields) many) (rw good refl)
 
 -- ## So many words

@@ -5,3 +5,6 @@ pub mod HexWords
 pub mod FrameLemmas
 pub mod FieldLemmas
 pub mod DigitLemmas
+pub mod SpellingLemmas
+pub mod ShapeLemmas
+pub mod TableLemmas

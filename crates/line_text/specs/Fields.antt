@@ -9,8 +9,8 @@ use Rattle.line_text.specs.declared.bad_word.BadWord.TheVariants as bad
 use Rattle.line_text.specs.Numbers.{number_of}
 
 -- A test of a word: the bad word, if it fails.
-abbrev pub Field : Type 0
-Field = List ℕ → Option BadWord
+abbrev pub Test : Type 0
+Test = List ℕ → Option BadWord
 
 -- the bad word, where something holds
 abbrev pub bad_where : BadWord → Bool → Option BadWord
@@ -26,15 +26,15 @@ bad_number fits None = Some bad.Number
 bad_number fits (Some n) = if fits n then None else Some bad.Limit
 
 -- a number that fits
-abbrev pub number_that : (ℕ → Bool) → Field
+abbrev pub number_that : (ℕ → Bool) → Test
 number_that fits word = bad_number fits (number_of word)
 
 -- a number from low to high
-abbrev pub number : ℕ → ℕ → Field
+abbrev pub number : ℕ → ℕ → Test
 number low high word = number_that (is_within low high) word
 
 -- a number that 32 bits hold
-abbrev pub number_32 : Field
+abbrev pub number_32 : Test
 number_32 word = number 0 (2 ^ 32 - 1) word
 
 abbrev pub or_zero : Option ℕ → ℕ
@@ -64,15 +64,15 @@ bad_bytes fit None = Some bad.Hex
 bad_bytes fit (Some bytes) = if fit bytes then None else Some bad.Limit
 
 -- bytes that fit
-abbrev pub hex_that : (List ℕ → Bool) → Field
+abbrev pub hex_that : (List ℕ → Bool) → Test
 hex_that fit word = bad_bytes fit (hex_of word)
 
 -- exactly so many bytes
-abbrev pub hex : ℕ → Field
+abbrev pub hex : ℕ → Test
 hex many word = hex_that (λ bytes. length bytes == many) word
 
 -- no more bytes than so many, `-` for none
-abbrev pub hex_up_to : ℕ → Field
+abbrev pub hex_up_to : ℕ → Test
 hex_up_to most word = bad_bytes (λ bytes. nat_le (length bytes) most) (hex_or_dash_of word)
 
 abbrev pub or_nothing : Option (List ℕ) → List ℕ
@@ -86,5 +86,5 @@ bytes_in word = or_nothing (hex_or_dash_of word)
 -- ## Names
 
 -- 1 to 32 of the characters a to z, 0 to 9 and `-`
-abbrev pub name : Field
+abbrev pub name : Test
 name word = if is_name word then None else Some bad.Name

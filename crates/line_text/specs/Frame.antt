@@ -5,7 +5,7 @@ use Rattle.std.specs.List.{join_with_byte, list_all}
 use Rattle.std.specs.Str.{bytes_eq}
 use Rattle.line_text.specs.declared.bad_word.BadWord.{BadWord}
 use Rattle.line_text.specs.declared.bad_word.BadWord.TheVariants as bad
-use Rattle.line_text.specs.Fields.{Field, bad_where}
+use Rattle.line_text.specs.Fields.{Test, bad_where}
 use Rattle.line_text.specs.Words.{is_word, is_spaced, parts}
 pub use Rattle.text_trace.specs.Lines.{has_line_feed, line_bytes, text_lines}
 
@@ -59,7 +59,7 @@ first_of [] = None
 first_of (test ∷ tests) = or_else test (first_of tests)
 
 -- each word by its own test, from the left
-abbrev pub word_tests : List Field → List (List ℕ) → List (Option BadWord)
+abbrev pub word_tests : List Test → List (List ℕ) → List (Option BadWord)
 word_tests [] words = []
 word_tests (field ∷ fields) words = field (first_word words) ∷ word_tests fields (behind words)
 
@@ -69,11 +69,11 @@ word_tests (field ∷ fields) words = field (first_word words) ∷ word_tests fi
 -- must be, and what line they are.
 pub record Row (L : Type 0) : Type 0 where
   pub stands : Bool
-  pub fields : List Field
+  pub fields : List Test
   pub line : List (List ℕ) → L
 
 -- the number of words, and then each of them
-abbrev pub field_tests : List Field → List (List ℕ) → List (Option BadWord)
+abbrev pub field_tests : List Test → List (List ℕ) → List (Option BadWord)
 field_tests fields words = bad_where bad.Count (not (length words == length fields)) ∷ word_tests fields words
 
 -- What the words of a line fail, by the row that the form has for them; a form that has none says `header` at
@@ -116,7 +116,7 @@ abbrev pub words_in : List ℕ → List (List ℕ)
 words_in bytes = parts (before_line_feed bytes)
 
 -- a word of a header, which is known already
-abbrev pub any_word : Field
+abbrev pub any_word : Test
 any_word word = None
 
 -- the row of the header
@@ -141,7 +141,7 @@ unless_bad (Some word) judged = Err word
 unless_bad None judged = judged
 
 -- the line that these words are by the row, behind the first; or the first bad word
-abbrev pub fields_line : {L : Type 0} → List Field → (List (List ℕ) → L) → List (List ℕ) → Result L BadWord
+abbrev pub fields_line : {L : Type 0} → List Test → (List (List ℕ) → L) → List (List ℕ) → Result L BadWord
 fields_line fields line words = unless_bad (first_of (field_tests fields words)) (Ok (line words))
 
 abbrev pub row_line : {L : Type 0} → Result (Row L) BadWord → List (List ℕ) → Result L BadWord

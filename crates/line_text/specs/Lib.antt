@@ -5,3 +5,6 @@ pub mod Digits
 pub mod Fields
 pub mod Frame
 pub mod Answers
+pub mod Spellings
+pub mod Shapes
+pub mod Tables

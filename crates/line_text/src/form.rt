@@ -39,7 +39,8 @@ pub trait Form {
     /// The line that the words are, or the first bad word that the form finds in them.
     fn judge(&self, alloc: Global, words: Words) -> Result<Self::Line, LineFault>
         requires { is_sound self.now }
-        ensures { AnswersBy takes_memory (row_line (row_for self.now words.entry) (behind words.entry)) result };
+        ensures { AnswersBy takes_memory
+            (row_line (row_for self.now words.entry) (behind words.entry)) result };
 
     /// Goes behind a line that stands here.
     fn advance(&mut self, line: &Self::Line)
@@ -49,9 +50,12 @@ pub trait Form {
         ensures sound { is_sound self.new };
 
     /// What the form takes is a line by its grammar.
-    ghost spelled: { (s : Self) (first : List ℕ) (others : List (List ℕ)) (l : Self.Line) → row_line (row_for s (first ∷ others)) others ≡ Result.Ok l → spells s (first ∷ others) l };
+    ghost spelled: { (s : Self) (first : List ℕ) (others : List (List ℕ)) (l : Self.Line)
+        → row_line (row_for s (first ∷ others)) others ≡ Result.Ok l
+        → spells s (first ∷ others) l };
 
     /// What is a line by the grammar is taken, as that line.
-    ghost taken: { (s : Self) (first : List ℕ) (others : List (List ℕ)) (l : Self.Line) → is_sound s → spells s (first ∷ others) l
+    ghost taken: { (s : Self) (first : List ℕ) (others : List (List ℕ)) (l : Self.Line) → is_sound s
+        → spells s (first ∷ others) l
         → row_line (row_for s (first ∷ others)) others ≡ Result.Ok l };
 }

@@ -65,10 +65,16 @@ impl<F: Form> Reader<F> {
     /// line, it is what is left; and where more than 65,600 bytes stand before the line feed or the
     /// input's end, the first 65,601 of them are enough.
     pub fn line(&mut self, alloc: Global, bytes: &[u8]) -> Result<F::Line, LineFault>
-        ensures answer { AnswersBy F.takes_memory (judge (next_line F.is_ended F.row_for self.old) bytes.now) result }
-        ensures refused { Refuses (first_bad (next_line F.is_ended F.row_for self.old) bytes.now) result }
-        ensures line { IfOk result (λ l. IsLine (F.is_ended self.old.form) self.old.number (F.spells self.old.form) bytes.now l) }
-        ensures taken { (l : F.Line) → IsLine (F.is_ended self.old.form) self.old.number (F.spells self.old.form) bytes.now l → AnswersThat F.takes_memory l result }
+        ensures answer { AnswersBy F.takes_memory
+            (judge (next_line F.is_ended F.row_for self.old) bytes.now) result }
+        ensures refused { Refuses (first_bad (next_line F.is_ended F.row_for self.old) bytes.now)
+            result }
+        ensures line { IfOk result
+            (λ l. IsLine (F.is_ended self.old.form) self.old.number (F.spells self.old.form)
+            bytes.now l) }
+        ensures taken { (l : F.Line)
+            → IsLine (F.is_ended self.old.form) self.old.number (F.spells self.old.form) bytes.now l
+            → AnswersThat F.takes_memory l result }
         ensures progress { self.new ≡ progress_after F.after self.old result }
     {
         let line = self.judge(alloc, bytes)?;
@@ -79,7 +85,8 @@ impl<F: Form> Reader<F> {
 
     // What the next line is, or the first bad word that holds.
     fn judge(&self, alloc: Global, bytes: &[u8]) -> Result<F::Line, LineFault>
-        ensures answer { AnswersBy F.takes_memory (judge (next_line F.is_ended F.row_for self.now) bytes.now) result }
+        ensures answer { AnswersBy F.takes_memory
+            (judge (next_line F.is_ended F.row_for self.now) bytes.now) result }
         ensures few { OnOk result (self.now.number ≤ text_lines) }
     {
         let words = frame_words(self.form.is_ended(), self.number, bytes)?;

@@ -137,7 +137,8 @@ impl<'a> Words<'a> {
 
     /// The same words, if they are so many.
     pub fn exactly(self, many: usize) -> Result<Words<'a>, BadWord>
-        ensures refused { bad_where BadWord.Count (not (length self.entry == many)) ≡ refusal result }
+        ensures refused { bad_where BadWord.Count (not (length self.entry == many))
+            ≡ refusal result }
         ensures same { IfOk result (λ words. words ≡ self.entry) }
     {
         if self.count() == many {

@@ -47,7 +47,8 @@ impl SecretKey {
         id: [u8; 16],
         seed: [u8; 32],
     ) -> Result<SecretKey, NoMemory>
-        ensures { IfOk result (λ key. key ≡ record { tree = tree; ots = ots; id = id; seed = seed }) }
+        ensures { IfOk result
+            (λ key. key ≡ record { tree = tree; ots = ots; id = id; seed = seed }) }
     {
         let secret = Secret {
             tree,

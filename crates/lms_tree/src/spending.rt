@@ -61,7 +61,8 @@ impl Leaves {
     /// The next leaf, or none where all are gone.
     pub fn take(&mut self) -> Option<Leaf>
         ensures none { IsNone result ↔ (self.old.next ≡ leaf_count self.old.key.tree) }
-        ensures leaf { IfSome result (λ leaf. leaf ≡ record { key = self.old.key; index = self.old.next }) }
+        ensures leaf { IfSome result
+            (λ leaf. leaf ≡ record { key = self.old.key; index = self.old.next }) }
         ensures risen { OnSome result (self.new ≡ record self.old { next = self.old.next + 1 }) }
         ensures same { IfNone result (self.new ≡ self.old) }
     {

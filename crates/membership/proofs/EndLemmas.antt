@@ -13,7 +13,7 @@ use Rattle.ff_ids.specs.declared.TheConstants.{MEMBERS}
 use Rattle.ff_ids.specs.declared.AccBody.{AccBody}
 use Rattle.ff_ids.specs.declared.NoteBody.{NoteBody}
 use Rattle.ff_ids.specs.Views.{is_number, is_unanswered_by}
-use Rattle.ff_ids.specs.Steps.{comes_first}
+use Rattle.ff_ids.specs.Steps.{precedes}
 use Rattle.removal_timer.specs.Kept.{is_at, entry_at, IsInOrder}
 use Rattle.membership.specs.Life.{Life}
 use Rattle.membership.specs.Ends.{IsAgain, AreNamed, is_of, is_of_any, Entry, Ends, with_fallen, is_on, is_named, is_answered, answered_on}
@@ -50,7 +50,7 @@ pub AllBy-entries : (rings : ℕ) (es : List Entry) → IsInOrder rings es → A
 AllBy-entries rings [] h = tt
 AllBy-entries rings (e ∷ es) h = (record { number = h.0; ring = h.1 }, AllBy-entries rings es h.3)
 
-first_apart : (p q : Entry) → comes_first p.0 q.0 ≡ true → (is_at q.0.accused q.0.ring.0 p ≡ false) × (is_at p.0.accused p.0.ring.0 q ≡ false)
+first_apart : (p q : Entry) → precedes p.0 q.0 ≡ true → (is_at q.0.accused q.0.ring.0 p ≡ false) × (is_at p.0.accused p.0.ring.0 q ≡ false)
 first_apart p q h = (grind (arith, nat_tests), grind (arith, nat_tests))
 
 -- what stands at the place of an entry is the entry
@@ -58,7 +58,7 @@ pub entry_at-itself : (rings : ℕ) (es : List Entry) → IsInOrder rings es →
 entry_at-itself rings [] h = tt
 entry_at-itself rings (e ∷ es) h =
     let here : is_at e.0.accused e.0.ring.0 e ≡ true = grind (arith, nat_tests) in
-    (rw here refl, AllBy-both (λ q. comes_first e.0 q.0 ≡ true) (λ q. entry_at q.0.accused q.0.ring.0 es ≡ Some q) (λ q. entry_at q.0.accused q.0.ring.0 (e ∷ es) ≡ Some q) (λ q first found. rw (first_apart e q first).0 found) es h.2 (entry_at-itself rings es h.3))
+    (rw here refl, AllBy-both (λ q. precedes e.0 q.0 ≡ true) (λ q. entry_at q.0.accused q.0.ring.0 es ≡ Some q) (λ q. entry_at q.0.accused q.0.ring.0 (e ∷ es) ≡ Some q) (λ q first found. rw (first_apart e q first).0 found) es h.2 (entry_at-itself rings es h.3))
 
 -- what is found at a place is there
 pub found_there : (x r : ℕ) (es : List Entry) (p : Entry) → entry_at x r es ≡ Some p → is_at x r p ≡ true
@@ -102,33 +102,33 @@ some_at x (suc n) (suc k) below = some_at x n k (omega (arith, below))
 
 -- ---- one more that fell
 
-fallen_first : (a : AccBody) (fell : List AccBody) → AllByRecursion (λ b. comes_first b a ≡ false) fell → with_fallen a fell ≡ a ∷ fell
+fallen_first : (a : AccBody) (fell : List AccBody) → AllByRecursion (λ b. precedes b a ≡ false) fell → with_fallen a fell ≡ a ∷ fell
 fallen_first a [] h = refl
 fallen_first a (b ∷ fell) h = rw h.0 refl
 
-fallen_later : (a b : AccBody) (fell : List AccBody) → comes_first b a ≡ true → with_fallen a (b ∷ fell) ≡ b ∷ with_fallen a fell
+fallen_later : (a b : AccBody) (fell : List AccBody) → precedes b a ≡ true → with_fallen a (b ∷ fell) ≡ b ∷ with_fallen a fell
 fallen_later a b fell h =
-    let more : 1 + prefix_len (λ b. comes_first b a) fell ≡ suc (prefix_len (λ b. comes_first b a) fell) = omega arith in
-    ap (λ (c : Bool). insert (b ∷ fell) (cond c (1 + prefix_len (λ b. comes_first b a) fell) 0) a) h ∙ ap (λ n. insert (b ∷ fell) n a) more
+    let more : 1 + prefix_len (λ b. precedes b a) fell ≡ suc (prefix_len (λ b. precedes b a) fell) = omega arith in
+    ap (λ (c : Bool). insert (b ∷ fell) (cond c (1 + prefix_len (λ b. precedes b a) fell) 0) a) h ∙ ap (λ n. insert (b ∷ fell) n a) more
 
 pub length-with_fallen : (a : AccBody) (fell : List AccBody) → length (with_fallen a fell) ≡ length fell + 1
-length-with_fallen a fell = length-insert fell (prefix_len (λ b. comes_first b a) fell) a (prefix_len-le-length (λ b. comes_first b a) fell)
+length-with_fallen a fell = length-insert fell (prefix_len (λ b. precedes b a) fell) a (prefix_len-le-length (λ b. precedes b a) fell)
 
-not_before : (p q : Entry) → comes_first p.0 q.0 ≡ true → comes_first q.0 p.0 ≡ false
+not_before : (p q : Entry) → precedes p.0 q.0 ≡ true → precedes q.0 p.0 ≡ false
 not_before p q h = grind (arith, nat_tests)
 
-picked_later : (p : Entry) (f : Entry → Bool) (es : List Entry) → AllByRecursion (λ q. comes_first p.0 q.0 ≡ true) es → AllByRecursion (λ b. comes_first b p.0 ≡ false) (map (λ q. q.0) (filter f es))
+picked_later : (p : Entry) (f : Entry → Bool) (es : List Entry) → AllByRecursion (λ q. precedes p.0 q.0 ≡ true) es → AllByRecursion (λ b. precedes b p.0 ≡ false) (map (λ q. q.0) (filter f es))
 picked_later p f [] h = tt
 picked_later p f (q ∷ es) h = by_test (f q) (picked_later p f es h.1)
   where
-    by_test : (b : Bool) → AllByRecursion (λ b. comes_first b p.0 ≡ false) (map (λ q. q.0) (filter f es)) → AllByRecursion (λ b. comes_first b p.0 ≡ false) (map (λ q. q.0) (cond b (q ∷ filter f es) (filter f es)))
+    by_test : (b : Bool) → AllByRecursion (λ b. precedes b p.0 ≡ false) (map (λ q. q.0) (filter f es)) → AllByRecursion (λ b. precedes b p.0 ≡ false) (map (λ q. q.0) (cond b (q ∷ filter f es) (filter f es)))
     by_test true rest = (not_before p q h.0, rest)
     by_test false rest = rest
 
 abbrev found_later : Entry → Option Entry → Type 0
-found_later p o = IfSome o (λ q. comes_first p.0 q.0 ≡ true)
+found_later p o = IfSome o (λ q. precedes p.0 q.0 ≡ true)
 
-find_later : (p : Entry) (x r : ℕ) (f : Entry → Bool) (es : List Entry) → AllByRecursion (λ q. comes_first p.0 q.0 ≡ true) es → found_later p (entry_at x r (filter f es))
+find_later : (p : Entry) (x r : ℕ) (f : Entry → Bool) (es : List Entry) → AllByRecursion (λ q. precedes p.0 q.0 ≡ true) es → found_later p (entry_at x r (filter f es))
 find_later p x r f [] h = tt
 find_later p x r f (q ∷ es) h = by_test (f q) (find_later p x r f es h.1)
   where
@@ -140,10 +140,10 @@ find_later p x r f (q ∷ es) h = by_test (f q) (find_later p x r f es h.1)
     by_test true rest = by_place (is_at x r q) rest
     by_test false rest = rest
 
-at_place : (x r : ℕ) (p q : Entry) → is_at x r p ≡ true → comes_first p.0 q.0 ≡ true → is_at x r q ≡ false
+at_place : (x r : ℕ) (p q : Entry) → is_at x r p ≡ true → precedes p.0 q.0 ≡ true → is_at x r q ≡ false
 at_place x r p q here first = grind (arith, nat_tests)
 
-none_later : (x r : ℕ) (p : Entry) (f : Entry → Bool) (es : List Entry) → is_at x r p ≡ true → AllByRecursion (λ q. comes_first p.0 q.0 ≡ true) es → entry_at x r (filter f es) ≡ None
+none_later : (x r : ℕ) (p : Entry) (f : Entry → Bool) (es : List Entry) → is_at x r p ≡ true → AllByRecursion (λ q. precedes p.0 q.0 ≡ true) es → entry_at x r (filter f es) ≡ None
 none_later x r p f [] here h = refl
 none_later x r p f (q ∷ es) here h = by_test (f q) (none_later x r p f es here h.1)
   where
@@ -159,7 +159,7 @@ or_false : (b : Bool) → (b || false) ≡ b
 or_false true = refl
 or_false false = refl
 
-told_here : (x r : ℕ) (ended : Entry → Bool) (p : Entry) (es : List Entry) → AllByRecursion (λ q. comes_first p.0 q.0 ≡ true) es → (b : Bool) → is_at x r p ≡ true → map (λ q. q.0) (filter (λ q. ended q || is_at x r q) es) ≡ map (λ q. q.0) (filter ended es) → p.0 ∷ map (λ q. q.0) (filter (λ q. ended q || is_at x r q) es) ≡ option_map_or (λ q. with_fallen q.0 (map (λ q. q.0) (cond b (p ∷ filter ended es) (filter ended es)))) (entry_at x r (cond (not b) (p ∷ filter (λ p. not (ended p)) es) (filter (λ p. not (ended p)) es))) (map (λ q. q.0) (cond b (p ∷ filter ended es) (filter ended es)))
+told_here : (x r : ℕ) (ended : Entry → Bool) (p : Entry) (es : List Entry) → AllByRecursion (λ q. precedes p.0 q.0 ≡ true) es → (b : Bool) → is_at x r p ≡ true → map (λ q. q.0) (filter (λ q. ended q || is_at x r q) es) ≡ map (λ q. q.0) (filter ended es) → p.0 ∷ map (λ q. q.0) (filter (λ q. ended q || is_at x r q) es) ≡ option_map_or (λ q. with_fallen q.0 (map (λ q. q.0) (cond b (p ∷ filter ended es) (filter ended es)))) (entry_at x r (cond (not b) (p ∷ filter (λ p. not (ended p)) es) (filter (λ p. not (ended p)) es))) (map (λ q. q.0) (cond b (p ∷ filter ended es) (filter ended es)))
 told_here x r ended p es later true here same = ap (λ fell. p.0 ∷ fell) same ∙ sym (ap (λ o. option_map_or (λ q. with_fallen q.0 (p.0 ∷ map (λ q. q.0) (filter ended es))) o (p.0 ∷ map (λ q. q.0) (filter ended es))) (none_later x r p (λ p. not (ended p)) es here later))
 told_here x r ended p es later false here same = ap (λ fell. p.0 ∷ fell) same ∙ sym (ap (λ b. option_map_or (λ q. with_fallen q.0 (map (λ q. q.0) (filter ended es))) (cond b (Some p) (entry_at x r (filter (λ p. not (ended p)) es))) (map (λ q. q.0) (filter ended es))) here ∙ fallen_first p.0 (map (λ q. q.0) (filter ended es)) (picked_later p ended es later))
 
@@ -172,7 +172,7 @@ told_at rings x r ended [] h = refl
 told_at rings x r ended (p ∷ es) h = by_place (is_at x r p) refl (told_at rings x r ended es h.3)
   where
     others : is_at x r p ≡ true → map (λ q. q.0) (filter (λ q. ended q || is_at x r q) es) ≡ map (λ q. q.0) (filter ended es)
-    others here = ap (map (λ q. q.0)) (filter_agree_on (λ q. ended q || is_at x r q) ended es (AllBy-then (λ q. comes_first p.0 q.0 ≡ true) (λ q. (ended q || is_at x r q) ≡ ended q) (λ q first. ap (λ b. ended q || b) (at_place x r p q here first) ∙ or_false (ended q)) es h.2))
+    others here = ap (map (λ q. q.0)) (filter_agree_on (λ q. ended q || is_at x r q) ended es (AllBy-then (λ q. precedes p.0 q.0 ≡ true) (λ q. (ended q || is_at x r q) ≡ ended q) (λ q first. ap (λ b. ended q || b) (at_place x r p q here first) ∙ or_false (ended q)) es h.2))
 
     by_end : (b : Bool) → is_at x r p ≡ false → map (λ q. q.0) (filter (λ q. ended q || is_at x r q) es) ≡ told_with x r ended es → map (λ q. q.0) (cond (b || false) (p ∷ filter (λ q. ended q || is_at x r q) es) (filter (λ q. ended q || is_at x r q) es)) ≡ option_map_or (λ q. with_fallen q.0 (map (λ q. q.0) (cond b (p ∷ filter ended es) (filter ended es)))) (entry_at x r (cond (not b) (p ∷ filter (λ p. not (ended p)) es) (filter (λ p. not (ended p)) es))) (map (λ q. q.0) (cond b (p ∷ filter ended es) (filter ended es)))
     by_end true there rest = ap (λ fell. p.0 ∷ fell) rest ∙ told_there p (entry_at x r (filter (λ p. not (ended p)) es)) (map (λ q. q.0) (filter ended es)) (find_later p x r (λ p. not (ended p)) es h.2)

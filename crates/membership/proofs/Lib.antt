@@ -10,3 +10,4 @@ pub mod ExpireLemmas
 pub mod TickLemmas
 pub mod AccuseLemmas
 pub mod ViewLemmas
+pub mod SlotLemmas

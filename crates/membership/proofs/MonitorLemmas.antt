@@ -10,7 +10,7 @@ use Rattle.std.proofs.lemmas.Cmp.{tied_itself}
 use Rattle.std.proofs.lemmas.List.MinMax.{ranks_by}
 use Rattle.std.proofs.lemmas.List.Elements.{All-contains, All-weaker, All-contains_itself, Contains-append_right, Contains-append_cases}
 use Rattle.ff_ids.specs.declared.TheConstants.{MEMBERS}
-use Rattle.ff_ids.specs.Rings.{Key, cyc, is_below, nearest_before, nearest_after, IsNearestBefore, IsNearestAfter}
+use Rattle.ff_ids.specs.Rings.{Key, is_between, is_below, nearest_before, nearest_after, IsNearestBefore, IsNearestAfter}
 use Rattle.ff_ids.specs.Views.{all_numbers, is_number}
 use Rattle.ring_order.proofs.KeyOrder.{before_ranked, key_cmp_total}
 use Rattle.ring_order.proofs.NearestLaws.{nearest_before-some, nearest_after-some, nearest_before-is, nearest_after-is}
@@ -19,20 +19,20 @@ use Rattle.membership.proofs.NumberLemmas.{either_bool, all_length}
 -- ---- how near keys are to a member
 
 near : Key → Key → Key → Bool
-near x v w = cyc v w x
+near x v w = is_between v w x
 
-near_itself : (x v : Key) → v.number ≢ x.number → cyc v v x ≡ false
+near_itself : (x v : Key) → v.number ≢ x.number → is_between v v x ≡ false
 near_itself x v other =
     let r = before_ranked x in
     r.agrees v v other other ∙ ap is_lt (tied_itself r.total v)
 
-near_back : (x v w : Key) → v.number ≢ x.number → w.number ≢ x.number → cyc v w x ≡ true → cyc w v x ≡ false
+near_back : (x v w : Key) → v.number ≢ x.number → w.number ≢ x.number → is_between v w x ≡ true → is_between w v x ≡ false
 near_back x v w v_other w_other h =
     let r = before_ranked x in
     let ranks : IsStrictWeakOrder (λ v w. is_lt (r.order v w)) = ranks_by r.total (λ (v : Key). v) in
     r.agrees w v w_other v_other ∙ ranks.one_way v w (sym (r.agrees v w v_other w_other) ∙ h)
 
-near_chain : (x v w u : Key) → v.number ≢ x.number → w.number ≢ x.number → u.number ≢ x.number → cyc v w x ≡ false → cyc w u x ≡ false → cyc v u x ≡ false
+near_chain : (x v w u : Key) → v.number ≢ x.number → w.number ≢ x.number → u.number ≢ x.number → is_between v w x ≡ false → is_between w u x ≡ false → is_between v u x ≡ false
 near_chain x v w u v_other w_other u_other first second =
     let r = before_ranked x in
     let ranks : IsStrictWeakOrder (λ v w. is_lt (r.order v w)) = ranks_by r.total (λ (v : Key). v) in
@@ -43,15 +43,15 @@ no_less Less b h first second = absurd (false≢true (sym first))
 no_less Equal b h first second = refl
 no_less Greater b h first second = absurd (false≢true (sym (rw h at second)))
 
-near_tied : (x v w : Key) → v.number ≢ x.number → w.number ≢ x.number → cyc v w x ≡ false → cyc w v x ≡ false → v.number ≡ w.number
+near_tied : (x v w : Key) → v.number ≢ x.number → w.number ≢ x.number → is_between v w x ≡ false → is_between w v x ≡ false → v.number ≡ w.number
 near_tied x v w v_other w_other first second =
     let r = before_ranked x in
     r.tied v w (no_less (r.order v w) (r.order w v) (r.total.antisymm w v) (sym (r.agrees v w v_other w_other) ∙ first) (sym (r.agrees w v w_other v_other) ∙ second))
 
 -- of two others one is nearer
-near_either : (x v w : Key) → v.number ≢ x.number → w.number ≢ x.number → v.number ≢ w.number → cyc v w x ≡ false → cyc w v x ≡ true
+near_either : (x v w : Key) → v.number ≢ x.number → w.number ≢ x.number → v.number ≢ w.number → is_between v w x ≡ false → is_between w v x ≡ true
 near_either x v w v_other w_other apart first =
-    ⊎_elim (λ t. t) (λ t. absurd (apart (near_tied x v w v_other w_other first t))) (either_bool (cyc w v x))
+    ⊎_elim (λ t. t) (λ t. absurd (apart (near_tied x v w v_other w_other first t))) (either_bool (is_between w v x))
 
 between_end : (b c : Bool) → c ≡ false → ((b && c) || (c && not b) || (not b && b)) ≡ false
 between_end true c e = rw e refl
@@ -70,7 +70,7 @@ end_between true c d e f = rw (e, f) refl
 end_between false c d e f = rw (e, f) refl
 
 -- nothing lies between a member and itself at the end
-near_end : (m x : Key) → cyc m x x ≡ false
+near_end : (m x : Key) → is_between m x x ≡ false
 near_end m x = end_between (is_below m x) (is_below x x) (is_below x m) (below_itself x) (both_below (is_below m x) (is_below x m) (λ h. (ranks_by key_cmp_total (λ (v : Key). v)).one_way m x h))
 
 -- ---- which keys a test keeps
@@ -153,13 +153,13 @@ pub record IsMonitor (f : ℕ → Key) (p : ℕ → Bool) (x v : ℕ) : Type 0 w
   pub below : v < MEMBERS
   pub passes : p v ≡ true
   pub other : v ≢ x
-  pub nearest : (w : ℕ) → w < MEMBERS → p w ≡ true → w ≢ x → cyc (f v) (f w) (f x) ≡ false
+  pub nearest : (w : ℕ) → w < MEMBERS → p w ≡ true → w ≢ x → is_between (f v) (f w) (f x) ≡ false
 
 pub record IsSuccessor (f : ℕ → Key) (p : ℕ → Bool) (m x : ℕ) : Type 0 where
   pub below : x < MEMBERS
   pub passes : p x ≡ true
   pub other : x ≢ m
-  pub nearest : (w : ℕ) → w < MEMBERS → p w ≡ true → w ≢ m → cyc (f m) (f w) (f x) ≡ false
+  pub nearest : (w : ℕ) → w < MEMBERS → p w ≡ true → w ≢ m → is_between (f m) (f w) (f x) ≡ false
 
 keyed_apart : (f : ℕ → Key) → Keyed f → (v x : ℕ) → v ≢ x → (f v).number ≢ (f x).number
 keyed_apart f keyed v x apart e = apart (sym (keyed.number v) ∙ e ∙ keyed.number x)
@@ -177,7 +177,7 @@ IsMonitor-some f keyed p x v h =
       below = omega (arith, passing.below, at);
       passes = subst (λ m. p m ≡ true) at passing.passes;
       other = λ e. found.2.other (found.1 ∙ e ∙ sym (keyed.number x));
-      nearest = λ w below is apart. subst (λ k. cyc k (f w) (f x) ≡ false) key (All-contains (λ w. w.number ≢ (f x).number → cyc found.0 w (f x) ≡ false) (keys_where f p) (f w) found.2.nearest (Contains-keys f p w below is) (keyed_apart f keyed w x apart));
+      nearest = λ w below is apart. subst (λ k. is_between k (f w) (f x) ≡ false) key (All-contains (λ w. w.number ≢ (f x).number → is_between found.0 w (f x) ≡ false) (keys_where f p) (f w) found.2.nearest (Contains-keys f p w below is) (keyed_apart f keyed w x apart));
     }
 
 pub IsMonitor-is : (f : ℕ → Key) → Keyed f → (p : ℕ → Bool) (x v : ℕ) → IsMonitor f p x v → nearest_before (keys_where f p) (f x) ≡ Some v
@@ -185,9 +185,9 @@ IsMonitor-is f keyed p x v h =
     let nearest : IsNearestBefore (keys_where f p) (f x) (f v) = record {
       listed = Contains-keys f p v h.below h.passes;
       other = keyed_apart f keyed v x h.other;
-      nearest = All-weaker (Contains (keys_where f p)) (λ w. w.number ≢ (f x).number → cyc (f v) w (f x) ≡ false) (λ k listed apart.
+      nearest = All-weaker (Contains (keys_where f p)) (λ w. w.number ≢ (f x).number → is_between (f v) w (f x) ≡ false) (λ k listed apart.
           let passing = Passing-keys f p k listed in
-          subst (λ k. cyc (f v) k (f x) ≡ false) passing.key (h.nearest passing.number passing.below passing.passes (number_apart f keyed passing.number x (λ e. apart (sym (ap (λ (k : Key). k.number) passing.key) ∙ e))))) (keys_where f p) (All-contains_itself (keys_where f p));
+          subst (λ k. is_between (f v) k (f x) ≡ false) passing.key (h.nearest passing.number passing.below passing.passes (number_apart f keyed passing.number x (λ e. apart (sym (ap (λ (k : Key). k.number) passing.key) ∙ e))))) (keys_where f p) (All-contains_itself (keys_where f p));
     } in
     nearest_before-is (keys_where f p) (f x) (f v) nearest ∙ ap Some (keyed.number v)
 
@@ -201,7 +201,7 @@ IsSuccessor-some f keyed p m x h =
       below = omega (arith, passing.below, at);
       passes = subst (λ m. p m ≡ true) at passing.passes;
       other = λ e. found.2.other (found.1 ∙ e ∙ sym (keyed.number m));
-      nearest = λ w below is apart. subst (λ k. cyc (f m) (f w) k ≡ false) key (All-contains (λ w. w.number ≢ (f m).number → cyc (f m) w found.0 ≡ false) (keys_where f p) (f w) found.2.nearest (Contains-keys f p w below is) (keyed_apart f keyed w m apart));
+      nearest = λ w below is apart. subst (λ k. is_between (f m) (f w) k ≡ false) key (All-contains (λ w. w.number ≢ (f m).number → is_between (f m) w found.0 ≡ false) (keys_where f p) (f w) found.2.nearest (Contains-keys f p w below is) (keyed_apart f keyed w m apart));
     }
 
 pub IsSuccessor-is : (f : ℕ → Key) → Keyed f → (p : ℕ → Bool) (m x : ℕ) → IsSuccessor f p m x → nearest_after (keys_where f p) (f m) ≡ Some x
@@ -209,9 +209,9 @@ IsSuccessor-is f keyed p m x h =
     let nearest : IsNearestAfter (keys_where f p) (f m) (f x) = record {
       listed = Contains-keys f p x h.below h.passes;
       other = keyed_apart f keyed x m h.other;
-      nearest = All-weaker (Contains (keys_where f p)) (λ w. w.number ≢ (f m).number → cyc (f m) w (f x) ≡ false) (λ k listed apart.
+      nearest = All-weaker (Contains (keys_where f p)) (λ w. w.number ≢ (f m).number → is_between (f m) w (f x) ≡ false) (λ k listed apart.
           let passing = Passing-keys f p k listed in
-          subst (λ k. cyc (f m) k (f x) ≡ false) passing.key (h.nearest passing.number passing.below passing.passes (number_apart f keyed passing.number m (λ e. apart (sym (ap (λ (k : Key). k.number) passing.key) ∙ e))))) (keys_where f p) (All-contains_itself (keys_where f p));
+          subst (λ k. is_between (f m) k (f x) ≡ false) passing.key (h.nearest passing.number passing.below passing.passes (number_apart f keyed passing.number m (λ e. apart (sym (ap (λ (k : Key). k.number) passing.key) ∙ e))))) (keys_where f p) (All-contains_itself (keys_where f p));
     } in
     nearest_after-is (keys_where f p) (f m) (f x) nearest ∙ ap Some (keyed.number x)
 
@@ -241,11 +241,11 @@ pub record ComesIn (p q : ℕ → Bool) (m : ℕ) : Type 0 where
   pub is : q m ≡ true
   pub others : (w : ℕ) → w ≢ m → q w ≡ p w
 
-entered_between : (f : ℕ → Key) → Keyed f → (p q : ℕ → Bool) (x v m : ℕ) → IsMonitor f p x v → ComesIn p q m → x ≢ m → v ≢ m → cyc (f v) (f m) (f x) ≡ true → (w : ℕ) → w < MEMBERS → q w ≡ true → w ≢ x → cyc (f m) (f w) (f x) ≡ false
+entered_between : (f : ℕ → Key) → Keyed f → (p q : ℕ → Bool) (x v m : ℕ) → IsMonitor f p x v → ComesIn p q m → x ≢ m → v ≢ m → is_between (f v) (f m) (f x) ≡ true → (w : ℕ) → w < MEMBERS → q w ≡ true → w ≢ x → is_between (f m) (f w) (f x) ≡ false
 entered_between f keyed p q x v m h enters apart v_apart between w below is w_apart =
     ⊎_elim (λ t.
     let at : w ≡ m = eqb-true w m t in
-    subst (λ k. cyc (f m) (f k) (f x) ≡ false) (sym at) (near_itself (f x) (f m) (keyed_apart f keyed m x (λ e. apart (sym e)))))
+    subst (λ k. is_between (f m) (f k) (f x) ≡ false) (sym at) (near_itself (f x) (f m) (keyed_apart f keyed m x (λ e. apart (sym e)))))
     (λ t.
     let was : p w ≡ true = sym (enters.others w (eqb-false w m t)) ∙ is in
     let back = near_back (f x) (f v) (f m) (keyed_apart f keyed v x h.other) (keyed_apart f keyed m x (λ e. apart (sym e))) between in
@@ -266,7 +266,7 @@ monitor-entering f keyed p q x v m h enters x_below x_is =
       below = x_below;
       passes = x_passes;
       other = apart;
-      nearest = λ w below is w_apart. ⊎_elim (λ u. subst (λ k. cyc (f m) (f k) (f x) ≡ false) (sym (eqb-true w x u)) (near_end (f m) (f x))) (λ u. between w below is (eqb-false w x u)) (either_bool (eqb w x));
+      nearest = λ w below is w_apart. ⊎_elim (λ u. subst (λ k. is_between (f m) (f k) (f x) ≡ false) (sym (eqb-true w x u)) (near_end (f m) (f x))) (λ u. between w below is (eqb-false w x u)) (either_bool (eqb w x));
     } in
     let gone : is_number (nearest_before (keys_where f q) (f x)) v ≡ false = ap (λ o. is_number o v) (IsMonitor-is f keyed q x m monitor) ∙ ne_eqb m v (λ e. v_apart (sym e)) in
     gone ∙ ap not (sym (is_number-is _ x (IsSuccessor-is f keyed q m x after))))
@@ -275,14 +275,14 @@ monitor-entering f keyed p q x v m h enters x_below x_is =
       below = h.below;
       passes = v_passes;
       other = h.other;
-      nearest = λ w below is w_apart. ⊎_elim (λ u. subst (λ k. cyc (f v) (f k) (f x) ≡ false) (sym (eqb-true w m u)) t) (λ u. h.nearest w below (sym (enters.others w (eqb-false w m u)) ∙ is) w_apart) (either_bool (eqb w m));
+      nearest = λ w below is w_apart. ⊎_elim (λ u. subst (λ k. is_between (f v) (f k) (f x) ≡ false) (sym (eqb-true w m u)) t) (λ u. h.nearest w below (sym (enters.others w (eqb-false w m u)) ∙ is) w_apart) (either_bool (eqb w m));
     } in
     let other : is_number (nearest_after (keys_where f q) (f m)) x ≡ false = not_number _ x (λ e.
     let after = IsSuccessor-some f keyed q m x e in
     let closer = near_either (f x) (f v) (f m) (keyed_apart f keyed v x h.other) (keyed_apart f keyed m x (λ k. apart (sym k))) (keyed_apart f keyed v m v_apart) t in
     absurd (false≢true (sym (after.nearest v h.below v_passes v_apart) ∙ closer))) in
     is_number-is _ v (IsMonitor-is f keyed q x v stays) ∙ ap not (sym other))
-    (either_bool (cyc (f v) (f m) (f x)))
+    (either_bool (is_between (f v) (f m) (f x)))
 
 -- who monitors has as its successor the one that it monitors, and nobody else has that successor
 pub successor-of_monitor : (f : ℕ → Key) → Keyed f → (p : ℕ → Bool) (x v : ℕ) → IsMonitor f p x v → x < MEMBERS → p x ≡ true → (m : ℕ) → m < MEMBERS → p m ≡ true → is_number (nearest_after (keys_where f p) (f m)) x ≡ eqb m v
@@ -293,7 +293,7 @@ successor-of_monitor f keyed p x v h x_below x_is m m_below m_is =
       below = x_below;
       passes = x_is;
       other = λ e. h.other (sym e);
-      nearest = λ w below is apart. ⊎_elim (λ u. subst (λ k. cyc (f v) (f k) (f x) ≡ false) (sym (eqb-true w x u)) (near_end (f v) (f x))) (λ u. h.nearest w below is (eqb-false w x u)) (either_bool (eqb w x));
+      nearest = λ w below is apart. ⊎_elim (λ u. subst (λ k. is_between (f v) (f k) (f x) ≡ false) (sym (eqb-true w x u)) (near_end (f v) (f x))) (λ u. h.nearest w below is (eqb-false w x u)) (either_bool (eqb w x));
     } in
     is_number-is _ x (subst (λ k. nearest_after (keys_where f p) (f k) ≡ Some x) (sym at) (IsSuccessor-is f keyed p v x after)) ∙ sym t)
     (λ t.

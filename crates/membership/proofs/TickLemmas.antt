@@ -10,7 +10,7 @@ use Rattle.ff_ids.specs.declared.AccBody.{AccBody}
 use Rattle.ff_ids.specs.declared.NoteBody.{NoteBody}
 use Rattle.ff_ids.specs.Masks.{ring_count}
 use Rattle.ff_ids.specs.Views.{State, in_view, all_numbers, stands}
-use Rattle.ff_ids.specs.Steps.{Report, comes_first, is_due, only_before, after_tick}
+use Rattle.ff_ids.specs.Steps.{Report, precedes, is_due, only_before, after_tick}
 use Rattle.removal_timer.specs.Kept.{IsInOrder}
 use Rattle.removal_timer.proofs.KeptLemmas.{IsInOrder-filter, All-filter}
 use Rattle.membership.specs.Kept.{ByNumber, expired_at, is_live, is_live_at, takes_out, raise, raised, leavers}
@@ -31,10 +31,10 @@ abbrev pub Ascends : ℕ → List AccBody → Type 0
 Ascends low [] = Unit {0}
 Ascends low (a ∷ due) = (low ≤ a.accused) × (a.accused < MEMBERS) × Ascends a.accused due
 
-from_first : (a b : AccBody) → comes_first a b ≡ true → a.accused ≤ b.accused
+from_first : (a b : AccBody) → precedes a b ≡ true → a.accused ≤ b.accused
 from_first a b h = grind (arith, nat_tests)
 
-from_all : (p : AccBody × ℕ) (es : List (AccBody × ℕ)) → AllByRecursion (λ q. comes_first p.0 q.0 ≡ true) es → AllByRecursion (λ q. p.0.accused ≤ q.0.accused) es
+from_all : (p : AccBody × ℕ) (es : List (AccBody × ℕ)) → AllByRecursion (λ q. precedes p.0 q.0 ≡ true) es → AllByRecursion (λ q. p.0.accused ≤ q.0.accused) es
 from_all p [] h = tt
 from_all p (q ∷ es) h = (from_first p.0 q.0 h.0, from_all p es h.1)
 

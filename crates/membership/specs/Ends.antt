@@ -5,7 +5,7 @@ use Rattle.std.specs.Option.{option_map_or}
 use Rattle.ff_ids.specs.declared.AccBody.{AccBody}
 use Rattle.ff_ids.specs.declared.NoteBody.{NoteBody}
 use Rattle.ff_ids.specs.Views.{is_number, is_unanswered_by}
-use Rattle.ff_ids.specs.Steps.{comes_first}
+use Rattle.ff_ids.specs.Steps.{precedes}
 use Rattle.removal_timer.specs.Kept.{IsInOrder, entry_at}
 use Rattle.membership.specs.Life.{Life, has_joined, live_successor}
 
@@ -54,7 +54,7 @@ AreNamed named of kept = AllByRecursion (λ p. is_named named p ≡ is_number (o
 
 -- The list with one more accusation that fell, in order of the accused, then of the ring.
 abbrev pub with_fallen : AccBody → List AccBody → List AccBody
-with_fallen a fell = insert fell (prefix_len (λ b. comes_first b a) fell) a
+with_fallen a fell = insert fell (prefix_len (λ b. precedes b a) fell) a
 
 -- The test says which of the entries have ended: the others are kept, and these fell, in order.
 pub record HasEnded (rings : ℕ) (entries : List Entry) (ended : Entry → Bool) (kept : List Entry) (fell : List AccBody) : Type 0 where

@@ -4,3 +4,4 @@ pub mod Holds
 pub mod Ends
 pub mod Touched
 pub mod Reports
+pub mod Slots

@@ -24,7 +24,9 @@ impl Membership {
         note: &NoteBody,
         enters: bool,
     ) -> [Option<MemberId>; MAX_RINGS as usize]
-        ensures { AreNamed result (λ ring. if enters then next_of self.now note.now.member ring else answered_on self.now note.now ring) self.now.kept }
+        ensures { AreNamed result
+            (λ ring. if enters then next_of self.now note.now.member ring else answered_on
+            self.now note.now ring) self.now.kept }
     {
         if self.timers.is_empty() {
             [None; MAX_RINGS as usize]
@@ -37,7 +39,8 @@ impl Membership {
 
     /// The successor on each ring of a member that has joined.
     fn next_after(&self, member: MemberId) -> [Option<MemberId>; MAX_RINGS as usize]
-        ensures each { (ring : ℕ) → ring < ring_count self.now.group.t → slice_index_or result ring None
+        ensures each { (ring : ℕ) → ring < ring_count self.now.group.t
+            → slice_index_or result ring None
             ≡ next_of self.now member ring }
         ensures count { ring_count self.now.group.t ≤ MAX_RINGS }
     {
@@ -75,7 +78,10 @@ impl Membership {
         ensures kept { self.new
             ≡ record self.old { kept = filter (λ p. not (is_at accused ring.0 p)) self.old.kept } }
         ensures fell { out.new
-            ≡ record out.old { fell = option_map_or (λ p. with_fallen p.0 out.old.fell) (entry_at accused ring.0 self.old.kept) out.old.fell } }
+            ≡ record out.old {
+              fell = option_map_or (λ p. with_fallen p.0 out.old.fell)
+                  (entry_at accused ring.0 self.old.kept) out.old.fell;
+            } }
         ensures room { length out.new.fell + length self.new.kept ≤ ACCUSATIONS }
     {
         if let Some((acc, _since)) = self.timers.standing(accused, ring) {
@@ -87,7 +93,8 @@ impl Membership {
     /// Ends what is kept on the ring against the member, if there is one.
     fn end_on(&mut self, accused: Option<MemberId>, ring: RingNo, out: &mut Changes)
         requires { length out.old.fell + length self.old.kept ≤ ACCUSATIONS }
-        ensures ends { Ends (ring_count self.old.group.t) (is_on accused ring.0) self.old.kept out.old.fell self.new.kept out.new.fell }
+        ensures ends { Ends (ring_count self.old.group.t) (is_on accused ring.0) self.old.kept
+            out.old.fell self.new.kept out.new.fell }
         ensures rest { self.new ≡ record self.old { kept = self.new.kept } }
         ensures report { out.new ≡ record out.old { fell = out.new.fell } }
         ensures room { length out.new.fell + length self.new.kept ≤ ACCUSATIONS }
@@ -104,7 +111,8 @@ impl Membership {
         out: &mut Changes,
     )
         requires { length out.old.fell + length self.old.kept ≤ ACCUSATIONS }
-        ensures ends { Ends (ring_count self.old.group.t) (is_named named.now) self.old.kept out.old.fell self.new.kept out.new.fell }
+        ensures ends { Ends (ring_count self.old.group.t) (is_named named.now) self.old.kept
+            out.old.fell self.new.kept out.new.fell }
         ensures rest { self.new ≡ record self.old { kept = self.new.kept } }
         ensures report { out.new ≡ record out.old { fell = out.new.fell } }
         ensures room { length out.new.fell + length self.new.kept ≤ ACCUSATIONS }
@@ -117,7 +125,8 @@ impl Membership {
     /// Ends what is kept against the member, and against its successors.
     fn end_of(&mut self, member: MemberId, out: &mut Changes)
         requires { length out.old.fell + length self.old.kept ≤ ACCUSATIONS }
-        ensures ends { Ends (ring_count self.old.group.t) (is_of self.old member) self.old.kept out.old.fell self.new.kept out.new.fell }
+        ensures ends { Ends (ring_count self.old.group.t) (is_of self.old member) self.old.kept
+            out.old.fell self.new.kept out.new.fell }
         ensures rest { self.new ≡ record self.old { kept = self.new.kept } }
         ensures report { out.new ≡ record out.old { fell = out.new.fell } }
         ensures room { length out.new.fell + length self.new.kept ≤ ACCUSATIONS }
@@ -134,9 +143,13 @@ impl Membership {
         requires empty { out.old.fell ≡ [] }
         requires in_order { IsInOrder (ring_count self.old.group.t) self.old.kept }
         ensures kept { self.new
-            ≡ record self.old { kept = filter (λ p. not (is_of_any self.old out.old.expired p)) self.old.kept } }
+            ≡ record self.old
+            { kept = filter (λ p. not (is_of_any self.old out.old.expired p)) self.old.kept } }
         ensures fell { out.new
-            ≡ record out.old { fell = map (λ p. p.0) (filter (is_of_any self.old out.old.expired) self.old.kept) } }
+            ≡ record out.old {
+              fell = map (λ p. p.0)
+                  (filter (is_of_any self.old out.old.expired) self.old.kept);
+            } }
     {
         if self.timers.is_empty() {
             return;

@@ -19,9 +19,16 @@ impl Membership {
         requires below { self.old.moment < 2 ^ 64 - 1 }
         requires empty { out.old.expired ≡ [] }
         ensures kept { self.new
-            ≡ record self.old { moment = self.old.moment + 1; kept = filter (λ p. not (is_due self.old.group.timeout (self.old.moment + 1) p)) self.old.kept } }
+            ≡ record self.old {
+              moment = self.old.moment + 1;
+              kept = filter (λ p. not (is_due self.old.group.timeout (self.old.moment + 1) p))
+                  self.old.kept;
+            } }
         ensures expired { out.new
-            ≡ record out.old { expired = map (λ p. p.0) (filter (is_due self.old.group.timeout (self.old.moment + 1)) self.old.kept) } }
+            ≡ record out.old {
+              expired = map (λ p. p.0)
+                  (filter (is_due self.old.group.timeout (self.old.moment + 1)) self.old.kept);
+            } }
         ensures few { length out.new.expired + length self.new.kept ≤ ACCUSATIONS }
         ensures in_order { IsInOrder (ring_count self.old.group.t) self.old.kept }
         ensures noted { (m : ℕ) → get self.old.places m ≡ None → get self.old.notes m ≡ None }
@@ -34,7 +41,8 @@ impl Membership {
     pub(crate) fn expire_all(&mut self, out: &mut Changes)
         requires empty { out.old.removed ≡ [] }
         requires few { length out.old.expired ≤ ACCUSATIONS }
-        ensures kept { self.new ≡ record self.old { expired = raised self.old.expired out.old.expired } }
+        ensures kept { self.new
+            ≡ record self.old { expired = raised self.old.expired out.old.expired } }
         ensures removed { out.new
             ≡ record out.old { removed = leavers self.old.notes self.old.expired out.old.expired } }
     {
@@ -49,7 +57,8 @@ impl Membership {
     /// Counts the accusation as expired, and the answer is whether that takes its member out of the view.
     fn expire(&mut self, acc: &AccBody) -> bool
         ensures value { result
-            ≡ acc_takes_out (expired_at self.old.expired acc.now.accused) (get self.old.notes acc.now.accused) acc.now }
+            ≡ acc_takes_out (expired_at self.old.expired acc.now.accused)
+            (get self.old.notes acc.now.accused) acc.now }
         ensures kept { self.new ≡ record self.old { expired = raise_by self.old.expired acc.now } }
     {
         let leaves = takes_out(&self.notes, &self.expired, acc);

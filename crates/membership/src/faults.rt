@@ -24,7 +24,8 @@ impl Membership {
 
     /// Why the accusation would be refused now, or none where it would be kept.
     pub fn accusation_fault(&self, acc: &AccBody) -> Option<Fault>
-        ensures { (s : State) → Holds self.now s → result ≡ accusation_fault self.now.group.t s acc.now }
+        ensures { (s : State) → Holds self.now s
+            → result ≡ accusation_fault self.now.group.t s acc.now }
     {
         self.fault_of_accusation(acc)
     }
@@ -96,7 +97,8 @@ impl Membership {
     ) -> Option<Fault>
         requires ring { acc.now.ring.0 < ring_count self.now.group.t }
         requires joined { has_joined self.now acc.now.accused ≡ true }
-        ensures fault { result ≡ fault_under_note (facts_in self.now acc.now) acc.now (Some note.now) }
+        ensures fault { result ≡ fault_under_note (facts_in self.now acc.now) acc.now
+            (Some note.now) }
         ensures counted { steps.old ≤ steps.new }
         ensures most { 2 ^ (steps.new - steps.old) ≤ 2 * live_count self.now + 1 }
     {

@@ -10,7 +10,7 @@ ghost use Rattle.ff_ids.specs.Views.{key_at};
 ghost use Rattle.monitor_rule.specs.Joined.{keys_on};
 ghost use Rattle.membership.specs.Kept.{expired_at, is_live as is_live_by, is_live_at, comes_in, takes_out as acc_takes_out, raise as raised_by};
 
-use by_member::ByMember;
+use crate::ByMember;
 use ff_ids::{AccBody, Epoch, Fault, MAX_RINGS, MemberId, NoteBody, RingNo};
 use monitor_rule::Rings;
 use ring_order::Places;
@@ -61,7 +61,8 @@ pub fn fault_beside(kept: &NoteBody, note: &NoteBody) -> Option<Fault>
 /// Whether the note brings its member into the view.
 pub fn brings_in(notes: &ByMember<NoteBody>, expired: &ByMember<Epoch>, note: &NoteBody) -> bool
     ensures { result
-        ≡ comes_in (expired_at expired.now note.now.member) (get notes.now note.now.member) note.now }
+        ≡ comes_in (expired_at expired.now note.now.member) (get notes.now note.now.member)
+        note.now }
 {
     !is_live(notes, expired, note.member) && is_viewed(note, expired_epoch(expired, note.member))
 }
@@ -69,7 +70,8 @@ pub fn brings_in(notes: &ByMember<NoteBody>, expired: &ByMember<Epoch>, note: &N
 /// Whether the accusation takes its member out of the view.
 pub fn takes_out(notes: &ByMember<NoteBody>, expired: &ByMember<Epoch>, acc: &AccBody) -> bool
     ensures { result
-        ≡ acc_takes_out (expired_at expired.now acc.now.accused) (get notes.now acc.now.accused) acc.now }
+        ≡ acc_takes_out (expired_at expired.now acc.now.accused) (get notes.now acc.now.accused)
+        acc.now }
 {
     match notes.get(acc.accused) {
         Some(note) => {

@@ -21,6 +21,7 @@ ghost use Rattle.membership.specs.Holds.{Holds};
 ghost use Rattle.membership.specs.Reports.{Answers, kept_against};
 ghost use Rattle.removal_timer.specs.Kept.{IsInOrder};
 
+mod by_member;
 mod ends;
 mod expiry;
 mod faults;
@@ -28,7 +29,7 @@ mod kept;
 mod laws;
 mod report;
 
-use by_member::ByMember;
+pub use by_member::ByMember;
 use ff_ids::{AccBody, Epoch, Fault, Group, MEMBERS, MemberId, NoteBody, RingNo};
 use fields::NoMemory;
 use kept::{brings_in, is_live};
@@ -64,9 +65,17 @@ impl Model for Membership {
 
     ghost coded = { Prim.hlevel (codes, code) };
 
-    ghost view = { λ m. record { group = m.group; moment = m.moment; places = m.places; notes = m.notes; expired = m.expired; kept = m.timers.entries } };
+    ghost view = { λ m. record {
+      group = m.group;
+      moment = m.moment;
+      places = m.places;
+      notes = m.notes;
+      expired = m.expired;
+      kept = m.timers.entries;
+    } };
 
-    ghost invariant = { λ m. IsConsistent m.group m.moment m.places m.notes m.expired m.rings m.timers };
+    ghost invariant = { λ m. IsConsistent m.group m.moment m.places m.notes m.expired m.rings
+        m.timers };
 }
 
 impl Membership {
@@ -165,7 +174,8 @@ impl Membership {
         ensures value { (s : State) → Holds self.now s → result ≡ monitor_of s ring.0 member }
         ensures kept { result ≡ live_monitor self.now ring.0 member }
         ensures counted { steps.old ≤ steps.new }
-        ensures most { (s : State) → Holds self.now s → 2 ^ (steps.new - steps.old) ≤ 2 * length (view s) + 1 }
+        ensures most { (s : State) → Holds self.now s
+            → 2 ^ (steps.new - steps.old) ≤ 2 * length (view s) + 1 }
         ensures most_live { 2 ^ (steps.new - steps.old) ≤ 2 * live_count self.now + 1 }
     {
         self.rings
@@ -201,7 +211,8 @@ impl Membership {
     pub fn add_member(&mut self, member: MemberId, places: Places) -> Result<(), Fault>
         requires { length places ≡ ring_count self.old.group.t }
         ensures fault { (s : State) → Holds self.old s → Answers (join_fault s member) result }
-        ensures step { (s : State) → Holds self.old s → OnOk result (Holds self.new (joined s member places)) }
+        ensures step { (s : State) → Holds self.old s
+            → OnOk result (Holds self.new (joined s member places)) }
         ensures same { OnErr result (self.new ≡ self.old) }
         ensures group { self.new.group ≡ self.old.group }
         ensures moment { self.new.moment ≡ self.old.moment }
@@ -217,9 +228,12 @@ impl Membership {
     /// Takes a note of a member: the first fault of a note that holds is the answer. Where there is none the note
     /// is accepted, and `out` reports the step; else nothing changes, and `out` is empty.
     pub fn put_note(&mut self, note: NoteBody, out: &mut Changes) -> Result<(), Fault>
-        ensures fault { (s : State) → Holds self.old s → Answers (note_fault_of self.old.group.t s note) result }
-        ensures step { (s : State) → Holds self.old s → OnOk result (Holds self.new (after_note s note).state) }
-        ensures changes { (s : State) → Holds self.old s → OnOk result (out.new ≡ (after_note s note).report) }
+        ensures fault { (s : State) → Holds self.old s
+            → Answers (note_fault_of self.old.group.t s note) result }
+        ensures step { (s : State) → Holds self.old s
+            → OnOk result (Holds self.new (after_note s note).state) }
+        ensures changes { (s : State) → Holds self.old s
+            → OnOk result (out.new ≡ (after_note s note).report) }
         ensures same { OnErr result (self.new ≡ self.old) }
         ensures emptied { OnErr result (out.new ≡ nothing) }
         ensures group { self.new.group ≡ self.old.group }
@@ -240,8 +254,10 @@ impl Membership {
     /// Takes an accusation: the first fault of an accusation that holds is the answer, and where there is none it
     /// is kept from now on.
     pub fn put_accusation(&mut self, acc: AccBody) -> Result<(), Fault>
-        ensures fault { (s : State) → Holds self.old s → Answers (accusation_fault_of self.old.group.t s acc) result }
-        ensures step { (s : State) → Holds self.old s → OnOk result (Holds self.new (after_accusation s acc)) }
+        ensures fault { (s : State) → Holds self.old s
+            → Answers (accusation_fault_of self.old.group.t s acc) result }
+        ensures step { (s : State) → Holds self.old s
+            → OnOk result (Holds self.new (after_accusation s acc)) }
         ensures same { OnErr result (self.new ≡ self.old) }
         ensures group { self.new.group ≡ self.old.group }
         ensures moment { self.new.moment ≡ self.old.moment }
@@ -260,14 +276,17 @@ impl Membership {
         acc: AccBody,
         steps: &mut Steps<L>,
     ) -> Result<(), Fault>
-        ensures fault { (s : State) → Holds self.old s → Answers (accusation_fault_of self.old.group.t s acc) result }
-        ensures step { (s : State) → Holds self.old s → OnOk result (Holds self.new (after_accusation s acc)) }
+        ensures fault { (s : State) → Holds self.old s
+            → Answers (accusation_fault_of self.old.group.t s acc) result }
+        ensures step { (s : State) → Holds self.old s
+            → OnOk result (Holds self.new (after_accusation s acc)) }
         ensures same { OnErr result (self.new ≡ self.old) }
         ensures group { self.new.group ≡ self.old.group }
         ensures moment { self.new.moment ≡ self.old.moment }
         ensures members { self.new.places ≡ self.old.places }
         ensures counted { steps.old ≤ steps.new }
-        ensures most { (s : State) → Holds self.old s → 2 ^ (steps.new - steps.old) ≤ 2 * length (view s) + 1 }
+        ensures most { (s : State) → Holds self.old s
+            → 2 ^ (steps.new - steps.old) ≤ 2 * length (view s) + 1 }
     {
         if let Some(fault) = self.fault_of_accusation_counted(&acc, steps) {
             return Err(fault);
@@ -279,7 +298,8 @@ impl Membership {
     /// One tick: what was kept for the timeout expires, and `out` reports the step.
     pub fn tick(&mut self, out: &mut Changes)
         requires { self.old.moment < 2 ^ 64 - 1 }
-        ensures step { (s : State) → Holds self.old s → Holds self.new (after_tick self.old.group.timeout s).state }
+        ensures step { (s : State) → Holds self.old s
+            → Holds self.new (after_tick self.old.group.timeout s).state }
         ensures changes { (s : State) → Holds self.old s → out.new
             ≡ (after_tick self.old.group.timeout s).report }
         ensures moment { self.new.moment ≡ self.old.moment + 1 }

@@ -2,7 +2,7 @@
 
 ghost use Rattle.std.specs.Prelude.{◌≡◌, [], ◌∷◌, ◌++◌, length, ◌≤◌, ◌<◌, not, map, filter, if◌then◌else◌, IfOk};
 ghost use Rattle.std.specs.List.{prefix_len};
-ghost use Rattle.ff_ids.specs.Steps.{comes_first as acc_comes_first, is_due, nothing};
+ghost use Rattle.ff_ids.specs.Steps.{precedes as acc_comes_first, is_due, nothing};
 ghost use Rattle.membership.specs.Ends.{with_fallen};
 
 use ff_ids::{AccBody, MAX_ACCUSATIONS, MEMBERS, MemberId};
@@ -30,9 +30,15 @@ impl Model for Changes {
 
     ghost Value = { Report };
 
-    ghost view = { λ c. record { expired = c.expired.items; removed = c.removed.items; entered = c.entered.items; fell = c.fell.items } };
+    ghost view = { λ c. record {
+      expired = c.expired.items;
+      removed = c.removed.items;
+      entered = c.entered.items;
+      fell = c.fell.items;
+    } };
 
-    ghost invariant = { λ c. HasRoom (vec_capacity c.expired) (vec_capacity c.removed) (vec_capacity c.entered) (vec_capacity c.fell) };
+    ghost invariant = { λ c. HasRoom (vec_capacity c.expired) (vec_capacity c.removed)
+        (vec_capacity c.entered) (vec_capacity c.fell) };
 }
 
 impl Changes {
@@ -110,9 +116,15 @@ impl Changes {
         requires empty { self.old.expired ≡ [] }
         requires few { length timers.old.entries ≤ ACCUSATIONS }
         ensures expired { self.new
-            ≡ record self.old { expired = map (λ p. p.0) (filter (is_due timers.old.timeout moment) timers.old.entries) } }
+            ≡ record self.old {
+              expired = map (λ p. p.0)
+                  (filter (is_due timers.old.timeout moment) timers.old.entries);
+            } }
         ensures left { timers.new
-            ≡ record timers.old { entries = filter (λ p. not (is_due timers.old.timeout moment p)) timers.old.entries } }
+            ≡ record timers.old {
+              entries = filter (λ p. not (is_due timers.old.timeout moment p))
+                  timers.old.entries;
+            } }
     {
         timers.due(moment, &mut self.expired);
     }

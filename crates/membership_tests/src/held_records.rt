@@ -111,7 +111,8 @@ fn put(
     requires port { HasPort body }
     requires ring { HasRing 1 body }
     ensures held { OnOk result (IsSome (held_under set.new (key_of body))) }
-    ensures kept { (k : Key) → IsSome (held_under set.old k) → OnOk result (IsSome (held_under set.new k)) }
+    ensures kept { (k : Key) → IsSome (held_under set.old k)
+        → OnOk result (IsSome (held_under set.new k)) }
 {
     let rec = checked(rt, alloc, number, body)?;
     set.put(rec);
@@ -123,7 +124,8 @@ fn put(
 fn filled(rt: &impl Abort, alloc: Global) -> Result<RecordSet, Fail>
     ensures certificate { IfOk result (λ s. IsSome (held_under s (keys.Certificate 0))) }
     ensures note { IfOk result (λ s. IsSome (held_under s (keys.Note 0))) }
-    ensures accusation { IfOk result (λ s. IsSome (held_under s (keys.Accusation 0 (record { 0 = 1 })))) }
+    ensures accusation { IfOk result
+        (λ s. IsSome (held_under s (keys.Accusation 0 (record { 0 = 1 })))) }
 {
     let member = MemberId::new(0);
     let mut set = RecordSet::open(alloc)?;

@@ -5,7 +5,7 @@ use Rattle.std.specs.List.{All, Contains}
 use Rattle.std.specs.Option.{option_map, IsSomeAnd}
 use Rattle.std.proofs.lemmas.Bool.{cases_Bool, cases_lt, cases_eq, eqb-true, eqb-false, true≢false}
 use Rattle.std.proofs.lemmas.List.{get_or_default}
-use Rattle.ff_ids.specs.Rings.{Key, is_below, cyc, nearest_before, nearest_after}
+use Rattle.ff_ids.specs.Rings.{Key, is_below, is_between, nearest_before, nearest_after}
 use Rattle.ff_ids.specs.Views.{key_at}
 use Rattle.ring_order.proofs.KeyOrder.{IsRanked, before_ranked, after_ranked}
 use Rattle.ring_order.proofs.Top.{find_top, find_top-is, find_top-nobody}
@@ -87,7 +87,7 @@ two_of_three false false false h = cc
 abbrev pub IndexBefore : ℕ → ℕ → ℕ → Type 0
 IndexBefore place i j = ((i < j) × (j < place)) ⊎ (((j < place) × (place ≤ i)) ⊎ ((place ≤ i) × (i < j)))
 
-before_indexes : (slots : Slots) (row : RingOrder) (q : Key) (place i j : ℕ) → IsRow slots row → IsBetween slots row q place place → i < length row.order → j < length row.order → cyc (key_of_index slots row i) (key_of_index slots row j) q ≡ true → IndexBefore place i j
+before_indexes : (slots : Slots) (row : RingOrder) (q : Key) (place i j : ℕ) → IsRow slots row → IsBetween slots row q place place → i < length row.order → j < length row.order → is_between (key_of_index slots row i) (key_of_index slots row j) q ≡ true → IndexBefore place i j
 before_indexes slots row q place i j h between i_in j_in round =
     elim (two_of_three (is_below (key_of_index slots row i) (key_of_index slots row j)) (is_below (key_of_index slots row j) q) (is_below q (key_of_index slots row i)) round) [
       | inl both ↦ inl (index_rises slots row i j h i_in both.0, index_below slots row q place j between j_in both.1)
@@ -99,7 +99,7 @@ before_indexes slots row q place i j h between i_in j_in round =
 abbrev pub IndexAfter : ℕ → ℕ → ℕ → Type 0
 IndexAfter place i j = ((place ≤ j) × (j < i)) ⊎ (((j < i) × (i < place)) ⊎ ((i < place) × (place ≤ j)))
 
-after_indexes : (slots : Slots) (row : RingOrder) (q : Key) (place i j : ℕ) → IsRow slots row → IsBetween slots row q place place → i < length row.order → j < length row.order → cyc q (key_of_index slots row j) (key_of_index slots row i) ≡ true → IndexAfter place i j
+after_indexes : (slots : Slots) (row : RingOrder) (q : Key) (place i j : ℕ) → IsRow slots row → IsBetween slots row q place place → i < length row.order → j < length row.order → is_between q (key_of_index slots row j) (key_of_index slots row i) ≡ true → IndexAfter place i j
 after_indexes slots row q place i j h between i_in j_in round =
     elim (two_of_three (is_below q (key_of_index slots row j)) (is_below (key_of_index slots row j) (key_of_index slots row i)) (is_below (key_of_index slots row i) q) round) [
       | inl both ↦ inl (index_above slots row q place j between both.0, index_rises slots row j i h j_in both.1)
@@ -212,7 +212,7 @@ nearest_before-found slots row q place h between some =
     let n = length row.order in
     let first = back n place in
     let second = back n first in
-    let near : Key → Key → Bool = λ v w. cyc v w q in
+    let near : Key → Key → Bool = λ v w. is_between v w q in
     let one = back_cases n place in
     let two = back_cases n first in
     let first_in : first < n = grind arith in
@@ -254,7 +254,7 @@ nearest_after-found slots row q place h between some =
     let n = length row.order in
     let first = wrapped n place in
     let second = wrapped n (first + 1) in
-    let near : Key → Key → Bool = λ v w. cyc q w v in
+    let near : Key → Key → Bool = λ v w. is_between q w v in
     let one = wrapped_cases n place in
     let two = wrapped_cases n (first + 1) in
     let first_in : first < n = grind arith in
@@ -270,7 +270,7 @@ nearest_after-found slots row q place h between some =
 
 -- nobody is on the ring
 pub nearest_before-nobody : (slots : Slots) (row : RingOrder) (q : Key) → IsRow slots row → length row.order ≡ 0 → None ≡ nearest_before (keys_on row.ring (members_from 0 slots)) q
-nearest_before-nobody slots row q h none = sym (none_found (λ v w. cyc v w q) slots row q.number h (λ j within. absurd (omega arith)))
+nearest_before-nobody slots row q h none = sym (none_found (λ v w. is_between v w q) slots row q.number h (λ j within. absurd (omega arith)))
 
 pub nearest_after-nobody : (slots : Slots) (row : RingOrder) (q : Key) → IsRow slots row → length row.order ≡ 0 → None ≡ nearest_after (keys_on row.ring (members_from 0 slots)) q
-nearest_after-nobody slots row q h none = sym (none_found (λ v w. cyc q w v) slots row q.number h (λ j within. absurd (omega arith)))
+nearest_after-nobody slots row q h none = sym (none_found (λ v w. is_between q w v) slots row q.number h (λ j within. absurd (omega arith)))

@@ -38,7 +38,8 @@ impl Model for Rings {
 
     ghost Value = { Joined };
 
-    ghost view = { λ r. record { rings = length r.rows.items; members = members_from 0 r.slots.items } };
+    ghost view = { λ r. record
+        { rings = length r.rows.items; members = members_from 0 r.slots.items } };
 
     ghost invariant = { λ r. IsKept r.slots.items r.rows.items };
 }
@@ -65,7 +66,10 @@ impl Rings {
         requires absent { is_joined self.old.members member ≡ false }
         requires placed { length places.now ≡ self.old.rings }
         ensures { self.new
-            ≡ record self.old { members = with_member (record { number = member; places = places.now }) self.old.members } }
+            ≡ record self.old {
+              members = with_member (record { number = member; places = places.now })
+                  self.old.members;
+            } }
     {
         let index = member.get() as usize;
         join_each(&mut self.rows, &self.slots, member, places);

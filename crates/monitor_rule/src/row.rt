@@ -100,7 +100,8 @@ impl Row {
         requires long { length slots.now ≡ MEMBERS }
         requires placed { self.now.ring < length places.now }
         ensures value { result
-            ≡ number_before (keys_on self.now.ring (members_from 0 slots.now)) (key_at self.now.ring places.now member) }
+            ≡ number_before (keys_on self.now.ring (members_from 0 slots.now))
+            (key_at self.now.ring places.now member) }
         ensures counted { steps.old ≤ steps.new }
         ensures most { 2 ^ (steps.new - steps.old) ≤ 2 * length self.now.order + 1 }
         ensures least { length self.now.order + 2 ≤ 2 * 2 ^ (steps.new - steps.old) }
@@ -125,7 +126,8 @@ impl Row {
         requires long { length slots.now ≡ MEMBERS }
         requires placed { self.now.ring < length places.now }
         ensures value { result
-            ≡ number_after (keys_on self.now.ring (members_from 0 slots.now)) (key_at self.now.ring places.now member) }
+            ≡ number_after (keys_on self.now.ring (members_from 0 slots.now))
+            (key_at self.now.ring places.now member) }
         ensures counted { steps.old ≤ steps.new }
         ensures most { 2 ^ (steps.new - steps.old) ≤ 2 * length self.now.order + 1 }
         ensures least { length self.now.order + 2 ≤ 2 * 2 ^ (steps.new - steps.old) }
@@ -147,7 +149,8 @@ impl Row {
         requires long { length slots.now ≡ MEMBERS }
         requires placed { self.now.ring < length places.now }
         ensures { result
-            ≡ number_after (keys_on self.now.ring (members_from 0 slots.now)) (key_at self.now.ring places.now member) }
+            ≡ number_after (keys_on self.now.ring (members_from 0 slots.now))
+            (key_at self.now.ring places.now member) }
     {
         *near = self.search_near(slots, *near, member, places, steps);
         self.behind(*near, member)
@@ -156,7 +159,8 @@ impl Row {
     /// The member from this place on, going round, that is another than this one.
     fn behind(&self, place: usize, member: MemberId) -> Option<MemberId>
         requires within { place ≤ length self.now.order }
-        ensures { (slots : List (Option (List (List ℕ)))) (q : Key) → IsRow slots self.now → IsBetween slots self.now q place place → q.number ≡ member
+        ensures { (slots : List (Option (List (List ℕ)))) (q : Key) → IsRow slots self.now
+            → IsBetween slots self.now q place place → q.number ≡ member
             → result ≡ number_after (keys_on self.now.ring (members_from 0 slots)) q }
     {
         if self.order.is_empty() {
@@ -195,7 +199,9 @@ impl Row {
         requires first { first < length self.now.order }
         requires second { second < length self.now.order }
         ensures { result
-            ≡ (if slice_index self.now.order first == member then (if slice_index self.now.order second == member then None else Some (slice_index self.now.order second)) else Some (slice_index self.now.order first)) }
+            ≡ (if slice_index self.now.order first == member then
+            (if slice_index self.now.order second == member then None else Some
+            (slice_index self.now.order second)) else Some (slice_index self.now.order first)) }
     {
         let other = self.order[first];
         if other != member {
@@ -210,7 +216,8 @@ impl Row {
         requires in_order { IsRow slots.now self.now }
         requires long { length slots.now ≡ MEMBERS }
         requires placed { self.now.ring < length places.now }
-        ensures { IsBetween slots.now self.now (key_at self.now.ring places.now member) result result }
+        ensures { IsBetween slots.now self.now (key_at self.now.ring places.now member) result
+            result }
     {
         self.place_in::<Brand>(Blank::new(1), slots, member, places)
     }
@@ -228,7 +235,8 @@ impl Row {
         requires in_order { IsRow slots.now self.now }
         requires long { length slots.now ≡ MEMBERS }
         requires placed { self.now.ring < length places.now }
-        ensures { IsBetween slots.now self.now (key_at self.now.ring places.now member) result result }
+        ensures { IsBetween slots.now self.now (key_at self.now.ring places.now member) result
+            result }
     {
         self.search(slots, member, places, &mut Steps::<L>::open(blank))
     }
@@ -244,7 +252,8 @@ impl Row {
         requires in_order { IsRow slots.now self.now }
         requires long { length slots.now ≡ MEMBERS }
         requires placed { self.now.ring < length places.now }
-        ensures place { IsBetween slots.now self.now (key_at self.now.ring places.now member) result result }
+        ensures place { IsBetween slots.now self.now (key_at self.now.ring places.now member) result
+            result }
         ensures counted { steps.old ≤ steps.new }
         ensures most { 2 ^ (steps.new - steps.old) ≤ 2 * length self.now.order + 1 }
         ensures least { length self.now.order + 2 ≤ 2 * 2 ^ (steps.new - steps.old) }
@@ -270,7 +279,8 @@ impl Row {
         requires in_order { IsRow slots.now self.now }
         requires long { length slots.now ≡ MEMBERS }
         requires placed { self.now.ring < length places.now }
-        ensures { IsBetween slots.now self.now (key_at self.now.ring places.now member) result result }
+        ensures { IsBetween slots.now self.now (key_at self.now.ring places.now member) result
+            result }
     {
         let (low, high) = (0, self.order.len());
         let (low, high) = self.narrow_at(
@@ -304,8 +314,10 @@ impl Row {
         requires in_order { IsRow slots.now self.now }
         requires long { length slots.now ≡ MEMBERS }
         requires placed { self.now.ring < length places.now }
-        requires between { IsBetween slots.now self.now (key_at self.now.ring places.now member) low high }
-        ensures { IsBetween slots.now self.now (key_at self.now.ring places.now member) result.0 result.1 }
+        requires between { IsBetween slots.now self.now (key_at self.now.ring places.now member) low
+            high }
+        ensures { IsBetween slots.now self.now (key_at self.now.ring places.now member) result.0
+            result.1 }
     {
         if low <= index && index < high {
             self.narrow(slots, low, index, high, member, places, steps)
@@ -328,10 +340,12 @@ impl Row {
         requires in_order { IsRow slots.now self.now }
         requires long { length slots.now ≡ MEMBERS }
         requires placed { self.now.ring < length places.now }
-        requires between { IsBetween slots.now self.now (key_at self.now.ring places.now member) low high }
+        requires between { IsBetween slots.now self.now (key_at self.now.ring places.now member) low
+            high }
         requires from { low ≤ middle }
         requires until { middle < high }
-        ensures between { IsBetween slots.now self.now (key_at self.now.ring places.now member) result.0 result.1 }
+        ensures between { IsBetween slots.now self.now (key_at self.now.ring places.now member)
+            result.0 result.1 }
         ensures step { steps.new ≡ steps.old + 1 }
         ensures part { (result ≡ (middle + 1, high)) ⊎ (result ≡ (low, middle)) }
     {

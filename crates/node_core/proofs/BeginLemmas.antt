@@ -49,7 +49,7 @@ pub started-is : (s : Setting) (seed : List ℕ) (certificates : List Record) (s
 unfolding started
 started-is s seed certificates stored = refl
 
--- what stands behind what was told before
+-- what stands behind what was reported before
 pub at-first : (s : Setting) (v : Kept) (c : Call) → IsNode s v c.node → c.told ≡ [] → c.sent ≡ [] → v.telling.before ≡ length v.telling.sent → IsAt s v.telling.events v.telling.sent v c
 at-first s v c is told sent before =
     record { is = is; told = sym (ap (λ xs. v.telling.events ++ xs) told ∙ nil-end v.telling.events); sent = sym (ap (λ xs. v.telling.sent ++ xs) sent ∙ nil-end v.telling.sent); before = before }
@@ -83,7 +83,7 @@ at-opening s seed v setting holds records roster probes told =
       before = ap (λ (t : Tellings). t.before) told;
     }
 
--- it doesn't matter what was told
+-- it doesn't matter what was reported
 pub other-told : (s : Setting) (v : Kept) (n : Node) (t : Tellings) → IsNode s v n → IsNode s (record v { telling = t }) n
 other-told s v n t is = record { setting = is.setting; holds = is.holds; stored = is.stored; records = is.records; roster = is.roster; probes = is.probes }
 

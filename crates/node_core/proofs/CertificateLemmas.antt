@@ -14,6 +14,7 @@ use Rattle.records.specs.declared.Body.{Body}
 use Rattle.records.specs.declared.Body.TheVariants.{Certificate, Note, Accusation}
 use Rattle.records.specs.declared.Record.{Record}
 use Rattle.records.specs.Signing.{CheckedRecord, IsChecked, signed_bytes}
+use Rattle.validate.proofs.VerdictLemmas.{good-verdict}
 use Rattle.node_rules.specs.Nodes.{Setting}
 use Rattle.node_rules.specs.Lives.{AreCertificates, is_certificate_for}
 use Rattle.node_rules.specs.Vouching.{IsCertifiedBy, OwnSignaturesVerify}
@@ -26,7 +27,6 @@ use Rattle.node_core.specs.Rolls.{IsCertificateFor, IsOfOther, IsApart, AreApart
 use Rattle.node_core.specs.Begins.{IsCheckedIn, is_of_other, HasKey, IsKit, IsVouchable}
 use Rattle.node_core.proofs.RollLemmas.{same-certificate}
 use Rattle.node_core.proofs.PlayLemmas.{setting-group, setting-me}
-use Rattle.node_core.proofs.RefusalLemmas.{good-verdict}
 
 head-of : (P : CheckedRecord → Type 0) (x : CheckedRecord) (xs : List CheckedRecord) → All P (x ∷ xs) → P x
 head-of P x xs all = all 0 x (omega arith)

@@ -14,12 +14,12 @@ use Rattle.node_core.specs.declared.NodeFault.{NodeFault}
 use Rattle.node_core.specs.declared.NodeFault.TheVariants as faults
 use Rattle.node_core.specs.Playing.{Kept, IsNode, IsAt, IsBehind, Plays, Stops}
 use Rattle.node_core.specs.Hears.{RunsHearing}
-use Rattle.node_core.specs.Answers.{Lent, Gives, GivesFront, Stands, GivesCall}
+use Rattle.node_core.specs.Answers.{CallerBuffers, Gives, GivesFront, Stands, GivesCall}
 use Rattle.journal.specs.declared.event.Event as journal
-use Rattle.node_core.specs.Told.{IsFront}
+use Rattle.node_core.specs.Told.{IsPrefix}
 use Rattle.node_core.proofs.TellingLemmas.{front-behind}
 
-pub gives-from : (s : Setting) (v1 v2 : Kept) (old new : Lent) (c : Call) → IsAt s old.events old.sent v1 c → v2 ≡ record v1 { telling = v2.telling; ended = v2.ended }
+pub gives-from : (s : Setting) (v1 v2 : Kept) (old new : CallerBuffers) (c : Call) → IsAt s old.events old.sent v1 c → v2 ≡ record v1 { telling = v2.telling; ended = v2.ended }
     → new.events ≡ v1.telling.events → new.sent ≡ v1.telling.sent → Gives s v2 old new c
 gives-from s v1 v2 old new c at same events sent =
     let n = at.is in
@@ -34,14 +34,14 @@ unfolding delivered
 delivered-is s n bytes = refl
 
 -- a front of what was due was given
-pub front-given : (v : Kept) (old new : Lent) (c : Call) → IsBehind old.events old.sent v c → new.events ≡ v.telling.events → new.sent ≡ v.telling.sent → Stands old new → GivesFront old new c
+pub front-given : (v : Kept) (old new : CallerBuffers) (c : Call) → IsBehind old.events old.sent v c → new.events ≡ v.telling.events → new.sent ≡ v.telling.sent → Stands old new → GivesFront old new c
 front-given v old new c behind events sent stands = record {
   events = stands.events.more;
   sent = stands.sent.more;
   events_added = stands.events.is;
   sent_added = stands.sent.is;
-  events_front = front-behind old.events stands.events.more c.told new.events stands.events.is (subst (λ (xs : List journal.Event). IsFront xs (old.events ++ c.told)) (sym events) behind.told);
-  sent_front = front-behind old.sent stands.sent.more c.sent new.sent stands.sent.is (subst (λ (xs : List (ℕ × List ℕ)). IsFront xs (old.sent ++ c.sent)) (sym sent) behind.sent);
+  events_front = front-behind old.events stands.events.more c.told new.events stands.events.is (subst (λ (xs : List journal.Event). IsPrefix xs (old.events ++ c.told)) (sym events) behind.told);
+  sent_front = front-behind old.sent stands.sent.more c.sent new.sent stands.sent.is (subst (λ (xs : List (ℕ × List ℕ)). IsPrefix xs (old.sent ++ c.sent)) (sym sent) behind.sent);
 }
 
 -- A call was made, or it ended in a put that failed, if memory sufficed.
@@ -71,7 +71,7 @@ hearing-ran s es os n bytes v (Err e) ran =
       ),
     )
 
-by_answer : (s : Setting) (n : Node) (i : Input) (v1 v2 : Kept) (old new : Lent) (done : Result (Unit {0}) NodeFault)
+by_answer : (s : Setting) (n : Node) (i : Input) (v1 v2 : Kept) (old new : CallerBuffers) (done : Result (Unit {0}) NodeFault)
     → RunsCall (v1.telling.failed ≡ false) (Plays s old.events old.sent v1) (Stops s old.events old.sent v1) s n i done → IfErr done (λ e. e ≡ faults.StoreFault) → v1.telling.failed ≡ false
     → v2 ≡ record v1 { telling = v2.telling; ended = v2.ended } → new.events ≡ v1.telling.events → new.sent ≡ v1.telling.sent → GivesCall s n i v2 old new done
 by_answer s n i v1 v2 old new (Ok x) ran cause fine same events sent = gives-from s v1 v2 old new (call_of s n i) (ran.at fine) same events sent
@@ -84,7 +84,7 @@ due-of : (s : Setting) (n : Node) (i : Input) (v1 : Kept) (es : List journal.Eve
 due-of s n i v1 es os (Ok x) ran failed = ran.due
 due-of s n i v1 es os (Err e) ran failed = ran.1.1.due failed
 
-pub gives-by : (s : Setting) (n : Node) (i : Input) (v1 v2 : Kept) (old new : Lent) (done answer : Result (Unit {0}) NodeFault)
+pub gives-by : (s : Setting) (n : Node) (i : Input) (v1 v2 : Kept) (old new : CallerBuffers) (done answer : Result (Unit {0}) NodeFault)
     → RunsCall (v1.telling.failed ≡ false) (Plays s old.events old.sent v1) (Stops s old.events old.sent v1) s n i done → IfErr done (λ e. e ≡ faults.StoreFault)
     → (v1.telling.failed ≡ true → answer ≡ Err faults.OutOfMemory) → (v1.telling.failed ≡ false → answer ≡ done)
     → v2 ≡ record v1 { telling = v2.telling; ended = v2.ended } → new.events ≡ v1.telling.events → new.sent ≡ v1.telling.sent → Stands old new → GivesCall s n i v2 old new answer

@@ -1,4 +1,4 @@
--- A node over a disk whose state is told: steps, and then calls.
+-- A node over a disk whose state is modelled: steps, and then calls.
 use Rattle.std.proofs.Common.{◌≡◌, ℕ, suc, ◌+◌, Bool, true, false, eqb, cond, not, Option, Some, None, List, [], ◌∷◌, refl, sym, ap, ◌∙◌, subst, arith, eq-eqb, inl, inr, Result, Ok, Err}
 use Rattle.std.specs.Prelude.{fold, ◌++◌, OnOk, IfErr, is_err}
 use Rattle.std.specs.Option.{option_map}
@@ -34,7 +34,7 @@ use Rattle.records.specs.declared.fault.FormFault.{FormFault}
 use Rattle.records.specs.declared.fault.FormFault.TheVariants as forms
 use Rattle.journal.specs.declared.event.What.TheVariants as told
 use Rattle.node_core.specs.Told.{Tellings}
-use Rattle.node_core.specs.Answers.{Lent}
+use Rattle.node_core.specs.Answers.{CallerBuffers}
 use Rattle.node_core.specs.Neighbours.{addressees}
 use Rattle.node_core.specs.Playing.{Kept, IsAt, Plays}
 use Rattle.node_core.specs.Spending.{SignsNothing}
@@ -120,7 +120,7 @@ told-none None y d came is = cc
 told-none (Some e) None d came is = cc
 told-none (Some e) (Some f) d came is = ap (λ (o : Option Came). option_map (λ (c : Came). c.disk) o) came ∙ is
 
--- What some calls of a told disk came to.
+-- What some calls of a modelled disk came to.
 record RanTo (calls : List DiskCall) (d : DiskState) (y : Option DiskState) (failed : Bool) : Type 0 where
   answer : (runs calls d).failed ≡ failed
   behind : y ≡ Some (runs calls d).disk
@@ -256,18 +256,18 @@ read-comes s es os w y failed (Err place) e o gives h = cc
 
 -- ---- what is given
 
-gives-on : (s : Setting) (v1 v2 : Kept) (old new : Lent) (y : Option DiskState) (failed : Bool) (o : OnDisk PlacedStore) → ComesTo s old.events old.sent v1 y failed o → v2 ≡ record v1 { telling = v2.telling; ended = v2.ended }
+gives-on : (s : Setting) (v1 v2 : Kept) (old new : CallerBuffers) (y : Option DiskState) (failed : Bool) (o : OnDisk PlacedStore) → ComesTo s old.events old.sent v1 y failed o → v2 ≡ record v1 { telling = v2.telling; ended = v2.ended }
     → new.events ≡ v1.telling.events → new.sent ≡ v1.telling.sent → GivesOn s v2 old new y failed o
 gives-on s v1 v2 old new y failed o h same events sent =
     record { gives = gives-from s v1 v2 old new o.call h.at same events sent; ended = h.ended; disk = h.disk; seat = ap (λ (v : Kept). v.signer.seat) same ∙ h.seat }
 
-follows-fine : (s : Setting) (v1 v2 : Kept) (old new : Lent) (y : Option DiskState) (o : OnDisk PlacedStore) (done : Result (Unit {0}) NodeFault) → ComesTo s old.events old.sent v1 y (is_err done) o → IfErr done (λ e. e ≡ faults.StoreFault)
+follows-fine : (s : Setting) (v1 v2 : Kept) (old new : CallerBuffers) (y : Option DiskState) (o : OnDisk PlacedStore) (done : Result (Unit {0}) NodeFault) → ComesTo s old.events old.sent v1 y (is_err done) o → IfErr done (λ e. e ≡ faults.StoreFault)
     → v2 ≡ record v1 { telling = v2.telling; ended = v2.ended } → new.events ≡ v1.telling.events → new.sent ≡ v1.telling.sent → FollowsDisk s v2 old new y o done
 follows-fine s v1 v2 old new y o (Ok x) h cause same events sent = gives-on s v1 v2 old new y false o h same events sent
 follows-fine s v1 v2 old new y o (Err e) h cause same events sent =
     subst (λ f. FollowsDisk s v2 old new y o (Err f)) (sym cause) (gives-on s v1 v2 old new y true o h same events sent)
 
-pub follows-by : (s : Setting) (v1 v2 : Kept) (old new : Lent) (y : Option DiskState) (o : OnDisk PlacedStore) (done answer : Result (Unit {0}) NodeFault) → (v1.telling.failed ≡ false → ComesTo s old.events old.sent v1 y (is_err done) o)
+pub follows-by : (s : Setting) (v1 v2 : Kept) (old new : CallerBuffers) (y : Option DiskState) (o : OnDisk PlacedStore) (done answer : Result (Unit {0}) NodeFault) → (v1.telling.failed ≡ false → ComesTo s old.events old.sent v1 y (is_err done) o)
     → IfErr done (λ e. e ≡ faults.StoreFault) → (v1.telling.failed ≡ true → answer ≡ Err faults.OutOfMemory) → (v1.telling.failed ≡ false → answer ≡ done)
     → v2 ≡ record v1 { telling = v2.telling; ended = v2.ended } → new.events ≡ v1.telling.events → new.sent ≡ v1.telling.sent → FollowsDisk s v2 old new y o answer
 follows-by s v1 v2 old new y o done answer h cause memory going same events sent =

@@ -1,11 +1,11 @@
--- Where memory was refused: a front of what a call tells and sends.
+-- Where memory was refused: a front of what a call reports and sends.
 use Rattle.std.proofs.Common.{◌≡◌, ℕ, Bool, true, false, inl, inr, List, [], ◌++◌, ap, sym, ◌∙◌, subst, Result, Ok, Err}
 use Rattle.std.proofs.lemmas.Bool.{cases_Bool, false≢true}
 use Rattle.journal.specs.declared.event.Event as journal
 use Rattle.node_rules.specs.Nodes.{Setting}
 use Rattle.node_rules.specs.Calls.{Call}
 use Rattle.node_core.specs.declared.NodeFault.{NodeFault}
-use Rattle.node_core.specs.Told.{Tellings, Adds, IsFront}
+use Rattle.node_core.specs.Told.{Tellings, Adds, IsPrefix}
 use Rattle.node_core.specs.Playing.{Kept, IsAt, IsBehind, Plays, Stops, Extends, Grows}
 use Rattle.node_core.specs.Signatures.{Runs}
 use Rattle.node_core.proofs.TellingLemmas.{nil-right, front-trans, front-after}
@@ -16,25 +16,25 @@ behind-extends es os v c d h further = record {
   sent = front-trans v.telling.sent (os ++ c.sent) (os ++ d.sent) h.sent (front-after os c.sent d.sent further.sent);
 }
 
--- where the same is told and sent
+-- where the same is reported and sent
 pub behind-same : (es : List journal.Event) (os : List (ℕ × List ℕ)) (v w : Kept) (c : Call) → w.telling.events ≡ v.telling.events → w.telling.sent ≡ v.telling.sent → IsBehind es os v c → IsBehind es os w c
 behind-same es os v w c events sent h = record {
-  told = subst (λ (xs : List journal.Event). IsFront xs (es ++ c.told)) (sym events) h.told;
-  sent = subst (λ (xs : List (ℕ × List ℕ)). IsFront xs (os ++ c.sent)) (sym sent) h.sent;
+  told = subst (λ (xs : List journal.Event). IsPrefix xs (es ++ c.told)) (sym events) h.told;
+  sent = subst (λ (xs : List (ℕ × List ℕ)). IsPrefix xs (os ++ c.sent)) (sym sent) h.sent;
 }
 
-whole-front : {X : Type 0} (xs ys : List X) → xs ≡ ys → IsFront xs ys
+whole-front : {X : Type 0} (xs ys : List X) → xs ≡ ys → IsPrefix xs ys
 whole-front xs ys same = record { more = []; is = sym same ∙ sym (nil-right xs) }
 
--- all of it is told and sent
+-- all of it is reported and sent
 pub plays-at : (s : Setting) (es : List journal.Event) (os : List (ℕ × List ℕ)) (v : Kept) (c : Call) → IsAt s es os v c → Plays s es os v c
 plays-at s es os v c h = record { at = λ fine. h; due = record { told = whole-front v.telling.events (es ++ c.told) h.told; sent = whole-front v.telling.sent (os ++ c.sent) h.sent } }
 
--- what was due is what the call tells and sends
+-- what was due is what the call reports and sends
 pub behind-due : (es : List journal.Event) (os : List (ℕ × List ℕ)) (w : Kept) (d : Call) (f : Tellings → Tellings) (t : Tellings) → Adds f t w.telling → (f t).events ≡ es ++ d.told → (f t).sent ≡ os ++ d.sent → IsBehind es os w d
 behind-due es os w d f t adds told sent = record {
-  told = subst (λ (xs : List journal.Event). IsFront w.telling.events xs) told adds.events_due;
-  sent = subst (λ (xs : List (ℕ × List ℕ)). IsFront w.telling.sent xs) sent adds.sent_due;
+  told = subst (λ (xs : List journal.Event). IsPrefix w.telling.events xs) told adds.events_due;
+  sent = subst (λ (xs : List (ℕ × List ℕ)). IsPrefix w.telling.sent xs) sent adds.sent_due;
 }
 
 -- nothing was added, since memory was refused before

@@ -1,4 +1,4 @@
--- A step of the definitions only adds: what a call has told and sent so far is a front of what it has afterwards.
+-- A step of the definitions only adds: what a call has reported and sent so far is a front of what it has afterwards.
 use Rattle.std.proofs.Common.{ℕ, Bool, true, false, cond, List, [], ◌∷◌, Option, Some, None, refl, Result, Ok, Err}
 use Rattle.std.specs.Prelude.{fold, ◌==◌}
 use Rattle.ff_ids.specs.Views.{State}

@@ -6,9 +6,9 @@ use Rattle.lms_tree.specs.declared.secret.Secret.{Secret}
 use Rattle.lms_tree.specs.Lms.{public_of, signature_of}
 use Rattle.lms_tree.proofs.Signatures.{signature-verifies}
 use Rattle.records.specs.Signing.{signed_bytes}
+use Rattle.validate.proofs.VerdictLemmas.{good-verdict}
 use Rattle.node_rules.specs.Vouching.{OwnSignaturesVerify}
 use Rattle.node_core.specs.Playing.{setting_of}
-use Rattle.node_core.proofs.RefusalLemmas.{good-verdict}
 
 pub own-verify : (group : Group) (me : ℕ) (authority : PublicKey) (key : Secret) → OwnSignaturesVerify (setting_of group me authority key) (public_of key)
 unfolding setting_of

@@ -202,7 +202,7 @@ kept-lives : (s : Setting) (e : Event) (c : Call) → ((lives s e c).node.stored
 unfolding lives
 kept-lives s e c = (refl, refl)
 
--- What a step reports is what the call tells of it.
+-- What a step reports is what the call reports of it.
 lives-told : (s : Setting) (es : List journal.Event) (os : List (ℕ × List ℕ)) (v : Kept) (c : Call) (e : Event) (life : Life) (r : Report)
     → IsAt s es os v c → Steps v.group e v.membership life r → v.telling.events ++ told_of life.moment r ≡ es ++ (lives s e c).told
 lives-told s es os v c e life r h steps =
@@ -256,7 +256,7 @@ lives-plays s es os v c e life records t r p steps kept told =
       ];
     }
 
--- an event that the node tells
+-- an event that the node reports
 pub tells-plays : (s : Setting) (es : List journal.Event) (os : List (ℕ × List ℕ)) (v : Kept) (c : Call) (what : whats.What) (moment : ℕ) (t : Tellings)
     → Plays s es os v c → moment ≡ v.membership.moment → Adds (with_event moment what) v.telling t → Plays s es os (record v { telling = t }) (tells s what c)
 tells-plays s es os v c what moment t p now adds =
@@ -346,7 +346,7 @@ takes-plays s es os v c checked b records is other kept p = record {
   due = subst (IsBehind es os (record v { records = records })) (sym (takes-is s checked.rec b c is)) (record { told = p.due.told; sent = p.due.sent });
 }
 
--- a record is accepted, which tells nothing
+-- a record is accepted, which reports nothing
 pub takes-quietly : (s : Setting) (es : List journal.Event) (os : List (ℕ × List ℕ)) (v w : Kept) (c : Call) (r : Record) → w.telling ≡ v.telling → Plays s es os v c → (v.telling.failed ≡ false → IsAt s es os w (takes s r c)) → Plays s es os w (takes s r c)
 takes-quietly s es os v w c r same p at = record {
   at = λ fine. at (sym (ap (λ (t : Tellings). t.failed) same) ∙ fine);
@@ -426,7 +426,7 @@ pub length-append : {X : Type 0} (xs ys : List X) → length (xs ++ ys) ≡ leng
 length-append [] ys = omega arith
 length-append (x ∷ xs) ys = omega (arith, length-append xs ys)
 
--- What is due is what the call tells and sends.
+-- What is due is what the call reports and sends.
 record IsSent (s : Setting) (es : List journal.Event) (os : List (ℕ × List ℕ)) (c d : Call) (t : Tellings) : Type 0 where
   told : t.events ≡ es ++ d.told
   sent : t.sent ≡ os ++ d.sent
@@ -583,7 +583,7 @@ sends-own s b also c = refl
 with-stored : (b : Body) (c d : Call) → Extends c d → Extends (with_stored b c) d
 with-stored b c d h = record { told = h.told; sent = h.sent }
 
--- the own record is told and accepted
+-- the own record is reported and accepted
 pub kept-plays : (s : Setting) (es : List journal.Event) (os : List (ℕ × List ℕ)) (c : Call) (b : Body) (v1 v2 : Kept) (index : ℕ) (r : Record)
     → index ≡ c.node.stored.next → r ≡ own_record s c.node b → Plays s es os v1 (tells s (told.Spent index b) (with_stored b c))
     → ((x : Call) → Plays s es os v1 x → Plays s es os v2 (takes s r x)) → Plays s es os v2 (signs s b c)

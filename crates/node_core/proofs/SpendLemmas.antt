@@ -1,4 +1,4 @@
--- What is told of signatures, and what becomes of the key.
+-- What is reported of signatures, and what becomes of the key.
 use Rattle.std.proofs.Common.{◌≡◌, ℕ, Bool, true, false, inl, inr, List, [], ◌∷◌, ◌++◌, map, refl, ap, sym, ◌∙◌, subst, append_assoc, Result, Ok, Err}
 use Rattle.std.specs.Prelude.{IfErr, OnOk}
 use Rattle.std.proofs.lemmas.Bool.{cases_Bool}
@@ -14,26 +14,26 @@ use Rattle.journal.specs.declared.event.What.TheVariants as told
 use Rattle.node_rules.specs.Calls.{told_of}
 use Rattle.node_core.specs.declared.NodeFault.{NodeFault}
 use Rattle.node_core.specs.declared.NodeFault.TheVariants as faults
-use Rattle.node_core.specs.Told.{Tellings, Adds, IsFront, with_event, with_report, with_sent}
+use Rattle.node_core.specs.Told.{Tellings, Adds, IsPrefix, with_event, with_report, with_sent}
 use Rattle.node_core.specs.Playing.{Kept, Grows}
 use Rattle.node_core.specs.Spending.{spent_by, spent_told, LivesOn, SignsNothing, TellsOf, TellsSpent, Spends, TellsSo, SpendsIn, SpendsUntold, StartSpends}
 use Rattle.node_core.proofs.TellingLemmas.{nil-right, front-trans, append-cancel, map-append}
 
--- ---- what events tell of
+-- ---- what events report
 
 pub told-append : (xs ys : List journal.Event) → spent_told (xs ++ ys) ≡ spent_told xs ++ spent_told ys
 told-append [] ys = refl
 told-append (e ∷ xs) ys = ap (λ (l : List Spent). spent_by e.what ++ l) (told-append xs ys) ∙ sym (append_assoc (spent_by e.what) (spent_told xs) (spent_told ys))
 
-pub front-told : (xs ys : List journal.Event) → IsFront xs ys → IsFront (spent_told xs) (spent_told ys)
+pub front-told : (xs ys : List journal.Event) → IsPrefix xs ys → IsPrefix (spent_told xs) (spent_told ys)
 front-told xs ys h = record { more = spent_told h.more; is = ap spent_told h.is ∙ told-append xs h.more }
 
 left-none : (xs ys : List Spent) → [] ≡ xs ++ ys → xs ≡ []
 left-none [] ys e = refl
 left-none (x ∷ xs) ys e = cc
 
--- what adds a front of events that tell of no signature
-pub told-none : (old new due : List journal.Event) → IsFront old new → IsFront new (old ++ due) → spent_told due ≡ [] → spent_told new ≡ spent_told old
+-- what adds a front of events that report no signature
+pub told-none : (old new due : List journal.Event) → IsPrefix old new → IsPrefix new (old ++ due) → spent_told due ≡ [] → spent_told new ≡ spent_told old
 told-none old new due a b none =
     let split : due ≡ a.more ++ b.more = append-cancel old due (a.more ++ b.more) (b.is ∙ ap (λ (z : List journal.Event). z ++ b.more) a.is ∙ append_assoc old a.more b.more) in
     let empty : spent_told a.more ≡ [] = left-none (spent_told a.more) (spent_told b.more) (sym none ∙ ap spent_told split ∙ told-append a.more b.more) in
@@ -52,7 +52,7 @@ both-none moment xs ys a b =
     let ev : whats.What → journal.Event = λ what. record { moment = moment; what = what } in
     ap spent_told (map-append ev xs ys) ∙ told-append (map ev xs) (map ev ys) ∙ ap (λ (z : List Spent). z ++ spent_told (map ev ys)) a ∙ b
 
--- no report tells of a signature
+-- no report is of a signature
 pub report-none : (moment : ℕ) (r : Report) → spent_told (told_of moment r) ≡ []
 report-none moment r =
     let expired = map told.Expired r.expired in
@@ -79,7 +79,7 @@ event-spent moment index body a b adds =
     let whole = told-append a.events (due ∷ []) in
     record {
       all = λ fine. ap (λ (t : Tellings). spent_told t.events) (adds.going fine).1 ∙ whole;
-      front = subst (λ (z : List Spent). IsFront (spent_told b.events) z) whole (front-told b.events (a.events ++ due ∷ []) adds.events_due);
+      front = subst (λ (z : List Spent). IsPrefix (spent_told b.events) z) whole (front-told b.events (a.events ++ due ∷ []) adds.events_due);
     }
 
 -- ---- steps
@@ -92,7 +92,7 @@ spent-then index body a b c p q going = record {
   signer = q.signer ∙ p.signer;
   tells = record {
     all = λ fine. q.told_none ∙ p.tells.all (going fine);
-    front = subst (λ (z : List Spent). IsFront z (spent_told a.telling.events ++ record { index = index; body = body } ∷ [])) (sym q.told_none) p.tells.front;
+    front = subst (λ (z : List Spent). IsPrefix z (spent_told a.telling.events ++ record { index = index; body = body } ∷ [])) (sym q.told_none) p.tells.front;
   };
 }
 
@@ -112,7 +112,7 @@ spends-after a b c x y p q = record {
   spent = q.spent;
   tells = record {
     all = λ fine. q.tells.all fine ∙ ap (λ (z : List Spent). z ++ q.spent) p.told_none;
-    front = subst (λ (z : List Spent). IsFront (spent_told c.telling.events) (z ++ q.spent)) p.told_none q.tells.front;
+    front = subst (λ (z : List Spent). IsPrefix (spent_told c.telling.events) (z ++ q.spent)) p.told_none q.tells.front;
   };
   key = subst (λ (s : SignerState). LivesOn q.spent s c.signer x y) p.signer q.key;
 }
@@ -122,7 +122,7 @@ spends-before a b c x y p q going = record {
   spent = p.spent;
   tells = record {
     all = λ fine. q.told_none ∙ p.tells.all (going fine);
-    front = subst (λ (z : List Spent). IsFront z (spent_told a.telling.events ++ p.spent)) (sym q.told_none) p.tells.front;
+    front = subst (λ (z : List Spent). IsPrefix z (spent_told a.telling.events ++ p.spent)) (sym q.told_none) p.tells.front;
   };
   key = subst (λ (s : SignerState). LivesOn p.spent a.signer s x y) (sym q.signer) p.key;
 }
@@ -135,17 +135,17 @@ spends-trans a b c x y z p grows q = record {
     front = elim (cases_Bool b.telling.failed) [
       | inl failed ↦
           let same : spent_told c.telling.events ≡ spent_told b.telling.events = ap (λ (t : Tellings). spent_told t.events) (grows.stuck failed) in
-          let wider : IsFront (spent_told a.telling.events ++ p.spent) (spent_told a.telling.events ++ (p.spent ++ q.spent)) = record { more = q.spent; is = sym (append_assoc (spent_told a.telling.events) p.spent q.spent) } in
-          subst (λ (w : List Spent). IsFront w (spent_told a.telling.events ++ (p.spent ++ q.spent))) (sym same) (front-trans (spent_told b.telling.events) (spent_told a.telling.events ++ p.spent) (spent_told a.telling.events ++ (p.spent ++ q.spent)) p.tells.front wider)
+          let wider : IsPrefix (spent_told a.telling.events ++ p.spent) (spent_told a.telling.events ++ (p.spent ++ q.spent)) = record { more = q.spent; is = sym (append_assoc (spent_told a.telling.events) p.spent q.spent) } in
+          subst (λ (w : List Spent). IsPrefix w (spent_told a.telling.events ++ (p.spent ++ q.spent))) (sym same) (front-trans (spent_told b.telling.events) (spent_told a.telling.events ++ p.spent) (spent_told a.telling.events ++ (p.spent ++ q.spent)) p.tells.front wider)
       | inr fine ↦
           let whole : spent_told b.telling.events ++ q.spent ≡ spent_told a.telling.events ++ (p.spent ++ q.spent) = ap (λ (w : List Spent). w ++ q.spent) (p.tells.all fine) ∙ append_assoc (spent_told a.telling.events) p.spent q.spent in
-          subst (λ (w : List Spent). IsFront (spent_told c.telling.events) w) whole q.tells.front
+          subst (λ (w : List Spent). IsPrefix (spent_told c.telling.events) w) whole q.tells.front
     ];
   };
   key = lives-trans p.spent q.spent a.signer b.signer c.signer x y z p.key q.key;
 }
 
--- what a signer's call does to a node's signer, and what the node tells of it
+-- what a signer's call does to a node's signer, and what the node reports of it
 pub spends-signed : (a b c : Kept) (x y : List Moment) (spent : List Spent) → b.telling ≡ a.telling → LivesOn spent a.signer b.signer x y → c.signer ≡ b.signer → TellsOf spent b.telling.events c.telling.events c.telling.failed → Spends a c x y
 spends-signed a b c x y spent same lives signer tells = record {
   spent = spent;
@@ -156,7 +156,7 @@ spends-signed a b c x y spent same lives signer tells = record {
 pub nothing-same : (a : Kept) → SignsNothing a a
 nothing-same a = record { signer = refl; told_none = refl }
 
--- the signature was made, and is told
+-- the signature was made, and is reported
 pub signed-spends : (v w v1 : Kept) (later : SignerState) (x y : List Moment) (index : ℕ) (said body : Body) → v ≡ w → index ≡ v.signer.state.next → said ≡ body
     → LivesOn (record { index = v.signer.state.next; body = body } ∷ []) v.signer later x y → TellsSpent index said (record v { signer = later }) v1 → Spends w v1 x y
 signed-spends v w v1 later x y index said body view at is lives h =
@@ -190,7 +190,7 @@ refused-none v w v1 view signer telling =
 -- ---- a call
 
 pub tells-so : {T : Type 0} (result : Result T NodeFault) (failed : Bool) (before after added : List journal.Event) (spent : List Spent) → after ≡ before ++ added → TellsOf spent before after failed
-    → (failed ≡ true → IsFront (spent_told added) spent → TellsSo result spent (spent_told added)) → (failed ≡ false → spent_told added ≡ spent → TellsSo result spent (spent_told added)) → TellsSo result spent (spent_told added)
+    → (failed ≡ true → IsPrefix (spent_told added) spent → TellsSo result spent (spent_told added)) → (failed ≡ false → spent_told added ≡ spent → TellsSo result spent (spent_told added)) → TellsSo result spent (spent_told added)
 tells-so result failed before after added spent is tells whenever fine =
     let whole : spent_told after ≡ spent_told before ++ spent_told added = ap spent_told is ∙ told-append before added in
     elim (cases_Bool failed) [
@@ -221,7 +221,7 @@ call-spends w v0 v1 v2 x y done answer before after view from spends grows cause
       key = subst (λ (s : SignerState). LivesOn spends.spent s v2.signer x y) view (subst (λ (s : SignerState). LivesOn spends.spent v0.signer s x y) (sym (ap (λ (v : Kept). v.signer) frame)) spends.key);
     }
 
--- what a call's own events tell of, where they are what was added
+-- what a call's own events report, where they are what was added
 pub spent-of_call : {T : Type 0} (result : Result T NodeFault) (s later : SignerState) (x y : List Moment) (before after told : List journal.Event) (h : SpendsIn result s later x y before after) → after ≡ before ++ told → TellsSo result h.spent (spent_told told)
 spent-of_call result s later x y before after told h given =
     subst (λ (es : List journal.Event). TellsSo result h.spent (spent_told es)) (append-cancel before h.added told (sym h.after_is ∙ given)) h.tells
@@ -238,9 +238,9 @@ idle-spends result s later x y before after tells signer moments same = record {
 
 -- ---- the start of a life
 
--- the first note is told, and the life goes on with its key
+-- the first note is reported, and the life goes on with its key
 pub start-spends : (s signer : SignerState) (node : Kept) (x y : List Moment) (spent : List Spent) (over before told_by after : List journal.Event) (failed : Bool)
-    → LivesOn spent s signer x y → node.signer ≡ signer → over ≡ before → TellsOf spent over told_by failed → failed ≡ false → IsFront over told_by → after ≡ told_by → StartSpends s x y before after (Ok node)
+    → LivesOn spent s signer x y → node.signer ≡ signer → over ≡ before → TellsOf spent over told_by failed → failed ≡ false → IsPrefix over told_by → after ≡ told_by → StartSpends s x y before after (Ok node)
 start-spends s signer node x y spent over before told_by after failed lives same from tells fine front given = record {
   spent = spent;
   added = front.more;

@@ -7,13 +7,13 @@ pub use Rattle.signer.proofs.OnwardLemmas.{front-after, front-trans}
 use Rattle.journal.specs.declared.event.Event as journal
 use Rattle.journal.specs.declared.event.What as whats
 use Rattle.journal.specs.declared.event.What.TheVariants as kinds
-use Rattle.node_core.specs.Told.{Tellings, Adds, IsFront, with_event, with_report, with_each}
+use Rattle.node_core.specs.Told.{Tellings, Adds, IsPrefix, with_event, with_report, with_each}
 
 pub nil-right : {A : Type 0} (xs : List A) → xs ++ [] ≡ xs
 nil-right [] = refl
 nil-right (x ∷ xs) = ap (λ ys. x ∷ ys) (nil-right xs)
 
-pub front-refl : {X : Type 0} (xs : List X) → IsFront xs xs
+pub front-refl : {X : Type 0} (xs : List X) → IsPrefix xs xs
 front-refl xs = record { more = []; is = sym (nil-right xs) }
 
 tail-same : {X : Type 0} (x : X) (xs ys : List X) → x ∷ xs ≡ x ∷ ys → xs ≡ ys
@@ -25,13 +25,13 @@ append-cancel [] xs ys e = e
 append-cancel (x ∷ front) xs ys e = append-cancel front xs ys (tail-same x (front ++ xs) (front ++ ys) e)
 
 -- and so is what is a front there
-pub front-behind : {X : Type 0} (before xs ys now : List X) → now ≡ before ++ xs → IsFront now (before ++ ys) → IsFront xs ys
+pub front-behind : {X : Type 0} (before xs ys now : List X) → now ≡ before ++ xs → IsPrefix now (before ++ ys) → IsPrefix xs ys
 front-behind before xs ys now is h = record { more = h.more; is = append-cancel before ys (xs ++ h.more) (h.is ∙ ap (λ z. z ++ h.more) is ∙ append_assoc before xs h.more) }
 
 -- what only appends
 pub record Appends (g : Tellings → Tellings) : Type 0 where
-  pub events : (w : Tellings) → IsFront w.events (g w).events
-  pub sent : (w : Tellings) → IsFront w.sent (g w).sent
+  pub events : (w : Tellings) → IsPrefix w.events (g w).events
+  pub sent : (w : Tellings) → IsPrefix w.sent (g w).sent
 
 pub event-appends : (moment : ℕ) (what : whats.What) → Appends (with_event moment what)
 event-appends moment what = record { events = λ w. record { more = record { moment = moment; what = what } ∷ []; is = refl }; sent = λ w. front-refl w.sent }
@@ -48,12 +48,12 @@ adds-trans f g a b c further p q =
       events = front-trans a.events b.events c.events p.events q.events;
       sent = front-trans a.sent b.sent c.sent p.sent q.sent;
       events_due = elim (cases_Bool b.failed) [
-        | inl failed ↦ subst (λ (t : Tellings). IsFront t.events (g (f a)).events) (sym (q.stuck failed)) (front-trans b.events (f a).events (g (f a)).events p.events_due (further.events (f a)))
-        | inr fine ↦ subst (λ (t : Tellings). IsFront c.events (g t).events) (p.going fine).1 q.events_due
+        | inl failed ↦ subst (λ (t : Tellings). IsPrefix t.events (g (f a)).events) (sym (q.stuck failed)) (front-trans b.events (f a).events (g (f a)).events p.events_due (further.events (f a)))
+        | inr fine ↦ subst (λ (t : Tellings). IsPrefix c.events (g t).events) (p.going fine).1 q.events_due
       ];
       sent_due = elim (cases_Bool b.failed) [
-        | inl failed ↦ subst (λ (t : Tellings). IsFront t.sent (g (f a)).sent) (sym (q.stuck failed)) (front-trans b.sent (f a).sent (g (f a)).sent p.sent_due (further.sent (f a)))
-        | inr fine ↦ subst (λ (t : Tellings). IsFront c.sent (g t).sent) (p.going fine).1 q.sent_due
+        | inl failed ↦ subst (λ (t : Tellings). IsPrefix t.sent (g (f a)).sent) (sym (q.stuck failed)) (front-trans b.sent (f a).sent (g (f a)).sent p.sent_due (further.sent (f a)))
+        | inr fine ↦ subst (λ (t : Tellings). IsPrefix c.sent (g t).sent) (p.going fine).1 q.sent_due
       ];
       before = q.before ∙ p.before;
     }
@@ -66,8 +66,8 @@ adds-same f g a b same p =
       stuck = p.stuck;
       events = p.events;
       sent = p.sent;
-      events_due = subst (λ (t : Tellings). IsFront b.events t.events) same p.events_due;
-      sent_due = subst (λ (t : Tellings). IsFront b.sent t.sent) same p.sent_due;
+      events_due = subst (λ (t : Tellings). IsPrefix b.events t.events) same p.events_due;
+      sent_due = subst (λ (t : Tellings). IsPrefix b.sent t.sent) same p.sent_due;
       before = p.before;
     }
 

@@ -1,4 +1,4 @@
--- A tick over a disk whose state is told.
+-- A tick over a disk whose state is modelled.
 use Rattle.std.proofs.Common.{◌≡◌, ℕ, Bool, true, false, Option, Some, List, refl, sym, ap, ◌∙◌, subst}
 use Rattle.std.specs.Prelude.{fold}
 use Rattle.ports.specs.MemoryDisk.{DiskState}

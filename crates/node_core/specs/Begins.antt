@@ -64,7 +64,7 @@ pub record AreOf (group : Group) (p : Parts) : Type 0 where
   pub membership : p.roll.membership.group ≡ group
   pub detector : p.detector.group ≡ group
 
--- What it keeps, with what was told.
+-- What it keeps, with what was reported.
 abbrev pub kept_by : Ready → Tellings → Kept
 kept_by r told =
     record {
@@ -177,7 +177,7 @@ pub record IsVouchable (s : Setting) (own : PublicKey) (certificates : List Reco
 
 -- ---- the life
 
--- The node is where a life begins with these certificates and this store, and tells what that tells. Nothing is sent.
+-- The node is where a life begins with these certificates and this store, and reports what that reports. Nothing is sent.
 pub record Starts (s : Setting) (seed : List ℕ) (certificates : List Record) (stored : Stored) (v : Kept) (before after : List journal.Event) : Type 0 where
   pub is : IsNode s v (started s seed certificates stored).node
   pub told : after ≡ before ++ (started s seed certificates stored).told

@@ -4,7 +4,6 @@ pub mod Playing
 pub mod Neighbours
 pub mod Spending
 pub mod Signatures
-pub mod Formed
 pub mod Handled
 pub mod Hears
 pub mod Exchanging

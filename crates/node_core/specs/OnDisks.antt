@@ -1,4 +1,4 @@
--- A node over a disk whose state is told: what its calls make of the disk, and how far each comes.
+-- A node over a disk whose state is modelled: what its calls make of the disk, and how far each comes.
 use Rattle.std.specs.Prelude.{◌≡◌, ℕ, ◌+◌, Bool, true, false, ◌==◌, if◌then◌else◌, Option, Some, List, [], Result, Ok, Err}
 use Rattle.ports.specs.DiskCalls.{DiskCall}
 use Rattle.ports.specs.MemoryDisk.{DiskState}
@@ -17,7 +17,7 @@ use Rattle.node_rules.specs.OnDisks.{Storage, OnDisk}
 use Rattle.node_core.specs.declared.NodeFault.{NodeFault}
 use Rattle.node_core.specs.declared.NodeFault.TheVariants as faults
 use Rattle.node_core.specs.Playing.{Kept, IsAt}
-use Rattle.node_core.specs.Answers.{Lent, Gives}
+use Rattle.node_core.specs.Answers.{CallerBuffers, Gives}
 
 -- ---- a step
 
@@ -62,14 +62,14 @@ pub record ComesTo (s : Setting) (es : List journal.Event) (os : List (ℕ × Li
 -- ---- a call of a node
 
 -- It gave what this call over the disk gives, and the disk is the one behind it.
-pub record GivesOn (s : Setting) (v : Kept) (old new : Lent) (disk_now : Option DiskState) (failed : Bool) (o : OnDisk PlacedStore) : Type 0 where
+pub record GivesOn (s : Setting) (v : Kept) (old new : CallerBuffers) (disk_now : Option DiskState) (failed : Bool) (o : OnDisk PlacedStore) : Type 0 where
   pub gives : Gives s v old new o.call
   pub ended : o.call.ended ≡ failed
   pub disk : disk_now ≡ Some o.disk.disk
   pub seat : v.signer.seat ≡ o.disk.seat
 
 -- Unless memory was refused, the call is exactly the one over this disk: it ended where the disk failed, and nowhere else.
-abbrev pub FollowsDisk : Setting → Kept → Lent → Lent → Option DiskState → OnDisk PlacedStore → Result (Unit {0}) NodeFault → Type 0
+abbrev pub FollowsDisk : Setting → Kept → CallerBuffers → CallerBuffers → Option DiskState → OnDisk PlacedStore → Result (Unit {0}) NodeFault → Type 0
 FollowsDisk s v old new disk_now o (Ok done) = GivesOn s v old new disk_now false o
 FollowsDisk s v old new disk_now o (Err faults.StoreFault) = GivesOn s v old new disk_now true o
 FollowsDisk s v old new disk_now o (Err faults.OutOfMemory) = Unit {0}

@@ -21,7 +21,7 @@ use Rattle.record_set.specs.Held.{Held, held_under}
 use Rattle.journal.specs.declared.event.Event as journal
 use Rattle.node_rules.specs.Nodes.{Setting, Node, Holding, state_of, certificate_of}
 use Rattle.node_rules.specs.Calls.{Call}
-use Rattle.node_core.specs.Told.{Tellings, IsFront}
+use Rattle.node_core.specs.Told.{Tellings, IsPrefix}
 
 -- What a node keeps.
 pub record Kept : Type 0 where
@@ -71,8 +71,8 @@ pub record IsAt (s : Setting) (es : List journal.Event) (os : List (ℕ × List 
 
 -- The events and datagrams are a front of those of the call so far, behind those of earlier calls.
 pub record IsBehind (es : List journal.Event) (os : List (ℕ × List ℕ)) (v : Kept) (c : Call) : Type 0 where
-  pub told : IsFront v.telling.events (es ++ c.told)
-  pub sent : IsFront v.telling.sent (os ++ c.sent)
+  pub told : IsPrefix v.telling.events (es ++ c.told)
+  pub sent : IsPrefix v.telling.sent (os ++ c.sent)
 
 -- It is where the call so far is; where memory was refused, the events and datagrams are a front of those of the call.
 pub record Plays (s : Setting) (es : List journal.Event) (os : List (ℕ × List ℕ)) (v : Kept) (c : Call) : Type 0 where
@@ -86,10 +86,10 @@ pub record Stops (s : Setting) (es : List journal.Event) (os : List (ℕ × List
   pub ended : v.telling.failed ≡ false → stopped.ended ≡ true
   pub due : v.telling.failed ≡ true → IsBehind es os v whole
 
--- What the first call has told and sent is a front of what the second has.
+-- What the first call has reported and sent is a front of what the second has.
 pub record Extends (c d : Call) : Type 0 where
-  pub told : IsFront c.told d.told
-  pub sent : IsFront c.sent d.sent
+  pub told : IsPrefix c.told d.told
+  pub sent : IsPrefix c.sent d.sent
 
 -- What holds between calls of the parts.
 pub record IsReady (group : Group) (me : ℕ) (membership : Life) (detector : Probing) (signer : SignerState) : Type 0 where
@@ -107,8 +107,8 @@ pub record IsReady (group : Group) (me : ℕ) (membership : Life) (detector : Pr
 pub record Grows (old new : Kept) : Type 0 where
   pub going : new.telling.failed ≡ false → old.telling.failed ≡ false
   pub stuck : old.telling.failed ≡ true → new.telling ≡ old.telling
-  pub events : IsFront old.telling.events new.telling.events
-  pub sent : IsFront old.telling.sent new.telling.sent
+  pub events : IsPrefix old.telling.events new.telling.events
+  pub sent : IsPrefix old.telling.sent new.telling.sent
   pub before : new.telling.before ≡ old.telling.before
   pub ended : new.ended ≡ old.ended
   pub group : new.group ≡ old.group

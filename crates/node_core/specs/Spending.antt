@@ -1,10 +1,10 @@
--- What a node spends of its key: what its events tell of that, and what becomes of the lives of the key.
+-- What a node spends of its key: what its events report of it, and what becomes of the lives of the key.
 use Rattle.std.specs.Prelude.{◌≡◌, ℕ, Bool, false, List, [], ◌∷◌, ◌++◌, Result, Ok, Err}
 use Rattle.ports.specs.Disk.{Moment}
 use Rattle.records.specs.declared.Body.{Body}
 use Rattle.signer.specs.Signing.{SignerState}
 pub use Rattle.signer.specs.Lives.{LivesOn, EndsWithin}
-use Rattle.signer.specs.Lives.{IsFront, Spent}
+use Rattle.signer.specs.Lives.{IsPrefix, Spent}
 use Rattle.journal.specs.declared.event.Event as journal
 use Rattle.journal.specs.declared.event.What as whats
 use Rattle.journal.specs.declared.event.What.TheVariants as told
@@ -12,36 +12,36 @@ use Rattle.node_core.specs.declared.NodeFault.{NodeFault}
 use Rattle.node_core.specs.declared.NodeFault.TheVariants as faults
 use Rattle.node_core.specs.Playing.{Kept}
 
--- ---- what events tell of
+-- ---- what events report
 
--- The signature that the event tells of, if any.
+-- The signature that the event reports, if any.
 abbrev pub spent_by : whats.What → List Spent
 spent_by (told.Spent index body) = record { index = index; body = body } ∷ []
 spent_by other = []
 
--- The signatures that the events tell of, in order.
+-- The signatures that the events report, in order.
 abbrev pub spent_told : List journal.Event → List Spent
 spent_told [] = []
 spent_told (e ∷ events) = spent_by e.what ++ spent_told events
 
 -- ---- a step of a node
 
--- The signer is the same, and no signature is told.
+-- The signer is the same, and no signature is reported.
 pub record SignsNothing (old new : Kept) : Type 0 where
   pub signer : new.signer ≡ old.signer
   pub told_none : spent_told new.telling.events ≡ spent_told old.telling.events
 
--- These signatures are told, in order; a front of them where memory was refused.
+-- These signatures are reported, in order; a front of them where memory was refused.
 pub record TellsOf (spent : List Spent) (old new : List journal.Event) (failed : Bool) : Type 0 where
   pub all : failed ≡ false → spent_told new ≡ spent_told old ++ spent
-  pub front : IsFront (spent_told new) (spent_told old ++ spent)
+  pub front : IsPrefix (spent_told new) (spent_told old ++ spent)
 
--- The signer has spent this before the step, which tells of it.
+-- The signer has spent this before the step, which reports it.
 pub record TellsSpent (index : ℕ) (body : Body) (old new : Kept) : Type 0 where
   pub signer : new.signer ≡ old.signer
   pub tells : TellsOf (record { index = index; body = body } ∷ []) old.telling.events new.telling.events new.telling.failed
 
--- The step has spent this, told of it, and the lives of the key go on with it.
+-- The step has spent this, reported it, and the lives of the key go on with it.
 pub record Spends (old new : Kept) (older newer : List Moment) : Type 0 where
   pub spent : List Spent
   pub tells : TellsOf spent old.telling.events new.telling.events new.telling.failed
@@ -49,15 +49,15 @@ pub record Spends (old new : Kept) (older newer : List Moment) : Type 0 where
 
 -- ---- a call of a node
 
--- Of what was spent all is told; a front where memory was refused.
+-- Of what was spent all is reported; a front where memory was refused.
 abbrev pub TellsSo : {T : Type 0} → Result T NodeFault → List Spent → List Spent → Type 0
 TellsSo (Ok done) spent said = said ≡ spent
 TellsSo (Err faults.StoreFault) spent said = said ≡ spent
-TellsSo (Err faults.OutOfMemory) spent said = IsFront said spent
+TellsSo (Err faults.OutOfMemory) spent said = IsPrefix said spent
 TellsSo (Err (faults.Exhausted next)) spent said = said ≡ spent
 TellsSo (Err faults.Ended) spent said = said ≡ spent
 
--- What a call spends: its events tell of this, and the lives of the key go on with it.
+-- What a call spends: its events report this, and the lives of the key go on with it.
 pub record SpendsIn {T : Type 0} (result : Result T NodeFault) (s later : SignerState) (older newer : List Moment) (before after : List journal.Event) : Type 0 where
   pub spent : List Spent
   pub added : List journal.Event
@@ -67,7 +67,7 @@ pub record SpendsIn {T : Type 0} (result : Result T NodeFault) (s later : Signer
 
 -- ---- the start of a life
 
--- A life that is refused tells nothing; unless memory was refused, nothing is spent.
+-- A life that is refused reports nothing; unless memory was refused, nothing is spent.
 pub record SpendsUntold (fault : NodeFault) (s : SignerState) (older newer : List Moment) : Type 0 where
   pub later : SignerState
   pub spent : List Spent

@@ -1,7 +1,7 @@
--- What a call has told and sent so far.
+-- What a call has reported and sent so far.
 use Rattle.std.specs.Prelude.{◌≡◌, ℕ, ◌-◌, Bool, false, true, List, [], ◌∷◌, ◌++◌, length, map}
 use Rattle.ff_ids.specs.Steps.{Report}
-pub use Rattle.signer.specs.Lives.{IsFront}
+pub use Rattle.signer.specs.Lives.{IsPrefix}
 use Rattle.journal.specs.declared.event.Event as journal
 use Rattle.journal.specs.declared.event.What as whats
 use Rattle.journal.specs.declared.event.What.TheVariants as told
@@ -31,10 +31,10 @@ with_sent moment bytes to w =
 pub record Adds (f : Tellings → Tellings) (old new : Tellings) : Type 0 where
   pub going : new.failed ≡ false → (old.failed ≡ false) × (new ≡ f old)
   pub stuck : old.failed ≡ true → new ≡ old
-  pub events : IsFront old.events new.events
-  pub sent : IsFront old.sent new.sent
-  pub events_due : IsFront new.events (f old).events
-  pub sent_due : IsFront new.sent (f old).sent
+  pub events : IsPrefix old.events new.events
+  pub sent : IsPrefix old.sent new.sent
+  pub events_due : IsPrefix new.events (f old).events
+  pub sent_due : IsPrefix new.sent (f old).sent
   pub before : new.before ≡ old.before
 
 -- An event for each of these.

@@ -44,7 +44,9 @@ fn is_by(kept: Option<AccBody>, me: MemberId) -> bool
 fn has_accused(membership: &Membership, me: MemberId, member: MemberId) -> bool
     requires few { membership.now.group.t ≤ MAX_TOLERANCE }
     ensures { (st : State) → Holds membership.now st
-        → result ≡ list_any (λ ring. is_accused_by me (kept_against st.kept member ring)) (range_with_len 0 (ring_count membership.now.group.t)) }
+        → result
+        ≡ list_any (λ ring. is_accused_by me (kept_against st.kept member ring))
+        (range_with_len 0 (ring_count membership.now.group.t)) }
 {
     for ring in 0..2 * membership.group().t + 1 {
         if is_by(membership.standing(member, RingNo(ring)), me) {
@@ -65,7 +67,8 @@ fn monitors_on(
     requires joined { has_joined membership.now member ≡ true }
     requires ring { ring.0 < ring_count membership.now.group.t }
     requires few { ring.0 < MASK_BITS }
-    ensures { (st : State) → Holds membership.now st → result ≡ (enables note.now.mask.0 ring.0 && is_number (monitor st ring.0 member) me) }
+    ensures { (st : State) → Holds membership.now st
+        → result ≡ (enables note.now.mask.0 ring.0 && is_number (monitor st ring.0 member) me) }
 {
     note.mask.enables(ring) && membership.monitor(ring, member) == Some(me)
 }
@@ -80,7 +83,9 @@ fn ring_for(
     requires few { membership.now.group.t ≤ MAX_TOLERANCE }
     requires joined { has_joined membership.now member ≡ true }
     ensures ring { (st : State) → Holds membership.now st → option_map (λ r. r.0) result
-        ≡ slice_get (filter (λ ring. is_number (monitor st ring member) me) (enabled (ring_count membership.now.group.t) note.now.mask.0)) 0 }
+        ≡ slice_get
+        (filter (λ ring. is_number (monitor st ring member) me)
+        (enabled (ring_count membership.now.group.t) note.now.mask.0)) 0 }
     ensures below { IfSome result (λ r. r.0 < ring_count membership.now.group.t) }
 {
     for ring in 0..2 * membership.group().t + 1 {
@@ -100,16 +105,23 @@ impl Node {
         disk: &mut D,
         member: MemberId,
     ) -> Result<(), NodeFault>
-        ensures plays { (s : Setting) (es : List journal.Event) (os : List (ℕ × List ℕ)) (c : Call) → Plays s es os self.old c
-            → Runs (Plays s es os self.new) (Stops s es os self.new) (λ works. accuses works s c member) result }
+        ensures plays { (s : Setting) (es : List journal.Event) (os : List (ℕ × List ℕ)) (c : Call)
+            → Plays s es os self.old c
+            → Runs (Plays s es os self.new) (Stops s es os self.new)
+            (λ works. accuses works s c member) result }
         ensures grows { Grows self.old self.new }
-        ensures spends { Spends self.old self.new (D.moments disk.old) (D.moments disk.new) }
+        ensures spends { Spends self.old self.new (D.state disk.old).moments
+            (D.state disk.new).moments }
         ensures closed { OnOk result (self.new.signer.closed ≡ self.old.signer.closed) }
-        ensures faults { D.faults disk.new ≡ counted (is_err result) (D.faults disk.old) }
+        ensures faults { (D.state disk.new).faults
+            ≡ counted (is_err result) (D.state disk.old).faults }
         ensures cause { IfErr result (λ e. e ≡ faults.StoreFault) }
-        ensures stores { OnOk result (Stores self.old.signer self.new.signer (D.state disk.old) (D.state disk.new)) }
-        ensures fails { (s : Setting) (es : List journal.Event) (os : List (ℕ × List ℕ)) (c : Call) → Plays s es os self.old c
-            → FailsIn (accuses true s c member) self.old self.new (D.state disk.old) (D.state disk.new) result }
+        ensures stores { OnOk result (Stores self.old.signer self.new.signer
+            (D.state disk.old).model (D.state disk.new).model) }
+        ensures fails { (s : Setting) (es : List journal.Event) (os : List (ℕ × List ℕ)) (c : Call)
+            → Plays s es os self.old c
+            → FailsIn (accuses true s c member) self.old self.new (D.state disk.old).model
+            (D.state disk.new).model result }
     {
         if has_accused(&self.membership, self.me, member) {
             return Ok(());
@@ -141,15 +153,22 @@ impl Node {
         disk: &mut D,
         silent: Vec<MemberId>,
     ) -> Result<(), NodeFault>
-        ensures plays { (s : Setting) (es : List journal.Event) (os : List (ℕ × List ℕ)) (c : Call) → Plays s es os self.old c
-            → RunsAccusing (Plays s es os self.new) (Stops s es os self.new) s silent.items c result }
+        ensures plays { (s : Setting) (es : List journal.Event) (os : List (ℕ × List ℕ)) (c : Call)
+            → Plays s es os self.old c
+            → RunsAccusing (Plays s es os self.new) (Stops s es os self.new) s silent.items c
+            result }
         ensures grows { Grows self.old self.new }
-        ensures spends { Spends self.old self.new (D.moments disk.old) (D.moments disk.new) }
+        ensures spends { Spends self.old self.new (D.state disk.old).moments
+            (D.state disk.new).moments }
         ensures closed { OnOk result (self.new.signer.closed ≡ self.old.signer.closed) }
-        ensures faults { D.faults disk.new ≡ counted (is_err result) (D.faults disk.old) }
+        ensures faults { (D.state disk.new).faults
+            ≡ counted (is_err result) (D.state disk.old).faults }
         ensures cause { IfErr result (λ e. e ≡ faults.StoreFault) }
-        ensures follows { (s : Setting) (es : List journal.Event) (os : List (ℕ × List ℕ)) (c : Call) (d : DiskState) → Plays s es os self.old c → c.ended ≡ false
-            → D.state disk.old ≡ Some d → self.new.telling.failed ≡ false → ComesTo s es os self.new (D.state disk.new) (is_err result) (fold (accuses_on storage s) (on_disk c d self.old.signer.seat) silent.items) }
+        ensures follows { (s : Setting) (es : List journal.Event) (os : List (ℕ × List ℕ))
+            (c : Call) (d : DiskState) → Plays s es os self.old c → c.ended ≡ false
+            → (D.state disk.old).model ≡ Some d → self.new.telling.failed ≡ false
+            → ComesTo s es os self.new (D.state disk.new).model (is_err result)
+            (fold (accuses_on storage s) (on_disk c d self.old.signer.seat) silent.items) }
     {
         for member in silent {
             self.accuse(alloc, disk, member)?;

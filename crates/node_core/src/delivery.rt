@@ -19,7 +19,7 @@ ghost use Rattle.node_core.specs.OnDisks.{ComesTo, FollowsDisk, on_disk, storage
 ghost use Rattle.node_core.specs.Answers.{GivesCall, Stands, IsEnded};
 ghost use Rattle.node_rules.specs.Nodes.{Node as RulesNode};
 
-use crate::telling::Telling;
+use crate::telling::CallOutput;
 use crate::{Events, Node, NodeFault, Outbox};
 use datagram::{Datagram, read};
 use journal::What;
@@ -36,15 +36,22 @@ impl Node {
         datagram: Datagram,
     ) -> Result<(), NodeFault>
         requires { IsWritable datagram }
-        ensures plays { (s : Setting) (es : List journal.Event) (os : List (ℕ × List ℕ)) (c : Call) → Plays s es os self.old c
-            → RunsHearing (Plays s es os self.new) (Stops s es os self.new) s (Ok datagram) c result }
+        ensures plays { (s : Setting) (es : List journal.Event) (os : List (ℕ × List ℕ)) (c : Call)
+            → Plays s es os self.old c
+            → RunsHearing (Plays s es os self.new) (Stops s es os self.new) s (Ok datagram) c
+            result }
         ensures grows { Grows self.old self.new }
-        ensures spends { Spends self.old self.new (D.moments disk.old) (D.moments disk.new) }
+        ensures spends { Spends self.old self.new (D.state disk.old).moments
+            (D.state disk.new).moments }
         ensures closed { OnOk result (self.new.signer.closed ≡ self.old.signer.closed) }
-        ensures faults { D.faults disk.new ≡ counts_faults (is_err result) (D.faults disk.old) }
+        ensures faults { (D.state disk.new).faults
+            ≡ counts_faults (is_err result) (D.state disk.old).faults }
         ensures cause { IfErr result (λ e. e ≡ faults.StoreFault) }
-        ensures follows { (s : Setting) (es : List journal.Event) (os : List (ℕ × List ℕ)) (c : Call) (d : DiskState) → Plays s es os self.old c → c.ended ≡ false
-            → D.state disk.old ≡ Some d → self.new.telling.failed ≡ false → ComesTo s es os self.new (D.state disk.new) (is_err result) (hears_on storage s (Ok datagram) (on_disk c d self.old.signer.seat)) }
+        ensures follows { (s : Setting) (es : List journal.Event) (os : List (ℕ × List ℕ))
+            (c : Call) (d : DiskState) → Plays s es os self.old c → c.ended ≡ false
+            → (D.state disk.old).model ≡ Some d → self.new.telling.failed ≡ false
+            → ComesTo s es os self.new (D.state disk.new).model (is_err result)
+            (hears_on storage s (Ok datagram) (on_disk c d self.old.signer.seat)) }
     {
         match datagram {
             Datagram::Ping { from, nonce } => self.hear_ping(alloc, from, nonce),
@@ -63,11 +70,14 @@ impl Node {
 
     /// The bytes are no datagram, from this place on, or memory was refused.
     fn hear_fault(&mut self, fault: FormFault)
-        ensures plays { (s : Setting) (es : List journal.Event) (os : List (ℕ × List ℕ)) (c : Call) (place : ℕ) → Plays s es os self.old c
-            → fault ≡ forms.BadForm place → Plays s es os self.new (tells s (told.BadForm place) c) }
-        ensures memory { fault ≡ forms.OutOfMemory → self.new.telling ≡ record self.old.telling { failed = true } }
+        ensures plays { (s : Setting) (es : List journal.Event) (os : List (ℕ × List ℕ)) (c : Call)
+            (place : ℕ) → Plays s es os self.old c
+            → fault ≡ forms.BadForm place
+            → Plays s es os self.new (tells s (told.BadForm place) c) }
+        ensures memory { fault ≡ forms.OutOfMemory
+            → self.new.telling ≡ record self.old.telling { failed = true } }
         ensures grows { Grows self.old self.new }
-        ensures quiet { SignsNothing self.old self.new }
+        ensures signs_nothing { SignsNothing self.old self.new }
     {
         match fault {
             FormFault::BadForm { place } => self.tell(What::BadForm { place }),
@@ -82,15 +92,22 @@ impl Node {
         disk: &mut D,
         bytes: &[u8],
     ) -> Result<(), NodeFault>
-        ensures plays { (s : Setting) (es : List journal.Event) (os : List (ℕ × List ℕ)) (c : Call) → Plays s es os self.old c
-            → RunsHearing (Plays s es os self.new) (Stops s es os self.new) s (read_of bytes.now) c result }
+        ensures plays { (s : Setting) (es : List journal.Event) (os : List (ℕ × List ℕ)) (c : Call)
+            → Plays s es os self.old c
+            → RunsHearing (Plays s es os self.new) (Stops s es os self.new) s (read_of bytes.now) c
+            result }
         ensures grows { Grows self.old self.new }
-        ensures spends { Spends self.old self.new (D.moments disk.old) (D.moments disk.new) }
+        ensures spends { Spends self.old self.new (D.state disk.old).moments
+            (D.state disk.new).moments }
         ensures closed { OnOk result (self.new.signer.closed ≡ self.old.signer.closed) }
-        ensures faults { D.faults disk.new ≡ counts_faults (is_err result) (D.faults disk.old) }
+        ensures faults { (D.state disk.new).faults
+            ≡ counts_faults (is_err result) (D.state disk.old).faults }
         ensures cause { IfErr result (λ e. e ≡ faults.StoreFault) }
-        ensures follows { (s : Setting) (es : List journal.Event) (os : List (ℕ × List ℕ)) (c : Call) (d : DiskState) → Plays s es os self.old c → c.ended ≡ false
-            → D.state disk.old ≡ Some d → self.new.telling.failed ≡ false → ComesTo s es os self.new (D.state disk.new) (is_err result) (hears_on storage s (read_of bytes.now) (on_disk c d self.old.signer.seat)) }
+        ensures follows { (s : Setting) (es : List journal.Event) (os : List (ℕ × List ℕ))
+            (c : Call) (d : DiskState) → Plays s es os self.old c → c.ended ≡ false
+            → (D.state disk.old).model ≡ Some d → self.new.telling.failed ≡ false
+            → ComesTo s es os self.new (D.state disk.new).model (is_err result)
+            (hears_on storage s (read_of bytes.now) (on_disk c d self.old.signer.seat)) }
     {
         match read(alloc, bytes) {
             Ok(datagram) => self.hear(alloc, disk, datagram),
@@ -101,7 +118,7 @@ impl Node {
         }
     }
 
-    /// Gives back what the call told and sent, and says how it ended.
+    /// Gives back what the call reported and sent, and says how it ended.
     pub(crate) fn finish(
         &mut self,
         done: Result<(), NodeFault>,
@@ -113,7 +130,8 @@ impl Node {
         ensures failed { self.old.telling.failed ≡ true → result ≡ Err faults.OutOfMemory }
         ensures going { self.old.telling.failed ≡ false → result ≡ done }
         ensures ended { self.new.ended ≡ is_err result }
-        ensures frame { self.new ≡ record self.old { telling = self.new.telling; ended = self.new.ended } }
+        ensures frame { self.new
+            ≡ record self.old { telling = self.new.telling; ended = self.new.ended } }
     {
         let failed = self.telling.give_back(events, out);
         let answer = if failed {
@@ -125,11 +143,11 @@ impl Node {
         answer
     }
 
-    /// Handles the bytes of one datagram, whatever they are: appends what that tells to `events` and what it sends to
+    /// Handles the bytes of one datagram, whatever they are: appends what that reports to `events` and what it sends to
     /// `out`. After `StoreFault` these are those of the call that the disk ended, in the answer to one of its records;
     /// after `OutOfMemory` a front of those of the whole call. `Ended` comes exactly where an earlier call answered a
     /// fault, and nothing is added. After a fault what was given stands, and the node is over. Each index that the call
-    /// spends is told, in order; where memory was refused, those of a front. The disk is the one on which the signer's
+    /// spends is reported, in order; where memory was refused, those of a front. The disk is the one on which the signer's
     /// store was opened.
     pub fn deliver<D: Disk>(
         &mut self,
@@ -140,22 +158,34 @@ impl Node {
         events: &mut Events,
     ) -> Result<(), NodeFault>
         ensures step { (s : Setting) (n : RulesNode) → IsNode s self.old n → self.old.ended ≡ false
-            → GivesCall s n (Delivers bytes.now) self.new (record { events = events.old; sent = out.old }) (record { events = events.new; sent = out.new }) result }
+            → GivesCall s n (Delivers bytes.now) self.new
+            (record { events = events.old; sent = out.old })
+            (record { events = events.new; sent = out.new }) result }
         ensures over { (self.old.ended ≡ true) ↔ IsEnded result }
         ensures ended { self.new.ended ≡ is_err result }
-        ensures still { self.old.ended ≡ true → (self.new ≡ self.old) × (disk.new ≡ disk.old) × (events.new ≡ events.old) × (out.new ≡ out.old) }
-        ensures stands { Stands (record { events = events.old; sent = out.old }) (record { events = events.new; sent = out.new }) }
-        ensures spends { SpendsIn result self.old.signer self.new.signer (D.moments disk.old) (D.moments disk.new) events.old events.new }
+        ensures unchanged_after_end { self.old.ended ≡ true
+            → (self.new ≡ self.old) × (disk.new ≡ disk.old) × (events.new ≡ events.old)
+            × (out.new ≡ out.old) }
+        ensures stands { Stands (record { events = events.old; sent = out.old })
+            (record { events = events.new; sent = out.new }) }
+        ensures spends { SpendsIn result self.old.signer self.new.signer (D.state disk.old).moments
+            (D.state disk.new).moments events.old events.new }
         ensures closed { OnOk result (self.new.signer.closed ≡ self.old.signer.closed) }
-        ensures faults { IfErr result (λ e. e ≡ faults.StoreFault → Rose (D.faults disk.old) (D.faults disk.new)) }
-        ensures calm { OnOk result (D.faults disk.new ≡ D.faults disk.old) }
-        ensures follows { (s : Setting) (n : RulesNode) (d : DiskState) → IsNode s self.old n → self.old.ended ≡ false → D.state disk.old ≡ Some d
-            → FollowsDisk s self.new (record { events = events.old; sent = out.old }) (record { events = events.new; sent = out.new }) (D.state disk.new) (delivered_on storage s n bytes.now (record { disk = d; seat = self.old.signer.seat })) result }
+        ensures faults { IfErr result (λ e. e ≡ faults.StoreFault
+            → Rose (D.state disk.old).faults (D.state disk.new).faults) }
+        ensures no_disk_fault { OnOk result
+            ((D.state disk.new).faults ≡ (D.state disk.old).faults) }
+        ensures follows { (s : Setting) (n : RulesNode) (d : DiskState) → IsNode s self.old n
+            → self.old.ended ≡ false → (D.state disk.old).model ≡ Some d
+            → FollowsDisk s self.new (record { events = events.old; sent = out.old })
+            (record { events = events.new; sent = out.new }) (D.state disk.new).model
+            (delivered_on storage s n bytes.now (record { disk = d; seat = self.old.signer.seat }))
+            result }
     {
         if self.ended {
             return Err(NodeFault::Ended);
         }
-        self.telling = Telling::over(alloc, events, out);
+        self.telling = CallOutput::over(alloc, events, out);
         let heard = self.hear_bytes(alloc, disk, bytes);
         self.finish(heard, out, events)
     }

@@ -45,7 +45,9 @@ pub(crate) fn page_bytes(
     flag: bool,
     page: u8,
 ) -> Result<Vec<u8>, NoMemory>
-    ensures { IfOk result (λ bytes. bytes.items ≡ datagram_bytes (kinds.Summary from flag (summary_of records.now page))) }
+    ensures { IfOk result
+        (λ bytes. bytes.items
+        ≡ datagram_bytes (kinds.Summary from flag (summary_of records.now page))) }
 {
     let mut summary = Summary::new();
     records.page(page, &mut summary);

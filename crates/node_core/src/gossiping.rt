@@ -29,7 +29,8 @@ fn list_certified(
     listed: &mut Vec<MemberId>,
 ) -> Result<(), NoMemory>
     ensures { IfOk result (λ done. listed.new.items
-        ≡ (if is_some (certificate_of roster.now member) then listed.old.items ++ member ∷ [] else listed.old.items)) }
+        ≡ (if is_some (certificate_of roster.now member) then listed.old.items ++ member ∷ [] else
+        listed.old.items)) }
 {
     if roster.get(member).is_some() {
         listed.push(member)?;
@@ -39,7 +40,9 @@ fn list_certified(
 
 /// Those with a certificate, in order of number.
 fn certified(alloc: Global, roster: &Roster) -> Result<Vec<MemberId>, NoMemory>
-    ensures { IfOk result (λ listed. listed.items ≡ filter (λ m. is_some (certificate_of roster.now m)) all_numbers) }
+    ensures { IfOk result
+        (λ listed. listed.items
+        ≡ filter (λ m. is_some (certificate_of roster.now m)) all_numbers) }
 {
     let mut listed = Vec::new(alloc);
     for number in 0..MEMBERS {
@@ -62,10 +65,11 @@ fn highest(numbers: &[MemberId]) -> MemberId
 impl Node {
     /// A ping with this nonce goes to the member.
     pub(crate) fn send_ping(&mut self, alloc: Global, to: MemberId, nonce: u64)
-        ensures plays { (s : Setting) (es : List journal.Event) (os : List (ℕ × List ℕ)) (c : Call) → Plays s es os self.old c
+        ensures plays { (s : Setting) (es : List journal.Event) (os : List (ℕ × List ℕ)) (c : Call)
+            → Plays s es os self.old c
             → Plays s es os self.new (sends s (kinds.Ping s.me nonce) c to) }
         ensures grows { Grows self.old self.new }
-        ensures quiet { SignsNothing self.old self.new }
+        ensures signs_nothing { SignsNothing self.old self.new }
     {
         let ping = Datagram::Ping {
             from: self.me,
@@ -79,10 +83,11 @@ impl Node {
 
     /// The summary of the round's page goes to the partner of the round, if there is one.
     pub(crate) fn gossip(&mut self, alloc: Global, round: u64)
-        ensures plays { (s : Setting) (es : List journal.Event) (os : List (ℕ × List ℕ)) (c : Call) → Plays s es os self.old c
+        ensures plays { (s : Setting) (es : List journal.Event) (os : List (ℕ × List ℕ)) (c : Call)
+            → Plays s es os self.old c
             → Plays s es os self.new (gossips s round c) }
         ensures grows { Grows self.old self.new }
-        ensures quiet { SignsNothing self.old self.new }
+        ensures signs_nothing { SignsNothing self.old self.new }
     {
         match certified(alloc, &self.roster) {
             Ok(numbers) => self.gossip_among(alloc, round, &numbers),
@@ -93,7 +98,8 @@ impl Node {
     /// The partner of the round, where these are the certified members.
     fn partner(&self, numbers: &[MemberId], round: u64) -> Option<MemberId>
         ensures { (s : Setting) (n : RulesNode) → IsNode s self.now n
-            → numbers.now ≡ filter (λ m. is_some (certificate_of self.now.roster m)) all_numbers → result ≡ partner_of s n round }
+            → numbers.now ≡ filter (λ m. is_some (certificate_of self.now.roster m)) all_numbers
+            → result ≡ partner_of s n round }
     {
         let rings = 2 * self.group.t + 1;
         let me = self.me;
@@ -108,11 +114,12 @@ impl Node {
 
     /// The same, where these are the certified members.
     fn gossip_among(&mut self, alloc: Global, round: u64, numbers: &[MemberId])
-        ensures plays { (s : Setting) (es : List journal.Event) (os : List (ℕ × List ℕ)) (c : Call) → Plays s es os self.old c
+        ensures plays { (s : Setting) (es : List journal.Event) (os : List (ℕ × List ℕ)) (c : Call)
+            → Plays s es os self.old c
             → numbers.now ≡ filter (λ m. is_some (certificate_of self.old.roster m)) all_numbers
             → Plays s es os self.new (gossips s round c) }
         ensures grows { Grows self.old self.new }
-        ensures quiet { SignsNothing self.old self.new }
+        ensures signs_nothing { SignsNothing self.old self.new }
     {
         let tolerance = self.group.t;
         let page = page_of(round, 2 * tolerance + 1, highest(numbers));

@@ -1,13 +1,12 @@
 //! Delivered records: each is refused for its first fault, or accepted, and an accepted accusation against this node
 //! is answered at once.
 
-ghost use Rattle.std.specs.Prelude.{◌≡◌, ℕ, ◌≤◌, ◌<◌, List, true, None, Some, IfErr, IfSome, is_err, length, slice_index, All, OnOk};
+ghost use Rattle.std.specs.Prelude.{◌≡◌, ℕ, ◌≤◌, ◌<◌, List, true, None, Some, IfErr, is_err, length, All, OnOk};
 ghost use Rattle.ff_ids.specs.Masks.{ring_count};
 ghost use Rattle.ports.specs.Count.{counted};
 ghost use Rattle.journal.specs.declared.event.Event as journal;
 ghost use Rattle.records.specs.declared.Body.TheVariants as bodies;
 ghost use Rattle.records.specs.Spelling.{HasPort};
-ghost use Rattle.validate.specs.Certified.{certificate_of};
 ghost use Rattle.node_rules.specs.Nodes.{Setting};
 ghost use Rattle.node_rules.specs.Refusals.{refusal};
 ghost use Rattle.node_rules.specs.Calls.{Call, takes};
@@ -17,50 +16,15 @@ ghost use Rattle.node_core.specs.Playing.{Plays, Stops, Grows};
 ghost use Rattle.node_core.specs.Spending.{Spends};
 ghost use Rattle.node_core.specs.OnDisks.{FailsIn, Stores};
 ghost use Rattle.node_core.specs.Signatures.{Runs};
-ghost use Rattle.node_core.specs.Formed.{IsFormed, Sees};
 
 use crate::{Node, NodeFault};
-use ff_ids::{AccBody, MemberId};
+use ff_ids::AccBody;
 use journal::What;
 use ports::Disk;
 use rebuttal::answer_mask;
-use records::{Body, CertBody, Checked, Record};
+use records::{Body, Checked, Record};
 use std::alloc::Global;
-use validate::{Roster, check};
-
-/// The certificate that is kept of the member. It is as its type says.
-fn kept_of(roster: &Roster, member: MemberId) -> Option<CertBody>
-    ensures value { result ≡ certificate_of roster.now member }
-    ensures formed { IfSome result (λ x. IsFormed x) }
-{
-    roster.get(member).copied()
-}
-
-/// The same certificate. It is as its type says.
-fn see_certificate(cert: &CertBody) -> Option<CertBody>
-    ensures same { result ≡ Some cert.now }
-    ensures formed { IfSome result (λ x. IsFormed x) }
-{
-    Some(cert).copied()
-}
-
-/// What the types say of a certificate, and of the one that is kept for its number.
-fn see_body(roster: &Roster, body: &Body)
-    ensures { Sees roster.now body.now }
-{
-    match body {
-        Body::Certificate(cert) => {
-            let _kept = kept_of(roster, cert.member);
-            let _same = see_certificate(cert);
-        }
-        Body::Note(_) | Body::Accusation(_) => {}
-    }
-}
-
-/// What the type of bytes says of a signature.
-fn see_signature(signature: &[u8])
-    ensures { (k : ℕ) → slice_index signature.now k < 256 }
-{}
+use validate::check;
 
 impl Node {
     /// Answers an accepted accusation, if it is against this node.
@@ -71,16 +35,23 @@ impl Node {
         acc: &AccBody,
     ) -> Result<(), NodeFault>
         requires { acc.now.ring.0 < ring_count self.old.group.t }
-        ensures plays { (s : Setting) (es : List journal.Event) (os : List (ℕ × List ℕ)) (c : Call) → Plays s es os self.old c
-            → Runs (Plays s es os self.new) (Stops s es os self.new) (λ works. answers works s (bodies.Accusation acc.now) c) result }
+        ensures plays { (s : Setting) (es : List journal.Event) (os : List (ℕ × List ℕ)) (c : Call)
+            → Plays s es os self.old c
+            → Runs (Plays s es os self.new) (Stops s es os self.new)
+            (λ works. answers works s (bodies.Accusation acc.now) c) result }
         ensures grows { Grows self.old self.new }
-        ensures spends { Spends self.old self.new (D.moments disk.old) (D.moments disk.new) }
+        ensures spends { Spends self.old self.new (D.state disk.old).moments
+            (D.state disk.new).moments }
         ensures closed { OnOk result (self.new.signer.closed ≡ self.old.signer.closed) }
-        ensures faults { D.faults disk.new ≡ counted (is_err result) (D.faults disk.old) }
+        ensures faults { (D.state disk.new).faults
+            ≡ counted (is_err result) (D.state disk.old).faults }
         ensures cause { IfErr result (λ e. e ≡ faults.StoreFault) }
-        ensures stores { OnOk result (Stores self.old.signer self.new.signer (D.state disk.old) (D.state disk.new)) }
-        ensures fails { (s : Setting) (es : List journal.Event) (os : List (ℕ × List ℕ)) (c : Call) → Plays s es os self.old c
-            → FailsIn (answers true s (bodies.Accusation acc.now) c) self.old self.new (D.state disk.old) (D.state disk.new) result }
+        ensures stores { OnOk result (Stores self.old.signer self.new.signer
+            (D.state disk.old).model (D.state disk.new).model) }
+        ensures fails { (s : Setting) (es : List journal.Event) (os : List (ℕ × List ℕ)) (c : Call)
+            → Plays s es os self.old c
+            → FailsIn (answers true s (bodies.Accusation acc.now) c) self.old self.new
+            (D.state disk.old).model (D.state disk.new).model result }
     {
         if acc.accused != self.me {
             return Ok(());
@@ -104,18 +75,25 @@ impl Node {
     ) -> Result<(), NodeFault>
         requires body { rec.rec.body ≡ body.now }
         requires tolerance { rec.t ≡ self.old.group.t }
-        ensures plays { (s : Setting) (es : List journal.Event) (os : List (ℕ × List ℕ)) (c : Call) → Plays s es os self.old c
+        ensures plays { (s : Setting) (es : List journal.Event) (os : List (ℕ × List ℕ)) (c : Call)
+            → Plays s es os self.old c
             → refusal s c.node rec.rec ≡ None
-            → Runs (Plays s es os self.new) (Stops s es os self.new) (λ works. answers works s body.now (takes s rec.rec c)) result }
+            → Runs (Plays s es os self.new) (Stops s es os self.new)
+            (λ works. answers works s body.now (takes s rec.rec c)) result }
         ensures grows { Grows self.old self.new }
-        ensures spends { Spends self.old self.new (D.moments disk.old) (D.moments disk.new) }
+        ensures spends { Spends self.old self.new (D.state disk.old).moments
+            (D.state disk.new).moments }
         ensures closed { OnOk result (self.new.signer.closed ≡ self.old.signer.closed) }
-        ensures faults { D.faults disk.new ≡ counted (is_err result) (D.faults disk.old) }
+        ensures faults { (D.state disk.new).faults
+            ≡ counted (is_err result) (D.state disk.old).faults }
         ensures cause { IfErr result (λ e. e ≡ faults.StoreFault) }
-        ensures stores { OnOk result (Stores self.old.signer self.new.signer (D.state disk.old) (D.state disk.new)) }
-        ensures fails { (s : Setting) (es : List journal.Event) (os : List (ℕ × List ℕ)) (c : Call) → Plays s es os self.old c
+        ensures stores { OnOk result (Stores self.old.signer self.new.signer
+            (D.state disk.old).model (D.state disk.new).model) }
+        ensures fails { (s : Setting) (es : List journal.Event) (os : List (ℕ × List ℕ)) (c : Call)
+            → Plays s es os self.old c
             → refusal s c.node rec.rec ≡ None
-            → FailsIn (answers true s body.now (takes s rec.rec c)) self.old self.new (D.state disk.old) (D.state disk.new) result }
+            → FailsIn (answers true s body.now (takes s rec.rec c)) self.old self.new
+            (D.state disk.old).model (D.state disk.new).model result }
     {
         match body {
             Body::Certificate(cert) => self.take_certificate(rec, *cert),
@@ -140,20 +118,25 @@ impl Node {
         rec: Record,
     ) -> Result<(), NodeFault>
         requires { HasPort rec.body }
-        ensures plays { (s : Setting) (es : List journal.Event) (os : List (ℕ × List ℕ)) (c : Call) → Plays s es os self.old c
-            → Runs (Plays s es os self.new) (Stops s es os self.new) (λ works. handles works s c rec) result }
+        ensures plays { (s : Setting) (es : List journal.Event) (os : List (ℕ × List ℕ)) (c : Call)
+            → Plays s es os self.old c
+            → Runs (Plays s es os self.new) (Stops s es os self.new)
+            (λ works. handles works s c rec) result }
         ensures grows { Grows self.old self.new }
-        ensures spends { Spends self.old self.new (D.moments disk.old) (D.moments disk.new) }
+        ensures spends { Spends self.old self.new (D.state disk.old).moments
+            (D.state disk.new).moments }
         ensures closed { OnOk result (self.new.signer.closed ≡ self.old.signer.closed) }
-        ensures faults { D.faults disk.new ≡ counted (is_err result) (D.faults disk.old) }
+        ensures faults { (D.state disk.new).faults
+            ≡ counted (is_err result) (D.state disk.old).faults }
         ensures cause { IfErr result (λ e. e ≡ faults.StoreFault) }
-        ensures stores { OnOk result (Stores self.old.signer self.new.signer (D.state disk.old) (D.state disk.new)) }
-        ensures fails { (s : Setting) (es : List journal.Event) (os : List (ℕ × List ℕ)) (c : Call) → Plays s es os self.old c
-            → FailsIn (handles true s c rec) self.old self.new (D.state disk.old) (D.state disk.new) result }
+        ensures stores { OnOk result (Stores self.old.signer self.new.signer
+            (D.state disk.old).model (D.state disk.new).model) }
+        ensures fails { (s : Setting) (es : List journal.Event) (os : List (ℕ × List ℕ)) (c : Call)
+            → Plays s es os self.old c
+            → FailsIn (handles true s c rec) self.old self.new (D.state disk.old).model
+            (D.state disk.new).model result }
     {
         let body = rec.body;
-        see_body(&self.roster, &body);
-        see_signature(rec.signature.as_slice());
         match check(
             &self.group,
             &self.authority,

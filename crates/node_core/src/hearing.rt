@@ -47,15 +47,21 @@ impl Node {
         records: Vec<Record>,
     ) -> Result<(), NodeFault>
         requires { All (λ r. HasPort r.body) records.items }
-        ensures plays { (s : Setting) (es : List journal.Event) (os : List (ℕ × List ℕ)) (c : Call) → Plays s es os self.old c
+        ensures plays { (s : Setting) (es : List journal.Event) (os : List (ℕ × List ℕ)) (c : Call)
+            → Plays s es os self.old c
             → RunsAll (Plays s es os self.new) (Stops s es os self.new) s records.items c result }
         ensures grows { Grows self.old self.new }
-        ensures spends { Spends self.old self.new (D.moments disk.old) (D.moments disk.new) }
+        ensures spends { Spends self.old self.new (D.state disk.old).moments
+            (D.state disk.new).moments }
         ensures closed { OnOk result (self.new.signer.closed ≡ self.old.signer.closed) }
-        ensures faults { D.faults disk.new ≡ counts_faults (is_err result) (D.faults disk.old) }
+        ensures faults { (D.state disk.new).faults
+            ≡ counts_faults (is_err result) (D.state disk.old).faults }
         ensures cause { IfErr result (λ e. e ≡ faults.StoreFault) }
-        ensures follows { (s : Setting) (es : List journal.Event) (os : List (ℕ × List ℕ)) (c : Call) (d : DiskState) → Plays s es os self.old c → c.ended ≡ false
-            → D.state disk.old ≡ Some d → self.new.telling.failed ≡ false → ComesTo s es os self.new (D.state disk.new) (is_err result) (fold (handles_on storage s) (on_disk c d self.old.signer.seat) records.items) }
+        ensures follows { (s : Setting) (es : List journal.Event) (os : List (ℕ × List ℕ))
+            (c : Call) (d : DiskState) → Plays s es os self.old c → c.ended ≡ false
+            → (D.state disk.old).model ≡ Some d → self.new.telling.failed ≡ false
+            → ComesTo s es os self.new (D.state disk.new).model (is_err result)
+            (fold (handles_on storage s) (on_disk c d self.old.signer.seat) records.items) }
     {
         for rec in records {
             self.handle(alloc, disk, rec)?;
@@ -65,17 +71,19 @@ impl Node {
 
     /// Whether this is a certified member other than the node.
     pub(crate) fn is_other(&self, member: MemberId) -> bool
-        ensures { (s : Setting) (n : RulesNode) → IsNode s self.now n → result ≡ is_other s n member }
+        ensures { (s : Setting) (n : RulesNode) → IsNode s self.now n
+            → result ≡ is_other s n member }
     {
         member != self.me && self.roster.get(member).is_some()
     }
 
     /// Answers a ping.
     fn send_pong(&mut self, alloc: Global, to: MemberId, nonce: u64)
-        ensures plays { (s : Setting) (es : List journal.Event) (os : List (ℕ × List ℕ)) (c : Call) → Plays s es os self.old c
+        ensures plays { (s : Setting) (es : List journal.Event) (os : List (ℕ × List ℕ)) (c : Call)
+            → Plays s es os self.old c
             → Plays s es os self.new (sends s (kinds.Pong s.me nonce) c to) }
         ensures grows { Grows self.old self.new }
-        ensures quiet { SignsNothing self.old self.new }
+        ensures signs_nothing { SignsNothing self.old self.new }
     {
         let pong = Datagram::Pong {
             from: self.me,
@@ -89,10 +97,11 @@ impl Node {
 
     /// A ping came: a certified member other than the node gets a pong.
     pub(crate) fn hear_ping(&mut self, alloc: Global, from: MemberId, nonce: u64)
-        ensures plays { (s : Setting) (es : List journal.Event) (os : List (ℕ × List ℕ)) (c : Call) → Plays s es os self.old c
+        ensures plays { (s : Setting) (es : List journal.Event) (os : List (ℕ × List ℕ)) (c : Call)
+            → Plays s es os self.old c
             → Plays s es os self.new (pinged s from nonce c) }
         ensures grows { Grows self.old self.new }
-        ensures quiet { SignsNothing self.old self.new }
+        ensures signs_nothing { SignsNothing self.old self.new }
     {
         let answers = self.is_other(from);
         self.tell(What::Ping { from, nonce });
@@ -103,10 +112,11 @@ impl Node {
 
     /// A pong came, which may count.
     pub(crate) fn hear_pong(&mut self, from: MemberId, nonce: u64)
-        ensures plays { (s : Setting) (es : List journal.Event) (os : List (ℕ × List ℕ)) (c : Call) → Plays s es os self.old c
+        ensures plays { (s : Setting) (es : List journal.Event) (os : List (ℕ × List ℕ)) (c : Call)
+            → Plays s es os self.old c
             → Plays s es os self.new (ponged_by s from nonce c) }
         ensures grows { Grows self.old self.new }
-        ensures quiet { SignsNothing self.old self.new }
+        ensures signs_nothing { SignsNothing self.old self.new }
     {
         let counted = self.detector.pong(from, nonce);
         self.tell(What::Pong {
@@ -127,10 +137,11 @@ impl Node {
         flag: bool,
         theirs: &Summary,
     )
-        ensures plays { (s : Setting) (es : List journal.Event) (os : List (ℕ × List ℕ)) (c : Call) → Plays s es os self.old c
+        ensures plays { (s : Setting) (es : List journal.Event) (os : List (ℕ × List ℕ)) (c : Call)
+            → Plays s es os self.old c
             → Plays s es os self.new (exchanges s from flag theirs.now c) }
         ensures grows { Grows self.old self.new }
-        ensures quiet { SignsNothing self.old self.new }
+        ensures signs_nothing { SignsNothing self.old self.new }
     {
         let answers = self.is_other(from);
         self.tell(What::Summary {
@@ -146,10 +157,11 @@ impl Node {
 
     /// What the other side lacks goes to it, if anything.
     fn give_lacking(&mut self, alloc: Global, to: MemberId, theirs: &Summary)
-        ensures plays { (s : Setting) (es : List journal.Event) (os : List (ℕ × List ℕ)) (c : Call) → Plays s es os self.old c
+        ensures plays { (s : Setting) (es : List journal.Event) (os : List (ℕ × List ℕ)) (c : Call)
+            → Plays s es os self.old c
             → Plays s es os self.new (gives s to (lacking c.node theirs.now) c) }
         ensures grows { Grows self.old self.new }
-        ensures quiet { SignsNothing self.old self.new }
+        ensures signs_nothing { SignsNothing self.old self.new }
     {
         match lacking_bytes(alloc, &self.records, self.me, theirs) {
             Ok(Some(bytes)) => self.send(alloc, &bytes, to),
@@ -160,10 +172,11 @@ impl Node {
 
     /// The same page goes to the member, unless its summary was an answer.
     fn reply_page(&mut self, alloc: Global, to: MemberId, flag: bool, page: u8)
-        ensures plays { (s : Setting) (es : List journal.Event) (os : List (ℕ × List ℕ)) (c : Call) → Plays s es os self.old c
+        ensures plays { (s : Setting) (es : List journal.Event) (os : List (ℕ × List ℕ)) (c : Call)
+            → Plays s es os self.old c
             → Plays s es os self.new (replies s to flag page c) }
         ensures grows { Grows self.old self.new }
-        ensures quiet { SignsNothing self.old self.new }
+        ensures signs_nothing { SignsNothing self.old self.new }
     {
         if !flag {
             self.send_page(alloc, to, true, page);
@@ -172,10 +185,12 @@ impl Node {
 
     /// The node's summary of the page goes to the member.
     pub(crate) fn send_page(&mut self, alloc: Global, to: MemberId, flag: bool, page: u8)
-        ensures plays { (s : Setting) (es : List journal.Event) (os : List (ℕ × List ℕ)) (c : Call) → Plays s es os self.old c
-            → Plays s es os self.new (sends s (kinds.Summary s.me flag (page_of c.node page)) c to) }
+        ensures plays { (s : Setting) (es : List journal.Event) (os : List (ℕ × List ℕ)) (c : Call)
+            → Plays s es os self.old c
+            → Plays s es os self.new
+            (sends s (kinds.Summary s.me flag (page_of c.node page)) c to) }
         ensures grows { Grows self.old self.new }
-        ensures quiet { SignsNothing self.old self.new }
+        ensures signs_nothing { SignsNothing self.old self.new }
     {
         match page_bytes(alloc, &self.records, self.me, flag, page) {
             Ok(bytes) => self.send(alloc, &bytes, to),

@@ -78,7 +78,7 @@ impl Outbox {
     }
 }
 
-/// What calls have told, the first one first. Contracts see the list.
+/// What calls have reported, the first one first. Contracts see the list.
 #[derive(Drop)]
 pub struct Events {
     pub(crate) events: Vec<Event>,
@@ -94,7 +94,7 @@ impl Model for Events {
 }
 
 impl Events {
-    /// Nothing is told yet.
+    /// Nothing is reported yet.
     pub fn new(alloc: Global) -> Events
         ensures { result ≡ [] }
     {

@@ -33,7 +33,7 @@ use membership::{Changes, Membership};
 use record_set::RecordSet;
 use signer::Signer;
 use std::marker::Model;
-use telling::Telling;
+use telling::CallOutput;
 use thiserror::Error;
 use validate::Roster;
 
@@ -67,7 +67,7 @@ pub struct Node {
     detector: Detector,
     changes: Changes,
     found: Found,
-    telling: Telling,
+    telling: CallOutput,
     ended: bool,
 }
 

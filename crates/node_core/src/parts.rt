@@ -4,7 +4,7 @@ ghost use Rattle.std.specs.Prelude.{◌≡◌, fold, map, ◌++◌, take};
 ghost use Rattle.node_core.specs.Told.{Adds, with_report};
 ghost use Rattle.node_core.specs.Records.{without_all};
 
-use crate::telling::Telling;
+use crate::telling::CallOutput;
 use ff_ids::AccBody;
 use membership::Changes;
 use record_set::RecordSet;
@@ -18,9 +18,10 @@ fn drop_all(records: &mut RecordSet, ended: &[AccBody])
     }
 }
 
-/// What a step of the membership reports as expired or fallen is held no more, and the report is told.
-pub fn report(records: &mut RecordSet, telling: &mut Telling, moment: u64, changes: &Changes)
-    ensures records { records.new ≡ without_all (without_all records.old changes.now.expired) changes.now.fell }
+/// What a step of the membership reports as expired or fallen is held no more, and the report is reported.
+pub fn report(records: &mut RecordSet, telling: &mut CallOutput, moment: u64, changes: &Changes)
+    ensures records { records.new
+        ≡ without_all (without_all records.old changes.now.expired) changes.now.fell }
     ensures told { Adds (with_report moment changes.now) telling.old telling.new }
 {
     drop_all(records, changes.expired());

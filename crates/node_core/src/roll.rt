@@ -50,8 +50,10 @@ impl Roll {
         requires certificate { rec.rec.body ≡ bodies.Certificate cert }
         requires tolerance { rec.t ≡ self.old.membership.group.t }
         requires few { self.old.membership.group.t ≤ MAX_TOLERANCE }
-        ensures plays { (s : Setting) (es : List journal.Event) (os : List (ℕ × List ℕ)) (v : Kept) (c : Call) → IsAt s es os (with_roll v self.old) c
-            → v.group ≡ self.old.membership.group → v.telling.failed ≡ false → certificate_of c.node cert.member ≡ None
+        ensures plays { (s : Setting) (es : List journal.Event) (os : List (ℕ × List ℕ)) (v : Kept)
+            (c : Call) → IsAt s es os (with_roll v self.old) c
+            → v.group ≡ self.old.membership.group → v.telling.failed ≡ false
+            → certificate_of c.node cert.member ≡ None
             → IsAt s es os (with_roll v self.new) (takes s rec.rec c) }
         ensures group { self.new.membership.group ≡ self.old.membership.group }
     {
@@ -68,9 +70,12 @@ impl Roll {
     pub fn take_all(&mut self, certificates: Vec<Checked>)
         requires all { All (IsCertificateFor self.old.membership.group.t) certificates.items }
         requires few { self.old.membership.group.t ≤ MAX_TOLERANCE }
-        ensures plays { (s : Setting) (es : List journal.Event) (os : List (ℕ × List ℕ)) (v : Kept) (c : Call) → IsAt s es os (with_roll v self.old) c
-            → v.group ≡ self.old.membership.group → v.telling.failed ≡ false → AreNew s c (map (λ x. x.rec) certificates.items)
-            → IsAt s es os (with_roll v self.new) (takes_all s (map (λ x. x.rec) certificates.items) c) }
+        ensures plays { (s : Setting) (es : List journal.Event) (os : List (ℕ × List ℕ)) (v : Kept)
+            (c : Call) → IsAt s es os (with_roll v self.old) c
+            → v.group ≡ self.old.membership.group → v.telling.failed ≡ false
+            → AreNew s c (map (λ x. x.rec) certificates.items)
+            → IsAt s es os (with_roll v self.new)
+            (takes_all s (map (λ x. x.rec) certificates.items) c) }
         ensures group { self.new.membership.group ≡ self.old.membership.group }
     {
         for rec in certificates {

@@ -30,7 +30,8 @@ use std::alloc::Global;
 /// The bytes of the datagram from this member with this one record.
 pub(crate) fn datagram_of(alloc: Global, from: MemberId, rec: &Record) -> Result<Vec<u8>, NoMemory>
     requires { IsWritable rec.now }
-    ensures { IfOk result (λ bytes. bytes.items ≡ datagram_bytes (kinds.Records from (rec.now ∷ []))) }
+    ensures { IfOk result
+        (λ bytes. bytes.items ≡ datagram_bytes (kinds.Records from (rec.now ∷ []))) }
 {
     let mut bytes = Vec::new(alloc);
     bytes.extend_from_slice(&records_head(from, 1))?;
@@ -50,7 +51,9 @@ fn list_successors(
     requires joined { has_joined membership.now me ≡ true }
     requires few { membership.now.group.t ≤ MAX_TOLERANCE }
     ensures { (st : State) → Holds membership.now st
-        → result.items ≡ also ∷ map (λ ring. successor st ring me) (range_with_len 0 (ring_count membership.now.group.t)) }
+        → result.items
+        ≡ also ∷ map (λ ring. successor st ring me)
+        (range_with_len 0 (ring_count membership.now.group.t)) }
 {
     let mut listed = ArrayVec::new();
     listed.push(also);
@@ -75,10 +78,11 @@ fn is_listed(listed: &[Option<MemberId>], member: MemberId) -> bool
 impl Node {
     /// Sends the datagram to the member.
     pub(crate) fn send(&mut self, alloc: Global, bytes: &[u8], to: MemberId)
-        ensures plays { (s : Setting) (es : List journal.Event) (os : List (ℕ × List ℕ)) (c : Call) (d : Sending) → Plays s es os self.old c
+        ensures plays { (s : Setting) (es : List journal.Event) (os : List (ℕ × List ℕ)) (c : Call)
+            (d : Sending) → Plays s es os self.old c
             → bytes.now ≡ datagram_bytes d → Plays s es os self.new (sends s d c to) }
         ensures grows { Grows self.old self.new }
-        ensures quiet { SignsNothing self.old self.new }
+        ensures signs_nothing { SignsNothing self.old self.new }
         ensures frame { self.new ≡ record self.old { telling = self.new.telling } }
     {
         self.telling.send(alloc, self.membership.now(), bytes, to);
@@ -92,10 +96,13 @@ impl Node {
         listed: &[Option<MemberId>],
         to: MemberId,
     )
-        ensures plays { (s : Setting) (es : List journal.Event) (os : List (ℕ × List ℕ)) (c : Call) (d : Sending) → Plays s es os self.old c
-            → bytes.now ≡ datagram_bytes d → Plays s es os self.new (if list_any (λ o. is_number o to) listed.now then sends s d c to else c) }
+        ensures plays { (s : Setting) (es : List journal.Event) (os : List (ℕ × List ℕ)) (c : Call)
+            (d : Sending) → Plays s es os self.old c
+            → bytes.now ≡ datagram_bytes d
+            → Plays s es os self.new
+            (if list_any (λ o. is_number o to) listed.now then sends s d c to else c) }
         ensures grows { Grows self.old self.new }
-        ensures quiet { SignsNothing self.old self.new }
+        ensures signs_nothing { SignsNothing self.old self.new }
         ensures frame { self.new ≡ record self.old { telling = self.new.telling } }
     {
         if is_listed(listed, to) {
@@ -105,10 +112,12 @@ impl Node {
 
     /// Sends the datagram to each neighbour and one more, in order of number.
     pub(crate) fn send_to_neighbours(&mut self, alloc: Global, bytes: &[u8], also: Option<MemberId>)
-        ensures plays { (s : Setting) (es : List journal.Event) (os : List (ℕ × List ℕ)) (c : Call) (d : Sending) → Plays s es os self.old c
-            → bytes.now ≡ datagram_bytes d → Plays s es os self.new (sends_to_all s (addressees s also (state_of s c.node)) d c) }
+        ensures plays { (s : Setting) (es : List journal.Event) (os : List (ℕ × List ℕ)) (c : Call)
+            (d : Sending) → Plays s es os self.old c
+            → bytes.now ≡ datagram_bytes d
+            → Plays s es os self.new (sends_to_all s (addressees s also (state_of s c.node)) d c) }
         ensures grows { Grows self.old self.new }
-        ensures quiet { SignsNothing self.old self.new }
+        ensures signs_nothing { SignsNothing self.old self.new }
     {
         let listed = list_successors(&self.membership, self.me, also);
         for number in 0..MEMBERS {

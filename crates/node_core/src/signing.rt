@@ -1,4 +1,4 @@
-//! Own signatures: each is told, accepted and sent, or it isn't made.
+//! Own signatures: each is reported, accepted and sent, or it isn't made.
 
 ghost use Rattle.std.specs.Prelude.{◌≡◌, ℕ, ◌≤◌, ◌<◌, List, true, None, Some, IfErr, is_err, OnOk};
 ghost use Rattle.ff_ids.specs.Masks.{ring_count, good_mask};
@@ -24,13 +24,15 @@ use signer::SignFault;
 use std::alloc::Global;
 
 impl Node {
-    /// The own note is told, accepted, and sent to the neighbours. The signer has spent this index on it.
+    /// The own note is reported, accepted, and sent to the neighbours. The signer has spent this index on it.
     fn pass_on_note(&mut self, alloc: Global, index: u32, rec: Checked, note: &NoteBody)
         requires body { rec.rec.body ≡ bodies.Note note.now }
         requires tolerance { rec.t ≡ self.old.group.t }
-        ensures plays { (s : Setting) (es : List journal.Event) (os : List (ℕ × List ℕ)) (c : Call) → Plays s es os self.old (with_stored (bodies.Note note.now) c)
+        ensures plays { (s : Setting) (es : List journal.Event) (os : List (ℕ × List ℕ)) (c : Call)
+            → Plays s es os self.old (with_stored (bodies.Note note.now) c)
             → index ≡ c.node.stored.next → rec.rec ≡ own_record s c.node (bodies.Note note.now)
-            → Plays s es os self.new (signs_and_sends s (bodies.Note note.now) (addressees s None) c) }
+            → Plays s es os self.new
+            (signs_and_sends s (bodies.Note note.now) (addressees s None) c) }
         ensures grows { Grows self.old self.new }
         ensures spent { TellsSpent index (bodies.Note note.now) self.old self.new }
     {
@@ -43,14 +45,17 @@ impl Node {
         }
     }
 
-    /// The own accusation is told, accepted, and sent to the neighbours and the accused.
+    /// The own accusation is reported, accepted, and sent to the neighbours and the accused.
     fn pass_on_accusation(&mut self, alloc: Global, index: u32, rec: Checked, acc: &AccBody)
         requires body { rec.rec.body ≡ bodies.Accusation acc.now }
         requires tolerance { rec.t ≡ self.old.group.t }
         requires ring { acc.now.ring.0 < ring_count self.old.group.t }
-        ensures plays { (s : Setting) (es : List journal.Event) (os : List (ℕ × List ℕ)) (c : Call) → Plays s es os self.old (with_stored (bodies.Accusation acc.now) c)
+        ensures plays { (s : Setting) (es : List journal.Event) (os : List (ℕ × List ℕ)) (c : Call)
+            → Plays s es os self.old (with_stored (bodies.Accusation acc.now) c)
             → index ≡ c.node.stored.next → rec.rec ≡ own_record s c.node (bodies.Accusation acc.now)
-            → Plays s es os self.new (signs_and_sends s (bodies.Accusation acc.now) (addressees s (Some acc.now.accused)) c) }
+            → Plays s es os self.new
+            (signs_and_sends s (bodies.Accusation acc.now) (addressees s (Some acc.now.accused))
+            c) }
         ensures grows { Grows self.old self.new }
         ensures spent { TellsSpent index (bodies.Accusation acc.now) self.old self.new }
     {
@@ -71,16 +76,23 @@ impl Node {
         mask: Mask,
     ) -> Result<(), NodeFault>
         requires { good_mask self.old.group.t mask.0 ≡ true }
-        ensures plays { (s : Setting) (es : List journal.Event) (os : List (ℕ × List ℕ)) (c : Call) → Plays s es os self.old c
-            → Runs (Plays s es os self.new) (Stops s es os self.new) (λ works. wants works s (next_own s c.node mask) (addressees s None) c) result }
+        ensures plays { (s : Setting) (es : List journal.Event) (os : List (ℕ × List ℕ)) (c : Call)
+            → Plays s es os self.old c
+            → Runs (Plays s es os self.new) (Stops s es os self.new)
+            (λ works. wants works s (next_own s c.node mask) (addressees s None) c) result }
         ensures grows { Grows self.old self.new }
-        ensures spends { Spends self.old self.new (D.moments disk.old) (D.moments disk.new) }
+        ensures spends { Spends self.old self.new (D.state disk.old).moments
+            (D.state disk.new).moments }
         ensures closed { OnOk result (self.new.signer.closed ≡ self.old.signer.closed) }
-        ensures faults { D.faults disk.new ≡ counted (is_err result) (D.faults disk.old) }
+        ensures faults { (D.state disk.new).faults
+            ≡ counted (is_err result) (D.state disk.old).faults }
         ensures cause { IfErr result (λ e. e ≡ faults.StoreFault) }
-        ensures stores { OnOk result (Stores self.old.signer self.new.signer (D.state disk.old) (D.state disk.new)) }
-        ensures fails { (s : Setting) (es : List journal.Event) (os : List (ℕ × List ℕ)) (c : Call) → Plays s es os self.old c
-            → FailsIn (wants true s (next_own s c.node mask) (addressees s None) c) self.old self.new (D.state disk.old) (D.state disk.new) result }
+        ensures stores { OnOk result (Stores self.old.signer self.new.signer
+            (D.state disk.old).model (D.state disk.new).model) }
+        ensures fails { (s : Setting) (es : List journal.Event) (os : List (ℕ × List ℕ)) (c : Call)
+            → Plays s es os self.old c
+            → FailsIn (wants true s (next_own s c.node mask) (addressees s None) c) self.old
+            self.new (D.state disk.old).model (D.state disk.new).model result }
     {
         let index = self.signer.state().next;
         match self.signer.sign_note(alloc, disk, self.me, mask) {
@@ -106,16 +118,25 @@ impl Node {
         acc: &AccBody,
     ) -> Result<(), NodeFault>
         requires { acc.now.ring.0 < ring_count self.old.group.t }
-        ensures plays { (s : Setting) (es : List journal.Event) (os : List (ℕ × List ℕ)) (c : Call) → Plays s es os self.old c
-            → Runs (Plays s es os self.new) (Stops s es os self.new) (λ works. wants works s (bodies.Accusation acc.now) (addressees s (Some acc.now.accused)) c) result }
+        ensures plays { (s : Setting) (es : List journal.Event) (os : List (ℕ × List ℕ)) (c : Call)
+            → Plays s es os self.old c
+            → Runs (Plays s es os self.new) (Stops s es os self.new)
+            (λ works. wants works s (bodies.Accusation acc.now)
+            (addressees s (Some acc.now.accused)) c) result }
         ensures grows { Grows self.old self.new }
-        ensures spends { Spends self.old self.new (D.moments disk.old) (D.moments disk.new) }
+        ensures spends { Spends self.old self.new (D.state disk.old).moments
+            (D.state disk.new).moments }
         ensures closed { OnOk result (self.new.signer.closed ≡ self.old.signer.closed) }
-        ensures faults { D.faults disk.new ≡ counted (is_err result) (D.faults disk.old) }
+        ensures faults { (D.state disk.new).faults
+            ≡ counted (is_err result) (D.state disk.old).faults }
         ensures cause { IfErr result (λ e. e ≡ faults.StoreFault) }
-        ensures stores { OnOk result (Stores self.old.signer self.new.signer (D.state disk.old) (D.state disk.new)) }
-        ensures fails { (s : Setting) (es : List journal.Event) (os : List (ℕ × List ℕ)) (c : Call) → Plays s es os self.old c
-            → FailsIn (wants true s (bodies.Accusation acc.now) (addressees s (Some acc.now.accused)) c) self.old self.new (D.state disk.old) (D.state disk.new) result }
+        ensures stores { OnOk result (Stores self.old.signer self.new.signer
+            (D.state disk.old).model (D.state disk.new).model) }
+        ensures fails { (s : Setting) (es : List journal.Event) (os : List (ℕ × List ℕ)) (c : Call)
+            → Plays s es os self.old c
+            → FailsIn (wants true s (bodies.Accusation acc.now)
+            (addressees s (Some acc.now.accused)) c) self.old self.new (D.state disk.old).model
+            (D.state disk.new).model result }
     {
         let index = self.signer.state().next;
         match self.signer.sign_accusation(alloc, disk, *acc) {

@@ -19,14 +19,14 @@ ghost use Rattle.journal.specs.declared.event.Event as journal;
 ghost use Rattle.node_core.specs.Playing.{Plays, Grows, IsReady, setting_of};
 ghost use Rattle.node_core.specs.Signatures.{with_stored};
 ghost use Rattle.node_core.specs.Spending.{LivesOn, TellsOf, TellsSpent, SpendsUntold, StartSpends};
-ghost use Rattle.node_core.specs.Told.{IsFront};
+ghost use Rattle.node_core.specs.Told.{IsPrefix};
 ghost use Rattle.node_core.specs.OnDisks.{PutsFirst, kept_first};
 ghost use Rattle.node_core.specs.Rolls.{IsCertificateFor, AreApart, recs_of};
 ghost use Rattle.node_core.specs.Begins.{AreOf, HasOpened, MayBegin, IsFirst, IsKit, IsVouchable, MayRefuse, Starts, is_store_fault, spent_first};
 
 use crate::kit::{Events, Kit, Outbox};
 use crate::roll::Roll;
-use crate::telling::Telling;
+use crate::telling::CallOutput;
 use crate::{Node, NodeFault};
 use detector::{Detector, Found};
 use ff_ids::{Epoch, Group, Mask, MemberId, NoteBody, all_rings, good_mask};
@@ -106,12 +106,17 @@ fn sign_first<D: Disk>(
     requires some { 1 ≤ group.now.t }
     requires few { group.now.t ≤ MAX_TOLERANCE }
     requires open { signer.old.closed ≡ false }
-    ensures faults { D.faults disk.new ≡ counted (is_store_fault result) (D.faults disk.old) }
+    ensures faults { (D.state disk.new).faults
+        ≡ counted (is_store_fault result) (D.state disk.old).faults }
     ensures signed { IfOk result (λ f. IsFirst signer.old signer.new group.now.t me f) }
     ensures cause { IfErr result (λ e. MayRefuse signer.old e) }
-    ensures key { LivesOn (spent_first result) signer.old signer.new (D.moments disk.old) (D.moments disk.new) }
-    ensures puts { PutsFirst (kept_first group.now.t me signer.old.state) signer.old.seat (D.state disk.old) (D.state disk.new) result }
-    ensures seat { IfOk result (λ f. signer.new.seat ≡ next_seat signer.old.seat (kept_first group.now.t me signer.old.state)) }
+    ensures key { LivesOn (spent_first result) signer.old signer.new (D.state disk.old).moments
+        (D.state disk.new).moments }
+    ensures puts { PutsFirst (kept_first group.now.t me signer.old.state) signer.old.seat
+        (D.state disk.old).model (D.state disk.new).model result }
+    ensures seat { IfOk result
+        (λ f. signer.new.seat
+        ≡ next_seat signer.old.seat (kept_first group.now.t me signer.old.state)) }
 {
     let index = signer.state().next;
     let mask = first_mask(group, signer.state().mask);
@@ -157,19 +162,27 @@ fn make_ready<D: Disk>(
     requires kit { IsKit kit (public_of signer.key) }
     requires signer { signer.group ≡ kit.group }
     requires open { signer.closed ≡ false }
-    ensures faults { D.faults disk.new ≡ counted (is_store_fault result) (D.faults disk.old) }
+    ensures faults { (D.state disk.new).faults
+        ≡ counted (is_store_fault result) (D.state disk.old).faults }
     ensures ready { IfOk result (λ r. IsReady r.group r.me r.roll.membership r.detector r.signer) }
     ensures body { IfOk result (λ r. r.rec.rec.body ≡ bodies.Note r.note) }
     ensures tolerance { IfOk result (λ r. r.rec.t ≡ r.group.t) }
-    ensures begins { IfOk result (λ r. (s : Setting) → s ≡ setting_of kit.group kit.me kit.authority signer.key
+    ensures begins { IfOk result
+        (λ r. (s : Setting) → s ≡ setting_of kit.group kit.me kit.authority signer.key
         → MayBegin s kit.nonce_seed (recs_of kit.certificates.items) signer.state r) }
     ensures cause { IfErr result (λ e. MayRefuse signer e) }
     ensures free { IfOk result (λ r. signer.state.next < index_count signer.key) }
     ensures closed { IfOk result (λ r. r.signer.closed ≡ false) }
-    ensures key { IfOk result (λ r. LivesOn (record { index = r.index; body = bodies.Note r.note } ∷ []) signer r.signer (D.moments disk.old) (D.moments disk.new)) }
-    ensures untold { IfErr result (λ e. SpendsUntold e signer (D.moments disk.old) (D.moments disk.new)) }
-    ensures puts { PutsFirst (kept_first kit.group.t kit.me signer.state) signer.seat (D.state disk.old) (D.state disk.new) result }
-    ensures seat { IfOk result (λ r. r.signer.seat ≡ next_seat signer.seat (kept_first kit.group.t kit.me signer.state)) }
+    ensures key { IfOk result (λ r. LivesOn
+        (record { index = r.index; body = bodies.Note r.note } ∷ []) signer r.signer
+        (D.state disk.old).moments (D.state disk.new).moments) }
+    ensures untold { IfErr result (λ e. SpendsUntold e signer (D.state disk.old).moments
+        (D.state disk.new).moments) }
+    ensures puts { PutsFirst (kept_first kit.group.t kit.me signer.state) signer.seat
+        (D.state disk.old).model (D.state disk.new).model result }
+    ensures seat { IfOk result
+        (λ r. r.signer.seat
+        ≡ next_seat signer.seat (kept_first kit.group.t kit.me signer.state)) }
 {
     let Kit {
         group,
@@ -206,11 +219,12 @@ fn make_ready<D: Disk>(
 }
 
 impl Node {
-    /// The first note is told and accepted. The signer has spent this index on it.
+    /// The first note is reported and accepted. The signer has spent this index on it.
     fn keep_first(&mut self, index: u32, rec: Checked, note: &NoteBody)
         requires body { rec.rec.body ≡ bodies.Note note.now }
         requires tolerance { rec.t ≡ self.old.group.t }
-        ensures plays { (s : Setting) (es : List journal.Event) (os : List (ℕ × List ℕ)) (c : Call) → Plays s es os self.old (with_stored (bodies.Note note.now) c)
+        ensures plays { (s : Setting) (es : List journal.Event) (os : List (ℕ × List ℕ)) (c : Call)
+            → Plays s es os self.old (with_stored (bodies.Note note.now) c)
             → index ≡ c.node.stored.next → rec.rec ≡ own_record s c.node (bodies.Note note.now)
             → Plays s es os self.new (signs s (bodies.Note note.now) c) }
         ensures grows { Grows self.old self.new }
@@ -222,18 +236,20 @@ impl Node {
 }
 
 impl Ready {
-    /// The life begins: what it tells goes behind what was told.
-    pub fn begin(self, telling: Telling) -> Node
+    /// The life begins: what it reports goes behind what was reported.
+    pub fn begin(self, telling: CallOutput) -> Node
         requires ready { IsReady self.group self.me self.roll.membership self.detector self.signer }
         requires body { self.rec.rec.body ≡ bodies.Note self.note }
         requires tolerance { self.rec.t ≡ self.group.t }
         requires before { telling.before ≡ length telling.sent }
-        ensures plays { (s : Setting) (seed : List ℕ) (certificates : List Recorded) (stored : Stored) → MayBegin s seed certificates stored self
+        ensures plays { (s : Setting) (seed : List ℕ) (certificates : List Recorded)
+            (stored : Stored) → MayBegin s seed certificates stored self
             → Plays s telling.events telling.sent result (started s seed certificates stored) }
-        ensures front { IsFront telling.events result.telling.events }
+        ensures front { IsPrefix telling.events result.telling.events }
         ensures going { result.ended ≡ false }
         ensures signer { result.signer ≡ self.signer }
-        ensures spent { TellsOf (record { index = self.index; body = bodies.Note self.note } ∷ []) telling.events result.telling.events result.telling.failed }
+        ensures spent { TellsOf (record { index = self.index; body = bodies.Note self.note } ∷ [])
+            telling.events result.telling.events result.telling.failed }
     {
         let Ready {
             group,
@@ -278,7 +294,7 @@ impl Node {
     ///
     /// The kit is sound for the signer's key, the signer was opened with the kit's group, and the disk is that of its
     /// store. `Exhausted` comes where the key has no leaf left, `StoreFault` only where the disk failed; `Ended` never. A
-    /// life that is refused tells nothing, and has spent no index, but perhaps one where memory was refused.
+    /// life that is refused reports nothing, and has spent no index, but perhaps one where memory was refused.
     pub fn start<D: Disk>(
         alloc: Global,
         kit: Kit,
@@ -289,23 +305,31 @@ impl Node {
         requires kit { IsKit kit (public_of signer.key) }
         requires signer { signer.group ≡ kit.group }
         requires open { signer.closed ≡ false }
-        ensures starts { IfOk result (λ node. (s : Setting) → s ≡ setting_of kit.group kit.me kit.authority signer.key
-            → Starts s kit.nonce_seed (recs_of kit.certificates.items) signer.state node events.old events.new) }
-        ensures vouchable { IfOk result (λ node. (s : Setting) → s ≡ setting_of kit.group kit.me kit.authority signer.key
+        ensures starts { IfOk result
+            (λ node. (s : Setting) → s ≡ setting_of kit.group kit.me kit.authority signer.key
+            → Starts s kit.nonce_seed (recs_of kit.certificates.items) signer.state node events.old
+            events.new) }
+        ensures vouchable { IfOk result
+            (λ node. (s : Setting) → s ≡ setting_of kit.group kit.me kit.authority signer.key
             → IsVouchable s (public_of signer.key) (recs_of kit.certificates.items) signer.state) }
         ensures going { IfOk result (λ node. node.ended ≡ false) }
         ensures closed { IfOk result (λ node. node.signer.closed ≡ false) }
         ensures silent { OnErr result (events.new ≡ events.old) }
         ensures cause { IfErr result (λ e. MayRefuse signer e) }
-        ensures faults { D.faults disk.new ≡ counted (is_store_fault result) (D.faults disk.old) }
-        ensures spends { StartSpends signer (D.moments disk.old) (D.moments disk.new) events.old events.new result }
-        ensures puts { PutsFirst (kept_first kit.group.t kit.me signer.state) signer.seat (D.state disk.old) (D.state disk.new) result }
-        ensures seat { IfOk result (λ node. node.signer.seat ≡ next_seat signer.seat (kept_first kit.group.t kit.me signer.state)) }
+        ensures faults { (D.state disk.new).faults
+            ≡ counted (is_store_fault result) (D.state disk.old).faults }
+        ensures spends { StartSpends signer (D.state disk.old).moments (D.state disk.new).moments
+            events.old events.new result }
+        ensures puts { PutsFirst (kept_first kit.group.t kit.me signer.state) signer.seat
+            (D.state disk.old).model (D.state disk.new).model result }
+        ensures seat { IfOk result
+            (λ node. node.signer.seat
+            ≡ next_seat signer.seat (kept_first kit.group.t kit.me signer.state)) }
     {
         let ready = make_ready(alloc, kit, signer, disk)?;
         let before = events.events.len();
         let mut out = Outbox::new(alloc);
-        let mut node = ready.begin(Telling::over(alloc, events, &mut out));
+        let mut node = ready.begin(CallOutput::over(alloc, events, &mut out));
         if node.telling.give_back(events, &mut out) {
             events.events.truncate(before);
             return Err(NodeFault::OutOfMemory);

@@ -22,18 +22,21 @@ impl Node {
     /// Tells this, which is no signature.
     pub(crate) fn tell(&mut self, what: What)
         requires { spent_by what ≡ [] }
-        ensures plays { (s : Setting) (es : List journal.Event) (os : List (ℕ × List ℕ)) (c : Call) → Plays s es os self.old c
+        ensures plays { (s : Setting) (es : List journal.Event) (os : List (ℕ × List ℕ)) (c : Call)
+            → Plays s es os self.old c
             → Plays s es os self.new (tells s what c) }
         ensures grows { Grows self.old self.new }
-        ensures quiet { SignsNothing self.old self.new }
-        ensures refused { self.new.telling.failed ≡ true → self.new.telling ≡ record self.old.telling { failed = true } }
+        ensures signs_nothing { SignsNothing self.old self.new }
+        ensures refused { self.new.telling.failed ≡ true
+            → self.new.telling ≡ record self.old.telling { failed = true } }
     {
         self.telling.tell(self.membership.now(), what);
     }
 
     /// Tells that the index was spent on the body.
     pub(crate) fn tell_spent(&mut self, index: u32, body: Body)
-        ensures plays { (s : Setting) (es : List journal.Event) (os : List (ℕ × List ℕ)) (c : Call) → Plays s es os self.old c
+        ensures plays { (s : Setting) (es : List journal.Event) (os : List (ℕ × List ℕ)) (c : Call)
+            → Plays s es os self.old c
             → Plays s es os self.new (tells s (told.Spent index body) c) }
         ensures grows { Grows self.old self.new }
         ensures spent { TellsSpent index body self.old self.new }
@@ -44,10 +47,11 @@ impl Node {
 
     /// One event of the life: the note, if it has no fault.
     fn live_note(&mut self, note: NoteBody)
-        ensures plays { (s : Setting) (es : List journal.Event) (os : List (ℕ × List ℕ)) (c : Call) → Plays s es os self.old c
+        ensures plays { (s : Setting) (es : List journal.Event) (os : List (ℕ × List ℕ)) (c : Call)
+            → Plays s es os self.old c
             → Plays s es os self.new (lives s (Notes note) c) }
         ensures grows { Grows self.old self.new }
-        ensures quiet { SignsNothing self.old self.new }
+        ensures signs_nothing { SignsNothing self.old self.new }
     {
         let _fault = self.membership.put_note(note, &mut self.changes);
         report(
@@ -61,10 +65,11 @@ impl Node {
     /// One event of the life: a tick.
     pub(crate) fn live_tick(&mut self)
         requires { self.old.membership.moment < 2 ^ 64 - 1 }
-        ensures plays { (s : Setting) (es : List journal.Event) (os : List (ℕ × List ℕ)) (c : Call) → Plays s es os self.old c
+        ensures plays { (s : Setting) (es : List journal.Event) (os : List (ℕ × List ℕ)) (c : Call)
+            → Plays s es os self.old c
             → Plays s es os self.new (lives s Ticks c) }
         ensures grows { Grows self.old self.new }
-        ensures quiet { SignsNothing self.old self.new }
+        ensures signs_nothing { SignsNothing self.old self.new }
     {
         self.membership.tick(&mut self.changes);
         report(
@@ -79,10 +84,11 @@ impl Node {
     pub(crate) fn take_note(&mut self, rec: Checked, note: NoteBody)
         requires note { rec.rec.body ≡ bodies.Note note }
         requires tolerance { rec.t ≡ self.old.group.t }
-        ensures plays { (s : Setting) (es : List journal.Event) (os : List (ℕ × List ℕ)) (c : Call) → Plays s es os self.old c
+        ensures plays { (s : Setting) (es : List journal.Event) (os : List (ℕ × List ℕ)) (c : Call)
+            → Plays s es os self.old c
             → Plays s es os self.new (takes s rec.rec c) }
         ensures grows { Grows self.old self.new }
-        ensures quiet { SignsNothing self.old self.new }
+        ensures signs_nothing { SignsNothing self.old self.new }
     {
         self.live_note(note);
         self.records.put(rec);
@@ -93,10 +99,11 @@ impl Node {
         requires accusation { rec.rec.body ≡ bodies.Accusation acc }
         requires tolerance { rec.t ≡ self.old.group.t }
         requires ring { acc.ring.0 < ring_count self.old.group.t }
-        ensures plays { (s : Setting) (es : List journal.Event) (os : List (ℕ × List ℕ)) (c : Call) → Plays s es os self.old c
+        ensures plays { (s : Setting) (es : List journal.Event) (os : List (ℕ × List ℕ)) (c : Call)
+            → Plays s es os self.old c
             → Plays s es os self.new (takes s rec.rec c) }
         ensures grows { Grows self.old self.new }
-        ensures quiet { SignsNothing self.old self.new }
+        ensures signs_nothing { SignsNothing self.old self.new }
     {
         let _fault = self.membership.put_accusation(acc);
         self.records.put(rec);
@@ -106,10 +113,12 @@ impl Node {
     pub(crate) fn take_certificate(&mut self, rec: Checked, cert: CertBody)
         requires certificate { rec.rec.body ≡ bodies.Certificate cert }
         requires tolerance { rec.t ≡ self.old.group.t }
-        ensures plays { (s : Setting) (es : List journal.Event) (os : List (ℕ × List ℕ)) (c : Call) → Plays s es os self.old c
-            → certificate_of c.node cert.member ≡ None → Plays s es os self.new (takes s rec.rec c) }
+        ensures plays { (s : Setting) (es : List journal.Event) (os : List (ℕ × List ℕ)) (c : Call)
+            → Plays s es os self.old c
+            → certificate_of c.node cert.member ≡ None
+            → Plays s es os self.new (takes s rec.rec c) }
         ensures grows { Grows self.old self.new }
-        ensures quiet { SignsNothing self.old self.new }
+        ensures signs_nothing { SignsNothing self.old self.new }
     {
         if self.roster.get(cert.member).is_some() {
             return;

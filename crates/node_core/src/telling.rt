@@ -1,8 +1,8 @@
-//! What one call tells and sends.
+//! What one call reports and sends.
 
 ghost use Rattle.std.specs.Prelude.{◌≡◌, [], ◌∷◌, ◌++◌, ◌-◌, ◌≤◌, false, true, length, OnOk};
 ghost use Rattle.journal.specs.declared.event.What.TheVariants as kinds;
-ghost use Rattle.node_core.specs.Told.{Adds, IsFront, with_event, with_report, with_sent, with_each};
+ghost use Rattle.node_core.specs.Told.{Adds, IsPrefix, with_event, with_report, with_sent, with_each};
 
 use crate::kit::{Events, Outbox};
 use ff_ids::{AccBody, MemberId};
@@ -16,32 +16,38 @@ use std::mem::{replace, swap};
 /// The events and datagrams so far, each list behind what was there before the call. Once memory is refused nothing
 /// more is added.
 #[derive(Drop)]
-pub struct Telling {
+pub struct CallOutput {
     events: Vec<Event>,
     sent: Vec<(MemberId, Bytes)>,
     before: usize,
     failed: bool,
 }
 
-impl Model for Telling {
+impl Model for CallOutput {
     ghost use Rattle.std.specs.Prelude.{length, ◌≤◌};
     ghost use Rattle.node_core.specs.Told.{Tellings};
 
     ghost Value = { Tellings };
 
-    ghost view = { λ t. record { events = t.events.items; sent = t.sent.items; before = t.before; failed = t.failed } };
+    ghost view = { λ t. record {
+      events = t.events.items;
+      sent = t.sent.items;
+      before = t.before;
+      failed = t.failed;
+    } };
 
     ghost invariant = { λ t. t.before ≤ length t.sent.items };
 }
 
-impl Telling {
-    /// What is told goes behind these events, and what is sent behind these datagrams, which are taken out meanwhile.
-    pub fn over(alloc: Global, events: &mut Events, out: &mut Outbox) -> Telling
-        ensures { result ≡ record { events = events.old; sent = out.old; before = length out.old; failed = false } }
+impl CallOutput {
+    /// What is reported goes behind these events, and what is sent behind these datagrams, which are taken out meanwhile.
+    pub fn over(alloc: Global, events: &mut Events, out: &mut Outbox) -> CallOutput
+        ensures { result ≡ record
+            { events = events.old; sent = out.old; before = length out.old; failed = false } }
     {
         let events = replace(&mut events.events, Vec::new(alloc));
         let sent = replace(&mut out.datagrams, Vec::new(alloc));
-        Telling {
+        CallOutput {
             before: sent.len(),
             events,
             sent,
@@ -125,10 +131,11 @@ impl Telling {
         to: MemberId,
     ) -> Result<(), NoMemory>
         ensures sent { OnOk result (self.new ≡ with_sent moment bytes.now to self.old) }
-        ensures events { IsFront self.old.events self.new.events }
-        ensures front { IsFront self.old.sent self.new.sent }
-        ensures events_due { IsFront self.new.events (with_sent moment bytes.now to self.old).events }
-        ensures sent_due { IsFront self.new.sent (with_sent moment bytes.now to self.old).sent }
+        ensures events { IsPrefix self.old.events self.new.events }
+        ensures front { IsPrefix self.old.sent self.new.sent }
+        ensures events_due { IsPrefix self.new.events
+            (with_sent moment bytes.now to self.old).events }
+        ensures sent_due { IsPrefix self.new.sent (with_sent moment bytes.now to self.old).sent }
         ensures before { self.new.before ≡ self.old.before }
         ensures failed { self.new.failed ≡ self.old.failed }
     {

@@ -18,7 +18,7 @@ ghost use Rattle.node_rules.specs.Calls.{Call};
 ghost use Rattle.node_rules.specs.Ticking.{pings_all};
 ghost use Rattle.node_core.specs.Playing.{Plays, Stops, Grows};
 
-use crate::telling::Telling;
+use crate::telling::CallOutput;
 use crate::{Events, Node, NodeFault, Outbox};
 use detector::Found;
 use ff_ids::MemberId;
@@ -47,10 +47,11 @@ fn copied(alloc: Global, found: &Found) -> Result<Due, NoMemory>
 impl Node {
     /// The pings go out, each to a member with its nonce, in order.
     pub(crate) fn ping_all(&mut self, alloc: Global, pings: &[(MemberId, u64)])
-        ensures plays { (s : Setting) (es : List journal.Event) (os : List (ℕ × List ℕ)) (c : Call) → Plays s es os self.old c
+        ensures plays { (s : Setting) (es : List journal.Event) (os : List (ℕ × List ℕ)) (c : Call)
+            → Plays s es os self.old c
             → Plays s es os self.new (pings_all s pings.now c) }
         ensures grows { Grows self.old self.new }
-        ensures quiet { SignsNothing self.old self.new }
+        ensures signs_nothing { SignsNothing self.old self.new }
     {
         for ping in pings {
             let (to, nonce) = *ping;
@@ -66,15 +67,23 @@ impl Node {
         round: u64,
         due: Due,
     ) -> Result<(), NodeFault>
-        ensures plays { (s : Setting) (es : List journal.Event) (os : List (ℕ × List ℕ)) (c : Call) → Plays s es os self.old c
-            → RunsDue (Plays s es os self.new) (Stops s es os self.new) s due.silent.items due.pings.items round c result }
+        ensures plays { (s : Setting) (es : List journal.Event) (os : List (ℕ × List ℕ)) (c : Call)
+            → Plays s es os self.old c
+            → RunsDue (Plays s es os self.new) (Stops s es os self.new) s due.silent.items
+            due.pings.items round c result }
         ensures grows { Grows self.old self.new }
-        ensures spends { Spends self.old self.new (D.moments disk.old) (D.moments disk.new) }
+        ensures spends { Spends self.old self.new (D.state disk.old).moments
+            (D.state disk.new).moments }
         ensures closed { OnOk result (self.new.signer.closed ≡ self.old.signer.closed) }
-        ensures faults { D.faults disk.new ≡ counts_faults (is_err result) (D.faults disk.old) }
+        ensures faults { (D.state disk.new).faults
+            ≡ counts_faults (is_err result) (D.state disk.old).faults }
         ensures cause { IfErr result (λ e. e ≡ faults.StoreFault) }
-        ensures follows { (s : Setting) (es : List journal.Event) (os : List (ℕ × List ℕ)) (c : Call) (d : DiskState) → Plays s es os self.old c → c.ended ≡ false
-            → D.state disk.old ≡ Some d → self.new.telling.failed ≡ false → ComesTo s es os self.new (D.state disk.new) (is_err result) (due_on storage s due.silent.items due.pings.items round (on_disk c d self.old.signer.seat)) }
+        ensures follows { (s : Setting) (es : List journal.Event) (os : List (ℕ × List ℕ))
+            (c : Call) (d : DiskState) → Plays s es os self.old c → c.ended ≡ false
+            → (D.state disk.old).model ≡ Some d → self.new.telling.failed ≡ false
+            → ComesTo s es os self.new (D.state disk.new).model (is_err result)
+            (due_on storage s due.silent.items due.pings.items round
+            (on_disk c d self.old.signer.seat)) }
     {
         let Due { silent, pings } = due;
         self.accuse_all(alloc, disk, silent)?;
@@ -86,15 +95,22 @@ impl Node {
     /// One tick.
     fn pass<D: Disk>(&mut self, alloc: Global, disk: &mut D) -> Result<(), NodeFault>
         requires { self.old.membership.moment < 2 ^ 64 - 1 }
-        ensures plays { (s : Setting) (es : List journal.Event) (os : List (ℕ × List ℕ)) (n : RulesNode) → Plays s es os self.old (begun n)
-            → RunsTick (self.new.telling.failed ≡ false) (Plays s es os self.new) (Stops s es os self.new) s n result }
+        ensures plays { (s : Setting) (es : List journal.Event) (os : List (ℕ × List ℕ))
+            (n : RulesNode) → Plays s es os self.old (begun n)
+            → RunsTick (self.new.telling.failed ≡ false) (Plays s es os self.new)
+            (Stops s es os self.new) s n result }
         ensures grows { Grows self.old self.new }
-        ensures spends { Spends self.old self.new (D.moments disk.old) (D.moments disk.new) }
+        ensures spends { Spends self.old self.new (D.state disk.old).moments
+            (D.state disk.new).moments }
         ensures closed { OnOk result (self.new.signer.closed ≡ self.old.signer.closed) }
-        ensures faults { D.faults disk.new ≡ counts_faults (is_err result) (D.faults disk.old) }
+        ensures faults { (D.state disk.new).faults
+            ≡ counts_faults (is_err result) (D.state disk.old).faults }
         ensures cause { IfErr result (λ e. e ≡ faults.StoreFault) }
-        ensures follows { (s : Setting) (es : List journal.Event) (os : List (ℕ × List ℕ)) (n : RulesNode) (d : DiskState) → Plays s es os self.old (begun n)
-            → D.state disk.old ≡ Some d → self.new.telling.failed ≡ false → ComesTo s es os self.new (D.state disk.new) (is_err result) (ticked_on storage s n (record { disk = d; seat = self.old.signer.seat })) }
+        ensures follows { (s : Setting) (es : List journal.Event) (os : List (ℕ × List ℕ))
+            (n : RulesNode) (d : DiskState) → Plays s es os self.old (begun n)
+            → (D.state disk.old).model ≡ Some d → self.new.telling.failed ≡ false
+            → ComesTo s es os self.new (D.state disk.new).model (is_err result)
+            (ticked_on storage s n (record { disk = d; seat = self.old.signer.seat })) }
     {
         self.live_tick();
         let now = self.membership.now();
@@ -114,10 +130,10 @@ impl Node {
         }
     }
 
-    /// One tick: appends what it tells to `events` and what it sends to `out`. After `StoreFault` these are those of the
+    /// One tick: appends what it reports to `events` and what it sends to `out`. After `StoreFault` these are those of the
     /// call that the disk ended, in the accusation of a silent member; after `OutOfMemory` a front of those of the whole
     /// call. `Ended` comes exactly where an earlier call answered a fault, and nothing is added. After a fault what was
-    /// given stands, and the node is over. Each index that the call spends is told, in order; where memory was refused,
+    /// given stands, and the node is over. Each index that the call spends is reported, in order; where memory was refused,
     /// those of a front. The disk is the one on which the signer's store was opened.
     pub fn tick<D: Disk>(
         &mut self,
@@ -128,22 +144,32 @@ impl Node {
     ) -> Result<(), NodeFault>
         requires { self.old.membership.moment < 2 ^ 64 - 1 }
         ensures step { (s : Setting) (n : RulesNode) → IsNode s self.old n → self.old.ended ≡ false
-            → GivesCall s n Ticks self.new (record { events = events.old; sent = out.old }) (record { events = events.new; sent = out.new }) result }
+            → GivesCall s n Ticks self.new (record { events = events.old; sent = out.old })
+            (record { events = events.new; sent = out.new }) result }
         ensures over { (self.old.ended ≡ true) ↔ IsEnded result }
         ensures ended { self.new.ended ≡ is_err result }
-        ensures still { self.old.ended ≡ true → (self.new ≡ self.old) × (disk.new ≡ disk.old) × (events.new ≡ events.old) × (out.new ≡ out.old) }
-        ensures stands { Stands (record { events = events.old; sent = out.old }) (record { events = events.new; sent = out.new }) }
-        ensures spends { SpendsIn result self.old.signer self.new.signer (D.moments disk.old) (D.moments disk.new) events.old events.new }
+        ensures unchanged_after_end { self.old.ended ≡ true
+            → (self.new ≡ self.old) × (disk.new ≡ disk.old) × (events.new ≡ events.old)
+            × (out.new ≡ out.old) }
+        ensures stands { Stands (record { events = events.old; sent = out.old })
+            (record { events = events.new; sent = out.new }) }
+        ensures spends { SpendsIn result self.old.signer self.new.signer (D.state disk.old).moments
+            (D.state disk.new).moments events.old events.new }
         ensures closed { OnOk result (self.new.signer.closed ≡ self.old.signer.closed) }
-        ensures faults { IfErr result (λ e. e ≡ faults.StoreFault → Rose (D.faults disk.old) (D.faults disk.new)) }
-        ensures calm { OnOk result (D.faults disk.new ≡ D.faults disk.old) }
-        ensures follows { (s : Setting) (n : RulesNode) (d : DiskState) → IsNode s self.old n → self.old.ended ≡ false → D.state disk.old ≡ Some d
-            → FollowsDisk s self.new (record { events = events.old; sent = out.old }) (record { events = events.new; sent = out.new }) (D.state disk.new) (ticked_on storage s n (record { disk = d; seat = self.old.signer.seat })) result }
+        ensures faults { IfErr result (λ e. e ≡ faults.StoreFault
+            → Rose (D.state disk.old).faults (D.state disk.new).faults) }
+        ensures no_disk_fault { OnOk result
+            ((D.state disk.new).faults ≡ (D.state disk.old).faults) }
+        ensures follows { (s : Setting) (n : RulesNode) (d : DiskState) → IsNode s self.old n
+            → self.old.ended ≡ false → (D.state disk.old).model ≡ Some d
+            → FollowsDisk s self.new (record { events = events.old; sent = out.old })
+            (record { events = events.new; sent = out.new }) (D.state disk.new).model
+            (ticked_on storage s n (record { disk = d; seat = self.old.signer.seat })) result }
     {
         if self.ended {
             return Err(NodeFault::Ended);
         }
-        self.telling = Telling::over(alloc, events, out);
+        self.telling = CallOutput::over(alloc, events, out);
         let passed = self.pass(alloc, disk);
         self.finish(passed, out, events)
     }

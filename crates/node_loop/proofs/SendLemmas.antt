@@ -1,4 +1,4 @@
--- How the events of a call are told, one after another.
+-- How the events of a call are reported, one after another.
 use Rattle.std.proofs.Common.{◌≡◌, ℕ, Bool, true, false, cond, List, [], ◌∷◌, ◌++◌, Option, Some, None, Result, Err, sym, ap, ◌∙◌, subst}
 use Rattle.std.specs.Result.{IsErrAnd}
 use Rattle.std.proofs.lemmas.Result.{err_from_is_err_and}
@@ -9,7 +9,7 @@ use Rattle.journal.specs.declared.event.What.TheVariants as kinds
 use Rattle.node_core.specs.Playing.{Kept}
 use Rattle.node_rules.specs.Nodes.{Setting}
 use Rattle.node_loop.specs.declared.fault.ServeFault.{ServeFault}
-use Rattle.node_loop.specs.Courses.{Course, datagram_in, fails_next, hands_over, line_of, sends_one, tells, tells_all, tells_what, writes, writes_event}
+use Rattle.node_loop.specs.Courses.{ServeState, datagram_in, fails_next, hands_over, line_of, sends_one, tells, tells_all, tells_what, writes, writes_event}
 use Rattle.node_loop.specs.Writing.{Before, Extends, IsAt, IsWithin, Standing, Tells, WritesLine, standing}
 use Rattle.node_loop.proofs.CourseLemmas.{Grows, grows-sent, grows-tells_all, tells_all-append}
 use Rattle.node_loop.proofs.TellLemmas.{extends-refl, extends-trans, tells-more, within-grows, written}
@@ -17,7 +17,7 @@ use Rattle.node_loop.proofs.TellLemmas.{extends-refl, extends-trans, tells-more,
 -- ---- one datagram
 
 -- its line, which has the number of those sent before it
-pub sent-line : (before : Before) (v : Kept) (link : Option LinkState) (taken after : Option (List ℕ)) (moments : List Moment) (sent moment to : ℕ) (bytes : List ℕ) (r : Course)
+pub sent-line : (before : Before) (v : Kept) (link : Option LinkState) (taken after : Option (List ℕ)) (moments : List Moment) (sent moment to : ℕ) (bytes : List ℕ) (r : ServeState)
     (answer : Result (Unit {0}) ServeFault) → IsAt before (standing v link taken moments sent) r
     → WritesLine taken after (line_of (record { moment = moment; what = kinds.Sent sent to bytes })) answer
     → Tells before (standing v link after moments sent) (writes_event moment (kinds.Sent r.sent to bytes) r) answer
@@ -26,25 +26,25 @@ sent-line before v link taken after moments sent moment to bytes r answer at wro
     (subst (λ (k : ℕ). WritesLine taken after (line_of (record { moment = moment; what = kinds.Sent k to bytes })) answer) at.sent wrote)
 
 -- the line broke off
-pub unsent : (before : Before) (w : Standing) (moment to : ℕ) (bytes : List ℕ) (r : Course) (e : ServeFault)
+pub unsent : (before : Before) (w : Standing) (moment to : ℕ) (bytes : List ℕ) (r : ServeState) (e : ServeFault)
     → Tells before w (writes_event moment (kinds.Sent r.sent to bytes) r) (Err e) → Tells before w (sends_one moment to bytes r) (Err e)
 unsent before w moment to bytes r e h =
     tells-more before w (writes_event moment (kinds.Sent r.sent to bytes) r) (sends_one moment to bytes r) e h (grows-sent moment to bytes r)
 
 -- memory was refused for it
-pub within-sent : (before : Before) (w : Standing) (moment to : ℕ) (bytes : List ℕ) (r : Course) → IsWithin before w (writes_event moment (kinds.Sent r.sent to bytes) r) → IsWithin before w (sends_one moment to bytes r)
+pub within-sent : (before : Before) (w : Standing) (moment to : ℕ) (bytes : List ℕ) (r : ServeState) → IsWithin before w (writes_event moment (kinds.Sent r.sent to bytes) r) → IsWithin before w (sends_one moment to bytes r)
 within-sent before w moment to bytes r h =
     within-grows before w (writes_event moment (kinds.Sent r.sent to bytes) r) (sends_one moment to bytes r) h (grows-sent moment to bytes r)
 
 -- it went out
-pub went-out : (before : Before) (w : Standing) (moment to : ℕ) (bytes : List ℕ) (r : Course) → false ≡ fails_next r.link
+pub went-out : (before : Before) (w : Standing) (moment to : ℕ) (bytes : List ℕ) (r : ServeState) → false ≡ fails_next r.link
     → IsAt before w (hands_over to bytes (writes_event moment (kinds.Sent r.sent to bytes) r)) → IsAt before w (sends_one moment to bytes r)
 went-out before w moment to bytes r works at =
     let r1 = hands_over to bytes (writes_event moment (kinds.Sent r.sent to bytes) r) in
     subst (λ (b : Bool). IsAt before w (cond b (writes_event moment (kinds.Lost r.sent) r1) r1)) works at
 
 -- it is lost, and that is written
-pub got-lost : (before : Before) (v : Kept) (link : Option LinkState) (taken after : Option (List ℕ)) (moments : List Moment) (sent number moment to : ℕ) (bytes : List ℕ) (r : Course)
+pub got-lost : (before : Before) (v : Kept) (link : Option LinkState) (taken after : Option (List ℕ)) (moments : List Moment) (sent number moment to : ℕ) (bytes : List ℕ) (r : ServeState)
     (answer : Result (Unit {0}) ServeFault) → true ≡ fails_next r.link → number ≡ r.sent
     → IsAt before (standing v link taken moments sent) (hands_over to bytes (writes_event moment (kinds.Sent r.sent to bytes) r))
     → WritesLine taken after (line_of (record { moment = moment; what = kinds.Lost number })) answer
@@ -58,43 +58,43 @@ got-lost before v link taken after moments sent number moment to bytes r answer 
 
 -- ---- one event
 
-pub tells-sends : (e : journal.Event) (d : ℕ × List ℕ) (r : Course) → datagram_in e.what ≡ Some d → tells r e ≡ sends_one e.moment d.0 d.1 r
+pub tells-sends : (e : journal.Event) (d : ℕ × List ℕ) (r : ServeState) → datagram_in e.what ≡ Some d → tells r e ≡ sends_one e.moment d.0 d.1 r
 unfolding tells
 tells-sends e d r is = ap (λ (x : Option (ℕ × List ℕ)). tells_what e.moment e.what x r) is
 
-pub tells-writes : (e : journal.Event) (r : Course) → datagram_in e.what ≡ None → tells r e ≡ writes (line_of e) r
+pub tells-writes : (e : journal.Event) (r : ServeState) → datagram_in e.what ≡ None → tells r e ≡ writes (line_of e) r
 unfolding tells
 tells-writes e r is = ap (λ (x : Option (ℕ × List ℕ)). tells_what e.moment e.what x r) is
 
-pub told-as : (before : Before) (w : Standing) (r r1 : Course) (answer : Result (Unit {0}) ServeFault) → r1 ≡ r → Tells before w r answer → Tells before w r1 answer
-told-as before w r r1 answer is h = subst (λ (x : Course). Tells before w x answer) (sym is) h
+pub told-as : (before : Before) (w : Standing) (r r1 : ServeState) (answer : Result (Unit {0}) ServeFault) → r1 ≡ r → Tells before w r answer → Tells before w r1 answer
+told-as before w r r1 answer is h = subst (λ (x : ServeState). Tells before w x answer) (sym is) h
 
 -- ---- events one after another
 
--- These events were told.
+-- These events were reported.
 pub record HasTold (v : Kept) (events : List journal.Event) (link later : Option LinkState) (taken after : Option (List ℕ)) (sent sent1 : ℕ) : Type 0 where
-  pub tells : (before : Before) (moments : List Moment) (r : Course) → IsAt before (standing v link taken moments sent) r → IsAt before (standing v later after moments sent1) (tells_all events r)
+  pub tells : (before : Before) (moments : List Moment) (r : ServeState) → IsAt before (standing v link taken moments sent) r → IsAt before (standing v later after moments sent1) (tells_all events r)
   pub extends : Extends taken after link later
 
 pub told-none : (v : Kept) (link : Option LinkState) (taken : Option (List ℕ)) (sent : ℕ) → HasTold v [] link link taken taken sent sent
 told-none v link taken sent = record { tells = λ before moments r at. at; extends = extends-refl taken link }
 
 pub told-next : (v : Kept) (done more : List journal.Event) (e : journal.Event) (l1 l2 l3 : Option LinkState) (t1 t2 t3 : Option (List ℕ)) (n1 n2 n3 : ℕ) → HasTold v done l1 l2 t1 t2 n1 n2 → more ≡ done ++ e ∷ []
-    → ((before : Before) (moments : List Moment) (r : Course) → IsAt before (standing v l2 t2 moments n2) r → IsAt before (standing v l3 t3 moments n3) (tells r e))
+    → ((before : Before) (moments : List Moment) (r : ServeState) → IsAt before (standing v l2 t2 moments n2) r → IsAt before (standing v l3 t3 moments n3) (tells r e))
     → Extends t2 t3 l2 l3 → HasTold v more l1 l3 t1 t3 n1 n3
 told-next v done more e l1 l2 l3 t1 t2 t3 n1 n2 n3 h is next extends = record {
   tells = λ before moments r at.
-      subst (λ (x : Course). IsAt before (standing v l3 t3 moments n3) x) (sym (ap (λ (es : List journal.Event). tells_all es r) is ∙ tells_all-append done (e ∷ []) r))
+      subst (λ (x : ServeState). IsAt before (standing v l3 t3 moments n3) x) (sym (ap (λ (es : List journal.Event). tells_all es r) is ∙ tells_all-append done (e ∷ []) r))
       (next before moments (tells_all done r) (h.tells before moments r at));
   extends = extends-trans t1 t2 t3 l1 l2 l3 h.extends extends;
 }
 
 -- one of them broke off
-pub told-part : (before : Before) (w : Standing) (done all rest : List journal.Event) (e : journal.Event) (r : Course) (fault : ServeFault) → all ≡ done ++ e ∷ rest
+pub told-part : (before : Before) (w : Standing) (done all rest : List journal.Event) (e : journal.Event) (r : ServeState) (fault : ServeFault) → all ≡ done ++ e ∷ rest
     → Tells before w (tells (tells_all done r) e) (Err fault) → Tells before w (tells_all all r) (Err fault)
 told-part before w done all rest e r fault is h =
     tells-more before w (tells (tells_all done r) e) (tells_all all r) fault h
-    (subst (λ (x : Course). Grows (tells (tells_all done r) e) x) (sym (ap (λ (es : List journal.Event). tells_all es r) is ∙ tells_all-append done (e ∷ rest) r)) (grows-tells_all rest (tells (tells_all done r) e)))
+    (subst (λ (x : ServeState). Grows (tells (tells_all done r) e) x) (sym (ap (λ (es : List journal.Event). tells_all es r) is ∙ tells_all-append done (e ∷ rest) r)) (grows-tells_all rest (tells (tells_all done r) e)))
 
 -- what a `?` hands on
 pub thrown : (r : Result (Unit {0}) ServeFault) (e : ServeFault) → IsErrAnd r (λ y. y ≡ e) → r ≡ Err e

@@ -6,7 +6,7 @@ use Rattle.node_rules.specs.Lives.{call_of}
 use Rattle.node_loop.specs.declared.fault.ServeFault.{ServeFault}
 use Rattle.node_loop.specs.declared.fault.ServeFault.TheVariants as faults
 use Rattle.node_loop.specs.Turns.{Act, Calls}
-use Rattle.node_loop.specs.Courses.{Course, gives, served, tells_all}
+use Rattle.node_loop.specs.Courses.{ServeState, gives, served, tells_all}
 use Rattle.node_loop.specs.Writing.{Before, IsBeyond, IsWithin, Standing, Stands}
 use Rattle.node_loop.specs.Serving.{IsStopped, IsWhole, BreaksOff, IsStarved, Serves, starves}
 use Rattle.node_loop.proofs.CourseLemmas.{Grows, grows-refl, grows-served, served-append}
@@ -18,24 +18,24 @@ split-within : (first acts last done later : List Act) (act : Act) → acts ≡ 
 split-within first acts last done later act e =
     ap (λ xs. first ++ (xs ++ last)) e ∙ ap (λ xs. first ++ xs) (append_assoc done (act ∷ later) last) ∙ sym (append_assoc first done (act ∷ (later ++ last)))
 
-stopped-within : (s : Setting) (first acts last : List Act) (start whole : Course) → IsStopped s acts (served s first start) whole → IsStopped s (first ++ (acts ++ last)) start whole
+stopped-within : (s : Setting) (first acts last : List Act) (start whole : ServeState) → IsStopped s acts (served s first start) whole → IsStopped s (first ++ (acts ++ last)) start whole
 stopped-within s first acts last start whole h = record {
   done = first ++ h.done;
   input = h.input;
   later = h.later ++ last;
   call = h.call;
   split = split-within first acts last h.done h.later (Calls h.input) h.split;
-  cut = subst (λ (r : Course). IsCut s r.node h.input h.call) (sym (served-append s first h.done start)) h.cut;
+  cut = subst (λ (r : ServeState). IsCut s r.node h.input h.call) (sym (served-append s first h.done start)) h.cut;
   is = h.is ∙ ap (gives h.call) (sym (served-append s first h.done start));
 }
 
 -- a course is within a longer one
-record Lengthened (s : Setting) (acts : List Act) (start whole : Course) : Type 0 where
-  longer : Course
+record Lengthened (s : Setting) (acts : List Act) (start whole : ServeState) : Type 0 where
+  longer : ServeState
   is : IsWhole s acts start longer
   grows : Grows whole longer
 
-whole-within : (s : Setting) (first acts last : List Act) (start whole : Course) → IsWhole s acts (served s first start) whole → Lengthened s (first ++ (acts ++ last)) start whole
+whole-within : (s : Setting) (first acts last : List Act) (start whole : ServeState) → IsWhole s acts (served s first start) whole → Lengthened s (first ++ (acts ++ last)) start whole
 whole-within s first acts last start whole (inl e) = record {
   longer = served s (first ++ (acts ++ last)) start;
   is = inl refl;
@@ -48,13 +48,13 @@ whole-within s first acts last start whole (inr h) = record {
   grows = grows-refl whole;
 }
 
-breaks-within : (s : Setting) (before : Before) (first acts last : List Act) (start : Course) (w : Standing)
+breaks-within : (s : Setting) (before : Before) (first acts last : List Act) (start : ServeState) (w : Standing)
     → BreaksOff s before acts (served s first start) w → BreaksOff s before (first ++ (acts ++ last)) start w
 breaks-within s before first acts last start w h =
     let l = whole-within s first acts last start h.whole h.is in
     record { whole = l.longer; is = l.is; within = within-grows before w h.whole l.longer h.within l.grows }
 
-starved-within : (s : Setting) (before : Before) (first acts last : List Act) (start : Course) (w : Standing)
+starved-within : (s : Setting) (before : Before) (first acts last : List Act) (start : ServeState) (w : Standing)
     → IsStarved s before acts (served s first start) w → IsStarved s before (first ++ (acts ++ last)) start w
 starved-within s before first acts last start w h = record {
   done = first ++ h.done;
@@ -66,17 +66,17 @@ starved-within s before first acts last start w h = record {
   there = h.there;
   knows = h.knows;
   spent = h.spent;
-  within = subst (λ (r : Course). IsWithin before w (tells_all (call_of s r.node h.input).told (starves h.there h.spent r))) (sym (served-append s first h.done start)) h.within;
+  within = subst (λ (r : ServeState). IsWithin before w (tells_all (call_of s r.node h.input).told (starves h.there h.spent r))) (sym (served-append s first h.done start)) h.within;
 }
 
-either-within : (s : Setting) (before : Before) (first acts last : List Act) (start : Course) (w : Standing)
+either-within : (s : Setting) (before : Before) (first acts last : List Act) (start : ServeState) (w : Standing)
     → BreaksOff s before acts (served s first start) w ⊎ IsStarved s before acts (served s first start) w
     → BreaksOff s before (first ++ (acts ++ last)) start w ⊎ IsStarved s before (first ++ (acts ++ last)) start w
 either-within s before first acts last start w (inl h) = inl (breaks-within s before first acts last start w h)
 either-within s before first acts last start w (inr h) = inr (starved-within s before first acts last start w h)
 
 -- what ended among some acts ended among all
-pub serves-within : (s : Setting) (before : Before) (first acts last : List Act) (start : Course) (w : Standing) (e : ServeFault)
+pub serves-within : (s : Setting) (before : Before) (first acts last : List Act) (start : ServeState) (w : Standing) (e : ServeFault)
     → Serves s before acts (served s first start) w (Err e) → Serves s before (first ++ (acts ++ last)) start w (Err e)
 serves-within s before first acts last start w faults.StoreFault h = record {
   whole = h.whole;
@@ -87,7 +87,7 @@ serves-within s before first acts last start w faults.WriteFault h = either-with
 serves-within s before first acts last start w faults.OutOfMemory h = either-within s before first acts last start w h
 
 -- the last of the acts
-pub serves-last : (s : Setting) (before : Before) (first acts : List Act) (start : Course) (w : Standing) (answer : Result (Unit {0}) ServeFault)
+pub serves-last : (s : Setting) (before : Before) (first acts : List Act) (start : ServeState) (w : Standing) (answer : Result (Unit {0}) ServeFault)
     → Serves s before acts (served s first start) w answer → Serves s before (first ++ acts) start w answer
 serves-last s before first acts start w (Ok x) h = subst (λ r. Stands s before w r) (sym (served-append s first acts start)) h
 serves-last s before first acts start w (Err e) h =
@@ -95,7 +95,7 @@ serves-last s before first acts start w (Err e) h =
     subst P (append-nil acts) (serves-within s before first acts [] start w e h)
 
 -- a front of what the acts write and give
-pub breaks-off : (s : Setting) (before : Before) (acts : List Act) (start r : Course) (w : Standing) → IsWithin before w r → Grows r (served s acts start)
+pub breaks-off : (s : Setting) (before : Before) (acts : List Act) (start r : ServeState) (w : Standing) → IsWithin before w r → Grows r (served s acts start)
     → BreaksOff s before acts start w
 breaks-off s before acts start r w h g = record {
   whole = served s acts start;

@@ -12,7 +12,7 @@ use Rattle.signer.specs.Lives.{Spent}
 use Rattle.node_rules.specs.Nodes.{Setting}
 use Rattle.node_loop.specs.declared.fault.ServeFault.{ServeFault}
 use Rattle.node_loop.specs.declared.fault.ServeFault.TheVariants as faults
-use Rattle.node_loop.specs.Courses.{Course, writes, fails_next}
+use Rattle.node_loop.specs.Courses.{ServeState, writes, fails_next}
 use Rattle.node_loop.specs.Writing.{Before, Standing, standing, IsAt, IsWithin, IsBeyond, Tells, WritesLine, HandsOver, KeepsGiven, Extends}
 use Rattle.node_loop.proofs.CourseLemmas.{Grows, front-refl, front-trans}
 use Rattle.std.specs.Option.{option_map}
@@ -24,7 +24,7 @@ use Rattle.node_loop.proofs.CourseLemmas.{front-append}
 
 -- ---- what stands within a course
 
-pub within-grows : (before : Before) (w : Standing) (r whole : Course) → IsWithin before w r → Grows r whole → IsWithin before w whole
+pub within-grows : (before : Before) (w : Standing) (r whole : ServeState) → IsWithin before w r → Grows r whole → IsWithin before w whole
 within-grows before w r whole h g = record {
   text = h.text;
   front = front-trans h.text r.text whole.text h.front g.text;
@@ -37,7 +37,7 @@ within-grows before w r whole h g = record {
   key = h.key;
 }
 
-pub at-within : (before : Before) (w : Standing) (r : Course) → IsAt before w r → IsWithin before w r
+pub at-within : (before : Before) (w : Standing) (r : ServeState) → IsAt before w r → IsWithin before w r
 at-within before w r at = record {
   text = r.text;
   front = front-refl r.text;
@@ -51,7 +51,7 @@ at-within before w r at = record {
 }
 
 -- what broke off within a course broke off within a longer one
-pub tells-more : (before : Before) (w : Standing) (r whole : Course) (e : ServeFault)
+pub tells-more : (before : Before) (w : Standing) (r whole : ServeState) (e : ServeFault)
     → Tells before w r (Err e) → Grows r whole → Tells before w whole (Err e)
 tells-more before w r whole faults.StoreFault h g = h
 tells-more before w r whole faults.WriteFault h g = within-grows before w r whole h g
@@ -59,7 +59,7 @@ tells-more before w r whole faults.OutOfMemory h g = within-grows before w r who
 
 -- ---- lines
 
-pub written : (before : Before) (v : Kept) (link : Option LinkState) (taken after : Option (List ℕ)) (moments : List Moment) (sent : ℕ) (line : List ℕ) (r : Course)
+pub written : (before : Before) (v : Kept) (link : Option LinkState) (taken after : Option (List ℕ)) (moments : List Moment) (sent : ℕ) (line : List ℕ) (r : ServeState)
     (answer : Result (Unit {0}) ServeFault) → IsAt before (standing v link taken moments sent) r → WritesLine taken after line answer
     → Tells before (standing v link after moments sent) (writes line r) answer
 written before v link taken after moments sent line r (Ok x) at wrote = record {
@@ -98,7 +98,7 @@ written before v link taken after moments sent line r (Err faults.OutOfMemory) a
 
 -- ---- datagrams
 
-pub port-of : (before : Before) (w : Standing) (r : Course) (to : ℕ) → IsAt before w r
+pub port-of : (before : Before) (w : Standing) (r : ServeState) (to : ℕ) → IsAt before w r
     → unwrap_or (option_map (λ c. c.port) (kept_certificate w.node.roster to)) 0 ≡ port_in r.node to
 port-of before w r to at = ap (λ c. unwrap_or (option_map (λ x. x.port) c) 0) (at.knows to)
 
@@ -111,7 +111,7 @@ refused-by : (port : ℕ) (bytes : List ℕ) (was : LinkState) (link after : Opt
 refused-by port bytes was link after e is h = let P : Option LinkState → Type 0 = λ x. HandsOver port bytes x after (Err e) in subst P is h
 
 -- the datagram was given
-pub handed : (before : Before) (v : Kept) (link after : Option LinkState) (taken : Option (List ℕ)) (moments : List Moment) (sent to : ℕ) (bytes : List ℕ) (r : Course) (lost : Bool)
+pub handed : (before : Before) (v : Kept) (link after : Option LinkState) (taken : Option (List ℕ)) (moments : List Moment) (sent to : ℕ) (bytes : List ℕ) (r : ServeState) (lost : Bool)
     → IsAt before (standing v link taken moments sent) r → HandsOver (unwrap_or (option_map (λ c. c.port) (kept_certificate v.roster to)) 0) bytes link after (Ok lost)
     → IsAt before (standing v after taken moments (next_count sent)) (hands_over to bytes r)
 handed before v link after taken moments sent to bytes r lost at h =
@@ -125,12 +125,12 @@ handed before v link after taken moments sent to bytes r lost at h =
       key = at.key;
     }
 
-pub lost-is : (before : Before) (v : Kept) (link after : Option LinkState) (taken : Option (List ℕ)) (moments : List Moment) (sent port : ℕ) (bytes : List ℕ) (r : Course) (lost : Bool)
+pub lost-is : (before : Before) (v : Kept) (link after : Option LinkState) (taken : Option (List ℕ)) (moments : List Moment) (sent port : ℕ) (bytes : List ℕ) (r : ServeState) (lost : Bool)
     → IsAt before (standing v link taken moments sent) r → HandsOver port bytes link after (Ok lost) → lost ≡ fails_next r.link
 lost-is before v link after taken moments sent port bytes r lost at h = (given-by port bytes r.link link after lost at.link h).0
 
 -- memory was refused for the datagram
-pub not-handed : (before : Before) (v : Kept) (link after : Option LinkState) (taken : Option (List ℕ)) (moments : List Moment) (sent port : ℕ) (bytes : List ℕ) (r : Course) (e : NoMemory)
+pub not-handed : (before : Before) (v : Kept) (link after : Option LinkState) (taken : Option (List ℕ)) (moments : List Moment) (sent port : ℕ) (bytes : List ℕ) (r : ServeState) (e : NoMemory)
     → IsAt before (standing v link taken moments sent) r → HandsOver port bytes link after (Err e) → IsWithin before (standing v after taken moments sent) r
 not-handed before v link after taken moments sent port bytes r e at h = record {
   text = r.text;
@@ -184,7 +184,7 @@ pub extends-handed : (taken : Option (List ℕ)) (port : ℕ) (bytes : List ℕ)
 extends-handed taken port bytes link after answer h = record { text = []; written = Appends-nil taken; given = keeps-handed port bytes link after answer h }
 
 -- a course that the link and the sink stood at is a front of what stands
-pub beyond : (before : Before) (v v1 : Kept) (link later : Option LinkState) (taken after : Option (List ℕ)) (older newer : List Moment) (sent sent1 : ℕ) (r : Course) (spent : List Spent)
+pub beyond : (before : Before) (v v1 : Kept) (link later : Option LinkState) (taken after : Option (List ℕ)) (older newer : List Moment) (sent sent1 : ℕ) (r : ServeState) (spent : List Spent)
     → IsAt before (standing v link taken older sent) r → Extends taken after link later → LivesOn spent v.signer v1.signer older newer → IsBeyond before (standing v1 later after newer sent1) r
 beyond before v v1 link later taken after older newer sent sent1 r spent at more lives =
     let P : Option LinkState → Type 0 = λ o. KeepsGiven o later in

@@ -18,7 +18,7 @@ use Rattle.journal.specs.declared.turn.Heard.TheVariants as heard
 use Rattle.journal.specs.declared.turn.Turn.{Turn}
 use Rattle.journal.specs.Turns.{turn_text}
 use Rattle.node_loop.specs.Turns.{Act, Receives, Writes, Calls, Outlook, after_turn, life_acts, delivery_of, heard_of, ticks_in, ticks_of, ticks_owed, turn_acts, turn_in, turns_from}
-use Rattle.node_loop.specs.Courses.{Course, acted, served, served_from, with_feed, writes}
+use Rattle.node_loop.specs.Courses.{ServeState, acted, served, served_from, with_feed, writes}
 use Rattle.node_loop.specs.Writing.{Before, Hears, IsWithin, Standing, Stands, Tells, before_all, standing}
 use Rattle.node_loop.specs.Serving.{Sees, Serves}
 use Rattle.node_loop.proofs.CourseLemmas.{Grows, coming-turn, front-refl, grows-served, served-append, served-cons, served-nil}
@@ -42,22 +42,22 @@ ticks-split done all lt =
     let e : done + (1 + rest) ≡ all = omega (arith, lt) in
     ap (λ xs. ticks_of done ++ xs) (ticks-more 1 rest) ∙ ticks-more done (1 + rest) ∙ ap ticks_of e
 
-pub ticked-none : (s : Setting) (before : Before) (w : Standing) (r : Course) → Stands s before w r → Stands s before w (served s (ticks_of 0) r)
+pub ticked-none : (s : Setting) (before : Before) (w : Standing) (r : ServeState) → Stands s before w r → Stands s before w (served s (ticks_of 0) r)
 ticked-none s before w r at = subst (λ x. Stands s before w x) (sym (served-nil s r)) at
 
-pub ticked-on : (s : Setting) (before : Before) (w : Standing) (r : Course) (done : ℕ) → Stands s before w (served s (Calls Ticks ∷ []) (served s (ticks_of done) r)) → Stands s before w (served s (ticks_of (done + 1)) r)
+pub ticked-on : (s : Setting) (before : Before) (w : Standing) (r : ServeState) (done : ℕ) → Stands s before w (served s (Calls Ticks ∷ []) (served s (ticks_of done) r)) → Stands s before w (served s (ticks_of (done + 1)) r)
 ticked-on s before w r done at =
     subst (λ x. Stands s before w x) (sym (served-append s (ticks_of done) (Calls Ticks ∷ []) r) ∙ ap (λ acts. served s acts r) (ticks-one done)) at
 
 -- a tick ended among them
-pub tick-ended : (s : Setting) (before : Before) (w : Standing) (r : Course) (done all : ℕ) (e : ServeFault) → done < all → Serves s before (Calls Ticks ∷ []) (served s (ticks_of done) r) w (Err e) → Serves s before (ticks_of all) r w (Err e)
+pub tick-ended : (s : Setting) (before : Before) (w : Standing) (r : ServeState) (done all : ℕ) (e : ServeFault) → done < all → Serves s before (Calls Ticks ∷ []) (served s (ticks_of done) r) w (Err e) → Serves s before (ticks_of all) r w (Err e)
 tick-ended s before w r done all e lt h =
     subst (λ acts. Serves s before acts r w (Err e)) (ticks-split done all lt) (serves-within s before (ticks_of done) (Calls Ticks ∷ []) (ticks_of (all - (done + 1))) r w e h)
 
 -- ---- the parts of a turn
 
 -- what was heard
-pub at-heard : (s : Setting) (before : Before) (v : Kept) (link after : Option LinkState) (taken : Option (List ℕ)) (moments : List Moment) (sent : ℕ) (r : Course) (came : Heard)
+pub at-heard : (s : Setting) (before : Before) (v : Kept) (link after : Option LinkState) (taken : Option (List ℕ)) (moments : List Moment) (sent : ℕ) (r : ServeState) (came : Heard)
     → Stands s before (standing v link taken moments sent) r → Hears link after (Ok came) → Stands s before (standing v after taken moments sent) (acted s r Receives)
 at-heard s before v link after taken moments sent r came at h =
     let P : Option LinkState → Type 0 = λ o. Hears o after (Ok came) in
@@ -66,12 +66,12 @@ at-heard s before v link after taken moments sent r came at h =
       at = record { knows = at.at.knows; link = (subst P at.at.link h).1; text = at.at.text; sent = at.at.sent; key = at.at.key };
     }
 
-pub heard-is : (s : Setting) (before : Before) (v : Kept) (link after : Option LinkState) (taken : Option (List ℕ)) (moments : List Moment) (sent : ℕ) (r : Course) (came : Heard)
+pub heard-is : (s : Setting) (before : Before) (v : Kept) (link after : Option LinkState) (taken : Option (List ℕ)) (moments : List Moment) (sent : ℕ) (r : ServeState) (came : Heard)
     → Stands s before (standing v link taken moments sent) r → Hears link after (Ok came) → came ≡ heard_of (next_of r.link.coming)
 heard-is s before v link after taken moments sent r came at h =
     let P : Option LinkState → Type 0 = λ o. Hears o after (Ok came) in (subst P at.at.link h).0
 
-pub within-unheard : (s : Setting) (before : Before) (v : Kept) (link after : Option LinkState) (taken : Option (List ℕ)) (moments : List Moment) (sent : ℕ) (r : Course) (e : NoMemory)
+pub within-unheard : (s : Setting) (before : Before) (v : Kept) (link after : Option LinkState) (taken : Option (List ℕ)) (moments : List Moment) (sent : ℕ) (r : ServeState) (e : NoMemory)
     → Stands s before (standing v link taken moments sent) r → Hears link after (Err e) → IsWithin before (standing v after taken moments sent) r
 within-unheard s before v link after taken moments sent r e at h =
     let P : Option LinkState → Type 0 = λ o. Hears o after (Err e) in
@@ -87,13 +87,13 @@ within-unheard s before v link after taken moments sent r e at h =
       key = at.at.key;
     }
 
-served-line : (s : Setting) (turn : Turn) (r : Course)
+served-line : (s : Setting) (turn : Turn) (r : ServeState)
     → served s (turn_acts turn) r ≡ served s (delivery_of turn.heard ++ ticks_of turn.ticks) (writes (with_feed (turn_text turn)) (acted s r Receives))
 served-line s turn r =
     let rest = delivery_of turn.heard ++ ticks_of turn.ticks in
     served-cons s Receives (Writes (turn_text turn) ∷ rest) r ∙ served-cons s (Writes (turn_text turn)) rest (acted s r Receives)
 
-grows-line : (s : Setting) (turn : Turn) (r : Course) → Grows (writes (with_feed (turn_text turn)) (acted s r Receives)) (served s (turn_acts turn) r)
+grows-line : (s : Setting) (turn : Turn) (r : ServeState) → Grows (writes (with_feed (turn_text turn)) (acted s r Receives)) (served s (turn_acts turn) r)
 grows-line s turn r =
     let r2 = writes (with_feed (turn_text turn)) (acted s r Receives) in
     subst (λ x. Grows r2 x) (sym (served-line s turn r)) (grows-served s (delivery_of turn.heard ++ ticks_of turn.ticks) r2)
@@ -103,19 +103,19 @@ pub nothing-delivered : (came : Heard) → (came ≡ heard.Nothing) ⊎ (came �
 nothing-delivered came (inl is) = ap delivery_of is
 nothing-delivered came (inr is) = ap delivery_of is
 
-pub undelivered : (s : Setting) (before : Before) (w : Standing) (r : Course) (came : Heard) → (came ≡ heard.Nothing) ⊎ (came ≡ heard.Failed) → Stands s before w r → Stands s before w (served s (delivery_of came) r)
+pub undelivered : (s : Setting) (before : Before) (w : Standing) (r : ServeState) (came : Heard) → (came ≡ heard.Nothing) ⊎ (came ≡ heard.Failed) → Stands s before w r → Stands s before w (served s (delivery_of came) r)
 undelivered s before w r came nothing at = subst (λ x. Stands s before w x) (sym (ap (λ acts. served s acts r) (nothing-delivered came nothing) ∙ served-nil s r)) at
 
 -- the turn that was made is the one that was due
-pub turn-due : (s : Setting) (before : Before) (r : Course) (w : Standing) (made due : Turn) (answer : Result (Unit {0}) ServeFault) → made ≡ due → Serves s before (turn_acts made) r w answer → Serves s before (turn_acts due) r w answer
+pub turn-due : (s : Setting) (before : Before) (r : ServeState) (w : Standing) (made due : Turn) (answer : Result (Unit {0}) ServeFault) → made ≡ due → Serves s before (turn_acts made) r w answer → Serves s before (turn_acts due) r w answer
 turn-due s before r w made due answer is h = subst (λ (t : Turn). Serves s before (turn_acts t) r w answer) is h
 
 -- memory was refused for what was heard
-pub unheard-turn : (s : Setting) (before : Before) (w : Standing) (r : Course) (acts : List Act) → IsWithin before w r → Serves s before acts r w (Err faults.OutOfMemory)
+pub unheard-turn : (s : Setting) (before : Before) (w : Standing) (r : ServeState) (acts : List Act) → IsWithin before w r → Serves s before acts r w (Err faults.OutOfMemory)
 unheard-turn s before w r acts h = inl (breaks-off s before acts r r w h (grows-served s acts r))
 
 -- the turn's line broke off
-pub unwritten-turn : (s : Setting) (before : Before) (w : Standing) (r : Course) (turn : Turn) (e : ServeFault)
+pub unwritten-turn : (s : Setting) (before : Before) (w : Standing) (r : ServeState) (turn : Turn) (e : ServeFault)
     → Tells before w (writes (with_feed (turn_text turn)) (acted s r Receives)) (Err e) → Serves s before (turn_acts turn) r w (Err e)
 unwritten-turn s before w r turn faults.StoreFault h = absurd h
 unwritten-turn s before w r turn faults.WriteFault h = inl (breaks-off s before (turn_acts turn) r _ w h (grows-line s turn r))
@@ -124,20 +124,20 @@ unwritten-turn s before w r turn faults.OutOfMemory h = inl (breaks-off s before
 abbrev begun_acts : Turn → List Act
 begun_acts turn = Receives ∷ Writes (turn_text turn) ∷ []
 
-served-begun : (s : Setting) (turn : Turn) (r : Course) → served s (begun_acts turn) r ≡ writes (with_feed (turn_text turn)) (acted s r Receives)
+served-begun : (s : Setting) (turn : Turn) (r : ServeState) → served s (begun_acts turn) r ≡ writes (with_feed (turn_text turn)) (acted s r Receives)
 served-begun s turn r =
     served-cons s Receives (Writes (turn_text turn) ∷ []) r ∙ served-cons s (Writes (turn_text turn)) [] (acted s r Receives)
     ∙ served-nil s (writes (with_feed (turn_text turn)) (acted s r Receives))
 
 -- the delivery ended the turn
-pub undelivered-turn : (s : Setting) (before : Before) (w : Standing) (r : Course) (turn : Turn) (e : ServeFault)
+pub undelivered-turn : (s : Setting) (before : Before) (w : Standing) (r : ServeState) (turn : Turn) (e : ServeFault)
     → Serves s before (delivery_of turn.heard) (writes (with_feed (turn_text turn)) (acted s r Receives)) w (Err e) → Serves s before (turn_acts turn) r w (Err e)
 undelivered-turn s before w r turn e h =
     serves-within s before (begun_acts turn) (delivery_of turn.heard) (ticks_of turn.ticks) r w e
     (subst (λ x. Serves s before (delivery_of turn.heard) x w (Err e)) (sym (served-begun s turn r)) h)
 
 -- the ticks of the turn
-pub ticked-turn : (s : Setting) (before : Before) (w : Standing) (r : Course) (turn : Turn) (answer : Result (Unit {0}) ServeFault)
+pub ticked-turn : (s : Setting) (before : Before) (w : Standing) (r : ServeState) (turn : Turn) (answer : Result (Unit {0}) ServeFault)
     → Serves s before (ticks_of turn.ticks) (served s (delivery_of turn.heard) (writes (with_feed (turn_text turn)) (acted s r Receives))) w answer
     → Serves s before (turn_acts turn) r w answer
 ticked-turn s before w r turn answer h =
@@ -150,7 +150,7 @@ ticked-turn s before w r turn answer h =
 -- ---- the turns
 
 -- the clock was read
-pub read-next : (o : Outlook) (r : Course) (reading : ℕ) (readings after : Option (List ℕ)) (made result : ℕ) → Sees o r reading readings made → ReadsClock reading readings after result
+pub read-next : (o : Outlook) (r : ServeState) (reading : ℕ) (readings after : Option (List ℕ)) (made result : ℕ) → Sees o r reading readings made → ReadsClock reading readings after result
     → (result ≡ next_reading o.reading o.readings) × (after ≡ Some (drop 1 o.readings))
 read-next o r reading readings after made result sees h =
     let P : Option (List ℕ) → Type 0 = λ x. ReadsClock reading x after result in
@@ -158,7 +158,7 @@ read-next o r reading readings after made result sees h =
     (taken.read ∙ ap (λ k. next_reading k o.readings) sees.reading, taken.left)
 
 -- the outlook behind a turn
-pub sees-after : (s : Setting) (millis base number : ℕ) (o : Outlook) (r : Course) (reading : ℕ) (readings : Option (List ℕ)) (made now : ℕ) (later : Option (List ℕ)) (made1 : ℕ)
+pub sees-after : (s : Setting) (millis base number : ℕ) (o : Outlook) (r : ServeState) (reading : ℕ) (readings : Option (List ℕ)) (made now : ℕ) (later : Option (List ℕ)) (made1 : ℕ)
     → Sees o r reading readings made → now ≡ next_reading o.reading o.readings → later ≡ Some (drop 1 o.readings) → made1 ≡ made + (turn_in millis base number o).ticks
     → Sees (after_turn millis base o) (served s (turn_acts (turn_in millis base number o)) r) now later made1
 sees-after s millis base number o r reading readings made now later made1 sees is left more = record {
@@ -169,7 +169,7 @@ sees-after s millis base number o r reading readings made now later made1 sees i
 }
 
 -- what was heard and how many ticks are made is the turn that is due
-pub seen-turn : (millis base number : ℕ) (o : Outlook) (r : Course) (reading : ℕ) (readings later : Option (List ℕ)) (made now ticks : ℕ) (came : Heard)
+pub seen-turn : (millis base number : ℕ) (o : Outlook) (r : ServeState) (reading : ℕ) (readings later : Option (List ℕ)) (made now ticks : ℕ) (came : Heard)
     → Sees o r reading readings made → ReadsClock reading readings later now → came ≡ heard_of (next_of r.link.coming) → ticks ≡ ticks_owed millis base made now
     → record { number = number; heard = came; ticks = ticks } ≡ turn_in millis base number o
 seen-turn millis base number o r reading readings later made now ticks came sees read is owed =
@@ -185,7 +185,7 @@ on-any (Ok x) P p = p
 on-any (Err e) P p = record {}
 
 -- some turns were made, and the rest is to come
-pub record Turned (s : Setting) (before : Before) (millis base all done : ℕ) (o : Outlook) (start : Course) (w : Standing) (reading : ℕ) (readings : Option (List ℕ)) (made : ℕ) : Type 0 where
+pub record Turned (s : Setting) (before : Before) (millis base all done : ℕ) (o : Outlook) (start : ServeState) (w : Standing) (reading : ℕ) (readings : Option (List ℕ)) (made : ℕ) : Type 0 where
   pub acts : List Act
   pub outlook : Outlook
   pub split : turns_from millis base all 1 o ≡ acts ++ turns_from millis base (all - done) (done + 1) outlook
@@ -195,7 +195,7 @@ pub record Turned (s : Setting) (before : Before) (millis base all done : ℕ) (
 turns-none : (millis base all : ℕ) (o : Outlook) → turns_from millis base all 1 o ≡ turns_from millis base (all - 0) (0 + 1) o
 turns-none millis base all o = let e : all ≡ all - 0 = omega arith in ap (λ k. turns_from millis base k 1 o) e
 
-pub turned-first : (s : Setting) (before : Before) (millis base all : ℕ) (o : Outlook) (start : Course) (w : Standing) (reading : ℕ) (readings : Option (List ℕ)) (made : ℕ)
+pub turned-first : (s : Setting) (before : Before) (millis base all : ℕ) (o : Outlook) (start : ServeState) (w : Standing) (reading : ℕ) (readings : Option (List ℕ)) (made : ℕ)
     → Stands s before w start → Sees o start reading readings made → Turned s before millis base all 0 o start w reading readings made
 turned-first s before millis base all o start w reading readings made at sees = record {
   acts = [];
@@ -211,12 +211,12 @@ turns-step millis base all done o lt =
     let e : all - done ≡ suc (all - (done + 1)) = omega (arith, lt) in
     ap (λ k. turns_from millis base k (done + 1) o) e
 
-split-step : (s : Setting) (before : Before) (millis base all done : ℕ) (o : Outlook) (start : Course) (w : Standing) (reading : ℕ) (readings : Option (List ℕ)) (made : ℕ)
+split-step : (s : Setting) (before : Before) (millis base all done : ℕ) (o : Outlook) (start : ServeState) (w : Standing) (reading : ℕ) (readings : Option (List ℕ)) (made : ℕ)
     → done < all → (t : Turned s before millis base all done o start w reading readings made)
     → turns_from millis base all 1 o ≡ t.acts ++ (turn_acts (turn_in millis base (done + 1) t.outlook) ++ turns_from millis base (all - (done + 1)) (done + 1 + 1) (after_turn millis base t.outlook))
 split-step s before millis base all done o start w reading readings made lt t = t.split ∙ ap (λ xs. t.acts ++ xs) (turns-step millis base all done t.outlook lt)
 
-pub turned-next : (s : Setting) (before : Before) (millis base all done : ℕ) (o : Outlook) (start : Course) (w w1 : Standing) (reading now : ℕ) (readings later : Option (List ℕ)) (made made1 : ℕ)
+pub turned-next : (s : Setting) (before : Before) (millis base all done : ℕ) (o : Outlook) (start : ServeState) (w w1 : Standing) (reading now : ℕ) (readings later : Option (List ℕ)) (made made1 : ℕ)
     → done < all → (t : Turned s before millis base all done o start w reading readings made)
     → Stands s before w1 (served s (turn_acts (turn_in millis base (done + 1) t.outlook)) (served s t.acts start))
     → Sees (after_turn millis base t.outlook) (served s (turn_acts (turn_in millis base (done + 1) t.outlook)) (served s t.acts start)) now later made1
@@ -232,7 +232,7 @@ turned-next s before millis base all done o start w w1 reading now readings late
       sees = subst (λ r. Sees (after_turn millis base t.outlook) r now later made1) is sees;
     }
 
-pub turned-ends : (s : Setting) (before : Before) (millis base all done : ℕ) (o : Outlook) (start : Course) (w w1 : Standing) (reading : ℕ) (readings : Option (List ℕ)) (made : ℕ) (e : ServeFault)
+pub turned-ends : (s : Setting) (before : Before) (millis base all done : ℕ) (o : Outlook) (start : ServeState) (w w1 : Standing) (reading : ℕ) (readings : Option (List ℕ)) (made : ℕ) (e : ServeFault)
     → done < all → (t : Turned s before millis base all done o start w reading readings made)
     → Serves s before (turn_acts (turn_in millis base (done + 1) t.outlook)) (served s t.acts start) w1 (Err e)
     → Serves s before (turns_from millis base all 1 o) start w1 (Err e)
@@ -242,7 +242,7 @@ turned-ends s before millis base all done o start w w1 reading readings made e l
     let P : List Act → Type 0 = λ xs. Serves s before xs start w1 (Err e) in
     subst P (sym (split-step s before millis base all done o start w reading readings made lt t)) (serves-within s before t.acts acts rest start w1 e h)
 
-pub turned-last : (s : Setting) (before : Before) (millis base all : ℕ) (o : Outlook) (start : Course) (w : Standing) (reading : ℕ) (readings : Option (List ℕ)) (made : ℕ)
+pub turned-last : (s : Setting) (before : Before) (millis base all : ℕ) (o : Outlook) (start : ServeState) (w : Standing) (reading : ℕ) (readings : Option (List ℕ)) (made : ℕ)
     → Turned s before millis base all all o start w reading readings made → Stands s before w (served s (turns_from millis base all 1 o) start)
 turned-last s before millis base all o start w reading readings made t =
     let e : all - all ≡ 0 = omega arith in

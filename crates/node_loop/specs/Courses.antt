@@ -16,7 +16,7 @@ use Rattle.node_rules.specs.Lives.{Input, Delivers, Ticks, call_of}
 use Rattle.node_loop.specs.Turns.{Act, Receives, Writes, Calls}
 
 -- The node, the link, how many datagrams were sent, which signatures were made, and what was written.
-pub record Course : Type 0 where
+pub record ServeState : Type 0 where
   pub node : Node
   pub link : LinkState
   pub sent : ℕ
@@ -24,7 +24,7 @@ pub record Course : Type 0 where
   pub text : List ℕ
 
 -- as a life begins to be served
-abbrev pub served_from : Node → LinkState → Course
+abbrev pub served_from : Node → LinkState → ServeState
 served_from n link = record { node = n; link = link; sent = 0; spent = []; text = [] }
 
 -- ---- events
@@ -35,10 +35,10 @@ with_feed line = line ++ 10 ∷ []
 abbrev pub line_of : journal.Event → List ℕ
 line_of e = with_feed (event_text e)
 
-abbrev pub writes : List ℕ → Course → Course
+abbrev pub writes : List ℕ → ServeState → ServeState
 writes line r = record r { text = r.text ++ line }
 
-abbrev pub writes_event : ℕ → whats.What → Course → Course
+abbrev pub writes_event : ℕ → whats.What → ServeState → ServeState
 writes_event moment what r = writes (line_of (record { moment = moment; what = what })) r
 
 -- The port in the member's certificate, or 0 where it has none.
@@ -50,39 +50,39 @@ abbrev pub fails_next : LinkState → Bool
 fails_next link = is_failing link.failing (length link.given)
 
 -- The datagram is given to the link, for the addressee's port.
-abbrev pub hands_over : ℕ → List ℕ → Course → Course
+abbrev pub hands_over : ℕ → List ℕ → ServeState → ServeState
 hands_over to bytes r = record r { link = with_given (port_in r.node to) bytes r.link; sent = next_count r.sent }
 
--- whom a datagram went to, and its bytes, where the event tells of one
+-- whom a datagram went to, and its bytes, where the event reports one
 abbrev pub datagram_in : whats.What → Option (ℕ × List ℕ)
 datagram_in (told.Sent number to bytes) = Some (to, bytes)
 datagram_in other = None
 
 -- A datagram has the number of those sent before it in the life. Its line is written, it is given to the link, and where
 -- its send fails that is written too.
-abbrev pub sends_one : ℕ → ℕ → List ℕ → Course → Course
+abbrev pub sends_one : ℕ → ℕ → List ℕ → ServeState → ServeState
 sends_one moment to bytes r =
     let r1 = hands_over to bytes (writes_event moment (told.Sent r.sent to bytes) r) in
     if fails_next r.link then writes_event moment (told.Lost r.sent) r1 else r1
 
-abbrev pub tells_what : ℕ → whats.What → Option (ℕ × List ℕ) → Course → Course
+abbrev pub tells_what : ℕ → whats.What → Option (ℕ × List ℕ) → ServeState → ServeState
 tells_what moment what (Some datagram) r = sends_one moment datagram.0 datagram.1 r
 tells_what moment what None r = writes_event moment what r
 
-unfoldable pub tells : Course → journal.Event → Course
+unfoldable pub tells : ServeState → journal.Event → ServeState
 tells r e = tells_what e.moment e.what (datagram_in e.what) r
 
-abbrev pub tells_all : List journal.Event → Course → Course
+abbrev pub tells_all : List journal.Event → ServeState → ServeState
 tells_all events r = fold tells r events
 
 -- ---- acts
 
--- The node stands where the call does, which made the signatures that it tells of.
-abbrev pub moves : Call → Course → Course
+-- The node stands where the call does, which made the signatures that it reports.
+abbrev pub moves : Call → ServeState → ServeState
 moves c r = record r { node = c.node; spent = r.spent ++ spent_told c.told }
 
--- The node stands where the call does, and what the call told is told.
-unfoldable pub gives : Call → Course → Course
+-- The node stands where the call does, and what the call reported is reported.
+unfoldable pub gives : Call → ServeState → ServeState
 gives c r = tells_all c.told (moves c r)
 
 -- a tick can be counted
@@ -90,15 +90,15 @@ abbrev pub may_tick : Setting → Node → Bool
 may_tick s n = nat_lt (state_of s n).moment 18446744073709551615
 
 -- A life that counted 2^64 - 1 ticks makes no more.
-abbrev pub called : Setting → Input → Course → Course
+abbrev pub called : Setting → Input → ServeState → ServeState
 called s (Delivers bytes) r = gives (call_of s r.node (Delivers bytes)) r
 called s Ticks r = if may_tick s r.node then gives (call_of s r.node Ticks) r else r
 
-abbrev pub acted : Setting → Course → Act → Course
+abbrev pub acted : Setting → ServeState → Act → ServeState
 acted s r Receives = record r { link = received_from r.link }
 acted s r (Writes line) = writes (with_feed line) r
 acted s r (Calls input) = called s input r
 
 -- The course of a life behind these acts.
-unfoldable pub served : Setting → List Act → Course → Course
+unfoldable pub served : Setting → List Act → ServeState → ServeState
 served s acts r = fold (acted s) r acts

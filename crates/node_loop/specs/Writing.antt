@@ -11,7 +11,7 @@ use Rattle.signer.specs.Lives.{Spent}
 use Rattle.signer.specs.Signing.{SignerState}
 use Rattle.node_core.specs.Playing.{Kept, IsNode}
 use Rattle.node_core.specs.Spending.{LivesOn}
-use Rattle.node_core.specs.Told.{IsFront}
+use Rattle.node_core.specs.Told.{IsPrefix}
 use Rattle.node_rules.specs.Nodes.{Setting, certificate_of}
 use Rattle.validate.specs.Certified.{certificate_of as kept_certificate}
 use Rattle.node_loop.specs.declared.fault.ServeFault.{ServeFault}
@@ -19,7 +19,7 @@ use Rattle.node_loop.specs.declared.fault.ServeFault.TheVariants as faults
 use Rattle.journal.specs.declared.turn.Heard.{Heard}
 use Rattle.journal.specs.declared.turn.Heard.TheVariants as heard
 use Rattle.node_loop.specs.Turns.{heard_of}
-use Rattle.node_loop.specs.Courses.{Course, fails_next}
+use Rattle.node_loop.specs.Courses.{ServeState, fails_next}
 
 abbrev pub is_write_fault : {T : Type 0} → Result T ServeFault → Bool
 is_write_fault (Ok value) = false
@@ -65,7 +65,7 @@ Hears None after answer = after ≡ None
 Hears (Some link) after (Ok came) = (came ≡ heard_of (next_of link.coming)) × (after ≡ Some (received_from link))
 Hears (Some link) after (Err refused) = after ≡ Some (received_from link)
 
--- What stands: the node, what the link, the sink and the disk tell, and how many datagrams were sent.
+-- What stands: the node, what is modelled of the link, the sink and the disk, and how many datagrams were sent.
 pub record Standing : Type 0 where
   pub node : Kept
   pub link : Option LinkState
@@ -95,7 +95,7 @@ pub record GoesOn (old new : SignerState) (older newer : List Moment) : Type 0 w
   pub key : LivesOn spent old new older newer
 
 -- It stands where the course is, behind what there was before; of the node, its certificates are those of the course's.
-pub record IsAt (before : Before) (w : Standing) (r : Course) : Type 0 where
+pub record IsAt (before : Before) (w : Standing) (r : ServeState) : Type 0 where
   pub knows : (m : ℕ) → kept_certificate w.node.roster m ≡ certificate_of r.node m
   pub link : w.link ≡ Some r.link
   pub text : Appends before.taken w.taken r.text
@@ -103,40 +103,40 @@ pub record IsAt (before : Before) (w : Standing) (r : Course) : Type 0 where
   pub key : HasSpent before r.spent w
 
 -- The node stands for that of the course, too.
-pub record Stands (s : Setting) (before : Before) (w : Standing) (r : Course) : Type 0 where
+pub record Stands (s : Setting) (before : Before) (w : Standing) (r : ServeState) : Type 0 where
   pub node : IsNode s w.node r.node
   pub at : IsAt before w r
 
 -- What was written is a front of what the course has written, what was given to the link a front of what it has given,
 -- and the signatures that were made are a front of its own.
-pub record IsWithin (before : Before) (w : Standing) (r : Course) : Type 0 where
+pub record IsWithin (before : Before) (w : Standing) (r : ServeState) : Type 0 where
   pub text : List ℕ
-  pub front : IsFront text r.text
+  pub front : IsPrefix text r.text
   pub written : Appends before.taken w.taken text
   pub link : LinkState
   pub told : w.link ≡ Some link
-  pub given : IsFront link.given r.link.given
+  pub given : IsPrefix link.given r.link.given
   pub spent : List Spent
-  pub made : IsFront spent r.spent
+  pub made : IsPrefix spent r.spent
   pub key : HasSpent before spent w
 
 -- What the course has written is a front of what was written, what it has given to the link a front of what was given,
 -- and its signatures are a front of those that were made.
-pub record IsBeyond (before : Before) (w : Standing) (r : Course) : Type 0 where
+pub record IsBeyond (before : Before) (w : Standing) (r : ServeState) : Type 0 where
   pub text : List ℕ
-  pub front : IsFront r.text text
+  pub front : IsPrefix r.text text
   pub written : Appends before.taken w.taken text
   pub link : LinkState
   pub told : w.link ≡ Some link
-  pub given : IsFront r.link.given link.given
+  pub given : IsPrefix r.link.given link.given
   pub spent : List Spent
-  pub made : IsFront r.spent spent
+  pub made : IsPrefix r.spent spent
   pub key : HasSpent before spent w
 
--- A link that tells its contents goes on telling them, and what was given to it stands.
+-- A link that is modelled stays so, and what was given to it stands.
 abbrev pub KeepsGiven : Option LinkState → Option LinkState → Type 0
 KeepsGiven None after = Unit {0}
-KeepsGiven (Some link) after = (later : LinkState) × ((after ≡ Some later) × IsFront link.given later.given)
+KeepsGiven (Some link) after = (later : LinkState) × ((after ≡ Some later) × IsPrefix link.given later.given)
 
 -- Some bytes were written, perhaps none, and datagrams were given to the link.
 pub record Extends (taken after : Option (List ℕ)) (link later : Option LinkState) : Type 0 where
@@ -144,8 +144,8 @@ pub record Extends (taken after : Option (List ℕ)) (link later : Option LinkSt
   pub written : Appends taken after text
   pub given : KeepsGiven link later
 
--- All of it was told, or it broke off.
-abbrev pub Tells : Before → Standing → Course → Result (Unit {0}) ServeFault → Type 0
+-- All of it was reported, or it broke off.
+abbrev pub Tells : Before → Standing → ServeState → Result (Unit {0}) ServeFault → Type 0
 Tells before w r (Ok done) = IsAt before w r
 Tells before w r (Err faults.StoreFault) = ⊥
 Tells before w r (Err faults.WriteFault) = IsWithin before w r
@@ -158,8 +158,8 @@ Answers done (Err faults.StoreFault) = done ≡ Err node.StoreFault
 Answers done (Err faults.WriteFault) = Unit {0}
 Answers done (Err faults.OutOfMemory) = Unit {0}
 
--- What the call gave was told, or that broke off.
-abbrev pub Settles : Before → Standing → Course → Result (Unit {0}) ServeFault → Type 0
+-- What the call gave was reported, or that broke off.
+abbrev pub Settles : Before → Standing → ServeState → Result (Unit {0}) ServeFault → Type 0
 Settles before w r (Ok x) = IsAt before w r
 Settles before w r (Err faults.StoreFault) = IsAt before w r
 Settles before w r (Err faults.WriteFault) = IsWithin before w r

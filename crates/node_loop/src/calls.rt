@@ -1,4 +1,4 @@
-//! One call of the node after another, with what each tells written and sent.
+//! One call of the node after another, with what each reports written and sent.
 
 ghost use Rattle.std.specs.Prelude.{◌≡◌, false, true, List, [], ◌∷◌, OnOk, IfErr};
 ghost use Rattle.ports.specs.Count.{counted, Rose};
@@ -6,7 +6,7 @@ ghost use Rattle.ports.specs.Disk.{Moment};
 ghost use Rattle.node_rules.specs.Nodes.{Setting};
 ghost use Rattle.node_rules.specs.Lives as lives;
 ghost use Rattle.node_loop.specs.Turns.{Calls, ticks_of};
-ghost use Rattle.node_loop.specs.Courses.{Course, tells_all};
+ghost use Rattle.node_loop.specs.Courses.{ServeState, tells_all};
 ghost use Rattle.node_loop.specs.Writing.{Answers, Before, Extends, GoesOn, IsAt, Settles, Stands, is_open_after, is_write_fault, standing};
 ghost use Rattle.node_loop.specs.Serving.{Serves};
 
@@ -16,7 +16,7 @@ use node_core::{Events, Node, NodeFault, Outbox};
 use ports::{Disk, Link, Sink};
 use std::alloc::Global;
 
-/// Tells what a call of the node told, also where the call ended with a fault, and answers that fault.
+/// Writes what a call of the node reported, also where the call ended with a fault, and answers that fault.
 fn settle<L: Link, O: Sink>(
     alloc: Global,
     node: &Node,
@@ -26,13 +26,18 @@ fn settle<L: Link, O: Sink>(
     events: &Events,
     done: Result<(), NodeFault>,
 ) -> Result<(), ServeFault>
-    requires open { O.is_open out.old ≡ true }
-    ensures going { O.is_open out.new ≡ is_open_after result }
-    ensures faults { O.faults out.new ≡ counted (is_write_fault result) (O.faults out.old) }
-    ensures settles { (before : Before) (moments : List Moment) (r : Course) → IsAt before (standing node.now (L.contents link.old) (O.taken out.old) moments sent.old) r
-        → Settles before (standing node.now (L.contents link.new) (O.taken out.new) moments sent.new) (tells_all events.now r) result }
+    requires open { (O.state out.old).is_open ≡ true }
+    ensures going { (O.state out.new).is_open ≡ is_open_after result }
+    ensures faults { (O.state out.new).faults
+        ≡ counted (is_write_fault result) (O.state out.old).faults }
+    ensures settles { (before : Before) (moments : List Moment) (r : ServeState)
+        → IsAt before (standing node.now (L.state link.old).contents (O.state out.old).taken moments
+        sent.old) r
+        → Settles before (standing node.now (L.state link.new).contents (O.state out.new).taken
+        moments sent.new) (tells_all events.now r) result }
     ensures answers { Answers done result }
-    ensures extends { Extends (O.taken out.old) (O.taken out.new) (L.contents link.old) (L.contents link.new) }
+    ensures extends { Extends (O.state out.old).taken (O.state out.new).taken
+        (L.state link.old).contents (L.state link.new).contents }
 {
     tell_all(alloc, node, link, out, sent, events.as_slice())?;
     match done {
@@ -52,16 +57,23 @@ pub fn deliver<D: Disk, L: Link, O: Sink>(
     bytes: &[u8],
 ) -> Result<(), ServeFault>
     requires going { node.old.ended ≡ false }
-    requires open { O.is_open out.old ≡ true }
-    ensures open { O.is_open out.new ≡ is_open_after result }
+    requires open { (O.state out.old).is_open ≡ true }
+    ensures open { (O.state out.new).is_open ≡ is_open_after result }
     ensures going { OnOk result (node.new.ended ≡ false) }
-    ensures faults { O.faults out.new ≡ counted (is_write_fault result) (O.faults out.old) }
-    ensures calm { OnOk result (D.faults disk.new ≡ D.faults disk.old) }
-    ensures store { IfErr result (λ e. e ≡ ServeFault.StoreFault → Rose (D.faults disk.old) (D.faults disk.new)) }
+    ensures faults { (O.state out.new).faults
+        ≡ counted (is_write_fault result) (O.state out.old).faults }
+    ensures no_disk_fault { OnOk result ((D.state disk.new).faults ≡ (D.state disk.old).faults) }
+    ensures store { IfErr result (λ e. e ≡ ServeFault.StoreFault
+        → Rose (D.state disk.old).faults (D.state disk.new).faults) }
     ensures closed { OnOk result (node.new.signer.closed ≡ node.old.signer.closed) }
-    ensures spends { GoesOn node.old.signer node.new.signer (D.moments disk.old) (D.moments disk.new) }
-    ensures serves { (s : Setting) (before : Before) (r : Course) → Stands s before (standing node.old (L.contents link.old) (O.taken out.old) (D.moments disk.old) sent.old) r
-        → Serves s before (Calls (lives.Delivers bytes.now) ∷ []) r (standing node.new (L.contents link.new) (O.taken out.new) (D.moments disk.new) sent.new) result }
+    ensures spends { GoesOn node.old.signer node.new.signer (D.state disk.old).moments
+        (D.state disk.new).moments }
+    ensures serves { (s : Setting) (before : Before) (r : ServeState)
+        → Stands s before (standing node.old (L.state link.old).contents (O.state out.old).taken
+        (D.state disk.old).moments sent.old) r
+        → Serves s before (Calls (lives.Delivers bytes.now) ∷ []) r
+        (standing node.new (L.state link.new).contents (O.state out.new).taken
+        (D.state disk.new).moments sent.new) result }
 {
     let mut outbox = Outbox::new(alloc);
     let mut events = Events::new(alloc);
@@ -79,16 +91,23 @@ fn tick<D: Disk, L: Link, O: Sink>(
     sent: &mut u64,
 ) -> Result<(), ServeFault>
     requires going { node.old.ended ≡ false }
-    requires open { O.is_open out.old ≡ true }
-    ensures open { O.is_open out.new ≡ is_open_after result }
+    requires open { (O.state out.old).is_open ≡ true }
+    ensures open { (O.state out.new).is_open ≡ is_open_after result }
     ensures going { OnOk result (node.new.ended ≡ false) }
-    ensures faults { O.faults out.new ≡ counted (is_write_fault result) (O.faults out.old) }
-    ensures calm { OnOk result (D.faults disk.new ≡ D.faults disk.old) }
-    ensures store { IfErr result (λ e. e ≡ ServeFault.StoreFault → Rose (D.faults disk.old) (D.faults disk.new)) }
+    ensures faults { (O.state out.new).faults
+        ≡ counted (is_write_fault result) (O.state out.old).faults }
+    ensures no_disk_fault { OnOk result ((D.state disk.new).faults ≡ (D.state disk.old).faults) }
+    ensures store { IfErr result (λ e. e ≡ ServeFault.StoreFault
+        → Rose (D.state disk.old).faults (D.state disk.new).faults) }
     ensures closed { OnOk result (node.new.signer.closed ≡ node.old.signer.closed) }
-    ensures spends { GoesOn node.old.signer node.new.signer (D.moments disk.old) (D.moments disk.new) }
-    ensures serves { (s : Setting) (before : Before) (r : Course) → Stands s before (standing node.old (L.contents link.old) (O.taken out.old) (D.moments disk.old) sent.old) r
-        → Serves s before (Calls lives.Ticks ∷ []) r (standing node.new (L.contents link.new) (O.taken out.new) (D.moments disk.new) sent.new) result }
+    ensures spends { GoesOn node.old.signer node.new.signer (D.state disk.old).moments
+        (D.state disk.new).moments }
+    ensures serves { (s : Setting) (before : Before) (r : ServeState)
+        → Stands s before (standing node.old (L.state link.old).contents (O.state out.old).taken
+        (D.state disk.old).moments sent.old) r
+        → Serves s before (Calls lives.Ticks ∷ []) r
+        (standing node.new (L.state link.new).contents (O.state out.new).taken
+        (D.state disk.new).moments sent.new) result }
 {
     if node.membership().now() == u64::MAX {
         return Ok(());
@@ -110,16 +129,23 @@ pub fn tick_times<D: Disk, L: Link, O: Sink>(
     ticks: u8,
 ) -> Result<(), ServeFault>
     requires going { node.old.ended ≡ false }
-    requires open { O.is_open out.old ≡ true }
-    ensures open { O.is_open out.new ≡ is_open_after result }
+    requires open { (O.state out.old).is_open ≡ true }
+    ensures open { (O.state out.new).is_open ≡ is_open_after result }
     ensures going { OnOk result (node.new.ended ≡ false) }
-    ensures faults { O.faults out.new ≡ counted (is_write_fault result) (O.faults out.old) }
-    ensures calm { OnOk result (D.faults disk.new ≡ D.faults disk.old) }
-    ensures store { IfErr result (λ e. e ≡ ServeFault.StoreFault → Rose (D.faults disk.old) (D.faults disk.new)) }
+    ensures faults { (O.state out.new).faults
+        ≡ counted (is_write_fault result) (O.state out.old).faults }
+    ensures no_disk_fault { OnOk result ((D.state disk.new).faults ≡ (D.state disk.old).faults) }
+    ensures store { IfErr result (λ e. e ≡ ServeFault.StoreFault
+        → Rose (D.state disk.old).faults (D.state disk.new).faults) }
     ensures closed { OnOk result (node.new.signer.closed ≡ node.old.signer.closed) }
-    ensures spends { GoesOn node.old.signer node.new.signer (D.moments disk.old) (D.moments disk.new) }
-    ensures serves { (s : Setting) (before : Before) (r : Course) → Stands s before (standing node.old (L.contents link.old) (O.taken out.old) (D.moments disk.old) sent.old) r
-        → Serves s before (ticks_of ticks) r (standing node.new (L.contents link.new) (O.taken out.new) (D.moments disk.new) sent.new) result }
+    ensures spends { GoesOn node.old.signer node.new.signer (D.state disk.old).moments
+        (D.state disk.new).moments }
+    ensures serves { (s : Setting) (before : Before) (r : ServeState)
+        → Stands s before (standing node.old (L.state link.old).contents (O.state out.old).taken
+        (D.state disk.old).moments sent.old) r
+        → Serves s before (ticks_of ticks) r
+        (standing node.new (L.state link.new).contents (O.state out.new).taken
+        (D.state disk.new).moments sent.new) result }
 {
     for _done in 0..ticks {
         tick(alloc, node, disk, link, out, sent)?;

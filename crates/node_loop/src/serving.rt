@@ -23,11 +23,11 @@ const ROOM: usize = 32_769;
 /// clock once, writes the turn's line, delivers what was got, and makes the ticks that are owed: one for each `millis`
 /// milliseconds since the call began, of which a turn makes 64 at the most and leaves the rest to the next.
 ///
-/// What the node tells is written, line by line. A datagram has the number of those sent before it in this call: it is
+/// What the node reports is written, line by line. A datagram has the number of those sent before it in this call: it is
 /// given to the link once its line is written, for the port in its addressee's certificate. A send that fails is followed
 /// by the line `lost`, and a receive that fails is the turn's word `failed`: neither ends the loop.
 ///
-/// Where the disk fails in a call of the node, what that told until then is still written and sent, and the answer is
+/// Where the disk fails in a call of the node, what that reported until then is still written and sent, and the answer is
 /// `StoreFault`. `WriteFault` comes where a write failed. The node is over behind a `StoreFault`, and where memory was
 /// refused in one of its calls.
 pub fn serve<D: Disk, L: Link, C: Clock, O: Sink>(
@@ -41,19 +41,26 @@ pub fn serve<D: Disk, L: Link, C: Clock, O: Sink>(
     turns: u32,
 ) -> Result<(), ServeFault>
     requires going { node.old.ended ≡ false }
-    requires open { O.is_open out.old ≡ true }
+    requires open { (O.state out.old).is_open ≡ true }
     requires some { 1 ≤ millis }
-    ensures open { O.is_open out.new ≡ is_open_after result }
+    ensures open { (O.state out.new).is_open ≡ is_open_after result }
     ensures going { OnOk result (node.new.ended ≡ false) }
-    ensures write_fault { O.faults out.new ≡ counted (is_write_fault result) (O.faults out.old) }
-    ensures calm { OnOk result (D.faults disk.new ≡ D.faults disk.old) }
-    ensures store_fault { IfErr result (λ e. e ≡ ServeFault.StoreFault → Rose (D.faults disk.old) (D.faults disk.new)) }
+    ensures write_fault { (O.state out.new).faults
+        ≡ counted (is_write_fault result) (O.state out.old).faults }
+    ensures no_disk_fault { OnOk result ((D.state disk.new).faults ≡ (D.state disk.old).faults) }
+    ensures store_fault { IfErr result (λ e. e ≡ ServeFault.StoreFault
+        → Rose (D.state disk.old).faults (D.state disk.new).faults) }
     ensures closed { OnOk result (node.new.signer.closed ≡ node.old.signer.closed) }
-    ensures spends { GoesOn node.old.signer node.new.signer (D.moments disk.old) (D.moments disk.new) }
+    ensures spends { GoesOn node.old.signer node.new.signer (D.state disk.old).moments
+        (D.state disk.new).moments }
     ensures serves { (s : Setting) (n : RulesNode) (link_told : LinkState) (readings : List ℕ)
-        → IsNode s node.old n → L.contents link.old ≡ Some link_told → C.coming clock.old ≡ Some readings
-        → (sent : ℕ) × Serves s (before_all (O.taken out.old) node.old.signer (D.moments disk.old)) (life_acts millis turns link_told.coming (C.reading clock.old) readings) (served_from n link_told)
-        (standing node.new (L.contents link.new) (O.taken out.new) (D.moments disk.new) sent) result }
+        → IsNode s node.old n → (L.state link.old).contents ≡ Some link_told
+        → (C.state clock.old).coming ≡ Some readings
+        → (sent : ℕ) × Serves s (before_all (O.state out.old).taken node.old.signer
+        (D.state disk.old).moments) (life_acts millis turns link_told.coming
+        (C.state clock.old).reading readings) (served_from n link_told)
+        (standing node.new (L.state link.new).contents (O.state out.new).taken
+        (D.state disk.new).moments sent) result }
 {
     let base = clock.now();
     let Ok(mut buf) = vec![in alloc; 0u8; ROOM] else {

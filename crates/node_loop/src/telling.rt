@@ -1,4 +1,4 @@
-//! What a call told is written, line by line, and each of its datagrams is sent behind its line.
+//! What a call reported is written, line by line, and each of its datagrams is sent behind its line.
 
 ghost use Rattle.std.specs.Prelude.{◌≡◌, ◌≢◌, true, List, Some, None, MatchOption, IfErr, unwrap_or};
 ghost use Rattle.std.specs.Option.{option_map};
@@ -6,7 +6,7 @@ ghost use Rattle.ports.specs.Count.{counted};
 ghost use Rattle.ports.specs.Disk.{Moment};
 ghost use Rattle.validate.specs.Certified.{certificate_of as kept_certificate};
 ghost use Rattle.journal.specs.declared.event.What.TheVariants as kinds;
-ghost use Rattle.node_loop.specs.Courses.{Course, datagram_in, line_of, sends_one, tells, tells_all};
+ghost use Rattle.node_loop.specs.Courses.{ServeState, datagram_in, line_of, sends_one, tells, tells_all};
 ghost use Rattle.node_loop.specs.Writing.{Before, Extends, HandsOver, IsAt, Tells, WritesLine, is_lost, is_open_after, is_write_fault, standing};
 
 use crate::fault::ServeFault;
@@ -18,9 +18,10 @@ use node_core::Node;
 use ports::{Link, Sent, Sink};
 use std::alloc::Global;
 
-/// Whom a datagram went to, and its bytes, where the event tells of one.
+/// Whom a datagram went to, and its bytes, where the event reports one.
 fn datagram_in(what: &What) -> Option<(MemberId, &Bytes)>
-    ensures { MatchOption result (datagram_in what.now ≡ None) (λ d. datagram_in what.now ≡ Some (d.0, d.1.now)) }
+    ensures { MatchOption result (datagram_in what.now ≡ None)
+        (λ d. datagram_in what.now ≡ Some (d.0, d.1.now)) }
 {
     match what {
         What::Sent { to, bytes, .. } => Some((*to, bytes)),
@@ -36,8 +37,11 @@ fn hand_over<L: Link>(
     to: MemberId,
     bytes: &[u8],
 ) -> Result<bool, NoMemory>
-    ensures faults { L.faults link.new ≡ counted (is_lost result) (L.faults link.old) }
-    ensures given { HandsOver (unwrap_or (option_map (λ c. c.port) (kept_certificate node.now.roster to)) 0) bytes.now (L.contents link.old) (L.contents link.new) result }
+    ensures faults { (L.state link.new).faults
+        ≡ counted (is_lost result) (L.state link.old).faults }
+    ensures given { HandsOver (unwrap_or
+        (option_map (λ c. c.port) (kept_certificate node.now.roster to)) 0) bytes.now
+        (L.state link.old).contents (L.state link.new).contents result }
 {
     let port = node.port_of(to).unwrap_or(0);
     match link.send(port, bytes) {
@@ -56,11 +60,13 @@ fn write_sent<O: Sink>(
     to: MemberId,
     bytes: &[u8],
 ) -> Result<(), ServeFault>
-    requires open { O.is_open out.old ≡ true }
-    ensures going { O.is_open out.new ≡ is_open_after result }
-    ensures faults { O.faults out.new ≡ counted (is_write_fault result) (O.faults out.old) }
+    requires open { (O.state out.old).is_open ≡ true }
+    ensures going { (O.state out.new).is_open ≡ is_open_after result }
+    ensures faults { (O.state out.new).faults
+        ≡ counted (is_write_fault result) (O.state out.old).faults }
     ensures cause { IfErr result (λ e. e ≢ ServeFault.StoreFault) }
-    ensures wrote { WritesLine (O.taken out.old) (O.taken out.new) (line_of (record { moment = moment; what = kinds.Sent number to bytes.now })) result }
+    ensures wrote { WritesLine (O.state out.old).taken (O.state out.new).taken
+        (line_of (record { moment = moment; what = kinds.Sent number to bytes.now })) result }
 {
     let Ok(copy) = bytes.to_vec(alloc) else {
         return Err(ServeFault::OutOfMemory);
@@ -85,13 +91,18 @@ fn send_one<L: Link, O: Sink>(
     to: MemberId,
     bytes: &[u8],
 ) -> Result<(), ServeFault>
-    requires open { O.is_open out.old ≡ true }
-    ensures going { O.is_open out.new ≡ is_open_after result }
-    ensures faults { O.faults out.new ≡ counted (is_write_fault result) (O.faults out.old) }
+    requires open { (O.state out.old).is_open ≡ true }
+    ensures going { (O.state out.new).is_open ≡ is_open_after result }
+    ensures faults { (O.state out.new).faults
+        ≡ counted (is_write_fault result) (O.state out.old).faults }
     ensures cause { IfErr result (λ e. e ≢ ServeFault.StoreFault) }
-    ensures tells { (before : Before) (moments : List Moment) (r : Course) → IsAt before (standing node.now (L.contents link.old) (O.taken out.old) moments sent.old) r
-        → Tells before (standing node.now (L.contents link.new) (O.taken out.new) moments sent.new) (sends_one moment to bytes.now r) result }
-    ensures extends { Extends (O.taken out.old) (O.taken out.new) (L.contents link.old) (L.contents link.new) }
+    ensures tells { (before : Before) (moments : List Moment) (r : ServeState)
+        → IsAt before (standing node.now (L.state link.old).contents (O.state out.old).taken moments
+        sent.old) r
+        → Tells before (standing node.now (L.state link.new).contents (O.state out.new).taken
+        moments sent.new) (sends_one moment to bytes.now r) result }
+    ensures extends { Extends (O.state out.old).taken (O.state out.new).taken
+        (L.state link.old).contents (L.state link.new).contents }
 {
     let number = *sent;
     write_sent(alloc, out, moment, number, to, bytes)?;
@@ -117,13 +128,18 @@ fn tell<L: Link, O: Sink>(
     sent: &mut u64,
     event: &Event,
 ) -> Result<(), ServeFault>
-    requires open { O.is_open out.old ≡ true }
-    ensures going { O.is_open out.new ≡ is_open_after result }
-    ensures faults { O.faults out.new ≡ counted (is_write_fault result) (O.faults out.old) }
+    requires open { (O.state out.old).is_open ≡ true }
+    ensures going { (O.state out.new).is_open ≡ is_open_after result }
+    ensures faults { (O.state out.new).faults
+        ≡ counted (is_write_fault result) (O.state out.old).faults }
     ensures cause { IfErr result (λ e. e ≢ ServeFault.StoreFault) }
-    ensures tells { (before : Before) (moments : List Moment) (r : Course) → IsAt before (standing node.now (L.contents link.old) (O.taken out.old) moments sent.old) r
-        → Tells before (standing node.now (L.contents link.new) (O.taken out.new) moments sent.new) (tells r event.now) result }
-    ensures extends { Extends (O.taken out.old) (O.taken out.new) (L.contents link.old) (L.contents link.new) }
+    ensures tells { (before : Before) (moments : List Moment) (r : ServeState)
+        → IsAt before (standing node.now (L.state link.old).contents (O.state out.old).taken moments
+        sent.old) r
+        → Tells before (standing node.now (L.state link.new).contents (O.state out.new).taken
+        moments sent.new) (tells r event.now) result }
+    ensures extends { Extends (O.state out.old).taken (O.state out.new).taken
+        (L.state link.old).contents (L.state link.new).contents }
 {
     match datagram_in(&event.what) {
         Some(datagram) => send_one(
@@ -149,13 +165,18 @@ pub fn tell_all<L: Link, O: Sink>(
     sent: &mut u64,
     events: &[Event],
 ) -> Result<(), ServeFault>
-    requires open { O.is_open out.old ≡ true }
-    ensures going { O.is_open out.new ≡ is_open_after result }
-    ensures faults { O.faults out.new ≡ counted (is_write_fault result) (O.faults out.old) }
+    requires open { (O.state out.old).is_open ≡ true }
+    ensures going { (O.state out.new).is_open ≡ is_open_after result }
+    ensures faults { (O.state out.new).faults
+        ≡ counted (is_write_fault result) (O.state out.old).faults }
     ensures cause { IfErr result (λ e. e ≢ ServeFault.StoreFault) }
-    ensures tells { (before : Before) (moments : List Moment) (r : Course) → IsAt before (standing node.now (L.contents link.old) (O.taken out.old) moments sent.old) r
-        → Tells before (standing node.now (L.contents link.new) (O.taken out.new) moments sent.new) (tells_all events.now r) result }
-    ensures extends { Extends (O.taken out.old) (O.taken out.new) (L.contents link.old) (L.contents link.new) }
+    ensures tells { (before : Before) (moments : List Moment) (r : ServeState)
+        → IsAt before (standing node.now (L.state link.old).contents (O.state out.old).taken moments
+        sent.old) r
+        → Tells before (standing node.now (L.state link.new).contents (O.state out.new).taken
+        moments sent.new) (tells_all events.now r) result }
+    ensures extends { Extends (O.state out.old).taken (O.state out.new).taken
+        (L.state link.old).contents (L.state link.new).contents }
 {
     for event in events {
         tell(alloc, node, link, out, sent, event)?;

@@ -5,7 +5,7 @@ ghost use Rattle.ports.specs.Count.{counted, Rose};
 ghost use Rattle.node_rules.specs.Nodes.{Setting};
 ghost use Rattle.journal.specs.Turns.{turn_text};
 ghost use Rattle.node_loop.specs.Turns.{Outlook, after_turn, delivery_of, room, ticks_owed, turn_acts, turn_in};
-ghost use Rattle.node_loop.specs.Courses.{Course, served, with_feed};
+ghost use Rattle.node_loop.specs.Courses.{ServeState, served, with_feed};
 ghost use Rattle.node_loop.specs.Writing.{Before, GoesOn, Hears, Stands, WritesLine, has_failed, is_open_after, is_write_fault, standing};
 ghost use Rattle.node_loop.specs.Serving.{Sees, Serves};
 
@@ -51,8 +51,9 @@ impl Progress {
 /// Hears the link, through the buffer.
 fn hear<L: Link>(alloc: Global, link: &mut L, buf: &mut [u8]) -> Result<Heard, NoMemory>
     requires { length buf.old ≡ room }
-    ensures faults { L.faults link.new ≡ counted (has_failed result) (L.faults link.old) }
-    ensures hears { Hears (L.contents link.old) (L.contents link.new) result }
+    ensures faults { (L.state link.new).faults
+        ≡ counted (has_failed result) (L.state link.old).faults }
+    ensures hears { Hears (L.state link.old).contents (L.state link.new).contents result }
 {
     match link.receive(buf) {
         Received::Got(count) => match buf[..count].to_vec(alloc) {
@@ -66,11 +67,13 @@ fn hear<L: Link>(alloc: Global, link: &mut L, buf: &mut [u8]) -> Result<Heard, N
 
 /// Writes the turn's line.
 fn write_turn_line<O: Sink>(alloc: Global, out: &mut O, turn: &Turn) -> Result<(), ServeFault>
-    requires open { O.is_open out.old ≡ true }
-    ensures going { O.is_open out.new ≡ is_open_after result }
-    ensures faults { O.faults out.new ≡ counted (is_write_fault result) (O.faults out.old) }
+    requires open { (O.state out.old).is_open ≡ true }
+    ensures going { (O.state out.new).is_open ≡ is_open_after result }
+    ensures faults { (O.state out.new).faults
+        ≡ counted (is_write_fault result) (O.state out.old).faults }
     ensures cause { IfErr result (λ e. e ≢ ServeFault.StoreFault) }
-    ensures wrote { WritesLine (O.taken out.old) (O.taken out.new) (with_feed (turn_text turn.now)) result }
+    ensures wrote { WritesLine (O.state out.old).taken (O.state out.new).taken
+        (with_feed (turn_text turn.now)) result }
 {
     let mut text = Vec::new(alloc);
     match write_turn(turn, &mut text) {
@@ -90,16 +93,23 @@ fn deliver_heard<D: Disk, L: Link, O: Sink>(
     heard: &Heard,
 ) -> Result<(), ServeFault>
     requires going { node.old.ended ≡ false }
-    requires open { O.is_open out.old ≡ true }
-    ensures open { O.is_open out.new ≡ is_open_after result }
+    requires open { (O.state out.old).is_open ≡ true }
+    ensures open { (O.state out.new).is_open ≡ is_open_after result }
     ensures going { OnOk result (node.new.ended ≡ false) }
-    ensures faults { O.faults out.new ≡ counted (is_write_fault result) (O.faults out.old) }
-    ensures calm { OnOk result (D.faults disk.new ≡ D.faults disk.old) }
-    ensures store { IfErr result (λ e. e ≡ ServeFault.StoreFault → Rose (D.faults disk.old) (D.faults disk.new)) }
+    ensures faults { (O.state out.new).faults
+        ≡ counted (is_write_fault result) (O.state out.old).faults }
+    ensures no_disk_fault { OnOk result ((D.state disk.new).faults ≡ (D.state disk.old).faults) }
+    ensures store { IfErr result (λ e. e ≡ ServeFault.StoreFault
+        → Rose (D.state disk.old).faults (D.state disk.new).faults) }
     ensures closed { OnOk result (node.new.signer.closed ≡ node.old.signer.closed) }
-    ensures spends { GoesOn node.old.signer node.new.signer (D.moments disk.old) (D.moments disk.new) }
-    ensures serves { (s : Setting) (before : Before) (r : Course) → Stands s before (standing node.old (L.contents link.old) (O.taken out.old) (D.moments disk.old) sent.old) r
-        → Serves s before (delivery_of heard.now) r (standing node.new (L.contents link.new) (O.taken out.new) (D.moments disk.new) sent.new) result }
+    ensures spends { GoesOn node.old.signer node.new.signer (D.state disk.old).moments
+        (D.state disk.new).moments }
+    ensures serves { (s : Setting) (before : Before) (r : ServeState)
+        → Stands s before (standing node.old (L.state link.old).contents (O.state out.old).taken
+        (D.state disk.old).moments sent.old) r
+        → Serves s before (delivery_of heard.now) r
+        (standing node.new (L.state link.new).contents (O.state out.new).taken
+        (D.state disk.new).moments sent.new) result }
 {
     match heard {
         Heard::Got(bytes) => deliver(alloc, node, disk, link, out, sent, bytes.as_slice()),
@@ -121,26 +131,35 @@ pub fn turn<D: Disk, L: Link, C: Clock, O: Sink>(
     number: u32,
 ) -> Result<(), ServeFault>
     requires going { node.old.ended ≡ false }
-    requires open { O.is_open out.old ≡ true }
+    requires open { (O.state out.old).is_open ≡ true }
     requires some { 1 ≤ progress.old.millis }
     requires room { length buf.old ≡ room }
-    ensures open { O.is_open out.new ≡ is_open_after result }
+    ensures open { (O.state out.new).is_open ≡ is_open_after result }
     ensures going { OnOk result (node.new.ended ≡ false) }
-    ensures faults { O.faults out.new ≡ counted (is_write_fault result) (O.faults out.old) }
-    ensures calm { OnOk result (D.faults disk.new ≡ D.faults disk.old) }
-    ensures store { IfErr result (λ e. e ≡ ServeFault.StoreFault → Rose (D.faults disk.old) (D.faults disk.new)) }
-    ensures kept { (progress.new.base ≡ progress.old.base) × (progress.new.millis ≡ progress.old.millis) }
+    ensures faults { (O.state out.new).faults
+        ≡ counted (is_write_fault result) (O.state out.old).faults }
+    ensures no_disk_fault { OnOk result ((D.state disk.new).faults ≡ (D.state disk.old).faults) }
+    ensures store { IfErr result (λ e. e ≡ ServeFault.StoreFault
+        → Rose (D.state disk.old).faults (D.state disk.new).faults) }
+    ensures kept { (progress.new.base ≡ progress.old.base)
+        × (progress.new.millis ≡ progress.old.millis) }
     ensures closed { OnOk result (node.new.signer.closed ≡ node.old.signer.closed) }
-    ensures spends { GoesOn node.old.signer node.new.signer (D.moments disk.old) (D.moments disk.new) }
-    ensures serves { (s : Setting) (before : Before) (r : Course) (o : Outlook)
-        → Stands s before (standing node.old (L.contents link.old) (O.taken out.old) (D.moments disk.old) progress.old.sent) r
-        → Sees o r (C.reading clock.old) (C.coming clock.old) progress.old.made
-        → Serves s before (turn_acts (turn_in progress.old.millis progress.old.base number o)) r (standing node.new (L.contents link.new) (O.taken out.new) (D.moments disk.new) progress.new.sent) result }
-    ensures sees { (s : Setting) (before : Before) (r : Course) (o : Outlook)
-        → Stands s before (standing node.old (L.contents link.old) (O.taken out.old) (D.moments disk.old) progress.old.sent) r
-        → Sees o r (C.reading clock.old) (C.coming clock.old) progress.old.made
-        → OnOk result (Sees (after_turn progress.old.millis progress.old.base o) (served s (turn_acts (turn_in progress.old.millis progress.old.base number o)) r)
-        (C.reading clock.new) (C.coming clock.new) progress.new.made) }
+    ensures spends { GoesOn node.old.signer node.new.signer (D.state disk.old).moments
+        (D.state disk.new).moments }
+    ensures serves { (s : Setting) (before : Before) (r : ServeState) (o : Outlook)
+        → Stands s before (standing node.old (L.state link.old).contents (O.state out.old).taken
+        (D.state disk.old).moments progress.old.sent) r
+        → Sees o r (C.state clock.old).reading (C.state clock.old).coming progress.old.made
+        → Serves s before (turn_acts (turn_in progress.old.millis progress.old.base number o)) r
+        (standing node.new (L.state link.new).contents (O.state out.new).taken
+        (D.state disk.new).moments progress.new.sent) result }
+    ensures sees { (s : Setting) (before : Before) (r : ServeState) (o : Outlook)
+        → Stands s before (standing node.old (L.state link.old).contents (O.state out.old).taken
+        (D.state disk.old).moments progress.old.sent) r
+        → Sees o r (C.state clock.old).reading (C.state clock.old).coming progress.old.made
+        → OnOk result (Sees (after_turn progress.old.millis progress.old.base o)
+        (served s (turn_acts (turn_in progress.old.millis progress.old.base number o)) r)
+        (C.state clock.new).reading (C.state clock.new).coming progress.new.made) }
 {
     let Ok(heard) = hear(alloc, link, buf) else {
         return Err(ServeFault::OutOfMemory);

@@ -14,11 +14,13 @@ use std::alloc::Global;
 
 /// Writes the line, and the line feed that ends it.
 pub fn write_line<O: Sink>(out: &mut O, line: Vec<u8>) -> Result<(), ServeFault>
-    requires open { O.is_open out.old ≡ true }
-    ensures going { O.is_open out.new ≡ is_open_after result }
-    ensures faults { O.faults out.new ≡ counted (is_write_fault result) (O.faults out.old) }
+    requires open { (O.state out.old).is_open ≡ true }
+    ensures going { (O.state out.new).is_open ≡ is_open_after result }
+    ensures faults { (O.state out.new).faults
+        ≡ counted (is_write_fault result) (O.state out.old).faults }
     ensures cause { IfErr result (λ e. e ≢ ServeFault.StoreFault) }
-    ensures wrote { WritesLine (O.taken out.old) (O.taken out.new) (with_feed line.items) result }
+    ensures wrote { WritesLine (O.state out.old).taken (O.state out.new).taken
+        (with_feed line.items) result }
 {
     let mut line = line;
     if line.push(b'\n').is_err() {
@@ -41,11 +43,13 @@ fn text_of(alloc: Global, event: &Event) -> Result<Vec<u8>, NoMemory>
 
 /// Writes the event's line.
 pub fn write_told<O: Sink>(alloc: Global, out: &mut O, event: &Event) -> Result<(), ServeFault>
-    requires open { O.is_open out.old ≡ true }
-    ensures going { O.is_open out.new ≡ is_open_after result }
-    ensures faults { O.faults out.new ≡ counted (is_write_fault result) (O.faults out.old) }
+    requires open { (O.state out.old).is_open ≡ true }
+    ensures going { (O.state out.new).is_open ≡ is_open_after result }
+    ensures faults { (O.state out.new).faults
+        ≡ counted (is_write_fault result) (O.state out.old).faults }
     ensures cause { IfErr result (λ e. e ≢ ServeFault.StoreFault) }
-    ensures wrote { WritesLine (O.taken out.old) (O.taken out.new) (line_of event.now) result }
+    ensures wrote { WritesLine (O.state out.old).taken (O.state out.new).taken (line_of event.now)
+        result }
 {
     match text_of(alloc, event) {
         Ok(text) => write_line(out, text),

@@ -15,7 +15,7 @@ use Rattle.ff_ids.specs.Notes.{newest}
 use Rattle.ff_ids.specs.Rings.{Key, others, none_between}
 use Rattle.ff_ids.specs.Views.{State, all_numbers, in_view, view, key_of, monitor, is_number, stands}
 use Rattle.ff_ids.specs.Faults.{Facts, facts_of, accusation_fault_by, accusation_fault, same_accusation, is_kept}
-use Rattle.ff_ids.specs.Steps.{Accuses, with_kept, comes_first, after_accusation, unless_fault, unchanged, step}
+use Rattle.ff_ids.specs.Steps.{Accuses, with_kept, precedes, after_accusation, unless_fault, unchanged, step}
 use Rattle.ff_ids.specs.Lives.{opening, after, state_at}
 use Rattle.ff_ids.proofs.FaultLemmas.{passes}
 use Rattle.membership.specs.Reports.{kept_against}
@@ -376,7 +376,7 @@ watched-still s n before m behind silent =
 pub In-with_kept_here : (p : AccBody × ℕ) (xs : List (AccBody × ℕ)) → In (with_kept p xs) p
 In-with_kept_here p [] = inl refl
 In-with_kept_here p (x ∷ xs) =
-    cond_both (comes_first x.0 p.0) (x ∷ with_kept p xs) (p ∷ x ∷ xs) (λ ys. In ys p) (λ yes. inr (In-with_kept_here p xs)) (λ no. inl refl)
+    cond_both (precedes x.0 p.0) (x ∷ with_kept p xs) (p ∷ x ∷ xs) (λ ys. In ys p) (λ yes. inr (In-with_kept_here p xs)) (λ no. inl refl)
 
 pub accuses-is : (works : Bool) (s : Setting) (c : Call) (m : ℕ) (ring : ℕ) → has_accused s (state_of s c.node) m ≡ false → ring_for s (state_of s c.node) m ≡ Some ring
     → accuses works s c m ≡ wants works s (Accusation (own_accusation s (state_of s c.node) m ring)) (neighbours_and s m) (tells s (told.Silent m) c)

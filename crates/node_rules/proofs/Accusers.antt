@@ -14,8 +14,9 @@ use Rattle.records.specs.declared.Record.{Record}
 use Rattle.epoch_store.specs.declared.Stored.{Stored}
 use Rattle.datagram.specs.declared.Datagram.{Datagram}
 use Rattle.detector.specs.Silence.{History}
+use Rattle.validate.specs.Table.{signature_fault}
 use Rattle.node_rules.specs.Nodes.{Setting, Node, state_of, certificate_of, public_key_of}
-use Rattle.node_rules.specs.Refusals.{signature_fault, refusal, refusal_of}
+use Rattle.node_rules.specs.Refusals.{refusal, refusal_of}
 use Rattle.node_rules.specs.Calls.{Call, begun, lives, takes, spends, signs, sends, own_record, is_used_up}
 use Rattle.node_rules.specs.Deliveries.{answer_to, answering_note}
 use Rattle.node_rules.specs.Starting.{blank, opened, started, first_note}
@@ -54,7 +55,7 @@ accepted-signed : (s : Setting) (n : Node) (r : Record) (a : AccBody) → refusa
 unfolding refusal
 accepted-signed s n r a fine is =
     let fine2 : refusal_of s n r (Accusation a) ≡ None = sym (ap (refusal_of s n r) is) ∙ fine in
-    let v : Verifies s (public_key_of n a.accuser) r = verified s (public_key_of n a.accuser) r (option_or-none (accusation_fault s.group.t (state_of s n) a) (signature_fault s (public_key_of n a.accuser) r) fine2).1 in
+    let v : Verifies s (public_key_of n a.accuser) r = verified s (public_key_of n a.accuser) r (option_or-none (accusation_fault s.group.t (state_of s n) a) (signature_fault s.verifies (public_key_of n a.accuser) r) fine2).1 in
     record { key = v.key; author_is = v.author_is; verifies = v.verifies }
 
 accuses-takes : (s : Setting) (own : PublicKey) (r : Record) (c : Call) → 1 ≤ s.group.t → OwnSignaturesVerify s own → refusal s c.node r ≡ None → Accuses s own c.node → Accuses s own (takes s r c).node

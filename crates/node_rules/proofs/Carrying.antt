@@ -1,4 +1,4 @@
--- What each call carries on that each of its steps does, datagrams being told with their sending alone.
+-- What each call carries on that each of its steps does, datagrams being reported with their sending alone.
 use Rattle.std.proofs.Common.{◌≡◌, ℕ, Bool, true, false, eqb, cond, List, [], ◌∷◌, Option, Some, None, refl}
 use Rattle.std.specs.Prelude.{Result, Ok, Err}
 use Rattle.std.proofs.lemmas.Bool.{cond_both}

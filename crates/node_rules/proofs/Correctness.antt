@@ -24,8 +24,9 @@ use Rattle.epoch_store.specs.declared.Stored.{Stored}
 use Rattle.signer.specs.Signing.{stored_after}
 use Rattle.datagram.specs.declared.Datagram.{Datagram}
 use Rattle.detector.specs.Silence.{History}
+use Rattle.validate.specs.Table.{signature_fault, certificate_fault}
 use Rattle.node_rules.specs.Nodes.{Setting, Node, state_of, certificate_of, public_key_of}
-use Rattle.node_rules.specs.Refusals.{signature_fault, certificate_fault, refusal, refusal_of}
+use Rattle.node_rules.specs.Refusals.{refusal, refusal_of}
 use Rattle.node_rules.specs.Replies.{first_mask}
 use Rattle.node_rules.specs.Calls.{Call, begun, lives, takes, spends, signs, sends, own_record, is_used_up}
 use Rattle.node_rules.specs.Deliveries.{answer_to, answering_note}
@@ -54,7 +55,7 @@ pub record Verifies (s : Setting) (author : Option PublicKey) (r : Record) : Typ
   pub author_is : author ≡ Some key
   pub verifies : s.verifies key r ≡ true
 
-pub verified : (s : Setting) (author : Option PublicKey) (r : Record) → signature_fault s author r ≡ None → Verifies s author r
+pub verified : (s : Setting) (author : Option PublicKey) (r : Record) → signature_fault s.verifies author r ≡ None → Verifies s author r
 verified s None r fine = cc
 verified s (Some key) r fine =
     elim (cases_Bool (s.verifies key r)) [
@@ -78,7 +79,7 @@ may-take s n r (Certificate x) is fine h =
 may-take s n r (Note x) is fine h =
     let fine2 : refusal_of s n r (Note x) ≡ None = sym (ap (refusal_of s n r) is) ∙ fine in
     let parts = option_or-none (note_fault s.group.t (state_of s n) x) _ fine2 in
-    let v : Verifies s (public_key_of n x.member) r = verified s (public_key_of n x.member) r (option_or-none (signature_fault s (public_key_of n x.member) r) _ parts.1).0 in
+    let v : Verifies s (public_key_of n x.member) r = verified s (public_key_of n x.member) r (option_or-none (signature_fault s.verifies (public_key_of n x.member) r) _ parts.1).0 in
     (parts.0, record { key = v.key; author_is = v.author_is; verifies = v.verifies })
 may-take s n r (Accusation a) is fine h = tt
 

@@ -26,10 +26,10 @@ use Rattle.records.specs.declared.Body.{Body}
 use Rattle.records.specs.declared.Body.TheVariants.{Certificate, Note, Accusation}
 use Rattle.records.specs.declared.Record.{Record}
 use Rattle.record_set.specs.Held.{key_of}
-use Rattle.validate.specs.Table.{own_ahead}
+use Rattle.validate.specs.Table.{certificate_fault, signature_fault, own_ahead}
 use Rattle.journal.specs.declared.event.What.TheVariants as told
 use Rattle.node_rules.specs.Nodes.{Setting, Node, state_of, event_of, certificate_in, certificate_of, is_certified, public_key_of, neighbours}
-use Rattle.node_rules.specs.Refusals.{certificate_fault, signature_fault, refusal, refusal_of}
+use Rattle.node_rules.specs.Refusals.{refusal, refusal_of}
 use Rattle.node_rules.specs.Calls.{Call, tells, takes, signs, signs_and_sends, wants, stops, sends_to_all, is_used_up, own_record}
 use Rattle.datagram.specs.declared.Datagram.{Datagram}
 use Rattle.datagram.specs.declared.Datagram.TheVariants as kinds
@@ -200,7 +200,7 @@ certificate-fine : (s : Setting) (n : Node) (r : Record) (x : CertBody) → r.bo
 unfolding refusal
 certificate-fine s n r x is verifies none =
     ap (refusal_of s n r) is
-    ∙ ap (λ o. option_or (certificate_fault o x) (signature_fault s (Some s.authority) r)) none
+    ∙ ap (λ o. option_or (certificate_fault o x) (signature_fault s.verifies (Some s.authority) r)) none
     ∙ ap (λ b. cond b None (Some faults.BadSignature)) verifies
 
 handled-fine : (s : Setting) (c : Call) (r : Record) → refusal s c.node r ≡ None → handles true s c r ≡ answers true s r.body (takes s r (tells s (told.Took r.body None) c))
@@ -280,8 +280,8 @@ note-fine : (s : Setting) (n : Node) (r : Record) (x : NoteBody) (key : PublicKe
 unfolding refusal
 note-fine s n r x key is fine author verifies not_ahead =
     ap (refusal_of s n r) is
-    ∙ ap (λ o. option_or o (option_or (signature_fault s (public_key_of n x.member) r) (own_ahead s.me (newest (state_of s n).notes s.me) x))) fine
-    ∙ ap (λ o. option_or (signature_fault s o r) (own_ahead s.me (newest (state_of s n).notes s.me) x)) author
+    ∙ ap (λ o. option_or o (option_or (signature_fault s.verifies (public_key_of n x.member) r) (own_ahead s.me (newest (state_of s n).notes s.me) x))) fine
+    ∙ ap (λ o. option_or (signature_fault s.verifies o r) (own_ahead s.me (newest (state_of s n).notes s.me) x)) author
     ∙ ap (λ b. option_or (cond b None (Some faults.BadSignature)) (own_ahead s.me (newest (state_of s n).notes s.me) x)) verifies
     ∙ not_ahead
 

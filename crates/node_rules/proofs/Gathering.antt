@@ -96,7 +96,7 @@ knows-tells s known base what c h =
     let g = grown-tells s what c in
     record { held = λ k r e. in-more s c (tells s what c) base r g (h.held k r e); sent = λ d i. fits-more s known c (tells s what c) d.1 g (h.sent d i) }
 
--- the same told, sent and held
+-- the same reported, sent and held
 knows-same : (s : Setting) (known base : List Record) (c d : Call) → ((k : RecordKey) → d.node.held k ≡ c.node.held k) → d.sent ≡ c.sent → d.told ≡ c.told → Knows s known base c → Knows s known base d
 knows-same s known base c d held sent told h =
     let signed : signed_in s c ≡ signed_in s d = ap (filter_map (λ (e : journal.Event). made_by s e.what)) (sym told) in

@@ -22,8 +22,9 @@ use Rattle.record_set.specs.Held.{key_cmp, key_of}
 use Rattle.record_set.proofs.KeyLemmas.{is_key-true}
 use Rattle.datagram.specs.declared.Datagram.{Datagram}
 use Rattle.detector.specs.Silence.{History}
+use Rattle.validate.specs.Table.{certificate_fault, signature_fault}
 use Rattle.node_rules.specs.Nodes.{Setting, Node, Holding, state_of, event_of, with_record, without, key_of_accusation, certificate_in, certificate_of}
-use Rattle.node_rules.specs.Refusals.{certificate_fault, signature_fault, refusal, refusal_of}
+use Rattle.node_rules.specs.Refusals.{refusal, refusal_of}
 use Rattle.node_rules.specs.Calls.{Call, lives, takes, spends, signs, sends, own_record}
 use Rattle.node_rules.specs.Deliveries.{answer_to}
 use Rattle.node_rules.specs.Lives.{Input, call_of, after_calls}
@@ -128,7 +129,7 @@ map-none f (Some x) h = cc
 pub none-kept : (s : Setting) (n : Node) (r : Record) (x : CertBody) → refusal s n r ≡ None → r.body ≡ Certificate x → certificate_of n x.member ≡ None
 unfolding refusal
 none-kept s n r x fine is =
-    map-none _ (certificate_of n x.member) (option_or-none (certificate_fault (certificate_of n x.member) x) (signature_fault s (Some s.authority) r) (sym (ap (refusal_of s n r) is) ∙ fine)).0
+    map-none _ (certificate_of n x.member) (option_or-none (certificate_fault (certificate_of n x.member) x) (signature_fault s.verifies (Some s.authority) r) (sym (ap (refusal_of s n r) is) ∙ fine)).0
 
 -- ---- a life goes on
 

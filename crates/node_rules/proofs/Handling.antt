@@ -1,4 +1,4 @@
--- What handling one record tells and sends, event by event, and what a delivery of records tells and sends.
+-- What handling one record reports and sends, event by event, and what a delivery of records reports and sends.
 use Rattle.std.proofs.Common.{◌≡◌, ℕ, Bool, true, false, cond, eqb, List, [], ◌∷◌, ◌++◌, Option, Some, None, length, filter, map, inl, inr, refl, ap, sym, ◌∙◌, subst}
 use Rattle.std.specs.Prelude.{Result, Ok, Err}
 use Rattle.std.proofs.lemmas.Bool.{cond_both, cases_Bool, false≢true}
@@ -40,7 +40,7 @@ nil-right (x ∷ xs) = ap (λ ys. x ∷ ys) (nil-right xs)
 
 -- ---- events that pass a test
 
--- The test passes nothing of what steps of the life tell, and nothing of what is sent.
+-- The test passes nothing of what steps of the life report, and nothing of what is sent.
 pub record IsOver (test : whats.What → Bool) : Type 0 where
   pub life : (what : whats.What) → is_of_life what ≡ true → test what ≡ false
   pub sent : (place to : ℕ) (bytes : List ℕ) → test (told.Sent place to bytes) ≡ false
@@ -77,7 +77,7 @@ report-none test moment r life =
     (none_of test moment told.Entered r.entered (λ x. life (told.Entered x) refl)))
     (none_of test moment told.Fell r.fell (λ x. life (told.Fell x) refl))
 
--- what a step of the life tells
+-- what a step of the life reports
 pub unlived : (test : whats.What → Bool) (s : Setting) (e : Event) (c : Call) → ((what : whats.What) → is_of_life what ≡ true → test what ≡ false)
     → filter (λ (x : journal.Event). test x.what) (told_of (step s.group (state_of s c.node) e).state.moment (step s.group (state_of s c.node) e).report) ≡ []
 unlived test s e c life = report-none test (step s.group (state_of s c.node) e).state.moment (step s.group (state_of s c.node) e).report life
@@ -107,7 +107,7 @@ pub that-signs : (test : whats.What → Bool) (s : Setting) (body : Body) (c : C
 unfolding signs
 that-signs test s body c over = that-takes test s (own_record s c.node body) (spends s body c) over ∙ that-tells test s (told.Spent c.node.stored.next body) c
 
--- What is told where a signature is wanted, by what the store keeps.
+-- What is reported where a signature is wanted, by what the store keeps.
 abbrev pub wanted : Bool → Setting → Stored → Body → whats.What
 wanted works s kept body = cond (eqb kept.next s.indexes) (told.Exhausted kept.next) (cond works (told.Spent kept.next body) told.Stopped)
 
@@ -170,7 +170,7 @@ moment-wants works s body addressees c =
     (cond_both (is_used_up s c.node) c.node (cond works (signs s body c).node c.node) same (λ up. refl)
     (λ left. cond_both works (signs s body c).node c.node same (λ yes. moment-signs s body c) (λ no. refl)))
 
--- ---- what doesn't depend on what was told and sent before
+-- ---- what doesn't depend on what was reported and sent before
 
 abbrev fresh : Call → Call
 fresh c = begun c.node
@@ -211,7 +211,7 @@ node-handles works s c r = node-judged works s (refusal s c.node r) r c
 
 -- ---- one record
 
--- What the answer to a record tells, if it wants one.
+-- What the answer to a record reports, if it wants one.
 abbrev pub asked : Bool → Setting → Stored → Option AccBody → List whats.What
 asked works s kept None = []
 asked works s kept (Some a) = wanted works s kept (answer_to s kept a) ∷ []
@@ -266,7 +266,7 @@ moment-handles works s c r = moment-judged works s (refusal s c.node r) r c
 
 -- ---- records one after another
 
--- The verdict on each record, and behind it what its answer tells.
+-- The verdict on each record, and behind it what its answer reports.
 abbrev pub events_on : Setting → Node → List Record → List whats.What
 events_on s n [] = []
 events_on s n (r ∷ records) = (verdict_on s n r ∷ asked true s n.stored (asked_by s n r)) ++ events_on s (when_handled s n r) records
@@ -373,7 +373,7 @@ bad-events s moment n (r ∷ records) =
 
 -- ---- deliveries of other datagrams
 
--- The test passes nothing of what is told of pings, pongs and summaries.
+-- The test passes nothing of what is reported of pings, pongs and summaries.
 record IsOfRecords (test : whats.What → Bool) : Type 0 where
   over : IsOver test
   ping : (from nonce : ℕ) → test (told.Ping from nonce) ≡ false
@@ -611,7 +611,7 @@ ends-handles : (s : Setting) (c : Call) (r : Record) → WantsAnswer s c.node r 
 unfolding handles
 ends-handles s c r w = ends-judged s (refusal s c.node r) r c w.accusation w.asked w.left
 
--- what is told then
+-- what is reported then
 failing-asked : (s : Setting) (n : Node) (r : Record) → WantsAnswer s n r → asked false s n.stored (asked_by s n r) ≡ told.Stopped ∷ []
 failing-asked s n r w = ap (asked false s n.stored) w.asked ∙ ap (λ (b : Bool). cond b (told.Exhausted n.stored.next) told.Stopped ∷ []) w.left
 

@@ -1,4 +1,4 @@
--- What each call keeps that each of its steps keeps, whatever is told.
+-- What each call keeps that each of its steps keeps, whatever is reported.
 use Rattle.std.proofs.Common.{◌≡◌, ℕ, Bool, true, false, eqb, List, None, refl}
 use Rattle.std.proofs.lemmas.Bool.{false≢true}
 use Rattle.ff_ids.specs.declared.AccBody.{AccBody}

@@ -14,7 +14,7 @@ use Rattle.ff_ids.specs.Notes.{newest}
 use Rattle.ff_ids.specs.Views.{State, is_member, is_unanswered_by, stands}
 use Rattle.ff_ids.specs.Faults.{facts_of, note_fault, accusation_fault, same_accusation}
 use Rattle.ff_ids.proofs.FaultLemmas.{passes}
-use Rattle.ff_ids.specs.Steps.{Joins, Notes, Ticks as Passes, joined, with_kept, comes_first, is_due, after_note, unless_fault, unchanged, step}
+use Rattle.ff_ids.specs.Steps.{Joins, Notes, Ticks as Passes, joined, with_kept, precedes, is_due, after_note, unless_fault, unchanged, step}
 use Rattle.life_laws.proofs.Lists.{In, In-filter, In-from_filter, In-from_map, In-append_left, In-append_right, In-append_cases, any_from_In}
 use Rattle.life_laws.proofs.ViewLemmas.{IsStanding-from}
 use Rattle.life_laws.proofs.StepLemmas.{AllStand, stands-accepted, In-with_kept}
@@ -175,12 +175,12 @@ matches-ticks g st held m =
 
 In-with_kept_here : (p : AccBody × ℕ) (xs : List (AccBody × ℕ)) → In (with_kept p xs) p
 In-with_kept_here p [] = inl refl
-In-with_kept_here p (x ∷ xs) = cond_both (comes_first x.0 p.0) (x ∷ with_kept p xs) (p ∷ x ∷ xs) (λ ys. In ys p) (λ yes. inr (In-with_kept_here p xs)) (λ no. inl refl)
+In-with_kept_here p (x ∷ xs) = cond_both (precedes x.0 p.0) (x ∷ with_kept p xs) (p ∷ x ∷ xs) (λ ys. In ys p) (λ yes. inr (In-with_kept_here p xs)) (λ no. inl refl)
 
 In-with_kept_more : (p q : AccBody × ℕ) (xs : List (AccBody × ℕ)) → In xs q → In (with_kept p xs) q
 In-with_kept_more p q [] i = absurd i
 In-with_kept_more p q (x ∷ xs) i =
-    cond_both (comes_first x.0 p.0) (x ∷ with_kept p xs) (p ∷ x ∷ xs) (λ ys. In ys q)
+    cond_both (precedes x.0 p.0) (x ∷ with_kept p xs) (p ∷ x ∷ xs) (λ ys. In ys q)
     (λ yes. elim i [ inl e ↦ inl e | inr j ↦ inr (In-with_kept_more p q xs j) ])
     (λ no. inr i)
 

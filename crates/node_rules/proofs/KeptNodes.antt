@@ -20,9 +20,10 @@ use Rattle.datagram.specs.declared.Datagram.{Datagram}
 use Rattle.datagram.specs.declared.Datagram.TheVariants as kinds
 use Rattle.datagram.specs.Grammar.{read_of}
 use Rattle.journal.specs.declared.event.What.TheVariants as told
+use Rattle.validate.specs.Table.{signature_fault}
 use Rattle.node_rules.specs.Nodes.{Setting, Node, Holding, state_of, event_of, with_record, without_ended, public_key_of, neighbours, neighbours_and}
 use Rattle.node_rules.specs.Pages.{partner}
-use Rattle.node_rules.specs.Refusals.{signature_fault, refusal, refusal_of}
+use Rattle.node_rules.specs.Refusals.{refusal, refusal_of}
 use Rattle.node_rules.specs.Calls.{Call, begun, tells, lives, takes, spends, signs, wants, own_record}
 use Rattle.node_rules.specs.Deliveries.{answer_to, answers, judged, handles, handles_all, hears, delivered}
 use Rattle.node_rules.specs.Ticking.{accusation_on, ring_for, has_accused, wants_accusation, accuses, accuses_all, is_due, silent_in, pings_in, probes_after, pings_all, round_of, passed, probed_at, due_tick, silent_at, ticked}
@@ -74,7 +75,7 @@ unfolding refusal
 may-keep s n r (Certificate x) is fine = tt
 may-keep s n r (Note x) is fine = tt
 may-keep s n r (Accusation a) is fine =
-    (option_or-none (accusation_fault s.group.t (state_of s n) a) (signature_fault s (public_key_of n a.accuser) r) (sym (ap (refusal_of s n r) is) ∙ fine)).0
+    (option_or-none (accusation_fault s.group.t (state_of s n) a) (signature_fault s.verifies (public_key_of n a.accuser) r) (sym (ap (refusal_of s n r) is) ∙ fine)).0
 
 agrees-spends : (s : Setting) (b : Body) (c : Call) → Agrees s c.node → Agrees s (spends s b c).node
 unfolding state_of

@@ -118,7 +118,7 @@ later_ticks : (whats 3 ≡ told.Sent 0 2 (ping 3) ∷ told.Sent 1 2 (summary 1) 
 unfolding all_numbers in_view_by started signs signs_and_sends wants takes lives state_of delivered handles refusal sends certificate_of neighbours neighbours_and answering_mask bits_where page partner page_number lacking accuses passed probed_at due_tick ticked read_of whole_of datagram_at head_at items_at content_at records_at counted_at record_at body_at certificate_at note_at accusation_at key_at signature_at head_bytes records_bytes note_bytes accusation_bytes summary_at entries_at entry_at entry_bytes summary_bytes certificate_bytes key_bytes
 later_ticks = (refl, refl)
 
--- The same of the third tick, from the state after the tick alone: what is told of accusations, and what goes out.
+-- The same of the third tick, from the state after the tick alone: what is reported of accusations, and what goes out.
 abbrev third : Node
 third = at_tick (setting 1) (alone 2)
 

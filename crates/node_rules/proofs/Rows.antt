@@ -1,4 +1,4 @@
--- Worked rows: what a node tells and sends. Signatures are bytes that say nothing, and verify; places are numbers.
+-- Worked rows: what a node reports and sends. Signatures are bytes that say nothing, and verify; places are numbers.
 use Rattle.std.proofs.Common.{◌≡◌, ℕ, List, [], ◌∷◌, None, Some, true, refl, replicate}
 use Rattle.ff_ids.specs.Masks.{bits_where}
 use Rattle.ff_ids.specs.declared.Group.{Group}

@@ -1,4 +1,4 @@
--- What is told as sent is what is sent, and what goes out where no records are delivered.
+-- What is reported as sent is what is sent, and what goes out where no records are delivered.
 use Rattle.std.proofs.Common.{◌≡◌, ℕ, ◌+◌, Bool, true, false, cond, List, [], ◌∷◌, ◌++◌, length, filter, map, refl, ap, sym, ◌∙◌, arith}
 use Rattle.std.specs.Prelude.{Ok}
 use Rattle.std.proofs.lemmas.Bool.{false≢true}
@@ -28,12 +28,12 @@ use Rattle.node_rules.proofs.Small.{node-sends}
 use Rattle.node_rules.proofs.Handling.{nil-right, that-tells, unlived, map-append, apart-over, that-sends}
 use Rattle.node_rules.proofs.Carrying.{Carries, beside-apart, carries-call, carries-delivered_until, carries-ticked_until}
 
--- ---- what is told as sent
+-- ---- what is reported as sent
 
 what_of : journal.Event → whats.What
 what_of e = e.what
 
--- so far, and with more told
+-- so far, and with more reported
 sent-more : (c : Call) (more : List journal.Event) → filter (λ (e : journal.Event). is_sent e.what) more ≡ [] → TellsSendings c → map (λ (e : journal.Event). e.what) (filter (λ (e : journal.Event). is_sent e.what) (c.told ++ more)) ≡ sendings 0 c.sent
 sent-more c more none h =
     ap (map (λ (e : journal.Event). e.what)) (filter-append (λ (e : journal.Event). is_sent e.what) c.told more ∙ ap (λ xs. told_that is_sent c ++ xs) none ∙ nil-right (told_that is_sent c)) ∙ h
@@ -108,7 +108,7 @@ called-sendings s n = holds-called s n (λ i call. TellsSendings call) (call-sen
 
 -- ---- pings, pongs and summaries
 
--- one event is told, and nothing is sent
+-- one event is reported, and nothing is sent
 abbrev told_one : Setting → Node → whats.What → Call
 told_one s n what = tells s what (begun n)
 

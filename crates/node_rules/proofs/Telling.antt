@@ -1,4 +1,4 @@
--- What a call tells of the view and of accusations is what the events tell that it adds to the life.
+-- What a call reports of the view and of accusations is what the events report that it adds to the life.
 use Rattle.std.proofs.Common.{◌≡◌, ℕ, true, false, List, [], ◌∷◌, ◌++◌, length, filter, map, refl, ap, sym, ◌∙◌}
 use Rattle.std.proofs.lemmas.List.{append_assoc}
 use Rattle.std.proofs.lemmas.List.Elements.{filter-append}

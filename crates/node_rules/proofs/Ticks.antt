@@ -1,4 +1,4 @@
--- What goes out at a tick, and what is told of its accusations.
+-- What goes out at a tick, and what is reported of its accusations.
 use Rattle.std.proofs.Common.{◌≡◌, ℕ, zero, suc, ◌+◌, ◌≤◌, Bool, true, false, cond, not, eqb, List, [], ◌∷◌, ◌++◌, Option, Some, None, filter, map, inl, inr, refl, ap, sym, ◌∙◌, subst, arith}
 use Rattle.std.specs.Prelude.{find, option_map, unwrap_or}
 use Rattle.std.specs.List.{list_any, range_with_len}
@@ -10,7 +10,7 @@ use Rattle.ff_ids.specs.Masks.{ring_count}
 use Rattle.ff_ids.specs.Views.{State, all_numbers, monitor, is_number}
 use Rattle.ff_ids.specs.Faults.{facts_of, accusation_fault}
 use Rattle.ff_ids.proofs.FaultLemmas.{passes}
-use Rattle.ff_ids.specs.Steps.{Ticks, with_kept, comes_first, after_accusation}
+use Rattle.ff_ids.specs.Steps.{Ticks, with_kept, precedes, after_accusation}
 use Rattle.membership.proofs.NumberLemmas.{all_length}
 use Rattle.life_laws.proofs.Lists.{In, In-from_Contains, Contains-from_In, In-filter, In-from_filter, In-append_left, In-append_cases}
 use Rattle.detector.specs.declared.watch.Watched.{Watched}
@@ -77,7 +77,7 @@ rises-silent s n st =
 find-with_kept : (q : AccBody × ℕ → Bool) (p : AccBody × ℕ) (xs : List (AccBody × ℕ)) → q p ≡ false → find q (with_kept p xs) ≡ find q xs
 find-with_kept q p [] h = rw h refl
 find-with_kept q p (x ∷ xs) h =
-    cond_both (comes_first x.0 p.0) (x ∷ with_kept p xs) (p ∷ x ∷ xs) (λ ys. find q ys ≡ find q (x ∷ xs))
+    cond_both (precedes x.0 p.0) (x ∷ with_kept p xs) (p ∷ x ∷ xs) (λ ys. find q ys ≡ find q (x ∷ xs))
     (λ yes. ap (λ (o : Option (AccBody × ℕ)). cond (q x) (Some x) o) (find-with_kept q p xs h))
     (λ no. rw h refl)
 

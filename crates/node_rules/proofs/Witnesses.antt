@@ -24,9 +24,10 @@ use Rattle.detector.specs.Silence.{History, counts, ponged}
 use Rattle.journal.specs.declared.event.Event as journal
 use Rattle.journal.specs.declared.event.What as whats
 use Rattle.journal.specs.declared.event.What.TheVariants as told
+use Rattle.validate.specs.Table.{certificate_fault, signature_fault}
 use Rattle.node_rules.specs.Nodes.{Setting, Node, state_of, event_of, certificate_of, public_key_of, neighbours, neighbours_and}
 use Rattle.node_rules.specs.Pages.{page, partner, page_number, lacking}
-use Rattle.node_rules.specs.Refusals.{certificate_fault, signature_fault, refusal, refusal_of}
+use Rattle.node_rules.specs.Refusals.{refusal, refusal_of}
 use Rattle.node_rules.specs.Calls.{Call, begun, tells, lives, takes, spends, signs, signs_and_sends, wants, stops, sends, sends_to_all, is_used_up, own_record}
 use Rattle.node_rules.specs.Deliveries.{answer_to, answers, judged, handles, handles_all, is_other, gives, replies, exchanges, pinged, ponged_by, hears, delivered}
 use Rattle.node_rules.specs.Ticking.{accusation_on, ring_for, has_accused, wants_accusation, accuses, accuses_all, is_due, silent_in, pings_in, probes_after, pings_all, summary_to, round_of, passed, probed_at, due_tick, ticked}
@@ -155,7 +156,7 @@ accepted-witnessed s base n d r (Certificate x) is fine f here =
 accepted-witnessed s base n d r (Note x) is fine f here =
     let fine2 : refusal_of s n r (Note x) ≡ None = sym (ap (refusal_of s n r) is) ∙ fine in
     let parts = option_or-none (note_fault s.group.t (state_of s n) x) _ fine2 in
-    witness-of s base d (public_key_of n x.member) (public_key_of d.node x.member) r (Note x) here is (verified s (public_key_of n x.member) r (option_or-none (signature_fault s (public_key_of n x.member) r) _ parts.1).0) (λ key e. key-follows s n d.node x.member key f e)
+    witness-of s base d (public_key_of n x.member) (public_key_of d.node x.member) r (Note x) here is (verified s (public_key_of n x.member) r (option_or-none (signature_fault s.verifies (public_key_of n x.member) r) _ parts.1).0) (λ key e. key-follows s n d.node x.member key f e)
 accepted-witnessed s base n d r (Accusation a) is fine f here =
     let fine2 : refusal_of s n r (Accusation a) ≡ None = sym (ap (refusal_of s n r) is) ∙ fine in
     witness-of s base d (public_key_of n a.accuser) (public_key_of d.node a.accuser) r (Accusation a) here is (verified s (public_key_of n a.accuser) r (option_or-none (accusation_fault s.group.t (state_of s n) a) _ fine2).1) (λ key e. key-follows s n d.node a.accuser key f e)

@@ -53,7 +53,7 @@ pub record AccusesTheSilent (s : Setting) (n : Node) (a : AccBody) : Type 0 wher
   pub monitors : monitor (state_of s (passed s n).node) a.ring.0 a.accused ≡ Some s.me
   pub no_fault : accusation_fault s.group.t (state_of s (passed s n).node) a ≡ None
 
--- The call tells that an index was spent on the accusation.
+-- The call reports that an index was spent on the accusation.
 abbrev pub TellsAccusation : Call → AccBody → Type 0
 TellsAccusation c a = (moment : ℕ) × (index : ℕ) × Contains c.told (record { moment = moment; what = told.Spent index (Accusation a) })
 

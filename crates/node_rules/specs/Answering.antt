@@ -34,7 +34,7 @@ accusation_to_answer s fault other = None
 abbrev pub asked_by : Setting → Node → Record → Option AccBody
 asked_by s n r = accusation_to_answer s (refusal s n r) r.body
 
--- The next index is spent on the note that answers it; where the key is used up, that is told.
+-- The next index is spent on the note that answers it; where the key is used up, that is reported.
 abbrev pub answered_with : Setting → Node → Option AccBody → List whats.What
 answered_with s n None = []
 answered_with s n (Some a) = (if is_used_up s n then told.Exhausted n.stored.next else told.Spent n.stored.next (answer_to s n.stored a)) ∷ []
@@ -52,7 +52,7 @@ abbrev pub records_told : Setting → Node → List Record → List whats.What
 records_told s n [] = []
 records_told s n (r ∷ records) = (verdict_on s n r ∷ answered_with s n (asked_by s n r)) ++ records_told s (when_handled s n r) records
 
--- Where records are delivered, this is told beside the life and the datagrams, and nothing else.
+-- Where records are delivered, this is reported beside the life and the datagrams, and nothing else.
 abbrev pub RecordsAreTold : Type 0
 RecordsAreTold = (s : Setting) (n : Node) (bytes : List ℕ) (from : ℕ) (records : List Record) → read_of bytes ≡ Ok (kinds.Records from records)
     → told_that is_apart (delivered s n bytes) ≡ all_at (state_of s n).moment (records_told s n records)

@@ -1,4 +1,4 @@
--- A call of a node so far: what the node has come to, the events that the call has told, and the datagrams that it has
+-- A call of a node so far: what the node has come to, the events that the call has reported, and the datagrams that it has
 -- sent. Each small step of a call adds to these.
 use Rattle.std.specs.Prelude.{ℕ, Bool, true, false, ◌==◌, if◌then◌else◌, List, [], ◌∷◌, ◌++◌, length, fold, map}
 use Rattle.ff_ids.specs.Views.{State}
@@ -24,7 +24,7 @@ pub record Call : Type 0 where
 abbrev pub begun : Node → Call
 begun n = record { node = n; told = []; sent = []; ended = false }
 
--- ---- what is told
+-- ---- what is reported
 
 abbrev pub tells : Setting → whats.What → Call → Call
 tells s what c = record c { told = c.told ++ record { moment = (state_of s c.node).moment; what = what } ∷ [] }
@@ -36,7 +36,7 @@ whats_of r = map told.Expired r.expired ++ map told.Removed r.removed ++ map tol
 abbrev pub told_of : ℕ → Report → List journal.Event
 told_of moment r = map (λ what. record { moment = moment; what = what }) (whats_of r)
 
--- One event of the life, which is told with its report. What it ends is held no more.
+-- One event of the life, which is reported with its report. What it ends is held no more.
 unfoldable pub lives : Setting → Event → Call → Call
 lives s e c =
     let stepped = step s.group (state_of s c.node) e in

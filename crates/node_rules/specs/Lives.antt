@@ -48,9 +48,9 @@ abbrev pub is_certificate_for : ℕ → Body → Bool
 is_certificate_for m (Certificate c) = c.member == m
 is_certificate_for m other = false
 
--- ---- what a life tells
+-- ---- what a life reports
 
--- The event tells of the view or of accusations, as the membership reports it.
+-- The event is about the view or of accusations, as the membership reports it.
 abbrev pub is_of_life : whats.What → Bool
 is_of_life (told.Entered m) = true
 is_of_life (told.Expired a) = true
@@ -58,12 +58,12 @@ is_of_life (told.Removed m) = true
 is_of_life (told.Fell a) = true
 is_of_life other = false
 
--- What these events of a life tell, from this state on.
+-- What these events of a life report, from this state on.
 abbrev pub told_by : Group → State → List Event → List journal.Event
 told_by g st [] = []
 told_by g st (e ∷ events) = told_of (step g st e).state.moment (step g st e).report ++ told_by g (step g st e).state events
 
--- What a call tells of the view and of accusations is what the events tell that it adds to the life.
+-- What a call reports of the view and of accusations is what the events report that it adds to the life.
 pub record TellsItsLife (s : Setting) (n : Node) (c : Call) : Type 0 where
   pub more : List Event
   pub grew : c.node.lived ≡ n.lived ++ more
@@ -104,7 +104,7 @@ EachLifeIsJustified = (s : Setting) (n : Node) → IsJustified s.group (opening 
 abbrev pub AnswersHoldInLives : Type 0
 AnswersHoldInLives = (s : Setting) (n : Node) → RulesOut s.group (opening []) n.lived
 
--- Each call tells its life, whichever put fails in it.
+-- Each call reports its life, whichever put fails in it.
 abbrev pub EachCallTellsItsLife : Type 0
 EachCallTellsItsLife = (s : Setting) (n : Node) (i : Input) (fails_at : Option ℕ) → TellsItsLife s n (called s n i fails_at)
 

@@ -1,4 +1,4 @@
--- What goes out at a tick, and what is told of its accusations: computed from the state after the tick of the life.
+-- What goes out at a tick, and what is reported of its accusations: computed from the state after the tick of the life.
 use Rattle.std.specs.Prelude.{◌≡◌, ℕ, ◌+◌, false, not, ◌==◌, if◌then◌else◌, List, [], ◌∷◌, ◌++◌, filter, map, unwrap_or}
 use Rattle.std.specs.Option.{option_map_or}
 use Rattle.ff_ids.specs.Views.{State}
@@ -60,7 +60,7 @@ goes_out s n st later =
 abbrev pub TickSends : Type 0
 TickSends = (s : Setting) (n : Node) → (ticked s n).sent ≡ goes_out s (at_tick s n) (state_of s (at_tick s n)) (ticked s n).node
 
--- ---- what is told
+-- ---- what is reported
 
 -- Of each in order that it is silent, and that an index is spent on its accusation, or that the key has none left.
 abbrev pub accusing_told : Setting → State → ℕ → List ℕ → List whats.What
@@ -69,7 +69,7 @@ accusing_told s st index (m ∷ accused) =
     told.Silent m ∷ (if index == s.indexes then told.Exhausted index ∷ accusing_told s st index accused
     else told.Spent index (accusation_of s st m) ∷ accusing_told s st (index + 1) accused)
 
--- This is told at a tick beside the life and the datagrams, and nothing else.
+-- This is reported at a tick beside the life and the datagrams, and nothing else.
 abbrev pub TickTells : Type 0
 TickTells = (s : Setting) (n : Node) → let p = at_tick s n in let st = state_of s p in
     told_that is_apart (ticked s n) ≡ all_at st.moment (accusing_told s st p.stored.next (to_accuse s p st))

@@ -1,4 +1,4 @@
--- That what is told as sent is what is sent, and what goes out where no records are delivered.
+-- That what is reported as sent is what is sent, and what goes out where no records are delivered.
 use Rattle.std.specs.Prelude.{◌≡◌, ℕ, ◌+◌, Bool, true, false, if◌then◌else◌, List, [], ◌∷◌, ◌++◌, Option, Ok, map}
 use Rattle.ff_ids.specs.declared.summary.Summary.{Summary}
 use Rattle.records.specs.declared.Record.{Record}
@@ -15,7 +15,7 @@ use Rattle.node_rules.specs.Deliveries.{is_other, delivered}
 use Rattle.node_rules.specs.OnDisks.{Input, called}
 use Rattle.node_rules.specs.Verdicts.{all_at, told_that, is_apart}
 
--- ---- what is told of it
+-- ---- what is reported of it
 
 abbrev pub is_sent : whats.What → Bool
 is_sent (told.Sent place to bytes) = true
@@ -26,7 +26,7 @@ abbrev pub sendings : ℕ → List (ℕ × List ℕ) → List whats.What
 sendings place [] = []
 sendings place (d ∷ sent) = told.Sent place d.0 d.1 ∷ sendings (place + 1) sent
 
--- What the call tells as sent is what it sends, in order, each with its place among the call's.
+-- What the call reports as sent is what it sends, in order, each with its place among the call's.
 abbrev pub TellsSendings : Call → Type 0
 TellsSendings c = map (λ e. e.what) (told_that is_sent c) ≡ sendings 0 c.sent
 
@@ -35,7 +35,7 @@ SentIsTold = (s : Setting) (n : Node) (i : Input) (fails_at : Option ℕ) → Te
 
 -- ---- pings, pongs and summaries
 
--- Beside the datagrams the call tells this alone, it sends these, and leaves its node so.
+-- Beside the datagrams the call reports this alone, it sends these, and leaves its node so.
 pub record Brings (s : Setting) (n : Node) (what : whats.What) (sent : List (ℕ × List ℕ)) (later : Node) (c : Call) : Type 0 where
   pub told : told_that is_apart c ≡ all_at (state_of s n).moment (what ∷ [])
   pub sent_so : c.sent ≡ sent
@@ -46,7 +46,7 @@ abbrev pub PingsBring : Type 0
 PingsBring = (s : Setting) (n : Node) (bytes : List ℕ) (from nonce : ℕ) → read_of bytes ≡ Ok (kinds.Ping from nonce)
     → Brings s n (told.Ping from nonce) (if is_other s n from then (from, datagram_bytes (kinds.Pong s.me nonce)) ∷ [] else []) n (delivered s n bytes)
 
--- A pong is told, with whether it counts, and the probes see it.
+-- A pong is reported, with whether it counts, and the probes see it.
 abbrev pub PongsBring : Type 0
 PongsBring = (s : Setting) (n : Node) (bytes : List ℕ) (from nonce : ℕ) → read_of bytes ≡ Ok (kinds.Pong from nonce)
     → Brings s n (told.Pong from nonce (counts n.probes from nonce)) [] (record n { probes = ponged n.probes from nonce }) (delivered s n bytes)

@@ -21,7 +21,7 @@ opened s seed certificates stored = fold (λ c r. takes s r c) (begun (blank s s
 abbrev pub first_note : Setting → Stored → Body
 first_note s stored = Note (record { member = s.me; epoch = stored.epoch + 1; mask = record { 0 = first_mask s.group.t stored.mask.0 } })
 
--- A life is refused where the key is used up, and nothing is told then.
+-- A life is refused where the key is used up, and nothing is reported then.
 abbrev pub may_start : Setting → Stored → Bool
 may_start s stored = not (stored.next == s.indexes)
 

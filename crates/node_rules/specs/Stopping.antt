@@ -1,4 +1,4 @@
--- What a call tells and sends in which the disk fails.
+-- What a call reports and sends in which the disk fails.
 use Rattle.std.specs.Prelude.{◌≡◌, ℕ, ◌-◌, true, false, List, [], ◌∷◌, ◌++◌, Option, Some, None, Ok}
 use Rattle.ff_ids.specs.declared.AccBody.{AccBody}
 use Rattle.records.specs.declared.Record.{Record}
@@ -15,7 +15,7 @@ use Rattle.node_rules.specs.Verdicts.{all_at, told_that, is_apart, is_took, when
 use Rattle.node_rules.specs.Answering.{asked_by, records_told, answers_sent}
 use Rattle.node_rules.specs.Outgoing.{at_tick, unaccused, accusations_out, accusing_told}
 
--- The call has told these, beside the life and the datagrams, and that it stopped; it has sent these datagrams; and the
+-- The call has reported these, beside the life and the datagrams, and that it stopped; it has sent these datagrams; and the
 -- life is over.
 pub record StopsBehind (moment : ℕ) (whats : List whats.What) (sent : List (ℕ × List ℕ)) (c : Call) : Type 0 where
   pub told : told_that is_apart c ≡ all_at moment (whats ++ told.Stopped ∷ [])
@@ -42,7 +42,7 @@ pub record StopsAnswering (s : Setting) (n : Node) (bytes : List ℕ) (put : ℕ
   pub wants : WantsAnswer s (when_all_handled s n before) at
   pub puts : put ≡ puts_for s n before
 
--- Where it fails, the records before it are told and answered as ever, the verdict on it is told, and nothing behind it.
+-- Where it fails, the records before it are reported and answered as ever, the verdict on it is reported, and nothing behind it.
 abbrev pub StoppedDeliveryEnds : Type 0
 StoppedDeliveryEnds = (s : Setting) (n : Node) (bytes : List ℕ) (put : ℕ) (stop : StopsAnswering s n bytes put)
     → StopsBehind (state_of s n).moment (records_told s n stop.before ++ verdict_on s (when_all_handled s n stop.before) stop.at ∷ [])
@@ -67,7 +67,7 @@ pub record StopsAccusing (s : Setting) (n : Node) (put : ℕ) : Type 0 where
   pub left : is_used_up s (accuses_all s before (probed_at s n)).node ≡ false
   pub puts : put ≡ puts_against s n before
 
--- Where it fails, the accusations of those before it are told and sent as ever, and no ping and no summary goes out.
+-- Where it fails, the accusations of those before it are reported and sent as ever, and no ping and no summary goes out.
 abbrev pub StoppedTickEnds : Type 0
 StoppedTickEnds = (s : Setting) (n : Node) (put : ℕ) (stop : StopsAccusing s n put) → let p = at_tick s n in let st = state_of s p in
     StopsBehind st.moment (accusing_told s st p.stored.next (unaccused s st stop.before) ++ told.Silent stop.at ∷ [])

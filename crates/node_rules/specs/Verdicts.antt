@@ -1,4 +1,4 @@
--- What a delivery tells of the records in it, or of bytes that are no datagram.
+-- What a delivery reports of the records in it, or of bytes that are no datagram.
 use Rattle.std.specs.Prelude.{◌≡◌, ℕ, Bool, true, false, List, [], ◌∷◌, Result, Ok, Err, filter, map}
 use Rattle.records.specs.declared.Record.{Record}
 use Rattle.datagram.specs.declared.Datagram.{Datagram}
@@ -56,7 +56,7 @@ abbrev pub verdicts : Setting → Node → List Record → List whats.What
 verdicts s n [] = []
 verdicts s n (r ∷ records) = verdict_on s n r ∷ verdicts s (when_handled s n r) records
 
--- A delivery tells the verdicts on the records that were read, in order, and no other.
+-- A delivery reports the verdicts on the records that were read, in order, and no other.
 abbrev pub VerdictsAreTold : Type 0
 VerdictsAreTold = (s : Setting) (n : Node) (bytes : List ℕ) → told_that is_took (delivered s n bytes) ≡ all_at (state_of s n).moment (verdicts s n (records_in (read_of bytes)))
 
@@ -71,13 +71,13 @@ abbrev pub bad_forms : Result Datagram ℕ → List whats.What
 bad_forms (Ok d) = []
 bad_forms (Err place) = told.BadForm place ∷ []
 
--- The call has told this at its node's moment and nothing else, has sent nothing, and leaves the node.
+-- The call has reported this at its node's moment and nothing else, has sent nothing, and leaves the node.
 pub record OnlyTells (s : Setting) (n : Node) (what : whats.What) (c : Call) : Type 0 where
   pub told : c.told ≡ all_at (state_of s n).moment (what ∷ [])
   pub sent : c.sent ≡ []
   pub node : c.node ≡ n
 
--- Bytes that don't read are told once, with the place, and nothing else is; and of no others is that told.
+-- Bytes that don't read are reported once, with the place, and nothing else is; and of no others is that reported.
 abbrev pub BadFormsAreTold : Type 0
 BadFormsAreTold = (s : Setting) (n : Node) (bytes : List ℕ)
     → ((place : ℕ) → read_of bytes ≡ Err place → OnlyTells s n (told.BadForm place) (delivered s n bytes))

@@ -29,7 +29,7 @@ pub fn answers_hold_in_lives()
     ensures { AnswersHoldInLives }
 {}
 
-/// What a call tells of the view and of accusations is what the events tell that it adds to the life, in order; also
+/// What a call reports of the view and of accusations is what the events report that it adds to the life, in order; also
 /// where a put fails in it.
 pub fn each_call_tells_its_life()
     ensures { EachCallTellsItsLife }
@@ -75,21 +75,21 @@ pub fn only_the_silent_are_accused()
     ensures { OnlyTheSilentAreAccused }
 {}
 
-/// A delivery tells one verdict on each record that was read, in order: its body and its first fault, in the node as
+/// A delivery reports one verdict on each record that was read, in order: its body and its first fault, in the node as
 /// the records before it have left it. Where the disk fails in an answer, the verdict on that record is the last.
 pub fn verdicts_are_told()
     ensures whole { VerdictsAreTold }
     ensures stopped { StoppedVerdictsAreTold }
 {}
 
-/// Of bytes that are no datagram exactly one event tells the place, and nothing else is told or sent, and the node
-/// stays as it was; no other delivery tells one.
+/// Of bytes that are no datagram exactly one event reports the place, and nothing else is reported or sent, and the node
+/// stays as it was; no other delivery reports one.
 pub fn bad_forms_are_told()
     ensures { BadFormsAreTold }
 {}
 
 /// Each accepted accusation against the node, and no other record, spends one index on the note that answers it, or
-/// is told that the key is used up, directly behind the verdict. Where records are delivered, nothing goes out but
+/// reports that the key is used up, directly behind the verdict. Where records are delivered, nothing goes out but
 /// these notes, in order, each to the node's neighbours.
 pub fn answers_go_out()
     ensures told { AnswersAreTold }
@@ -99,14 +99,14 @@ pub fn answers_go_out()
 
 /// At a due tick there go out, in order: for each silent member that the node has not accused, as long as its key has
 /// an index, one accusation, to the neighbours and to the member; the pings; the summary. At any other tick nothing
-/// does. Beside the life and the datagrams it is told that each of those is silent, and behind each the index that is
+/// does. Beside the life and the datagrams it is reported that each of those is silent, and behind each the index that is
 /// spent on it, or that none is left; and nothing else.
 pub fn ticks_go_out()
     ensures sent { TickSends }
     ensures told { TickTells }
 {}
 
-/// Where the put for an answer or for an accusation fails, what comes before it is told and sent as ever, nothing behind
+/// Where the put for an answer or for an accusation fails, what comes before it is reported and sent as ever, nothing behind
 /// it is, and the life is over. No other put ends a call, and a call that none ends is whole and ends no life.
 pub fn stopped_calls_end()
     ensures delivery { StoppedDeliveryEnds }
@@ -128,13 +128,13 @@ pub fn only_certified_are_addressed()
     ensures ports { AddresseesHavePorts }
 {}
 
-/// What a call tells as sent is what it sends, in order, each with its place among the datagrams of the call; also in a
+/// What a call reports as sent is what it sends, in order, each with its place among the datagrams of the call; also in a
 /// call in which a put fails.
 pub fn sent_is_told()
     ensures { SentIsTold }
 {}
 
-/// Where a ping, a pong or a summary is delivered, that is told, and beside datagrams nothing else. Where the sender is
+/// Where a ping, a pong or a summary is delivered, that is reported, and beside datagrams nothing else. Where the sender is
 /// another certified member, a ping brings it a pong, and a summary what it lacks and, unless the summary is an answer,
 /// the node's page. A pong brings nothing, and the probes see it.
 pub fn what_probes_and_summaries_bring()

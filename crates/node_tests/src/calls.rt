@@ -6,8 +6,8 @@ use crate::scene::{
     GROUP, accusation, append, first_of_two, head, key_of, note, single, tells, tells_and_sends,
     told,
 };
+use fixtures::{Key, Player};
 use node_core::NodeFault;
-use node_scene::{Key, Player};
 use records::Body;
 use std::alloc::Global;
 use std::process::Abort;
@@ -102,7 +102,7 @@ fn accuses(alloc: Global, key: &mut Key, epoch: u8, ring: u8) -> Result<Vec<u8>,
     single(alloc, 2, key, accusation(2, 1, epoch, ring))
 }
 
-/// What is told of the first accusation, of the second, and of a first one on the last ring, before the datagram with the
+/// What is reported of the first accusation, of the second, and of a first one on the last ring, before the datagram with the
 /// answer.
 const FIRST: &str =
     "at 0 took accuse 2 1 1 0 : accepted\nat 0 spent 1 note 1 2 6\nat 0 fell 2 1 1 0\n";
@@ -167,7 +167,7 @@ fn both(alloc: Global, key: &mut Key) -> Result<Vec<u8>, Fail> {
     Ok(bytes)
 }
 
-/// What is told of both in one datagram.
+/// What is reported of both in one datagram.
 fn told_of_both(alloc: Global) -> Result<String, Fail> {
     let first = hex::encode(alloc, first_answer(alloc)?.as_slice())?;
     let second = hex::encode(alloc, second_answer(alloc)?.as_slice())?;
@@ -207,7 +207,7 @@ fn is_over(rt: &impl Abort, alloc: Global, node: &mut Player) -> Result<(), Fail
     Ok(())
 }
 
-/// What is told where the disk fails at the first answer.
+/// What is reported where the disk fails at the first answer.
 const STOPPED: &str = "at 0 took accuse 2 1 1 0 : accepted\nat 0 stopped\n";
 
 fn fails_at_an_answer(

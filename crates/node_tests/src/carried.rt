@@ -2,7 +2,7 @@
 
 use crate::scene::{crew_of, key_of, member, note, single, start};
 use ff_ids::{MemberId, NoteBody};
-use node_scene::{Player, Players};
+use fixtures::{Player, Players};
 use std::alloc::Global;
 use std::process::Abort;
 use std::test::Fail;

@@ -3,7 +3,7 @@
 use crate::scene::{
     GROUP, OTHER, append, first_of_two, head, key_of, note, single, tells, tells_and_sends,
 };
-use node_scene::Player;
+use fixtures::Player;
 use std::alloc::Global;
 use std::process::Abort;
 use std::test::Fail;
@@ -63,7 +63,7 @@ fn foreign_and_good(alloc: Global) -> Result<Vec<u8>, Fail> {
     Ok(bytes)
 }
 
-/// What is told of it.
+/// What is reported of it.
 const REFUSED_AND_ACCEPTED: &str = "at 0 took note 2 1 7 : refused bad-signature\n\
     at 0 took note 2 1 7 : accepted\nat 0 entered 2\n";
 
@@ -108,7 +108,7 @@ fn a_datagram_with_a_bad_record_is_none(rt: HostRuntime) -> Result<(), Fail> {
 /// A pong of 2 with the first nonce of a life whose seed has 32 bytes of 7, by another implementation of ChaCha.
 const PONG: [u8; 14] = *b"\x46\x46\x01\x02\x00\x02\x78\x92\x00\xf4\x41\xf6\xaa\x57";
 
-/// The node takes the note of 2 of this epoch, and makes a tick; the pong then comes, of which this is told.
+/// The node takes the note of 2 of this epoch, and makes a tick; the pong then comes, of which this is reported.
 fn tick_and_pong(
     rt: &impl Abort,
     alloc: Global,

@@ -5,13 +5,12 @@ ghost use Rattle.ports.specs.MemoryClock.{NeverFalls};
 
 use epoch_store::make;
 use ff_ids::{Group, Mask, MemberId};
-use fixtures::{failing_source, sink};
+use fixtures::{AUTHORITY, Key, Kinds, failing_source, sink};
 use journal::{EventFault, read_event, read_turn, write_event, write_turn};
 use line_text::BadWord;
 use lms_ots::OtsKind;
 use lms_tree::{PublicKey, TreeKind};
-use node_running::{NodeHalt, run_node};
-use node_scene::{AUTHORITY, Key, Kinds};
+use node_command::{NodeHalt, run_node};
 use ports::{LinkAnswer, MemoryClock, MemoryDisk, MemoryLink, MemorySink};
 use records::{Body, CertBody};
 use secrets::{store_tag, world_secret};

@@ -4,9 +4,9 @@ ghost use Rattle.records.specs.Spelling.{HasPort};
 
 use datagram::records_head;
 use ff_ids::{AccBody, Epoch, Group, Mask, MemberId, NoteBody, RingNo};
+use fixtures::{Crew, Key, Kinds, Player};
 use lms_ots::OtsKind;
 use lms_tree::TreeKind;
-use node_scene::{Crew, Key, Kinds, Player};
 use ports::MemoryDisk;
 use records::{Body, write_record};
 use std::alloc::Global;
@@ -122,14 +122,14 @@ pub fn single(alloc: Global, from: u8, key: &mut Key, body: Body) -> Result<Vec<
     Ok(bytes)
 }
 
-/// The last call told this, each event with a line feed.
+/// The last call reported this, each event with a line feed.
 pub fn told(rt: &impl Abort, alloc: Global, node: &Player, wanted: &str) -> Result<(), Fail> {
     let text = node.told(alloc)?;
     assert_eq!(rt; text.as_slice(), wanted.as_bytes());
     Ok(())
 }
 
-/// The bytes are delivered: the node tells this, and sends nothing.
+/// The bytes are delivered: the node reports this, and sends nothing.
 pub fn tells(
     rt: &impl Abort,
     alloc: Global,
@@ -151,7 +151,7 @@ fn sent_to_2(rt: &impl Abort, node: &Player, bytes: &[u8]) {
     }
 }
 
-/// The bytes are delivered: the node tells these lines, and then that it sent this datagram to member 2, its first one.
+/// The bytes are delivered: the node reports these lines, and then that it sent this datagram to member 2, its first one.
 pub fn tells_and_sends(
     rt: &impl Abort,
     alloc: Global,

@@ -3,24 +3,24 @@ use Rattle.std.proofs.Common.{ℕ, inr, List, [], ◌∷◌, ◌++◌, take, Opt
 use Rattle.std.specs.Io.KnownBytes.{Appends, Consumes}
 use Rattle.std.proofs.KnownBytes.{Appends-nil, Appends-trans, Consumes-nil, Consumes-trans}
 use Rattle.ports.specs.Count.{next_count}
-use Rattle.text_trace.specs.Trace.{Owed, Owing, Steps, Waits, Writes}
+use Rattle.text_trace.specs.Trace.{Continuation, Owing, Steps, Waits, Writes}
 use Rattle.text_trace.proofs.TraceLemmas.{steps-none, steps-join, ends-join, refuses-join, admits-join}
 use Rattle.text_trace.proofs.WholeLemmas.{whole-none, whole-join}
 use Rattle.play.specs.declared.stop.Stop.{Stop}
 use Rattle.play.specs.declared.stop.Stop.TheVariants as stop
-use Rattle.play.specs.Plays.{Standing, Unfailed, Lines, Came, Went, Finished, Refused, Unread, Unwritten, Starved, Stops, StopsRun, Follows, IsAdmitted, bytes_of}
+use Rattle.play.specs.Plays.{ConsumedLines, Finished, Follows, IoState, IsAdmitted, Lines, Refused, Starved, Stops, StopsRun, Unfailed, Unread, Unwritten, Advanced, bytes_of}
 
 -- something is still owed
-pub owing-later : (C : Type 0) (A B : Owed C → Type 0) (first next room later : ℕ) (was now : Standing) → Owing C A → Went C A B first next room later was now → Owing C B
+pub owing-later : (C : Type 0) (A B : Continuation C → Type 0) (first next room later : ℕ) (was now : IoState) → Owing C A → Advanced C A B first next room later was now → Owing C B
 owing-later C A B first next room later was now owing went =
     let one = went.steps owing.owed owing.is in
     record { owed = one.later; is = one.owes }
 
-unfailed-join : (was mid now : Standing) → Unfailed was mid → Unfailed mid now → Unfailed was now
+unfailed-join : (was mid now : IoState) → Unfailed was mid → Unfailed mid now → Unfailed was now
 unfailed-join was mid now a b = record { reads = b.reads ∙ a.reads; writes = b.writes ∙ a.writes }
 
 -- no line was taken yet
-pub went-none : (C : Type 0) (A : Owed C → Type 0) (room : ℕ) (was : Standing) → Went C A A 1 1 room room was was
+pub went-none : (C : Type 0) (A : Continuation C → Type 0) (room : ℕ) (was : IoState) → Advanced C A A 1 1 room room was was
 went-none C A room was = record {
   lines = [];
   bytes = [];
@@ -35,7 +35,7 @@ went-none C A room was = record {
 }
 
 -- some lines, and then others
-pub went-join : (C : Type 0) (A B D : Owed C → Type 0) (first mid next room some later : ℕ) (was then now : Standing) → Went C A B first mid room some was then → Went C B D mid next some later then now → Went C A D first next room later was now
+pub went-join : (C : Type 0) (A B D : Continuation C → Type 0) (first mid next room some later : ℕ) (was then now : IoState) → Advanced C A B first mid room some was then → Advanced C B D mid next some later then now → Advanced C A D first next room later was now
 went-join C A B D first mid next room some later was then now a b = record {
   lines = a.lines ++ b.lines;
   bytes = a.bytes ++ b.bytes;
@@ -49,7 +49,7 @@ went-join C A B D first mid next room some later was then now a b = record {
   unfailed = unfailed-join was then now a.unfailed b.unfailed;
 }
 
-lines-join : (C : Type 0) (A B : Owed C → Type 0) (first next room later : ℕ) (was then : Standing) (lines : List (List ℕ)) (bytes : List ℕ) (a : Went C A B first next room later was then) → Lines later lines bytes → Lines room (a.lines ++ lines) (a.bytes ++ bytes)
+lines-join : (C : Type 0) (A B : Continuation C → Type 0) (first next room later : ℕ) (was then : IoState) (lines : List (List ℕ)) (bytes : List ℕ) (a : Advanced C A B first next room later was then) → Lines later lines bytes → Lines room (a.lines ++ lines) (a.bytes ++ bytes)
 lines-join C A B first next room later was then lines bytes a b = record {
   whole = whole-join a.lines lines a.bytes bytes a.whole b.whole;
   few = omega (arith, a.few, b.few, length-append a.lines lines);
@@ -61,7 +61,7 @@ read-join was then now a b part first second = subst (Consumes was now) (sym (ap
 wrote-join : (was then now : Option (List ℕ)) (a b more : List ℕ) → Appends was then a → Appends then now (b ++ more) → Appends was now ((a ++ b) ++ more)
 wrote-join was then now a b more first second = subst (Appends was now) (sym (append_assoc a b more)) (Appends-trans was then now a (b ++ more) first second)
 
-pub finished-join : (C : Type 0) (A B : Owed C → Type 0) (first next room later : ℕ) (was then now : Standing) → Went C A B first next room later was then → Finished C B later then now → Finished C A room was now
+pub finished-join : (C : Type 0) (A B : Continuation C → Type 0) (first next room later : ℕ) (was then now : IoState) → Advanced C A B first next room later was then → Finished C B later then now → Finished C A room was now
 finished-join C A B first next room later was then now a b = record {
   lines = a.lines ++ b.lines;
   bytes = a.bytes ++ b.bytes;
@@ -74,7 +74,7 @@ finished-join C A B first next room later was then now a b = record {
   unfailed = unfailed-join was then now a.unfailed b.unfailed;
 }
 
-refused-join : (C : Type 0) (A B : Owed C → Type 0) (first next number room later : ℕ) (cause : C) (was then now : Standing) → Went C A B first next room later was then → Refused C B later next number cause then now → Refused C A room first number cause was now
+refused-join : (C : Type 0) (A B : Continuation C → Type 0) (first next number room later : ℕ) (cause : C) (was then now : IoState) → Advanced C A B first next room later was then → Refused C B later next number cause then now → Refused C A room first number cause was now
 refused-join C A B first next number room later cause was then now a b = record {
   lines = a.lines ++ b.lines;
   bytes = a.bytes ++ b.bytes;
@@ -89,7 +89,7 @@ refused-join C A B first next number room later cause was then now a b = record 
   unfailed = unfailed-join was then now a.unfailed b.unfailed;
 }
 
-unread-join : (C : Type 0) (A B : Owed C → Type 0) (first next room later : ℕ) (was then now : Standing) → Went C A B first next room later was then → Unread C B later then now → Unread C A room was now
+unread-join : (C : Type 0) (A B : Continuation C → Type 0) (first next room later : ℕ) (was then now : IoState) → Advanced C A B first next room later was then → Unread C B later then now → Unread C A room was now
 unread-join C A B first next room later was then now a b = record {
   lines = a.lines ++ b.lines;
   bytes = a.bytes ++ b.bytes;
@@ -105,13 +105,13 @@ unread-join C A B first next room later was then now a b = record {
   kept = b.kept ∙ a.unfailed.writes;
 }
 
-follows-join : (C : Type 0) (A B : Owed C → Type 0) (lines others : List (List ℕ)) (last : Option (List ℕ)) (text more : List ℕ) → Steps C A B lines text → Follows C B others last more → Follows C A (lines ++ others) last (text ++ more)
+follows-join : (C : Type 0) (A B : Continuation C → Type 0) (lines others : List (List ℕ)) (last : Option (List ℕ)) (text more : List ℕ) → Steps C A B lines text → Follows C B others last more → Follows C A (lines ++ others) last (text ++ more)
 follows-join C A B lines others (Some line) text more steps follows =
     let joined : Writes C A (lines ++ (others ++ line ∷ [])) (text ++ more) = steps-join C A B (Waits C) lines (others ++ line ∷ []) text more steps follows.1 in
     (follows.0, subst (λ (ls : List (List ℕ)). Writes C A ls (text ++ more)) (sym (append_assoc lines others (line ∷ []))) joined)
 follows-join C A B lines others None text more steps follows = ends-join C A B lines others text more steps follows
 
-unwritten-join : (C : Type 0) (A B : Owed C → Type 0) (first next room later : ℕ) (was then now : Standing) → Went C A B first next room later was then → Unwritten C B later then now → Unwritten C A room was now
+unwritten-join : (C : Type 0) (A B : Continuation C → Type 0) (first next room later : ℕ) (was then now : IoState) → Advanced C A B first next room later was then → Unwritten C B later then now → Unwritten C A room was now
 unwritten-join C A B first next room later was then now a b = record {
   lines = a.lines ++ b.lines;
   bytes = a.bytes ++ b.bytes;
@@ -130,11 +130,11 @@ unwritten-join C A B first next room later was then now a b = record {
   kept = b.kept ∙ a.unfailed.reads;
 }
 
-admitted-join : (C : Type 0) (P : C → Type 0) (A B : Owed C → Type 0) (lines others : List (List ℕ)) (last left : Option (List ℕ)) (text : List ℕ) → Steps C A B lines text → IsAdmitted C P B others last left → IsAdmitted C P A (lines ++ others) last left
+admitted-join : (C : Type 0) (P : C → Type 0) (A B : Continuation C → Type 0) (lines others : List (List ℕ)) (last left : Option (List ℕ)) (text : List ℕ) → Steps C A B lines text → IsAdmitted C P B others last left → IsAdmitted C P A (lines ++ others) last left
 admitted-join C P A B lines others (Some line) left text steps is = (is.0, admits-join C P A B lines others (Some line) text steps is.1)
 admitted-join C P A B lines others None left text steps is = (is.0, admits-join C P A B lines others None text steps is.1)
 
-starved-join : (C : Type 0) (P : C → Type 0) (A B : Owed C → Type 0) (first next room later : ℕ) (was then now : Standing) → Went C A B first next room later was then → Starved C P B later then now → Starved C P A room was now
+starved-join : (C : Type 0) (P : C → Type 0) (A B : Continuation C → Type 0) (first next room later : ℕ) (was then now : IoState) → Advanced C A B first next room later was then → Starved C P B later then now → Starved C P A room was now
 starved-join C P A B first next room later was then now a b = record {
   lines = a.lines ++ b.lines;
   bytes = a.bytes ++ b.bytes;
@@ -149,21 +149,21 @@ starved-join C P A B first next room later was then now a b = record {
 }
 
 -- some lines, and then a turn that stops
-pub stops-join : (C : Type 0) (P : C → Type 0) (A B : Owed C → Type 0) (first next room later : ℕ) (was then now : Standing) (s : Stop C) → Went C A B first next room later was then → Stops C P B next later then now s → Stops C P A first room was now s
+pub stops-join : (C : Type 0) (P : C → Type 0) (A B : Continuation C → Type 0) (first next room later : ℕ) (was then now : IoState) (s : Stop C) → Advanced C A B first next room later was then → Stops C P B next later then now s → Stops C P A first room was now s
 stops-join C P A B first next room later was then now (stop.Refused line cause) a b = refused-join C A B first next line room later cause was then now a b
 stops-join C P A B first next room later was then now stop.ReadFault a b = unread-join C A B first next room later was then now a b
 stops-join C P A B first next room later was then now stop.WriteFault a b = unwritten-join C A B first next room later was then now a b
 stops-join C P A B first next room later was then now stop.OutOfMemory a b = starved-join C P A B first next room later was then now a b
 
 -- the turns of a whole run
-pub run-stops : (C : Type 0) (P : C → Type 0) (A : Owed C → Type 0) (room : ℕ) (was now : Standing) (s : Stop C) → Stops C P A 1 room was now s → StopsRun C P A room was now s
+pub run-stops : (C : Type 0) (P : C → Type 0) (A : Continuation C → Type 0) (room : ℕ) (was now : IoState) (s : Stop C) → Stops C P A 1 room was now s → StopsRun C P A room was now s
 run-stops C P A room was now (stop.Refused line cause) stops = stops
 run-stops C P A room was now stop.ReadFault stops = stops
 run-stops C P A room was now stop.WriteFault stops = stops
 run-stops C P A room was now stop.OutOfMemory stops = inr stops
 
 -- no line was taken yet, and nothing learned
-pub came-none : (Reaches : List (List ℕ) → Type 0) (room : ℕ) (left : Option (List ℕ)) → Reaches [] → Came Reaches room room left left
+pub came-none : (Reaches : List (List ℕ) → Type 0) (room : ℕ) (left : Option (List ℕ)) → Reaches [] → ConsumedLines Reaches room room left left
 came-none Reaches room left none = record {
   lines = [];
   bytes = [];
@@ -174,7 +174,7 @@ came-none Reaches room left none = record {
 }
 
 -- what was learned of some lines, and then of others
-pub came-join : (P Q R : List (List ℕ) → Type 0) (room some later : ℕ) (was then now : Option (List ℕ)) → ((lines others : List (List ℕ)) → P lines → Q others → R (lines ++ others)) → Came P room some was then → Came Q some later then now → Came R room later was now
+pub came-join : (P Q R : List (List ℕ) → Type 0) (room some later : ℕ) (was then now : Option (List ℕ)) → ((lines others : List (List ℕ)) → P lines → Q others → R (lines ++ others)) → ConsumedLines P room some was then → ConsumedLines Q some later then now → ConsumedLines R room later was now
 came-join P Q R room some later was then now on a b = record {
   lines = a.lines ++ b.lines;
   bytes = a.bytes ++ b.bytes;

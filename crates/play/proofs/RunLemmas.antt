@@ -1,23 +1,23 @@
 -- What is known of less that is owed.
 use Rattle.std.proofs.Common.{ℕ, inl, inr, List, ◌++◌, Option, Some, None, Result, Ok, Err}
-use Rattle.text_trace.specs.Trace.{Owed, Refuses}
+use Rattle.text_trace.specs.Trace.{Continuation, Refuses}
 use Rattle.play.specs.declared.stop.Stop.{Stop}
 use Rattle.play.specs.declared.stop.Stop.TheVariants as stop
-use Rattle.play.specs.Plays.{Standing, Starved, Follows, IsAdmitted, Runs}
+use Rattle.play.specs.Plays.{Follows, IoState, IsAdmitted, Runs, Starved}
 
-refuses-less : (C : Type 0) (A B : Owed C → Type 0) (lines : List (List ℕ)) (last : Option (List ℕ)) (text : List ℕ) (c : C) → ((f : Owed C) → B f → A f) → Refuses C A lines last text c → Refuses C B lines last text c
+refuses-less : (C : Type 0) (A B : Continuation C → Type 0) (lines : List (List ℕ)) (last : Option (List ℕ)) (text : List ℕ) (c : C) → ((f : Continuation C) → B f → A f) → Refuses C A lines last text c → Refuses C B lines last text c
 refuses-less C A B lines (Some line) text c less h = λ f b. h f (less f b)
 refuses-less C A B lines None text c less h = λ f b. h f (less f b)
 
-follows-less : (C : Type 0) (A B : Owed C → Type 0) (lines : List (List ℕ)) (last : Option (List ℕ)) (text : List ℕ) → ((f : Owed C) → B f → A f) → Follows C A lines last text → Follows C B lines last text
+follows-less : (C : Type 0) (A B : Continuation C → Type 0) (lines : List (List ℕ)) (last : Option (List ℕ)) (text : List ℕ) → ((f : Continuation C) → B f → A f) → Follows C A lines last text → Follows C B lines last text
 follows-less C A B lines (Some line) text less h = (h.0, λ f b. h.1 f (less f b))
 follows-less C A B lines None text less h = λ f b. h f (less f b)
 
-admitted-less : (C : Type 0) (P : C → Type 0) (A B : Owed C → Type 0) (lines : List (List ℕ)) (last left : Option (List ℕ)) → ((f : Owed C) → B f → A f) → IsAdmitted C P A lines last left → IsAdmitted C P B lines last left
+admitted-less : (C : Type 0) (P : C → Type 0) (A B : Continuation C → Type 0) (lines : List (List ℕ)) (last left : Option (List ℕ)) → ((f : Continuation C) → B f → A f) → IsAdmitted C P A lines last left → IsAdmitted C P B lines last left
 admitted-less C P A B lines (Some line) left less h = (h.0, λ f b. h.1 f (less f b))
 admitted-less C P A B lines None left less h = (h.0, λ f b. h.1 f (less f b))
 
-starved-less : (C : Type 0) (P : C → Type 0) (A B : Owed C → Type 0) (room : ℕ) (was now : Standing) → ((f : Owed C) → B f → A f) → Starved C P A room was now → Starved C P B room was now
+starved-less : (C : Type 0) (P : C → Type 0) (A B : Continuation C → Type 0) (room : ℕ) (was now : IoState) → ((f : Continuation C) → B f → A f) → Starved C P A room was now → Starved C P B room was now
 starved-less C P A B room was now less h = record {
   lines = h.lines;
   bytes = h.bytes;
@@ -32,7 +32,7 @@ starved-less C P A B room was now less h = record {
 }
 
 -- what holds of all that A owes holds of all that B owes, where A owes it too
-pub runs-less : (C : Type 0) (P : C → Type 0) (A B : Owed C → Type 0) (room : ℕ) (was now : Standing) (result : Result (Unit {0}) (Stop C)) → ((f : Owed C) → B f → A f) → Runs C P A room was now result → Runs C P B room was now result
+pub runs-less : (C : Type 0) (P : C → Type 0) (A B : Continuation C → Type 0) (room : ℕ) (was now : IoState) (result : Result (Unit {0}) (Stop C)) → ((f : Continuation C) → B f → A f) → Runs C P A room was now result → Runs C P B room was now result
 runs-less C P A B room was now (Ok _) less h = record {
   lines = h.lines;
   bytes = h.bytes;

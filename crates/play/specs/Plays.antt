@@ -3,26 +3,26 @@ use Rattle.std.specs.Prelude.{◌≡◌, ℕ, ◌+◌, ◌<◌, ◌≤◌, ◌�
 use Rattle.std.specs.Io.KnownBytes.{Appends, Consumes}
 use Rattle.ports.specs.Contents.{IsUsedUp}
 use Rattle.ports.specs.Count.{next_count}
+use Rattle.ports.specs.Outside.{OfSink, OfSource}
 use Rattle.text_trace.specs.Lines.{has_no_feed, line_bytes, AreWhole, IsCut, IsFed}
-use Rattle.text_trace.specs.Trace.{Owed, Steps, Writes, Ends, Refuses, Admits}
+use Rattle.text_trace.specs.Trace.{Continuation, Steps, Writes, Ends, Refuses, Admits}
 use Rattle.play.specs.Reading.{IsRest}
 use Rattle.play.specs.declared.stop.Stop.{Stop}
 use Rattle.play.specs.declared.stop.Stop.TheVariants as stop
 
--- What stands before or after a run: the bytes left in the source and those that the sink took, where they are told,
+-- What stands before or after a run: the bytes left in the source and those that the sink took, where they are modelled,
 -- and the counts of faults of both.
-pub record Standing : Type 0 where
+pub record IoState : Type 0 where
   pub left : Option (List ℕ)
   pub taken : Option (List ℕ)
   pub read_faults : ℕ
   pub write_faults : ℕ
 
-abbrev pub standing : Option (List ℕ) → Option (List ℕ) → ℕ → ℕ → Standing
-standing left taken read_faults write_faults =
-    record { left = left; taken = taken; read_faults = read_faults; write_faults = write_faults }
+abbrev pub io : OfSource → OfSink → IoState
+io source sink = record { left = source.left; taken = sink.taken; read_faults = source.faults; write_faults = sink.faults }
 
 -- Neither side failed.
-pub record Unfailed (was now : Standing) : Type 0 where
+pub record Unfailed (was now : IoState) : Type 0 where
   pub reads : now.read_faults ≡ was.read_faults
   pub writes : now.write_faults ≡ was.write_faults
 
@@ -33,7 +33,7 @@ pub record Lines (room : ℕ) (lines : List (List ℕ)) (bytes : List ℕ) : Typ
 
 -- Lines were taken, and their trace was written. The first has the one number, and the line behind them the other; so
 -- many could come before, and so many after.
-pub record Went (C : Type 0) (A B : Owed C → Type 0) (first next room later : ℕ) (was now : Standing) : Type 0 where
+pub record Advanced (C : Type 0) (A B : Continuation C → Type 0) (first next room later : ℕ) (was now : IoState) : Type 0 where
   pub lines : List (List ℕ)
   pub bytes : List ℕ
   pub text : List ℕ
@@ -46,7 +46,7 @@ pub record Went (C : Type 0) (A B : Owed C → Type 0) (first next room later : 
   pub unfailed : Unfailed was now
 
 -- Lines were taken of which this holds; so many could come before, and so many after.
-pub record Came (Reaches : List (List ℕ) → Type 0) (room later : ℕ) (before after : Option (List ℕ)) : Type 0 where
+pub record ConsumedLines (Reaches : List (List ℕ) → Type 0) (room later : ℕ) (before after : Option (List ℕ)) : Type 0 where
   pub lines : List (List ℕ)
   pub bytes : List ℕ
   pub whole : AreWhole lines bytes
@@ -55,7 +55,7 @@ pub record Came (Reaches : List (List ℕ) → Type 0) (room later : ℕ) (befor
   pub reaches : Reaches lines
 
 -- The whole text was taken, and its trace was written.
-pub record Finished (C : Type 0) (A : Owed C → Type 0) (room : ℕ) (was now : Standing) : Type 0 where
+pub record Finished (C : Type 0) (A : Continuation C → Type 0) (room : ℕ) (was now : IoState) : Type 0 where
   pub lines : List (List ℕ)
   pub bytes : List ℕ
   pub text : List ℕ
@@ -84,7 +84,7 @@ IsLast (Some line) left = IsFed line ⊎ (IsCut line ⊎ IsUnended line left)
 
 -- The line of this number was refused, or the end: whole lines and that line were taken, and all of the trace before
 -- it was written.
-pub record Refused (C : Type 0) (A : Owed C → Type 0) (room first number : ℕ) (cause : C) (was now : Standing) : Type 0 where
+pub record Refused (C : Type 0) (A : Continuation C → Type 0) (room first number : ℕ) (cause : C) (was now : IoState) : Type 0 where
   pub lines : List (List ℕ)
   pub bytes : List ℕ
   pub last : Option (List ℕ)
@@ -99,7 +99,7 @@ pub record Refused (C : Type 0) (A : Owed C → Type 0) (room first number : ℕ
 
 -- A read failed: whole lines were taken, and then a part of a line; the trace of the whole lines was written, and
 -- nothing else.
-pub record Unread (C : Type 0) (A : Owed C → Type 0) (room : ℕ) (was now : Standing) : Type 0 where
+pub record Unread (C : Type 0) (A : Continuation C → Type 0) (room : ℕ) (was now : IoState) : Type 0 where
   pub lines : List (List ℕ)
   pub bytes : List ℕ
   pub part : List ℕ
@@ -114,12 +114,12 @@ pub record Unread (C : Type 0) (A : Owed C → Type 0) (room : ℕ) (was now : S
   pub kept : now.write_faults ≡ was.write_faults
 
 -- The text is the trace of these lines and the next one, or with none of the whole text.
-abbrev pub Follows : (C : Type 0) → (Owed C → Type 0) → List (List ℕ) → Option (List ℕ) → List ℕ → Type 0
+abbrev pub Follows : (C : Type 0) → (Continuation C → Type 0) → List (List ℕ) → Option (List ℕ) → List ℕ → Type 0
 Follows C A lines (Some line) text = IsFed line × Writes C A (lines ++ line ∷ []) text
 Follows C A lines None text = Ends C A lines text
 
 -- A write failed: the trace of whole lines was written, and then a front of that of the next line or the end.
-pub record Unwritten (C : Type 0) (A : Owed C → Type 0) (room : ℕ) (was now : Standing) : Type 0 where
+pub record Unwritten (C : Type 0) (A : Continuation C → Type 0) (room : ℕ) (was now : IoState) : Type 0 where
   pub lines : List (List ℕ)
   pub bytes : List ℕ
   pub last : Option (List ℕ)
@@ -138,13 +138,13 @@ pub record Unwritten (C : Type 0) (A : Owed C → Type 0) (room : ℕ) (was now 
 
 -- The line behind whole lines has its line feed, and isn't refused for a cause that P holds of; with none, the text is at its
 -- end, and that isn't refused.
-abbrev pub IsAdmitted : (C : Type 0) → (C → Type 0) → (Owed C → Type 0) → List (List ℕ) → Option (List ℕ) → Option (List ℕ) → Type 0
+abbrev pub IsAdmitted : (C : Type 0) → (C → Type 0) → (Continuation C → Type 0) → List (List ℕ) → Option (List ℕ) → Option (List ℕ) → Type 0
 IsAdmitted C P A lines (Some line) left = IsFed line × Admits C P A lines (Some line)
 IsAdmitted C P A lines None left = IsUsedUp left × Admits C P A lines None
 
 -- Memory was refused, for a line or an end that isn't refused for a cause that P holds of: whole lines and then that line were taken; the trace of
 -- the lines before it was written.
-pub record Starved (C : Type 0) (P : C → Type 0) (A : Owed C → Type 0) (room : ℕ) (was now : Standing) : Type 0 where
+pub record Starved (C : Type 0) (P : C → Type 0) (A : Continuation C → Type 0) (room : ℕ) (was now : IoState) : Type 0 where
   pub lines : List (List ℕ)
   pub bytes : List ℕ
   pub last : Option (List ℕ)
@@ -157,25 +157,25 @@ pub record Starved (C : Type 0) (P : C → Type 0) (A : Owed C → Type 0) (room
   pub unfailed : Unfailed was now
 
 -- How it stopped, by the cause, where the first line had this number.
-abbrev pub Stops : (C : Type 0) → (C → Type 0) → (Owed C → Type 0) → ℕ → ℕ → Standing → Standing → Stop C → Type 0
+abbrev pub Stops : (C : Type 0) → (C → Type 0) → (Continuation C → Type 0) → ℕ → ℕ → IoState → IoState → Stop C → Type 0
 Stops C P A first room was now (stop.Refused line cause) = Refused C A room first line cause was now
 Stops C P A first room was now stop.ReadFault = Unread C A room was now
 Stops C P A first room was now stop.WriteFault = Unwritten C A room was now
 Stops C P A first room was now stop.OutOfMemory = Starved C P A room was now
 
 -- The same of a whole run, which may be refused memory before it takes or writes anything.
-abbrev pub StopsRun : (C : Type 0) → (C → Type 0) → (Owed C → Type 0) → ℕ → Standing → Standing → Stop C → Type 0
+abbrev pub StopsRun : (C : Type 0) → (C → Type 0) → (Continuation C → Type 0) → ℕ → IoState → IoState → Stop C → Type 0
 StopsRun C P A room was now stop.OutOfMemory = (now ≡ was) ⊎ Starved C P A room was now
 StopsRun C P A room was now s = Stops C P A 1 room was now s
 
 -- How a run over a text went that owes what A says, where so many lines could come, by its answer.
-abbrev pub Runs : (C : Type 0) → (C → Type 0) → (Owed C → Type 0) → ℕ → Standing → Standing → Result (Unit {0}) (Stop C) → Type 0
+abbrev pub Runs : (C : Type 0) → (C → Type 0) → (Continuation C → Type 0) → ℕ → IoState → IoState → Result (Unit {0}) (Stop C) → Type 0
 Runs C P A room was now (Ok _) = Finished C A room was now
 Runs C P A room was now (Err s) = StopsRun C P A room was now s
 
 -- How one turn went: behind a line that was taken the run goes on, and owes what B says.
-abbrev pub Turns : (C : Type 0) → (C → Type 0) → (Owed C → Type 0) → (Owed C → Type 0) → ℕ → ℕ → ℕ → Standing → Standing → Result Bool (Stop C) → Type 0
-Turns C P A B first room later was now (Ok true) = Went C A B first (first + 1) room later was now
+abbrev pub Turns : (C : Type 0) → (C → Type 0) → (Continuation C → Type 0) → (Continuation C → Type 0) → ℕ → ℕ → ℕ → IoState → IoState → Result Bool (Stop C) → Type 0
+Turns C P A B first room later was now (Ok true) = Advanced C A B first (first + 1) room later was now
 Turns C P A B first room later was now (Ok false) = Finished C A room was now
 Turns C P A B first room later was now (Err s) = Stops C P A first room was now s
 

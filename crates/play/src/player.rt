@@ -3,7 +3,7 @@
 ghost use Rattle.std.specs.Prelude.{◌≡◌, ◌≤◌, ◌+◌, [], true, false, vec_capacity, None, Ok, OnOk};
 ghost use Rattle.text_trace.specs.Lines.{seen_bytes, text_lines};
 ghost use Rattle.text_trace.specs.Trace.{Admits, Owing};
-ghost use Rattle.play.specs.Plays.{Came, Runs, Turns, has_written, standing};
+ghost use Rattle.play.specs.Plays.{ConsumedLines, Runs, Turns, has_written, io};
 
 use crate::reader::read_line;
 use crate::script::{Refusal, Script};
@@ -23,18 +23,20 @@ fn turn<P: Script, S: Source, O: Sink>(
     line: &mut Vec<u8>,
     text: &mut Vec<u8>,
 ) -> Result<bool, Stop<P::Cause>>
-    requires source { S.is_open input.old ≡ true }
-    requires sink { O.is_open out.old ≡ true }
+    requires source { (S.state input.old).is_open ≡ true }
+    requires sink { (O.state out.old).is_open ≡ true }
     requires owing { Owing P.Cause (P.owes script.old) }
     requires room { seen_bytes ≤ vec_capacity line.old }
     ensures room { seen_bytes ≤ vec_capacity line.new }
-    ensures source { result ≡ Ok true → S.is_open input.new ≡ true }
-    ensures sink { O.is_open out.new ≡ has_written result }
-    ensures came { OnOk result (Came (λ lines. P.reaches script.old lines script.new) (P.room script.old) (P.room script.new) (S.left input.old) (S.left input.new)) }
+    ensures source { result ≡ Ok true → (S.state input.new).is_open ≡ true }
+    ensures sink { (O.state out.new).is_open ≡ has_written result }
+    ensures came { OnOk result (ConsumedLines (λ lines. P.reaches script.old lines script.new)
+        (P.room script.old) (P.room script.new) (S.state input.old).left (S.state input.new).left) }
     ensures ended { result ≡ Ok false → Admits P.Cause P.judged (P.owes script.new) [] None }
-    ensures turns { Turns P.Cause P.judged (P.owes script.old) (P.owes script.new) number (P.room script.old) (P.room script.new)
-        (standing (S.left input.old) (O.taken out.old) (S.faults input.old) (O.faults out.old))
-        (standing (S.left input.new) (O.taken out.new) (S.faults input.new) (O.faults out.new)) result }
+    ensures turns { Turns P.Cause P.judged (P.owes script.old) (P.owes script.new) number
+        (P.room script.old) (P.room script.new)
+        (io (S.state input.old) (O.state out.old))
+        (io (S.state input.new) (O.state out.new)) result }
 {
     text.clear();
     match read_line(input, line) {
@@ -77,17 +79,18 @@ pub fn play<P: Script, S: Source, O: Sink>(
     input: &mut S,
     out: &mut O,
 ) -> Result<(), Stop<P::Cause>>
-    requires source { S.is_open input.old ≡ true }
-    requires sink { O.is_open out.old ≡ true }
+    requires source { (S.state input.old).is_open ≡ true }
+    requires sink { (O.state out.old).is_open ≡ true }
     requires owing { Owing P.Cause (P.owes script.old) }
     requires few { P.room script.old ≤ text_lines }
-    ensures sink { O.is_open out.new ≡ has_written result }
+    ensures sink { (O.state out.new).is_open ≡ has_written result }
     // Where the text is at its end, what the script has learned of its lines.
-    ensures came { OnOk result (Came (λ lines. P.reaches script.old lines script.new) (P.room script.old) (P.room script.new) (S.left input.old) (S.left input.new)) }
+    ensures came { OnOk result (ConsumedLines (λ lines. P.reaches script.old lines script.new)
+        (P.room script.old) (P.room script.new) (S.state input.old).left (S.state input.new).left) }
     ensures ended { OnOk result (Admits P.Cause P.judged (P.owes script.new) [] None) }
     ensures runs { Runs P.Cause P.judged (P.owes script.old) (P.room script.old)
-        (standing (S.left input.old) (O.taken out.old) (S.faults input.old) (O.faults out.old))
-        (standing (S.left input.new) (O.taken out.new) (S.faults input.new) (O.faults out.new)) result }
+        (io (S.state input.old) (O.state out.old))
+        (io (S.state input.new) (O.state out.new)) result }
 {
     let Ok(mut line) = Vec::with_capacity(alloc, SEEN_BYTES) else {
         return Err(Stop::OutOfMemory);

@@ -24,12 +24,14 @@ pub enum Ending {
 /// Reads the next line up to and including its line feed; where the input ends inside it, what is left; and
 /// of a line with more than 65,600 bytes before its line feed the first 65,601. Takes no memory.
 pub fn read_line<S: Source>(input: &mut S, line: &mut Vec<u8>) -> Result<Ending, Failed>
-    requires open { S.is_open input.old ≡ true }
+    requires open { (S.state input.old).is_open ≡ true }
     requires room { seen_bytes ≤ vec_capacity line.old }
     ensures room { seen_bytes ≤ vec_capacity line.new }
-    ensures going { S.is_open input.new ≡ is_going result }
-    ensures faults { S.faults input.new ≡ counted (is_err result) (S.faults input.old) }
-    ensures reads { ReadsLine (S.left input.old) (S.left input.new) line.new.items result }
+    ensures going { (S.state input.new).is_open ≡ is_going result }
+    ensures faults { (S.state input.new).faults
+        ≡ counted (is_err result) (S.state input.old).faults }
+    ensures reads { ReadsLine (S.state input.old).left (S.state input.new).left line.new.items
+        result }
 {
     line.clear();
     'bytes: while line.len() < SEEN_BYTES {

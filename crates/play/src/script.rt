@@ -1,7 +1,7 @@
 //! What a line of a text does.
 
 ghost use Rattle.std.specs.Prelude.{◌≡◌, ◌<◌, ℕ, List, [], ◌∷◌, ◌++◌, OnOk};
-ghost use Rattle.text_trace.specs.Trace.{Owed, Owing, Waits};
+ghost use Rattle.text_trace.specs.Trace.{Continuation, Owing, Waits};
 
 use std::alloc::Global;
 
@@ -26,7 +26,7 @@ pub trait Script {
     ghost judged: { Self.Cause → Type 0 };
 
     /// What is owed for the lines that are still to come.
-    ghost owes: { Self → Owed Self.Cause → Type 0 };
+    ghost owes: { Self → Continuation Self.Cause → Type 0 };
 
     /// How many lines may still come.
     ghost room: { Self → ℕ };
@@ -48,7 +48,8 @@ pub trait Script {
         requires owing { Owing Self.Cause (owes self.old) }
         ensures room { OnOk result (room self.new < room self.old) }
         ensures reaches { OnOk result (reaches self.old (bytes.now ∷ []) self.new) }
-        ensures line { AnswersLine Self.Cause judged (owes self.old) (owes self.new) bytes.now text.new.items result };
+        ensures line { AnswersLine Self.Cause judged (owes self.old) (owes self.new) bytes.now
+            text.new.items result };
 
     /// Ends the text, and puts what is written at its end into the text, which is empty. Memory is refused for no
     /// end that is refused.
@@ -59,11 +60,12 @@ pub trait Script {
 
     /// Nothing is written for a line without its line feed, nor for what follows it; and between two lines the text
     /// isn't refused yet.
-    ghost waits: { (s : Self) (f : Owed Self.Cause) → owes s f → Waits Self.Cause f };
+    ghost waits: { (s : Self) (f : Continuation Self.Cause) → owes s f → Waits Self.Cause f };
 
     /// With no line nothing is learned.
     ghost reaches_itself: { (s : Self) → reaches s [] s };
 
     /// What is learned of lines is kept over those behind them.
-    ghost reaches_on: { (s then later : Self) (lines others : List (List ℕ)) → reaches s lines then → reaches then others later → reaches s (lines ++ others) later };
+    ghost reaches_on: { (s then later : Self) (lines others : List (List ℕ)) → reaches s lines then
+        → reaches then others later → reaches s (lines ++ others) later };
 }

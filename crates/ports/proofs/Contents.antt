@@ -1,4 +1,4 @@
--- How told contents join, call after call.
+-- How modelled contents join, call after call.
 use Rattle.std.proofs.Common.{◌≡◌, ℕ, ◌+◌, ◌-◌, ◌≤◌, Option, None, Some, List, ◌++◌, length, take, drop, Result, Ok, Err, refl, arith, length-append, subst, sym, ap}
 use Rattle.std.proofs.Math.Seq.{take-add, drop-append_seam, take-append_seam, take-append-add}
 use Rattle.std.proofs.KnownBytes.{Appends-trans, Consumes-trans}
@@ -15,7 +15,7 @@ Appends-rest taken before after bytes at n was now =
     let next : Appends before after (take n (drop at bytes)) = subst (λ rest. Appends before after (take n rest)) whole now in
     subst (Appends taken after) more (Appends-trans taken before after _ _ was next)
 
--- the bytes in front of told contents, and those left behind them
+-- the bytes in front of modelled contents, and those left behind them
 pub Consumes-left : (bytes front : List ℕ) (after : Option (List ℕ)) → Consumes (Some bytes) after front → after ≡ Some (drop (length front) bytes)
 Consumes-left bytes front None is = absurd is
 Consumes-left bytes front (Some left) is = rw (is, drop-append_seam front left) refl
@@ -24,7 +24,7 @@ pub Consumes-front : (bytes front : List ℕ) (after : Option (List ℕ)) → Co
 Consumes-front bytes front None is = absurd is
 Consumes-front bytes front (Some left) is = rw (is, take-append_seam front left) refl
 
--- the bytes taken before these were told, and then with them
+-- the bytes taken before these, and then with them
 pub Appends-told : (before bytes : List ℕ) (after : Option (List ℕ)) → Appends (Some before) after bytes → after ≡ Some (before ++ bytes)
 Appends-told before bytes None is = absurd is
 Appends-told before bytes (Some taken) is = ap Some is

@@ -1,4 +1,4 @@
--- How calls of a disk whose state is told join, call after call.
+-- How calls of a disk whose state is modelled join, call after call.
 use Rattle.std.proofs.Common.{◌≡◌, Bool, true, false, Option, None, Some, List, [], ◌∷◌, ◌++◌, refl, sym, ap, ◌∙◌}
 use Rattle.ports.specs.DiskCalls.{DiskCall}
 use Rattle.ports.specs.MemoryDisk.{DiskState}

@@ -11,7 +11,7 @@ pub record TakesReading (last : ℕ) (coming : List ℕ) (after : Option (List �
   pub read : reading ≡ next_reading last coming
   pub left : after ≡ Some (drop 1 coming)
 
--- A clock that tells the readings to come goes on telling them, and one that tells none doesn't begin to.
+-- A clock that is modelled stays so, and one that is not does not begin to be.
 abbrev pub ReadsClock : ℕ → Option (List ℕ) → Option (List ℕ) → ℕ → Type 0
 ReadsClock last None after reading = after ≡ None
 ReadsClock last (Some coming) after reading = TakesReading last coming after reading

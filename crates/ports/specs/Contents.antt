@@ -1,9 +1,9 @@
--- Contents that an object may tell: `None` where it tells none. Std's `Consumes`, `Appends` and `Keeps` say what a
--- call did to them, and nothing where none were told before it.
+-- Contents of an object, where they are modelled, and else `None`. Std's `Consumes`, `Appends` and `Keeps` say what a
+-- call did to them, and nothing where none were modelled before it.
 use Rattle.std.specs.Prelude.{◌≡◌, ℕ, ◌<◌, Option, None, Some, List, [], length, take, Result, Ok, Err}
 use Rattle.std.specs.Io.KnownBytes.{Appends}
 
--- no byte is left, where the bytes left are told
+-- no byte is left, where the bytes left are modelled
 abbrev pub IsUsedUp : Option (List ℕ) → Type 0
 IsUsedUp None = Unit {0}
 IsUsedUp (Some left) = left ≡ []

@@ -57,7 +57,7 @@ wrote place bytes moment = record moment {
 abbrev pub stays : Moment → Moment
 stays moment = moment
 
--- one step further, where moments are told
+-- one step further, where moments are modelled
 abbrev pub next : (Moment → Moment) → List Moment → List Moment
 next step [] = []
 next step (now ∷ past) = step now ∷ now ∷ past
@@ -92,18 +92,18 @@ Opens older newer Done = newer ≡ older
 Opens older newer Failed = Fails stays older newer
 Opens older newer OutOfMemory = newer ≡ older
 
--- the length of the file, where it is told
+-- the length of the file, where it is modelled
 abbrev pub Measures : List Moment → ℕ → Type 0
 Measures [] n = Unit {0}
 Measures (now ∷ past) n = n ≡ length now.image
 
 -- the first n bytes of the buffer are those of the file from the place on, as many as the buffer holds and
--- the file has, where the file is told
+-- the file has, where the file is modelled
 abbrev pub ReadsPart : List Moment → ℕ → List ℕ → ℕ → Type 0
 ReadsPart [] place filled n = Unit {0}
 ReadsPart (now ∷ past) place filled n = take n filled ≡ take (length filled) (drop place now.image)
 
--- behind those bytes the buffer is as it was, where the file is told
+-- behind those bytes the buffer is as it was, where the file is modelled
 abbrev pub KeepsRest : List Moment → ℕ → List ℕ → List ℕ → Type 0
 KeepsRest [] n before filled = Unit {0}
 KeepsRest (now ∷ past) n before filled = drop n filled ≡ drop n before

@@ -9,7 +9,7 @@ pub data DiskCall : Type 0 where
   ToWrite : ℕ → List ℕ → DiskCall
   ToSync : DiskCall
 
--- one call more, where calls are told
+-- one call more, where calls are modelled
 abbrev pub with_call : DiskCall → Option (List DiskCall) → Option (List DiskCall)
 with_call call None = None
 with_call call (Some past) = Some (call ∷ past)

@@ -1,4 +1,4 @@
--- A disk whose state is told: what each call makes of it, and which calls fail.
+-- A disk whose state is modelled: what each call makes of it, and which calls fail.
 use Rattle.std.specs.Prelude.{◌≡◌, Bool, true, false, ◌&&◌, not, if◌then◌else◌, Option, None, Some, List, [], ◌∷◌, length}
 use Rattle.ports.specs.declared.Opened.{Opened}
 use Rattle.ports.specs.declared.Opened.TheVariants as opened
@@ -32,7 +32,7 @@ abbrev pub runs : List DiskCall → DiskState → Came
 runs [] disk = record { disk = disk; failed = false }
 runs (call ∷ earlier) disk = makes call (runs earlier disk)
 
--- where the state of the disk is told
+-- where the state of the disk is modelled
 abbrev pub runs_on : List DiskCall → Option DiskState → Option Came
 runs_on calls None = None
 runs_on calls (Some disk) = Some (runs calls disk)
@@ -42,7 +42,7 @@ abbrev pub came_to : Option DiskState → Bool → Option Came
 came_to None failed = None
 came_to (Some disk) failed = Some (record { disk = disk; failed = failed })
 
--- the file was opened or not, as follows from the state; memory is refused only where it isn't told
+-- the file was opened or not, as follows from the state; memory is refused only where it isn't modelled
 abbrev pub OpensOn : List DiskCall → Option DiskState → Option DiskState → Opened → Type 0
 OpensOn calls older newer opened.Done = came_to newer false ≡ runs_on calls older
 OpensOn calls older newer opened.Failed = came_to newer true ≡ runs_on calls older

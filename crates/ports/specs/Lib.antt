@@ -12,5 +12,6 @@ pub mod Up
 pub mod DiskLaws
 pub mod Link
 pub mod MemoryLink
+pub mod Outside
 pub mod Clock
 pub mod MemoryClock

@@ -23,7 +23,7 @@ after_bind port link opened.TheVariants.Done = record link { bound = Some port }
 after_bind port link opened.TheVariants.Failed = link
 after_bind port link opened.TheVariants.OutOfMemory = link
 
--- A link that tells its contents goes on telling them, and one that tells none doesn't begin to.
+-- A link that is modelled stays so, and one that is not does not begin to be.
 abbrev pub Binds : ℕ → Option LinkState → Option LinkState → opened.Opened → Type 0
 Binds port None after answer = after ≡ None
 Binds port (Some link) after answer = after ≡ Some (after_bind port link answer)

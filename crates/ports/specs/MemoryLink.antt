@@ -2,7 +2,7 @@
 use Rattle.std.specs.Prelude.{ℕ, Bool}
 use Rattle.ports.specs.Link.{LinkState}
 
--- what it tells as a link, whether a bind of it fails, and how many calls failed
+-- what it holds as a link, whether a bind of it fails, and how many calls failed
 pub record MemoryLinkState : Type 0 where
   pub link : LinkState
   pub bind_fails : Bool

@@ -1,24 +1,23 @@
 //! A clock, and one in memory.
 
-ghost use Rattle.std.specs.Prelude.{◌≡◌, ℕ, ◌≤◌, Option, Some, List};
+ghost use Rattle.std.specs.Prelude.{◌≡◌, ◌≤◌, Some};
 ghost use Rattle.ports.specs.MemoryClock.{NeverFalls};
 ghost use Rattle.ports.specs.Clock.{ReadsClock};
+ghost use Rattle.ports.specs.Outside.{OfClock};
 
 use std::marker::Model;
 
 /// A clock.
 pub trait Clock {
-    /// The last reading, or a number that no reading is below.
-    ghost reading: { Self → ℕ };
-
-    /// The readings to come, where they are told; behind them the last is given again.
-    ghost coming: { Self → Option (List ℕ) };
+    /// Its last reading, and those to come.
+    ghost state: { Self → OfClock };
 
     /// Milliseconds from some fixed moment, never falling.
     fn now(&mut self) -> u64
-        ensures kept { reading self.new ≡ result }
-        ensures rising { reading self.old ≤ result }
-        ensures reads { ReadsClock (reading self.old) (coming self.old) (coming self.new) result };
+        ensures kept { (state self.new).reading ≡ result }
+        ensures rising { (state self.old).reading ≤ result }
+        ensures reads { ReadsClock (state self.old).reading (state self.old).coming
+            (state self.new).coming result };
 }
 
 /// A clock in memory. Contracts see its last reading and those to come.
@@ -61,14 +60,13 @@ impl MemoryClock {
 }
 
 impl Clock for MemoryClock {
-    ghost reading = { λ c. c.reading };
-
-    ghost coming = { λ c. Some c.coming };
+    ghost state = { λ c. record { reading = c.reading; coming = Some c.coming } };
 
     fn now(&mut self) -> u64
         ensures kept { self.new.reading ≡ result }
         ensures rising { self.old.reading ≤ result }
-        ensures reads { ReadsClock self.old.reading (Some self.old.coming) (Some self.new.coming) result }
+        ensures reads { ReadsClock self.old.reading (Some self.old.coming) (Some self.new.coming)
+            result }
     {
         let place = self.place;
         if place < self.times.len() {

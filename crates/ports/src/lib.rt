@@ -2,15 +2,16 @@
 //! memory. Code that reads, writes, stores or sends is generic over these traits; `edges` has the real ones.
 //!
 //! Each but the clock has a count of faults that contracts see: a call that answers `Failed` raises it
-//! by one, or finds it at the end of its type, and any other answer leaves it. Objects may tell their
+//! by one, or finds it at the end of its type, and any other answer leaves it. Objects may reveal their
 //! contents; those in memory do. Nothing is called on a source behind its end or a fault, nor on a sink
 //! behind a fault; a disk and a link go on after a failure.
 #![tactic(auto)]
 
-ghost use Rattle.std.specs.Prelude.{◌≡◌, ℕ, Bool, true, Option, List, length};
+ghost use Rattle.std.specs.Prelude.{◌≡◌, true, length};
 ghost use Rattle.std.specs.Result.{is_err, is_ok};
 ghost use Rattle.ports.specs.Count.{counted};
 ghost use Rattle.ports.specs.Contents.{Wrote};
+ghost use Rattle.ports.specs.Outside.{OfSink, OfSource};
 ghost use Rattle.ports.specs.Reading.{has_got, read_failed, GotAtMost, GotSome, Reads, EndsUsedUp};
 ghost use Rattle.ports.specs.Writing.{has_taken, write_failed, TookAtMost, TookSome, Gives};
 
@@ -85,54 +86,44 @@ pub struct Failed;
 
 /// Where bytes come from.
 pub trait Source {
-    /// How often a call failed.
-    ghost faults: { Self → ℕ };
-
-    /// The bytes left, where they are told.
-    ghost left: { Self → Option (List ℕ) };
-
-    /// No read came to the end or failed, so that it may be read.
-    ghost is_open: { Self → Bool };
+    /// The bytes left, its faults, and that it may be read.
+    ghost state: { Self → OfSource };
 
     /// Takes bytes that are left into the front of the buffer.
     fn read(&mut self, buf: &mut [u8]) -> Taken
-        requires open { is_open self.old ≡ true }
-        ensures going { is_open self.new ≡ has_got result }
-        ensures faults { faults self.new ≡ counted (read_failed result) (faults self.old) }
+        requires open { (state self.old).is_open ≡ true }
+        ensures going { (state self.new).is_open ≡ has_got result }
+        ensures faults { (state self.new).faults
+            ≡ counted (read_failed result) (state self.old).faults }
         ensures fits { GotAtMost result (length buf.old) }
         ensures some { GotSome result (length buf.old) }
-        ensures reads { Reads (left self.old) (left self.new) buf.new result }
-        ensures end { EndsUsedUp (left self.new) result };
+        ensures reads { Reads (state self.old).left (state self.new).left buf.new result }
+        ensures end { EndsUsedUp (state self.new).left result };
 }
 
 /// Where bytes go to.
 pub trait Sink {
-    /// How often a call failed.
-    ghost faults: { Self → ℕ };
-
-    /// The bytes taken, where they are told.
-    ghost taken: { Self → Option (List ℕ) };
-
-    /// No write failed, so that it may be written to.
-    ghost is_open: { Self → Bool };
+    /// The bytes taken, its faults, and that it may be written to.
+    ghost state: { Self → OfSink };
 
     /// Takes bytes from the front of the piece. Taking none of a piece that has some is a fault.
     fn write(&mut self, bytes: &[u8]) -> Given
-        requires open { is_open self.old ≡ true }
-        ensures going { is_open self.new ≡ has_taken result }
-        ensures faults { faults self.new ≡ counted (write_failed result) (faults self.old) }
+        requires open { (state self.old).is_open ≡ true }
+        ensures going { (state self.new).is_open ≡ has_taken result }
+        ensures faults { (state self.new).faults
+            ≡ counted (write_failed result) (state self.old).faults }
         ensures fits { TookAtMost result (length bytes.now) }
         ensures some { TookSome result (length bytes.now) }
-        ensures gives { Gives (taken self.old) (taken self.new) bytes.now result };
+        ensures gives { Gives (state self.old).taken (state self.new).taken bytes.now result };
 }
 
-/// Writes the whole slice. Where the sink tells the bytes taken, they gained the slice; after
+/// Writes the whole slice. Where the bytes taken are modelled, they gained the slice; after
 /// `Failed`, a front of it that is not the whole. A failed write is not tried again.
 pub fn write_all<O: Sink>(out: &mut O, bytes: &[u8]) -> Result<(), Failed>
-    requires open { O.is_open out.old ≡ true }
-    ensures going { O.is_open out.new ≡ is_ok result }
-    ensures faults { O.faults out.new ≡ counted (is_err result) (O.faults out.old) }
-    ensures wrote { Wrote (O.taken out.old) (O.taken out.new) bytes.now result }
+    requires open { (O.state out.old).is_open ≡ true }
+    ensures going { (O.state out.new).is_open ≡ is_ok result }
+    ensures faults { (O.state out.new).faults ≡ counted (is_err result) (O.state out.old).faults }
+    ensures wrote { Wrote (O.state out.old).taken (O.state out.new).taken bytes.now result }
 {
     let mut written = 0;
     while written < bytes.len() {

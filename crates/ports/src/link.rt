@@ -1,10 +1,11 @@
 //! A link: datagrams between ports of this machine, and one in memory.
 
-ghost use Rattle.std.specs.Prelude.{◌≡◌, ℕ, true, false, if◌then◌else◌, Option, Some, None, List, [], length};
+ghost use Rattle.std.specs.Prelude.{◌≡◌, true, false, if◌then◌else◌, Option, Some, None, List, [], length};
 ghost use Rattle.ports.specs.Count.{counted};
 ghost use Rattle.ports.specs.Device.{open_failed, receive_failed, ReceivedAtMost, send_failed};
-ghost use Rattle.ports.specs.Link.{LinkState, Binds, Receives, Sends};
+ghost use Rattle.ports.specs.Link.{Binds, Receives, Sends};
 ghost use Rattle.ports.specs.MemoryLink.{MemoryLinkState};
+ghost use Rattle.ports.specs.Outside.{OfLink};
 ghost use Rattle.ports.specs.declared.Opened as opened;
 
 use crate::{Opened, Received, Sent};
@@ -14,27 +15,29 @@ use std::marker::Model;
 
 /// Datagrams between ports of this machine.
 pub trait Link {
-    /// How often a call failed.
-    ghost faults: { Self → ℕ };
-
-    /// The port bound, the answers to come, the sends that fail, and what was given to send, where these are told.
-    ghost contents: { Self → Option LinkState };
+    /// What it holds, and its faults.
+    ghost state: { Self → OfLink };
 
     /// Makes this port the one to receive at.
     fn bind(&mut self, port: u16) -> Opened
-        ensures faults { faults self.new ≡ counted (open_failed result) (faults self.old) }
-        ensures binds { Binds port (contents self.old) (contents self.new) result };
+        ensures faults { (state self.new).faults
+            ≡ counted (open_failed result) (state self.old).faults }
+        ensures binds { Binds port (state self.old).contents (state self.new).contents result };
 
     /// Takes the next datagram into the front of the buffer, cut to its length.
     fn receive(&mut self, buf: &mut [u8]) -> Received
-        ensures faults { faults self.new ≡ counted (receive_failed result) (faults self.old) }
+        ensures faults { (state self.new).faults
+            ≡ counted (receive_failed result) (state self.old).faults }
         ensures fits { ReceivedAtMost result (length buf.old) }
-        ensures receives { Receives (contents self.old) (contents self.new) buf.old buf.new result };
+        ensures receives { Receives (state self.old).contents (state self.new).contents buf.old
+            buf.new result };
 
     /// Sends a datagram to a port.
     fn send(&mut self, port: u16, bytes: &[u8]) -> Sent
-        ensures faults { faults self.new ≡ counted (send_failed result) (faults self.old) }
-        ensures sends { Sends port bytes.now (contents self.old) (contents self.new) result };
+        ensures faults { (state self.new).faults
+            ≡ counted (send_failed result) (state self.old).faults }
+        ensures sends { Sends port bytes.now (state self.old).contents (state self.new).contents
+            result };
 }
 
 /// What a link in memory answers to a receive.
@@ -48,7 +51,7 @@ pub enum LinkAnswer {
     Failed,
 }
 
-/// A link in memory. Contracts see what it tells as a link, whether its `bind` fails, and how many calls failed.
+/// A link in memory. Contracts see what it holds as a link, whether its `bind` fails, and how many calls failed.
 #[derive(Drop)]
 pub struct MemoryLink {
     bound: Option<u16>,
@@ -126,9 +129,7 @@ impl MemoryLink {
 }
 
 impl Link for MemoryLink {
-    ghost faults = { λ l. l.failures };
-
-    ghost contents = { λ l. Some l.link };
+    ghost state = { λ l. record { contents = Some l.link; faults = l.failures } };
 
     fn bind(&mut self, port: u16) -> Opened
         ensures faults { self.new.failures ≡ counted (open_failed result) self.old.failures }
@@ -147,7 +148,8 @@ impl Link for MemoryLink {
     fn receive(&mut self, buf: &mut [u8]) -> Received
         ensures faults { self.new.failures ≡ counted (receive_failed result) self.old.failures }
         ensures fits { ReceivedAtMost result (length buf.old) }
-        ensures receives { Receives (Some self.old.link) (Some self.new.link) buf.old buf.new result }
+        ensures receives { Receives (Some self.old.link) (Some self.new.link) buf.old buf.new
+            result }
         ensures kept { self.new.bind_fails ≡ self.old.bind_fails }
     {
         let place = self.place;

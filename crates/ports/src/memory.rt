@@ -1,4 +1,4 @@
-//! A source and a sink in memory, which tell their contents and fail where they are told to.
+//! A source and a sink in memory, whose contents are modelled, and which fail where they are asked to.
 ghost use Rattle.std.specs.Prelude.{◌≡◌, ◌≤◌, true, List, [], length, Some, None, IfOk};
 ghost use Rattle.ports.specs.Count.{counted, next_count};
 ghost use Rattle.ports.specs.Reading.{has_got, read_failed, GotAtMost, GotSome, Reads, EndsUsedUp};
@@ -128,11 +128,11 @@ impl MemorySource {
 }
 
 impl Source for MemorySource {
-    ghost faults = { λ s. s.failures };
-
-    ghost left = { λ s. Some s.unread };
-
-    ghost is_open = { λ s. s.is_open };
+    ghost state = { λ s. record {
+      left = Some s.unread;
+      faults = s.failures;
+      is_open = s.is_open;
+    } };
 
     /// Failures come before the end. A read into an empty buffer is `Got(0)` while bytes are left.
     fn read(&mut self, buf: &mut [u8]) -> Taken
@@ -190,7 +190,8 @@ impl Model for MemorySink {
       failures = s.calls.failed;
     } };
 
-    ghost invariant = { λ s. (1 ≤ s.step) × (length s.bytes.items ≤ s.room) × (s.room ≤ vec_capacity s.bytes) };
+    ghost invariant = { λ s. (1 ≤ s.step) × (length s.bytes.items ≤ s.room)
+        × (s.room ≤ vec_capacity s.bytes) };
 }
 
 impl MemorySink {
@@ -232,11 +233,11 @@ impl MemorySink {
 }
 
 impl Sink for MemorySink {
-    ghost faults = { λ s. s.failures };
-
-    ghost taken = { λ s. Some s.written };
-
-    ghost is_open = { λ s. s.is_open };
+    ghost state = { λ s. record {
+      taken = Some s.written;
+      faults = s.failures;
+      is_open = s.is_open;
+    } };
 
     /// Takes what fits. With no room left, a piece that has bytes is a fault; an empty piece is
     /// `Took(0)`.

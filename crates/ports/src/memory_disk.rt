@@ -1,4 +1,4 @@
-//! A disk in memory, which fails and stops where it is told to, and crashes by stated outcomes.
+//! A disk in memory, which fails and stops where it is asked to, and crashes by stated outcomes.
 
 ghost use Rattle.std.specs.Prelude.{◌≡◌, ◌≤◌, ◌<◌, ◌+◌, ◌&&◌, ◌==◌, nat_le, not, true, ℕ, ◌-◌, max, if◌then◌else◌, List, [], ◌∷◌, ◌++◌, length, take, drop, replicate, None, Some, IfOk, OnOk, OnErr, false};
 ghost use Rattle.std.specs.Result.{is_err};
@@ -77,13 +77,15 @@ impl Model for File {
     } };
 
     ghost invariant = { λ f. (length f.image.items ≤ f.room) × (length f.stable.items ≤ f.room)
-        × (f.room ≤ vec_capacity f.image) × (f.room ≤ vec_capacity f.stable) × (f.writes ≤ vec_capacity f.torn) };
+        × (f.room ≤ vec_capacity f.image) × (f.room ≤ vec_capacity f.stable)
+        × (f.writes ≤ vec_capacity f.torn) };
 }
 
 /// Zeros after the bytes, up to this length.
 fn lengthen(bytes: &mut Vec<u8>, len: usize)
     requires { len ≤ vec_capacity bytes.old }
-    ensures items { bytes.new.items ≡ bytes.old.items ++ replicate (len - length bytes.old.items) 0 }
+    ensures items { bytes.new.items
+        ≡ bytes.old.items ++ replicate (len - length bytes.old.items) 0 }
     ensures capacity { vec_capacity bytes.new ≡ vec_capacity bytes.old }
 {
     while bytes.len() < len {
@@ -103,7 +105,8 @@ fn append(bytes: &mut Vec<u8>, piece: &[u8])
 /// Copies the bytes to a place.
 fn copy_to(image: &mut [u8], place: usize, bytes: &[u8])
     requires { place + length bytes.now ≤ length image.old }
-    ensures { image.new ≡ take place image.old ++ bytes.now ++ drop (place + length bytes.now) image.old }
+    ensures { image.new
+        ≡ take place image.old ++ bytes.now ++ drop (place + length bytes.now) image.old }
 {
     image[place..place + bytes.len()].copy_from_slice(bytes);
 }
@@ -341,7 +344,8 @@ impl MemoryDisk {
     /// Lets so many calls pass and stops in the next: the file is then the one that the outcome picks, and
     /// each call fails until `crash` was called. Takes the place of a stop that was armed before.
     pub fn arm(&mut self, calls: u64, outcome: u16)
-        ensures { self.new ≡ record self.old { armed = Some (record { calls = calls; outcome = outcome }) } }
+        ensures { self.new
+            ≡ record self.old { armed = Some (record { calls = calls; outcome = outcome }) } }
     {
         self.armed = Some(Arm { calls, outcome });
     }
@@ -534,19 +538,19 @@ fn copy_part(image: &[u8], place: u64, buf: &mut [u8]) -> usize
 }
 
 impl Disk for MemoryDisk {
-    ghost faults = { λ disk. disk.failures };
-
-    ghost moments = { λ disk. moments_of disk.start disk.log };
-
-    ghost calls = { λ _. None };
-
-    ghost state = { λ disk. Some disk };
+    ghost state = { λ disk. record {
+      faults = disk.failures;
+      calls = None;
+      moments = moments_of disk.start disk.log;
+      model = Some disk;
+    } };
 
     ghost image_left = { λ disk. moments_leave disk.start disk.log };
 
     fn open(&mut self, _name: &str) -> Opened
         ensures faults { self.new.failures ≡ counted (open_failed result) self.old.failures }
-        ensures opens { Opens (moments_of self.old.start self.old.log) (moments_of self.new.start self.new.log) result }
+        ensures opens { Opens (moments_of self.old.start self.old.log)
+            (moments_of self.new.start self.new.log) result }
         ensures answer { result ≡ open_answer (turn_of self.old) }
         ensures after { self.new ≡ after_turn (turn_of self.old) self.old }
     {
@@ -559,8 +563,11 @@ impl Disk for MemoryDisk {
     fn len(&mut self) -> Result<u64, Failed>
         ensures faults { self.new.failures ≡ counted (is_err result) self.old.failures }
         ensures value { IfOk result (λ n. Measures (moments_of self.old.start self.old.log) n) }
-        ensures same { OnOk result (moments_of self.new.start self.new.log ≡ moments_of self.old.start self.old.log) }
-        ensures stays { OnErr result (Fails stays (moments_of self.old.start self.old.log) (moments_of self.new.start self.new.log)) }
+        ensures same { OnOk result
+            (moments_of self.new.start self.new.log ≡ moments_of self.old.start self.old.log) }
+        ensures stays { OnErr result
+            (Fails stays (moments_of self.old.start self.old.log)
+            (moments_of self.new.start self.new.log)) }
         ensures answer { is_err result ≡ not (passes (turn_of self.old)) }
         ensures after { self.new ≡ after_turn (turn_of self.old) self.old }
     {
@@ -571,10 +578,14 @@ impl Disk for MemoryDisk {
     fn read_at(&mut self, place: u64, buf: &mut [u8]) -> Result<usize, Failed>
         ensures faults { self.new.failures ≡ counted (is_err result) self.old.failures }
         ensures fits { IfOk result (λ n. n ≤ length buf.old) }
-        ensures value { IfOk result (λ n. ReadsPart (moments_of self.old.start self.old.log) place buf.new n) }
+        ensures value { IfOk result
+            (λ n. ReadsPart (moments_of self.old.start self.old.log) place buf.new n) }
         ensures rest { IfOk result (λ n. drop n buf.new ≡ drop n buf.old) }
-        ensures same { OnOk result (moments_of self.new.start self.new.log ≡ moments_of self.old.start self.old.log) }
-        ensures stays { OnErr result (Fails stays (moments_of self.old.start self.old.log) (moments_of self.new.start self.new.log)) }
+        ensures same { OnOk result
+            (moments_of self.new.start self.new.log ≡ moments_of self.old.start self.old.log) }
+        ensures stays { OnErr result
+            (Fails stays (moments_of self.old.start self.old.log)
+            (moments_of self.new.start self.new.log)) }
         ensures answer { is_err result ≡ not (passes (turn_of self.old)) }
         ensures after { self.new ≡ after_turn (turn_of self.old) self.old }
     {
@@ -584,9 +595,14 @@ impl Disk for MemoryDisk {
 
     fn write_at(&mut self, place: u64, bytes: &[u8]) -> Result<(), Failed>
         ensures faults { self.new.failures ≡ counted (is_err result) self.old.failures }
-        ensures writes { OnOk result (moments_of self.new.start self.new.log ≡ next (wrote place bytes.now) (moments_of self.old.start self.old.log)) }
-        ensures tears { OnErr result (Fails (torn_at place (length bytes.now)) (moments_of self.old.start self.old.log) (moments_of self.new.start self.new.log)) }
-        ensures answer { is_err result ≡ not (passes (turn_of self.old) && fits self.old place (length bytes.now)) }
+        ensures writes { OnOk result
+            (moments_of self.new.start self.new.log
+            ≡ next (wrote place bytes.now) (moments_of self.old.start self.old.log)) }
+        ensures tears { OnErr result
+            (Fails (torn_at place (length bytes.now)) (moments_of self.old.start self.old.log)
+            (moments_of self.new.start self.new.log)) }
+        ensures answer { is_err result
+            ≡ not (passes (turn_of self.old) && fits self.old place (length bytes.now)) }
         ensures after { self.new ≡ after_write (turn_of self.old) place bytes.now self.old }
     {
         let fitting = self.has_room(place, bytes);
@@ -596,8 +612,12 @@ impl Disk for MemoryDisk {
 
     fn sync(&mut self) -> Result<(), Failed>
         ensures faults { self.new.failures ≡ counted (is_err result) self.old.failures }
-        ensures settles { OnOk result (Settles (moments_of self.old.start self.old.log) (moments_of self.new.start self.new.log)) }
-        ensures stays { OnErr result (Fails stays (moments_of self.old.start self.old.log) (moments_of self.new.start self.new.log)) }
+        ensures settles { OnOk result
+            (Settles (moments_of self.old.start self.old.log)
+            (moments_of self.new.start self.new.log)) }
+        ensures stays { OnErr result
+            (Fails stays (moments_of self.old.start self.old.log)
+            (moments_of self.new.start self.new.log)) }
         ensures answer { is_err result ≡ not (passes (turn_of self.old) && can_sync self.old) }
         ensures after { self.new ≡ after_sync (turn_of self.old) self.old }
     {

@@ -3,6 +3,8 @@
 #![tactic(auto)]
 
 #[cfg(test)]
+mod first_lines;
+#[cfg(test)]
 mod members;
 #[cfg(test)]
 mod outside;

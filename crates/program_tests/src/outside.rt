@@ -2,12 +2,12 @@
 
 use edges::{FileDisk, RealClock, StdSink, StdSource, UdpLink};
 use ports::{Clock, Disk, Given, Link, Opened, Received, Sent, Sink, Source, Taken};
+use std::alloc::Global;
+use std::fs::Files;
+use std::io::{ErrorKind, Read, Write};
+use std::os::unix::fs::MetadataExt;
 use std::test::Fail;
-use std::{fs, time};
-
-const FOLDER: &str = "edges_test";
-
-const FILE: &str = "edges_test/a.st";
+use std::{fs, io, time};
 
 #[test]
 fn source_gives_what_its_reader_gives(rt: HostRuntime) -> Result<(), Fail> {
@@ -38,25 +38,141 @@ fn sink_hands_over_what_its_writer_takes(rt: HostRuntime) -> Result<(), Fail> {
     Ok(())
 }
 
+/// A reader and a writer whose first calls fail.
+#[derive(Drop)]
+struct Failing {
+    kind: ErrorKind,
+    left: u32,
+}
+
+impl Failing {
+    fn call(&mut self) -> io::Result<()> {
+        if self.left == 0 {
+            return Ok(());
+        }
+        self.left -= 1;
+        Err(self.kind.into())
+    }
+}
+
+impl Read for Failing {
+    fn read(&mut self, buf: &mut [u8]) -> io::Result<usize> {
+        self.call()?;
+        Ok(buf.len().min(1))
+    }
+}
+
+impl Write for Failing {
+    fn write(&mut self, buf: &[u8]) -> io::Result<usize> {
+        self.call()?;
+        Ok(buf.len().min(1))
+    }
+
+    fn flush(&mut self) -> io::Result<()> {
+        Ok(())
+    }
+}
+
+/// What a read and a write answer where the first calls of so many fail.
+fn moved(alloc: Global, kind: ErrorKind, left: u32) -> Result<(Taken, Given), Fail> {
+    let mut source = StdSource::new(alloc, Failing { kind, left }).or(Err("no memory"))?;
+    let mut sink = StdSink::new(Failing { kind, left });
+    Ok((source.read(&mut [0; 4]), sink.write(b"abcd")))
+}
+
+#[test]
+fn interrupted_calls_are_made_again(rt: HostRuntime) -> Result<(), Fail> {
+    let (got, took) = moved(rt.alloc(), ErrorKind::Interrupted, 7)?;
+    assert_eq!(rt; got, Taken::Got(1));
+    assert_eq!(rt; took, Given::Took(1));
+    let (got, took) = moved(rt.alloc(), ErrorKind::Interrupted, 8)?;
+    assert_eq!(rt; got, Taken::Failed);
+    assert_eq!(rt; took, Given::Failed);
+    Ok(())
+}
+
+#[test]
+fn calls_that_failed_otherwise_are_not_made_again(rt: HostRuntime) -> Result<(), Fail> {
+    for kind in [ErrorKind::Other, ErrorKind::WouldBlock, ErrorKind::TimedOut] {
+        let (got, took) = moved(rt.alloc(), kind, 1)?;
+        assert_eq!(rt; got, Taken::Failed);
+        assert_eq!(rt; took, Given::Failed);
+    }
+    Ok(())
+}
+
+/// An empty folder of its own for each test.
+fn make_folder(rt: &(impl Files + Alloc), folder: &str) -> Result<(), Fail> {
+    let _ = fs::remove_dir_all(rt, folder);
+    fs::create_dir(rt, folder)?;
+    Ok(())
+}
+
 #[test]
 fn disk_keeps_bytes_in_a_file(rt: HostRuntime) -> Result<(), Fail> {
-    let _ = fs::remove_dir_all(&rt, FOLDER);
-    fs::create_dir(&rt, FOLDER)?;
-    let mut disk = FileDisk::new(&rt);
+    make_folder(&rt, "edges_bytes")?;
+    let file = "edges_bytes/a.st";
+    let mut disk = FileDisk::new(rt.alloc(), &rt);
     assert!(rt; disk.len().is_err());
-    assert!(rt; matches!(disk.open(FILE), Opened::Done));
-    assert!(rt; matches!(disk.len(), Ok(0)));
+    assert!(rt; matches!(disk.open(file), Opened::Done));
     assert!(rt; disk.write_at(0, b"abcdef").is_ok());
     assert!(rt; disk.write_at(2, b"XY").is_ok());
     assert!(rt; disk.sync().is_ok());
-    assert_eq!(rt; fs::read(&rt, FILE)?.as_slice(), &b"abXYef"[..]);
-    let mut again = FileDisk::new(&rt);
-    assert!(rt; matches!(again.open(FILE), Opened::Done));
+    assert!(rt; matches!(disk.len(), Ok(6)));
+    assert_eq!(rt; fs::read(&rt, file)?.as_slice(), &b"abXYef"[..]);
+    assert!(rt; matches!(disk.open(file), Opened::Done));
     let mut buf = [b'-'; 8];
-    assert!(rt; matches!(again.read_at(1, &mut buf), Ok(5)));
+    assert!(rt; matches!(disk.read_at(1, &mut buf), Ok(5)));
     assert_eq!(rt; buf, *b"bXYef---");
-    assert!(rt; again.sync().is_ok());
-    fs::remove_dir_all(&rt, FOLDER)?;
+    assert!(rt; disk.sync().is_ok());
+    fs::remove_dir_all(&rt, "edges_bytes")?;
+    Ok(())
+}
+
+#[test]
+fn disk_makes_its_file_at_the_first_write(rt: HostRuntime) -> Result<(), Fail> {
+    make_folder(&rt, "edges_first")?;
+    let file = "edges_first/a.st";
+    let mut disk = FileDisk::new(rt.alloc(), &rt);
+    assert!(rt; matches!(disk.open(file), Opened::Done));
+    assert!(rt; matches!(disk.len(), Ok(0)));
+    assert!(rt; matches!(disk.read_at(0, &mut [0; 8]), Ok(0)));
+    assert!(rt; disk.sync().is_ok());
+    assert!(rt; !fs::exists(&rt, file)?);
+    assert!(rt; disk.write_at(0, b"a").is_ok());
+    assert_eq!(rt; fs::metadata(&rt, file)?.mode() & 0o777, 0o600);
+    fs::remove_dir_all(&rt, "edges_first")?;
+    Ok(())
+}
+
+#[test]
+fn file_is_open_on_one_disk_at_a_time(rt: HostRuntime) -> Result<(), Fail> {
+    make_folder(&rt, "edges_lock")?;
+    let file = "edges_lock/a.st";
+    let mut first = FileDisk::new(rt.alloc(), &rt);
+    let mut second = FileDisk::new(rt.alloc(), &rt);
+    assert!(rt; matches!(first.open(file), Opened::Done));
+    assert!(rt; matches!(second.open(file), Opened::Done));
+    assert!(rt; first.write_at(0, b"first").is_ok());
+    assert!(rt; second.write_at(0, b"second").is_err());
+    assert!(rt; matches!(second.open(file), Opened::Failed));
+    assert!(rt; second.read_at(0, &mut [0; 8]).is_err());
+    assert_eq!(rt; fs::read(&rt, file)?.as_slice(), &b"first"[..]);
+    assert!(rt; matches!(first.open("edges_lock/b.st"), Opened::Done));
+    assert!(rt; matches!(second.open(file), Opened::Done));
+    assert!(rt; matches!(second.len(), Ok(5)));
+    fs::remove_dir_all(&rt, "edges_lock")?;
+    Ok(())
+}
+
+#[test]
+fn disk_opens_plain_files_alone(rt: HostRuntime) -> Result<(), Fail> {
+    make_folder(&rt, "edges_plain")?;
+    let mut disk = FileDisk::new(rt.alloc(), &rt);
+    for name in ["edges_plain", "/dev/null", "edges_plain/none/a.st"] {
+        assert!(rt; matches!(disk.open(name), Opened::Failed));
+    }
+    fs::remove_dir_all(&rt, "edges_plain")?;
     Ok(())
 }
 

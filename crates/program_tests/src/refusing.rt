@@ -73,7 +73,7 @@ const NO_HEADER: [Refused; 3] = [
     ("fireflies  1 secret\n", "bad 1 spaces\n"),
 ];
 
-const NO_GROUP: [Refused; 12] = [
+const NO_GROUP: [Refused; 17] = [
     ("", "bad 2 end\n"),
     ("end\n", "bad 2 order\n"),
     ("kinds 2 5\n", "bad 2 order\n"),
@@ -83,7 +83,27 @@ const NO_GROUP: [Refused; 12] = [
     ("group 1 4 1 2 0\n", "bad 2 hex\n"),
     ("group 1 4 1 2 00\n", "bad 2 limit\n"),
     (
+        "group 0 4 1 2 00000000000000000000000000000000\n",
+        "bad 2 limit\n",
+    ),
+    (
         "group 16 4 1 2 00000000000000000000000000000000\n",
+        "bad 2 limit\n",
+    ),
+    (
+        "group 1 0 1 2 00000000000000000000000000000000\n",
+        "bad 2 limit\n",
+    ),
+    (
+        "group 1 10001 1 2 00000000000000000000000000000000\n",
+        "bad 2 limit\n",
+    ),
+    (
+        "group 1 4 0 2 00000000000000000000000000000000\n",
+        "bad 2 limit\n",
+    ),
+    (
+        "group 1 4 1 0 00000000000000000000000000000000\n",
         "bad 2 limit\n",
     ),
     (

@@ -9,7 +9,7 @@ use std::alloc::Global;
 use std::process::Abort;
 use std::test::Fail;
 
-/// What a member tells of its start.
+/// What a member reports of its start.
 const STARTED: &str = "at 0 spent 0 note 1 1 7\nat 0 entered 1\n";
 
 /// The turns of a member that hears nothing.
@@ -89,7 +89,7 @@ fn a_port_that_cannot_be_bound(rt: HostRuntime) -> Result<(), Fail> {
     Ok(())
 }
 
-/// Runs member 1 of two, whose sends with these numbers fail: what it tells behind its turns is told here.
+/// Runs member 1 of two, whose sends with these numbers fail: what it reports behind its turns is reported here.
 fn lose(
     rt: &impl Abort,
     alloc: Global,
@@ -171,7 +171,7 @@ fn a_disk_that_fails_as_the_first_note_is_signed(rt: HostRuntime) -> Result<(), 
     Ok(())
 }
 
-/// What member 1 tells last of the accusation.
+/// What member 1 reports last of the accusation.
 const STOPPED: &[u8] =
     b" ticks 2\nat 0 took accuse 2 1 1 0 : accepted\nat 0 stopped\nstore fault\n";
 

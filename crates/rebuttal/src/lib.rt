@@ -20,7 +20,8 @@ fn switched(mask: Mask, ring: RingNo) -> Mask
 /// The lowest-numbered of the first rings that the mask disables.
 fn lowest_disabled(mask: Mask, rings: u8) -> Option<RingNo>
     requires { rings < MASK_BITS }
-    ensures { MatchOption result ((r : ℕ) → r < rings → enables mask.0 r ≡ true) (λ r. (r.0 < rings) × (is_lowest_disabled mask.0 r.0 ≡ true)) }
+    ensures { MatchOption result ((r : ℕ) → r < rings → enables mask.0 r ≡ true)
+        (λ r. (r.0 < rings) × (is_lowest_disabled mask.0 r.0 ≡ true)) }
 {
     for ring in 0..rings {
         if !mask.enables(RingNo(ring)) {

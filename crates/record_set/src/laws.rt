@@ -14,7 +14,8 @@ ghost use Rattle.record_set.specs.Picks.{fitting, IsLongestFit};
 
 /// The rings of an entry are those on which an accusation is held.
 pub fn rings_are_those_accused_on()
-    ensures { (held : Held) (m r : ℕ) → r < MAX_RINGS → enables (rings_of held m) r ≡ contains_key held (Accusation m (record { 0 = r })) }
+    ensures { (held : Held) (m r : ℕ) → r < MAX_RINGS
+        → enables (rings_of held m) r ≡ contains_key held (Accusation m (record { 0 = r })) }
 {}
 
 /// What a summary names is held.
@@ -24,10 +25,12 @@ pub fn what_is_named_is_held()
 
 /// The summary of a page can be sent, where each who is accused has a note.
 pub fn a_page_is_a_summary()
-    ensures { (held : Held) (page : ℕ) → AreNoted held → page < PAGES → IsSummary (summary_of held page) }
+    ensures { (held : Held) (page : ℕ) → AreNoted held → page < PAGES
+        → IsSummary (summary_of held page) }
 {}
 
 /// So many are the longest front that fits.
 pub fn what_fits_is_longest()
-    ensures { (room : ℕ) (records : List Signed) → IsLongestFit room records (fitting room records) }
+    ensures { (room : ℕ) (records : List Signed)
+        → IsLongestFit room records (fitting room records) }
 {}

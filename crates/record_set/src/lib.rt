@@ -117,10 +117,13 @@ impl RecordSet {
     ) -> Result<usize, NoMemory>
         requires { All (λ k. IsSome (held_under self.now k)) keys.now }
         ensures count { IfOk result (λ n. n ≡ fitting room (held_all self.now keys.now)) }
-        ensures bytes { IfOk result (λ n. out.new.items ≡ out.old.items ++ spelled (take n (held_all self.now keys.now))) }
+        ensures bytes { IfOk result
+            (λ n. out.new.items
+            ≡ out.old.items ++ spelled (take n (held_all self.now keys.now))) }
         ensures longest { IfOk result (λ n. IsLongestFit room (held_all self.now keys.now) n) }
         ensures checked { IfOk result (λ n. All IsChecked (take n (held_all self.now keys.now))) }
-        ensures front { OnErr result (IsFront out.old.items out.new.items (held_all self.now keys.now)) }
+        ensures front { OnErr result
+            (IsFront out.old.items out.new.items (held_all self.now keys.now)) }
     {
         let mut left = room;
         for (count, key) in keys.iter().enumerate() {

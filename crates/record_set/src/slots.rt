@@ -114,7 +114,8 @@ fn no_entry(number: u16) -> SummaryEntry
 /// The entries of all members, of none of which anything is held.
 pub(crate) fn no_entries(alloc: Global) -> Result<Vec<SummaryEntry>, AllocError>
     ensures all { IfOk result (λ v. length v.items ≡ MEMBERS) }
-    ensures none { IfOk result (λ v. (k : ℕ) → k < MEMBERS → slice_index_or v.items k (no_entry k) ≡ no_entry k) }
+    ensures none { IfOk result
+        (λ v. (k : ℕ) → k < MEMBERS → slice_index_or v.items k (no_entry k) ≡ no_entry k) }
 {
     let mut entries = Vec::with_capacity(alloc, MEMBERS as usize)?;
     for number in 0..MEMBERS {
@@ -139,7 +140,8 @@ fn note_in(slot: &Option<Checked>) -> Option<NoteBody>
 /// The set of the rings whose slots, from this one on, hold an accusation.
 fn rings_in(slots: &[Option<Checked>], first: usize) -> Bits
     requires { first + MAX_RINGS ≤ length slots.now }
-    ensures { result ≡ bits_where (λ r. is_some (slice_index_or slots.now (first + r) None)) MAX_RINGS }
+    ensures { result ≡ bits_where (λ r. is_some (slice_index_or slots.now (first + r) None))
+        MAX_RINGS }
 {
     let mut rings = 0;
     for ring in 0..MAX_RINGS {
@@ -163,7 +165,8 @@ pub(crate) fn push_certified(
     requires members { first + count ≤ MEMBERS }
     requires room { length out.old.listed + count ≤ PAGE_MEMBERS }
     ensures page { out.new.page ≡ out.old.page }
-    ensures listed { out.new.listed ≡ out.old.listed ++ ready_entries slots.now entries.now first count }
+    ensures listed { out.new.listed
+        ≡ out.old.listed ++ ready_entries slots.now entries.now first count }
 {
     for index in 0..count {
         let number = first + index;

@@ -28,7 +28,8 @@ impl Model for Checked {
 
     ghost view = { λ c. record { rec = c.record; key = c.key; tag = c.tag; t = c.t } };
 
-    ghost invariant = { λ c. IsChecked (record { rec = c.record; key = c.key; tag = c.tag; t = c.t }) };
+    ghost invariant = { λ c. IsChecked
+        (record { rec = c.record; key = c.key; tag = c.tag; t = c.t }) };
 }
 
 impl Checked {
@@ -36,9 +37,14 @@ impl Checked {
     /// with the fault.
     pub fn new(group: &Group, key: &PublicKey, rec: Record) -> Result<Checked, (Record, SigFault)>
         requires { HasPort rec.body }
-        ensures ok { IfOk result (λ c. c ≡ record { rec = rec; key = key.now; tag = group.now.tag; t = group.now.t }) }
+        ensures ok { IfOk result
+            (λ c. c ≡ record
+            { rec = rec; key = key.now; tag = group.now.tag; t = group.now.t }) }
         ensures decides { IsOk result ↔ IsSigned key.now group.now.tag group.now.t rec }
-        ensures fault { IfErr result (λ e. (e.0 ≡ rec) × (verdict_of key.now (signed_bytes group.now.tag group.now.t rec.body) rec.signature ≡ Err e.1)) }
+        ensures fault { IfErr result
+            (λ e. (e.0 ≡ rec)
+            × (verdict_of key.now (signed_bytes group.now.tag group.now.t rec.body) rec.signature
+            ≡ Err e.1)) }
     {
         let signed = signed_bytes(group, &rec.body);
         match verify(key, signed.as_slice(), rec.signature.as_slice()) {
@@ -51,7 +57,8 @@ impl Checked {
     pub fn from_signed(group: &Group, key: &PublicKey, rec: Record) -> Checked
         requires body { IsBody rec.body }
         requires signed { IsSigned key.now group.now.tag group.now.t rec }
-        ensures { result ≡ record { rec = rec; key = key.now; tag = group.now.tag; t = group.now.t } }
+        ensures { result ≡ record
+            { rec = rec; key = key.now; tag = group.now.tag; t = group.now.t } }
     {
         Checked {
             record: rec,

@@ -123,7 +123,8 @@ pub fn read_record(alloc: Global, bytes: &[u8]) -> Result<(Record, usize), FormF
     // What is read is spelled so.
     ensures found { IfOk result (λ x. IsRecord (take x.1 bytes.now) x.0) }
     // What is spelled so is read, whatever follows it.
-    ensures only { (r : Signed) (spelled rest : List ℕ) → IsRecord spelled r → bytes.now ≡ spelled ++ rest → IsGiven r (length spelled) result }
+    ensures only { (r : Signed) (spelled rest : List ℕ) → IsRecord spelled r
+        → bytes.now ≡ spelled ++ rest → IsGiven r (length spelled) result }
     // Which fault it is.
     ensures exact { GivesRecord (record_at (reading_of bytes.now)) result }
 {

@@ -5,20 +5,20 @@ use Rattle.std.proofs.lemmas.Bool.{cond_both}
 use Rattle.std.proofs.lemmas.Bool.Decides.{nat_tests}
 use Rattle.ff_ids.specs.declared.TheConstants.{MAX_RINGS, MEMBERS, MAX_ACCUSATIONS}
 use Rattle.ff_ids.specs.declared.AccBody.{AccBody}
-use Rattle.ff_ids.specs.Steps.{comes_first, with_kept}
+use Rattle.ff_ids.specs.Steps.{precedes, with_kept}
 use Rattle.removal_timer.specs.Kept.{is_at, entry_at, IsInOrder}
 
 -- where an accusation comes among all pairs of an accused and a ring
 abbrev pub order_of : AccBody → ℕ
 order_of a = MAX_RINGS * a.accused + a.ring.0
 
-pub order_of-below : (a b : AccBody) → a.ring.0 < MAX_RINGS → comes_first a b ≡ true → order_of a + 1 ≤ order_of b
+pub order_of-below : (a b : AccBody) → a.ring.0 < MAX_RINGS → precedes a b ≡ true → order_of a + 1 ≤ order_of b
 order_of-below a b low e = grind (arith, nat_tests)
 
-pub comes_first-trans : (a b c : AccBody) → comes_first a b ≡ true → comes_first b c ≡ true → comes_first a c ≡ true
+pub comes_first-trans : (a b c : AccBody) → precedes a b ≡ true → precedes b c ≡ true → precedes a c ≡ true
 comes_first-trans a b c e f = grind (arith, nat_tests)
 
-pub comes_first-other : (p q : AccBody × ℕ) → comes_first q.0 p.0 ≡ false → is_at p.0.accused p.0.ring.0 q ≡ false → comes_first p.0 q.0 ≡ true
+pub comes_first-other : (p q : AccBody × ℕ) → precedes q.0 p.0 ≡ false → is_at p.0.accused p.0.ring.0 q ≡ false → precedes p.0 q.0 ≡ true
 comes_first-other p q e f = grind (arith, nat_tests)
 
 pub All-weaker : {X : Type 0} (P Q : X → Type 0) → ((x : X) → P x → Q x) → (xs : List X) → AllByRecursion P xs → AllByRecursion Q xs
@@ -36,7 +36,7 @@ All-filter P f (x ∷ xs) h =
 pub All-with_kept : (P : AccBody × ℕ → Type 0) (p : AccBody × ℕ) (xs : List (AccBody × ℕ)) → P p → AllByRecursion P xs → AllByRecursion P (with_kept p xs)
 All-with_kept P p [] here h = (here, tt)
 All-with_kept P p (q ∷ xs) here h =
-    elim (comes_first q.0 p.0) as (λ b. AllByRecursion P (cond b (q ∷ with_kept p xs) (p ∷ q ∷ xs))) [
+    elim (precedes q.0 p.0) as (λ b. AllByRecursion P (cond b (q ∷ with_kept p xs) (p ∷ q ∷ xs))) [
       | true ↦ (h.0, All-with_kept P p xs here h.1)
       | false ↦ (here, h)
     ]
@@ -44,7 +44,7 @@ All-with_kept P p (q ∷ xs) here h =
 pub length-with_kept : (p : AccBody × ℕ) (xs : List (AccBody × ℕ)) → length (with_kept p xs) ≡ length xs + 1
 length-with_kept p [] = refl
 length-with_kept p (q ∷ xs) =
-    elim (comes_first q.0 p.0) as (λ b. length (cond b (q ∷ with_kept p xs) (p ∷ q ∷ xs)) ≡ suc (length xs) + 1) [
+    elim (precedes q.0 p.0) as (λ b. length (cond b (q ∷ with_kept p xs) (p ∷ q ∷ xs)) ≡ suc (length xs) + 1) [
       | true ↦ omega (arith, length-with_kept p xs)
       | false ↦ omega arith
     ]
@@ -55,10 +55,10 @@ insert-more q p xs n =
     rw e refl
 
 -- an insert behind those that come first
-pub insert_is : (p : AccBody × ℕ) (xs : List (AccBody × ℕ)) → insert xs (prefix_len (λ q. comes_first q.0 p.0) xs) p ≡ with_kept p xs
+pub insert_is : (p : AccBody × ℕ) (xs : List (AccBody × ℕ)) → insert xs (prefix_len (λ q. precedes q.0 p.0) xs) p ≡ with_kept p xs
 insert_is p [] = refl
 insert_is p (q ∷ xs) =
-    elim (comes_first q.0 p.0) as (λ b. insert (q ∷ xs) (cond b (1 + prefix_len (λ q. comes_first q.0 p.0) xs) 0) p ≡ cond b (q ∷ with_kept p xs) (p ∷ q ∷ xs)) [
+    elim (precedes q.0 p.0) as (λ b. insert (q ∷ xs) (cond b (1 + prefix_len (λ q. precedes q.0 p.0) xs) 0) p ≡ cond b (q ∷ with_kept p xs) (p ∷ q ∷ xs)) [
       | true ↦ insert-more q p xs _ ∙ ap (λ ys. q ∷ ys) (insert_is p xs)
       | false ↦ refl
     ]
@@ -83,11 +83,11 @@ pub IsInOrder-with_kept : (rings : ℕ) (p : AccBody × ℕ) (xs : List (AccBody
 IsInOrder-with_kept rings p [] free member ring h = (member, ring, tt, tt)
 IsInOrder-with_kept rings p (q ∷ xs) free member ring h =
     let none = none-cons p q xs free in
-    let yes : comes_first q.0 p.0 ≡ true → IsInOrder rings (q ∷ with_kept p xs) = λ e. (h.0, h.1, All-with_kept _ p xs e h.2, IsInOrder-with_kept rings p xs none.1 member ring h.3) in
-    let no : comes_first q.0 p.0 ≡ false → IsInOrder rings (p ∷ q ∷ xs) = λ e.
+    let yes : precedes q.0 p.0 ≡ true → IsInOrder rings (q ∷ with_kept p xs) = λ e. (h.0, h.1, All-with_kept _ p xs e h.2, IsInOrder-with_kept rings p xs none.1 member ring h.3) in
+    let no : precedes q.0 p.0 ≡ false → IsInOrder rings (p ∷ q ∷ xs) = λ e.
     let first = comes_first-other p q e none.0 in
     (member, ring, (first, All-weaker _ _ (λ r f. comes_first-trans p.0 q.0 r.0 first f) xs h.2), h) in
-    cond_both (comes_first q.0 p.0) (q ∷ with_kept p xs) (p ∷ q ∷ xs) (IsInOrder rings) yes no
+    cond_both (precedes q.0 p.0) (q ∷ with_kept p xs) (p ∷ q ∷ xs) (IsInOrder rings) yes no
 
 -- the rest of the pairs bounds the rest of the entries
 length_from : (low rings : ℕ) (xs : List (AccBody × ℕ)) → rings ≤ MAX_RINGS → low ≤ MAX_ACCUSATIONS → IsInOrder rings xs → AllByRecursion (λ q. low ≤ order_of q.0) xs → low + length xs ≤ MAX_ACCUSATIONS

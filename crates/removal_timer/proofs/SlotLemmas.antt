@@ -8,7 +8,7 @@ use Rattle.std.proofs.lemmas.Bool.Decides.{nat_tests}
 use Rattle.std.proofs.lemmas.List.Sorted.{IsPermutation-refl, IsPermutation-cons, IsPermutation-trans, IsPermutation-middle}
 use Rattle.ff_ids.specs.declared.TheConstants.{MAX_RINGS}
 use Rattle.ff_ids.specs.declared.AccBody.{AccBody}
-use Rattle.ff_ids.specs.Steps.{comes_first, with_kept}
+use Rattle.ff_ids.specs.Steps.{precedes, with_kept}
 use Rattle.removal_timer.specs.Kept.{is_at, entry_at, entries_in, pair_number, IsOwn, AreRising}
 use Rattle.removal_timer.proofs.KeptLemmas.{All-weaker, All-filter}
 
@@ -48,14 +48,14 @@ All-from low (Some p ∷ slots) h =
 
 -- ---- a slot is filled
 
-kept_first : (p : Entry) (xs : List Entry) → AllByRecursion (λ q. comes_first q.0 p.0 ≡ false) xs → with_kept p xs ≡ p ∷ xs
+kept_first : (p : Entry) (xs : List Entry) → AllByRecursion (λ q. precedes q.0 p.0 ≡ false) xs → with_kept p xs ≡ p ∷ xs
 kept_first p [] h = refl
 kept_first p (q ∷ xs) h = rw h.0 refl
 
-after_own : (low : ℕ) (p q : Entry) → IsOwn low p → IsFrom (low + 1) q → comes_first q.0 p.0 ≡ false
+after_own : (low : ℕ) (p q : Entry) → IsOwn low p → IsFrom (low + 1) q → precedes q.0 p.0 ≡ false
 after_own low p q own from = grind (arith, nat_tests, own.ring, own.number, from.ring, from.number)
 
-before_own : (low n : ℕ) (p q : Entry) → IsOwn low q → IsOwn (low + suc n) p → comes_first q.0 p.0 ≡ true
+before_own : (low n : ℕ) (p q : Entry) → IsOwn low q → IsOwn (low + suc n) p → precedes q.0 p.0 ≡ true
 before_own low n p q first own = grind (arith, nat_tests, own.ring, own.number, first.ring, first.number)
 
 filled_from : (low : ℕ) (slots : Slots) (n : ℕ) (p : Entry) → OwnFrom low slots → get_or slots n None ≡ None → n < length slots → IsOwn (low + n) p → entries_in (set slots n (Some p)) ≡ with_kept p (entries_in slots)
@@ -63,7 +63,7 @@ filled_from low [] n p h free lt own = absurd (omega arith)
 filled_from low (None ∷ slots) zero p h free lt own =
     let here : IsOwn low p = subst (λ k. IsOwn k p) (omega arith) own in
     let rest = All-from (low + 1) slots (later low None slots h) in
-    sym (kept_first p (entries_in slots) (All-weaker (IsFrom (low + 1)) (λ q. comes_first q.0 p.0 ≡ false) (λ q from. after_own low p q here from) (entries_in slots) rest))
+    sym (kept_first p (entries_in slots) (All-weaker (IsFrom (low + 1)) (λ q. precedes q.0 p.0 ≡ false) (λ q from. after_own low p q here from) (entries_in slots) rest))
 filled_from low (Some q ∷ slots) zero p h free lt own = cc
 filled_from low (None ∷ slots) (suc n) p h free lt own =
     filled_from (low + 1) slots n p (later low None slots h) free (omega arith) (subst (λ k. IsOwn k p) (next_number low n) own)

@@ -5,7 +5,7 @@ use Rattle.std.specs.List.Sorted.{IsPermutation}
 use Rattle.std.specs.Option.{option_map_or}
 use Rattle.ff_ids.specs.declared.TheConstants.{MAX_RINGS, MEMBERS}
 use Rattle.ff_ids.specs.declared.AccBody.{AccBody}
-use Rattle.ff_ids.specs.Steps.{comes_first}
+use Rattle.ff_ids.specs.Steps.{precedes}
 use Rattle.removal_timer.specs.declared.queue.TheConstants.{END}
 use Rattle.removal_timer.specs.Queue.{is_queued}
 
@@ -28,7 +28,7 @@ entry_at accused ring entries = find (is_at accused ring) entries
 -- one member on one ring.
 abbrev pub IsInOrder : ℕ → List (AccBody × ℕ) → Type 0
 IsInOrder rings [] = Unit {0}
-IsInOrder rings (p ∷ entries) = (p.0.accused < MEMBERS) × (p.0.ring.0 < rings) × AllByRecursion (λ q. comes_first p.0 q.0 ≡ true) entries × IsInOrder rings entries
+IsInOrder rings (p ∷ entries) = (p.0.accused < MEMBERS) × (p.0.ring.0 < rings) × AllByRecursion (λ q. precedes p.0 q.0 ≡ true) entries × IsInOrder rings entries
 
 -- None of them stands since later than this tick.
 abbrev pub AreUntil : ℕ → List (AccBody × ℕ) → Type 0

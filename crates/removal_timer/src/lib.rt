@@ -42,7 +42,8 @@ impl Model for Timers {
 
     ghost Value = { Kept };
 
-    ghost view = { λ x. record { rings = x.rings; timeout = x.timeout; entries = entries_in x.slots.items } };
+    ghost view = { λ x. record
+        { rings = x.rings; timeout = x.timeout; entries = entries_in x.slots.items } };
 
     ghost invariant = { λ x. IsHeld x.rings x.slots.items x.queue };
 }
@@ -96,7 +97,8 @@ fn first_due(slots: &[Option<Entry>], queue: &Queue, timeout: u32, now: u64) -> 
     requires { AreQueued slots.now queue.now }
     ensures range { IfSome result (λ n. n < END) }
     ensures filled { IfSome result (λ n. is_some (slot_at slots.now n) ≡ true) }
-    ensures due { IfSome result (λ n. IfSome (slot_at slots.now n) (λ p. is_due timeout now p ≡ true)) }
+    ensures due { IfSome result
+        (λ n. IfSome (slot_at slots.now n) (λ p. is_due timeout now p ≡ true)) }
     ensures none { IsNone result → filter (is_due timeout now) (entries_in slots.now) ≡ [] }
 {
     let number = queue.first()?;
@@ -118,9 +120,12 @@ fn take_due(
     out: &mut Vec<AccBody>,
 )
     requires queued { AreQueued slots.old queue.old }
-    requires room { vec_len out.old + length (filter (is_due timeout now) (entries_in slots.old)) ≤ vec_capacity out.old }
-    ensures taken { HasGained out.old.items out.new.items (map (λ p. p.0) (filter (is_due timeout now) (entries_in slots.old))) }
-    ensures left { entries_in slots.new ≡ filter (λ p. not (is_due timeout now p)) (entries_in slots.old) }
+    requires room { vec_len out.old + length
+        (filter (is_due timeout now) (entries_in slots.old)) ≤ vec_capacity out.old }
+    ensures taken { HasGained out.old.items out.new.items
+        (map (λ p. p.0) (filter (is_due timeout now) (entries_in slots.old))) }
+    ensures left { entries_in slots.new
+        ≡ filter (λ p. not (is_due timeout now p)) (entries_in slots.old) }
     ensures queued { AreQueued slots.new queue.new }
     ensures capacity { vec_capacity out.old ≤ vec_capacity out.new }
 {
@@ -134,7 +139,9 @@ fn take_due(
 /// Puts the accusations from this index on into order of the accused, then of the ring.
 fn sort_behind(out: &mut Vec<AccBody>, from: usize)
     requires { from ≤ vec_len out.old }
-    ensures sorted { (before gained rising : List Accusation) → out.old.items ≡ before ++ gained → length before ≡ from → AreRising rising → IsPermutation rising gained → out.new.items ≡ before ++ rising }
+    ensures sorted { (before gained rising : List Accusation) → out.old.items ≡ before ++ gained
+        → length before ≡ from → AreRising rising → IsPermutation rising gained
+        → out.new.items ≡ before ++ rising }
     ensures capacity { vec_capacity out.old ≤ vec_capacity out.new }
 {
     out[from..].sort_unstable_by_key(|acc| number_of(acc.accused, acc.ring));
@@ -144,7 +151,9 @@ impl Timers {
     /// Nothing stands. Takes the room for all entries that a group can have.
     pub fn open(alloc: Global, group: &Group) -> Result<Timers, NoMemory>
         requires { group.now.t ≤ MAX_TOLERANCE }
-        ensures { IfOk result (λ x. x ≡ record { rings = ring_count group.now.t; timeout = group.now.timeout; entries = [] }) }
+        ensures { IfOk result
+            (λ x. x ≡ record
+            { rings = ring_count group.now.t; timeout = group.now.timeout; entries = [] }) }
     {
         let mut slots = Vec::with_capacity(alloc, END as usize)?;
         for _number in 0..END {
@@ -172,7 +181,9 @@ impl Timers {
 
     /// What stands against the member on the ring falls, if anything does.
     pub fn clear(&mut self, accused: MemberId, ring: RingNo)
-        ensures { self.new ≡ record self.old { entries = filter (λ p. not (is_at accused ring.0 p)) self.old.entries } }
+        ensures { self.new
+            ≡ record self.old
+            { entries = filter (λ p. not (is_at accused ring.0 p)) self.old.entries } }
     {
         if ring.0 < MAX_RINGS {
             take_out(&mut self.slots, &mut self.queue, number_of(accused, ring));
@@ -189,9 +200,14 @@ impl Timers {
     /// Takes out the accusations that have stood for the timeout, and appends them to `out`, in order. No other is
     /// looked at but the one that has stood for the longest time.
     pub fn due(&mut self, now: u64, out: &mut Vec<AccBody>)
-        requires { vec_len out.old + length (filter (is_due self.old.timeout now) self.old.entries) ≤ vec_capacity out.old }
-        ensures taken { out.new.items ≡ out.old.items ++ map (λ p. p.0) (filter (is_due self.old.timeout now) self.old.entries) }
-        ensures left { self.new ≡ record self.old { entries = filter (λ p. not (is_due self.old.timeout now p)) self.old.entries } }
+        requires { vec_len out.old + length
+            (filter (is_due self.old.timeout now) self.old.entries) ≤ vec_capacity out.old }
+        ensures taken { out.new.items
+            ≡ out.old.items ++ map (λ p. p.0)
+            (filter (is_due self.old.timeout now) self.old.entries) }
+        ensures left { self.new
+            ≡ record self.old
+            { entries = filter (λ p. not (is_due self.old.timeout now p)) self.old.entries } }
         ensures capacity { vec_capacity out.old ≤ vec_capacity out.new }
     {
         let from = out.len();

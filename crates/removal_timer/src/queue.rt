@@ -38,8 +38,10 @@ impl Model for Queue {
 fn join(links: &mut [Link], first: u16, second: u16)
     requires first { first < length links.old }
     requires second { second < length links.old }
-    ensures next { (n : ℕ) → next_at links.new n ≡ (if n == first then second else next_at links.old n) }
-    ensures previous { (n : ℕ) → previous_at links.new n ≡ (if n == second then first else previous_at links.old n) }
+    ensures next { (n : ℕ) → next_at links.new n
+        ≡ (if n == first then second else next_at links.old n) }
+    ensures previous { (n : ℕ) → previous_at links.new n
+        ≡ (if n == second then first else previous_at links.old n) }
 {
     links[first as usize].next = second;
     links[second as usize].previous = first;

@@ -145,7 +145,7 @@ tells-accused life r a answer later old new plays answered ok same group text =
           ∙ ap (λ es. old ++ (codes " : " ++ verdict_on fault ++ 10 ∷ [] ++ events_text es)) (sym none);
     }
 
--- So many ticks were run on the life, and told behind a line feed.
+-- So many ticks were run on the life, and reported behind a line feed.
 pub record IsTicked (n : ℕ) (r : Recorded) (life : Life) (old new : List ℕ) : Type 0 where
   pub plays : PlaysOne life (with_ticks n r)
   pub text : new ≡ old ++ 10 ∷ [] ++ events_text (tick_events n r)

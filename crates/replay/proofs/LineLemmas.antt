@@ -12,7 +12,7 @@ use Rattle.schedule_direct.specs.Grammar as grammar
 use Rattle.schedule_direct.specs.Grammar.{spelled_words}
 use Rattle.schedule_direct.specs.Rows.{TakesMemory, is_ended}
 use Rattle.text_trace.specs.Lines.{has_line_feed}
-use Rattle.text_trace.specs.Trace.{Admits, before, Ends, Every, Owed, Refuses, Steps, Trace}
+use Rattle.text_trace.specs.Trace.{Admits, before, Ends, Every, Continuation, Refuses, Steps, Trace}
 use Rattle.text_trace.proofs.TraceLemmas.{free-as}
 use Rattle.trace.specs.Answers.{Recorded, answer, told}
 use Rattle.trace.specs.Walk.{from_line, played, replayed, trace_in, walk}
@@ -22,7 +22,7 @@ use Rattle.replay.specs.declared.life.Life.{Life}
 use Rattle.replay.specs.Plays.{IsPlaced, Plays}
 use Rattle.replay.specs.Playing.{Owes}
 
--- a line that is taken is told, and then the rest
+-- a line that is taken is reported, and then the rest
 pub played-taken : (p : Progress Direct) (r : Option Recorded) (bytes : List ℕ) (l : DirectLine) (rest : List (List ℕ)) → grammar.judge p bytes ≡ Ok l → played p r (bytes ∷ rest) ≡ before (told bytes (answer r l)) (played (grammar.behind p l) (answer r l).recorded rest)
 played-taken p r bytes l rest judged =
     ap (λ (j : Result DirectLine BadWord). trace_in (from_line r bytes j (λ k. walk rest (grammar.behind p k) (answer r k).recorded))) judged
@@ -32,8 +32,8 @@ pub played-refused : (p : Progress Direct) (r : Option Recorded) (bytes : List �
 played-refused p r bytes w rest judged =
     ap (λ (j : Result DirectLine BadWord). trace_in (from_line r bytes j (λ k. walk rest (grammar.behind p k) (answer r k).recorded))) judged
 
-at-lines : (f g : Owed BadWord) (lines : List (List ℕ)) → f ≡ g → f lines ≡ g lines
-at-lines f g lines same = ap (λ (h : Owed BadWord). h lines) same
+at-lines : (f g : Continuation BadWord) (lines : List (List ℕ)) → f ≡ g → f lines ≡ g lines
+at-lines f g lines same = ap (λ (h : Continuation BadWord). h lines) same
 
 -- a line is taken
 pub line-steps : (p : Progress Direct) (life later : Option Life) (bytes text : List ℕ) (l : DirectLine) → grammar.judge p bytes ≡ Ok l
@@ -71,7 +71,7 @@ pub end-refuses : (p : Progress Direct) (life : Option Life) → is_ended p.form
 end-refuses p life ended = λ f owes. at-lines f (played p owes.recorded) [] owes.same ∙ rw ended refl
 
 -- the whole of a text is owed at first
-pub owes-first : (f : Owed BadWord) → f ≡ replayed → Owes grammar.opening None f
+pub owes-first : (f : Continuation BadWord) → f ≡ replayed → Owes grammar.opening None f
 owes-first f same = record { recorded = None; plays = tt; placed = tt; same = same }
 
 -- a line that is taken ends with its line feed

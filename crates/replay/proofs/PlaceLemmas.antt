@@ -8,8 +8,7 @@ use Rattle.schedule_direct.specs.declared.direct.Direct.{Direct}
 use Rattle.schedule_direct.specs.declared.direct.Direct.TheVariants as direct
 use Rattle.schedule_direct.specs.declared.line.DirectLine.{DirectLine}
 use Rattle.schedule_direct.specs.declared.line.DirectLine.TheVariants as lines
-use Rattle.schedule_direct.specs.Grammar.{InRange, Stands, after, ticks_of}
-use Rattle.schedule_direct.specs.Rows.{tolerance}
+use Rattle.schedule_direct.specs.Grammar.{InRange, Stands, after}
 use Rattle.text_trace.specs.Lines.{text_lines}
 use Rattle.trace.specs.Answers.{Recorded, answer, places_at, state_of, with_event}
 use Rattle.trace.proofs.LifeLemmas.{group-with_ticks, moment-accuses, moment-joins, moment-notes, moment-with_ticks, state_of-next_life}
@@ -21,25 +20,25 @@ never e = absurd (false≢true e)
 
 -- ## Which lines may be run
 
-fits-body : (t ticks number : ℕ) (life : Life) (r : Recorded) (l : DirectLine) → PlaysOne life r → InBody t number ticks r → Stands (direct.Body t ticks) l → InRange t ticks l → number ≤ text_lines → FitsLife life l
+fits-body : (t ticks number : ℕ) (life : Life) (r : Recorded) (l : DirectLine) → PlaysOne life r → InBody t number ticks r → Stands (direct.Body t ticks) l → InRange (direct.Body t ticks) l → number ≤ text_lines → FitsLife life l
 fits-body t ticks number life r lines.Header plays b stands range few = tt
 fits-body t ticks number life r (lines.Group u timeout) plays b stands range few = tt
 fits-body t ticks number life r (lines.Member m ps) plays b stands range few =
     let same : life.membership.group.t ≡ t = ap (λ g. g.t) plays.group ∙ b.tolerance in
-    (range.1 ∙ ap ring_count (sym same), omega (arith, range.1, b.small))
+    (range.1.0 ∙ ap ring_count (sym same), omega (arith, range.1.0, b.small))
 fits-body t ticks number life r (lines.Note n) plays b stands range few = tt
 fits-body t ticks number life r (lines.Accuse a) plays b stands range few = tt
-fits-body t ticks number life r (lines.Tick n) plays b stands range few = omega (arith, range.2, b.moment, plays.holds.moment_same)
+fits-body t ticks number life r (lines.Tick n) plays b stands range few = omega (arith, range.0.0, range.0.1, b.moment, plays.holds.moment_same)
 fits-body t ticks number life r lines.View plays b stands range few = tt
 fits-body t ticks number life r (lines.Monitor ring m) plays b stands range few =
     let same : life.membership.group.t ≡ t = ap (λ g. g.t) plays.group ∙ b.tolerance in
-    omega (arith, range.0, same)
+    omega (arith, range.0.1, same)
 fits-body t ticks number life r lines.Life plays b stands range few = omega (arith, b.life, plays.number, few)
 fits-body t ticks number life r lines.End plays b stands range few = tt
 
-fits-first : (d : Direct) (l : DirectLine) → InRange (tolerance d) (ticks_of d) l → FitsOn None l
+fits-first : (d : Direct) (l : DirectLine) → InRange d l → FitsOn None l
 fits-first d lines.Header range = tt
-fits-first d (lines.Group t timeout) range = range.1
+fits-first d (lines.Group t timeout) range = range.0.1
 fits-first d (lines.Member m ps) range = tt
 fits-first d (lines.Note n) range = tt
 fits-first d (lines.Accuse a) range = tt
@@ -62,7 +61,7 @@ no-line lines.Life stands = never stands
 no-line lines.End stands = never stands
 
 -- a line that stands here may be run on the life that fits the place
-pub fits : (d : Direct) (number : ℕ) (life : Option Life) (r : Option Recorded) (l : DirectLine) → Plays life r → IsPlaced d number r → Stands d l → InRange (tolerance d) (ticks_of d) l → number ≤ text_lines → FitsOn life l
+pub fits : (d : Direct) (number : ℕ) (life : Option Life) (r : Option Recorded) (l : DirectLine) → Plays life r → IsPlaced d number r → Stands d l → InRange d l → number ≤ text_lines → FitsOn life l
 fits d number None None l plays placed stands range few = fits-first d l range
 fits d number None (Some r) l plays placed stands range few = absurd plays
 fits d number (Some life) None l plays placed stands range few = absurd plays
@@ -123,9 +122,9 @@ at_start number (lines.Monitor ring m) stands = never stands
 at_start number lines.Life stands = never stands
 at_start number lines.End stands = never stands
 
-at_group : (number : ℕ) (l : DirectLine) → Stands direct.Headed l → InRange 0 0 l → IsPlaced (after direct.Headed l) (number + 1) (answer None l).recorded
+at_group : (number : ℕ) (l : DirectLine) → Stands direct.Headed l → InRange direct.Headed l → IsPlaced (after direct.Headed l) (number + 1) (answer None l).recorded
 at_group number lines.Header stands range = never stands
-at_group number (lines.Group t timeout) stands range = first-moment t (number + 1) timeout range.1 (omega arith)
+at_group number (lines.Group t timeout) stands range = first-moment t (number + 1) timeout range.0.1 (omega arith)
 at_group number (lines.Member m ps) stands range = never stands
 at_group number (lines.Note n) stands range = never stands
 at_group number (lines.Accuse a) stands range = never stands
@@ -136,7 +135,7 @@ at_group number lines.Life stands range = never stands
 at_group number lines.End stands range = never stands
 
 -- the life behind a line fits the place behind it
-pub placed-after : (d : Direct) (number : ℕ) (r : Option Recorded) (l : DirectLine) → IsPlaced d number r → Stands d l → InRange (tolerance d) (ticks_of d) l → IsPlaced (after d l) (number + 1) (answer r l).recorded
+pub placed-after : (d : Direct) (number : ℕ) (r : Option Recorded) (l : DirectLine) → IsPlaced d number r → Stands d l → InRange d l → IsPlaced (after d l) (number + 1) (answer r l).recorded
 placed-after direct.Start number (Some r) l placed stands range = absurd placed
 placed-after direct.Start number None l placed stands range = at_start number l stands
 placed-after direct.Headed number (Some r) l placed stands range = absurd placed

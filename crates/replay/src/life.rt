@@ -45,8 +45,10 @@ fn put_accusation<L: Ledger>(
     requires name { blank.name ≡ L.name }
     requires parts { blank.parts ≡ L.parts }
     requires some { 0 < blank.parts }
-    ensures fault { (s : State) → Holds membership.old s → FaultAnswers (accusation_fault membership.old.group.t s accusation) result }
-    ensures step { (s : State) → Holds membership.old s → OnOk result (Holds membership.new (after_accusation s accusation)) }
+    ensures fault { (s : State) → Holds membership.old s
+        → FaultAnswers (accusation_fault membership.old.group.t s accusation) result }
+    ensures step { (s : State) → Holds membership.old s
+        → OnOk result (Holds membership.new (after_accusation s accusation)) }
     ensures same { OnErr result (membership.new ≡ membership.old) }
     ensures group { membership.new.group ≡ membership.old.group }
     ensures moment { membership.new.moment ≡ membership.old.moment }
@@ -100,7 +102,10 @@ impl Life {
     ) -> Result<(), NoMemory>
         requires rings { length places.now ≡ ring_count self.old.membership.group.t }
         requires few { length places.now ≤ MAX_RINGS }
-        ensures { (r : Recorded) → PlaysOne self.old r → OnOk result (Tells (answer_in r (DirectLine.Member member places.now)) self.new text.old.items text.new.items) }
+        ensures { (r : Recorded) → PlaysOne self.old r
+            → OnOk result
+            (Tells (answer_in r (DirectLine.Member member places.now)) self.new text.old.items
+            text.new.items) }
     {
         match self
             .membership
@@ -119,7 +124,10 @@ impl Life {
 
     /// A note comes.
     fn take_note(&mut self, note: NoteBody, text: &mut Vec<u8>) -> Result<(), NoMemory>
-        ensures { (r : Recorded) → PlaysOne self.old r → OnOk result (Tells (answer_in r (DirectLine.Note note)) self.new text.old.items text.new.items) }
+        ensures { (r : Recorded) → PlaysOne self.old r
+            → OnOk result
+            (Tells (answer_in r (DirectLine.Note note)) self.new text.old.items
+            text.new.items) }
     {
         let verdict = self.membership.put_note(note, &mut self.changes);
         add_verdict_on(text, verdict.err())?;
@@ -129,7 +137,10 @@ impl Life {
 
     /// An accusation comes.
     fn take_accusation(&mut self, accusation: AccBody, text: &mut Vec<u8>) -> Result<(), NoMemory>
-        ensures { (r : Recorded) → PlaysOne self.old r → OnOk result (Tells (answer_in r (DirectLine.Accuse accusation)) self.new text.old.items text.new.items) }
+        ensures { (r : Recorded) → PlaysOne self.old r
+            → OnOk result
+            (Tells (answer_in r (DirectLine.Accuse accusation)) self.new text.old.items
+            text.new.items) }
     {
         match put_accusation::<Brand>(Blank::new(1), &mut self.membership, accusation) {
             Ok(()) => add_verdict(text, Verdict::Accepted)?,
@@ -141,7 +152,10 @@ impl Life {
     /// So many ticks come, one after another.
     fn take_ticks(&mut self, ticks: u32, text: &mut Vec<u8>) -> Result<(), NoMemory>
         requires { self.old.membership.moment + ticks ≤ most_ticks }
-        ensures { (r : Recorded) → PlaysOne self.old r → OnOk result (Tells (answer_in r (DirectLine.Tick ticks)) self.new text.old.items text.new.items) }
+        ensures { (r : Recorded) → PlaysOne self.old r
+            → OnOk result
+            (Tells (answer_in r (DirectLine.Tick ticks)) self.new text.old.items
+            text.new.items) }
     {
         add(text, b"\n")?;
         for _tick in 0..ticks {
@@ -154,7 +168,9 @@ impl Life {
     /// Another life begins, with the same members.
     fn begin_another(&mut self, text: &mut Vec<u8>) -> Result<(), NoMemory>
         requires { self.old.number ≤ text_lines }
-        ensures { (r : Recorded) → PlaysOne self.old r → OnOk result (Tells (answer_in r DirectLine.Life) self.new text.old.items text.new.items) }
+        ensures { (r : Recorded) → PlaysOne self.old r
+            → OnOk result
+            (Tells (answer_in r DirectLine.Life) self.new text.old.items text.new.items) }
     {
         self.membership.new_life();
         self.number += 1;
@@ -164,7 +180,9 @@ impl Life {
 
     /// The view is asked for.
     fn tell_view(&self, alloc: Global, text: &mut Vec<u8>) -> Result<(), NoMemory>
-        ensures { (r : Recorded) → PlaysOne self.now r → OnOk result (Tells (answer_in r DirectLine.View) self.now text.old.items text.new.items) }
+        ensures { (r : Recorded) → PlaysOne self.now r
+            → OnOk result
+            (Tells (answer_in r DirectLine.View) self.now text.old.items text.new.items) }
     {
         let members = self.membership.members_in_view(alloc)?;
         add(text, b" : ")?;
@@ -180,7 +198,10 @@ impl Life {
         text: &mut Vec<u8>,
     ) -> Result<(), NoMemory>
         requires { ring.0 < ring_count self.now.membership.group.t }
-        ensures { (r : Recorded) → PlaysOne self.now r → OnOk result (Tells (answer_in r (DirectLine.Monitor ring member)) self.now text.old.items text.new.items) }
+        ensures { (r : Recorded) → PlaysOne self.now r
+            → OnOk result
+            (Tells (answer_in r (DirectLine.Monitor ring member)) self.now text.old.items
+            text.new.items) }
     {
         if self.membership.is_member(member) {
             let monitor = monitor_of::<Brand>(Blank::new(1), &self.membership, ring, member);
@@ -199,7 +220,8 @@ impl Life {
         text: &mut Vec<u8>,
     ) -> Result<(), NoMemory>
         requires { FitsLife self.old line }
-        ensures { (r : Recorded) → PlaysOne self.old r → OnOk result (Tells (answer_in r line) self.new text.old.items text.new.items) }
+        ensures { (r : Recorded) → PlaysOne self.old r
+            → OnOk result (Tells (answer_in r line) self.new text.old.items text.new.items) }
     {
         match line {
             DirectLine::Header | DirectLine::Group { .. } | DirectLine::End => add(text, b"\n"),
@@ -223,8 +245,10 @@ pub fn answer(
     text: &mut Vec<u8>,
 ) -> Result<(), NoMemory>
     requires { FitsOn life.old line }
-    ensures plays { (r : Option Recorded) → Plays life.old r → OnOk result (Plays life.new (answer_to r line).recorded) }
-    ensures text { (r : Option Recorded) → Plays life.old r → OnOk result (text.new.items ≡ text.old.items ++ answer_text (answer_to r line)) }
+    ensures plays { (r : Option Recorded) → Plays life.old r
+        → OnOk result (Plays life.new (answer_to r line).recorded) }
+    ensures text { (r : Option Recorded) → Plays life.old r
+        → OnOk result (text.new.items ≡ text.old.items ++ answer_text (answer_to r line)) }
 {
     match life {
         Some(life) => life.answer(alloc, line, text),

@@ -46,8 +46,10 @@ fn tell(
     requires some { 0 < length bytes.now }
     requires empty { text.old.items ≡ [] }
     requires fits { FitsOn life.old line }
-    ensures plays { (r : Option Recorded) → Plays life.old r → OnOk result (Plays life.new (answer_to r line).recorded) }
-    ensures text { (r : Option Recorded) → Plays life.old r → OnOk result (text.new.items ≡ told bytes.now (answer_to r line)) }
+    ensures plays { (r : Option Recorded) → Plays life.old r
+        → OnOk result (Plays life.new (answer_to r line).recorded) }
+    ensures text { (r : Option Recorded) → Plays life.old r
+        → OnOk result (text.new.items ≡ told bytes.now (answer_to r line)) }
 {
     text.extend_from_slice(&bytes[..bytes.len() - 1])?;
     answer(alloc, life, line, text)

@@ -19,7 +19,8 @@ pub fn add(text: &mut Vec<u8>, bytes: &[u8]) -> Result<(), NoMemory>
 
 /// Adds ` : ` and the verdict.
 pub fn add_verdict(text: &mut Vec<u8>, verdict: Verdict) -> Result<(), NoMemory>
-    ensures { OnOk result (text.new.items ≡ text.old.items ++ codes " : " ++ verdict_words verdict) }
+    ensures { OnOk result
+        (text.new.items ≡ text.old.items ++ codes " : " ++ verdict_words verdict) }
 {
     add(text, b" : ")?;
     write_verdict(&verdict, text)
@@ -37,7 +38,9 @@ pub fn add_verdict_on(text: &mut Vec<u8>, fault: Option<Fault>) -> Result<(), No
 
 /// Adds a line for an event.
 fn add_event(text: &mut Vec<u8>, moment: u64, what: What) -> Result<(), NoMemory>
-    ensures { OnOk result (text.new.items ≡ text.old.items ++ events_text (record { moment = moment; what = what } ∷ [])) }
+    ensures { OnOk result
+        (text.new.items
+        ≡ text.old.items ++ events_text (record { moment = moment; what = what } ∷ [])) }
 {
     write_event(&Event { moment, what }, text)?;
     add(text, b"\n")
@@ -45,7 +48,10 @@ fn add_event(text: &mut Vec<u8>, moment: u64, what: What) -> Result<(), NoMemory
 
 /// Adds a line for each accusation that expired.
 fn add_expired(text: &mut Vec<u8>, moment: u64, accusations: &[AccBody]) -> Result<(), NoMemory>
-    ensures { OnOk result (text.new.items ≡ text.old.items ++ events_text (map (λ a. record { moment = moment; what = What.Expired a }) accusations.now)) }
+    ensures { OnOk result
+        (text.new.items
+        ≡ text.old.items ++ events_text
+        (map (λ a. record { moment = moment; what = What.Expired a }) accusations.now)) }
 {
     for accusation in accusations {
         add_event(text, moment, What::Expired(*accusation))?;
@@ -55,7 +61,10 @@ fn add_expired(text: &mut Vec<u8>, moment: u64, accusations: &[AccBody]) -> Resu
 
 /// Adds a line for each member that left the view.
 fn add_removed(text: &mut Vec<u8>, moment: u64, members: &[MemberId]) -> Result<(), NoMemory>
-    ensures { OnOk result (text.new.items ≡ text.old.items ++ events_text (map (λ m. record { moment = moment; what = What.Removed m }) members.now)) }
+    ensures { OnOk result
+        (text.new.items
+        ≡ text.old.items ++ events_text
+        (map (λ m. record { moment = moment; what = What.Removed m }) members.now)) }
 {
     for member in members {
         add_event(text, moment, What::Removed(*member))?;
@@ -65,7 +74,10 @@ fn add_removed(text: &mut Vec<u8>, moment: u64, members: &[MemberId]) -> Result<
 
 /// Adds a line for each member that entered the view.
 fn add_entered(text: &mut Vec<u8>, moment: u64, members: &[MemberId]) -> Result<(), NoMemory>
-    ensures { OnOk result (text.new.items ≡ text.old.items ++ events_text (map (λ m. record { moment = moment; what = What.Entered m }) members.now)) }
+    ensures { OnOk result
+        (text.new.items
+        ≡ text.old.items ++ events_text
+        (map (λ m. record { moment = moment; what = What.Entered m }) members.now)) }
 {
     for member in members {
         add_event(text, moment, What::Entered(*member))?;
@@ -75,7 +87,10 @@ fn add_entered(text: &mut Vec<u8>, moment: u64, members: &[MemberId]) -> Result<
 
 /// Adds a line for each accusation that fell.
 fn add_fell(text: &mut Vec<u8>, moment: u64, accusations: &[AccBody]) -> Result<(), NoMemory>
-    ensures { OnOk result (text.new.items ≡ text.old.items ++ events_text (map (λ a. record { moment = moment; what = What.Fell a }) accusations.now)) }
+    ensures { OnOk result
+        (text.new.items
+        ≡ text.old.items ++ events_text
+        (map (λ a. record { moment = moment; what = What.Fell a }) accusations.now)) }
 {
     for accusation in accusations {
         add_event(text, moment, What::Fell(*accusation))?;
@@ -85,7 +100,8 @@ fn add_fell(text: &mut Vec<u8>, moment: u64, accusations: &[AccBody]) -> Result<
 
 /// Adds a line for each event of a report, in order.
 pub fn add_report(text: &mut Vec<u8>, moment: u64, report: &Changes) -> Result<(), NoMemory>
-    ensures { OnOk result (text.new.items ≡ text.old.items ++ events_text (events_at moment report.now)) }
+    ensures { OnOk result
+        (text.new.items ≡ text.old.items ++ events_text (events_at moment report.now)) }
 {
     add_expired(text, moment, report.expired())?;
     add_removed(text, moment, report.removed())?;

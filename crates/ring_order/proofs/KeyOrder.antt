@@ -6,7 +6,7 @@ use Rattle.std.specs.Ordering.{nat_cmp, ordering_then, ordering_reverse, then_cm
 use Rattle.std.specs.declared.cmp.Ordering.{Ordering}
 use Rattle.std.specs.declared.cmp.Ordering.TheVariants.{Less, Equal, Greater}
 use Rattle.std.proofs.lemmas.Cmp.{nat_cmp_total, nat_list_cmp_total, then_total, on_total, back_total, ranked, by_ranked}
-use Rattle.ff_ids.specs.Rings.{Key, key_cmp, is_below, cyc}
+use Rattle.ff_ids.specs.Rings.{Key, key_cmp, is_below, is_between}
 
 pub key_cmp_total : IsTotalOrder key_cmp
 key_cmp_total = then_total (on_total (λ (k : Key). k.place) nat_list_cmp_total) (on_total (λ (k : Key). k.number) nat_cmp_total)
@@ -61,7 +61,7 @@ back_agrees false false Less = refl
 back_agrees false false Equal = refl
 back_agrees false false Greater = refl
 
-pub before_ranked : (m : Key) → IsRanked (λ v w. cyc v w m) m.number
+pub before_ranked : (m : Key) → IsRanked (λ v w. is_between v w m) m.number
 before_ranked m =
     record {
       order = back_order m;
@@ -91,7 +91,7 @@ on_agrees false false Less = refl
 on_agrees false false Equal = refl
 on_agrees false false Greater = refl
 
-pub after_ranked : (m : Key) → IsRanked (λ v w. cyc m w v) m.number
+pub after_ranked : (m : Key) → IsRanked (λ v w. is_between m w v) m.number
 after_ranked m =
     record {
       order = on_order m;

@@ -3,7 +3,7 @@ use Rattle.std.proofs.Common.{◌≡◌, ℕ, ◌↔◌, List, [], ◌∷◌, Op
 use Rattle.std.specs.List.{All, Contains, fold}
 use Rattle.std.specs.Option.{option_map, IsNone, IfSome}
 use Rattle.std.proofs.lemmas.List.Elements.{All-nil, All-cons, All-head, All-tail}
-use Rattle.ff_ids.specs.Rings.{Key, cyc, nearest_before, nearest_after, IsNearestBefore, IsNearestAfter}
+use Rattle.ff_ids.specs.Rings.{Key, is_between, nearest_before, nearest_after, IsNearestBefore, IsNearestAfter}
 use Rattle.ff_ids.specs.Views.{key_at}
 use Rattle.ring_order.specs.Nearest.{keys_of, nearer, nearest, nearest_so_far, IsNumberBefore, IsNumberAfter}
 use Rattle.ring_order.specs.declared.Side.{Side}
@@ -14,45 +14,45 @@ use Rattle.ring_order.proofs.Top.{find_top-is, find_top-some, find_top-none, fin
 -- what is found is nearest
 pub nearest_before-some : (keys : List Key) (m : Key) (n : ℕ) → nearest_before keys m ≡ Some n → IsNumberBefore keys m n
 nearest_before-some keys m n h =
-    let found = find_top-some (λ v w. cyc v w m) m.number keys n h in
+    let found = find_top-some (λ v w. is_between v w m) m.number keys n h in
     (found.0, found.1, record { listed = found.2.listed; other = found.2.other; nearest = found.2.top })
 
 pub nearest_after-some : (keys : List Key) (m : Key) (n : ℕ) → nearest_after keys m ≡ Some n → IsNumberAfter keys m n
 nearest_after-some keys m n h =
-    let found = find_top-some (λ v w. cyc m w v) m.number keys n h in
+    let found = find_top-some (λ v w. is_between m w v) m.number keys n h in
     (found.0, found.1, record { listed = found.2.listed; other = found.2.other; nearest = found.2.top })
 
 -- what is nearest is found, so there is never a second one
 pub nearest_before-is : (keys : List Key) (m v : Key) → IsNearestBefore keys m v → nearest_before keys m ≡ Some v.number
-nearest_before-is keys m v h = find_top-is (λ v w. cyc v w m) m.number (before_ranked m) keys v (record { listed = h.listed; other = h.other; top = h.nearest })
+nearest_before-is keys m v h = find_top-is (λ v w. is_between v w m) m.number (before_ranked m) keys v (record { listed = h.listed; other = h.other; top = h.nearest })
 
 pub nearest_after-is : (keys : List Key) (m v : Key) → IsNearestAfter keys m v → nearest_after keys m ≡ Some v.number
-nearest_after-is keys m v h = find_top-is (λ v w. cyc m w v) m.number (after_ranked m) keys v (record { listed = h.listed; other = h.other; top = h.nearest })
+nearest_after-is keys m v h = find_top-is (λ v w. is_between m w v) m.number (after_ranked m) keys v (record { listed = h.listed; other = h.other; top = h.nearest })
 
 -- nothing is found exactly where each listed number is the member's
 pub nearest_before-none : (keys : List Key) (m : Key) → (nearest_before keys m ≡ None) ↔ All (λ k. k.number ≡ m.number) keys
 nearest_before-none keys m = (
-  find_top-none (λ v w. cyc v w m) m.number (before_ranked m) keys,
-  λ h. ap (option_map (λ (v : Key). v.number)) (find_top-nobody (λ v w. cyc v w m) m.number keys h),
+  find_top-none (λ v w. is_between v w m) m.number (before_ranked m) keys,
+  λ h. ap (option_map (λ (v : Key). v.number)) (find_top-nobody (λ v w. is_between v w m) m.number keys h),
 )
 
 pub nearest_after-none : (keys : List Key) (m : Key) → (nearest_after keys m ≡ None) ↔ All (λ k. k.number ≡ m.number) keys
 nearest_after-none keys m = (
-  find_top-none (λ v w. cyc m w v) m.number (after_ranked m) keys,
-  λ h. ap (option_map (λ (v : Key). v.number)) (find_top-nobody (λ v w. cyc m w v) m.number keys h),
+  find_top-none (λ v w. is_between m w v) m.number (after_ranked m) keys,
+  λ h. ap (option_map (λ (v : Key). v.number)) (find_top-nobody (λ v w. is_between m w v) m.number keys h),
 )
 
 -- only which keys are listed counts
 pub nearest_before-same : (keys kin : List Key) (m : Key) → ((v : Key) → Contains keys v ↔ Contains kin v) → nearest_before keys m ≡ nearest_before kin m
-nearest_before-same keys kin m same = find_top-same (λ v w. cyc v w m) m.number (before_ranked m) keys kin same
+nearest_before-same keys kin m same = find_top-same (λ v w. is_between v w m) m.number (before_ranked m) keys kin same
 
 pub nearest_after-same : (keys kin : List Key) (m : Key) → ((v : Key) → Contains keys v ↔ Contains kin v) → nearest_after keys m ≡ nearest_after kin m
-nearest_after-same keys kin m same = find_top-same (λ v w. cyc m w v) m.number (after_ranked m) keys kin same
+nearest_after-same keys kin m same = find_top-same (λ v w. is_between m w v) m.number (after_ranked m) keys kin same
 
 -- a pass over the keys keeps the nearest
 pub nearest-pass : (side : Side) (keys : List Key) (m : Key) → option_map (λ (v : Key). v.number) (fold (nearest_so_far (nearer side m) m.number) None keys) ≡ nearest side keys m
-nearest-pass Before keys m = top_of-find_top (λ v w. cyc v w m) m.number (before_ranked m) keys
-nearest-pass After keys m = top_of-find_top (λ v w. cyc m w v) m.number (after_ranked m) keys
+nearest-pass Before keys m = top_of-find_top (λ v w. is_between v w m) m.number (before_ranked m) keys
+nearest-pass After keys m = top_of-find_top (λ v w. is_between m w v) m.number (after_ranked m) keys
 
 -- ---- of listed members
 

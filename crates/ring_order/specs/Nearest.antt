@@ -1,6 +1,6 @@
 -- The keys of listed members on a ring, and the nearest of them to a member on either side.
 use Rattle.std.specs.Prelude.{◌≡◌, ℕ, ◌*◌, ◌-◌, Bool, ◌==◌, if◌then◌else◌, List, Option, Some, None, map, length}
-use Rattle.ff_ids.specs.Rings.{Key, cyc, others, nearest_before, nearest_after, IsNearestBefore, IsNearestAfter}
+use Rattle.ff_ids.specs.Rings.{Key, is_between, others, nearest_before, nearest_after, IsNearestBefore, IsNearestAfter}
 use Rattle.ff_ids.specs.Views.{key_at}
 use Rattle.ring_order.specs.declared.Side.{Side}
 use Rattle.ring_order.specs.declared.Side.TheVariants.{Before, After}
@@ -23,8 +23,8 @@ IsNumberAfter keys m n = (v : Key) × (v.number ≡ n) × IsNearestAfter keys m 
 
 -- The second key lies between the first and m, on m's given side.
 abbrev pub nearer : Side → Key → Key → Key → Bool
-nearer Before m v w = cyc v w m
-nearer After m v w = cyc m w v
+nearer Before m v w = is_between v w m
+nearer After m v w = is_between m w v
 
 abbrev pub nearest : Side → List Key → Key → Option ℕ
 nearest Before keys m = nearest_before keys m

@@ -4,7 +4,7 @@
 
 ghost use Rattle.std.specs.Prelude.{◌≡◌, ◌<◌, ◌≤◌, ◌+◌, ◌*◌, ◌-◌, [], ◌∷◌, ◌++◌, ◌↔◌, length, map, All, IsNone, IfSome, option_map, get_or};
 ghost use Rattle.ff_ids.specs.declared.TheConstants.{MAX_RINGS};
-ghost use Rattle.ff_ids.specs.Rings.{is_below, cyc, others, nearest_before as number_before, nearest_after as number_after};
+ghost use Rattle.ff_ids.specs.Rings.{is_below, is_between, others, nearest_before as number_before, nearest_after as number_after};
 ghost use Rattle.ff_ids.specs.Views.{key_at};
 ghost use Rattle.ring_order.specs.Rows.{place_of_number, is_plain, tail_of};
 ghost use Rattle.ring_order.specs.Nearest.{key_of_pair, keys_of, nearer, nearest, nearest_so_far, comparisons_of_next, comparisons_of_all, IsNumberBefore, IsNumberAfter};
@@ -41,9 +41,15 @@ impl Model for Places {
 
     ghost invariant = { λ p. kept_of (take p.count p.rows) ≡ (p.rows, p.count, p.tails, p.plain) };
 
-    ghost inverse = { λ v. record { rows = (kept_of v).0; count = (kept_of v).1; tails = (kept_of v).2; plain = (kept_of v).3 } };
+    ghost inverse = { λ v. record {
+      rows = (kept_of v).0;
+      count = (kept_of v).1;
+      tails = (kept_of v).2;
+      plain = (kept_of v).3;
+    } };
 
-    ghost inverse_ok = { λ p h. ap (λ q. record { rows = q.0; count = q.1; tails = q.2; plain = q.3 }) h };
+    ghost inverse_ok = { λ p h. ap
+        (λ q. record { rows = q.0; count = q.1; tails = q.2; plain = q.3 }) h };
 }
 
 impl Places {
@@ -92,7 +98,8 @@ impl Places {
     ) -> bool
         requires own { ring.0 < length self.now }
         requires other { ring.0 < length other.now }
-        ensures { result ≡ is_below (key_at ring.0 self.now number) (key_at ring.0 other.now other_number) }
+        ensures { result ≡ is_below (key_at ring.0 self.now number)
+            (key_at ring.0 other.now other_number) }
     {
         if self.plain && other.plain {
             let index = ring.0 as usize;
@@ -218,7 +225,8 @@ pub fn key_before<L: Ledger>(
 ) -> bool
     requires a_placed { ring.0 < length a_places.now }
     requires b_placed { ring.0 < length b_places.now }
-    ensures value { result ≡ is_below (key_at ring.0 a_places.now a) (key_at ring.0 b_places.now b) }
+    ensures value { result ≡ is_below (key_at ring.0 a_places.now a)
+        (key_at ring.0 b_places.now b) }
     ensures step { steps.new ≡ steps.old + 1 }
 {
     steps.add_one();
@@ -246,7 +254,8 @@ impl Side {
         requires best { ring.0 < length best.now.0 }
         requires candidate { ring.0 < length candidate.now.0 }
         ensures value { result
-            ≡ nearer self (key_of_pair ring.0 member.now) (key_of_pair ring.0 best.now) (key_of_pair ring.0 candidate.now) }
+            ≡ nearer self (key_of_pair ring.0 member.now) (key_of_pair ring.0 best.now)
+            (key_of_pair ring.0 candidate.now) }
         ensures steps { steps.new ≡ steps.old + 3 }
     {
         match self {
@@ -268,10 +277,12 @@ impl Side {
         requires best { IfSome best (λ p. ring.0 < length p.0) }
         requires candidate { ring.0 < length candidate.now.0 }
         ensures value { option_map (key_of_pair ring.0) result
-            ≡ nearest_so_far (nearer self (key_of_pair ring.0 member.now)) member.now.1 (option_map (key_of_pair ring.0) best) (key_of_pair ring.0 candidate.now) }
+            ≡ nearest_so_far (nearer self (key_of_pair ring.0 member.now)) member.now.1
+            (option_map (key_of_pair ring.0) best) (key_of_pair ring.0 candidate.now) }
         ensures placed { IfSome result (λ p. ring.0 < length p.0) }
         ensures steps { steps.new
-            ≡ steps.old + comparisons_of_next member.now.1 (option_map (key_of_pair ring.0) best) (key_of_pair ring.0 candidate.now) }
+            ≡ steps.old + comparisons_of_next member.now.1 (option_map (key_of_pair ring.0) best)
+            (key_of_pair ring.0 candidate.now) }
     {
         if candidate.1 == member.1 {
             return best;
@@ -298,8 +309,10 @@ impl Side {
     ) -> Option<MemberId>
         requires own { ring.0 < length member.now.0 }
         requires each { All (λ p. ring.0 < length p.0) live.now }
-        ensures value { result ≡ nearest self (keys_of ring.0 live.now) (key_of_pair ring.0 member.now) }
-        ensures steps { steps.new ≡ steps.old + comparisons_of_all member.now.1 (keys_of ring.0 live.now) }
+        ensures value { result ≡ nearest self (keys_of ring.0 live.now)
+            (key_of_pair ring.0 member.now) }
+        ensures steps { steps.new
+            ≡ steps.old + comparisons_of_all member.now.1 (keys_of ring.0 live.now) }
     {
         let mut best = None;
         for listed in live {
@@ -321,7 +334,8 @@ fn comes_between<L: Ledger>(
     requires second { ring.0 < length second.now.0 }
     requires third { ring.0 < length third.now.0 }
     ensures value { result
-        ≡ cyc (key_of_pair ring.0 first.now) (key_of_pair ring.0 second.now) (key_of_pair ring.0 third.now) }
+        ≡ is_between (key_of_pair ring.0 first.now) (key_of_pair ring.0 second.now)
+        (key_of_pair ring.0 third.now) }
     ensures steps { steps.new ≡ steps.old + 3 }
 {
     let up = key_before(ring, &first.0, first.1, &second.0, second.1, steps);
@@ -342,10 +356,13 @@ pub fn nearest_before<L: Ledger>(
 ) -> Option<MemberId>
     requires own { ring.0 < length places.now }
     requires each { All (λ p. ring.0 < length p.0) live.now }
-    ensures exact { result ≡ number_before (keys_of ring.0 live.now) (key_at ring.0 places.now member) }
+    ensures exact { result ≡ number_before (keys_of ring.0 live.now)
+        (key_at ring.0 places.now member) }
     ensures none { IsNone result ↔ All (λ p. p.1 ≡ member) live.now }
-    ensures nearest { IfSome result (IsNumberBefore (keys_of ring.0 live.now) (key_at ring.0 places.now member)) }
-    ensures steps { steps.new ≡ steps.old + 3 * (length (others member (keys_of ring.0 live.now)) - 1) }
+    ensures nearest { IfSome result
+        (IsNumberBefore (keys_of ring.0 live.now) (key_at ring.0 places.now member)) }
+    ensures steps { steps.new
+        ≡ steps.old + 3 * (length (others member (keys_of ring.0 live.now)) - 1) }
 {
     Side::Before.nearest(ring, &(*places, member), live, steps)
 }
@@ -362,10 +379,13 @@ pub fn nearest_after<L: Ledger>(
 ) -> Option<MemberId>
     requires own { ring.0 < length places.now }
     requires each { All (λ p. ring.0 < length p.0) live.now }
-    ensures exact { result ≡ number_after (keys_of ring.0 live.now) (key_at ring.0 places.now member) }
+    ensures exact { result ≡ number_after (keys_of ring.0 live.now)
+        (key_at ring.0 places.now member) }
     ensures none { IsNone result ↔ All (λ p. p.1 ≡ member) live.now }
-    ensures nearest { IfSome result (IsNumberAfter (keys_of ring.0 live.now) (key_at ring.0 places.now member)) }
-    ensures steps { steps.new ≡ steps.old + 3 * (length (others member (keys_of ring.0 live.now)) - 1) }
+    ensures nearest { IfSome result
+        (IsNumberAfter (keys_of ring.0 live.now) (key_at ring.0 places.now member)) }
+    ensures steps { steps.new
+        ≡ steps.old + 3 * (length (others member (keys_of ring.0 live.now)) - 1) }
 {
     Side::After.nearest(ring, &(*places, member), live, steps)
 }

@@ -48,7 +48,8 @@ impl Lines {
         ensures answer { AnswersBy TakesMemory (judge self.old bytes.now) result }
         ensures refused { Refuses (first_bad self.old bytes.now) result }
         ensures line { IfOk result (IsLine self.old bytes.now) }
-        ensures taken { (l : Line) → IsLine self.old bytes.now l → AnswersThat TakesMemory l result }
+        ensures taken { (l : Line) → IsLine self.old bytes.now l
+            → AnswersThat TakesMemory l result }
         ensures progress { self.new ≡ progress_after after self.old result }
     {
         self.reader.line(alloc, bytes)

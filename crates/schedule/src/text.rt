@@ -58,7 +58,8 @@ impl Text {
 
 /// The header of a schedule, in one of its forms.
 fn schedule_header(alloc: Global, words: Words) -> Result<Line, LineFault>
-    ensures { AnswersBy TakesMemory (row_line (header_row words.entry) (behind words.entry)) result }
+    ensures { AnswersBy TakesMemory (row_line (header_row words.entry) (behind words.entry))
+        result }
 {
     if words.again().is_header(b"world") {
         Ok(Line::World(WorldText::Start.judge(alloc, words)?))

@@ -1,12 +1,13 @@
 -- Worked lines: what each is, or its first bad word. Each row is computed.
 use Rattle.std.proofs.Common.{◌≡◌, ℕ, ◌++◌, [], ◌∷◌, List, Some, None, Result, Ok, Err, refl, codes}
+use Rattle.std.specs.Fmt.{digits}
 use Rattle.line_text.specs.declared.bad_word.BadWord.{BadWord}
 use Rattle.line_text.specs.declared.bad_word.BadWord.TheVariants as bad
 use Rattle.line_text.specs.Frame.{judge as judge_line, first_bad as first_bad_of}
 use Rattle.schedule_direct.specs.declared.direct.Direct.TheVariants as direct
 use Rattle.schedule_direct.specs.declared.line.DirectLine.{DirectLine}
 use Rattle.schedule_direct.specs.declared.line.DirectLine.TheVariants as lines
-use Rattle.schedule_direct.specs.Grammar.{first_bad, judge, opening}
+use Rattle.schedule_direct.specs.Grammar.{first_bad, judge, opening, spelled_words}
 
 -- the line with a line feed, at line 1; directly below the header; below a group of tolerance 1, with so many
 -- ticks before it; and behind `end`
@@ -118,3 +119,17 @@ tables : (first_bad (record { number = 100001; form = direct.Ended }) (codes "x"
     × (first_bad (record { number = 100000; form = direct.Body 1 0 }) (codes "tick 7" ++ 10 ∷ []) ≡ None)
 unfolding first_bad_of
 tables = (refl, refl, refl, refl, refl, refl, refl, refl)
+
+-- the one spelling of a line
+spellings : (spelled_words lines.Header ≡ codes "fireflies" ∷ codes "1" ∷ codes "direct" ∷ [])
+    × (spelled_words (lines.Group 15 10000) ≡ codes "group" ∷ codes "15" ∷ codes "10000" ∷ [])
+    × (spelled_words (lines.Member 1023 (0 ∷ 4294967295 ∷ [])) ≡ codes "member" ∷ codes "1023" ∷ codes "0" ∷ codes "4294967295" ∷ [])
+    × (spelled_words (lines.Note (record { member = 2; epoch = 3; mask = record { 0 = 7 } })) ≡ codes "note" ∷ codes "2" ∷ codes "3" ∷ codes "7" ∷ [])
+    × (spelled_words (lines.Accuse (record { accuser = 1; accused = 2; epoch = 3; ring = record { 0 = 4 } })) ≡ codes "accuse" ∷ codes "1" ∷ codes "2" ∷ codes "3" ∷ codes "4" ∷ [])
+    × (spelled_words (lines.Tick 60) ≡ codes "tick" ∷ codes "60" ∷ [])
+    × (spelled_words lines.View ≡ codes "view" ∷ [])
+    × (spelled_words (lines.Monitor (record { 0 = 2 }) 5) ≡ codes "monitor" ∷ codes "2" ∷ codes "5" ∷ [])
+    × (spelled_words lines.Life ≡ codes "life" ∷ [])
+    × (spelled_words lines.End ≡ codes "end" ∷ [])
+unfolding digits
+spellings = (refl, refl, refl, refl, refl, refl, refl, refl, refl, refl)

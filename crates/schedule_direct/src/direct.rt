@@ -76,7 +76,8 @@ fn line_of(
     args: Words,
 ) -> Result<DirectLine, LineFault>
     requires { tolerance direct ≤ MAX_TOLERANCE }
-    ensures { AnswersBy TakesMemory (fields_line (fields_of direct word) (line_of word) args.entry) result }
+    ensures { AnswersBy TakesMemory (fields_line (fields_of direct word) (line_of word) args.entry)
+        result }
 {
     match word {
         LineWord::Group => Ok(group_line(args)?),

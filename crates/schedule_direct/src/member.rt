@@ -4,6 +4,7 @@ ghost use Rattle.std.specs.Prelude.{◌≡◌, Ok, length, map, replicate, ⊤};
 ghost use Rattle.line_text.specs.Answers.{AnswersBy, refusal};
 ghost use Rattle.line_text.specs.Fields.{number_32, number_in};
 ghost use Rattle.line_text.specs.Frame.{fields_line, first_of, unless_bad, word_tests};
+ghost use Rattle.line_text.specs.Shapes.{tests};
 ghost use Rattle.schedule_direct.specs.Rows.{TakesMemory, line_of, member_fields, read_places};
 
 use crate::line::{DirectLine, LineWord, PlaceList};
@@ -13,7 +14,8 @@ use std::alloc::Global;
 
 /// The first bad word of the places that the words spell.
 fn check_places(mut words: Words) -> Result<(), BadWord>
-    ensures { first_of (word_tests (replicate (length words.entry) number_32) words.entry) ≡ refusal result }
+    ensures { first_of (word_tests (replicate (length words.entry) number_32) words.entry)
+        ≡ refusal result }
 {
     while !words.is_empty() {
         words.number_32()?;
@@ -36,7 +38,8 @@ fn place_numbers(alloc: Global, mut words: Words) -> Result<PlaceList, LineFault
 
 /// A member and its places, one for each of the 2t+1 rings.
 pub(crate) fn member_line(alloc: Global, t: u8, args: Words) -> Result<DirectLine, LineFault>
-    ensures { AnswersBy TakesMemory (fields_line (member_fields t) (line_of LineWord.Member) args.entry) result }
+    ensures { AnswersBy TakesMemory
+        (fields_line (tests (member_fields t)) (line_of LineWord.Member) args.entry) result }
 {
     let mut args = args.exactly(2 * usize::from(t) + 2)?;
     let member = take_member(&mut args)?;

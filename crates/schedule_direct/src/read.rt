@@ -5,6 +5,7 @@ ghost use Rattle.ff_ids.specs.declared.TheConstants.{MAX_TOLERANCE};
 ghost use Rattle.line_text.specs.Answers.{refusal};
 ghost use Rattle.line_text.specs.Fields.{number_in};
 ghost use Rattle.line_text.specs.Frame.{behind, fields_line, first_word, row_line, word_or_bad};
+ghost use Rattle.line_text.specs.Shapes.{test, tests};
 ghost use Rattle.schedule_direct.specs.Rows.{accuse_fields, epoch, group_fields, line_of, line_word, member, monitor_fields, note_fields, start_row, tick_fields};
 
 use crate::line::{DirectLine, LineWord};
@@ -55,7 +56,7 @@ pub(crate) fn line_word(word: &[u8]) -> Result<LineWord, BadWord>
 
 /// Takes the number of a member.
 pub(crate) fn take_member(words: &mut Words) -> Result<MemberId, BadWord>
-    ensures refused { member (first_word words.old) ≡ refusal result }
+    ensures refused { test member (first_word words.old) ≡ refusal result }
     ensures value { IfOk result (λ n. n ≡ number_in (first_word words.old)) }
     ensures moved { words.new ≡ behind words.old }
 {
@@ -65,7 +66,7 @@ pub(crate) fn take_member(words: &mut Words) -> Result<MemberId, BadWord>
 
 /// Takes an epoch.
 fn take_epoch(words: &mut Words) -> Result<Epoch, BadWord>
-    ensures refused { epoch (first_word words.old) ≡ refusal result }
+    ensures refused { test epoch (first_word words.old) ≡ refusal result }
     ensures value { IfOk result (λ n. n ≡ number_in (first_word words.old)) }
     ensures moved { words.new ≡ behind words.old }
 {
@@ -74,7 +75,7 @@ fn take_epoch(words: &mut Words) -> Result<Epoch, BadWord>
 }
 
 pub(crate) fn group_line(args: Words) -> Result<DirectLine, BadWord>
-    ensures { result ≡ fields_line group_fields (line_of LineWord.Group) args.entry }
+    ensures { result ≡ fields_line (tests group_fields) (line_of LineWord.Group) args.entry }
 {
     let mut args = args.exactly(2)?;
     let t = args.number(1, MAX_TOLERANCE as u64)?;
@@ -86,7 +87,7 @@ pub(crate) fn group_line(args: Words) -> Result<DirectLine, BadWord>
 }
 
 pub(crate) fn note_line(args: Words) -> Result<DirectLine, BadWord>
-    ensures { result ≡ fields_line note_fields (line_of LineWord.Note) args.entry }
+    ensures { result ≡ fields_line (tests note_fields) (line_of LineWord.Note) args.entry }
 {
     let mut args = args.exactly(3)?;
     Ok(DirectLine::Note(NoteBody {
@@ -97,7 +98,7 @@ pub(crate) fn note_line(args: Words) -> Result<DirectLine, BadWord>
 }
 
 pub(crate) fn accuse_line(args: Words) -> Result<DirectLine, BadWord>
-    ensures { result ≡ fields_line accuse_fields (line_of LineWord.Accuse) args.entry }
+    ensures { result ≡ fields_line (tests accuse_fields) (line_of LineWord.Accuse) args.entry }
 {
     let mut args = args.exactly(4)?;
     Ok(DirectLine::Accuse(AccBody {
@@ -110,7 +111,7 @@ pub(crate) fn accuse_line(args: Words) -> Result<DirectLine, BadWord>
 
 /// The ticks of one line, where no more than `left` may come.
 pub(crate) fn tick_line(left: u32, args: Words) -> Result<DirectLine, BadWord>
-    ensures { result ≡ fields_line (tick_fields left) (line_of LineWord.Tick) args.entry }
+    ensures { result ≡ fields_line (tests (tick_fields left)) (line_of LineWord.Tick) args.entry }
 {
     let mut args = args.exactly(1)?;
     let number = args.number(1, u64::from(left.min(10_000)))?;
@@ -119,7 +120,8 @@ pub(crate) fn tick_line(left: u32, args: Words) -> Result<DirectLine, BadWord>
 
 pub(crate) fn monitor_line(t: u8, args: Words) -> Result<DirectLine, BadWord>
     requires { t ≤ MAX_TOLERANCE }
-    ensures { result ≡ fields_line (monitor_fields t) (line_of LineWord.Monitor) args.entry }
+    ensures { result ≡ fields_line (tests (monitor_fields t)) (line_of LineWord.Monitor)
+        args.entry }
 {
     let mut args = args.exactly(2)?;
     let ring = args.number(0, 2 * u64::from(t))?;

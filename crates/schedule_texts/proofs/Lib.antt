@@ -1,3 +1,6 @@
 mod Rows
 pub mod FieldLemmas
 pub mod TableLemmas
+pub mod LineLemmas
+mod KitRows
+pub mod KitReadingLemmas

@@ -1,12 +1,10 @@
 -- Steps of reading by the table of a form.
-use Rattle.std.proofs.Common.{◌≡◌, ℕ, Bool, true, false, List, Option, Some, None, Result, Ok, Err, sym, subst}
+use Rattle.std.proofs.Common.{◌≡◌, ℕ, true, List, Option, Some, None, Result, Ok, Err, sym}
 use Rattle.line_text.specs.declared.bad_word.BadWord.{BadWord}
-use Rattle.line_text.specs.declared.bad_word.LineFault.{LineFault}
-use Rattle.line_text.specs.Fields.{Field}
-use Rattle.line_text.specs.Answers.{AnswersBy}
-use Rattle.line_text.specs.Frame.{Row, behind, field_tests, fields_line, first_of, first_word, is_header, known_row, row_line, unless_bad, word_or_bad}
-use Rattle.line_text.proofs.FrameLemmas.{header-line, known-read}
-use Rattle.schedule_texts.specs.Table.{start_row, table_row}
+use Rattle.line_text.specs.Fields.{Test}
+use Rattle.line_text.specs.Frame.{behind, field_tests, fields_line, first_of, is_header, row_line, unless_bad}
+use Rattle.line_text.proofs.FrameLemmas.{header-line}
+use Rattle.schedule_texts.specs.Table.{start_row}
 
 -- ## Reading
 
@@ -27,17 +25,8 @@ good_too None v x of e = cc
 good_too (Some w) v x of e = absurd cc
 
 -- words that aren't a value are no line of it either
-pub line_bad : {V L : Type 0} (fields : List Field) (value : List (List ℕ) → V) (line : List (List ℕ) → L) (args : List (List ℕ)) (w : BadWord) → Err w ≡ fields_line fields value args → Err w ≡ fields_line fields line args
+pub line_bad : {V L : Type 0} (fields : List Test) (value : List (List ℕ) → V) (line : List (List ℕ) → L) (args : List (List ℕ)) (w : BadWord) → Err w ≡ fields_line fields value args → Err w ≡ fields_line fields line args
 line_bad fields value line args w e = bad_too (first_of (field_tests fields args)) (value args) (line args) w e
 
-pub line_good : {V L : Type 0} (fields : List Field) (value : List (List ℕ) → V) (of : V → L) (args : List (List ℕ)) (x : V) → given x ≡ fields_line fields value args → given (of x) ≡ fields_line fields (λ ws. of (value ws)) args
+pub line_good : {V L : Type 0} (fields : List Test) (value : List (List ℕ) → V) (of : V → L) (args : List (List ℕ)) (x : V) → given x ≡ fields_line fields value args → given (of x) ≡ fields_line fields (λ ws. of (value ws)) args
 line_good fields value of args x e = good_too (first_of (field_tests fields args)) (value args) x of e
-
--- ## Lines below the header
-
--- a line below the header that may stand here
-pub below_read : {W L : Type 0} (Takes : L → Type 0) (start : Bool) (form : List ℕ) (header : L) (line_word : List ℕ → Option W) (row : W → Row L) (words : List (List ℕ)) (first : List ℕ) (k : W) (args : List (List ℕ)) (answer : Result L LineFault)
-    → start ≡ false → first ≡ first_word words → word_or_bad (line_word first) ≡ Ok k → (row k).stands ≡ true → args ≡ behind words → AnswersBy Takes (fields_line (row k).fields (row k).line args) answer
-    → AnswersBy Takes (row_line (table_row start form header line_word row words) (behind words)) answer
-below_read Takes start form header line_word row words first k args answer below is word may same h =
-    rw below (subst (λ (w : List ℕ). AnswersBy Takes (row_line (known_row row (line_word w)) (behind words)) answer) is (known-read Takes row (line_word first) k words args answer word may same h))

@@ -1,6 +1,6 @@
 -- Tables of kinds by their numbers: a kind that a table has for a number has that number.
 use Rattle.std.proofs.Common.{◌≡◌, ℕ, Bool, true, false, cond, eqb, Option, Some, None, refl, sym, ap, subst, ◌∙◌}
-use Rattle.std.specs.Prelude.{is_some}
+use Rattle.std.specs.Prelude.{◌==◌, if◌then◌else◌, is_some}
 use Rattle.std.proofs.lemmas.Bool.{eqb-true}
 use Rattle.lms_ots.specs.declared.kind.OtsKind.{OtsKind}
 use Rattle.lms_ots.specs.declared.kind.OtsKind.TheVariants.{W1, W2, W4, W8}
@@ -10,7 +10,13 @@ use Rattle.lms_tree.specs.declared.kind.TreeKind.TheVariants.{H5, H10, H15}
 use Rattle.lms_tree.specs.Kinds.{height, type_number}
 use Rattle.lms_tree.specs.Lms.{tree_of}
 use Rattle.line_text.specs.Fields.{is_within}
-use Rattle.schedule_texts.specs.Shared.{ots_of_width, tree_of_height}
+
+abbrev pub ots_of_width : ℕ → Option OtsKind
+ots_of_width n =
+    if n == 1 then Some W1 else (if n == 2 then Some W2 else (if n == 4 then Some W4 else (if n == 8 then Some W8 else None)))
+
+abbrev pub tree_of_height : ℕ → Option TreeKind
+tree_of_height n = if n == 5 then Some H5 else (if n == 10 then Some H10 else (if n == 15 then Some H15 else None))
 
 abbrev there : {A : Type 0} → A → Option A
 there x = Some x

@@ -1,7 +1,8 @@
+pub mod KindTables
+pub mod Keys
 pub mod Shared
 pub mod Table
 pub mod Spelling
-pub mod KindTables
 pub mod SharedLaws
 pub mod TableLaws
 pub mod SecretRows
@@ -10,3 +11,6 @@ pub mod SecretLaws
 pub mod RosterRows
 pub mod RosterGrammar
 pub mod RosterLaws
+pub mod KitRows
+pub mod KitGrammar
+pub mod KitLaws

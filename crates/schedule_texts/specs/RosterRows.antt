@@ -1,9 +1,14 @@
--- The rows of the text that asks an authority for certificates.
+-- The table of the text that asks an authority for certificates.
 use Rattle.std.specs.Prelude.{ℕ, Bool, true, false, not, ◌&&◌, List, [], ◌∷◌, Option, Result, codes, slice_index_or}
 use Rattle.ff_ids.specs.declared.TheConstants.{LAST_MEMBER}
 use Rattle.line_text.specs.declared.bad_word.BadWord.{BadWord}
-use Rattle.line_text.specs.Fields.{Field, is_within, number_in, number_that}
-use Rattle.line_text.specs.Frame.{Row, first_word, second_word, third_word, word_among}
+use Rattle.line_text.specs.declared.bad_word.BadWord.TheVariants as bad
+use Rattle.line_text.specs.Fields.{Test, is_within}
+use Rattle.line_text.specs.Frame.{Row, word_among}
+use Rattle.line_text.specs.Shapes.{◌and◌, Field, Fields, Makes, line_from, no_more, number_where, test, tests}
+use Rattle.line_text.specs.Tables as table
+use Rattle.line_text.specs.Tables.{Header, Line, Parts, Table}
+use Rattle.lms_tree.specs.declared.key.PublicKey.{PublicKey}
 use Rattle.records.specs.declared.CertBody.{CertBody}
 use Rattle.schedule_texts.specs.declared.line.RosterLine.{RosterLine}
 use Rattle.schedule_texts.specs.declared.line.RosterLine.TheVariants as lines
@@ -11,8 +16,7 @@ use Rattle.schedule_texts.specs.declared.roster.RosterText.{RosterText}
 use Rattle.schedule_texts.specs.declared.roster.RosterText.TheVariants as roster
 use Rattle.schedule_texts.specs.declared.roster.LineWord.{LineWord}
 use Rattle.schedule_texts.specs.declared.roster.LineWord.TheVariants as words
-use Rattle.schedule_texts.specs.Shared.{group_fields, group_in, key, key_in_word, kinds_fields, kinds_in, port, secret_fields, secret_in}
-use Rattle.schedule_texts.specs.Table.{table_row}
+use Rattle.schedule_texts.specs.Shared.{group_of, group_shape, group_values, key_field, kinds_of, kinds_shape, kinds_values, port_field, secret_shape}
 
 abbrev pub is_start : RosterText → Bool
 is_start roster.Start = true
@@ -37,29 +41,46 @@ may_stand (roster.Body named) words.End = true
 may_stand _ _ = false
 
 -- the number of a member that no line before names
-abbrev pub new_member : RosterText → Field
-new_member form word = number_that (λ m. is_within 0 LAST_MEMBER m && not (is_named form m)) word
+abbrev pub new_member_field : RosterText → Field
+new_member_field form = number_where (λ m. is_within 0 LAST_MEMBER m && not (is_named form m))
+
+abbrev pub new_member : RosterText → Test
+new_member form word = test (new_member_field form) word
 
 -- M PORT KEY
-abbrev pub cert_fields : RosterText → List Field
-cert_fields form = new_member form ∷ port ∷ key ∷ []
+abbrev pub cert_shape : RosterText → Fields
+cert_shape form = new_member_field form and port_field and key_field and no_more
 
-abbrev pub fields_of : RosterText → LineWord → List Field
-fields_of form words.Group = group_fields
-fields_of form words.Kinds = kinds_fields
-fields_of form words.Secret = secret_fields
-fields_of form words.Cert = cert_fields form
-fields_of form words.End = []
+abbrev pub cert_of : ℕ → ℕ → PublicKey → CertBody
+cert_of m at own = record { member = m; port = at; key = own }
+
+abbrev pub cert_fields : RosterText → List Test
+cert_fields form = tests (cert_shape form)
 
 abbrev pub cert_in : List (List ℕ) → CertBody
-cert_in args = record { member = number_in (first_word args); port = number_in (second_word args); key = key_in_word (third_word args) }
+cert_in args = line_from (cert_shape roster.Start) cert_of args
 
-abbrev pub line_of : LineWord → List (List ℕ) → RosterLine
-line_of words.Group args = lines.Group (group_in args)
-line_of words.Kinds args = lines.Kinds (kinds_in args)
-line_of words.Secret args = lines.Secret (secret_in args)
-line_of words.Cert args = lines.Cert (cert_in args)
-line_of words.End args = lines.End
+abbrev pub fields : RosterText → LineWord → Fields
+fields form words.Group = group_shape
+fields form words.Kinds = kinds_shape
+fields form words.Secret = secret_shape
+fields form words.Cert = cert_shape form
+fields form words.End = no_more
+
+abbrev pub line : (form : RosterText) (word : LineWord) → Makes (fields form word) RosterLine
+line form words.Group = λ t timeout period misses tag. lines.Group (group_of t timeout period misses tag)
+line form words.Kinds = λ wide high. lines.Kinds (kinds_of wide high)
+line form words.Secret = λ bytes. lines.Secret bytes
+line form words.Cert = λ m at own. lines.Cert (cert_of m at own)
+line form words.End = lines.End
+
+abbrev pub parts : (form : RosterText) → RosterLine → Parts LineWord (fields form)
+parts form lines.Header = Header
+parts form (lines.Group g) = Line words.Group (group_values g)
+parts form (lines.Kinds k) = Line words.Kinds (kinds_values k)
+parts form (lines.Secret bytes) = Line words.Secret (bytes, tt)
+parts form (lines.Cert c) = Line words.Cert (c.member, (c.port, (c.key, tt)))
+parts form lines.End = Line words.End tt
 
 abbrev pub word_text : LineWord → List ℕ
 word_text words.Group = codes "group"
@@ -71,15 +92,36 @@ word_text words.End = codes "end"
 abbrev pub line_words : List LineWord
 line_words = words.Group ∷ words.Kinds ∷ words.Secret ∷ words.Cert ∷ words.End ∷ []
 
-abbrev pub row_of : RosterText → LineWord → Row RosterLine
-row_of form word = record { stands = may_stand form word; fields = fields_of form word; line = line_of word }
+abbrev pub roster_table : Table RosterText LineWord RosterLine
+roster_table = record {
+  is_start = is_start;
+  form = codes "roster";
+  header = lines.Header;
+  no_header = λ ws. bad.Header;
+  words = line_words;
+  text = word_text;
+  may_stand = may_stand;
+  fields = fields;
+  line = line;
+  parts = parts;
+}
+
+-- ## As it is read
 
 -- the line word that a word is
 abbrev pub line_word : List ℕ → Option LineWord
 line_word word = word_among word_text line_words word
 
+abbrev pub fields_of : RosterText → LineWord → List Test
+fields_of form word = tests (fields form word)
+
+-- the line that words are, which is the same wherever it stands
+abbrev pub line_of : LineWord → List (List ℕ) → RosterLine
+line_of words.End args = lines.End
+line_of word args = line_from (fields roster.Start word) (line roster.Start word) args
+
 abbrev pub row_for : RosterText → List (List ℕ) → Result (Row RosterLine) BadWord
-row_for form ws = table_row (is_start form) (codes "roster") lines.Header line_word (row_of form) ws
+row_for form ws = table.row_for roster_table form ws
 
 -- No line takes memory.
 abbrev pub TakesMemory : RosterLine → Type 0

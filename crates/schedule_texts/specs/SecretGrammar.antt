@@ -1,40 +1,22 @@
--- The grammar of the text that makes the store of an authority's key: which words are which line, and where; and the
--- reader's progress.
-use Rattle.std.specs.Prelude.{◌≡◌, ℕ, List, [], ◌∷◌, Option, Result, codes}
+-- The grammar of the text that makes the store of an authority's key, which its table gives; and the reader's progress.
+use Rattle.std.specs.Prelude.{ℕ, List, Option, Result}
 use Rattle.line_text.specs.declared.bad_word.BadWord.{BadWord}
 use Rattle.line_text.specs.Answers.{Progress, moved, next_line}
 use Rattle.line_text.specs.Frame as frame
+use Rattle.line_text.specs.Tables.{Spells}
 use Rattle.schedule_texts.specs.declared.line.SecretLine.{SecretLine}
 use Rattle.schedule_texts.specs.declared.line.SecretLine.TheVariants as lines
 use Rattle.schedule_texts.specs.declared.secret.SecretText.{SecretText}
 use Rattle.schedule_texts.specs.declared.secret.SecretText.TheVariants as secret
-use Rattle.schedule_texts.specs.SecretRows.{is_ended, row_for}
-use Rattle.schedule_texts.specs.Spelling.{SpellsGroup, SpellsKinds, SpellsSecret}
+use Rattle.schedule_texts.specs.SecretRows.{is_ended, row_for, secret_table}
 
 -- Every value may be reached.
 abbrev pub IsSound : SecretText → Type 0
 IsSound form = Unit {0}
 
--- Where a line may stand: each directly below the one before.
-abbrev pub stands_at : SecretLine → SecretText
-stands_at lines.Header = secret.Start
-stands_at (lines.Group g) = secret.Headed
-stands_at (lines.Kinds k) = secret.Grouped
-stands_at (lines.Secret s) = secret.Kinded
-stands_at lines.End = secret.Given
-
--- These words spell the line.
-abbrev pub Spells : List (List ℕ) → SecretLine → Type 0
-Spells ws lines.Header = ws ≡ codes "fireflies" ∷ codes "1" ∷ codes "secret" ∷ []
-Spells ws (lines.Group g) = SpellsGroup ws g
-Spells ws (lines.Kinds k) = SpellsKinds ws k
-Spells ws (lines.Secret s) = SpellsSecret ws s
-Spells ws lines.End = ws ≡ codes "end" ∷ []
-
 -- These words are this line, which may stand here.
-pub record IsSecret (form : SecretText) (ws : List (List ℕ)) (l : SecretLine) : Type 0 where
-  pub stands : form ≡ stands_at l
-  pub spells : Spells ws l
+abbrev pub IsSecret : SecretText → List (List ℕ) → SecretLine → Type 0
+IsSecret form ws l = Spells secret_table form ws l
 
 -- ## Behind a line
 

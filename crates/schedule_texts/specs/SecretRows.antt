@@ -1,16 +1,19 @@
--- The rows of the text that makes the store of an authority's key.
+-- The table of the text that makes the store of an authority's key.
 use Rattle.std.specs.Prelude.{ℕ, Bool, true, false, List, [], ◌∷◌, Option, Result, codes}
 use Rattle.line_text.specs.declared.bad_word.BadWord.{BadWord}
-use Rattle.line_text.specs.Fields.{Field}
+use Rattle.line_text.specs.declared.bad_word.BadWord.TheVariants as bad
+use Rattle.line_text.specs.Fields.{Test}
 use Rattle.line_text.specs.Frame.{Row, word_among}
+use Rattle.line_text.specs.Shapes.{Fields, Makes, line_from, no_more, tests}
+use Rattle.line_text.specs.Tables as table
+use Rattle.line_text.specs.Tables.{Header, Line, Parts, Table}
 use Rattle.schedule_texts.specs.declared.line.SecretLine.{SecretLine}
 use Rattle.schedule_texts.specs.declared.line.SecretLine.TheVariants as lines
 use Rattle.schedule_texts.specs.declared.secret.SecretText.{SecretText}
 use Rattle.schedule_texts.specs.declared.secret.SecretText.TheVariants as secret
 use Rattle.schedule_texts.specs.declared.secret.LineWord.{LineWord}
 use Rattle.schedule_texts.specs.declared.secret.LineWord.TheVariants as words
-use Rattle.schedule_texts.specs.Shared.{group_fields, group_in, kinds_fields, kinds_in, secret_fields, secret_in}
-use Rattle.schedule_texts.specs.Table.{table_row}
+use Rattle.schedule_texts.specs.Shared.{group_of, group_shape, group_values, kinds_of, kinds_shape, kinds_values, secret_shape}
 
 abbrev pub is_start : SecretText → Bool
 is_start secret.Start = true
@@ -28,17 +31,24 @@ may_stand secret.Kinded words.Secret = true
 may_stand secret.Given words.End = true
 may_stand _ _ = false
 
-abbrev pub fields_of : LineWord → List Field
-fields_of words.Group = group_fields
-fields_of words.Kinds = kinds_fields
-fields_of words.Secret = secret_fields
-fields_of words.End = []
+abbrev pub fields : LineWord → Fields
+fields words.Group = group_shape
+fields words.Kinds = kinds_shape
+fields words.Secret = secret_shape
+fields words.End = no_more
 
-abbrev pub line_of : LineWord → List (List ℕ) → SecretLine
-line_of words.Group args = lines.Group (group_in args)
-line_of words.Kinds args = lines.Kinds (kinds_in args)
-line_of words.Secret args = lines.Secret (secret_in args)
-line_of words.End args = lines.End
+abbrev pub line : (word : LineWord) → Makes (fields word) SecretLine
+line words.Group = λ t timeout period misses tag. lines.Group (group_of t timeout period misses tag)
+line words.Kinds = λ wide high. lines.Kinds (kinds_of wide high)
+line words.Secret = λ bytes. lines.Secret bytes
+line words.End = lines.End
+
+abbrev pub parts : SecretLine → Parts LineWord fields
+parts lines.Header = Header
+parts (lines.Group g) = Line words.Group (group_values g)
+parts (lines.Kinds k) = Line words.Kinds (kinds_values k)
+parts (lines.Secret bytes) = Line words.Secret (bytes, tt)
+parts lines.End = Line words.End tt
 
 abbrev pub word_text : LineWord → List ℕ
 word_text words.Group = codes "group"
@@ -49,15 +59,35 @@ word_text words.End = codes "end"
 abbrev pub line_words : List LineWord
 line_words = words.Group ∷ words.Kinds ∷ words.Secret ∷ words.End ∷ []
 
-abbrev pub row_of : SecretText → LineWord → Row SecretLine
-row_of form word = record { stands = may_stand form word; fields = fields_of word; line = line_of word }
+abbrev pub secret_table : Table SecretText LineWord SecretLine
+secret_table = record {
+  is_start = is_start;
+  form = codes "secret";
+  header = lines.Header;
+  no_header = λ ws. bad.Header;
+  words = line_words;
+  text = word_text;
+  may_stand = may_stand;
+  fields = λ form. fields;
+  line = λ form. line;
+  parts = λ form. parts;
+}
+
+-- ## As it is read
 
 -- the line word that a word is
 abbrev pub line_word : List ℕ → Option LineWord
 line_word word = word_among word_text line_words word
 
+abbrev pub fields_of : LineWord → List Test
+fields_of word = tests (fields word)
+
+abbrev pub line_of : LineWord → List (List ℕ) → SecretLine
+line_of words.End args = lines.End
+line_of word args = line_from (fields word) (line word) args
+
 abbrev pub row_for : SecretText → List (List ℕ) → Result (Row SecretLine) BadWord
-row_for form ws = table_row (is_start form) (codes "secret") lines.Header line_word (row_of form) ws
+row_for form ws = table.row_for secret_table form ws
 
 -- No line takes memory.
 abbrev pub TakesMemory : SecretLine → Type 0

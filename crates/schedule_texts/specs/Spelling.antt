@@ -33,13 +33,6 @@ pub record SpellsGroup (ws : List (List ℕ)) (g : Group) : Type 0 where
 abbrev pub SpellsKinds : List (List ℕ) → Kinds → Type 0
 SpellsKinds ws k = ws ≡ codes "kinds" ∷ decimal (ots.width k.ots) ∷ decimal (tree.height k.tree) ∷ []
 
--- `secret HEX`
-pub record SpellsSecret (ws : List (List ℕ)) (secret : List ℕ) : Type 0 where
-  pub word : List ℕ
-  pub same : ws ≡ codes "secret" ∷ word ∷ []
-  pub spells : SpellsBytes word secret
-  pub long : length secret ≡ 32
-
 -- The word spells the key's 56 bytes.
 pub record SpellsKey (word : List ℕ) (key : PublicKey) : Type 0 where
   pub spells : SpellsBytes word (key_bytes key)

@@ -1,13 +1,19 @@
-//! Floor: texts. The text that makes a key's store, and the text that asks an authority for certificates; and what
-//! their lines share with the text of a member. No line takes memory. `authority`, `enrolment` and `schedule_kit` call
-//! it.
+//! Floor: texts. The text that makes a key's store, the text that asks an authority for certificates, and the text of a
+//! member: its group, its own secret, the authority's key, and the certificates that it begins with, each checked as
+//! its line is read. Only a member's own key and signatures take memory. `authority` and `node_command` call it.
 #![tactic(auto)]
 
+mod kit;
+mod kit_cert;
+mod kit_line;
+mod kit_read;
 mod line;
 mod roster;
 mod secret;
 mod shared;
 
+pub use kit::{KitText, Owner};
+pub use kit_line::KitLine;
 pub use line::{Kinds, RosterLine, SecretLine};
 pub use roster::RosterText;
 pub use secret::SecretText;

@@ -53,7 +53,8 @@ fn is_start(form: &RosterText) -> bool
 
 #[tactic(auto, using(crate::proofs::TableLemmas::header_read))]
 fn header_line(words: Words) -> Result<RosterLine, BadWord>
-    ensures { result ≡ row_line (start_row (codes "roster") Header words.entry) (behind words.entry) }
+    ensures { result ≡ row_line (start_row (codes "roster") Header words.entry)
+        (behind words.entry) }
 {
     if words.is_header(b"roster") {
         Ok(RosterLine::Header)

@@ -47,7 +47,8 @@ fn is_start(form: SecretText) -> bool
 
 #[tactic(auto, using(crate::proofs::TableLemmas::header_read))]
 fn header_line(words: Words) -> Result<SecretLine, BadWord>
-    ensures { result ≡ row_line (start_row (codes "secret") Header words.entry) (behind words.entry) }
+    ensures { result ≡ row_line (start_row (codes "secret") Header words.entry)
+        (behind words.entry) }
 {
     if words.is_header(b"secret") {
         Ok(SecretLine::Header)

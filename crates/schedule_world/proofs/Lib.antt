@@ -1,2 +1,3 @@
 mod Rows
 pub mod ReadingLemmas
+pub mod GrammarLemmas

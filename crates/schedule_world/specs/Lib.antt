@@ -1,4 +1,4 @@
+pub mod Kinds
 pub mod Rows
 pub mod Grammar
-pub mod WordLaws
 pub mod Laws

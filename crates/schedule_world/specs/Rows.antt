@@ -1,23 +1,25 @@
--- The rows of the world form: each line word, where its line may stand, what the words behind it must be, and what
+-- The table of the world form: each line word, where its line may stand, what the words behind it must be, and what
 -- line they are.
-use Rattle.std.specs.Prelude.{ℕ, ◌*◌, ◌-◌, ◌^◌, ◌&&◌, ◌==◌, nat_le, nat_lt, not, min, is_some, Bool, true, false, if◌then◌else◌, List, [], ◌∷◌, length, Option, Some, None, Result, Ok, Err, codes}
+use Rattle.std.specs.Prelude.{ℕ, ◌*◌, ◌-◌, ◌^◌, ◌&&◌, ◌==◌, nat_le, nat_lt, not, min, Bool, true, false, List, [], ◌∷◌, length, Option, Result, codes}
 use Rattle.std.specs.List.{list_any}
-use Rattle.std.specs.Str.{bytes_eq}
 use Rattle.ff_ids.specs.declared.TheConstants.{LAST_MEMBER, MAX_TOLERANCE, ALL_BITS}
-use Rattle.lms_ots.specs.declared.kind.OtsKind.{OtsKind}
-use Rattle.lms_ots.specs.declared.kind.OtsKind.TheVariants.{W1, W2, W4, W8}
-use Rattle.lms_tree.specs.declared.kind.TreeKind.{TreeKind}
-use Rattle.lms_tree.specs.declared.kind.TreeKind.TheVariants.{H5, H10}
+use Rattle.lms_ots.specs.declared.kind.OtsKind.TheVariants.{W8}
+use Rattle.lms_ots.specs.Ots as ots
+use Rattle.lms_tree.specs.declared.kind.TreeKind.TheVariants.{H10}
+use Rattle.lms_tree.specs.Kinds as trees
 use Rattle.line_text.specs.declared.bad_word.BadWord.{BadWord}
 use Rattle.line_text.specs.declared.bad_word.BadWord.TheVariants as bad
-use Rattle.line_text.specs.Fields.{Field, bytes_in, hex, hex_of, hex_up_to, name, number, number_32, number_in, number_that, or_nothing}
-use Rattle.line_text.specs.Frame.{Row, behind, first_word, fourth_word, header_row, is_header, known_row, second_word, third_word, word_among}
+use Rattle.line_text.specs.Frame.{Row, fields_line, word_among}
+use Rattle.line_text.specs.Shapes.{◌and◌, Field, Fields, Makes, any_name, bytes_of, bytes_up_to, line_from, no_more, number_as, number_from, number_where, tests, word_or}
+use Rattle.line_text.specs.Tables as table
+use Rattle.line_text.specs.Tables.{Header, Line, Parts, Table}
 use Rattle.schedule_world.specs.declared.line.LineWord.{LineWord}
 use Rattle.schedule_world.specs.declared.line.LineWord.TheVariants as words
 use Rattle.schedule_world.specs.declared.line.WorldLine.{WorldLine}
 use Rattle.schedule_world.specs.declared.line.WorldLine.TheVariants as lines
 use Rattle.schedule_world.specs.declared.text.WorldText.{WorldText}
 use Rattle.schedule_world.specs.declared.text.WorldText.TheVariants as world
+use Rattle.schedule_world.specs.Kinds.{ots_of, ots_of-width, tree_of, tree_of-height}
 
 -- ## Where a line stands
 
@@ -89,195 +91,109 @@ may_stand w _ = is_body w
 
 -- the number of a member
 abbrev pub member : Field
-member word = number 0 LAST_MEMBER word
-
--- the mask of a note
-abbrev pub mask : Field
-mask word = number 0 ALL_BITS word
+member = number_from 0 LAST_MEMBER
 
 -- the number of a member that may be named here
 abbrev pub newcomer : WorldText → Field
-newcomer w word = number_that (λ n. nat_le n LAST_MEMBER && may_name w n) word
-
--- the kind of one-time signatures that has the width
-abbrev pub ots_of : ℕ → Option OtsKind
-ots_of n = if n == 1 then Some W1 else (if n == 2 then Some W2 else (if n == 4 then Some W4 else (if n == 8 then Some W8 else None)))
+newcomer w = number_where (λ n. nat_le n LAST_MEMBER && may_name w n)
 
 abbrev pub width : Field
-width word = number_that (λ n. is_some (ots_of n)) word
-
--- the kind of trees that has the height, among those of a world
-abbrev pub tree_of : ℕ → Option TreeKind
-tree_of n = if n == 5 then Some H5 else (if n == 10 then Some H10 else None)
+width = number_as ots_of W8 ots.width ots_of-width
 
 abbrev pub height : Field
-height word = number_that (λ n. is_some (tree_of n)) word
+height = number_as tree_of H10 trees.height tree_of-height
 
 -- The epochs of notes begin at 1.
 abbrev pub epoch : Field
-epoch word = number 1 (2 ^ 64 - 1) word
-
-abbrev pub is_now : List ℕ → Bool
-is_now word = bytes_eq word (codes "now")
+epoch = number_from 1 (2 ^ 64 - 1)
 
 abbrev pub epoch_or_now : Field
-epoch_or_now word = if is_now word then None else epoch word
+epoch_or_now = word_or (codes "now") epoch
 
 -- the outcome of a crash
 abbrev pub outcome : Field
-outcome word = number 0 65535 word
-
--- ## What the words must be
-
--- T TIMEOUT PERIOD MISSES TAG, the tag being 16 bytes
-abbrev pub group_fields : List Field
-group_fields = number 1 MAX_TOLERANCE ∷ number 1 10000 ∷ number 1 1000 ∷ number 1 16 ∷ hex 16 ∷ []
-
--- W H
-abbrev pub kinds_fields : List Field
-kinds_fields = width ∷ height ∷ []
-
--- M
-abbrev pub newcomer_fields : WorldText → List Field
-newcomer_fields w = newcomer w ∷ []
-
--- M
-abbrev pub member_fields : List Field
-member_fields = member ∷ []
-
--- M C
-abbrev pub stop_fields : List Field
-stop_fields = member ∷ outcome ∷ []
-
--- M N C
-abbrev pub arm_fields : List Field
-arm_fields = member ∷ number 0 1000 ∷ outcome ∷ []
-
--- M N, up to 10,000, and no more than may still come
-abbrev pub tick_fields : ℕ → List Field
-tick_fields left = member ∷ number 1 (min left 10000) ∷ []
-
--- S M
-abbrev pub deliver_fields : List Field
-deliver_fields = number 0 (2 ^ 64 - 1) ∷ member ∷ []
-
--- N
-abbrev pub flow_fields : List Field
-flow_fields = number 1 100000 ∷ []
+outcome = number_from 0 65535
 
 -- how many bytes may be handed over: one more than a datagram may have
 abbrev pub raw_bytes : ℕ
 raw_bytes = 32769
 
--- M HEX
-abbrev pub raw_fields : List Field
-raw_fields = member ∷ hex_up_to raw_bytes ∷ []
+-- any ring that a record can name
+abbrev pub any_ring : Field
+any_ring = number_from 0 255
 
--- KEY M EPOCH MASK NAME
-abbrev pub sign_note_fields : List Field
-sign_note_fields = member ∷ member ∷ epoch ∷ mask ∷ name ∷ []
-
--- KEY A B EPOCH RING NAME, the ring being any that a record can name
-abbrev pub sign_accusation_fields : List Field
-sign_accusation_fields = member ∷ member ∷ member ∷ epoch_or_now ∷ number 0 255 ∷ name ∷ []
-
--- NAME M
-abbrev pub give_fields : List Field
-give_fields = name ∷ member ∷ []
-
--- NAME
-abbrev pub give_all_fields : List Field
-give_all_fields = name ∷ []
-
--- M RING A, the ring being one of the 2t+1
-abbrev pub monitor_fields : ℕ → List Field
-monitor_fields t = member ∷ number 0 (2 * t) ∷ member ∷ []
-
-abbrev pub fields_of : WorldText → LineWord → List Field
-fields_of w words.Group = group_fields
-fields_of w words.Kinds = kinds_fields
-fields_of w words.Node = newcomer_fields w
-fields_of w words.Liar = newcomer_fields w
-fields_of w words.Begin = []
-fields_of w words.Start = member_fields
-fields_of w words.Stop = stop_fields
-fields_of w words.Arm = arm_fields
-fields_of w words.Tick = tick_fields (ticks_left w)
-fields_of w words.Deliver = deliver_fields
-fields_of w words.Flow = flow_fields
-fields_of w words.Raw = raw_fields
-fields_of w words.SignNote = sign_note_fields
-fields_of w words.SignAccusation = sign_accusation_fields
-fields_of w words.Give = give_fields
-fields_of w words.GiveAll = give_all_fields
-fields_of w words.View = member_fields
-fields_of w words.Monitor = monitor_fields (tolerance w)
-fields_of w words.End = []
-
--- ## What line they are
-
-abbrev pub fifth_word : List (List ℕ) → List ℕ
-fifth_word args = fourth_word (behind args)
-
-abbrev pub sixth_word : List (List ℕ) → List ℕ
-sixth_word args = fourth_word (behind (behind args))
-
--- A width or a height that is none is refused before.
-abbrev pub or_w8 : Option OtsKind → OtsKind
-or_w8 None = W8
-or_w8 (Some kind) = kind
-
-abbrev pub or_h10 : Option TreeKind → TreeKind
-or_h10 None = H10
-or_h10 (Some kind) = kind
-
-abbrev pub ots_in : List ℕ → OtsKind
-ots_in word = or_w8 (ots_of (number_in word))
-
-abbrev pub tree_in : List ℕ → TreeKind
-tree_in word = or_h10 (tree_of (number_in word))
-
--- the epoch that a word spells; none where it is `now`
-abbrev pub epoch_in : List ℕ → Option ℕ
-epoch_in word = if is_now word then None else Some (number_in word)
-
-abbrev pub line_of : LineWord → List (List ℕ) → WorldLine
-line_of words.Group args = lines.Group (record {
-  t = number_in (first_word args);
-  timeout = number_in (second_word args);
-  period = number_in (third_word args);
-  misses = number_in (fourth_word args);
-  tag = or_nothing (hex_of (fifth_word args));
-})
-line_of words.Kinds args = lines.Kinds (ots_in (first_word args)) (tree_in (second_word args))
-line_of words.Node args = lines.Node (number_in (first_word args))
-line_of words.Liar args = lines.Liar (number_in (first_word args))
-line_of words.Begin args = lines.Begin
-line_of words.Start args = lines.Start (number_in (first_word args))
-line_of words.Stop args = lines.Stop (number_in (first_word args)) (number_in (second_word args))
-line_of words.Arm args = lines.Arm (number_in (first_word args)) (number_in (second_word args)) (number_in (third_word args))
-line_of words.Tick args = lines.Tick (number_in (first_word args)) (number_in (second_word args))
-line_of words.Deliver args = lines.Deliver (number_in (first_word args)) (number_in (second_word args))
-line_of words.Flow args = lines.Flow (number_in (first_word args))
-line_of words.Raw args = lines.Raw (number_in (first_word args)) (bytes_in (second_word args))
-line_of words.SignNote args = lines.SignNote
-    (number_in (first_word args))
-    (record { member = number_in (second_word args); epoch = number_in (third_word args); mask = record { 0 = number_in (fourth_word args) } })
-    (fifth_word args)
-line_of words.SignAccusation args = lines.SignAccusation
-    (number_in (first_word args))
-    (number_in (second_word args))
-    (number_in (third_word args))
-    (epoch_in (fourth_word args))
-    (record { 0 = number_in (fifth_word args) })
-    (sixth_word args)
-line_of words.Give args = lines.Give (first_word args) (number_in (second_word args))
-line_of words.GiveAll args = lines.GiveAll (first_word args)
-line_of words.View args = lines.View (number_in (first_word args))
-line_of words.Monitor args = lines.Monitor (number_in (first_word args)) (record { 0 = number_in (second_word args) }) (number_in (third_word args))
-line_of words.End args = lines.End
+-- one of the 2t+1 rings of the group
+abbrev pub ring_of : WorldText → Field
+ring_of w = number_from 0 (2 * tolerance w)
 
 -- ## The table
+
+-- what the words behind a line word must be
+abbrev pub fields : WorldText → LineWord → Fields
+fields w words.Group = number_from 1 MAX_TOLERANCE and number_from 1 10000 and number_from 1 1000 and number_from 1 16 and bytes_of 16 and no_more
+fields w words.Kinds = width and height and no_more
+fields w words.Node = newcomer w and no_more
+fields w words.Liar = newcomer w and no_more
+fields w words.Begin = no_more
+fields w words.Start = member and no_more
+fields w words.Stop = member and outcome and no_more
+fields w words.Arm = member and number_from 0 1000 and outcome and no_more
+fields w words.Tick = member and number_from 1 (min (ticks_left w) 10000) and no_more
+fields w words.Deliver = number_from 0 (2 ^ 64 - 1) and member and no_more
+fields w words.Flow = number_from 1 100000 and no_more
+fields w words.Raw = member and bytes_up_to raw_bytes and no_more
+fields w words.SignNote = member and member and epoch and number_from 0 ALL_BITS and any_name and no_more
+fields w words.SignAccusation = member and member and member and epoch_or_now and any_ring and any_name and no_more
+fields w words.Give = any_name and member and no_more
+fields w words.GiveAll = any_name and no_more
+fields w words.View = member and no_more
+fields w words.Monitor = member and ring_of w and member and no_more
+fields w words.End = no_more
+
+-- the line that their values make
+abbrev pub line : (w : WorldText) (word : LineWord) → Makes (fields w word) WorldLine
+line w words.Group = λ t timeout period misses tag. lines.Group (record { t = t; timeout = timeout; period = period; misses = misses; tag = tag })
+line w words.Kinds = λ kind tree. lines.Kinds kind tree
+line w words.Node = λ m. lines.Node m
+line w words.Liar = λ m. lines.Liar m
+line w words.Begin = lines.Begin
+line w words.Start = λ m. lines.Start m
+line w words.Stop = λ m crash. lines.Stop m crash
+line w words.Arm = λ m calls crash. lines.Arm m calls crash
+line w words.Tick = λ m ticks. lines.Tick m ticks
+line w words.Deliver = λ datagram m. lines.Deliver datagram m
+line w words.Flow = λ most. lines.Flow most
+line w words.Raw = λ m bytes. lines.Raw m bytes
+line w words.SignNote = λ key m at mask called. lines.SignNote key (record { member = m; epoch = at; mask = record { 0 = mask } }) called
+line w words.SignAccusation = λ key accuser accused at ring called. lines.SignAccusation key accuser accused at (record { 0 = ring }) called
+line w words.Give = λ called m. lines.Give called m
+line w words.GiveAll = λ called. lines.GiveAll called
+line w words.View = λ m. lines.View m
+line w words.Monitor = λ m ring other. lines.Monitor m (record { 0 = ring }) other
+line w words.End = lines.End
+
+-- the values that make a line
+abbrev pub parts : (w : WorldText) → WorldLine → Parts LineWord (fields w)
+parts w lines.Header = Header
+parts w (lines.Group g) = Line words.Group (g.t, (g.timeout, (g.period, (g.misses, (g.tag, tt)))))
+parts w (lines.Kinds kind tree) = Line words.Kinds (kind, (tree, tt))
+parts w (lines.Node m) = Line words.Node (m, tt)
+parts w (lines.Liar m) = Line words.Liar (m, tt)
+parts w lines.Begin = Line words.Begin tt
+parts w (lines.Start m) = Line words.Start (m, tt)
+parts w (lines.Stop m crash) = Line words.Stop (m, (crash, tt))
+parts w (lines.Arm m calls crash) = Line words.Arm (m, (calls, (crash, tt)))
+parts w (lines.Tick m ticks) = Line words.Tick (m, (ticks, tt))
+parts w (lines.Deliver datagram m) = Line words.Deliver (datagram, (m, tt))
+parts w (lines.Flow most) = Line words.Flow (most, tt)
+parts w (lines.Raw m bytes) = Line words.Raw (m, (bytes, tt))
+parts w (lines.SignNote key n called) = Line words.SignNote (key, (n.member, (n.epoch, (n.mask.0, (called, tt)))))
+parts w (lines.SignAccusation key accuser accused at ring called) = Line words.SignAccusation (key, (accuser, (accused, (at, (ring.0, (called, tt))))))
+parts w (lines.Give called m) = Line words.Give (called, (m, tt))
+parts w (lines.GiveAll called) = Line words.GiveAll (called, tt)
+parts w (lines.View m) = Line words.View (m, tt)
+parts w (lines.Monitor m ring other) = Line words.Monitor (m, (ring.0, (other, tt)))
+parts w lines.End = Line words.End tt
 
 abbrev pub word_text : LineWord → List ℕ
 word_text words.Group = codes "group"
@@ -305,19 +221,42 @@ line_words =
     words.Group ∷ words.Kinds ∷ words.Node ∷ words.Liar ∷ words.Begin ∷ words.Start ∷ words.Stop ∷ words.Arm ∷ words.Tick ∷ words.Deliver
     ∷ words.Flow ∷ words.Raw ∷ words.SignNote ∷ words.SignAccusation ∷ words.Give ∷ words.GiveAll ∷ words.View ∷ words.Monitor ∷ words.End ∷ []
 
+abbrev pub world_table : Table WorldText LineWord WorldLine
+world_table = record {
+  is_start = is_start;
+  form = codes "world";
+  header = lines.Header;
+  no_header = λ ws. bad.Header;
+  words = line_words;
+  text = word_text;
+  may_stand = may_stand;
+  fields = fields;
+  line = line;
+  parts = parts;
+}
+
+-- ## As it is read
+
 -- the line word that a word is
 abbrev pub line_word : List ℕ → Option LineWord
 line_word word = word_among word_text line_words word
 
-abbrev pub row_of : WorldText → LineWord → Row WorldLine
-row_of w word = record { stands = may_stand w word; fields = fields_of w word; line = line_of word }
+-- What the words behind a line word are, or the first bad one. It is said apart for `end` so that it opens only where
+-- the line word is known.
+abbrev pub words_line : WorldText → LineWord → List (List ℕ) → Result WorldLine BadWord
+words_line w words.End args = fields_line [] (λ others. lines.End) args
+words_line w word args = fields_line (tests (fields w word)) (line_from (fields w word) (line w word)) args
+
+-- the same, of a line whose fields don't depend on what was read
+abbrev pub any_line : LineWord → List (List ℕ) → Result WorldLine BadWord
+any_line word args = words_line world.Start word args
 
 abbrev pub start_row : List (List ℕ) → Result (Row WorldLine) BadWord
-start_row ws = if is_header (codes "world") ws then Ok (header_row lines.Header) else Err bad.Header
+start_row ws = table.start_row world_table ws
 
 -- The row of a line with these words, or the bad word where there is none.
 abbrev pub row_for : WorldText → List (List ℕ) → Result (Row WorldLine) BadWord
-row_for w ws = if is_start w then start_row ws else known_row (row_of w) (line_word (first_word ws))
+row_for w ws = table.row_for world_table w ws
 
 -- Only raw bytes and names take memory.
 abbrev pub TakesMemory : WorldLine → Type 0

@@ -3,10 +3,11 @@
 ghost use Rattle.std.specs.Prelude.{◌≡◌, ◌≤◌, []};
 ghost use Rattle.ff_ids.specs.declared.TheConstants.{MAX_TOLERANCE};
 ghost use Rattle.line_text.specs.Frame.{fields_line, word_or_bad};
-ghost use Rattle.schedule_world.specs.Rows.{arm_fields, deliver_fields, flow_fields, line_of, line_word, member_fields, monitor_fields, stop_fields, tick_fields};
+ghost use Rattle.schedule_world.specs.Rows.{any_line, line_word, tolerance, words_line};
 
 use crate::line::{LineWord, WorldLine};
 use crate::take::{take_member, take_outcome};
+use crate::text::WorldText;
 use ff_ids::RingNo;
 use line_text::{BadWord, Words};
 
@@ -58,7 +59,7 @@ pub(crate) fn line_word(word: &[u8]) -> Result<LineWord, BadWord>
 }
 
 pub(crate) fn start_line(args: Words) -> Result<WorldLine, BadWord>
-    ensures { result ≡ fields_line member_fields (line_of LineWord.Start) args.entry }
+    ensures { result ≡ any_line LineWord.Start args.entry }
 {
     let mut args = args.exactly(1)?;
     let member = take_member(&mut args)?;
@@ -66,7 +67,7 @@ pub(crate) fn start_line(args: Words) -> Result<WorldLine, BadWord>
 }
 
 pub(crate) fn stop_line(args: Words) -> Result<WorldLine, BadWord>
-    ensures { result ≡ fields_line stop_fields (line_of LineWord.Stop) args.entry }
+    ensures { result ≡ any_line LineWord.Stop args.entry }
 {
     let mut args = args.exactly(2)?;
     Ok(WorldLine::Stop {
@@ -76,7 +77,7 @@ pub(crate) fn stop_line(args: Words) -> Result<WorldLine, BadWord>
 }
 
 pub(crate) fn arm_line(args: Words) -> Result<WorldLine, BadWord>
-    ensures { result ≡ fields_line arm_fields (line_of LineWord.Arm) args.entry }
+    ensures { result ≡ any_line LineWord.Arm args.entry }
 {
     let mut args = args.exactly(3)?;
     Ok(WorldLine::Arm {
@@ -86,13 +87,12 @@ pub(crate) fn arm_line(args: Words) -> Result<WorldLine, BadWord>
     })
 }
 
-/// The ticks of one line, where no more than `left` may come.
-pub(crate) fn tick_line(left: u32, args: Words) -> Result<WorldLine, BadWord>
-    ensures { result ≡ fields_line (tick_fields left) (line_of LineWord.Tick) args.entry }
+pub(crate) fn tick_line(text: &WorldText, args: Words) -> Result<WorldLine, BadWord>
+    ensures { result ≡ words_line text.now LineWord.Tick args.entry }
 {
     let mut args = args.exactly(2)?;
     let member = take_member(&mut args)?;
-    let ticks = args.number(1, u64::from(left.min(10_000)))?;
+    let ticks = args.number(1, u64::from(text.ticks_left().min(10_000)))?;
     Ok(WorldLine::Tick {
         member,
         ticks: ticks as u32,
@@ -100,7 +100,7 @@ pub(crate) fn tick_line(left: u32, args: Words) -> Result<WorldLine, BadWord>
 }
 
 pub(crate) fn deliver_line(args: Words) -> Result<WorldLine, BadWord>
-    ensures { result ≡ fields_line deliver_fields (line_of LineWord.Deliver) args.entry }
+    ensures { result ≡ any_line LineWord.Deliver args.entry }
 {
     let mut args = args.exactly(2)?;
     Ok(WorldLine::Deliver {
@@ -110,7 +110,7 @@ pub(crate) fn deliver_line(args: Words) -> Result<WorldLine, BadWord>
 }
 
 pub(crate) fn flow_line(args: Words) -> Result<WorldLine, BadWord>
-    ensures { result ≡ fields_line flow_fields (line_of LineWord.Flow) args.entry }
+    ensures { result ≡ any_line LineWord.Flow args.entry }
 {
     let mut args = args.exactly(1)?;
     let most = args.number(1, 100_000)?;
@@ -118,20 +118,20 @@ pub(crate) fn flow_line(args: Words) -> Result<WorldLine, BadWord>
 }
 
 pub(crate) fn view_line(args: Words) -> Result<WorldLine, BadWord>
-    ensures { result ≡ fields_line member_fields (line_of LineWord.View) args.entry }
+    ensures { result ≡ any_line LineWord.View args.entry }
 {
     let mut args = args.exactly(1)?;
     let member = take_member(&mut args)?;
     Ok(WorldLine::View { member })
 }
 
-pub(crate) fn monitor_line(t: u8, args: Words) -> Result<WorldLine, BadWord>
-    requires { t ≤ MAX_TOLERANCE }
-    ensures { result ≡ fields_line (monitor_fields t) (line_of LineWord.Monitor) args.entry }
+pub(crate) fn monitor_line(text: &WorldText, args: Words) -> Result<WorldLine, BadWord>
+    requires { tolerance text.now ≤ MAX_TOLERANCE }
+    ensures { result ≡ words_line text.now LineWord.Monitor args.entry }
 {
     let mut args = args.exactly(3)?;
     let member = take_member(&mut args)?;
-    let ring = args.number(0, 2 * u64::from(t))?;
+    let ring = args.number(0, 2 * u64::from(text.tolerance()))?;
     let of = take_member(&mut args)?;
     Ok(WorldLine::Monitor {
         member,

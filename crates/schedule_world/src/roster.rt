@@ -1,8 +1,8 @@
 //! The lines of the roster, which stand before `begin`.
 
 ghost use Rattle.std.specs.Prelude.{◌≡◌};
-ghost use Rattle.line_text.specs.Frame.{behind, fields_line, row_line};
-ghost use Rattle.schedule_world.specs.Rows.{group_fields, kinds_fields, line_of, newcomer_fields, start_row};
+ghost use Rattle.line_text.specs.Frame.{behind, row_line};
+ghost use Rattle.schedule_world.specs.Rows.{any_line, start_row, words_line};
 
 use crate::line::{LineWord, WorldLine};
 use crate::take::{take_height, take_newcomer, take_width};
@@ -22,7 +22,7 @@ pub(crate) fn header_line(words: Words) -> Result<WorldLine, BadWord>
 }
 
 pub(crate) fn group_line(args: Words) -> Result<WorldLine, BadWord>
-    ensures { result ≡ fields_line group_fields (line_of LineWord.Group) args.entry }
+    ensures { result ≡ any_line LineWord.Group args.entry }
 {
     let mut args = args.exactly(5)?;
     let t = args.number(1, MAX_TOLERANCE as u64)?;
@@ -42,7 +42,7 @@ pub(crate) fn group_line(args: Words) -> Result<WorldLine, BadWord>
 }
 
 pub(crate) fn kinds_line(args: Words) -> Result<WorldLine, BadWord>
-    ensures { result ≡ fields_line kinds_fields (line_of LineWord.Kinds) args.entry }
+    ensures { result ≡ any_line LineWord.Kinds args.entry }
 {
     let mut args = args.exactly(2)?;
     Ok(WorldLine::Kinds {
@@ -52,7 +52,7 @@ pub(crate) fn kinds_line(args: Words) -> Result<WorldLine, BadWord>
 }
 
 pub(crate) fn node_line(text: &WorldText, args: Words) -> Result<WorldLine, BadWord>
-    ensures { result ≡ fields_line (newcomer_fields text.now) (line_of LineWord.Node) args.entry }
+    ensures { result ≡ words_line text.now LineWord.Node args.entry }
 {
     let mut args = args.exactly(1)?;
     let member = take_newcomer(text, &mut args)?;
@@ -60,7 +60,7 @@ pub(crate) fn node_line(text: &WorldText, args: Words) -> Result<WorldLine, BadW
 }
 
 pub(crate) fn liar_line(text: &WorldText, args: Words) -> Result<WorldLine, BadWord>
-    ensures { result ≡ fields_line (newcomer_fields text.now) (line_of LineWord.Liar) args.entry }
+    ensures { result ≡ words_line text.now LineWord.Liar args.entry }
 {
     let mut args = args.exactly(1)?;
     let member = take_newcomer(text, &mut args)?;

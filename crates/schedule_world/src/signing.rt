@@ -2,8 +2,7 @@
 
 ghost use Rattle.std.specs.Prelude.{◌≡◌};
 ghost use Rattle.line_text.specs.Answers.{AnswersBy};
-ghost use Rattle.line_text.specs.Frame.{fields_line};
-ghost use Rattle.schedule_world.specs.Rows.{TakesMemory, give_all_fields, give_fields, line_of, raw_fields, sign_accusation_fields, sign_note_fields};
+ghost use Rattle.schedule_world.specs.Rows.{TakesMemory, any_line};
 
 use crate::line::{LineWord, WorldLine};
 use crate::take::{pass_name, take_epoch, take_epoch_or_now, take_member};
@@ -15,7 +14,7 @@ use std::alloc::Global;
 const RAW_BYTES: usize = 32_769;
 
 pub(crate) fn raw_line(alloc: Global, args: Words) -> Result<WorldLine, LineFault>
-    ensures { AnswersBy TakesMemory (fields_line raw_fields (line_of LineWord.Raw) args.entry) result }
+    ensures { AnswersBy TakesMemory (any_line LineWord.Raw args.entry) result }
 {
     let mut args = args.exactly(2)?;
     let member = take_member(&mut args)?;
@@ -24,7 +23,7 @@ pub(crate) fn raw_line(alloc: Global, args: Words) -> Result<WorldLine, LineFaul
 }
 
 pub(crate) fn sign_note_line(alloc: Global, args: Words) -> Result<WorldLine, LineFault>
-    ensures { AnswersBy TakesMemory (fields_line sign_note_fields (line_of LineWord.SignNote) args.entry) result }
+    ensures { AnswersBy TakesMemory (any_line LineWord.SignNote args.entry) result }
 {
     let mut args = args.exactly(5)?;
     let key = take_member(&mut args)?;
@@ -38,7 +37,7 @@ pub(crate) fn sign_note_line(alloc: Global, args: Words) -> Result<WorldLine, Li
 }
 
 pub(crate) fn sign_accusation_line(alloc: Global, args: Words) -> Result<WorldLine, LineFault>
-    ensures { AnswersBy TakesMemory (fields_line sign_accusation_fields (line_of LineWord.SignAccusation) args.entry) result }
+    ensures { AnswersBy TakesMemory (any_line LineWord.SignAccusation args.entry) result }
 {
     let mut args = args.exactly(6)?;
     let key = take_member(&mut args)?;
@@ -59,7 +58,7 @@ pub(crate) fn sign_accusation_line(alloc: Global, args: Words) -> Result<WorldLi
 
 /// The words are judged before memory is asked for.
 pub(crate) fn give_line(alloc: Global, args: Words) -> Result<WorldLine, LineFault>
-    ensures { AnswersBy TakesMemory (fields_line give_fields (line_of LineWord.Give) args.entry) result }
+    ensures { AnswersBy TakesMemory (any_line LineWord.Give args.entry) result }
 {
     let mut args = args.exactly(2)?;
     let mut words = args.again();
@@ -70,7 +69,7 @@ pub(crate) fn give_line(alloc: Global, args: Words) -> Result<WorldLine, LineFau
 }
 
 pub(crate) fn give_all_line(alloc: Global, args: Words) -> Result<WorldLine, LineFault>
-    ensures { AnswersBy TakesMemory (fields_line give_all_fields (line_of LineWord.GiveAll) args.entry) result }
+    ensures { AnswersBy TakesMemory (any_line LineWord.GiveAll args.entry) result }
 {
     let mut args = args.exactly(1)?;
     let name = args.name(alloc)?;

@@ -2,9 +2,9 @@
 
 ghost use Rattle.std.specs.Prelude.{◌≡◌, IfOk};
 ghost use Rattle.line_text.specs.Answers.{refusal};
-ghost use Rattle.line_text.specs.Fields.{name, number_in};
 ghost use Rattle.line_text.specs.Frame.{behind, first_word};
-ghost use Rattle.schedule_world.specs.Rows.{epoch, epoch_in, epoch_or_now, height, member, newcomer, ots_in, outcome, tree_in, width};
+ghost use Rattle.line_text.specs.Shapes.{any_name, test, value as value_in};
+ghost use Rattle.schedule_world.specs.Rows.{epoch, epoch_or_now, height, member, newcomer, outcome, width};
 
 use crate::text::WorldText;
 use ff_ids::{Epoch, LAST_MEMBER, MemberId};
@@ -15,8 +15,8 @@ use lms_tree::TreeKind;
 
 /// Takes the number of a member.
 pub(crate) fn take_member(words: &mut Words) -> Result<MemberId, BadWord>
-    ensures refused { member (first_word words.old) ≡ refusal result }
-    ensures value { IfOk result (λ n. n ≡ number_in (first_word words.old)) }
+    ensures refused { test member (first_word words.old) ≡ refusal result }
+    ensures value { IfOk result (λ n. n ≡ value_in member (first_word words.old)) }
     ensures moved { words.new ≡ behind words.old }
 {
     let number = words.number(0, LAST_MEMBER as u64)?;
@@ -25,8 +25,8 @@ pub(crate) fn take_member(words: &mut Words) -> Result<MemberId, BadWord>
 
 /// Takes the number of a member that may be named here.
 pub(crate) fn take_newcomer(text: &WorldText, words: &mut Words) -> Result<MemberId, BadWord>
-    ensures refused { newcomer text.now (first_word words.old) ≡ refusal result }
-    ensures value { IfOk result (λ n. n ≡ number_in (first_word words.old)) }
+    ensures refused { test (newcomer text.now) (first_word words.old) ≡ refusal result }
+    ensures value { IfOk result (λ n. n ≡ value_in (newcomer text.now) (first_word words.old)) }
     ensures moved { words.new ≡ behind words.old }
 {
     let member = take_member(words)?;
@@ -39,8 +39,8 @@ pub(crate) fn take_newcomer(text: &WorldText, words: &mut Words) -> Result<Membe
 
 /// Takes the width of a kind of one-time signatures.
 pub(crate) fn take_width(words: &mut Words) -> Result<OtsKind, BadWord>
-    ensures refused { width (first_word words.old) ≡ refusal result }
-    ensures value { IfOk result (λ kind. kind ≡ ots_in (first_word words.old)) }
+    ensures refused { test width (first_word words.old) ≡ refusal result }
+    ensures value { IfOk result (λ kind. kind ≡ value_in width (first_word words.old)) }
     ensures moved { words.new ≡ behind words.old }
 {
     match words.number(0, u64::MAX)? {
@@ -54,8 +54,8 @@ pub(crate) fn take_width(words: &mut Words) -> Result<OtsKind, BadWord>
 
 /// Takes the height of a kind of trees.
 pub(crate) fn take_height(words: &mut Words) -> Result<TreeKind, BadWord>
-    ensures refused { height (first_word words.old) ≡ refusal result }
-    ensures value { IfOk result (λ kind. kind ≡ tree_in (first_word words.old)) }
+    ensures refused { test height (first_word words.old) ≡ refusal result }
+    ensures value { IfOk result (λ kind. kind ≡ value_in height (first_word words.old)) }
     ensures moved { words.new ≡ behind words.old }
 {
     match words.number(0, u64::MAX)? {
@@ -67,8 +67,8 @@ pub(crate) fn take_height(words: &mut Words) -> Result<TreeKind, BadWord>
 
 /// Takes an epoch.
 pub(crate) fn take_epoch(words: &mut Words) -> Result<Epoch, BadWord>
-    ensures refused { epoch (first_word words.old) ≡ refusal result }
-    ensures value { IfOk result (λ n. n ≡ number_in (first_word words.old)) }
+    ensures refused { test epoch (first_word words.old) ≡ refusal result }
+    ensures value { IfOk result (λ n. n ≡ value_in epoch (first_word words.old)) }
     ensures moved { words.new ≡ behind words.old }
 {
     let number = words.number(1, u64::MAX)?;
@@ -77,8 +77,8 @@ pub(crate) fn take_epoch(words: &mut Words) -> Result<Epoch, BadWord>
 
 /// Takes an epoch, or `now`, which is none.
 pub(crate) fn take_epoch_or_now(words: &mut Words) -> Result<Option<Epoch>, BadWord>
-    ensures refused { epoch_or_now (first_word words.old) ≡ refusal result }
-    ensures value { IfOk result (λ e. e ≡ epoch_in (first_word words.old)) }
+    ensures refused { test epoch_or_now (first_word words.old) ≡ refusal result }
+    ensures value { IfOk result (λ e. e ≡ value_in epoch_or_now (first_word words.old)) }
     ensures moved { words.new ≡ behind words.old }
 {
     let (word, behind) = words.again().split();
@@ -93,8 +93,8 @@ pub(crate) fn take_epoch_or_now(words: &mut Words) -> Result<Option<Epoch>, BadW
 
 /// Takes the outcome of a crash.
 pub(crate) fn take_outcome(words: &mut Words) -> Result<u16, BadWord>
-    ensures refused { outcome (first_word words.old) ≡ refusal result }
-    ensures value { IfOk result (λ n. n ≡ number_in (first_word words.old)) }
+    ensures refused { test outcome (first_word words.old) ≡ refusal result }
+    ensures value { IfOk result (λ n. n ≡ value_in outcome (first_word words.old)) }
     ensures moved { words.new ≡ behind words.old }
 {
     let number = words.number(0, 65_535)?;
@@ -103,7 +103,7 @@ pub(crate) fn take_outcome(words: &mut Words) -> Result<u16, BadWord>
 
 /// Goes past a name, for which no memory is asked.
 pub(crate) fn pass_name(words: &mut Words) -> Result<(), BadWord>
-    ensures refused { name (first_word words.old) ≡ refusal result }
+    ensures refused { test any_name (first_word words.old) ≡ refusal result }
     ensures moved { words.new ≡ behind words.old }
 {
     let (word, behind) = words.again().split();

@@ -3,8 +3,7 @@
 ghost use Rattle.std.specs.Prelude.{◌≡◌, ◌+◌, ◌<◌, ◌≤◌, length};
 ghost use Rattle.ff_ids.specs.declared.TheConstants.{MAX_TOLERANCE};
 ghost use Rattle.line_text.specs.Answers.{AnswersBy};
-ghost use Rattle.line_text.specs.Frame.{fields_line};
-ghost use Rattle.schedule_world.specs.Rows.{TakesMemory, fields_of, is_ended, is_start, line_of, may_name, may_stand, row_for, ticks_left, tolerance};
+ghost use Rattle.schedule_world.specs.Rows.{TakesMemory, is_ended, is_start, may_name, may_stand, row_for, ticks_left, tolerance, words_line};
 ghost use Rattle.schedule_world.specs.Grammar.{IsSound, IsWorld, after, named, ticks_of, ticked, with_member};
 
 use crate::line::{LineWord, WorldLine};
@@ -60,7 +59,7 @@ impl WorldText {
     }
 
     /// The tolerance of the group, below it.
-    fn tolerance(&self) -> u8
+    pub(crate) fn tolerance(&self) -> u8
         ensures { result ≡ tolerance self.now }
     {
         match self {
@@ -81,7 +80,7 @@ impl WorldText {
     }
 
     /// How many ticks may still come.
-    fn ticks_left(&self) -> u32
+    pub(crate) fn ticks_left(&self) -> u32
         ensures { result ≡ ticks_left self.now }
     {
         match self {
@@ -93,7 +92,7 @@ impl WorldText {
     /// The line of this line word.
     fn line_of(&self, alloc: Global, word: LineWord, args: Words) -> Result<WorldLine, LineFault>
         requires { tolerance self.now ≤ MAX_TOLERANCE }
-        ensures { AnswersBy TakesMemory (fields_line (fields_of self.now word) (line_of word) args.entry) result }
+        ensures { AnswersBy TakesMemory (words_line self.now word args.entry) result }
     {
         match word {
             LineWord::Group => Ok(group_line(args)?),
@@ -104,7 +103,7 @@ impl WorldText {
             LineWord::Start => Ok(start_line(args)?),
             LineWord::Stop => Ok(stop_line(args)?),
             LineWord::Arm => Ok(arm_line(args)?),
-            LineWord::Tick => Ok(tick_line(self.ticks_left(), args)?),
+            LineWord::Tick => Ok(tick_line(self, args)?),
             LineWord::Deliver => Ok(deliver_line(args)?),
             LineWord::Flow => Ok(flow_line(args)?),
             LineWord::Raw => raw_line(alloc, args),
@@ -113,7 +112,7 @@ impl WorldText {
             LineWord::Give => give_line(alloc, args),
             LineWord::GiveAll => give_all_line(alloc, args),
             LineWord::View => Ok(view_line(args)?),
-            LineWord::Monitor => Ok(monitor_line(self.tolerance(), args)?),
+            LineWord::Monitor => Ok(monitor_line(self, args)?),
             LineWord::End => Ok(lone_line(WorldLine::End, args)?),
         }
     }

@@ -1,23 +1,22 @@
 -- How the lives of a key go on over several calls.
-use Rattle.std.proofs.Common.{◌≡◌, ℕ, Option, List, [], ◌++◌, refl, ap, sym, ◌∙◌, subst, append-nil, append_assoc, Result}
+use Rattle.std.proofs.Common.{◌≡◌, ℕ, List, [], ◌++◌, refl, ap, sym, ◌∙◌, subst, append-nil, append_assoc, Result}
 use Rattle.ports.specs.Disk.{Moment}
-use Rattle.ports.specs.DiskCalls.{DiskCall}
-use Rattle.ports.specs.MemoryDisk.{DiskState}
+use Rattle.ports.specs.Outside.{OfDisk}
 use Rattle.ports.proofs.SinceLemmas.{Since-same, Since-trans, Since-weaken}
 use Rattle.records.specs.declared.Body.{Body}
 use Rattle.records.specs.Signing.{CheckedRecord}
 use Rattle.signer.specs.declared.SignFault.{SignFault}
 use Rattle.signer.specs.Signing.{SignerState}
-use Rattle.signer.specs.Lives.{EndsLives, EndsWithin, IsFront, IsLiving, LivesOn, Spent, spent_in}
+use Rattle.signer.specs.Lives.{EndsLives, EndsWithin, IsPrefix, IsLiving, LivesOn, Spent, spent_in}
 use Rattle.signer.specs.Signs.{Signs}
 
-pub front-trans : {X : Type 0} (xs ys zs : List X) → IsFront xs ys → IsFront ys zs → IsFront xs zs
+pub front-trans : {X : Type 0} (xs ys zs : List X) → IsPrefix xs ys → IsPrefix ys zs → IsPrefix xs zs
 front-trans xs ys zs a b = record { more = a.more ++ b.more; is = b.is ∙ ap (λ v. v ++ b.more) a.is ∙ append_assoc xs a.more b.more }
 
-pub front-after : {X : Type 0} (before xs ys : List X) → IsFront xs ys → IsFront (before ++ xs) (before ++ ys)
+pub front-after : {X : Type 0} (before xs ys : List X) → IsPrefix xs ys → IsPrefix (before ++ xs) (before ++ ys)
 front-after before xs ys h = record { more = h.more; is = ap (λ z. before ++ z) h.is ∙ sym (append_assoc before xs h.more) }
 
-front-wider : (done more later : List Spent) → IsFront done more → IsFront done (more ++ later)
+front-wider : (done more later : List Spent) → IsPrefix done more → IsPrefix done (more ++ later)
 front-wider done more later h = front-trans done more (more ++ later) h (record { more = later; is = refl })
 
 -- nothing is spent, and nothing becomes of the disk
@@ -51,10 +50,10 @@ within-none tag before spent more m ends = record {
 }
 
 -- one signature, or none
-pub lives-signed : (s later : SignerState) (body : Body) (result : Result CheckedRecord SignFault) (failures failures_now : ℕ) (made made_now : Option (List DiskCall)) (older newer : List Moment) {disk disk_now : Option DiskState}
-    → Signs s later body result failures failures_now made made_now older newer disk disk_now → LivesOn (spent_in s body result) s later older newer
-lives-signed s later body result failures failures_now made made_now older newer h = record {
+pub lives-signed : (s later : SignerState) (body : Body) (result : Result CheckedRecord SignFault) (old new : OfDisk)
+    → Signs s later body result old new → LivesOn (spent_in s body result) s later old.moments new.moments
+lives-signed s later body result old new h = record {
   lives = h.lives;
   any_moment = λ tag before spent living.
-      Since-weaken (EndsLives tag before spent) (EndsWithin tag before spent (spent_in s body result)) older newer (within-none tag before spent (spent_in s body result)) (h.any_life tag before spent living);
+      Since-weaken (EndsLives tag before spent) (EndsWithin tag before spent (spent_in s body result)) old.moments new.moments (within-none tag before spent (spent_in s body result)) (h.any_life tag before spent living);
 }

@@ -1,3 +1,4 @@
 pub mod Signing
 pub mod Lives
 pub mod Signs
+pub mod Played

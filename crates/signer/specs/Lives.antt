@@ -102,7 +102,7 @@ pub record Lived (tag before after : List ℕ) (spent : List Spent) : Type 0 whe
 abbrev pub EndsLives : List ℕ → List ℕ → List Spent → Moment → Type 0
 EndsLives tag before spent moment = (c : List ℕ) → Leaves moment c → Lived tag before c spent
 
--- a crash now does so; the disk tells its file
+-- a crash now does so; the file is modelled
 abbrev pub EndsNow : List ℕ → List ℕ → List Spent → List Moment → Type 0
 EndsNow tag before spent [] = ⊥
 EndsNow tag before spent (now ∷ past) = EndsLives tag before spent now
@@ -127,14 +127,14 @@ spent_in s body (Ok value) = record { index = s.state.next; body = body } ∷ []
 spent_in s body (Err fault) = []
 
 -- the first is a front of the second
-pub record IsFront {X : Type 0} (front whole : List X) : Type 0 where
+pub record IsPrefix {X : Type 0} (front whole : List X) : Type 0 where
   pub more : List X
   pub is : whole ≡ front ++ more
 
 -- each file that a crash at this moment may leave ends lives that have spent what came before, and a front of this
 pub record EndsWithin (tag before : List ℕ) (spent more : List Spent) (moment : Moment) : Type 0 where
   pub done : List Spent
-  pub front : IsFront done more
+  pub front : IsPrefix done more
   pub ends : EndsLives tag before (spent ++ done) moment
 
 -- the lives of a key go on, and this is spent in the end: at each new moment a front of it is

@@ -1,10 +1,11 @@
 -- What a call that signs does: to the signer, to its disk, and to what its key has spent.
 use Rattle.std.specs.Prelude.{◌≡◌, ℕ, true, false, Option, List, ◌++◌, Result, Ok, Err, OnOk, IfOk}
 use Rattle.ports.specs.Count.{counted}
-use Rattle.ports.specs.Disk.{Moment, Since}
+use Rattle.ports.specs.Disk.{Since}
 use Rattle.ports.specs.DiskCalls.{DiskCall, with_calls, AsFarAs}
 use Rattle.ports.specs.MemoryDisk.{DiskState}
 use Rattle.ports.specs.DiskSteps.{came_to, runs_on}
+use Rattle.ports.specs.Outside.{OfDisk}
 use Rattle.records.specs.declared.Body.{Body}
 use Rattle.records.specs.Signing.{CheckedRecord}
 use Rattle.epoch_store.specs.Store.{IsSettled, LeavesEither, LeavesState}
@@ -22,7 +23,7 @@ MakesCalls (Err Closed) all older newer = newer ≡ older
 MakesCalls (Err (Exhausted next)) all older newer = newer ≡ older
 MakesCalls (Err StoreFault) all older newer = AsFarAs all older newer
 
--- where the state of the disk is told: all of the calls pass, or one fails; or nothing was tried
+-- where the state of the disk is modelled: all of the calls pass, or one fails; or nothing was tried
 abbrev pub MakesFrom : {T : Type 0} → Result T SignFault → List DiskCall → Option DiskState → Option DiskState → Type 0
 MakesFrom (Ok value) all older newer = came_to newer false ≡ runs_on all older
 MakesFrom (Err OutOfMemory) all older newer = newer ≡ older
@@ -30,19 +31,17 @@ MakesFrom (Err Closed) all older newer = newer ≡ older
 MakesFrom (Err (Exhausted next)) all older newer = newer ≡ older
 MakesFrom (Err StoreFault) all older newer = came_to newer true ≡ runs_on all older
 
--- the body was signed, or the answer says why not. Of the disk: its failures, the calls that were made of it, its
--- moments and its state, each before and after
-pub record Signs (s later : SignerState) (body : Body) (result : Result CheckedRecord SignFault)
-    (failures failures_now : ℕ) (made made_now : Option (List DiskCall)) (older newer : List Moment) (disk disk_now : Option DiskState) : Type 0 where
-  pub faults : failures_now ≡ counted (is_store_fault result) failures
+-- the body was signed, or the answer says why not
+pub record Signs (s later : SignerState) (body : Body) (result : Result CheckedRecord SignFault) (old new : OfDisk) : Type 0 where
+  pub faults : new.faults ≡ counted (is_store_fault result) old.faults
   pub answers : AnswersBy s result
   pub signed : IfOk result (λ rec. rec ≡ signed_record s body)
   pub after : later ≡ after_signing s body result
-  pub calls : MakesCalls result (put_calls s.seat (stored_after s.state body)) made made_now
-  pub follows : MakesFrom result (put_calls s.seat (stored_after s.state body)) disk disk_now
-  pub same : OnIdle result (newer ≡ older)
-  pub any_moment : (tag : List ℕ) → IsSettled tag s.state s.seat older → Since (LeavesEither tag s.state (stored_after s.state body)) older newer
-  pub settled : OnOk result ((tag : List ℕ) → IsSettled tag s.state s.seat older → IsSettled tag later.state later.seat newer)
-  pub leaves : OnOk result ((tag : List ℕ) → IsSettled tag s.state s.seat older → LeavesState tag later.state newer)
-  pub lives : (tag before : List ℕ) (spent : List Spent) → IsLiving tag before spent s older → IsLiving tag before (spent ++ spent_in s body result) later newer
-  pub any_life : (tag before : List ℕ) (spent : List Spent) → IsLiving tag before spent s older → Since (EndsLives tag before spent) older newer
+  pub calls : MakesCalls result (put_calls s.seat (stored_after s.state body)) old.calls new.calls
+  pub follows : MakesFrom result (put_calls s.seat (stored_after s.state body)) old.model new.model
+  pub same : OnIdle result (new.moments ≡ old.moments)
+  pub any_moment : (tag : List ℕ) → IsSettled tag s.state s.seat old.moments → Since (LeavesEither tag s.state (stored_after s.state body)) old.moments new.moments
+  pub settled : OnOk result ((tag : List ℕ) → IsSettled tag s.state s.seat old.moments → IsSettled tag later.state later.seat new.moments)
+  pub leaves : OnOk result ((tag : List ℕ) → IsSettled tag s.state s.seat old.moments → LeavesState tag later.state new.moments)
+  pub lives : (tag before : List ℕ) (spent : List Spent) → IsLiving tag before spent s old.moments → IsLiving tag before (spent ++ spent_in s body result) later new.moments
+  pub any_life : (tag before : List ℕ) (spent : List Spent) → IsLiving tag before spent s old.moments → Since (EndsLives tag before spent) old.moments new.moments

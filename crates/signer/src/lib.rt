@@ -1,5 +1,6 @@
 //! Floor: keys. A signer: records signed under one key, each with an index of its own, whatever stops it. The next
-//! index is in the store before the leaf that has the index is spent. A node signs with it, and `enrolment` with the
+//! index is in the store before the leaf that has the index is spent. The module `key_lives` takes a key through calls
+//! in any order, and shows what is promised over all its lives. A node signs with it, and `authority` with the
 //! authority's key.
 #![tactic(auto)]
 
@@ -19,6 +20,7 @@ ghost use Rattle.signer.specs.Signing.{SignerState, stored_after as stored_after
 ghost use Rattle.signer.specs.Lives.{Spent, IsLiving, EndsNow};
 ghost use Rattle.signer.specs.Signs.{Signs, MakesCalls, MakesFrom};
 
+pub mod key_lives;
 pub mod laws;
 
 use epoch_store::{Store, Stored};
@@ -73,7 +75,8 @@ impl Model for Signer {
       closed = s.closed;
     } };
 
-    ghost invariant = { λ s. (s.store.failed ≡ s.closed) × (s.leaves.key ≡ s.tree) × (s.leaves.next ≡ s.store.state.next)
+    ghost invariant = { λ s. (s.store.failed ≡ s.closed) × (s.leaves.key ≡ s.tree)
+        × (s.leaves.next ≡ s.store.state.next)
         × (s.store.state.next ≤ index_count s.tree) };
 }
 
@@ -116,7 +119,8 @@ impl Signer {
         requires runs { store.failed ≡ false }
         requires behind { leaves.next ≤ store.state.next }
         requires within { store.state.next ≤ index_count tree }
-        ensures begins { (tag before : List ℕ) (spent : List Spent) (moments : List Moment) → IsSettled tag store.state store.seat moments
+        ensures begins { (tag before : List ℕ) (spent : List Spent) (moments : List Moment)
+            → IsSettled tag store.state store.seat moments
             → EndsNow tag before spent moments → IsLiving tag before spent result moments }
         ensures value { result ≡ record {
           group = group;
@@ -160,8 +164,8 @@ impl Signer {
         mask: Mask,
     ) -> Result<Checked, SignFault>
         requires { mask.0 < 2 ^ MAX_RINGS }
-        ensures { Signs self.old self.new (next_note self.old.state member mask) result (D.faults disk.old) (D.faults disk.new)
-            (D.calls disk.old) (D.calls disk.new) (D.moments disk.old) (D.moments disk.new) (D.state disk.old) (D.state disk.new) }
+        ensures { Signs self.old self.new (next_note self.old.state member mask) result
+            (D.state disk.old) (D.state disk.new) }
     {
         let epoch = Epoch::new(self.store.state().epoch + 1);
         self.sign(
@@ -182,8 +186,8 @@ impl Signer {
         disk: &mut D,
         acc: AccBody,
     ) -> Result<Checked, SignFault>
-        ensures { Signs self.old self.new (Accusation acc) result (D.faults disk.old) (D.faults disk.new)
-            (D.calls disk.old) (D.calls disk.new) (D.moments disk.old) (D.moments disk.new) (D.state disk.old) (D.state disk.new) }
+        ensures { Signs self.old self.new (Accusation acc) result
+            (D.state disk.old) (D.state disk.new) }
     {
         self.sign(alloc, disk, Body::Accusation(acc))
     }
@@ -196,8 +200,8 @@ impl Signer {
         cert: CertBody,
     ) -> Result<Checked, SignFault>
         requires { 0 < cert.port }
-        ensures { Signs self.old self.new (Certificate cert) result (D.faults disk.old) (D.faults disk.new)
-            (D.calls disk.old) (D.calls disk.new) (D.moments disk.old) (D.moments disk.new) (D.state disk.old) (D.state disk.new) }
+        ensures { Signs self.old self.new (Certificate cert) result
+            (D.state disk.old) (D.state disk.new) }
     {
         self.sign(alloc, disk, Body::Certificate(cert))
     }
@@ -211,8 +215,8 @@ impl Signer {
     ) -> Result<Checked, SignFault>
         requires port { HasPort body }
         requires next { MayComeNext self.old.state body }
-        ensures { Signs self.old self.new body result (D.faults disk.old) (D.faults disk.new)
-            (D.calls disk.old) (D.calls disk.new) (D.moments disk.old) (D.moments disk.new) (D.state disk.old) (D.state disk.new) }
+        ensures { Signs self.old self.new body result
+            (D.state disk.old) (D.state disk.new) }
     {
         self.sign_body(alloc, disk, body)
     }
@@ -227,19 +231,28 @@ impl Signer {
     ) -> Result<Checked, SignFault>
         requires port { HasPort body }
         requires next { MayComeNext self.old.state body }
-        ensures faults { D.faults disk.new ≡ counted (is_store_fault result) (D.faults disk.old) }
+        ensures faults { (D.state disk.new).faults
+            ≡ counted (is_store_fault result) (D.state disk.old).faults }
         ensures answers { AnswersBy self.old result }
         ensures signed { IfOk result (λ rec. rec ≡ signed_record self.old body) }
         ensures after { self.new ≡ after_signing self.old body result }
-        ensures calls { MakesCalls result (put_calls self.old.seat (stored_after_it self.old.state body)) (D.calls disk.old) (D.calls disk.new) }
-        ensures follows { MakesFrom result (put_calls self.old.seat (stored_after_it self.old.state body)) (D.state disk.old) (D.state disk.new) }
-        ensures same { OnIdle result (D.moments disk.new ≡ D.moments disk.old) }
-        ensures any_moment { (tag : List ℕ) → IsSettled tag self.old.state self.old.seat (D.moments disk.old)
-            → Since (LeavesEither tag self.old.state (stored_after_it self.old.state body)) (D.moments disk.old) (D.moments disk.new) }
-        ensures settled { OnOk result ((tag : List ℕ) → IsSettled tag self.old.state self.old.seat (D.moments disk.old)
-            → IsSettled tag self.new.state self.new.seat (D.moments disk.new)) }
-        ensures leaves { OnOk result ((tag : List ℕ) → IsSettled tag self.old.state self.old.seat (D.moments disk.old)
-            → LeavesState tag self.new.state (D.moments disk.new)) }
+        ensures calls { MakesCalls result
+            (put_calls self.old.seat (stored_after_it self.old.state body)) (D.state disk.old).calls
+            (D.state disk.new).calls }
+        ensures follows { MakesFrom result
+            (put_calls self.old.seat (stored_after_it self.old.state body)) (D.state disk.old).model
+            (D.state disk.new).model }
+        ensures same { OnIdle result ((D.state disk.new).moments ≡ (D.state disk.old).moments) }
+        ensures any_moment { (tag : List ℕ)
+            → IsSettled tag self.old.state self.old.seat (D.state disk.old).moments
+            → Since (LeavesEither tag self.old.state (stored_after_it self.old.state body))
+            (D.state disk.old).moments (D.state disk.new).moments }
+        ensures settled { OnOk result ((tag : List ℕ)
+            → IsSettled tag self.old.state self.old.seat (D.state disk.old).moments
+            → IsSettled tag self.new.state self.new.seat (D.state disk.new).moments) }
+        ensures leaves { OnOk result ((tag : List ℕ)
+            → IsSettled tag self.old.state self.old.seat (D.state disk.old).moments
+            → LeavesState tag self.new.state (D.state disk.new).moments) }
     {
         let key = self.tree.public();
         let length = 8 + key.ots.signature_length() + 32 * key.tree.height();

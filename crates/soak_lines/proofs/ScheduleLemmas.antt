@@ -18,6 +18,7 @@ use Rattle.schedule_world.specs.declared.line.WorldLine.TheVariants as lines
 use Rattle.schedule_world.specs.declared.text.WorldText.{WorldText}
 use Rattle.schedule_world.specs.declared.text.WorldText.TheVariants as world
 use Rattle.schedule_world.specs.Grammar.{IsNewcomer}
+use Rattle.schedule_world.proofs.GrammarLemmas.{newcomer-again}
 use Rattle.soak_lines.specs.declared.plan.Plan.{Plan}
 use Rattle.soak_lines.specs.Workload.{accusations, draw, drawing_seed, liars, lines_by, nodes, notes, numbers, plan_of, rounds_from, tag_of, words_of, workload}
 use Rattle.soak_lines.specs.Places.{IsPlan}
@@ -28,6 +29,13 @@ use Rattle.soak_lines.proofs.DrawLemmas.{AreWords, drawn}
 
 -- ## A round
 
+-- a number up to this
+abbrev UpTo : ℕ → ℕ → Type 0
+UpTo high n = (0 ≤ n) × (n ≤ high)
+
+up_to : (high n : ℕ) → n ≤ high → UpTo high n
+up_to high n h = (omega arith, h)
+
 abbrev body : ℕ → WorldText
 body ticks = world.Body 2 ticks
 
@@ -36,7 +44,8 @@ notes_stand round a zero t rest high few h = h
 notes_stand round a (suc n) t rest high few h =
     let m : a ≤ LAST_MEMBER = omega arith in
     let name = named 110 a refl (omega arith) in
-    (refl, (m, m, omega arith, omega arith, omega arith, name), (refl, name, notes_stand round (a + 1) n t rest high (omega arith) h))
+    let who = up_to LAST_MEMBER a m in
+    (refl, (who, (who, ((omega arith, omega arith), ((omega arith, omega arith), (name, tt))))), (refl, (name, tt), notes_stand round (a + 1) n t rest high (omega arith) h))
 
 notes_or_none : (p : Plan) (b : Bool) (round t : ℕ) (rest : List WorldLine) → IsPlan p → round ≤ 1000 → IsSchedule (body t) rest → IsSchedule (body t) (cond b (notes round (liars p)) [] ++ rest)
 notes_or_none p true round t rest is high h = notes_stand round p.correct (p.members - p.correct) t rest high (omega (arith, is.within, is.few)) h
@@ -46,7 +55,7 @@ ticks_stand : (a n t u : ℕ) (rest : List WorldLine) → a + n ≤ MEMBERS → 
 ticks_stand a zero t u rest few sum high h = subst (λ (k : ℕ). IsSchedule (body k) rest) (let e : u ≡ t = omega arith in e) h
 ticks_stand a (suc n) t u rest few sum high h =
     let m : a ≤ LAST_MEMBER = omega arith in
-    (refl, (m, omega arith, omega arith, omega arith), ticks_stand (a + 1) n (t + 1) u rest (omega arith) (omega arith) high h)
+    (refl, (up_to LAST_MEMBER a m, ((omega arith, omega arith), tt)), ticks_stand (a + 1) n (t + 1) u rest (omega arith) (omega arith) high h)
 
 left_words : (correct : ℕ) (some : List ℕ) (words : Stream) → 0 < correct → correct ≤ 32 → AreWords words → AreWords (accusations correct some words).1
 left_words correct [] words low high are = are
@@ -62,10 +71,11 @@ accusations_stand correct a (suc n) t words rest low high few are h =
     let victim = drawn correct words low (omega arith) are in
     let ring = drawn 5 (draw correct words).1 (omega arith) (omega arith) victim.left in
     let m : a ≤ LAST_MEMBER = omega arith in
+    let who = up_to LAST_MEMBER a m in
     let name = named 97 a refl (omega arith) in (
       refl,
-      (m, m, omega (arith, victim.below), tt, omega (arith, ring.below), name),
-      (refl, name, accusations_stand correct (a + 1) n t (draw 5 (draw correct words).1).1 rest low high (omega arith) ring.left h),
+      (who, (who, ((omega arith, omega (arith, victim.below)), (tt, ((omega arith, omega (arith, ring.below)), (name, tt)))))),
+      (refl, (name, tt), accusations_stand correct (a + 1) n t (draw 5 (draw correct words).1).1 rest low high (omega arith) ring.left h),
     )
 
 rounds_stand : (p : Plan) (round more t : ℕ) (words : Stream) → IsPlan p → 1 ≤ round → round + more ≤ 1001 → t + more * p.correct ≤ 100000 → AreWords words → IsSchedule (body t) (rounds_from p round more words)
@@ -81,7 +91,7 @@ rounds_stand p round (suc more) t words is low high few are =
     let sum : t + c + more * c ≤ 100000 = omega arith in
     let top : t + c ≤ 100000 = omega (arith, sum) in
     let others = rounds_stand p (round + 1) more (t + c) made.1 is (omega arith) (omega arith) sum (left_words c (liars p) words some small are) in
-    let flow : IsSchedule (body (t + c)) (lines.Flow 20000 ∷ rounds_from p (round + 1) more made.1) = (refl, (omega arith, omega arith), others) in
+    let flow : IsSchedule (body (t + c)) (lines.Flow 20000 ∷ rounds_from p (round + 1) more made.1) = (refl, ((omega arith, omega arith), tt), others) in
     notes_or_none p (eqb ((round - 1) % 10) 0) round t _ is (omega arith)
     (ticks_stand 0 (c - 0) t (t + c) _ (omega arith) (omega arith) top
     (accusations_stand c c (p.members - c) (t + c) words _ some small (omega arith) are flow))
@@ -92,7 +102,7 @@ starts_stand : (a n : ℕ) (rest : List WorldLine) → a + n ≤ MEMBERS → IsS
 starts_stand a zero rest few h = h
 starts_stand a (suc n) rest few h =
     let m : a ≤ LAST_MEMBER = omega arith in
-    (refl, m, starts_stand (a + 1) n rest (omega arith) h)
+    (refl, (up_to LAST_MEMBER a m, tt), starts_stand (a + 1) n rest (omega arith) h)
 
 range_more : (a n k : ℕ) → a + n ≡ k → range_with_len a (suc n) ≡ range_with_len a n ++ k ∷ []
 range_more a zero k e = ap (λ (m : ℕ). m ∷ []) (let same : a ≡ k = omega arith in same)
@@ -129,7 +139,7 @@ liars_stand a zero names all rest is whole few h =
 liars_stand a (suc n) names all rest is whole few h =
     let same : a + suc n ≡ a + 1 + n = omega arith in (
       refl,
-      subst (λ (some : List ℕ). IsNewcomer some a) (sym is) (is_newcomer a (omega arith)),
+      newcomer-again (roster names) a refl (subst (λ (some : List ℕ). IsNewcomer some a) (sym is) (is_newcomer a (omega arith))),
       liars_stand (a + 1) n (names ++ a ∷ []) all rest (one_more a names is) (whole ∙ ap (range_with_len 0) same) (omega arith) h,
     )
 
@@ -141,7 +151,7 @@ nodes_stand a zero names all rest is whole few h =
 nodes_stand a (suc n) names all rest is whole few h =
     let same : a + suc n ≡ a + 1 + n = omega arith in (
       refl,
-      subst (λ (some : List ℕ). IsNewcomer some a) (sym is) (is_newcomer a (omega arith)),
+      newcomer-again (roster names) a refl (subst (λ (some : List ℕ). IsNewcomer some a) (sym is) (is_newcomer a (omega arith))),
       nodes_stand (a + 1) n (names ++ a ∷ []) all rest (one_more a names is) (whole ∙ ap (range_with_len 0) same) (omega arith) h,
     )
 
@@ -154,7 +164,7 @@ all_nodes p rest is h =
     let first = numbers-more 0 p.correct some in
     let whole : p.correct - 0 ≡ 1 + (p.correct - 1) = omega arith in
     let others = nodes_stand 1 (p.correct - 1) (0 ∷ []) (nodes p) rest refl (ap (range_with_len 0) whole) (omega arith) h in
-    let all : IsSchedule (world.Roster 2 [] false) (map lines.Node (0 ∷ numbers 1 p.correct) ++ rest) = (refl, is_newcomer 0 (omega arith), others) in
+    let all : IsSchedule (world.Roster 2 [] false) (map lines.Node (0 ∷ numbers 1 p.correct) ++ rest) = (refl, newcomer-again (world.Roster 2 [] false) 0 refl (is_newcomer 0 (omega arith)), others) in
     subst (λ (ms : List ℕ). IsSchedule (world.Roster 2 [] false) (map lines.Node ms ++ rest)) (sym first) all
 
 -- ## The whole
@@ -177,8 +187,8 @@ lines_stand p words is tag are =
       tt,
       (
         refl,
-        (omega arith, omega arith, omega arith, omega arith, omega arith, omega arith, omega arith, omega arith, tag),
-        (refl, omega arith, all_nodes p _ is lying),
+        ((omega arith, omega arith), ((omega arith, omega arith), ((omega arith, omega arith), ((omega arith, omega arith), (tag, tt))))),
+        (refl, (refl, (refl, tt)), all_nodes p _ is lying),
       ),
     )
 

@@ -55,7 +55,8 @@ fn accusation_line(
 ) -> Result<WorldLine, NoMemory>
     requires correct { (0 < correct) × (correct ≤ 32) }
     requires liar { liar < MEMBERS }
-    ensures drawn { IfOk result (λ line. (line, words_of words.new) ≡ accusation_by correct liar (words_of words.old)) }
+    ensures drawn { IfOk result
+        (λ line. (line, words_of words.new) ≡ accusation_by correct liar (words_of words.old)) }
     ensures same { OnErr result (words.new ≡ words.old) }
 {
     let name = accusation_name(alloc, liar)?;
@@ -131,7 +132,8 @@ fn round_turn(
     requires plan { IsPlan plan.now }
     requires round { (1 ≤ round) × (round ≤ plan.now.rounds) }
     requires step { IsStep plan.now step }
-    ensures turn { IfOk result (λ t. (t, words_of words.new) ≡ round_turn plan.now round step (words_of words.old)) }
+    ensures turn { IfOk result
+        (λ t. (t, words_of words.new) ≡ round_turn plan.now round step (words_of words.old)) }
     ensures same { OnErr result (words.new ≡ words.old) }
 {
     match step {
@@ -178,7 +180,8 @@ pub(crate) fn next_turn(
 ) -> Result<Option<Turn>, NoMemory>
     requires plan { IsPlan plan.now }
     requires place { IsPlace plan.now place }
-    ensures turn { IfOk result (λ t. (t, words_of words.new) ≡ turn_at plan.now place (words_of words.old)) }
+    ensures turn { IfOk result
+        (λ t. (t, words_of words.new) ≡ turn_at plan.now place (words_of words.old)) }
     ensures same { OnErr result (words.new ≡ words.old) }
 {
     match place {

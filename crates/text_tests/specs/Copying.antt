@@ -2,7 +2,7 @@
 use Rattle.std.specs.Prelude.{◌≡◌, ℕ, Bool, true, false, ◌-◌, ◌==◌, List, [], ◌∷◌, Option, Some, None, slice_index, codes, if◌then◌else◌}
 use Rattle.std.proofs.Common.{refl, subst, sym}
 use Rattle.text_trace.specs.Lines.{has_line_feed, has_no_feed}
-use Rattle.text_trace.specs.Trace.{Owed, Trace, Waits, before}
+use Rattle.text_trace.specs.Trace.{Continuation, Trace, Waits, before}
 use Rattle.text_trace.proofs.TraceLemmas.{waits-same}
 use Rattle.text_trace.proofs.WholeLemmas.{unfed}
 
@@ -36,5 +36,5 @@ ends-somewhere room cause e = cc
 copied-waits : (room : ℕ) → Waits ℕ (copied room)
 copied-waits room = record { silent = copied-silent room; unrefused = λ cause any all. ends-somewhere room cause (all []) }
 
-pub waits : (room : ℕ) (f : Owed ℕ) → f ≡ copied room → Waits ℕ f
+pub waits : (room : ℕ) (f : Continuation ℕ) → f ≡ copied room → Waits ℕ f
 waits room f same = waits-same ℕ f (copied room) same (copied-waits room)

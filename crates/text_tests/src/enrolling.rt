@@ -2,8 +2,7 @@
 
 ghost use Rattle.std.specs.Prelude.{◌≡◌, true, IfOk};
 
-use authority::Halt;
-use enrolment::enroll;
+use authority::{Halt, enroll};
 use epoch_store::make;
 use ff_ids::{Group, Mask};
 use fixtures::{disk, failing_sink, failing_source};

@@ -5,7 +5,7 @@ mod signed;
 use ff_ids::MemberId;
 use line_text::{BadWord, LineFault, Reader};
 use records::Body;
-use schedule_kit::{KitLine, KitText};
+use schedule_texts::{KitLine, KitText};
 use signed::{AUTHORITY, KEY_OF_1, OF_1, OF_2, OWN};
 use std::alloc::Global;
 use std::test::Fail;

@@ -1,10 +1,9 @@
 //! A store that is made, over objects in memory.
 
-use authority::Halt;
+use authority::{Halt, make_store};
 use fixtures::{disk, sink, source};
 use line_text::BadWord;
 use std::test::Fail;
-use store_making::make_store;
 
 const SECRET: &str = "fireflies 1 secret\n\
     group 1 4 1 2 00000000000000000000000000000000\nkinds 2 5\n\

@@ -11,7 +11,7 @@ use std::test::Fail;
 
 /// Two reads of up to eight bytes, the second only where the first got some.
 fn read_twice<S: Source>(source: &mut S, buf: &mut [u8]) -> (Taken, Option<Taken>)
-    requires { S.is_open source.old ≡ true }
+    requires { (S.state source.old).is_open ≡ true }
 {
     let first = source.read(buf);
     if let Taken::Got(_) = first {

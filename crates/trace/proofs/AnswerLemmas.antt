@@ -23,7 +23,7 @@ use Rattle.schedule_direct.specs.declared.line.DirectLine.{DirectLine}
 use Rattle.schedule_direct.specs.declared.line.DirectLine.TheVariants as lines
 use Rattle.schedule_direct.specs.Grammar as grammar
 use Rattle.trace.specs.Answers.{Answer, Recorded, answer, answer_in, events_of, places_at, state_of, stepped, tick_events, verdict_on, with_event, with_ticks}
-use Rattle.trace.specs.Replies.{AcceptsAccusation, AcceptsNote, Expires, RuleOut}
+use Rattle.trace.specs.Replies.{AcceptsAccusation, AcceptsNote, Expires, NoteSupersedes}
 use Rattle.trace.specs.Walk.{Taken, walk_over}
 use Rattle.trace.proofs.ReplyLemmas.{Extends, Later, all-answered, extends-ticks, goes-on-to, some-same}
 
@@ -228,5 +228,5 @@ none-expires ls i j life moment n a less note older e =
     none_expires last.group s events (length note.r.events) (length last.events) n a (noted-before note.r last n noted) (noted-place note.r last n (there.event ∷ []) noted) older at
 
 -- behind an accepted note no older accusation is accepted, or expires
-pub rule-out : (ls : List (List ℕ)) → RuleOut (walk_over ls)
+pub rule-out : (ls : List (List ℕ)) → NoteSupersedes (walk_over ls)
 rule-out ls life moment i j n a less note older = (none-accepted ls i j life n a less note older, none-expires ls i j life moment n a less note older)

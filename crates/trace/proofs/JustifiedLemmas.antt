@@ -218,7 +218,7 @@ clear-front (b ∷ front) (suc count) clear short =
     let parts = and_parts (not (eqb b 10)) (has_no_feed front) clear in
     and_from (not (eqb b 10)) (has_no_feed (take count (front ++ 10 ∷ []))) parts.0 (clear-front front count parts.1 (omega (arith, short)))
 
--- ## Each removal of a life is told
+-- ## Each removal of a life is reported
 
 pub in-map : {X Y : Type 0} (f : X → Y) (xs : List X) (x : X) → In xs x → In (map f xs) (f x)
 in-map f [] x i = absurd i

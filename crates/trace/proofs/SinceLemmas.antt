@@ -20,7 +20,7 @@ use Rattle.life_laws.proofs.LifeLemmas.{state_at-next}
 use Rattle.life_laws.proofs.Lists.{In, In-from_filter, In-from_map}
 use Rattle.life_laws.specs.Removals.{IsNoteAcceptedAt}
 use Rattle.trace.specs.Answers.{Recorded, state_of, stepped, with_event, with_ticks}
-use Rattle.trace.specs.Replies.{AcceptedSince, EndsAcceptance}
+use Rattle.trace.specs.Replies.{AcceptedSince, NoteRevokes}
 use Rattle.trace.specs.Walk.{walk_over}
 use Rattle.trace.proofs.AnswerLemmas.{Noted, behind-note, expires-there, noted-before, noted-more, noted-place, state-place}
 use Rattle.trace.proofs.ReplyLemmas.{extends-ticks}
@@ -184,7 +184,7 @@ since r note n a moment k event last is noted_last about answered expired_last a
     (since-line r (ticks k) event u.place i moment d.q k refl u.earlier later u.accepted_there (omega (arith, u.since, passed)))
 
 -- an accepted note ends the acceptance of what it answers
-pub ends-acceptance : (ls : List (List ℕ)) → EndsAcceptance (walk_over ls)
+pub ends-acceptance : (ls : List (List ℕ)) → NoteRevokes (walk_over ls)
 ends-acceptance ls i j life moment n a less note about answered e =
     let there = expires-there ls j life moment a e in
     let last = with_ticks there.ticks e.r in

@@ -11,7 +11,7 @@ use Rattle.schedule_direct.specs.Grammar as grammar
 use Rattle.schedule_direct.specs.Grammar.{spelled_words}
 use Rattle.schedule_direct.specs.Rows.{is_ended, row_for}
 use Rattle.text_trace.specs.Lines.{has_no_feed}
-use Rattle.text_trace.specs.Trace.{IsUnrefused, Owed, Waits}
+use Rattle.text_trace.specs.Trace.{IsUnrefused, Continuation, Waits}
 use Rattle.text_trace.proofs.TraceLemmas.{waits-same}
 use Rattle.trace.specs.Answers.{Recorded, answer}
 use Rattle.trace.specs.Walk.{Taken, Walk, from_line, output_of, played, replayed, walk}
@@ -50,7 +50,7 @@ played-unrefused p recorded = λ w any all.
 pub played-waits : (p : Progress Direct) (recorded : Option Recorded) → Waits BadWord (played p recorded)
 played-waits p recorded = record { silent = played-silent p recorded; unrefused = played-unrefused p recorded }
 
-pub waits-as : (p : Progress Direct) (recorded : Option Recorded) (f : Owed BadWord) → f ≡ played p recorded → Waits BadWord f
+pub waits-as : (p : Progress Direct) (recorded : Option Recorded) (f : Continuation BadWord) → f ≡ played p recorded → Waits BadWord f
 waits-as p recorded f same = waits-same BadWord f (played p recorded) same (played-waits p recorded)
 
 same-taken : (recorded : Option Recorded) (bytes : List ℕ) (judged : Result DirectLine BadWord) (rest others : DirectLine → Walk) → ((l : DirectLine) → (rest l).taken ≡ (others l).taken) → (from_line recorded bytes judged rest).taken ≡ (from_line recorded bytes judged others).taken

@@ -25,6 +25,7 @@ use Rattle.schedule_direct.specs.declared.line.DirectLine.TheVariants as lines
 use Rattle.schedule_direct.specs.Grammar as grammar
 use Rattle.schedule_direct.specs.Grammar.{IsDirect, spelled_words}
 use Rattle.schedule_direct.specs.Laws.{direct-spelled}
+use Rattle.schedule_direct.proofs.GrammarLemmas.{direct-words}
 use Rattle.schedule_direct.specs.Rows.{is_ended, row_for}
 use Rattle.text_trace.specs.Lines.{has_no_feed}
 use Rattle.trace.specs.Answers.{Answer, Recorded, answer, answer_in, events_text, state_of, told, verdict_on, verdict_on_joining, verdict_text}
@@ -140,7 +141,7 @@ pub record Spelled (bytes : List ℕ) (l : DirectLine) : Type 0 where
 pub spelled : (p : Progress Direct) (bytes : List ℕ) (l : DirectLine) → grammar.judge p bytes ≡ Ok l → Spelled bytes l
 spelled p bytes l judged =
     let is = judge-spelled (next_line is_ended row_for p) (IsDirect p.form) (direct-spelled p.form) bytes l judged in
-    let same = is.spells.words in
+    let same = direct-words p.form (is.first ∷ is.others) l is.spells in
     record {
       bytes_are = is.spaced ∙ ap (λ (ws : List (List ℕ)). join_with_byte 32 ws ++ 10 ∷ []) same;
       clear = subst (λ (ws : List (List ℕ)). has_no_feed (join_with_byte 32 ws) ≡ true) same (clear-words (is.first ∷ is.others) is.words);

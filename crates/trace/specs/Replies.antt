@@ -41,8 +41,8 @@ pub record Expires (w : Walk) (place life moment : ℕ) (a : AccBody) : Type 0 w
   pub reported : Contains t.answer.events (record { moment = moment; what = what.Expired a })
 
 -- Behind an accepted note no accusation of an older epoch against its member is accepted in that life, or expires.
-abbrev pub RuleOut : Walk → Type 0
-RuleOut w = (life moment : ℕ) → NotesRuleOut (λ i n. AcceptsNote w i life n) (λ j a. AcceptsAccusation w j life a) (λ j a. Expires w j life moment a)
+abbrev pub NoteSupersedes : Walk → Type 0
+NoteSupersedes w = (life moment : ℕ) → NotesRuleOut (λ i n. AcceptsNote w i life n) (λ j a. AcceptsAccusation w j life a) (λ j a. Expires w j life moment a)
 
 -- In the life as it stood before a line, the accusation was accepted at a place behind so many events, and at this moment
 -- it had stood for the timeout since.
@@ -54,6 +54,6 @@ pub record AcceptedSince (r : Recorded) (behind moment : ℕ) (a : AccBody) : Ty
 
 -- An accepted note ends the acceptance of each accusation against its member that it answers: that expires later in the
 -- life only where it was accepted again behind the note, and stood for the timeout since.
-abbrev pub EndsAcceptance : Walk → Type 0
-EndsAcceptance w = (i j life moment : ℕ) (n : NoteBody) (a : AccBody) → i < j → (note : AcceptsNote w i life n) → a.accused ≡ n.member → is_unanswered_by a n ≡ false
+abbrev pub NoteRevokes : Walk → Type 0
+NoteRevokes w = (i j life moment : ℕ) (n : NoteBody) (a : AccBody) → i < j → (note : AcceptsNote w i life n) → a.accused ≡ n.member → is_unanswered_by a n ≡ false
     → (expired : Expires w j life moment a) → AcceptedSince expired.r (length note.r.events) moment a

@@ -11,7 +11,7 @@ use Rattle.schedule_direct.specs.declared.direct.Direct.{Direct}
 use Rattle.schedule_direct.specs.Grammar as grammar
 use Rattle.schedule_direct.specs.Rows.{is_ended}
 use Rattle.text_trace.specs.Lines.{seen}
-use Rattle.text_trace.specs.Trace.{Owed, Trace}
+use Rattle.text_trace.specs.Trace.{Continuation, Trace}
 use Rattle.trace.specs.Answers.{Answer, Recorded, answer, told}
 
 -- A line that is taken: its bytes, the life that was being recorded before it, the line, and what it brought.
@@ -76,11 +76,11 @@ lives_in w = flat_map (λ t. left_behind t.before t.line) w.taken ++ option_to_l
 -- ## A text
 
 -- What is owed for the lines, where so much was read before them and this life is being recorded.
-abbrev pub played : Progress Direct → Option Recorded → Owed BadWord
+abbrev pub played : Progress Direct → Option Recorded → Continuation BadWord
 played p recorded = λ lines. trace_in (walk lines p recorded)
 
 -- What is owed for the lines of a whole text.
-abbrev pub replayed : Owed BadWord
+abbrev pub replayed : Continuation BadWord
 replayed = played grammar.opening None
 
 -- The trace of a text.

@@ -1,7 +1,8 @@
 -- The ordered table of faults of signed records: what is refused without a look at the signature, then the
 -- signature, then a note of the observer itself that it doesn't know.
-use Rattle.std.specs.Prelude.{◌≡◌, ℕ, ◌==◌, if◌then◌else◌, Option, Some, None, Result, Ok, Err}
-use Rattle.std.specs.Option.{option_map}
+use Rattle.std.specs.Prelude.{◌≡◌, ℕ, Bool, ◌==◌, ◌&&◌, if◌then◌else◌, Option, Some, None, Result, Ok, Err, option_map, bytes_eq}
+use Rattle.std.specs.Option.{option_or}
+use Rattle.std.specs.Result.{is_ok}
 use Rattle.ff_ids.specs.declared.NoteBody.{NoteBody}
 use Rattle.ff_ids.specs.declared.Group.{Group}
 use Rattle.ff_ids.specs.declared.Fault.{Fault}
@@ -9,40 +10,67 @@ use Rattle.ff_ids.specs.declared.Fault.TheVariants as faults
 use Rattle.ff_ids.specs.Notes.{newest}
 use Rattle.ff_ids.specs.Views.{State}
 use Rattle.ff_ids.specs.Faults.{note_fault, accusation_fault}
+use Rattle.lms_ots.specs.Ots as ots
 use Rattle.lms_tree.specs.declared.key.PublicKey.{PublicKey}
-use Rattle.lms_tree.specs.Lms.{key_bytes}
+use Rattle.lms_tree.specs.Kinds.{type_number}
+use Rattle.lms_tree.specs.Lms.{key_bytes, verdict_of}
 use Rattle.records.specs.declared.CertBody.{CertBody}
 use Rattle.records.specs.declared.Body.{Body}
 use Rattle.records.specs.declared.Body.TheVariants.{Certificate, Note, Accusation}
 use Rattle.records.specs.declared.Record.{Record}
-use Rattle.records.specs.Signing.{IsSigned, CheckedRecord}
-use Rattle.validate.specs.Certified.{Certificates, certificate_of, key_of}
+use Rattle.records.specs.Signing.{signed_bytes, CheckedRecord}
+use Rattle.validate.specs.Certified.{Certificates, certificate_of}
 
 -- ---- the rows
 
--- The signature decides: where it is good the answer is what comes after it.
-abbrev pub Decides : Type 0 → Option Fault → Option Fault → Type 0
-Decides signed later answer = (signed → answer ≡ later) × ((signed → ⊥) → answer ≡ Some faults.BadSignature)
+abbrev pub is_same_key : PublicKey → PublicKey → Bool
+is_same_key a b =
+    (type_number a.tree == type_number b.tree) && ((ots.type_number a.ots == ots.type_number b.ots) && (bytes_eq a.id b.id && bytes_eq a.root b.root))
 
--- It is to verify under this key, in the group. Who has no certificate, and so no key, is no member.
-abbrev pub DecidesUnder : Option PublicKey → Group → Record → Option Fault → Option Fault → Type 0
-DecidesUnder (Some key) g r later answer = Decides (IsSigned key g.tag g.t r) later answer
-DecidesUnder None g r later answer = answer ≡ Some faults.UnknownMember
+abbrev pub is_same_certificate : CertBody → CertBody → Bool
+is_same_certificate a b = (a.member == b.member) && ((a.port == b.port) && is_same_key a.key b.key)
 
--- A fault that stands before the signature is the answer, whatever comes after it.
-abbrev pub FirstOf : Option Fault → Type 0 → Option Fault → Type 0
-FirstOf (Some fault) later answer = answer ≡ Some fault
-FirstOf None later answer = later
+-- This very certificate is kept for the number, or another one, whose port and key these are.
+abbrev pub fault_beside_kept : CertBody → CertBody → Fault
+fault_beside_kept kept c = if is_same_certificate kept c then faults.Known else faults.OtherCertificate kept.port (key_bytes kept.key)
 
--- A certificate: this very one is kept; another one is kept for the number; the signature.
-abbrev pub FirstOfCertificate : Option CertBody → CertBody → Type 0 → Option Fault → Type 0
-FirstOfCertificate (Some kept) c later answer =
-    (kept ≡ c → answer ≡ Some faults.Known) × ((kept ≡ c → ⊥) → answer ≡ Some (faults.OtherCertificate kept.port (key_bytes kept.key)))
-FirstOfCertificate None c later answer = later
+abbrev pub certificate_fault : Option CertBody → CertBody → Option Fault
+certificate_fault kept c = option_map (λ k. fault_beside_kept k c) kept
+
+-- The record's signature is to verify under this key. Who has no certificate, and so no key, is no member.
+abbrev pub signature_fault : (PublicKey → Record → Bool) → Option PublicKey → Record → Option Fault
+signature_fault verifies None r = Some faults.UnknownMember
+signature_fault verifies (Some key) r = if verifies key r then None else Some faults.BadSignature
 
 -- a note of the observer itself, of which it had a newest one before
 abbrev pub own_ahead : ℕ → Option NoteBody → NoteBody → Option Fault
 own_ahead own newest_note n = if n.member == own then option_map (λ stored. faults.OwnAhead stored n) newest_note else None
+
+-- ---- the table
+
+-- What an observer knows when it checks a record: which signatures verify, the tolerance, the authority's key, the
+-- certificates kept, the state, and its own number.
+pub record Knowledge : Type 0 where
+  pub verifies : PublicKey → Record → Bool
+  pub t : ℕ
+  pub authority : PublicKey
+  pub certificate : ℕ → Option CertBody
+  pub state : State
+  pub own : ℕ
+
+abbrev pub known_key : Knowledge → ℕ → Option PublicKey
+known_key k m = option_map (λ c. c.key) (k.certificate m)
+
+abbrev pub first_fault_of : Knowledge → Record → Body → Option Fault
+first_fault_of k r (Certificate c) = option_or (certificate_fault (k.certificate c.member) c) (signature_fault k.verifies (Some k.authority) r)
+first_fault_of k r (Note n) =
+    option_or (note_fault k.t k.state n)
+    (option_or (signature_fault k.verifies (known_key k n.member) r) (own_ahead k.own (newest k.state.notes k.own) n))
+first_fault_of k r (Accusation a) = option_or (accusation_fault k.t k.state a) (signature_fault k.verifies (known_key k a.accuser) r)
+
+-- The first fault of a signed record, or none.
+abbrev pub first_fault : Knowledge → Record → Option Fault
+first_fault k r = first_fault_of k r r.body
 
 -- Nothing that stands before its signature refuses the record of this body.
 abbrev pub IsUnrefused : Group → Certificates → State → Body → Type 0
@@ -50,21 +78,16 @@ IsUnrefused g certificates s (Certificate c) = certificate_of certificates c.mem
 IsUnrefused g certificates s (Note n) = note_fault g.t s n ≡ None
 IsUnrefused g certificates s (Accusation a) = accusation_fault g.t s a ≡ None
 
--- The answer is the record's first fault, if it has one, by the certificates kept, the state and the observer's
--- own number.
-abbrev pub FirstFaultOf : Group → PublicKey → Certificates → State → ℕ → Record → Body → Option Fault → Type 0
-FirstFaultOf g authority certificates s own r (Certificate c) answer =
-    FirstOfCertificate (certificate_of certificates c.member) c (DecidesUnder (Some authority) g r None answer) answer
-FirstFaultOf g authority certificates s own r (Note n) answer =
-    FirstOf (note_fault g.t s n) (DecidesUnder (key_of certificates n.member) g r (own_ahead own (newest s.notes own) n) answer) answer
-FirstFaultOf g authority certificates s own r (Accusation a) answer =
-    FirstOf (accusation_fault g.t s a) (DecidesUnder (key_of certificates a.accuser) g r None answer) answer
-
--- The answer is the first fault of a signed record, by the ordered table, or none.
-abbrev pub FirstFault : Group → PublicKey → Certificates → State → ℕ → Record → Option Fault → Type 0
-FirstFault g authority certificates s own r answer = FirstFaultOf g authority certificates s own r r.body answer
-
 -- ---- what a call gives
+
+-- The record's signature verifies under the key, in the group.
+abbrev pub verifies_in : Group → PublicKey → Record → Bool
+verifies_in g key r = is_ok (verdict_of key (signed_bytes g.tag g.t r.body) r.signature)
+
+-- an observer in the group, of this authority, certificates, state and number
+abbrev pub known_by : Group → PublicKey → Certificates → State → ℕ → Knowledge
+known_by g authority certificates s own =
+    record { verifies = verifies_in g; t = g.t; authority = authority; certificate = certificate_of certificates; state = s; own = own }
 
 abbrev pub fault_in : {X : Type 0} → Result X Fault → Option Fault
 fault_in (Ok x) = None

@@ -12,8 +12,10 @@ ghost use Rattle.validate.specs.Certified.{Certificates, AreCertified, certifica
 
 /// Who a note without a fault is of has a certificate, and so has who made an accusation without a fault.
 pub fn authors_are_certified()
-    ensures notes { (l : Life) (s : State) (certificates : Certificates) (t : ℕ) (n : NoteBody) → Holds l s → AreCertified l certificates
+    ensures notes { (l : Life) (s : State) (certificates : Certificates) (t : ℕ) (n : NoteBody)
+        → Holds l s → AreCertified l certificates
         → note_fault t s n ≡ None → certificate_of certificates n.member ≡ None → ⊥ }
-    ensures accusations { (l : Life) (s : State) (certificates : Certificates) (t : ℕ) (a : AccBody) → Holds l s → AreCertified l certificates
+    ensures accusations { (l : Life) (s : State) (certificates : Certificates) (t : ℕ) (a : AccBody)
+        → Holds l s → AreCertified l certificates
         → accusation_fault t s a ≡ None → certificate_of certificates a.accuser ≡ None → ⊥ }
 {}

@@ -5,9 +5,9 @@ ghost use Rattle.std.specs.Option.{option_copied};
 ghost use Rattle.std.specs.FinMap as map;
 ghost use Rattle.validate.specs.Certified.{certificate_of};
 
-use by_member::ByMember;
 use ff_ids::MemberId;
 use fields::NoMemory;
+use membership::ByMember;
 use records::CertBody;
 use std::alloc::Global;
 use std::marker::Model;

@@ -1,12 +1,13 @@
 //! The ordered table of faults.
 
-ghost use Rattle.std.specs.Prelude.{◌≡◌, IfOk, None};
+ghost use Rattle.std.specs.Prelude.{◌≡◌, IfOk, None, Some};
+ghost use Rattle.std.specs.Option.{option_or};
 ghost use Rattle.ff_ids.specs.Views.{State};
 ghost use Rattle.membership.specs.Holds.{Holds};
 ghost use Rattle.records.specs.declared.Body.TheVariants.{Certificate, Note, Accusation};
 ghost use Rattle.records.specs.Spelling.{HasPort};
 ghost use Rattle.validate.specs.Certified.{key_of, certificate_of, signing_key};
-ghost use Rattle.validate.specs.Table.{FirstFault, FirstOf, FirstOfCertificate, DecidesUnder, own_ahead, fault_in, IsCheckOf, IsUnrefused};
+ghost use Rattle.validate.specs.Table.{certificate_fault, signature_fault, own_ahead, first_fault, known_by, verifies_in, fault_in, IsCheckOf, IsUnrefused};
 ghost use Rattle.ff_ids.specs.Notes.{newest};
 ghost use Rattle.ff_ids.specs.Faults.{note_fault, accusation_fault};
 
@@ -29,9 +30,11 @@ impl<'a> Observer<'a> {
     /// its signature.
     fn check_signature(&self, key: &PublicKey, rec: Record) -> Result<Checked, Fault>
         requires port { HasPort rec.body }
-        requires unrefused { (s : State) → Holds self.now.membership.now s → IsUnrefused self.now.group.now self.now.roster.now s rec.body }
+        requires unrefused { (s : State) → Holds self.now.membership.now s
+            → IsUnrefused self.now.group.now self.now.roster.now s rec.body }
         ensures checked { IfOk result (IsCheckOf self.now.group.now (Some key.now) rec) }
-        ensures fault { DecidesUnder (Some key.now) self.now.group.now rec None (fault_in result) }
+        ensures fault { fault_in result
+            ≡ signature_fault (verifies_in self.now.group.now) (Some key.now) rec }
     {
         match Checked::new(self.group, key, rec) {
             Ok(checked) => Ok(checked),
@@ -41,7 +44,8 @@ impl<'a> Observer<'a> {
 
     /// Why the certificate is refused by what is kept for its number.
     fn certificate_fault(&self, cert: &CertBody) -> Option<Fault>
-        ensures { FirstOfCertificate (certificate_of self.now.roster.now cert.now.member) cert.now (result ≡ None) result }
+        ensures { result ≡ certificate_fault (certificate_of self.now.roster.now cert.now.member)
+            cert.now }
     {
         let kept = self.roster.get(cert.member)?;
         if kept == cert {
@@ -55,7 +59,8 @@ impl<'a> Observer<'a> {
 
     /// The fault of a note whose signature is good: it is the observer's own, and greater than the one it had last.
     fn own_note_fault(&self, own: MemberId, note: &NoteBody) -> Option<Fault>
-        ensures { (s : State) → Holds self.now.membership.now s → result ≡ own_ahead own (newest s.notes own) note.now }
+        ensures { (s : State) → Holds self.now.membership.now s
+            → result ≡ own_ahead own (newest s.notes own) note.now }
     {
         if note.member != own {
             return None;
@@ -76,7 +81,10 @@ impl<'a> Observer<'a> {
         requires body { rec.body ≡ Certificate cert.now }
         requires port { HasPort rec.body }
         ensures checked { IfOk result (IsCheckOf self.now.group.now (Some authority.now) rec) }
-        ensures fault { FirstOfCertificate (certificate_of self.now.roster.now cert.now.member) cert.now (DecidesUnder (Some authority.now) self.now.group.now rec None (fault_in result)) (fault_in result) }
+        ensures fault { fault_in result
+            ≡ option_or
+            (certificate_fault (certificate_of self.now.roster.now cert.now.member) cert.now)
+            (signature_fault (verifies_in self.now.group.now) (Some authority.now) rec) }
     {
         if let Some(fault) = self.certificate_fault(cert) {
             return Err(fault);
@@ -88,8 +96,14 @@ impl<'a> Observer<'a> {
         requires body { rec.body ≡ Note note.now }
         requires group { self.now.membership.now.group ≡ self.now.group.now }
         requires port { HasPort rec.body }
-        ensures checked { IfOk result (IsCheckOf self.now.group.now (key_of self.now.roster.now note.now.member) rec) }
-        ensures fault { (s : State) → Holds self.now.membership.now s → FirstOf (note_fault self.now.group.now.t s note.now) (DecidesUnder (key_of self.now.roster.now note.now.member) self.now.group.now rec (own_ahead own (newest s.notes own) note.now) (fault_in result)) (fault_in result) }
+        ensures checked { IfOk result
+            (IsCheckOf self.now.group.now (key_of self.now.roster.now note.now.member) rec) }
+        ensures fault { (s : State) → Holds self.now.membership.now s → fault_in result
+            ≡ option_or (note_fault self.now.group.now.t s note.now)
+            (option_or
+            (signature_fault (verifies_in self.now.group.now)
+            (key_of self.now.roster.now note.now.member) rec)
+            (own_ahead own (newest s.notes own) note.now)) }
     {
         if let Some(fault) = self.membership.note_fault(note) {
             return Err(fault);
@@ -108,8 +122,12 @@ impl<'a> Observer<'a> {
         requires body { rec.body ≡ Accusation acc.now }
         requires group { self.now.membership.now.group ≡ self.now.group.now }
         requires port { HasPort rec.body }
-        ensures checked { IfOk result (IsCheckOf self.now.group.now (key_of self.now.roster.now acc.now.accuser) rec) }
-        ensures fault { (s : State) → Holds self.now.membership.now s → FirstOf (accusation_fault self.now.group.now.t s acc.now) (DecidesUnder (key_of self.now.roster.now acc.now.accuser) self.now.group.now rec None (fault_in result)) (fault_in result) }
+        ensures checked { IfOk result
+            (IsCheckOf self.now.group.now (key_of self.now.roster.now acc.now.accuser) rec) }
+        ensures fault { (s : State) → Holds self.now.membership.now s → fault_in result
+            ≡ option_or (accusation_fault self.now.group.now.t s acc.now)
+            (signature_fault (verifies_in self.now.group.now)
+            (key_of self.now.roster.now acc.now.accuser) rec) }
     {
         if let Some(fault) = self.membership.accusation_fault(acc) {
             return Err(fault);
@@ -134,8 +152,10 @@ pub fn check(
 ) -> Result<Checked, Fault>
     requires group { membership.now.group ≡ group.now }
     requires port { HasPort rec.body }
-    ensures checked { IfOk result (IsCheckOf group.now (signing_key authority.now roster.now rec.body) rec) }
-    ensures fault { (s : State) → Holds membership.now s → FirstFault group.now authority.now roster.now s own rec (fault_in result) }
+    ensures checked { IfOk result
+        (IsCheckOf group.now (signing_key authority.now roster.now rec.body) rec) }
+    ensures fault { (s : State) → Holds membership.now s
+        → fault_in result ≡ first_fault (known_by group.now authority.now roster.now s own) rec }
 {
     let observer = Observer {
         group,

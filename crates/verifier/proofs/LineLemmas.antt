@@ -8,7 +8,7 @@ use Rattle.line_text.specs.Answers.{AnswersBy, Progress}
 use Rattle.line_text.proofs.FrameLemmas.{line-fed}
 use Rattle.play.specs.Answers.{AnswersLine}
 use Rattle.text_trace.specs.Lines.{has_line_feed}
-use Rattle.text_trace.specs.Trace.{Admits, Every, Owed, Trace}
+use Rattle.text_trace.specs.Trace.{Admits, Every, Continuation, Trace}
 use Rattle.text_trace.proofs.TraceLemmas.{free-as}
 use Rattle.verify_text.specs.declared.line.VerifyLine.{VerifyLine}
 use Rattle.verify_text.specs.declared.question.Asked.{Asked}
@@ -19,9 +19,9 @@ use Rattle.verify_text.specs.Rows.{TakesMemory, is_ended}
 use Rattle.verifier.specs.Answered.{answered, from_judged, refusal_of}
 use Rattle.verifier.specs.Laws.{answered-unrefused, line-is}
 
-answered-as : (p : Progress Verify) (a : Asked) (bytes : List ℕ) (rest : List (List ℕ)) (f : Owed BadWord) (r : Result VerifyLine BadWord) → f ≡ answered p a → judge p bytes ≡ r → f (bytes ∷ rest) ≡ from_judged r (λ l. answered (behind p l) (asked_after a l) rest)
+answered-as : (p : Progress Verify) (a : Asked) (bytes : List ℕ) (rest : List (List ℕ)) (f : Continuation BadWord) (r : Result VerifyLine BadWord) → f ≡ answered p a → judge p bytes ≡ r → f (bytes ∷ rest) ≡ from_judged r (λ l. answered (behind p l) (asked_after a l) rest)
 answered-as p a bytes rest f r same judged =
-    ap (λ (g : Owed BadWord). g (bytes ∷ rest)) same ∙ ap (λ (j : Result VerifyLine BadWord). from_judged j (λ l. answered (behind p l) (asked_after a l) rest)) judged
+    ap (λ (g : Continuation BadWord). g (bytes ∷ rest)) same ∙ ap (λ (j : Result VerifyLine BadWord). from_judged j (λ l. answered (behind p l) (asked_after a l) rest)) judged
 
 -- memory is refused for a line that isn't
 starved : (p : Progress Verify) (a : Asked) (bytes : List ℕ) (r : Result VerifyLine BadWord) → judge p bytes ≡ r → IsOkAnd r TakesMemory → (has_line_feed bytes ≡ true) × Admits BadWord Every (λ f. f ≡ answered p a) [] (Some bytes)

@@ -8,13 +8,15 @@ use Rattle.line_text.specs.declared.bad_word.BadWord.{BadWord}
 use Rattle.line_text.specs.declared.bad_word.BadWord.TheVariants as bad
 use Rattle.line_text.specs.Answers.{Progress}
 use Rattle.line_text.specs.Digits.{SpellsBytes}
+use Rattle.line_text.specs.Spellings.{SpellsOrDash}
+use Rattle.line_text.proofs.SpellingLemmas.{below_256}
 use Rattle.lms_tree.specs.declared.key.PublicKey.{PublicKey}
 use Rattle.lms_tree.specs.Lms.{Verifies, key_bytes}
-use Rattle.play.specs.Plays.{Finished, Follows, IsLast, Runs, Standing, Starved, bytes_of}
+use Rattle.play.specs.Plays.{Finished, Follows, IoState, IsLast, Runs, Starved, bytes_of}
 use Rattle.play.specs.declared.stop.Stop.{Stop}
 use Rattle.play.specs.declared.stop.Stop.TheVariants as stop
 use Rattle.text_trace.specs.Lines.{AreWhole, text_lines}
-use Rattle.text_trace.specs.Trace.{Every, Owed, Refuses, Trace, Writes}
+use Rattle.text_trace.specs.Trace.{Every, Continuation, Refuses, Trace, Writes}
 use Rattle.verify_text.specs.declared.line.VerifyLine.{VerifyLine}
 use Rattle.verify_text.specs.declared.line.VerifyLine.TheVariants as lines
 use Rattle.verify_text.specs.declared.question.Asked.{Asked}
@@ -24,8 +26,7 @@ use Rattle.verify_text.specs.declared.verify.Verify.TheVariants as verify
 use Rattle.verify_text.specs.declared.question.Question.{Question}
 use Rattle.verify_text.specs.Answering.{answer_line}
 use Rattle.verify_text.specs.Asking.{asked_after}
-use Rattle.verify_text.specs.Grammar.{IsLine, SpellsOrDash, behind, judge, opening}
-use Rattle.verify_text.specs.Laws.{below_256}
+use Rattle.verify_text.specs.Grammar.{IsLine, behind, judge, opening}
 use Rattle.verify_text.specs.Rows.{is_ended, message_bytes, signature_bytes}
 use Rattle.verifier.specs.Answered.{answered, at_end, from_judged, verified}
 use Rattle.verifier.specs.Laws.{line-is, unfed-silent}
@@ -122,7 +123,7 @@ record Last (left : List ℕ) (q : Question) (text : List ℕ) : Type 0 where
 last_line : (n : ℕ) (q : Question) (b : List ℕ) (ls : List (List ℕ)) (text : List ℕ) (l : VerifyLine) → IsLine (at n verify.Signed) b l → answered (behind (at n verify.Signed) l) (asked_after (asked.Question q) l) ls ≡ trace text None → Last (concat (b ∷ ls)) q text
 last_line n q b ls text lines.End is e =
     let o = over (n + 1) q ls text e in
-    let line : b ≡ line_of (codes "end" ∷ []) = is.spaced ∙ ap line_of is.spells.spells in
+    let line : b ≡ line_of (codes "end" ∷ []) = is.spaced ∙ ap line_of (is.spells.words ∙ ap (λ args. codes "end" ∷ args) is.spells.spells) in
     record { line = joined b _ [] ls line (ap concat o.none) ∙ append-nil _; answer = o.answer }
 last_line n q b ls text lines.Header is e = absurd (let s = is.spells.stands in cc)
 last_line n q b ls text (lines.Key k) is e = absurd (let s = is.spells.stands in cc)
@@ -146,12 +147,13 @@ signature_line : (n : ℕ) (k : PublicKey) (m b : List ℕ) (ls : List (List ℕ
 signature_line n k m b ls text (lines.Signature s) is e =
     let o = last (n + 1) (record { key = k; message = m; signature = s }) ls text e in
     let w = is.spells.spells in
+    let ws = is.spells.words ∙ ap (λ args. codes "signature" ∷ args) (w.same ∙ ap (λ args. w.word ∷ args) w.rest) in
     record {
       word = w.word;
       signature = s;
-      line = joined b (line_of (codes "signature" ∷ w.word ∷ [])) (line_of (codes "end" ∷ [])) ls (is.spaced ∙ ap line_of w.same) o.line;
-      spells = w.spells;
-      few = w.few;
+      line = joined b (line_of (codes "signature" ∷ w.word ∷ [])) (line_of (codes "end" ∷ [])) ls (is.spaced ∙ ap line_of ws) o.line;
+      spells = w.is.digits;
+      few = w.is.few;
       answer = o.answer;
     }
 signature_line n k m b ls text lines.Header is e = absurd (let s = is.spells.stands in cc)
@@ -176,13 +178,14 @@ record FromMessage (left : List ℕ) (k : PublicKey) (text : List ℕ) : Type 0 
 message_line : (n : ℕ) (k : PublicKey) (b : List ℕ) (ls : List (List ℕ)) (text : List ℕ) (l : VerifyLine) → IsLine (at n verify.Keyed) b l → answered (behind (at n verify.Keyed) l) (asked_after (asked.Key k) l) ls ≡ trace text None → FromMessage (concat (b ∷ ls)) k text
 message_line n k b ls text (lines.Message m) is e =
     let w = is.spells.spells in
+    let ws = is.spells.words ∙ ap (λ args. codes "message" ∷ args) (w.same ∙ ap (λ args. w.word ∷ args) w.rest) in
     record {
       word = w.word;
       message = m;
       others = concat ls;
-      line = joined b (line_of (codes "message" ∷ w.word ∷ [])) (concat ls) ls (is.spaced ∙ ap line_of w.same) refl;
-      spells = w.spells;
-      few = w.few;
+      line = joined b (line_of (codes "message" ∷ w.word ∷ [])) (concat ls) ls (is.spaced ∙ ap line_of ws) refl;
+      spells = w.is.digits;
+      few = w.is.few;
       rest = from_signature (n + 1) k m ls text e;
     }
 message_line n k b ls text lines.Header is e = absurd (let s = is.spells.stands in cc)
@@ -206,12 +209,13 @@ record FromKey (left text : List ℕ) : Type 0 where
 key_line : (n : ℕ) (b : List ℕ) (ls : List (List ℕ)) (text : List ℕ) (l : VerifyLine) → IsLine (at n verify.Headed) b l → answered (behind (at n verify.Headed) l) (asked_after asked.Nothing l) ls ≡ trace text None → FromKey (concat (b ∷ ls)) text
 key_line n b ls text (lines.Key k) is e =
     let w = is.spells.spells in
+    let ws = is.spells.words ∙ ap (λ args. codes "key" ∷ args) (w.same ∙ ap (λ args. w.word ∷ args) w.rest) in
     record {
       word = w.word;
       key = k;
       others = concat ls;
-      line = joined b (line_of (codes "key" ∷ w.word ∷ [])) (concat ls) ls (is.spaced ∙ ap line_of w.same) refl;
-      spells = w.spells;
+      line = joined b (line_of (codes "key" ∷ w.word ∷ [])) (concat ls) ls (is.spaced ∙ ap line_of ws) refl;
+      spells = subst (SpellsBytes w.word) w.is.are.spelled w.is.digits;
       rest = from_message (n + 1) k ls text e;
     }
 key_line n b ls text lines.Header is e = absurd (let s = is.spells.stands in cc)
@@ -233,7 +237,7 @@ header_line : (n : ℕ) (b : List ℕ) (ls : List (List ℕ)) (text : List ℕ) 
 header_line n b ls text lines.Header is e =
     record {
       others = concat ls;
-      line = joined b (line_of (codes "fireflies" ∷ codes "1" ∷ codes "verify" ∷ [])) (concat ls) ls (is.spaced ∙ ap line_of is.spells.spells) refl;
+      line = joined b (line_of (codes "fireflies" ∷ codes "1" ∷ codes "verify" ∷ [])) (concat ls) ls (is.spaced ∙ ap line_of is.spells.words) refl;
       rest = from_key (n + 1) ls text e;
     }
 header_line n b ls text (lines.Key j) is e = absurd (let s = is.spells.stands in cc)
@@ -280,10 +284,10 @@ asks_this lines bytes text whole e =
       good = subst (λ (t : List ℕ). (t ≡ codes "signature good" ++ 10 ∷ []) ↔ Verifies q.key q.message q.signature) (sym s.answer) (answer-good q (signature_below s.word s.signature s.spells));
     }
 
-abbrev Asks : Owed BadWord → Type 0
+abbrev Asks : Continuation BadWord → Type 0
 Asks f = f ≡ verified
 
-finished : (was now : Standing) → Finished BadWord Asks text_lines was now → IsAnswered was now
+finished : (was now : IoState) → Finished BadWord Asks text_lines was now → IsAnswered was now
 finished was now f = record {
   text = f.bytes;
   answer = f.text;
@@ -299,7 +303,7 @@ nothing_more [] (b ∷ more) count none short = cc
 nothing_more (a ∷ text) (b ∷ more) count none short = cc
 
 -- A write can fail at the end of the text alone.
-cut : (was now : Standing) (lines : List (List ℕ)) (bytes : List ℕ) (last : Option (List ℕ)) (text more : List ℕ) (count : ℕ) → AreWhole lines bytes → Consumes was.left now.left (bytes ++ bytes_of last) → IsLast last now.left → text ≡ [] → Follows BadWord Asks lines last (text ++ more) → count < length more
+cut : (was now : IoState) (lines : List (List ℕ)) (bytes : List ℕ) (last : Option (List ℕ)) (text more : List ℕ) (count : ℕ) → AreWhole lines bytes → Consumes was.left now.left (bytes ++ bytes_of last) → IsLast last now.left → text ≡ [] → Follows BadWord Asks lines last (text ++ more) → count < length more
     → Appends was.taken now.taken (text ++ take count more) → IsCutShort was now
 cut was now lines bytes (Some line) text more count whole read stands none follows short wrote =
     absurd (nothing_more text more count (written_silent (lines ++ line ∷ []) (text ++ more) follows.1) short)
@@ -314,13 +318,13 @@ cut was now lines bytes None text more count whole read stands none follows shor
   wrote = subst (λ (t : List ℕ). Appends was.taken now.taken (t ++ take count more)) none wrote;
 }
 
-starved : (was now : Standing) → Starved BadWord Every Asks text_lines was now → Appends was.taken now.taken []
+starved : (was now : IoState) → Starved BadWord Every Asks text_lines was now → Appends was.taken now.taken []
 starved was now h = nothing_written was.taken now.taken h.text h.wrote (written_silent h.lines h.text h.writes)
 
-unmoved : (was now : Standing) → now ≡ was → Appends was.taken now.taken []
-unmoved was now same = subst (λ (s : Standing). Appends was.taken s.taken []) (sym same) (Appends-nil was.taken)
+unmoved : (was now : IoState) → now ≡ was → Appends was.taken now.taken []
+unmoved was now same = subst (λ (s : IoState). Appends was.taken s.taken []) (sym same) (Appends-nil was.taken)
 
-pub run-brings : (was now : Standing) (result : Result (Unit {0}) (Stop BadWord)) → Runs BadWord Every Asks text_lines was now result → Brings was now result
+pub run-brings : (was now : IoState) (result : Result (Unit {0}) (Stop BadWord)) → Runs BadWord Every Asks text_lines was now result → Brings was now result
 run-brings was now (Ok x) h = finished was now h
 run-brings was now (Err (stop.Refused line w)) h = nothing_written was.taken now.taken h.text h.wrote (refused_silent h.lines h.last h.text w h.refuses)
 run-brings was now (Err stop.ReadFault) h = nothing_written was.taken now.taken h.text h.wrote (written_silent h.lines h.text h.writes)

@@ -7,7 +7,7 @@ use Rattle.line_text.specs.declared.bad_word.LineFault.TheVariants as faults
 use Rattle.line_text.specs.Answers.{Progress}
 use Rattle.play.specs.declared.script.Refusal.{Refusal}
 use Rattle.play.specs.declared.script.Refusal.TheVariants as refusal
-use Rattle.text_trace.specs.Trace.{Owed, Trace}
+use Rattle.text_trace.specs.Trace.{Continuation, Trace}
 use Rattle.verify_text.specs.declared.line.VerifyLine.{VerifyLine}
 use Rattle.verify_text.specs.declared.question.Asked.{Asked}
 use Rattle.verify_text.specs.declared.question.Asked.TheVariants as asked
@@ -45,5 +45,5 @@ answered p a [] = at_end (is_ended p.form) a
 answered p a (bytes ∷ lines) = from_judged (judge p bytes) (λ line. answered (behind p line) (asked_after a line) lines)
 
 -- What is owed for the lines of a whole text.
-abbrev pub verified : Owed BadWord
+abbrev pub verified : Continuation BadWord
 verified = answered opening asked.Nothing

@@ -4,7 +4,7 @@ use Rattle.line_text.specs.declared.bad_word.BadWord.{BadWord}
 use Rattle.line_text.specs.Answers.{Progress, next_line}
 use Rattle.line_text.proofs.FrameLemmas.{empty_fault, judge-empty, judge-spelled, line-unfed}
 use Rattle.text_trace.specs.Lines.{has_no_feed}
-use Rattle.text_trace.specs.Trace.{IsUnrefused, Owed, Trace, Waits}
+use Rattle.text_trace.specs.Trace.{IsUnrefused, Continuation, Trace, Waits}
 use Rattle.text_trace.proofs.TraceLemmas.{waits-same}
 use Rattle.verify_text.specs.declared.line.VerifyLine.{VerifyLine}
 use Rattle.verify_text.specs.declared.question.Asked.{Asked}
@@ -53,5 +53,5 @@ answered-unrefused p a = λ w any all.
     apart (is_ended p.form) a w (all []) (sym empty ∙ all ([] ∷ []))
 
 -- Nothing is written for a line that isn't ended, and the text isn't refused before it.
-pub answered-waits : (p : Progress Verify) (a : Asked) (f : Owed BadWord) → f ≡ answered p a → Waits BadWord f
+pub answered-waits : (p : Progress Verify) (a : Asked) (f : Continuation BadWord) → f ≡ answered p a → Waits BadWord f
 answered-waits p a f e = waits-same BadWord f (answered p a) e (record { silent = λ bytes rest clear. unfed-silent [] p a bytes rest clear; unrefused = answered-unrefused p a })

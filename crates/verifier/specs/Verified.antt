@@ -4,13 +4,13 @@ use Rattle.std.specs.Io.KnownBytes.{Appends, Consumes}
 use Rattle.std.specs.List.{join_with_byte}
 use Rattle.line_text.specs.declared.bad_word.BadWord.{BadWord}
 use Rattle.line_text.specs.Digits.{SpellsBytes}
+use Rattle.line_text.specs.Spellings.{SpellsOrDash}
 use Rattle.lms_tree.specs.Lms.{Verifies, key_bytes}
-use Rattle.play.specs.Plays.{Standing}
+use Rattle.play.specs.Plays.{IoState}
 use Rattle.play.specs.declared.stop.Stop.{Stop}
 use Rattle.play.specs.declared.stop.Stop.TheVariants as stop
 use Rattle.ports.specs.Contents.{IsUsedUp}
 use Rattle.verify_text.specs.declared.question.Question.{Question}
-use Rattle.verify_text.specs.Grammar.{SpellsOrDash}
 use Rattle.verify_text.specs.Rows.{message_bytes, signature_bytes}
 
 -- a line of these words
@@ -41,7 +41,7 @@ pub record IsAnswer (text answer : List ℕ) : Type 0 where
   pub good : (answer ≡ codes "signature good" ++ 10 ∷ []) ↔ Verifies question.key question.message question.signature
 
 -- The whole text was taken, and its answer was written.
-pub record IsAnswered (was now : Standing) : Type 0 where
+pub record IsAnswered (was now : IoState) : Type 0 where
   pub text : List ℕ
   pub answer : List ℕ
   pub read : Consumes was.left now.left text
@@ -50,7 +50,7 @@ pub record IsAnswered (was now : Standing) : Type 0 where
   pub wrote : Appends was.taken now.taken answer
 
 -- The whole text was taken, and of its answer a front was written, and not all.
-pub record IsCutShort (was now : Standing) : Type 0 where
+pub record IsCutShort (was now : IoState) : Type 0 where
   pub text : List ℕ
   pub answer : List ℕ
   pub count : ℕ
@@ -61,7 +61,7 @@ pub record IsCutShort (was now : Standing) : Type 0 where
   pub wrote : Appends was.taken now.taken (take count answer)
 
 -- What a run brings: the answer; a front of it, where a write failed; or nothing.
-abbrev pub Brings : Standing → Standing → Result (Unit {0}) (Stop BadWord) → Type 0
+abbrev pub Brings : IoState → IoState → Result (Unit {0}) (Stop BadWord) → Type 0
 Brings was now (Ok _) = IsAnswered was now
 Brings was now (Err (stop.Refused line w)) = Appends was.taken now.taken []
 Brings was now (Err stop.ReadFault) = Appends was.taken now.taken []

@@ -3,7 +3,7 @@
 ghost use Rattle.std.specs.Prelude.{◌≡◌, true};
 ghost use Rattle.text_trace.specs.Lines.{text_lines};
 ghost use Rattle.text_trace.specs.Trace.{Every};
-ghost use Rattle.play.specs.Plays.{Runs, has_written, standing};
+ghost use Rattle.play.specs.Plays.{Runs, has_written, io};
 ghost use Rattle.verifier.specs.Answered.{verified};
 ghost use Rattle.verifier.specs.Verified.{Brings};
 
@@ -20,15 +20,15 @@ pub fn verify_input<S: Source, O: Sink>(
     input: &mut S,
     out: &mut O,
 ) -> Result<(), Stop<BadWord>>
-    requires source { S.is_open input.old ≡ true }
-    requires sink { O.is_open out.old ≡ true }
-    ensures sink { O.is_open out.new ≡ has_written result }
+    requires source { (S.state input.old).is_open ≡ true }
+    requires sink { (O.state out.old).is_open ≡ true }
+    ensures sink { (O.state out.new).is_open ≡ has_written result }
     ensures runs { Runs BadWord Every (λ f. f ≡ verified) text_lines
-        (standing (S.left input.old) (O.taken out.old) (S.faults input.old) (O.faults out.old))
-        (standing (S.left input.new) (O.taken out.new) (S.faults input.new) (O.faults out.new)) result }
+        (io (S.state input.old) (O.state out.old))
+        (io (S.state input.new) (O.state out.new)) result }
     ensures brings { Brings
-        (standing (S.left input.old) (O.taken out.old) (S.faults input.old) (O.faults out.old))
-        (standing (S.left input.new) (O.taken out.new) (S.faults input.new) (O.faults out.new)) result }
+        (io (S.state input.old) (O.state out.old))
+        (io (S.state input.new) (O.state out.new)) result }
 {
     let mut verifier = Verifier::open();
     play(alloc, &mut verifier, input, out)

@@ -2,7 +2,7 @@
 
 ghost use Rattle.std.specs.Prelude.{◌≡◌, ◌-◌, ◌+◌};
 ghost use Rattle.text_trace.specs.Lines.{text_lines};
-ghost use Rattle.text_trace.specs.Trace.{Every, Owed};
+ghost use Rattle.text_trace.specs.Trace.{Every, Continuation};
 ghost use Rattle.verifier.specs.Answered.{answered, refusal_of};
 
 use line_text::{BadWord, LineFault, Reader};

@@ -1,19 +1,24 @@
--- The rows of the text that asks whether a signature is good: each line word, where its line may stand, what the
--- word behind it must be, and what line they are.
-use Rattle.std.specs.Prelude.{ℕ, Bool, true, false, is_ok, if◌then◌else◌, List, [], ◌∷◌, Option, Result, Ok, Err, codes}
-use Rattle.lms_tree.specs.declared.kind.KeyFault.{KeyFault}
+-- The table of the text that asks whether a signature is good: each line word, where its line may stand, what the word
+-- behind it must be, and what line they are.
+use Rattle.std.specs.Prelude.{ℕ, Bool, true, false, List, [], ◌∷◌, Option, Result, codes}
+use Rattle.lms_ots.specs.declared.kind.OtsKind.TheVariants.{W1}
 use Rattle.lms_tree.specs.declared.key.PublicKey.{PublicKey}
+use Rattle.lms_tree.specs.declared.kind.TreeKind.TheVariants.{H5}
 use Rattle.lms_tree.specs.Lms.{key_in}
 use Rattle.line_text.specs.declared.bad_word.BadWord.{BadWord}
 use Rattle.line_text.specs.declared.bad_word.BadWord.TheVariants as bad
-use Rattle.line_text.specs.Fields.{Field, bytes_in, hex_of, hex_that, hex_up_to, or_nothing}
-use Rattle.line_text.specs.Frame.{Row, first_word, header_row, is_header, known_row, word_among}
+use Rattle.line_text.specs.Fields.{Test}
+use Rattle.line_text.specs.Frame.{Row, word_among}
+use Rattle.line_text.specs.Shapes.{◌and◌, Field, Fields, Makes, bytes_as, bytes_up_to, line_from, no_more, tests}
+use Rattle.line_text.specs.Tables as table
+use Rattle.line_text.specs.Tables.{Header, Line, Parts, Table}
 use Rattle.verify_text.specs.declared.line.LineWord.{LineWord}
 use Rattle.verify_text.specs.declared.line.LineWord.TheVariants as words
 use Rattle.verify_text.specs.declared.line.VerifyLine.{VerifyLine}
 use Rattle.verify_text.specs.declared.line.VerifyLine.TheVariants as lines
 use Rattle.verify_text.specs.declared.verify.Verify.{Verify}
 use Rattle.verify_text.specs.declared.verify.Verify.TheVariants as verify
+use Rattle.verify_text.specs.Keys.{AreKey, key-again, key-are}
 
 abbrev pub is_start : Verify → Bool
 is_start verify.Start = true
@@ -31,9 +36,12 @@ may_stand verify.Worded words.Signature = true
 may_stand verify.Signed words.End = true
 may_stand _ _ = false
 
--- the bytes of a key, with the types of its two kinds
+-- a key in 56 bytes; where a word has none, this one stands for it, and the word is refused
+abbrev pub any_key : PublicKey
+any_key = record { tree = H5; ots = W1; id = []; root = [] }
+
 abbrev pub key : Field
-key word = hex_that (λ bytes. is_ok (key_in bytes)) word
+key = bytes_as key_in any_key AreKey key-are key-again
 
 -- how many bytes a message may have
 abbrev pub message_bytes : ℕ
@@ -43,22 +51,24 @@ message_bytes = 16384
 abbrev pub signature_bytes : ℕ
 signature_bytes = 10000
 
-abbrev pub fields_of : LineWord → List Field
-fields_of words.Key = key ∷ []
-fields_of words.Message = hex_up_to message_bytes ∷ []
-fields_of words.Signature = hex_up_to signature_bytes ∷ []
-fields_of words.End = []
+abbrev pub fields : LineWord → Fields
+fields words.Key = key and no_more
+fields words.Message = bytes_up_to message_bytes and no_more
+fields words.Signature = bytes_up_to signature_bytes and no_more
+fields words.End = no_more
 
--- the line of a key; bytes that are none are refused before
-abbrev pub key_or_end : Result PublicKey KeyFault → VerifyLine
-key_or_end (Ok k) = lines.Key k
-key_or_end (Err fault) = lines.End
+abbrev pub line : (word : LineWord) → Makes (fields word) VerifyLine
+line words.Key = λ k. lines.Key k
+line words.Message = λ message. lines.Message message
+line words.Signature = λ signature. lines.Signature signature
+line words.End = lines.End
 
-abbrev pub line_of : LineWord → List (List ℕ) → VerifyLine
-line_of words.Key args = key_or_end (key_in (or_nothing (hex_of (first_word args))))
-line_of words.Message args = lines.Message (bytes_in (first_word args))
-line_of words.Signature args = lines.Signature (bytes_in (first_word args))
-line_of words.End args = lines.End
+abbrev pub parts : VerifyLine → Parts LineWord fields
+parts lines.Header = Header
+parts (lines.Key k) = Line words.Key (k, tt)
+parts (lines.Message message) = Line words.Message (message, tt)
+parts (lines.Signature signature) = Line words.Signature (signature, tt)
+parts lines.End = Line words.End tt
 
 abbrev pub word_text : LineWord → List ℕ
 word_text words.Key = codes "key"
@@ -69,18 +79,38 @@ word_text words.End = codes "end"
 abbrev pub line_words : List LineWord
 line_words = words.Key ∷ words.Message ∷ words.Signature ∷ words.End ∷ []
 
+abbrev pub verify_table : Table Verify LineWord VerifyLine
+verify_table = record {
+  is_start = is_start;
+  form = codes "verify";
+  header = lines.Header;
+  no_header = λ ws. bad.Header;
+  words = line_words;
+  text = word_text;
+  may_stand = may_stand;
+  fields = λ v. fields;
+  line = λ v. line;
+  parts = λ v. parts;
+}
+
+-- ## As it is read
+
 -- the line word that a word is
 abbrev pub line_word : List ℕ → Option LineWord
 line_word word = word_among word_text line_words word
 
-abbrev pub row_of : Verify → LineWord → Row VerifyLine
-row_of v word = record { stands = may_stand v word; fields = fields_of word; line = line_of word }
+abbrev pub fields_of : LineWord → List Test
+fields_of word = tests (fields word)
+
+abbrev pub line_of : LineWord → List (List ℕ) → VerifyLine
+line_of words.End args = lines.End
+line_of word args = line_from (fields word) (line word) args
 
 abbrev pub start_row : List (List ℕ) → Result (Row VerifyLine) BadWord
-start_row ws = if is_header (codes "verify") ws then Ok (header_row lines.Header) else Err bad.Header
+start_row ws = table.start_row verify_table ws
 
 abbrev pub row_for : Verify → List (List ℕ) → Result (Row VerifyLine) BadWord
-row_for v ws = if is_start v then start_row ws else known_row (row_of v) (line_word (first_word ws))
+row_for v ws = table.row_for verify_table v ws
 
 -- Only bytes take memory.
 abbrev pub TakesMemory : VerifyLine → Type 0

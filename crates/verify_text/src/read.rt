@@ -57,7 +57,9 @@ pub(crate) fn key_line(args: Words) -> Result<VerifyLine, BadWord>
 }
 
 pub(crate) fn message_line(alloc: Global, args: Words) -> Result<VerifyLine, LineFault>
-    ensures { AnswersBy TakesMemory (fields_line (fields_of LineWord.Message) (line_of LineWord.Message) args.entry) result }
+    ensures { AnswersBy TakesMemory
+        (fields_line (fields_of LineWord.Message) (line_of LineWord.Message) args.entry)
+        result }
 {
     let mut args = args.exactly(1)?;
     let bytes = args.bytes_up_to(alloc, MESSAGE)?;
@@ -65,7 +67,9 @@ pub(crate) fn message_line(alloc: Global, args: Words) -> Result<VerifyLine, Lin
 }
 
 pub(crate) fn signature_line(alloc: Global, args: Words) -> Result<VerifyLine, LineFault>
-    ensures { AnswersBy TakesMemory (fields_line (fields_of LineWord.Signature) (line_of LineWord.Signature) args.entry) result }
+    ensures { AnswersBy TakesMemory
+        (fields_line (fields_of LineWord.Signature) (line_of LineWord.Signature) args.entry)
+        result }
 {
     let mut args = args.exactly(1)?;
     let bytes = args.bytes_up_to(alloc, SIGNATURE)?;

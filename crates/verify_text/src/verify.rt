@@ -49,7 +49,8 @@ fn may_stand(verify: Verify, word: LineWord) -> bool
 
 /// The line of this line word.
 fn line_of(alloc: Global, word: LineWord, args: Words) -> Result<VerifyLine, LineFault>
-    ensures { AnswersBy TakesMemory (fields_line (fields_of word) (line_of word) args.entry) result }
+    ensures { AnswersBy TakesMemory (fields_line (fields_of word) (line_of word) args.entry)
+        result }
 {
     match word {
         LineWord::Key => Ok(key_line(args)?),

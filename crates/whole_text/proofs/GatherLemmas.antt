@@ -9,7 +9,7 @@ use Rattle.play.specs.Answers.{AnswersLine}
 use Rattle.play.specs.declared.script.Refusal.{Refusal}
 use Rattle.play.specs.declared.script.Refusal.TheVariants as refusal
 use Rattle.text_trace.specs.Lines.{has_line_feed}
-use Rattle.text_trace.specs.Trace.{Admits, before, Every, Owed, Refuses, Steps, Trace}
+use Rattle.text_trace.specs.Trace.{Admits, before, Every, Continuation, Refuses, Steps, Trace}
 use Rattle.text_trace.proofs.TraceLemmas.{free-as}
 use Rattle.whole_text.specs.Gathered.{Judging, Leads, behind_these, judged_then, lines_from, nothing, owed_from, told_of}
 use Rattle.whole_text.specs.Laws.{owed-unrefused}
@@ -25,9 +25,9 @@ silent-behind : {L : Type 0} (l : L) (r : Result (List L) BadWord) → told_of n
 silent-behind l (Ok lines) = refl
 silent-behind l (Err w) = refl
 
-owed-one : {F L : Type 0} (j : Judging F L) (p : Progress F) (bytes : List ℕ) (l : L) (f : Owed BadWord) → f ≡ owed_from j p nothing → judged_at j p bytes ≡ Ok l → (rest : List (List ℕ)) → f (bytes ∷ rest) ≡ before [] (owed_from j (moved j.after p l) nothing rest)
+owed-one : {F L : Type 0} (j : Judging F L) (p : Progress F) (bytes : List ℕ) (l : L) (f : Continuation BadWord) → f ≡ owed_from j p nothing → judged_at j p bytes ≡ Ok l → (rest : List (List ℕ)) → f (bytes ∷ rest) ≡ before [] (owed_from j (moved j.after p l) nothing rest)
 owed-one j p bytes l f same is rest =
-    ap (λ (g : Owed BadWord). g (bytes ∷ rest)) same ∙ ap (told_of nothing) (one-line j p bytes (Ok l) rest is) ∙ silent-behind l (lines_from j (moved j.after p l) rest)
+    ap (λ (g : Continuation BadWord). g (bytes ∷ rest)) same ∙ ap (told_of nothing) (one-line j p bytes (Ok l) rest is) ∙ silent-behind l (lines_from j (moved j.after p l) rest)
 
 -- a line that is one
 pub steps-one : {F L : Type 0} (j : Judging F L) (p q : Progress F) (bytes : List ℕ) (l : L) → judged_at j p bytes ≡ Ok l → q ≡ moved j.after p l → Steps BadWord (λ f. f ≡ owed_from j p nothing) (λ f. f ≡ owed_from j q nothing) (bytes ∷ []) []
@@ -48,7 +48,7 @@ leads-one j p q known later bytes l is to grew =
 -- a line that is refused
 pub refused-one : {F L : Type 0} (j : Judging F L) (p : Progress F) (bytes : List ℕ) (w : BadWord) → judged_at j p bytes ≡ Err w → Refuses BadWord (λ f. f ≡ owed_from j p nothing) [] (Some bytes) [] w
 refused-one j p bytes w is = λ f same rest.
-    ap (λ (g : Owed BadWord). g (bytes ∷ rest)) same ∙ ap (told_of nothing) (one-line j p bytes (Err w) rest is)
+    ap (λ (g : Continuation BadWord). g (bytes ∷ rest)) same ∙ ap (told_of nothing) (one-line j p bytes (Err w) rest is)
 
 admits-one : {F L : Type 0} (j : Judging F L) (p : Progress F) (bytes : List ℕ) (l : L) → judged_at j p bytes ≡ Ok l → Admits BadWord Every (λ f. f ≡ owed_from j p nothing) [] (Some bytes)
 admits-one j p bytes l is = λ f same.

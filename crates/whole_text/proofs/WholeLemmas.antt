@@ -7,9 +7,9 @@ use Rattle.line_text.specs.Answers.{Progress, moved}
 use Rattle.line_text.proofs.FrameLemmas.{line-unfed}
 use Rattle.play.specs.declared.stop.Stop.{Stop}
 use Rattle.play.specs.declared.stop.Stop.TheVariants as stop
-use Rattle.play.specs.Plays.{Came, Follows, IsAdmitted, Runs, Standing, Starved, Unwritten, has_written}
+use Rattle.play.specs.Plays.{ConsumedLines, Follows, IoState, IsAdmitted, Runs, Starved, Unwritten, has_written}
 use Rattle.text_trace.specs.Lines.{has_no_feed, text_lines}
-use Rattle.text_trace.specs.Trace.{Admits, before, Every, Owed, Refuses, Trace, Writes}
+use Rattle.text_trace.specs.Trace.{Admits, before, Every, Continuation, Refuses, Trace, Writes}
 use Rattle.text_trace.proofs.TraceLemmas.{free-as}
 use Rattle.whole_text.specs.Gathered.{IsUnfinished, IsWhole, Judging, Leads, behind_these, judged_then, lines_from, nothing, owed_from, owed_whole, told_of, unread}
 use Rattle.whole_text.specs.Laws.{told-silent}
@@ -46,8 +46,8 @@ of-none (Err v) = refl
 text-none : {L : Type 0} (r : Result (List L) BadWord) (text : List ℕ) (cause : Option BadWord) → told_of nothing r ≡ record { output = text; cause = cause } → text ≡ []
 text-none r text cause is = sym (ap output_of is) ∙ told-silent r
 
-pub whole : {F L : Type 0} (j : Judging F L) (form : F) (p q : Progress F) (known lines : List L) (later : ℕ) (was now : Standing)
-    → p ≡ unread form → known ≡ [] → Came (λ taken. Leads j p known taken q lines) (text_lines + 1 - p.number) later was.left now.left → Admits BadWord Every (λ f. f ≡ owed_from j q nothing) [] None
+pub whole : {F L : Type 0} (j : Judging F L) (form : F) (p q : Progress F) (known lines : List L) (later : ℕ) (was now : IoState)
+    → p ≡ unread form → known ≡ [] → ConsumedLines (λ taken. Leads j p known taken q lines) (text_lines + 1 - p.number) later was.left now.left → Admits BadWord Every (λ f. f ≡ owed_from j q nothing) [] None
     → Runs BadWord Every (λ f. f ≡ owed_from j p nothing) (text_lines + 1 - p.number) was now (Ok tt) → IsWhole j form was now lines
 whole j form p q known lines later was now start none came ended finished =
     let first : p.number ≡ 1 = ap (λ x. x.number) start in
@@ -76,9 +76,9 @@ refused-told tell (Err v) text w is = is
 
 refuses-told : {F L : Type 0} (j : Judging F L) (form : F) (tell : List L → List ℕ) (lines : List (List ℕ)) (last : Option (List ℕ)) (text : List ℕ) (w : BadWord) → Refuses BadWord (λ f. f ≡ owed_whole j form nothing) lines last text w → Refuses BadWord (λ f. f ≡ owed_whole j form tell) lines last text w
 refuses-told j form tell lines (Some line) text w refuses = λ f same rest.
-    ap (λ (g : Owed BadWord). g (lines ++ line ∷ rest)) same ∙ refused-told tell (lines_from j (unread form) (lines ++ line ∷ rest)) text w (refuses (owed_whole j form nothing) refl rest)
+    ap (λ (g : Continuation BadWord). g (lines ++ line ∷ rest)) same ∙ refused-told tell (lines_from j (unread form) (lines ++ line ∷ rest)) text w (refuses (owed_whole j form nothing) refl rest)
 refuses-told j form tell lines None text w refuses = λ f same.
-    ap (λ (g : Owed BadWord). g lines) same ∙ refused-told tell (lines_from j (unread form) lines) text w (refuses (owed_whole j form nothing) refl)
+    ap (λ (g : Continuation BadWord). g lines) same ∙ refused-told tell (lines_from j (unread form) lines) text w (refuses (owed_whole j form nothing) refl)
 
 same-cause : {L : Type 0} (tell : List L → List ℕ) (r : Result (List L) BadWord) → (told_of tell r).cause ≡ (told_of nothing r).cause
 same-cause tell (Ok lines) = refl
@@ -112,11 +112,11 @@ writes-told j Spells spelled form tell lines text writes = λ f same.
     let goes = writes (owed_whole j form nothing) refl in
     let none : text ≡ [] = no-front text (goes.later []).output (sym (ap output_of (goes.same [])) ∙ told-silent (lines_from j (unread form) (lines ++ []))) in
     let cause : (rest : List (List ℕ)) → (f (lines ++ rest)).cause ≡ (goes.later rest).cause = λ rest.
-    ap (λ (g : Owed BadWord). (g (lines ++ rest)).cause) same ∙ same-cause tell (lines_from j (unread form) (lines ++ rest)) ∙ ap cause_of (goes.same rest) in
+    ap (λ (g : Continuation BadWord). (g (lines ++ rest)).cause) same ∙ same-cause tell (lines_from j (unread form) (lines ++ rest)) ∙ ap cause_of (goes.same rest) in
     record {
       later = λ rest. f (lines ++ rest);
       owes = record {
-        silent = λ line rest clear. ap (λ (g : Owed BadWord). (g (lines ++ line ∷ rest)).output) same ∙ told-refused tell (lines_from j (unread form) (lines ++ line ∷ rest)) (unfed-refused j Spells spelled lines (unread form) line rest clear);
+        silent = λ line rest clear. ap (λ (g : Continuation BadWord). (g (lines ++ line ∷ rest)).output) same ∙ told-refused tell (lines_from j (unread form) (lines ++ line ∷ rest)) (unfed-refused j Spells spelled lines (unread form) line rest clear);
         unrefused = free-as BadWord Every (λ rest. f (lines ++ rest)) goes.later cause goes.owes.unrefused;
       };
       same = λ rest. ap (λ (t : List ℕ). before t (f (lines ++ rest))) (sym none);
@@ -127,15 +127,15 @@ admitted-told j form tell lines (Some line) left is = (
   is.0,
   λ f same.
       free-as BadWord Every (λ rest. f (lines ++ line ∷ rest)) (λ rest. owed_whole j form nothing (lines ++ line ∷ rest))
-      (λ rest. ap (λ (g : Owed BadWord). (g (lines ++ line ∷ rest)).cause) same ∙ same-cause tell (lines_from j (unread form) (lines ++ line ∷ rest)))
+      (λ rest. ap (λ (g : Continuation BadWord). (g (lines ++ line ∷ rest)).cause) same ∙ same-cause tell (lines_from j (unread form) (lines ++ line ∷ rest)))
       (is.1 (owed_whole j form nothing) refl),
 )
 admitted-told j form tell lines None left is = (
   is.0,
-  λ f same. ap (λ (g : Owed BadWord). (g lines).cause) same ∙ same-cause tell (lines_from j (unread form) lines) ∙ is.1 (owed_whole j form nothing) refl,
+  λ f same. ap (λ (g : Continuation BadWord). (g lines).cause) same ∙ same-cause tell (lines_from j (unread form) lines) ∙ is.1 (owed_whole j form nothing) refl,
 )
 
-starved-told : {F L : Type 0} (j : Judging F L) (Spells : F → List (List ℕ) → L → Type 0) (spelled : Spelled j Spells) (form : F) (tell : List L → List ℕ) (was now : Standing) → Starved BadWord Every (λ f. f ≡ owed_whole j form nothing) text_lines was now → Starved BadWord Every (λ f. f ≡ owed_whole j form tell) text_lines was now
+starved-told : {F L : Type 0} (j : Judging F L) (Spells : F → List (List ℕ) → L → Type 0) (spelled : Spelled j Spells) (form : F) (tell : List L → List ℕ) (was now : IoState) → Starved BadWord Every (λ f. f ≡ owed_whole j form nothing) text_lines was now → Starved BadWord Every (λ f. f ≡ owed_whole j form tell) text_lines was now
 starved-told j Spells spelled form tell was now h = record {
   lines = h.lines;
   bytes = h.bytes;
@@ -156,14 +156,14 @@ follows-none j form lines (Some line) text h =
 follows-none j form lines None text h = text-none (lines_from j (unread form) lines) text None (h (owed_whole j form nothing) refl)
 
 -- nothing is written, so that no write fails
-pub never-unwritten : {F L : Type 0} (j : Judging F L) (form : F) (was now : Standing) → Unwritten BadWord (λ f. f ≡ owed_whole j form nothing) text_lines was now → ⊥
+pub never-unwritten : {F L : Type 0} (j : Judging F L) (form : F) (was now : IoState) → Unwritten BadWord (λ f. f ≡ owed_whole j form nothing) text_lines was now → ⊥
 never-unwritten j form was now h =
     let none : h.more ≡ [] = no-back h.text h.more (follows-none j form h.lines h.last (h.text ++ h.more) h.follows) in
     let few : h.count < length h.more = h.short in
     let zero : length h.more ≡ 0 = ap length none in
     omega arith
 
-unfinished-from : {F L : Type 0} (j : Judging F L) (Spells : F → List (List ℕ) → L → Type 0) (spelled : Spelled j Spells) (form : F) (was now : Standing) (s : Stop BadWord) → Runs BadWord Every (λ f. f ≡ owed_whole j form nothing) text_lines was now (Err s) → IsUnfinished j form was now s
+unfinished-from : {F L : Type 0} (j : Judging F L) (Spells : F → List (List ℕ) → L → Type 0) (spelled : Spelled j Spells) (form : F) (was now : IoState) (s : Stop BadWord) → Runs BadWord Every (λ f. f ≡ owed_whole j form nothing) text_lines was now (Err s) → IsUnfinished j form was now s
 unfinished-from j Spells spelled form was now (stop.Refused line cause) h = λ tell. record {
   lines = h.lines;
   bytes = h.bytes;
@@ -194,12 +194,12 @@ unfinished-from j Spells spelled form was now stop.ReadFault h = λ tell. record
 unfinished-from j Spells spelled form was now stop.WriteFault h = absurd (never-unwritten j form was now h)
 unfinished-from j Spells spelled form was now stop.OutOfMemory h = λ tell. elim h [ inl same ↦ inl same | inr starved ↦ inr (starved-told j Spells spelled form tell was now starved) ]
 
-pub unfinished : {F L : Type 0} (j : Judging F L) (Spells : F → List (List ℕ) → L → Type 0) (spelled : Spelled j Spells) (form : F) (p : Progress F) (was now : Standing) (s : Stop BadWord) → p ≡ unread form → Runs BadWord Every (λ f. f ≡ owed_from j p nothing) (text_lines + 1 - p.number) was now (Err s) → IsUnfinished j form was now s
+pub unfinished : {F L : Type 0} (j : Judging F L) (Spells : F → List (List ℕ) → L → Type 0) (spelled : Spelled j Spells) (form : F) (p : Progress F) (was now : IoState) (s : Stop BadWord) → p ≡ unread form → Runs BadWord Every (λ f. f ≡ owed_from j p nothing) (text_lines + 1 - p.number) was now (Err s) → IsUnfinished j form was now s
 unfinished j Spells spelled form p was now s start h =
     unfinished-from j Spells spelled form was now s (subst (λ x. Runs BadWord Every (λ f. f ≡ owed_from j x nothing) (text_lines + 1 - x.number) was now (Err s)) start h)
 
 -- the sink may be written to
-pub writable : {F L : Type 0} (j : Judging F L) (form : F) (p : Progress F) (was now : Standing) (r : Result (Unit {0}) (Stop BadWord)) → p ≡ unread form → Runs BadWord Every (λ f. f ≡ owed_from j p nothing) (text_lines + 1 - p.number) was now r → has_written r ≡ true
+pub writable : {F L : Type 0} (j : Judging F L) (form : F) (p : Progress F) (was now : IoState) (r : Result (Unit {0}) (Stop BadWord)) → p ≡ unread form → Runs BadWord Every (λ f. f ≡ owed_from j p nothing) (text_lines + 1 - p.number) was now r → has_written r ≡ true
 writable j form p was now (Ok _) start h = refl
 writable j form p was now (Err (stop.Refused line cause)) start h = refl
 writable j form p was now (Err stop.ReadFault) start h = refl

@@ -5,11 +5,11 @@ use Rattle.line_text.specs.declared.bad_word.BadWord.{BadWord}
 use Rattle.line_text.specs.declared.bad_word.BadWord.TheVariants as bad
 use Rattle.line_text.specs.Answers.{Progress, moved, next_line}
 use Rattle.line_text.specs.Frame.{Row, judge}
-use Rattle.play.specs.Plays.{Lines, Standing, StopsRun, Unfailed}
+use Rattle.play.specs.Plays.{IoState, Lines, StopsRun, Unfailed}
 use Rattle.play.specs.declared.stop.Stop.{Stop}
 use Rattle.ports.specs.Contents.{IsUsedUp}
 use Rattle.text_trace.specs.Lines.{text_lines}
-use Rattle.text_trace.specs.Trace.{Every, Owed, Trace}
+use Rattle.text_trace.specs.Trace.{Every, Continuation, Trace}
 
 -- how the lines of a form are judged: whether its last line was read, the row of a line's words, the form behind a line
 pub record Judging (F L : Type 0) : Type 0 where
@@ -41,14 +41,14 @@ told_of tell (Ok lines) = record { output = tell lines; cause = None }
 told_of tell (Err word) = record { output = []; cause = Some word }
 
 -- What is owed from here on: nothing before the end, and there what is told of the lines.
-abbrev pub owed_from : {F L : Type 0} → Judging F L → Progress F → (List L → List ℕ) → Owed BadWord
+abbrev pub owed_from : {F L : Type 0} → Judging F L → Progress F → (List L → List ℕ) → Continuation BadWord
 owed_from j p tell lines = told_of tell (lines_from j p lines)
 
 -- What is owed to a text that begins in this form.
-abbrev pub owed_whole : {F L : Type 0} → Judging F L → F → (List L → List ℕ) → Owed BadWord
+abbrev pub owed_whole : {F L : Type 0} → Judging F L → F → (List L → List ℕ) → Continuation BadWord
 owed_whole j form tell = owed_from j (unread form) tell
 
--- nothing is told
+-- nothing is reported
 abbrev pub nothing : {L : Type 0} → List L → List ℕ
 nothing lines = []
 
@@ -59,7 +59,7 @@ Leads j p known lines q later =
     (rest : List (List ℕ)) → behind_these known (lines_from j p (lines ++ rest)) ≡ behind_these later (lines_from j q rest)
 
 -- The whole text was taken, these are its lines, and nothing was written.
-pub record IsWhole {F L : Type 0} (j : Judging F L) (form : F) (was now : Standing) (lines : List L) : Type 0 where
+pub record IsWhole {F L : Type 0} (j : Judging F L) (form : F) (was now : IoState) (lines : List L) : Type 0 where
   pub seen_lines : List (List ℕ)
   pub bytes : List ℕ
   pub taken : Lines text_lines seen_lines bytes
@@ -70,6 +70,6 @@ pub record IsWhole {F L : Type 0} (j : Judging F L) (form : F) (was now : Standi
   pub unfailed : Unfailed was now
 
 -- The reading stopped before the end of the text, as it would whatever is told of its lines.
-abbrev pub IsUnfinished : {F L : Type 0} → Judging F L → F → Standing → Standing → Stop BadWord → Type 0
+abbrev pub IsUnfinished : {F L : Type 0} → Judging F L → F → IoState → IoState → Stop BadWord → Type 0
 IsUnfinished {L = L} j form was now stop =
     (tell : List L → List ℕ) → StopsRun BadWord Every (λ f. f ≡ owed_whole j form tell) text_lines was now stop

@@ -4,7 +4,7 @@ use Rattle.line_text.specs.declared.bad_word.BadWord.{BadWord}
 use Rattle.line_text.specs.declared.bad_word.BadWord.TheVariants as bad
 use Rattle.line_text.specs.Answers.{Progress, next_line}
 use Rattle.line_text.proofs.FrameLemmas.{empty_fault, judge-empty}
-use Rattle.text_trace.specs.Trace.{IsUnrefused, Owed, Waits}
+use Rattle.text_trace.specs.Trace.{IsUnrefused, Continuation, Waits}
 use Rattle.text_trace.proofs.TraceLemmas.{waits-same}
 use Rattle.whole_text.specs.Gathered.{Judging, Leads, behind_these, judged_then, lines_from, nothing, owed_from, told_of}
 
@@ -28,7 +28,7 @@ owed-unrefused j p tell = λ w any all.
     apart tell (j.is_ended p.form) w (all []) (sym empty ∙ all ([] ∷ []))
 
 -- Nothing is written, and between two lines the text isn't refused.
-pub owed-waits : {F L : Type 0} (j : Judging F L) (p : Progress F) (f : Owed BadWord) → f ≡ owed_from j p nothing → Waits BadWord f
+pub owed-waits : {F L : Type 0} (j : Judging F L) (p : Progress F) (f : Continuation BadWord) → f ≡ owed_from j p nothing → Waits BadWord f
 owed-waits j p f same =
     waits-same BadWord f (owed_from j p nothing) same (record { silent = λ line rest clear. told-silent (lines_from j p (line ∷ rest)); unrefused = owed-unrefused j p nothing })
 

@@ -65,11 +65,15 @@ where
 
     ghost judged = { Every };
 
-    ghost owes = { λ s f. f ≡ owed_from (record { is_ended = F.is_ended; row = F.row_for; after = F.after }) s.reader nothing };
+    ghost owes = { λ s f. f
+        ≡ owed_from (record { is_ended = F.is_ended; row = F.row_for; after = F.after }) s.reader
+        nothing };
 
     ghost room = { λ s. text_lines + 1 - s.reader.number };
 
-    ghost reaches = { λ s lines t. Leads (record { is_ended = F.is_ended; row = F.row_for; after = F.after }) s.reader s.lines.items lines t.reader t.lines.items };
+    ghost reaches = { λ s lines t. Leads
+        (record { is_ended = F.is_ended; row = F.row_for; after = F.after }) s.reader
+        s.lines.items lines t.reader t.lines.items };
 
     fn line(
         &mut self,
@@ -91,9 +95,15 @@ where
         Ok(())
     }
 
-    ghost waits = { λ s f same. owed-waits (record { is_ended = F.is_ended; row = F.row_for; after = F.after }) s.reader f same };
+    ghost waits = { λ s f same. owed-waits
+        (record { is_ended = F.is_ended; row = F.row_for; after = F.after }) s.reader f same };
 
-    ghost reaches_itself = { λ s. leads-itself (record { is_ended = F.is_ended; row = F.row_for; after = F.after }) s.reader s.lines.items };
+    ghost reaches_itself = { λ s. leads-itself
+        (record { is_ended = F.is_ended; row = F.row_for; after = F.after }) s.reader
+        s.lines.items };
 
-    ghost reaches_on = { λ s then later lines others. leads-on (record { is_ended = F.is_ended; row = F.row_for; after = F.after }) s.reader then.reader later.reader s.lines.items then.lines.items later.lines.items lines others };
+    ghost reaches_on = { λ s then later lines others. leads-on
+        (record { is_ended = F.is_ended; row = F.row_for; after = F.after }) s.reader
+        then.reader later.reader s.lines.items then.lines.items later.lines.items lines
+        others };
 }

@@ -1,7 +1,7 @@
 //! The reading of a whole text.
 
 ghost use Rattle.std.specs.Prelude.{◌≡◌, true, IfOk, IfErr};
-ghost use Rattle.play.specs.Plays.{standing};
+ghost use Rattle.play.specs.Plays.{io};
 ghost use Rattle.whole_text.specs.Gathered.{Judging, IsWhole, IsUnfinished};
 
 use crate::gatherer::Gatherer;
@@ -20,15 +20,18 @@ pub fn read_whole<F: Form + Drop, S: Source, O: Sink>(
 where
     F::Line: Drop,
     requires sound { F.is_sound form }
-    requires source { S.is_open input.old ≡ true }
-    requires sink { O.is_open out.old ≡ true }
-    ensures sink { O.is_open out.new ≡ true }
-    ensures whole { IfOk result (λ lines. IsWhole (record { is_ended = F.is_ended; row = F.row_for; after = F.after }) form
-        (standing (S.left input.old) (O.taken out.old) (S.faults input.old) (O.faults out.old))
-        (standing (S.left input.new) (O.taken out.new) (S.faults input.new) (O.faults out.new)) lines.items) }
-    ensures unfinished { IfErr result (λ stop. IsUnfinished (record { is_ended = F.is_ended; row = F.row_for; after = F.after }) form
-        (standing (S.left input.old) (O.taken out.old) (S.faults input.old) (O.faults out.old))
-        (standing (S.left input.new) (O.taken out.new) (S.faults input.new) (O.faults out.new)) stop) }
+    requires source { (S.state input.old).is_open ≡ true }
+    requires sink { (O.state out.old).is_open ≡ true }
+    ensures sink { (O.state out.new).is_open ≡ true }
+    ensures whole { IfOk result (λ lines. IsWhole
+        (record { is_ended = F.is_ended; row = F.row_for; after = F.after }) form
+        (io (S.state input.old) (O.state out.old))
+        (io (S.state input.new) (O.state out.new)) lines.items) }
+    ensures unfinished { IfErr result
+        (λ stop. IsUnfinished (record { is_ended = F.is_ended; row = F.row_for; after = F.after })
+        form
+        (io (S.state input.old) (O.state out.old))
+        (io (S.state input.new) (O.state out.new)) stop) }
 {
     let mut gatherer = Gatherer::open(alloc, form);
     match play(alloc, &mut gatherer, input, out) {

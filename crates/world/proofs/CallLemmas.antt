@@ -16,12 +16,12 @@ use Rattle.node_rules.specs.OnRings.{Rises}
 use Rattle.world_rules.specs.Counts.{Counts, counts_of, with_event}
 use Rattle.world_rules.specs.Settings.{Setting, Signed, is_liar, is_node}
 use Rattle.world_rules.specs.Worlds as worlds
-use Rattle.world_rules.specs.Worlds.{World as Meant, spent_if_by, spent_of, with_station}
-use Rattle.world_rules.specs.Steps.{Course, Told, in_station, numbered_from, signed_if_spent, signed_in, told_in, with_call}
-use Rattle.world_rules.proofs.Once.{at-station, foreign-call}
-use Rattle.world_station.specs.Stations.{StationState}
-use Rattle.world_station.specs.Holding.{HoldsStation}
-use Rattle.world_station.specs.Answers.{spent_in}
+use Rattle.world_rules.specs.Worlds.{World as ModelWorld, spent_if_by, spent_of, with_host}
+use Rattle.world_rules.specs.Steps.{Execution, NodeEvent, in_host, numbered_from, signed_if_spent, signed_in, told_in, with_call}
+use Rattle.world_rules.proofs.Once.{at-host, foreign-call}
+use Rattle.world_host.specs.Hosts.{HostState}
+use Rattle.world_host.specs.Holding.{HoldsHost}
+use Rattle.world_host.specs.Answers.{spent_in}
 use Rattle.world.specs.declared.counts.Counts as counted
 use Rattle.world.specs.declared.liar.Liar.{Liar}
 use Rattle.world.specs.Counting.{AreKept}
@@ -29,7 +29,7 @@ use Rattle.world.specs.Holding.{Holds, HoldsLiar, Kept, numbers}
 use Rattle.world.proofs.Clean.{all_clean_still}
 use Rattle.world.proofs.ChangeLemmas.{at-other, at-own, at-place}
 use Rattle.world.proofs.PlaceLemmas.{listed-there, nodes-rise, place-node}
-use Rattle.world.proofs.StationLemmas.{numbers-set, station-changes}
+use Rattle.world.proofs.HostLemmas.{numbers-set, host-changes}
 use Rattle.world.proofs.WorldLemmas.{counts-append}
 
 -- ---- events
@@ -43,7 +43,7 @@ told-counts s c m n [] = refl
 told-counts s c m n (e ∷ events) =
     ap (λ (z : Counts). fold (λ c t. with_event s c t.event.what) z (told_in m n events)) (numbered-counts s c n e.what) ∙ told-counts s (with_event s c e.what) m n events
 
-pub counts-told : (s : Setting) (told : List Told) (m n : ℕ) (events : List journal.Event) → counts_of s (told ++ told_in m n events) ≡ fold (λ c e. with_event s c e.what) (counts_of s told) events
+pub counts-told : (s : Setting) (told : List NodeEvent) (m n : ℕ) (events : List journal.Event) → counts_of s (told ++ told_in m n events) ≡ fold (λ c e. with_event s c e.what) (counts_of s told) events
 counts-told s told m n events = counts-append s told (told_in m n events) ∙ told-counts s (counts_of s told) m n events
 
 -- ---- signatures
@@ -65,7 +65,7 @@ own-spent m signed events = filter_map-append (spent_if_by (Some m)) signed (sig
 
 -- ---- liars
 
-liars-others : (s : Setting) (ots : OtsKind) (tree : TreeKind) (w later : Meant) (xs : List Liar) → AllByRecursion (λ x. spent_of later (Some x.member) ≡ spent_of w (Some x.member)) xs → AllByRecursion (HoldsLiar s ots tree w) xs → AllByRecursion (HoldsLiar s ots tree later) xs
+liars-others : (s : Setting) (ots : OtsKind) (tree : TreeKind) (w later : ModelWorld) (xs : List Liar) → AllByRecursion (λ x. spent_of later (Some x.member) ≡ spent_of w (Some x.member)) xs → AllByRecursion (HoldsLiar s ots tree w) xs → AllByRecursion (HoldsLiar s ots tree later) xs
 liars-others s ots tree w later [] same h = tt
 liars-others s ots tree w later (x ∷ xs) same h = (
   record { key = h.0.key; next = h.0.next ∙ sym (ap length same.0); signed = h.0.signed ∙ sym (ap (map (λ y. y.body)) same.0) },
@@ -85,16 +85,16 @@ all-listed listed (k ∷ numbers) h = (h k (rw (eq-eqb k k refl) refl), all-list
 
 -- ---- the whole
 
--- one place changes in a call of its node, which tells and sends
-pub holds-called : (s : Setting) (c : Course) (before : List Told) (v : Kept) (m at : ℕ) (x : StationState) (place : worlds.Station) (call : Call) (sent : List (ℕ × List ℕ)) (kept : counted.Counts) → (h : Holds s c.world (before ++ c.told) v)
-    → slice_get (numbers v) at ≡ Some m → x.member ≡ m → HoldsStation s h.ots h.tree place (spent_of c.world (Some m) ++ spent_in m call.told) x → sent ≡ v.sent ++ call.sent
+-- one place changes in a call of its node, which reports and sends
+pub holds-called : (s : Setting) (c : Execution) (before : List NodeEvent) (v : Kept) (m at : ℕ) (x : HostState) (place : worlds.Host) (call : Call) (sent : List (ℕ × List ℕ)) (kept : counted.Counts) → (h : Holds s c.world (before ++ c.told) v)
+    → slice_get (numbers v) at ≡ Some m → x.member ≡ m → HoldsHost s h.ots h.tree place (spent_of c.world (Some m) ++ spent_in m call.told) x → sent ≡ v.sent ++ call.sent
     → AreKept kept (fold (λ z e. with_event s z e.what) (counts_of s (before ++ c.told)) call.told)
-    → let d = in_station m place (with_call m call c) in Holds s d.world (before ++ d.told) (record v { stations = set v.stations at x; sent = sent; counts = kept })
+    → let d = in_host m place (with_call m call c) in Holds s d.world (before ++ d.told) (record v { hosts = set v.hosts at x; sent = sent; counts = kept })
 holds-called s c before v m at x place call sent kept h is own new sends counts =
-    let w : Meant = c.world in
-    let d : Course = in_station m place (with_call m call c) in
-    let later : Meant = d.world in
-    let middle : Meant = (with_call m call c).world in
+    let w : ModelWorld = c.world in
+    let d : Execution = in_host m place (with_call m call c) in
+    let later : ModelWorld = d.world in
+    let middle : ModelWorld = (with_call m call c).world in
     let node : is_node s m ≡ true = place-node s (numbers v) m at h.nodes is in
     let else_spent : (k : ℕ) → eqb m k ≡ false → spent_of later (Some k) ≡ spent_of w (Some k) = λ k apart. foreign-call k m w.signed call.told apart in
     record {
@@ -104,13 +104,13 @@ holds-called s c before v m at x place call sent kept h is own new sends counts 
       authority = h.authority;
       issued = ap (map (λ y. y.body)) (still-issued m w.signed call.told) ∙ h.issued;
       apart = h.apart;
-      idle = λ k not. at-station k m place middle (λ (z : worlds.Station). z.current ≡ None) (λ same. absurd (false≢true (sym not ∙ ap (is_node s) (sym same) ∙ node))) (λ apart. h.idle k not);
+      idle = λ k not. at-host k m place middle (λ (z : worlds.Host). z.current ≡ None) (λ same. absurd (false≢true (sym not ∙ ap (is_node s) (sym same) ∙ node))) (λ apart. h.idle k not);
       silent = λ k no_node no_liar. else_spent k (number-apart m k (λ same. absurd (false≢true (sym no_node ∙ ap (is_node s) (sym same) ∙ node)))) ∙ h.silent k no_node no_liar;
-      nodes = numbers-set v.stations at x (is ∙ ap (λ (k : ℕ). Some k) (sym own)) ∙ h.nodes;
-      stations = station-changes s h.ots h.tree w later m 0 at v.stations x (subst (Rises 0) (sym h.nodes) (nodes-rise s)) is
-          (record { others = λ k apart. record { station = at-other k m place middle apart; spent = else_spent k (swapped k m apart) } })
+      nodes = numbers-set v.hosts at x (is ∙ ap (λ (k : ℕ). Some k) (sym own)) ∙ h.nodes;
+      hosts = host-changes s h.ots h.tree w later m 0 at v.hosts x (subst (Rises 0) (sym h.nodes) (nodes-rise s)) is
+          (record { others = λ k apart. record { host = at-other k m place middle apart; spent = else_spent k (swapped k m apart) } })
           (at-place s h.ots h.tree later place x (at-own x.member m place middle own)
-          (subst (λ (z : List Spent). HoldsStation s h.ots h.tree place z x) (sym (ap (λ (k : ℕ). spent_of later (Some k)) own ∙ own-spent m w.signed call.told)) new)) h.stations;
+          (subst (λ (z : List Spent). HoldsHost s h.ots h.tree place z x) (sym (ap (λ (k : ℕ). spent_of later (Some k)) own ∙ own-spent m w.signed call.told)) new)) h.hosts;
       lying = h.lying;
       liars = liars-others s h.ots h.tree w later v.liars
           (liars-spent v.liars (all-listed s.liars (map (λ y. y.member) v.liars) (λ k there. listed-there s.liars (map (λ y. y.member) v.liars) k h.lying there)) else_spent node) h.liars;
@@ -125,8 +125,8 @@ holds-called s c before v m at x place call sent kept h is own new sends counts 
     swapped a b e = number-apart b a (λ same. absurd (false≢true (sym e ∙ eq-eqb a b (sym same))))
 
     liars-spent : (xs : List Liar) → AllByRecursion (λ k. is_liar s k ≡ true) (map (λ y. y.member) xs)
-        → ((k : ℕ) → eqb m k ≡ false → spent_of (in_station m place (with_call m call c)).world (Some k) ≡ spent_of c.world (Some k)) → is_node s m ≡ true
-        → AllByRecursion (λ y. spent_of (in_station m place (with_call m call c)).world (Some y.member) ≡ spent_of c.world (Some y.member)) xs
+        → ((k : ℕ) → eqb m k ≡ false → spent_of (in_host m place (with_call m call c)).world (Some k) ≡ spent_of c.world (Some k)) → is_node s m ≡ true
+        → AllByRecursion (λ y. spent_of (in_host m place (with_call m call c)).world (Some y.member) ≡ spent_of c.world (Some y.member)) xs
     liars-spent [] all same node = tt
     liars-spent (y ∷ xs) all same node = (
       same y.member (number-apart m y.member (λ is_same. absurd (false≢true (sym (h.apart m node) ∙ ap (is_liar s) is_same ∙ all.0)))),

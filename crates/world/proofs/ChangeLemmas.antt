@@ -9,46 +9,46 @@ use Rattle.std.proofs.lemmas.Bool.{eq-eqb, false≢true}
 use Rattle.lms_ots.specs.declared.OtsKind.{OtsKind}
 use Rattle.lms_tree.specs.declared.TreeKind.{TreeKind}
 use Rattle.signer.specs.Lives.{Spent}
-use Rattle.world_disks.specs.Held.{HoldsDisk, armed_as, crashed}
-use Rattle.world_disks.proofs.Opening.{crash_as_told, arm_as_told}
+use Rattle.world_host.specs.Held.{HoldsDisk, armed_as, crashed}
+use Rattle.world_host.proofs.DiskOpening.{crash_as_told, arm_as_told}
 use Rattle.world_rules.specs.Disks.{ArmedStop, Disk}
 use Rattle.node_core.specs.Playing as node
 use Rattle.node_rules.specs.OnRings.{Rises}
 use Rattle.world_rules.specs.Settings.{Setting, Signed, is_node}
 use Rattle.world_rules.specs.Worlds as worlds
-use Rattle.world_rules.specs.Worlds.{Life, World as Meant, lives_of, spent_if_by, spent_of, with_station}
-use Rattle.world_rules.specs.Steps.{Told, arms, life_over, stops, with_disk}
-use Rattle.world_rules.proofs.Once.{at-station}
-use Rattle.world_station.specs.Stations.{StationState}
-use Rattle.world_station.specs.Holding.{HoldsCurrent, HoldsStation}
+use Rattle.world_rules.specs.Worlds.{Life, World as ModelWorld, lives_of, spent_if_by, spent_of, with_host}
+use Rattle.world_rules.specs.Steps.{NodeEvent, arms, life_over, stops, with_disk}
+use Rattle.world_rules.proofs.Once.{at-host}
+use Rattle.world_host.specs.Hosts.{HostState}
+use Rattle.world_host.specs.Holding.{HoldsCurrent, HoldsHost}
 use Rattle.world.specs.declared.liar.Liar.{Liar}
 use Rattle.world.specs.Holding.{Holds, HoldsLiar, HoldsPlace, Kept, numbers}
 use Rattle.world.proofs.Clean.{all_clean_still}
 use Rattle.world.proofs.PlaceLemmas.{nodes-rise, place-node}
-use Rattle.world.proofs.StationLemmas.{StaysElse, station-changes, station-at, numbers-set}
+use Rattle.world.proofs.HostLemmas.{StaysElse, host-changes, host-at, numbers-set}
 
--- ---- a station by itself
+-- ---- a host by itself
 
-pub at-place : (s : Setting) (ots : OtsKind) (tree : TreeKind) (w : Meant) (place : worlds.Station) (x : StationState) → w.stations x.member ≡ place → HoldsStation s ots tree place (spent_of w (Some x.member)) x → HoldsPlace s ots tree w x
-at-place s ots tree w place x is h = subst (λ (z : worlds.Station). HoldsStation s ots tree z (spent_of w (Some x.member)) x) (sym is) h
+pub at-place : (s : Setting) (ots : OtsKind) (tree : TreeKind) (w : ModelWorld) (place : worlds.Host) (x : HostState) → w.hosts x.member ≡ place → HoldsHost s ots tree place (spent_of w (Some x.member)) x → HoldsPlace s ots tree w x
+at-place s ots tree w place x is h = subst (λ (z : worlds.Host). HoldsHost s ots tree z (spent_of w (Some x.member)) x) (sym is) h
 
--- ---- a station stops, or is armed
+-- ---- a host stops, or is armed
 
-over-past : (past : List Life) (current : Option Life) (place : worlds.Station) → place.past ≡ past → place.current ≡ current
+over-past : (past : List Life) (current : Option Life) (place : worlds.Host) → place.past ≡ past → place.current ≡ current
     → length ((life_over place current).past ++ option_to_list (life_over place current).current) ≡ length (past ++ option_to_list current)
 over-past past None place p c = ap (λ (z : List Life). length (z ++ option_to_list place.current)) p ∙ ap (λ (z : Option Life). length (past ++ option_to_list z)) c
 over-past past (Some life) place p c = ap length (append-nil (place.past ++ life ∷ [])) ∙ ap (λ (z : List Life). length (z ++ life ∷ [])) p
 
-over-disk : (current : Option Life) (place : worlds.Station) → (life_over place current).disk ≡ place.disk
+over-disk : (current : Option Life) (place : worlds.Host) → (life_over place current).disk ≡ place.disk
 over-disk None place = refl
 over-disk (Some life) place = refl
 
-over-current : (current : Option Life) (place : worlds.Station) → place.current ≡ current → (life_over place current).current ≡ None
+over-current : (current : Option Life) (place : worlds.Host) → place.current ≡ current → (life_over place current).current ≡ None
 over-current None place is = is
 over-current (Some life) place is = refl
 
-stops-stands : (s : Setting) (ots : OtsKind) (tree : TreeKind) (place : worlds.Station) (spent : List Spent) (x : StationState) (outcome : ℕ) → HoldsStation s ots tree place spent x
-    → HoldsStation s ots tree (life_over place place.current) spent (record x { node = None; disk = crashed outcome x.disk })
+stops-stands : (s : Setting) (ots : OtsKind) (tree : TreeKind) (place : worlds.Host) (spent : List Spent) (x : HostState) (outcome : ℕ) → HoldsHost s ots tree place spent x
+    → HoldsHost s ots tree (life_over place place.current) spent (record x { node = None; disk = crashed outcome x.disk })
 stops-stands s ots tree place spent x outcome h =
     record {
       public = h.public;
@@ -67,8 +67,8 @@ armed-current s e stop m (Some v) (Some life) h = record { is = h.is; going = h.
 armed-current s e stop m None (Some life) h = h
 armed-current s e stop m (Some v) None h = h
 
-arms-stands : (s : Setting) (ots : OtsKind) (tree : TreeKind) (place : worlds.Station) (spent : List Spent) (x : StationState) (stop : ArmedStop) → HoldsStation s ots tree place spent x
-    → HoldsStation s ots tree (with_disk place (record place.disk { armed = Some stop })) spent (record x { disk = record x.disk { armed = armed_as (Some stop) } })
+arms-stands : (s : Setting) (ots : OtsKind) (tree : TreeKind) (place : worlds.Host) (spent : List Spent) (x : HostState) (stop : ArmedStop) → HoldsHost s ots tree place spent x
+    → HoldsHost s ots tree (with_disk place (record place.disk { armed = Some stop })) spent (record x { disk = record x.disk { armed = armed_as (Some stop) } })
 arms-stands s ots tree place spent x stop h =
     record {
       public = h.public;
@@ -82,13 +82,13 @@ arms-stands s ots tree place spent x stop h =
 
 -- ---- the whole
 
-pub number-at : (xs : List StationState) (m at : ℕ) (x : StationState) → slice_get (map (λ y. y.member) xs) at ≡ Some m → slice_get xs at ≡ Some x → x.member ≡ m
-number-at xs m at x is found = some-same x.member m (sym (slice_get-map (λ (y : StationState). y.member) xs at ∙ ap (option_map (λ (y : StationState). y.member)) found) ∙ is)
+pub number-at : (xs : List HostState) (m at : ℕ) (x : HostState) → slice_get (map (λ y. y.member) xs) at ≡ Some m → slice_get xs at ≡ Some x → x.member ≡ m
+number-at xs m at x is found = some-same x.member m (sym (slice_get-map (λ (y : HostState). y.member) xs at ∙ ap (option_map (λ (y : HostState). y.member)) found) ∙ is)
   where
     some-same : (a b : ℕ) → Some a ≡ Some b → a ≡ b
     some-same a b e = cc
 
-pub liars-stay : (s : Setting) (ots : OtsKind) (tree : TreeKind) (w later : Meant) (xs : List Liar) → later.signed ≡ w.signed → AllByRecursion (HoldsLiar s ots tree w) xs → AllByRecursion (HoldsLiar s ots tree later) xs
+pub liars-stay : (s : Setting) (ots : OtsKind) (tree : TreeKind) (w later : ModelWorld) (xs : List Liar) → later.signed ≡ w.signed → AllByRecursion (HoldsLiar s ots tree w) xs → AllByRecursion (HoldsLiar s ots tree later) xs
 liars-stay s ots tree w later [] same h = tt
 liars-stay s ots tree w later (x ∷ xs) same h = (
   record {
@@ -102,21 +102,21 @@ liars-stay s ots tree w later (x ∷ xs) same h = (
 other-number : (k m : ℕ) → eqb k m ≡ false → (k ≡ m → ⊥)
 other-number k m apart same = false≢true (sym apart ∙ eq-eqb k m same)
 
-pub at-own : (k m : ℕ) (place : worlds.Station) (w : Meant) → k ≡ m → (with_station m place w).stations k ≡ place
-at-own k m place w same = at-station k m place w (λ (z : worlds.Station). z ≡ place) (λ e. refl) (λ apart. absurd (other-number m k apart (sym same)))
+pub at-own : (k m : ℕ) (place : worlds.Host) (w : ModelWorld) → k ≡ m → (with_host m place w).hosts k ≡ place
+at-own k m place w same = at-host k m place w (λ (z : worlds.Host). z ≡ place) (λ e. refl) (λ apart. absurd (other-number m k apart (sym same)))
 
-pub at-other : (k m : ℕ) (place : worlds.Station) (w : Meant) → eqb k m ≡ false → (with_station m place w).stations k ≡ w.stations k
-at-other k m place w apart = at-station k m place w (λ (z : worlds.Station). z ≡ w.stations k) (λ e. absurd (other-number k m apart (sym e))) (λ e. refl)
+pub at-other : (k m : ℕ) (place : worlds.Host) (w : ModelWorld) → eqb k m ≡ false → (with_host m place w).hosts k ≡ w.hosts k
+at-other k m place w apart = at-host k m place w (λ (z : worlds.Host). z ≡ w.hosts k) (λ e. absurd (other-number k m apart (sym e))) (λ e. refl)
 
-pub changed-else : (m : ℕ) (place : worlds.Station) (w : Meant) → StaysElse w (with_station m place w) m
-changed-else m place w = record { others = λ k apart. record { station = at-other k m place w apart; spent = refl } }
+pub changed-else : (m : ℕ) (place : worlds.Host) (w : ModelWorld) → StaysElse w (with_host m place w) m
+changed-else m place w = record { others = λ k apart. record { host = at-other k m place w apart; spent = refl } }
 
 -- one place changes, and what was signed, sent and named stays
-pub holds-changed : (s : Setting) (w : Meant) (told : List Told) (v : Kept) (m at : ℕ) (x : StationState) (place : worlds.Station) → (h : Holds s w told v) → slice_get (numbers v) at ≡ Some m → x.member ≡ m
-    → HoldsStation s h.ots h.tree place (spent_of w (Some x.member)) x
-    → Holds s (with_station m place w) told (record v { stations = set v.stations at x })
+pub holds-changed : (s : Setting) (w : ModelWorld) (told : List NodeEvent) (v : Kept) (m at : ℕ) (x : HostState) (place : worlds.Host) → (h : Holds s w told v) → slice_get (numbers v) at ≡ Some m → x.member ≡ m
+    → HoldsHost s h.ots h.tree place (spent_of w (Some x.member)) x
+    → Holds s (with_host m place w) told (record v { hosts = set v.hosts at x })
 holds-changed s w told v m at x place h is own new =
-    let later : Meant = with_station m place w in
+    let later : ModelWorld = with_host m place w in
     let numbers_rise = subst (Rises 0) (sym h.nodes) (nodes-rise s) in
     record {
       ots = h.ots;
@@ -125,11 +125,11 @@ holds-changed s w told v m at x place h is own new =
       authority = h.authority;
       issued = h.issued;
       apart = h.apart;
-      idle = λ k not. at-station k m place w (λ (z : worlds.Station). z.current ≡ None) (λ same. absurd (false≢true (sym not ∙ ap (is_node s) (sym same) ∙ place-node s (numbers v) m at h.nodes is))) (λ apart. h.idle k not);
+      idle = λ k not. at-host k m place w (λ (z : worlds.Host). z.current ≡ None) (λ same. absurd (false≢true (sym not ∙ ap (is_node s) (sym same) ∙ place-node s (numbers v) m at h.nodes is))) (λ apart. h.idle k not);
       silent = h.silent;
-      nodes = numbers-set v.stations at x (is ∙ ap (λ (k : ℕ). Some k) (sym own)) ∙ h.nodes;
-      stations = station-changes s h.ots h.tree w later m 0 at v.stations x numbers_rise is (changed-else m place w)
-          (at-place s h.ots h.tree later place x (at-own x.member m place w own) new) h.stations;
+      nodes = numbers-set v.hosts at x (is ∙ ap (λ (k : ℕ). Some k) (sym own)) ∙ h.nodes;
+      hosts = host-changes s h.ots h.tree w later m 0 at v.hosts x numbers_rise is (changed-else m place w)
+          (at-place s h.ots h.tree later place x (at-own x.member m place w own) new) h.hosts;
       lying = h.lying;
       liars = liars-stay s h.ots h.tree w later v.liars refl h.liars;
       sent = h.sent;
@@ -139,22 +139,22 @@ holds-changed s w told v m at x place h is own new =
       counts = h.counts;
     }
 
-pub stops-holds : (s : Setting) (w : Meant) (told : List Told) (v : Kept) (m at outcome : ℕ) (x : StationState) → Holds s w told v → slice_get (numbers v) at ≡ Some m → slice_get v.stations at ≡ Some x
-    → Holds s (stops m w) told (record v { stations = set v.stations at (record x { node = None; disk = crashed outcome x.disk }) })
+pub stops-holds : (s : Setting) (w : ModelWorld) (told : List NodeEvent) (v : Kept) (m at outcome : ℕ) (x : HostState) → Holds s w told v → slice_get (numbers v) at ≡ Some m → slice_get v.hosts at ≡ Some x
+    → Holds s (stops m w) told (record v { hosts = set v.hosts at (record x { node = None; disk = crashed outcome x.disk }) })
 stops-holds s w told v m at outcome x h is found =
-    let own : x.member ≡ m = number-at v.stations m at x is found in
-    let later : StationState = record x { node = None; disk = crashed outcome x.disk } in
-    let there = station-at s h.ots h.tree w at v.stations x found h.stations in
-    holds-changed s w told v m at later (life_over (w.stations m) (w.stations m).current) h is own
-    (subst (λ (k : ℕ). HoldsStation s h.ots h.tree (life_over (w.stations k) (w.stations k).current) (spent_of w (Some x.member)) later) own
-    (stops-stands s h.ots h.tree (w.stations x.member) (spent_of w (Some x.member)) x outcome there))
+    let own : x.member ≡ m = number-at v.hosts m at x is found in
+    let later : HostState = record x { node = None; disk = crashed outcome x.disk } in
+    let there = host-at s h.ots h.tree w at v.hosts x found h.hosts in
+    holds-changed s w told v m at later (life_over (w.hosts m) (w.hosts m).current) h is own
+    (subst (λ (k : ℕ). HoldsHost s h.ots h.tree (life_over (w.hosts k) (w.hosts k).current) (spent_of w (Some x.member)) later) own
+    (stops-stands s h.ots h.tree (w.hosts x.member) (spent_of w (Some x.member)) x outcome there))
 
-pub arms-holds : (s : Setting) (w : Meant) (told : List Told) (v : Kept) (m at : ℕ) (stop : ArmedStop) (x : StationState) → Holds s w told v → slice_get (numbers v) at ≡ Some m → slice_get v.stations at ≡ Some x
-    → Holds s (arms m stop w) told (record v { stations = set v.stations at (record x { disk = record x.disk { armed = armed_as (Some stop) } }) })
+pub arms-holds : (s : Setting) (w : ModelWorld) (told : List NodeEvent) (v : Kept) (m at : ℕ) (stop : ArmedStop) (x : HostState) → Holds s w told v → slice_get (numbers v) at ≡ Some m → slice_get v.hosts at ≡ Some x
+    → Holds s (arms m stop w) told (record v { hosts = set v.hosts at (record x { disk = record x.disk { armed = armed_as (Some stop) } }) })
 arms-holds s w told v m at stop x h is found =
-    let own : x.member ≡ m = number-at v.stations m at x is found in
-    let later : StationState = record x { disk = record x.disk { armed = armed_as (Some stop) } } in
-    let there = station-at s h.ots h.tree w at v.stations x found h.stations in
-    holds-changed s w told v m at later (with_disk (w.stations m) (record (w.stations m).disk { armed = Some stop })) h is own
-    (subst (λ (k : ℕ). HoldsStation s h.ots h.tree (with_disk (w.stations k) (record (w.stations k).disk { armed = Some stop })) (spent_of w (Some x.member)) later) own
-    (arms-stands s h.ots h.tree (w.stations x.member) (spent_of w (Some x.member)) x stop there))
+    let own : x.member ≡ m = number-at v.hosts m at x is found in
+    let later : HostState = record x { disk = record x.disk { armed = armed_as (Some stop) } } in
+    let there = host-at s h.ots h.tree w at v.hosts x found h.hosts in
+    holds-changed s w told v m at later (with_disk (w.hosts m) (record (w.hosts m).disk { armed = Some stop })) h is own
+    (subst (λ (k : ℕ). HoldsHost s h.ots h.tree (with_disk (w.hosts k) (record (w.hosts k).disk { armed = Some stop })) (spent_of w (Some x.member)) later) own
+    (arms-stands s h.ots h.tree (w.hosts x.member) (spent_of w (Some x.member)) x stop there))

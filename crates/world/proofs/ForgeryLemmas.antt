@@ -23,16 +23,16 @@ use Rattle.datagram.specs.Spelling.{IsSignedRecord}
 use Rattle.node_core.specs.Rolls.{recs_of}
 use Rattle.world_rules.specs.Keys.{setting_for}
 use Rattle.world_rules.specs.Settings.{Owner, Setting, Signed, nodes, same_body, same_owner}
-use Rattle.world_rules.specs.Worlds.{World as Meant, spent_if_by, spent_of}
+use Rattle.world_rules.specs.Worlds.{World as ModelWorld, spent_if_by, spent_of}
 use Rattle.world_rules.specs.Forgeries.{Forgery, first_forgery, forgery, forgery_by, forgery_in, has_signed, is_forged_for}
-use Rattle.world_rules.specs.Steps.{Told}
+use Rattle.world_rules.specs.Steps.{NodeEvent}
 use Rattle.world.specs.declared.fault.WorldFault.{WorldFault}
 use Rattle.world.specs.declared.fault.WorldFault.TheVariants as faults
 use Rattle.world.specs.Testing.{IsClean, IsForged, forged_in}
 use Rattle.world.specs.Holding.{Holds, Kept}
 use Rattle.world.specs.Courses.{Tests}
 use Rattle.world.proofs.WorldLemmas.{holds-tested}
-use Rattle.world_keys.specs.Bodies.{is_among}
+use Rattle.world_host.specs.Bodies.{is_among}
 
 -- ---- who has signed
 
@@ -44,14 +44,14 @@ any-spent who body (x ∷ signed) =
       | inr other ↦ rw other (any-spent who body signed)
     ]
 
-pub signed-is : (w : Meant) (who : Owner) (body : Body) (bodies : List Body) → bodies ≡ map (λ y. y.body) (spent_of w who) → is_among bodies body ≡ has_signed w who body
+pub signed-is : (w : ModelWorld) (who : Owner) (body : Body) (bodies : List Body) → bodies ≡ map (λ y. y.body) (spent_of w who) → is_among bodies body ≡ has_signed w who body
 signed-is w who body bodies is = ap (λ (z : List Body). is_among z body) is ∙ sym (any-spent who body w.signed)
 
 recs-bodies : (xs : List CheckedRecord) → map (λ x. x.rec.body) xs ≡ map (λ r. r.body) (recs_of xs)
 recs-bodies [] = refl
 recs-bodies (x ∷ xs) = ap (λ (z : List Body). x.rec.body ∷ z) (recs-bodies xs)
 
-pub authority-signed : (s : Setting) (w : Meant) (told : List Told) (v : Kept) (body : Body) → Holds s w told v → is_among (map (λ x. x.rec.body) v.authority.certificates) body ≡ has_signed w None body
+pub authority-signed : (s : Setting) (w : ModelWorld) (told : List NodeEvent) (v : Kept) (body : Body) → Holds s w told v → is_among (map (λ x. x.rec.body) v.authority.certificates) body ≡ has_signed w None body
 authority-signed s w told v body h = signed-is w None body _ (recs-bodies v.authority.certificates ∙ ap (map (λ r. r.body)) h.authority.certified ∙ sym h.issued)
 
 -- ---- what verifies
@@ -66,7 +66,7 @@ swapped-test true false = refl
 swapped-test false true = refl
 swapped-test false false = refl
 
-pub forged-is : (s : Setting) (w : Meant) (r : Record) (who : Owner) (signed verifies : Bool) → signed ≡ has_signed w who r.body → verifies ≡ s.verifies (s.key who) r → (not signed && verifies) ≡ is_forged_for s w r who
+pub forged-is : (s : Setting) (w : ModelWorld) (r : Record) (who : Owner) (signed verifies : Bool) → signed ≡ has_signed w who r.body → verifies ≡ s.verifies (s.key who) r → (not signed && verifies) ≡ is_forged_for s w r who
 forged-is s w r who signed verifies is can = rw (is, can) (swapped-test (has_signed w who r.body) (s.verifies (s.key who) r))
 
 -- ---- the first
@@ -79,7 +79,7 @@ find-some p (m ∷ ms) =
       | inr later ↦ rw later (find-some p ms)
     ]
 
-pub forgery-none : (s : Setting) (w : Meant) (r : Record) → is_forged_for s w r None ≡ true → forgery_by s w r ≡ Some (record { who = None; body = r.body })
+pub forgery-none : (s : Setting) (w : ModelWorld) (r : Record) → is_forged_for s w r None ≡ true → forgery_by s w r ≡ Some (record { who = None; body = r.body })
 forgery-none s w r h = rw h refl
 
 abbrev pub node_forgery : Record → Option ℕ → Option Forgery
@@ -90,7 +90,7 @@ mapped : (r : Record) (o : Option ℕ) (f : Owner → Forgery) → f ≡ (λ who
 mapped r None f is = refl
 mapped r (Some m) f is = ap (λ (g : Owner → Forgery). Some (g (Some m))) is
 
-pub forgery-node : (s : Setting) (w : Meant) (r : Record) → is_forged_for s w r None ≡ false → forgery_by s w r ≡ node_forgery r (find (λ m. is_forged_for s w r (Some m)) (nodes s))
+pub forgery-node : (s : Setting) (w : ModelWorld) (r : Record) → is_forged_for s w r None ≡ false → forgery_by s w r ≡ node_forgery r (find (λ m. is_forged_for s w r (Some m)) (nodes s))
 forgery-node s w r h =
     let p : Owner → Bool = is_forged_for s w r in
     let f : Owner → Forgery = λ who. record { who = who; body = r.body } in
@@ -114,15 +114,15 @@ verifies-as s g group ots tree key k r b is same_group same_key made =
     is ∙ ap (λ (z : Group). is_ok (verdict_of key (signed_bytes z.tag z.t r.body) r.signature)) same_group
     ∙ ap (λ (z : PublicKey). is_ok (verdict_of z (signed_bytes g.tag g.t r.body) r.signature)) same_key ∙ setting-verifies s g ots tree s.correct s.liars k r made
 
-pub forged-then : (s : Setting) (w : Meant) (r : Record) (who : Owner) (signed verifies : Bool) → signed ≡ has_signed w who r.body → verifies ≡ s.verifies (s.key who) r → signed ≡ false → verifies ≡ is_forged_for s w r who
+pub forged-then : (s : Setting) (w : ModelWorld) (r : Record) (who : Owner) (signed verifies : Bool) → signed ≡ has_signed w who r.body → verifies ≡ s.verifies (s.key who) r → signed ≡ false → verifies ≡ is_forged_for s w r who
 forged-then s w r who signed verifies is can fails = sym (ap (λ (b : Bool). not b && verifies) fails) ∙ forged-is s w r who signed verifies is can
 
-pub forged-else : (s : Setting) (w : Meant) (r : Record) (who : Owner) (signed : Bool) → signed ≡ has_signed w who r.body → signed ≡ true → false ≡ is_forged_for s w r who
+pub forged-else : (s : Setting) (w : ModelWorld) (r : Record) (who : Owner) (signed : Bool) → signed ≡ has_signed w who r.body → signed ≡ true → false ≡ is_forged_for s w r who
 forged-else s w r who signed is so = sym (ap (λ (b : Bool). not b && s.verifies (s.key who) r) so) ∙ forged-is s w r who signed (s.verifies (s.key who) r) is refl
 
 -- ---- what was tested
 
-among-clean : (s : Setting) (w : Meant) (tested : List (List ℕ)) (bytes : List ℕ) → list_any (bytes_eq bytes) tested ≡ true → AllByRecursion (IsClean s w) tested → IsClean s w bytes
+among-clean : (s : Setting) (w : ModelWorld) (tested : List (List ℕ)) (bytes : List ℕ) → list_any (bytes_eq bytes) tested ≡ true → AllByRecursion (IsClean s w) tested → IsClean s w bytes
 among-clean s w [] bytes found clean = absurd (false≢true found)
 among-clean s w (x ∷ tested) bytes found clean =
     elim (cases_Bool (bytes_eq bytes x)) [
@@ -134,22 +134,22 @@ spelled-so : (r : Record) → IsSignedRecord r → IsRecord (record_bytes r) r
 spelled-so r h = record { body = h.body; signature = h.signature; spelled = refl }
 
 -- a record that was tested is not forged
-pub tested-clean : (s : Setting) (w : Meant) (told : List Told) (v : Kept) (r : Record) (bytes : List ℕ) → Holds s w told v → IsSignedRecord r → bytes ≡ record_bytes r → list_any (bytes_eq bytes) v.tested ≡ true → forgery_by s w r ≡ None
+pub tested-clean : (s : Setting) (w : ModelWorld) (told : List NodeEvent) (v : Kept) (r : Record) (bytes : List ℕ) → Holds s w told v → IsSignedRecord r → bytes ≡ record_bytes r → list_any (bytes_eq bytes) v.tested ≡ true → forgery_by s w r ≡ None
 tested-clean s w told v r bytes h signed is found =
     among-clean s w v.tested bytes found h.tested r (subst (λ (z : List ℕ). IsRecord z r) (sym is) (spelled-so r signed))
 
-clean-push : (s : Setting) (w : Meant) (tested : List (List ℕ)) (bytes : List ℕ) → AllByRecursion (IsClean s w) tested → IsClean s w bytes → AllByRecursion (IsClean s w) (tested ++ bytes ∷ [])
+clean-push : (s : Setting) (w : ModelWorld) (tested : List (List ℕ)) (bytes : List ℕ) → AllByRecursion (IsClean s w) tested → IsClean s w bytes → AllByRecursion (IsClean s w) (tested ++ bytes ∷ [])
 clean-push s w [] bytes clean new = (new, tt)
 clean-push s w (x ∷ tested) bytes clean new = (clean.0, clean-push s w tested bytes clean.1 new)
 
 -- a spelling is that of one record
-one-record : (s : Setting) (w : Meant) (r : Record) (bytes : List ℕ) → IsSignedRecord r → bytes ≡ record_bytes r → forgery_by s w r ≡ None → IsClean s w bytes
+one-record : (s : Setting) (w : ModelWorld) (r : Record) (bytes : List ℕ) → IsSignedRecord r → bytes ≡ record_bytes r → forgery_by s w r ≡ None → IsClean s w bytes
 one-record s w r bytes signed is fine other spelled =
     let both = records_one bytes bytes [] [] r other (subst (λ (z : List ℕ). IsRecord z r) (sym is) (spelled-so r signed)) spelled refl in
     subst (λ (z : Record). forgery_by s w z ≡ None) both.1 fine
 
 -- and it is kept that it was tested
-pub tests-put : (s : Setting) (w : Meant) (told : List Told) (v : Kept) (r : Record) (bytes : List ℕ) → Holds s w told v → IsSignedRecord r → bytes ≡ record_bytes r → forgery_by s w r ≡ None → Holds s w told (record v { tested = v.tested ++ bytes ∷ [] })
+pub tests-put : (s : Setting) (w : ModelWorld) (told : List NodeEvent) (v : Kept) (r : Record) (bytes : List ℕ) → Holds s w told v → IsSignedRecord r → bytes ≡ record_bytes r → forgery_by s w r ≡ None → Holds s w told (record v { tested = v.tested ++ bytes ∷ [] })
 tests-put s w told v r bytes h signed is fine = holds-tested s w told v (v.tested ++ bytes ∷ []) (clean-push s w v.tested bytes h.tested (one-record s w r bytes signed is fine)) h
 
 -- ---- what is read
@@ -158,12 +158,12 @@ pub read-is : (r : Result Datagram ℕ) (d : Datagram) → GivesDatagram r (Ok d
 read-is (Ok e) d h = ap (λ (z : Datagram). Ok z) (sym h)
 read-is (Err place) d h = cc
 
-pub bad-is : (s : Setting) (w : Meant) (r : Result Datagram ℕ) (place : ℕ) → GivesDatagram r (Err (forms.BadForm place)) → forgery_in s w r ≡ None
+pub bad-is : (s : Setting) (w : ModelWorld) (r : Result Datagram ℕ) (place : ℕ) → GivesDatagram r (Err (forms.BadForm place)) → forgery_in s w r ≡ None
 bad-is s w (Ok d) place h = let never : forms.BadForm place ≡ forms.OutOfMemory = h.0 in cc
 bad-is s w (Err found) place h = refl
 
 -- what a fault names is found
-pub tests-fault : (s : Setting) (w : Meant) (told : List Told) (v : Kept) (found : Option Forgery) (fault : WorldFault) → IsForged fault → forged_in fault ≡ found → Tests s w told v found (Err fault)
+pub tests-fault : (s : Setting) (w : ModelWorld) (told : List NodeEvent) (v : Kept) (found : Option Forgery) (fault : WorldFault) → IsForged fault → forged_in fault ≡ found → Tests s w told v found (Err fault)
 tests-fault s w told v found (faults.Forged who body) h is = sym is
 tests-fault s w told v found faults.OutOfMemory h is = absurd h
 
@@ -191,31 +191,31 @@ find-past p (x ∷ xs) (suc i) low = find-past p xs i (omega (arith, low))
 
 -- ---- records in a loop
 
-pub first-at : (s : Setting) (w : Meant) (records : List Record) (i : ℕ) (r : Record) → i < length records → r ≡ get_or records i r → first_forgery s w (drop i records) ≡ option_or (forgery_by s w r) (first_forgery s w (drop (suc i) records))
+pub first-at : (s : Setting) (w : ModelWorld) (records : List Record) (i : ℕ) (r : Record) → i < length records → r ≡ get_or records i r → first_forgery s w (drop i records) ≡ option_or (forgery_by s w r) (first_forgery s w (drop (suc i) records))
 first-at s w records i r low is = ap (first_forgery s w) (drop-cons records i r low) ∙ ap (λ (z : Record). option_or (forgery_by s w z) (first_forgery s w (drop (suc i) records))) (sym is)
 
-pub first-past : (s : Setting) (w : Meant) (records : List Record) (i : ℕ) → length records ≤ i → first_forgery s w (drop i records) ≡ None
+pub first-past : (s : Setting) (w : ModelWorld) (records : List Record) (i : ℕ) → length records ≤ i → first_forgery s w (drop i records) ≡ None
 first-past s w [] zero low = refl
 first-past s w [] (suc i) low = refl
 first-past s w (x ∷ records) zero low = absurd (omega (arith, low))
 first-past s w (x ∷ records) (suc i) low = first-past s w records i (omega (arith, low))
 
-pub tests-first : (s : Setting) (w : Meant) (told : List Told) (v : Kept) (found rest : Option Forgery) (result : Result (Unit {0}) WorldFault) → is_err result ≡ true → Tests s w told v found result → Tests s w told v (option_or found rest) result
+pub tests-first : (s : Setting) (w : ModelWorld) (told : List NodeEvent) (v : Kept) (found rest : Option Forgery) (result : Result (Unit {0}) WorldFault) → is_err result ≡ true → Tests s w told v found result → Tests s w told v (option_or found rest) result
 tests-first s w told v found rest (Ok done) err h = absurd (false≢true err)
 tests-first s w told v found rest (Err (faults.Forged who body)) err h = ap (λ (o : Option Forgery). option_or o rest) h
 tests-first s w told v found rest (Err faults.OutOfMemory) err h = tt
 
-pub tests-fine : (s : Setting) (w : Meant) (told : List Told) (v : Kept) (found : Option Forgery) (result : Result (Unit {0}) WorldFault) → is_err result ≡ false → Tests s w told v found result → (found ≡ None) × Holds s w told v
+pub tests-fine : (s : Setting) (w : ModelWorld) (told : List NodeEvent) (v : Kept) (found : Option Forgery) (result : Result (Unit {0}) WorldFault) → is_err result ≡ false → Tests s w told v found result → (found ≡ None) × Holds s w told v
 tests-fine s w told v found (Ok done) err h = h
 tests-fine s w told v found (Err fault) err h = absurd (false≢true (sym err))
 
-pub tests-as : (s : Setting) (w : Meant) (told : List Told) (v : Kept) (found other : Option Forgery) (result : Result (Unit {0}) WorldFault) → found ≡ other → Tests s w told v other result → Tests s w told v found result
+pub tests-as : (s : Setting) (w : ModelWorld) (told : List NodeEvent) (v : Kept) (found other : Option Forgery) (result : Result (Unit {0}) WorldFault) → found ≡ other → Tests s w told v other result → Tests s w told v found result
 tests-as s w told v found other result is h = subst (λ (o : Option Forgery). Tests s w told v o result) (sym is) h
 
-pub read-tests : (s : Setting) (w : Meant) (told : List Told) (v : Kept) (bytes : List ℕ) (d : Datagram) (result : Result (Unit {0}) WorldFault) → GivesDatagram (read_of bytes) (Ok d) → Tests s w told v (forgery_in s w (Ok d)) result → Tests s w told v (forgery s w bytes) result
+pub read-tests : (s : Setting) (w : ModelWorld) (told : List NodeEvent) (v : Kept) (bytes : List ℕ) (d : Datagram) (result : Result (Unit {0}) WorldFault) → GivesDatagram (read_of bytes) (Ok d) → Tests s w told v (forgery_in s w (Ok d)) result → Tests s w told v (forgery s w bytes) result
 unfolding forgery
 read-tests s w told v bytes d result read h = tests-as s w told v (forgery_in s w (read_of bytes)) (forgery_in s w (Ok d)) result (ap (forgery_in s w) (read-is (read_of bytes) d read)) h
 
-pub none-tests : (s : Setting) (w : Meant) (told : List Told) (v : Kept) (bytes : List ℕ) (place : ℕ) → GivesDatagram (read_of bytes) (Err (forms.BadForm place)) → Holds s w told v → Tests s w told v (forgery s w bytes) (Ok tt)
+pub none-tests : (s : Setting) (w : ModelWorld) (told : List NodeEvent) (v : Kept) (bytes : List ℕ) (place : ℕ) → GivesDatagram (read_of bytes) (Err (forms.BadForm place)) → Holds s w told v → Tests s w told v (forgery s w bytes) (Ok tt)
 unfolding forgery
 none-tests s w told v bytes place read h = (bad-is s w (read_of bytes) place read, h)

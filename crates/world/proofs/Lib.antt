@@ -1,7 +1,7 @@
 pub mod Clean
 pub mod CourseLemmas
 pub mod PlaceLemmas
-pub mod StationLemmas
+pub mod HostLemmas
 pub mod ChangeLemmas
 pub mod WorldLemmas
 pub mod ForgeryLemmas

@@ -1,4 +1,4 @@
--- What is read off a station.
+-- What is read off a host.
 use Rattle.std.proofs.Common.{◌≡◌, ℕ, false, not, List, Option, Some, None, refl, ap, sym, ◌∙◌, subst}
 use Rattle.std.specs.Prelude.{is_some}
 use Rattle.std.specs.List.{slice_get}
@@ -9,13 +9,13 @@ use Rattle.node_core.specs.Playing as node
 use Rattle.node_rules.specs.Nodes.{is_certified}
 use Rattle.world_rules.specs.Disks as disks
 use Rattle.world_rules.specs.Settings.{Setting}
-use Rattle.world_rules.specs.Worlds.{Life, World as Meant, is_running}
-use Rattle.world_rules.specs.Steps.{Told, moment_of}
-use Rattle.world_station.specs.Stations.{StationState}
-use Rattle.world_station.specs.Holding.{HoldsCurrent}
+use Rattle.world_rules.specs.Worlds.{Life, World as ModelWorld, is_running}
+use Rattle.world_rules.specs.Steps.{NodeEvent, moment_of}
+use Rattle.world_host.specs.Hosts.{HostState}
+use Rattle.world_host.specs.Holding.{HoldsCurrent}
 use Rattle.world.specs.Holding.{Holds, Kept, numbers}
 use Rattle.world.proofs.ChangeLemmas.{number-at}
-use Rattle.world.proofs.StationLemmas.{station-at}
+use Rattle.world.proofs.HostLemmas.{host-at}
 
 pub moment-is : (s : Setting) (e : disks.Disk) (m : ℕ) (v : Option node.Kept) (current : Option Life) → HoldsCurrent s e m v current → option_map_or (λ n. n.membership.moment) v 0 ≡ moment_of s m current
 moment-is s e m None None h = refl
@@ -38,11 +38,11 @@ pub certified-is : (s : Setting) (e : disks.Disk) (m of : ℕ) (v : node.Kept) (
 certified-is s e m of v (Some life) h = ap not (none-mapped (λ (c : CertBody). c.port) (kept_certificate v.roster of) ∙ ap is_some (h.is.roster of))
 certified-is s e m of v None h = absurd h
 
-pub current-at : (s : Setting) (w : Meant) (told : List Told) (v : Kept) (m at : ℕ) (x : StationState) → Holds s w told v → slice_get (numbers v) at ≡ Some m → slice_get v.stations at ≡ Some x
-    → HoldsCurrent s (w.stations m).disk m x.node (w.stations m).current
+pub current-at : (s : Setting) (w : ModelWorld) (told : List NodeEvent) (v : Kept) (m at : ℕ) (x : HostState) → Holds s w told v → slice_get (numbers v) at ≡ Some m → slice_get v.hosts at ≡ Some x
+    → HoldsCurrent s (w.hosts m).disk m x.node (w.hosts m).current
 current-at s w told v m at x h is found =
-    let own : x.member ≡ m = number-at v.stations m at x is found in
-    subst (λ (k : ℕ). HoldsCurrent s (w.stations k).disk k x.node (w.stations k).current) own (station-at s h.ots h.tree w at v.stations x found h.stations).current
+    let own : x.member ≡ m = number-at v.hosts m at x is found in
+    subst (λ (k : ℕ). HoldsCurrent s (w.hosts k).disk k x.node (w.hosts k).current) own (host-at s h.ots h.tree w at v.hosts x found h.hosts).current
 
-pub runs-at : (s : Setting) (w : Meant) (told : List Told) (v : Kept) (m at : ℕ) (x : StationState) → Holds s w told v → slice_get (numbers v) at ≡ Some m → slice_get v.stations at ≡ Some x → is_some x.node ≡ is_running w m
-runs-at s w told v m at x h is found = running-is s (w.stations m).disk m x.node (w.stations m).current (current-at s w told v m at x h is found)
+pub runs-at : (s : Setting) (w : ModelWorld) (told : List NodeEvent) (v : Kept) (m at : ℕ) (x : HostState) → Holds s w told v → slice_get (numbers v) at ≡ Some m → slice_get v.hosts at ≡ Some x → is_some x.node ≡ is_running w m
+runs-at s w told v m at x h is found = running-is s (w.hosts m).disk m x.node (w.hosts m).current (current-at s w told v m at x h is found)

@@ -23,18 +23,18 @@ use Rattle.signer.specs.Lives.{Spent}
 use Rattle.signer.specs.Signing.{signed_by}
 use Rattle.world_rules.specs.Keys.{owner_key, setting_for}
 use Rattle.world_rules.specs.Settings.{Owner, Setting, Signed, is_liar, record_of, same_owner}
-use Rattle.world_rules.specs.Worlds.{Named, World as Meant, named_so, next_of_liar, spent_if_by, spent_of}
-use Rattle.world_rules.specs.Steps.{Told, given_bytes, lies}
+use Rattle.world_rules.specs.Worlds.{Named, World as ModelWorld, named_so, next_of_liar, spent_if_by, spent_of}
+use Rattle.world_rules.specs.Steps.{NodeEvent, given_bytes, lies}
 use Rattle.world_rules.proofs.Once.{own-push}
 use Rattle.world.specs.declared.liar.Given.{Given}
 use Rattle.world.specs.declared.liar.Liar.{Liar}
-use Rattle.world_station.specs.Stations.{StationState}
+use Rattle.world_host.specs.Hosts.{HostState}
 use Rattle.world.specs.Lying.{Lied}
 use Rattle.world.specs.Holding.{Holds, HoldsLiar, HoldsPlace, Kept, given_under}
 use Rattle.world.proofs.Clean.{all_clean_still}
 use Rattle.world.proofs.NameLemmas.{Entries, entries_of, put, put-named}
 use Rattle.world.proofs.PlaceLemmas.{kept-listed, listed-node, rises-in_order}
-use Rattle.world.proofs.StationLemmas.{station-stays}
+use Rattle.world.proofs.HostLemmas.{host-stays}
 
 -- ---- signatures
 
@@ -51,11 +51,11 @@ signs_other who x (y ∷ signed) apart =
 some-same : (x m : ℕ) → Some x ≡ Some m → x ≡ m
 some-same x m e = cc
 
-lied-holds : (s : Setting) (ots : OtsKind) (tree : TreeKind) (w : Meant) (x later : Liar) (body : Body) (name : List ℕ) → Lied x later body → HoldsLiar s ots tree w x → HoldsLiar s ots tree (lies s x.member body name w).world later
+lied-holds : (s : Setting) (ots : OtsKind) (tree : TreeKind) (w : ModelWorld) (x later : Liar) (body : Body) (name : List ℕ) → Lied x later body → HoldsLiar s ots tree w x → HoldsLiar s ots tree (lies s x.member body name w).world later
 lied-holds s ots tree w x later body name l h =
     let index : ℕ = next_of_liar w x.member in
     let grown = own-push x.member index body w.signed in
-    let after : Meant = (lies s x.member body name w).world in
+    let after : ModelWorld = (lies s x.member body name w).world in
     let spent : spent_of after (Some later.member) ≡ spent_of w (Some x.member) ++ record { index = index; body = body } ∷ [] = ap (λ (k : ℕ). spent_of after (Some k)) l.member ∙ grown in
     record {
       key = ap (λ k. k.key) l.key ∙ h.key ∙ ap (λ (k : ℕ). owner_key s.group ots tree (Some k)) (sym l.member);
@@ -72,11 +72,11 @@ lied-holds s ots tree w x later body name l h =
     map-push f (z ∷ xs) y = ap (λ (zs : List Body). f z ∷ zs) (map-push f xs y)
 
 -- Nothing becomes of what this liar has spent.
-liar-stays : (s : Setting) (ots : OtsKind) (tree : TreeKind) (w later : Meant) (x : Liar) → spent_of later (Some x.member) ≡ spent_of w (Some x.member) → HoldsLiar s ots tree w x → HoldsLiar s ots tree later x
+liar-stays : (s : Setting) (ots : OtsKind) (tree : TreeKind) (w later : ModelWorld) (x : Liar) → spent_of later (Some x.member) ≡ spent_of w (Some x.member) → HoldsLiar s ots tree w x → HoldsLiar s ots tree later x
 liar-stays s ots tree w later x same h =
     record { key = h.key; next = h.next ∙ sym (ap length same); signed = h.signed ∙ sym (ap (map (λ y. y.body)) same) }
 
-liars-stay-above : (s : Setting) (ots : OtsKind) (tree : TreeKind) (w later : Meant) (m low : ℕ) (xs : List Liar) → m < low → Rises low (map (λ x. x.member) xs) → ((k : ℕ) → eqb k m ≡ false → spent_of later (Some k) ≡ spent_of w (Some k))
+liars-stay-above : (s : Setting) (ots : OtsKind) (tree : TreeKind) (w later : ModelWorld) (m low : ℕ) (xs : List Liar) → m < low → Rises low (map (λ x. x.member) xs) → ((k : ℕ) → eqb k m ≡ false → spent_of later (Some k) ≡ spent_of w (Some k))
     → AllByRecursion (HoldsLiar s ots tree w) xs → AllByRecursion (HoldsLiar s ots tree later) xs
 liars-stay-above s ots tree w later m low [] above rises same h = tt
 liars-stay-above s ots tree w later m low (x ∷ xs) above rises same h =
@@ -91,7 +91,7 @@ above-first low m at [] rises is = cc
 above-first low m zero (x ∷ numbers) rises is = let same : x ≡ m = some-same x m is in omega (arith, rises.0, same)
 above-first low m (suc at) (x ∷ numbers) rises is = let h = above-first (x + 1) m at numbers rises.1 is in omega (arith, rises.0, h)
 
-liar-changes : (s : Setting) (ots : OtsKind) (tree : TreeKind) (w later : Meant) (m low at : ℕ) (xs : List Liar) (x : Liar) → Rises low (map (λ x. x.member) xs) → slice_get (map (λ x. x.member) xs) at ≡ Some m
+liar-changes : (s : Setting) (ots : OtsKind) (tree : TreeKind) (w later : ModelWorld) (m low at : ℕ) (xs : List Liar) (x : Liar) → Rises low (map (λ x. x.member) xs) → slice_get (map (λ x. x.member) xs) at ≡ Some m
     → ((k : ℕ) → eqb k m ≡ false → spent_of later (Some k) ≡ spent_of w (Some k)) → HoldsLiar s ots tree later x → AllByRecursion (HoldsLiar s ots tree w) xs → AllByRecursion (HoldsLiar s ots tree later) (set xs at x)
 liar-changes s ots tree w later m low at [] x rises is same new h = cc
 liar-changes s ots tree w later m low zero (y ∷ xs) x rises is same new h =
@@ -105,7 +105,7 @@ liar-changes s ots tree w later m low (suc at) (y ∷ xs) x rises is same new h 
     below : (a b : ℕ) → a + 1 ≤ b → eqb a b ≡ false
     below a b l = grind (arith, nat_tests)
 
-pub liar-at : (s : Setting) (ots : OtsKind) (tree : TreeKind) (w : Meant) (at : ℕ) (xs : List Liar) (x : Liar) → slice_get xs at ≡ Some x → AllByRecursion (HoldsLiar s ots tree w) xs → HoldsLiar s ots tree w x
+pub liar-at : (s : Setting) (ots : OtsKind) (tree : TreeKind) (w : ModelWorld) (at : ℕ) (xs : List Liar) (x : Liar) → slice_get xs at ≡ Some x → AllByRecursion (HoldsLiar s ots tree w) xs → HoldsLiar s ots tree w x
 liar-at s ots tree w at [] x is h = cc
 liar-at s ots tree w zero (y ∷ xs) x is h = subst (HoldsLiar s ots tree w) (same y x is) h.0
   where
@@ -123,12 +123,12 @@ members-set (y ∷ xs) (suc at) x is = ap (λ (ks : List ℕ). y.member ∷ ks) 
 
 -- ---- nodes are others
 
-stations-same : (s : Setting) (ots : OtsKind) (tree : TreeKind) (w later : Meant) (key : ℕ) (xs : List StationState) → ((k : ℕ) → later.stations k ≡ w.stations k) → ((k : ℕ) → eqb k key ≡ false → spent_of later (Some k) ≡ spent_of w (Some k))
+hosts-same : (s : Setting) (ots : OtsKind) (tree : TreeKind) (w later : ModelWorld) (key : ℕ) (xs : List HostState) → ((k : ℕ) → later.hosts k ≡ w.hosts k) → ((k : ℕ) → eqb k key ≡ false → spent_of later (Some k) ≡ spent_of w (Some k))
     → list_any (λ k. eqb k key) (map (λ x. x.member) xs) ≡ false → AllByRecursion (HoldsPlace s ots tree w) xs → AllByRecursion (HoldsPlace s ots tree later) xs
-stations-same s ots tree w later key [] places same none h = tt
-stations-same s ots tree w later key (x ∷ xs) places same none h =
+hosts-same s ots tree w later key [] places same none h = tt
+hosts-same s ots tree w later key (x ∷ xs) places same none h =
     let parts = both-fail (eqb x.member key) (list_any (λ k. eqb k key) (map (λ x. x.member) xs)) none in
-    (station-stays s ots tree w later x (record { station = places x.member; spent = same x.member parts.0 }) h.0, stations-same s ots tree w later key xs places same parts.1 h.1)
+    (host-stays s ots tree w later x (record { host = places x.member; spent = same x.member parts.0 }) h.0, hosts-same s ots tree w later key xs places same parts.1 h.1)
   where
     both-fail : (a b : Bool) → (a || b) ≡ false → (a ≡ false) × (b ≡ false)
     both-fail true b e = absurd (false≢true (sym e))
@@ -136,12 +136,12 @@ stations-same s ots tree w later key (x ∷ xs) places same none h =
 
 -- ---- the whole
 
-pub holds-lied : (s : Setting) (w : Meant) (told : List Told) (v : Kept) (key at : ℕ) (x later : Liar) (body : Body) (name : List ℕ) (named : List (List ℕ × List ℕ)) → Holds s w told v → slice_get (map (λ y. y.member) v.liars) at ≡ Some key
+pub holds-lied : (s : Setting) (w : ModelWorld) (told : List NodeEvent) (v : Kept) (key at : ℕ) (x later : Liar) (body : Body) (name : List ℕ) (named : List (List ℕ × List ℕ)) → Holds s w told v → slice_get (map (λ y. y.member) v.liars) at ≡ Some key
     → slice_get v.liars at ≡ Some x → Lied x later body → ((other : List ℕ) → given_under named other ≡ option_map given_bytes (named_so (lies s key body name w).world other))
     → Holds s (lies s key body name w).world told (record v { liars = set v.liars at later; named = named })
 holds-lied s w told v key at x later body name named h is found lied under =
     let signed : Signed = record { who = Some key; index = next_of_liar w key; body = body } in
-    let after : Meant = (lies s key body name w).world in
+    let after : ModelWorld = (lies s key body name w).world in
     let own : x.member ≡ key = some-same x.member key (sym (slice_get-map (λ (y : Liar). y.member) v.liars at ∙ ap (option_map (λ (y : Liar). y.member)) found) ∙ is) in
     let liar : is_liar s key ≡ true = kept-listed s.liars (map (λ y. y.member) v.liars) key at h.lying is in
     let others : (k : ℕ) → eqb k key ≡ false → spent_of after (Some k) ≡ spent_of w (Some k) = λ k apart. signs_other (Some k) signed w.signed (swapped k key apart) in
@@ -155,7 +155,7 @@ holds-lied s w told v key at x later body name named h is found lied under =
       idle = h.idle;
       silent = λ k no_node no_liar. others k (differ k key no_liar liar) ∙ h.silent k no_node no_liar;
       nodes = h.nodes;
-      stations = stations-same s h.ots h.tree w after key v.stations (λ k. refl) others (no-node key liar) h.stations;
+      hosts = hosts-same s h.ots h.tree w after key v.hosts (λ k. refl) others (no-node key liar) h.hosts;
       lying = members-set v.liars at later (is ∙ ap (λ (k : ℕ). Some k) (sym (lied.member ∙ own))) ∙ h.lying;
       liars = liar-changes s h.ots h.tree w after key 0 at v.liars later (subst (Rises 0) (sym h.lying) (rises-in_order s.liars)) is others
           (subst (λ (k : ℕ). HoldsLiar s h.ots h.tree (lies s k body name w).world later) own (lied-holds s h.ots h.tree w x later body name lied (liar-at s h.ots h.tree w at v.liars x found h.liars))) h.liars;
@@ -172,10 +172,10 @@ holds-lied s w told v key at x later body name named h is found lied under =
     differ : (k key : ℕ) → is_liar s k ≡ false → is_liar s key ≡ true → eqb k key ≡ false
     differ k key fails holds = elim (cases_Bool (eqb k key)) [ inl same ↦ absurd (false≢true (sym fails ∙ ap (is_liar s) (eqb-true k key same) ∙ holds)) | inr apart ↦ apart ]
 
-    no-node : (key : ℕ) → is_liar s key ≡ true → list_any (λ k. eqb k key) (map (λ x. x.member) v.stations) ≡ false
+    no-node : (key : ℕ) → is_liar s key ≡ true → list_any (λ k. eqb k key) (map (λ x. x.member) v.hosts) ≡ false
     no-node key holds =
-        elim (cases_Bool (list_any (λ k. eqb k key) (map (λ x. x.member) v.stations))) [
-          | inl there ↦ absurd (false≢true (sym (h.apart key (listed-node s (map (λ x. x.member) v.stations) key h.nodes there)) ∙ holds))
+        elim (cases_Bool (list_any (λ k. eqb k key) (map (λ x. x.member) v.hosts))) [
+          | inl there ↦ absurd (false≢true (sym (h.apart key (listed-node s (map (λ x. x.member) v.hosts) key h.nodes there)) ∙ holds))
           | inr apart ↦ apart
         ]
 
@@ -201,7 +201,7 @@ pub record Signs (v : Kept) (at : ℕ) (x later : Liar) (body : Body) (checked :
   pub bytes : g.bytes ≡ datagram_bytes (kinds.Records later.member (checked.rec ∷ []))
   pub key : k.items ≡ name
 
-pub lie-holds : (s : Setting) (w : Meant) (told : List Told) (v : Kept) (key at : ℕ) (x later : Liar) (body : Body) (checked : CheckedRecord) (name : List ℕ) (k : Vec ℕ Global) (g : Given) (es : Entries) → Holds s w told v
+pub lie-holds : (s : Setting) (w : ModelWorld) (told : List NodeEvent) (v : Kept) (key at : ℕ) (x later : Liar) (body : Body) (checked : CheckedRecord) (name : List ℕ) (k : Vec ℕ Global) (g : Given) (es : Entries) → Holds s w told v
     → slice_get (map (λ y. y.member) v.liars) at ≡ Some key → v.named ≡ entries_of es → Signs v at x later body checked name k g
     → (x.key.next ≡ next_of_liar w key) × Holds s (lies s key body name w).world told (record v { liars = set v.liars at later; named = entries_of (put es k g) })
 lie-holds s w told v key at x later body checked name k g es h is kept signs =

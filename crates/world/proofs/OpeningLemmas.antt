@@ -25,10 +25,10 @@ use Rattle.world_rules.specs.Keys.{owner_key, setting_for}
 use Rattle.world_rules.specs.Settings.{Setting, Signed, certificate, certificates, certified_from, is_liar, is_node, by_authority, members, nodes, record_of}
 use Rattle.world_rules.specs.Worlds.{begun_world, spent_if_by, spent_of}
 use Rattle.world_rules.proofs.Once.{authority-spent}
-use Rattle.world_keys.specs.Certifying.{Certifying}
+use Rattle.world_host.specs.Certifying.{Certifying}
 use Rattle.world.specs.declared.liar.Liar.{Liar}
-use Rattle.world_station.specs.Stations.{StationState}
-use Rattle.world_station.specs.Holding.{HoldsStation, IsWorld, made_place}
+use Rattle.world_host.specs.Hosts.{HostState}
+use Rattle.world_host.specs.Holding.{HoldsHost, IsWorld, made_place}
 use Rattle.world.specs.Counting.{AreKept}
 use Rattle.world.specs.Holding.{Holds, HoldsLiar, HoldsPlace, Kept, given_under}
 use Rattle.world.specs.Testing.{IsClean}
@@ -80,10 +80,10 @@ certified-push s i (k ∷ ms) m =
 
 -- ---- what is new
 
--- a station where no life has begun stands in the world that is begun
-new-station : (s : Setting) (ots : OtsKind) (tree : TreeKind) (x : StationState) → HoldsStation s ots tree (made_place s) [] x → HoldsPlace s ots tree (begun_world s) x
+-- a host where no life has begun stands in the world that is begun
+new-host : (s : Setting) (ots : OtsKind) (tree : TreeKind) (x : HostState) → HoldsHost s ots tree (made_place s) [] x → HoldsPlace s ots tree (begun_world s) x
 unfolding begun_world
-new-station s ots tree x h = subst (λ (z : List Spent). HoldsStation s ots tree (made_place s) z x) (sym (authority-spent s x.member)) h
+new-host s ots tree x h = subst (λ (z : List Spent). HoldsHost s ots tree (made_place s) z x) (sym (authority-spent s x.member)) h
 
 -- and so does a liar that has signed nothing
 new-liar : (s : Setting) (ots : OtsKind) (tree : TreeKind) (m : ℕ) (secret : Secret) (x : Liar) → IsNewLiar m secret x → secret ≡ owner_key s.group ots tree (Some m) → HoldsLiar s ots tree (begun_world s) x
@@ -167,8 +167,8 @@ builds-node s ots tree m signing later v new secret world own node not a step h 
       group = h.group;
       authority = h.authority;
       certified = certified-more s ots tree m signing v secret world.made own (node-either s m node) h;
-      nodes = map-push (λ (x : StationState). x.member) v.stations a.station ∙ ap (λ (z : List ℕ). z ++ a.station.member ∷ []) h.nodes ∙ ap (λ (k : ℕ). listed_below s.correct m ++ k ∷ []) a.member ∙ sym (one-listed s.correct m node);
-      stations = all-push (HoldsPlace s ots tree (begun_world s)) v.stations a.station h.stations (new-station s ots tree a.station (a.holds s ots tree world own));
+      nodes = map-push (λ (x : HostState). x.member) v.hosts a.host ∙ ap (λ (z : List ℕ). z ++ a.host.member ∷ []) h.nodes ∙ ap (λ (k : ℕ). listed_below s.correct m ++ k ∷ []) a.member ∙ sym (one-listed s.correct m node);
+      hosts = all-push (HoldsPlace s ots tree (begun_world s)) v.hosts a.host h.hosts (new-host s ots tree a.host (a.holds s ots tree world own));
       lying = h.lying ∙ sym (none-listed s.liars m not);
       liars = h.liars;
       sent = h.sent;
@@ -189,7 +189,7 @@ builds-liar s ots tree m signing later v new secret world own not liar a step h 
       authority = h.authority;
       certified = certified-more s ots tree m signing v secret world.made own (liar-either s m liar) h;
       nodes = h.nodes ∙ sym (none-listed s.correct m not);
-      stations = h.stations;
+      hosts = h.hosts;
       lying = map-push (λ (x : Liar). x.member) v.liars a.liar ∙ ap (λ (z : List ℕ). z ++ a.liar.member ∷ []) h.lying ∙ ap (λ (k : ℕ). listed_below s.liars m ++ k ∷ []) a.is_new.member ∙ sym (one-listed s.liars m liar);
       liars = all-push (HoldsLiar s ots tree (begun_world s)) v.liars a.liar h.liars (new-liar s ots tree m secret a.liar a.is_new (own ∙ ap (λ (g : Group). owner_key g ots tree (Some m)) h.group));
       sent = h.sent;
@@ -208,7 +208,7 @@ builds-none s ots tree m signing v no_node no_liar h =
       authority = h.authority;
       certified = h.certified ∙ ap (λ (z : List ℕ). map (record_of s) (certified_from s 0 z)) (sym nobody);
       nodes = h.nodes ∙ sym (none-listed s.correct m no_node);
-      stations = h.stations;
+      hosts = h.hosts;
       lying = h.lying ∙ sym (none-listed s.liars m no_liar);
       liars = h.liars;
       sent = h.sent;
@@ -265,7 +265,7 @@ new_authority g key = record { group = g; key = key; certificates = [] }
 
 -- Below 0 there is nobody.
 pub builds-first : (g : Group) (ots : OtsKind) (tree : TreeKind) (correct liars : List ℕ) (signing : LeavesOf) (v : Kept) → signing.key ≡ owner_key g ots tree None → signing.next ≡ 0 → v.authority ≡ new_authority g (public_of signing.key)
-    → v.stations ≡ [] → v.liars ≡ [] → v.sent ≡ [] → v.flowed ≡ 0 → v.named ≡ [] → v.tested ≡ [] → AreKept v.counts nothing_counted → Builds (setting_for g ots tree correct liars) ots tree 0 signing v
+    → v.hosts ≡ [] → v.liars ≡ [] → v.sent ≡ [] → v.flowed ≡ 0 → v.named ≡ [] → v.tested ≡ [] → AreKept v.counts nothing_counted → Builds (setting_for g ots tree correct liars) ots tree 0 signing v
 unfolding setting_for
 builds-first g ots tree correct liars signing v key next authority nobody no_liar sent flowed named tested counts =
     record {
@@ -275,7 +275,7 @@ builds-first g ots tree correct liars signing v key next authority nobody no_lia
       authority = ap (λ a. a.key) authority ∙ ap public_of key;
       certified = ap (λ a. recs_of a.certificates) authority;
       nodes = ap (map (λ x. x.member)) nobody;
-      stations = subst (AllByRecursion (HoldsPlace (setting_for g ots tree correct liars) ots tree (begun_world (setting_for g ots tree correct liars)))) (sym nobody) tt;
+      hosts = subst (AllByRecursion (HoldsPlace (setting_for g ots tree correct liars) ots tree (begun_world (setting_for g ots tree correct liars)))) (sym nobody) tt;
       lying = ap (map (λ x. x.member)) no_liar;
       liars = subst (AllByRecursion (HoldsLiar (setting_for g ots tree correct liars) ots tree (begun_world (setting_for g ots tree correct liars)))) (sym no_liar) tt;
       sent = sent;
@@ -320,7 +320,7 @@ holds-built s ots tree n signing v all world apart h =
       idle = λ m other. refl;
       silent = λ m other honest. authority-spent s m;
       nodes = h.nodes ∙ sym (all-nodes s n all);
-      stations = h.stations;
+      hosts = h.hosts;
       lying = h.lying ∙ sym (listed-all s.liars n all);
       liars = h.liars;
       sent = h.sent;

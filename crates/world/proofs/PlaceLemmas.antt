@@ -13,7 +13,7 @@ use Rattle.node_rules.specs.Nodes.{in_order}
 use Rattle.node_rules.specs.OnRings.{Rises}
 use Rattle.world_rules.specs.Settings.{Setting, is_node, nodes}
 use Rattle.world.specs.declared.liar.Liar.{Liar}
-use Rattle.world_station.specs.Stations.{StationState}
+use Rattle.world_host.specs.Hosts.{HostState}
 use Rattle.world.specs.Holding.{Kept, numbers}
 use Rattle.world.specs.Courses.{IsLiarPlace, IsNodePlace}
 
@@ -171,8 +171,8 @@ liar-place : (s : Setting) (v : Kept) (m : ℕ) (o : Option ℕ) → IsListed s.
 liar-place s v m None h = h
 liar-place s v m (Some at) h = h
 
-pub is-node-place : (s : Setting) (v : Kept) (m : ℕ) (o : Option ℕ) → m < MEMBERS → numbers v ≡ nodes s → o ≡ position (λ x. eqb x.member m) v.stations → IsNodePlace s v m o
-is-node-place s v m o low is found = node-place s v m o (listed-place s.correct m (numbers v) o low (is ∙ nodes-are s) (found-position (λ (x : StationState). x.member) m v.stations o found))
+pub is-node-place : (s : Setting) (v : Kept) (m : ℕ) (o : Option ℕ) → m < MEMBERS → numbers v ≡ nodes s → o ≡ position (λ x. eqb x.member m) v.hosts → IsNodePlace s v m o
+is-node-place s v m o low is found = node-place s v m o (listed-place s.correct m (numbers v) o low (is ∙ nodes-are s) (found-position (λ (x : HostState). x.member) m v.hosts o found))
 
 pub is-liar-place : (s : Setting) (v : Kept) (m : ℕ) (o : Option ℕ) → m < MEMBERS → map (λ x. x.member) v.liars ≡ in_order s.liars → o ≡ position (λ x. eqb x.member m) v.liars → IsLiarPlace s v m o
 is-liar-place s v m o low is found = liar-place s v m o (listed-place s.liars m (map (λ x. x.member) v.liars) o low is (found-position (λ (x : Liar). x.member) m v.liars o found))

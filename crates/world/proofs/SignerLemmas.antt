@@ -9,15 +9,15 @@ use Rattle.signer.specs.Lives.{Spent}
 use Rattle.world_rules.specs.Keys.{setting_for}
 use Rattle.world_rules.specs.Refusals.{epoch_of_note, greatest, newest_signed}
 use Rattle.world_rules.specs.Settings.{Setting}
-use Rattle.world_rules.specs.Steps.{Told}
-use Rattle.world_rules.specs.Worlds.{World as Meant, next_of_liar, spent_of}
+use Rattle.world_rules.specs.Steps.{NodeEvent}
+use Rattle.world_rules.specs.Worlds.{World as ModelWorld, next_of_liar, spent_of}
 use Rattle.world.specs.declared.liar.Liar.{Liar}
-use Rattle.world_station.specs.Stations.{StationState}
+use Rattle.world_host.specs.Hosts.{HostState}
 use Rattle.world.specs.Holding.{Holds, Kept, liar_numbers, numbers}
 use Rattle.world.specs.Courses.{key_used_up}
 use Rattle.world.proofs.ChangeLemmas.{number-at}
 use Rattle.world.proofs.LyingLemmas.{liar-at, liar-number}
-use Rattle.world.proofs.StationLemmas.{station-at}
+use Rattle.world.proofs.HostLemmas.{host-at}
 
 -- ---- the newest note
 
@@ -25,38 +25,38 @@ through-map : {X Y Z : Type 0} (f : X → Y) (g : Y → Option Z) (xs : List X) 
 through-map f g [] = refl
 through-map {Z = Z} f g (x ∷ xs) = ap (cons_option (g (f x))) (through-map f g xs)
 
-pub newest-of : (w : Meant) (m : ℕ) (bodies : List Body) → bodies ≡ map (λ y. y.body) (spent_of w (Some m)) → greatest (filter_map (epoch_of_note m) bodies) ≡ newest_signed w m
+pub newest-of : (w : ModelWorld) (m : ℕ) (bodies : List Body) → bodies ≡ map (λ y. y.body) (spent_of w (Some m)) → greatest (filter_map (epoch_of_note m) bodies) ≡ newest_signed w m
 newest-of w m bodies is = ap (λ (z : List Body). greatest (filter_map (epoch_of_note m) z)) is ∙ ap greatest (through-map (λ (y : Spent). y.body) (epoch_of_note m) (spent_of w (Some m)))
 
-pub newest-station : (s : Setting) (w : Meant) (told : List Told) (v : Kept) (m at : ℕ) (x : StationState) → Holds s w told v → slice_get (numbers v) at ≡ Some m → slice_get v.stations at ≡ Some x
+pub newest-host : (s : Setting) (w : ModelWorld) (told : List NodeEvent) (v : Kept) (m at : ℕ) (x : HostState) → Holds s w told v → slice_get (numbers v) at ≡ Some m → slice_get v.hosts at ≡ Some x
     → greatest (filter_map (epoch_of_note x.member) x.signed) ≡ newest_signed w m
-newest-station s w told v m at x h is found =
-    newest-of w x.member x.signed (station-at s h.ots h.tree w at v.stations x found h.stations).signed ∙ ap (newest_signed w) (number-at v.stations m at x is found)
+newest-host s w told v m at x h is found =
+    newest-of w x.member x.signed (host-at s h.ots h.tree w at v.hosts x found h.hosts).signed ∙ ap (newest_signed w) (number-at v.hosts m at x is found)
 
-pub newest-liar : (s : Setting) (w : Meant) (told : List Told) (v : Kept) (m at : ℕ) (x : Liar) → Holds s w told v → slice_get (liar_numbers v) at ≡ Some m → slice_get v.liars at ≡ Some x
+pub newest-liar : (s : Setting) (w : ModelWorld) (told : List NodeEvent) (v : Kept) (m at : ℕ) (x : Liar) → Holds s w told v → slice_get (liar_numbers v) at ≡ Some m → slice_get v.liars at ≡ Some x
     → greatest (filter_map (epoch_of_note m) x.signed.items) ≡ newest_signed w m
 newest-liar s w told v m at x h is found =
     let own : x.member ≡ m = liar-number v.liars m at x is found in
     newest-of w m x.signed.items ((liar-at s h.ots h.tree w at v.liars x found h.liars).signed ∙ ap (λ (k : ℕ). map (λ y. y.body) (spent_of w (Some k))) own)
 
-pub newest-none : (w : Meant) (m : ℕ) → spent_of w (Some m) ≡ [] → newest_signed w m ≡ None
+pub newest-none : (w : ModelWorld) (m : ℕ) → spent_of w (Some m) ≡ [] → newest_signed w m ≡ None
 newest-none w m is = ap (λ (z : List Spent). greatest (filter_map (λ x. epoch_of_note m x.body) z)) is
 
-pub liar-next : (s : Setting) (w : Meant) (told : List Told) (v : Kept) (m at : ℕ) (x : Liar) → Holds s w told v → slice_get (liar_numbers v) at ≡ Some m → slice_get v.liars at ≡ Some x → x.key.next ≡ next_of_liar w m
+pub liar-next : (s : Setting) (w : ModelWorld) (told : List NodeEvent) (v : Kept) (m at : ℕ) (x : Liar) → Holds s w told v → slice_get (liar_numbers v) at ≡ Some m → slice_get v.liars at ≡ Some x → x.key.next ≡ next_of_liar w m
 liar-next s w told v m at x h is found = (liar-at s h.ots h.tree w at v.liars x found h.liars).next ∙ ap (next_of_liar w) (liar-number v.liars m at x is found)
 
 -- a liar's key has as many indexes as all
-pub liar-leaves : (s : Setting) (w : Meant) (told : List Told) (v : Kept) (m at : ℕ) (x : Liar) → Holds s w told v → slice_get (liar_numbers v) at ≡ Some m → slice_get v.liars at ≡ Some x → leaf_count x.key.key.tree ≡ s.indexes
+pub liar-leaves : (s : Setting) (w : ModelWorld) (told : List NodeEvent) (v : Kept) (m at : ℕ) (x : Liar) → Holds s w told v → slice_get (liar_numbers v) at ≡ Some m → slice_get v.liars at ≡ Some x → leaf_count x.key.key.tree ≡ s.indexes
 unfolding setting_for
 liar-leaves s w told v m at x h is found =
     ap (λ (k : Secret). leaf_count k.tree) (liar-at s h.ots h.tree w at v.liars x found h.liars).key ∙ sym (ap (λ (z : Setting). z.indexes) h.world.made)
 
-pub used-true : (s : Setting) (w : Meant) (key next read leaves : ℕ) → next ≡ next_of_liar w key → leaves ≡ s.indexes → read ≡ next → eqb next leaves ≡ true → Some read ≡ key_used_up s w key
+pub used-true : (s : Setting) (w : ModelWorld) (key next read leaves : ℕ) → next ≡ next_of_liar w key → leaves ≡ s.indexes → read ≡ next → eqb next leaves ≡ true → Some read ≡ key_used_up s w key
 used-true s w key next read leaves is all same used =
     let test : eqb (next_of_liar w key) s.indexes ≡ true = subst (λ (n : ℕ). eqb n s.indexes ≡ true) is (subst (λ (n : ℕ). eqb next n ≡ true) all used) in
     rw test (ap (λ (n : ℕ). Some n) (same ∙ is))
 
-pub used-false : (s : Setting) (w : Meant) (key next leaves : ℕ) → next ≡ next_of_liar w key → leaves ≡ s.indexes → eqb next leaves ≡ false → None ≡ key_used_up s w key
+pub used-false : (s : Setting) (w : ModelWorld) (key next leaves : ℕ) → next ≡ next_of_liar w key → leaves ≡ s.indexes → eqb next leaves ≡ false → None ≡ key_used_up s w key
 used-false s w key next leaves is all left =
     let test : eqb (next_of_liar w key) s.indexes ≡ false = subst (λ (n : ℕ). eqb n s.indexes ≡ false) is (subst (λ (n : ℕ). eqb next n ≡ false) all left) in
     rw test refl

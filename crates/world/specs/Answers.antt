@@ -1,30 +1,30 @@
 -- What a step of a world answers.
 use Rattle.std.specs.Prelude.{◌≡◌, ℕ, List, ◌++◌, Result, Ok, Err}
-use Rattle.node_core.specs.Told.{IsFront}
+use Rattle.node_core.specs.Told.{IsPrefix}
 use Rattle.schedule_world.specs.declared.line.WorldLine.{WorldLine}
 use Rattle.world_rules.specs.Settings.{Setting}
-use Rattle.world_rules.specs.Worlds.{World as Meant}
+use Rattle.world_rules.specs.Worlds.{World as ModelWorld}
 use Rattle.world_rules.specs.Forgeries.{Forgery}
-use Rattle.world_rules.specs.Steps.{Answer, Told, step}
+use Rattle.world_rules.specs.Steps.{Answer, NodeEvent, step}
 use Rattle.world.specs.declared.fault.WorldFault.{WorldFault}
 use Rattle.world.specs.declared.fault.WorldFault.TheVariants as faults
 use Rattle.world.specs.Telling.{answer_text}
 use Rattle.world.specs.Holding.{Kept, Holds}
 
 -- The line brings this answer: its text was appended, and what is kept stands for the world behind it.
-pub record Gives (s : Setting) (told : List Told) (line : WorldLine) (v : Kept) (old new : List ℕ) (a : Answer) : Type 0 where
+pub record Gives (s : Setting) (told : List NodeEvent) (line : WorldLine) (v : Kept) (old new : List ℕ) (a : Answer) : Type 0 where
   pub holds : Holds s a.world (told ++ a.told) v
   pub written : new ≡ old ++ answer_text line a
 
 -- The step is the definition's. A record that is forged is named exactly there; behind that, and where memory was refused,
 -- what was written is as before.
-abbrev pub Steps : Setting → Meant → List Told → WorldLine → Kept → List ℕ → List ℕ → Result (Unit {0}) WorldFault → Type 0
+abbrev pub Steps : Setting → ModelWorld → List NodeEvent → WorldLine → Kept → List ℕ → List ℕ → Result (Unit {0}) WorldFault → Type 0
 Steps s w told line v old new (Ok done) = (a : Answer) × ((step s w line ≡ Ok a) × Gives s told line v old new a)
 Steps s w told line v old new (Err (faults.Forged who body)) = (step s w line ≡ Err (record { who = who; body = body })) × (new ≡ old)
 Steps s w told line v old new (Err faults.OutOfMemory) = new ≡ old
 
 -- The same of a line that is played: where a record is forged, or memory was refused, more may be written already.
-abbrev pub PlaysLine : Setting → List Told → WorldLine → Kept → List ℕ → List ℕ → Result Answer Forgery → Result (Unit {0}) WorldFault → Type 0
+abbrev pub PlaysLine : Setting → List NodeEvent → WorldLine → Kept → List ℕ → List ℕ → Result Answer Forgery → Result (Unit {0}) WorldFault → Type 0
 PlaysLine s told line v old new r (Ok done) = (a : Answer) × (r ≡ Ok a) × Gives s told line v old new a
-PlaysLine s told line v old new r (Err (faults.Forged who body)) = (r ≡ Err (record { who = who; body = body })) × IsFront old new
-PlaysLine s told line v old new r (Err faults.OutOfMemory) = IsFront old new
+PlaysLine s told line v old new r (Err (faults.Forged who body)) = (r ≡ Err (record { who = who; body = body })) × IsPrefix old new
+PlaysLine s told line v old new r (Err faults.OutOfMemory) = IsPrefix old new

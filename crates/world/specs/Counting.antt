@@ -20,7 +20,7 @@ pub record AreKept (k : Counts) (c : Counted) : Type 0 where
   pub removed_correct : k.removed_correct ≡ kept c.removed_correct
   pub spent : k.spent ≡ kept c.spent
 
--- It tells of the removal of a node.
+-- It reports the removal of a node.
 abbrev pub removes_node : Setting → What → Bool
 removes_node s (happened.Removed m) = is_node s m
 removes_node s other = false

@@ -7,22 +7,22 @@ use Rattle.lms_tree.specs.declared.TreeKind.{TreeKind}
 use Rattle.node_rules.specs.Nodes.{in_order}
 use Rattle.world_rules.specs.Settings.{Setting, certificates, is_liar, is_node, nodes}
 use Rattle.world_rules.specs.Keys.{owner_key}
-use Rattle.world_rules.specs.Worlds.{World as Meant, named_so, next_of_liar, spent_of}
+use Rattle.world_rules.specs.Worlds.{World as ModelWorld, named_so, next_of_liar, spent_of}
 use Rattle.world_rules.specs.Counts.{counts_of}
-use Rattle.world_rules.specs.Steps.{Told, given_bytes}
-use Rattle.world_keys.specs.Certifying.{Certifying}
-use Rattle.world_station.specs.Stations.{StationState}
-use Rattle.world_station.specs.Holding.{Certifies, HoldsStation, IsWorld}
+use Rattle.world_rules.specs.Steps.{NodeEvent, given_bytes}
+use Rattle.world_host.specs.Certifying.{Certifying}
+use Rattle.world_host.specs.Hosts.{HostState}
+use Rattle.world_host.specs.Holding.{Certifies, HoldsHost, IsWorld}
 use Rattle.world.specs.declared.counts.Counts.{Counts}
 use Rattle.world.specs.declared.liar.Liar.{Liar}
 use Rattle.world.specs.Counting.{AreKept}
 use Rattle.world.specs.Testing.{IsClean}
 
--- What a world keeps: its authority, the stations and the liars in order of number, the datagrams that were sent and how
+-- What a world keeps: its authority, the hosts and the liars in order of number, the datagrams that were sent and how
 -- many of them a flow has taken, what is given under a name, the spellings of the records that were tested, and the counts.
 pub record Kept : Type 0 where
   pub authority : Certifying
-  pub stations : List StationState
+  pub hosts : List HostState
   pub liars : List Liar
   pub sent : List (ℕ × List ℕ)
   pub flowed : ℕ
@@ -30,9 +30,9 @@ pub record Kept : Type 0 where
   pub tested : List (List ℕ)
   pub counts : Counts
 
--- The stations' numbers.
+-- The hosts' numbers.
 abbrev pub numbers : Kept → List ℕ
-numbers v = map (λ x. x.member) v.stations
+numbers v = map (λ x. x.member) v.hosts
 
 abbrev pub liar_numbers : Kept → List ℕ
 liar_numbers v = map (λ x. x.member) v.liars
@@ -41,28 +41,28 @@ liar_numbers v = map (λ x. x.member) v.liars
 abbrev pub given_under : List (List ℕ × List ℕ) → List ℕ → Option (List ℕ)
 given_under named name = option_map (λ p. p.1) (find (λ p. bytes_eq name p.0) named)
 
--- The station of a node is as it is in the world.
-abbrev pub HoldsPlace : Setting → OtsKind → TreeKind → Meant → StationState → Type 0
-HoldsPlace s ots tree w x = HoldsStation s ots tree (w.stations x.member) (spent_of w (Some x.member)) x
+-- The host of a node is as it is in the world.
+abbrev pub HoldsPlace : Setting → OtsKind → TreeKind → ModelWorld → HostState → Type 0
+HoldsPlace s ots tree w x = HoldsHost s ots tree (w.hosts x.member) (spent_of w (Some x.member)) x
 
-pub record HoldsLiar (s : Setting) (ots : OtsKind) (tree : TreeKind) (w : Meant) (x : Liar) : Type 0 where
+pub record HoldsLiar (s : Setting) (ots : OtsKind) (tree : TreeKind) (w : ModelWorld) (x : Liar) : Type 0 where
   pub key : x.key.key ≡ owner_key s.group ots tree (Some x.member)
   pub next : x.key.next ≡ next_of_liar w x.member
   pub signed : x.signed.items ≡ map (λ y. y.body) (spent_of w (Some x.member))
 
--- What is kept stands for this world, after these events were told. Nobody is both a node and a liar, nobody runs who is no
+-- What is kept stands for this world, after these events were reported. Nobody is both a node and a liar, nobody runs who is no
 -- node, nobody signs who is neither a node nor a liar, and the authority signs nothing but certificates.
-pub record Holds (s : Setting) (w : Meant) (told : List Told) (v : Kept) : Type 0 where
+pub record Holds (s : Setting) (w : ModelWorld) (told : List NodeEvent) (v : Kept) : Type 0 where
   pub ots : OtsKind
   pub tree : TreeKind
   pub world : IsWorld s v.authority.group ots tree
   pub authority : Certifies s v.authority
   pub issued : map (λ y. y.body) (spent_of w None) ≡ map (λ r. r.body) (certificates s)
   pub apart : (m : ℕ) → is_node s m ≡ true → is_liar s m ≡ false
-  pub idle : (m : ℕ) → is_node s m ≡ false → (w.stations m).current ≡ None
+  pub idle : (m : ℕ) → is_node s m ≡ false → (w.hosts m).current ≡ None
   pub silent : (m : ℕ) → is_node s m ≡ false → is_liar s m ≡ false → spent_of w (Some m) ≡ []
-  pub nodes : map (λ x. x.member) v.stations ≡ nodes s
-  pub stations : AllByRecursion (HoldsPlace s ots tree w) v.stations
+  pub nodes : map (λ x. x.member) v.hosts ≡ nodes s
+  pub hosts : AllByRecursion (HoldsPlace s ots tree w) v.hosts
   pub lying : map (λ x. x.member) v.liars ≡ in_order s.liars
   pub liars : AllByRecursion (HoldsLiar s ots tree w) v.liars
   pub sent : v.sent ≡ w.sent

@@ -11,9 +11,9 @@ use Rattle.records.specs.declared.Body.TheVariants.{Certificate}
 use Rattle.records.specs.Signing.{CheckedRecord}
 use Rattle.signer.specs.Signing.{signed_by}
 use Rattle.world.specs.declared.liar.Liar.{Liar}
-use Rattle.world_station.specs.Stations.{StationState}
-use Rattle.world_station.specs.Holding.{HoldsStation, IsWorld, made_place}
-use Rattle.world_keys.specs.Certifying.{Certifying}
+use Rattle.world_host.specs.Hosts.{HostState}
+use Rattle.world_host.specs.Holding.{HoldsHost, IsWorld, made_place}
+use Rattle.world_host.specs.Certifying.{Certifying}
 use Rattle.node_core.specs.Rolls.{recs_of}
 use Rattle.world_rules.specs.Counts.{nothing_counted}
 use Rattle.world_rules.specs.Keys.{owner_key}
@@ -37,8 +37,8 @@ pub record Builds (s : Setting) (ots : OtsKind) (tree : TreeKind) (n : ℕ) (sig
   pub group : v.authority.group ≡ s.group
   pub authority : v.authority.key ≡ s.key None
   pub certified : recs_of v.authority.certificates ≡ map (record_of s) (certified_from s 0 (listed_below (s.correct ++ s.liars) n))
-  pub nodes : map (λ x. x.member) v.stations ≡ listed_below s.correct n
-  pub stations : AllByRecursion (HoldsPlace s ots tree (begun_world s)) v.stations
+  pub nodes : map (λ x. x.member) v.hosts ≡ listed_below s.correct n
+  pub hosts : AllByRecursion (HoldsPlace s ots tree (begun_world s)) v.hosts
   pub lying : map (λ x. x.member) v.liars ≡ listed_below s.liars n
   pub liars : AllByRecursion (HoldsLiar s ots tree (begun_world s)) v.liars
   pub sent : v.sent ≡ []
@@ -56,12 +56,12 @@ new_certificate a signing m key = signed_by a.group signing.key signing.next (Ce
 abbrev pub with_certificate : Kept → LeavesOf → ℕ → PublicKey → Kept
 with_certificate v signing m key = record v { authority = record v.authority { certificates = v.authority.certificates ++ new_certificate v.authority signing m key ∷ [] } }
 
--- The member was certified, and has its station, where no life has begun.
+-- The member was certified, and has its host, where no life has begun.
 pub record AddsNode (older newer : Kept) (signing : LeavesOf) (m : ℕ) (secret : Secret) : Type 0 where
-  pub station : StationState
-  pub member : station.member ≡ m
-  pub holds : (s : Setting) (ots : OtsKind) (tree : TreeKind) → IsWorld s older.authority.group ots tree → secret ≡ owner_key older.authority.group ots tree (Some m) → HoldsStation s ots tree (made_place s) [] station
-  pub added : newer ≡ record (with_certificate older signing m (public_of secret)) { stations = older.stations ++ station ∷ [] }
+  pub host : HostState
+  pub member : host.member ≡ m
+  pub holds : (s : Setting) (ots : OtsKind) (tree : TreeKind) → IsWorld s older.authority.group ots tree → secret ≡ owner_key older.authority.group ots tree (Some m) → HoldsHost s ots tree (made_place s) [] host
+  pub added : newer ≡ record (with_certificate older signing m (public_of secret)) { hosts = older.hosts ++ host ∷ [] }
 
 -- The liar with this key, which has signed nothing.
 pub record IsNewLiar (m : ℕ) (secret : Secret) (x : Liar) : Type 0 where

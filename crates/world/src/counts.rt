@@ -50,9 +50,10 @@ impl Counts {
         }
     }
 
-    /// Counts what a node told. Where a member was removed, `correct` says whether it is a node.
+    /// Counts what a node reported. Where a member was removed, `correct` says whether it is a node.
     pub fn count(&mut self, what: &What, correct: bool)
-        ensures { (s : Setting) (c : Counted) → AreKept self.old c → correct ≡ removes_node s what.now → AreKept self.new (with_event s c what.now) }
+        ensures { (s : Setting) (c : Counted) → AreKept self.old c
+            → correct ≡ removes_node s what.now → AreKept self.new (with_event s c what.now) }
     {
         match what {
             What::Sent { .. } => self.sent = one_more(self.sent),

@@ -11,8 +11,8 @@ ghost use Rattle.records.specs.Signing.{signed_bytes as signed_bytes_of};
 ghost use Rattle.records.specs.Spelling.{IsWritable, record_bytes};
 ghost use Rattle.world_rules.specs.Forgeries.{first_forgery, forgery, forgery_by, forgery_in, is_forged_for};
 ghost use Rattle.world_rules.specs.Settings.{Setting, nodes};
-ghost use Rattle.world_rules.specs.Steps.{Told};
-ghost use Rattle.world_rules.specs.Worlds.{World as Meant};
+ghost use Rattle.world_rules.specs.Steps.{NodeEvent};
+ghost use Rattle.world_rules.specs.Worlds.{World as ModelWorld};
 ghost use Rattle.world.specs.Courses.{IsPlace, Tests};
 ghost use Rattle.world.specs.Holding.{Holds, numbers};
 ghost use Rattle.world.specs.Testing.{IsForged, forged_in};
@@ -78,7 +78,9 @@ fn spelled(alloc: Global, rec: &Record) -> Result<Vec<u8>, NoMemory>
 
 /// Whether the record's signature is one of this key, in the group.
 fn verifies(group: &Group, key: &PublicKey, rec: &Record) -> bool
-    ensures { result ≡ is_ok (verdict_of key.now (signed_bytes_of group.now.tag group.now.t rec.now.body) rec.now.signature) }
+    ensures { result ≡ is_ok
+        (verdict_of key.now (signed_bytes_of group.now.tag group.now.t rec.now.body)
+        rec.now.signature) }
 {
     let signed = signed_bytes(group, &rec.body);
     verify(key, signed.as_slice(), rec.signature.as_slice()).is_ok()
@@ -87,28 +89,32 @@ fn verifies(group: &Group, key: &PublicKey, rec: &Record) -> bool
 impl World {
     /// Whether the record is forged for the authority.
     fn is_forged_for_authority(&self, rec: &Record) -> bool
-        ensures { (s : Setting) (w : Meant) (told : List Told) → Holds s w told self.now → result ≡ is_forged_for s w rec.now None }
+        ensures { (s : Setting) (w : ModelWorld) (told : List NodeEvent) → Holds s w told self.now
+            → result ≡ is_forged_for s w rec.now None }
     {
         !self.authority.has_signed(&rec.body)
             && verifies(self.authority.group(), self.authority.key(), rec)
     }
 
-    /// Whether the record is forged for the node at this station.
+    /// Whether the record is forged for the node at this host.
     fn is_forged_at(&self, at: usize, rec: &Record) -> bool
-        requires { at < length self.now.stations }
-        ensures { (s : Setting) (w : Meant) (told : List Told) (m : ℕ) → Holds s w told self.now → IsPlace self.now at m → result ≡ is_forged_for s w rec.now (Some m) }
+        requires { at < length self.now.hosts }
+        ensures { (s : Setting) (w : ModelWorld) (told : List NodeEvent) (m : ℕ)
+            → Holds s w told self.now → IsPlace self.now at m
+            → result ≡ is_forged_for s w rec.now (Some m) }
     {
-        let station = &self.stations[at];
-        !station.has_signed(&rec.body) && verifies(self.authority.group(), station.public(), rec)
+        let host = &self.hosts[at];
+        !host.has_signed(&rec.body) && verifies(self.authority.group(), host.public(), rec)
     }
 
     /// The first node for which the record is forged.
     fn forged_node(&self, rec: &Record) -> Option<MemberId>
-        ensures { (s : Setting) (w : Meant) (told : List Told) → Holds s w told self.now → result ≡ find (λ m. is_forged_for s w rec.now (Some m)) (nodes s) }
+        ensures { (s : Setting) (w : ModelWorld) (told : List NodeEvent) → Holds s w told self.now
+            → result ≡ find (λ m. is_forged_for s w rec.now (Some m)) (nodes s) }
     {
-        for at in 0..self.stations.len() {
+        for at in 0..self.hosts.len() {
             if self.is_forged_at(at, rec) {
-                return Some(self.stations[at].member());
+                return Some(self.hosts[at].member());
             }
         }
         None
@@ -116,7 +122,8 @@ impl World {
 
     /// For whom the record is forged, if it is: the authority comes first, and then the nodes in order of number.
     fn forgery_of(&self, rec: &Record) -> Option<WorldFault>
-        ensures value { (s : Setting) (w : Meant) (told : List Told) → Holds s w told self.now → option_and_then forged_in result ≡ forgery_by s w rec.now }
+        ensures value { (s : Setting) (w : ModelWorld) (told : List NodeEvent)
+            → Holds s w told self.now → option_and_then forged_in result ≡ forgery_by s w rec.now }
         ensures cause { IfSome result IsForged }
     {
         let body = rec.body;
@@ -134,7 +141,8 @@ impl World {
         requires writable { IsWritable rec.now }
         requires signed { IsSignedRecord rec.now }
         ensures numbers { numbers self.new ≡ numbers self.old }
-        ensures tests { (s : Setting) (w : Meant) (told : List Told) → Holds s w told self.old → Tests s w told self.new (forgery_by s w rec.now) result }
+        ensures tests { (s : Setting) (w : ModelWorld) (told : List NodeEvent)
+            → Holds s w told self.old → Tests s w told self.new (forgery_by s w rec.now) result }
     {
         let spelled = spelled(self.alloc, rec)?;
         if self.tested.contains(&spelled) {
@@ -151,7 +159,9 @@ impl World {
         requires writable { All IsWritable records.now }
         requires signed { All IsSignedRecord records.now }
         ensures numbers { numbers self.new ≡ numbers self.old }
-        ensures tests { (s : Setting) (w : Meant) (told : List Told) → Holds s w told self.old → Tests s w told self.new (first_forgery s w records.now) result }
+        ensures tests { (s : Setting) (w : ModelWorld) (told : List NodeEvent)
+            → Holds s w told self.old
+            → Tests s w told self.new (first_forgery s w records.now) result }
     {
         for rec in records {
             let tested = self.test_record(rec);
@@ -166,7 +176,9 @@ impl World {
         requires writable { IsSendable datagram.now }
         requires rules { KeepsRules datagram.now }
         ensures numbers { numbers self.new ≡ numbers self.old }
-        ensures tests { (s : Setting) (w : Meant) (told : List Told) → Holds s w told self.old → Tests s w told self.new (forgery_in s w (Ok datagram.now)) result }
+        ensures tests { (s : Setting) (w : ModelWorld) (told : List NodeEvent)
+            → Holds s w told self.old
+            → Tests s w told self.new (forgery_in s w (Ok datagram.now)) result }
     {
         match datagram {
             Datagram::Records { records, .. } => self.test_all(records.as_slice()),
@@ -177,7 +189,8 @@ impl World {
     /// Refuses a datagram in which a record is forged.
     pub(crate) fn test(&mut self, bytes: &[u8]) -> Result<(), WorldFault>
         ensures numbers { numbers self.new ≡ numbers self.old }
-        ensures tests { (s : Setting) (w : Meant) (told : List Told) → Holds s w told self.old → Tests s w told self.new (forgery s w bytes.now) result }
+        ensures tests { (s : Setting) (w : ModelWorld) (told : List NodeEvent)
+            → Holds s w told self.old → Tests s w told self.new (forgery s w bytes.now) result }
     {
         match read(self.alloc, bytes) {
             Ok(datagram) => self.test_datagram(&datagram),

@@ -13,7 +13,7 @@ use fields::{Bytes, NoMemory};
 use lms_tree::SecretKey;
 use records::{Body, Checked, write_record};
 use std::alloc::Global;
-use world_keys::SigningKey;
+use world_host::SigningKey;
 
 /// A liar's key, and what it has signed.
 #[derive(Drop)]
@@ -32,7 +32,9 @@ pub struct Given {
 impl Given {
     /// The datagram with this record, from this member.
     pub fn of(alloc: Global, from: MemberId, checked: &Checked) -> Result<Given, NoMemory>
-        ensures { IfOk result (λ given. given.bytes ≡ datagram_bytes (kinds.Records from (checked.now.rec ∷ []))) }
+        ensures { IfOk result
+            (λ given. given.bytes
+            ≡ datagram_bytes (kinds.Records from (checked.now.rec ∷ []))) }
     {
         let mut bytes = Vec::new(alloc);
         bytes.extend_from_slice(&records_head(from, 1))?;
@@ -66,7 +68,9 @@ impl Liar {
     ) -> Result<Option<Checked>, NoMemory>
         requires { HasPort body }
         ensures member { self.new.member ≡ self.old.member }
-        ensures signed { IfOk result (λ checked. IfSome checked (λ c. c ≡ signed_by group.now self.old.key.key self.old.key.next body)) }
+        ensures signed { IfOk result
+            (λ checked. IfSome checked
+            (λ c. c ≡ signed_by group.now self.old.key.key self.old.key.next body)) }
         ensures lied { IfOk result (λ checked. IfSome checked (λ _c. Lied self.old self.new body)) }
     {
         let signed = self.key.sign(alloc, group, body)?;

@@ -1,12 +1,12 @@
 //! Floor: world. A world of nodes and liars as one value, which a schedule plays: deliveries, ticks, stops and starts,
-//! and records that liars sign. `world_stage`, `world_replay` and `world_soak` call it.
+//! and records that liars sign. `world_replay` calls it.
 #![tactic(auto)]
 
 ghost use Rattle.std.specs.Prelude.{◌≡◌, List};
 ghost use Rattle.world_rules.specs.Counts.{counts_of};
 ghost use Rattle.world_rules.specs.Settings.{Setting};
-ghost use Rattle.world_rules.specs.Steps.{Told};
-ghost use Rattle.world_rules.specs.Worlds.{World as Meant};
+ghost use Rattle.world_rules.specs.Steps.{NodeEvent};
+ghost use Rattle.world_rules.specs.Worlds.{World as ModelWorld};
 ghost use Rattle.world.specs.Answers.{Steps};
 ghost use Rattle.world.specs.Counting.{AreKept};
 ghost use Rattle.world.specs.Holding.{Holds};
@@ -34,8 +34,7 @@ use node_core::Outbox;
 use schedule_world::WorldLine;
 use std::alloc::Global;
 use std::marker::Model;
-use world_keys::Authority;
-use world_station::Station;
+use world_host::{Authority, Host};
 
 /// Nodes, each over a disk of its own, and liars, whose keys the schedule uses.
 #[derive(Drop)]
@@ -43,7 +42,7 @@ pub struct World {
     alloc: Global,
     authority: Authority,
     /// In order of number.
-    stations: Vec<Station>,
+    hosts: Vec<Host>,
     /// In order of number.
     liars: Vec<Liar>,
     /// The datagrams that nodes have sent.
@@ -68,7 +67,7 @@ impl Model for World {
 
     ghost view = { λ w. record {
       authority = w.authority;
-      stations = w.stations.items;
+      hosts = w.hosts.items;
       liars = w.liars.items;
       sent = w.sent;
       flowed = w.flowed;
@@ -79,11 +78,11 @@ impl Model for World {
 }
 
 impl World {
-    /// Plays a line that stands behind `begin`, and appends its trace: the line, its verdict, and what its nodes tell.
+    /// Plays a line that stands behind `begin`, and appends its trace: the line, its verdict, and what its nodes report.
     /// `Forged` comes where the line hands over a record that is forged; the first one is given. After a fault `out` is as it
     /// was, and the world is over. A ring that the group lacks, which no schedule has, is answered by want of memory.
     pub fn step(&mut self, line: &WorldLine, out: &mut Vec<u8>) -> Result<(), WorldFault>
-        ensures { (s : Setting) (w : Meant) (told : List Told) → Holds s w told self.old
+        ensures { (s : Setting) (w : ModelWorld) (told : List NodeEvent) → Holds s w told self.old
             → Steps s w told line.now self.new out.old.items out.new.items result }
     {
         let held = out.len();
@@ -99,7 +98,8 @@ impl World {
     /// What was counted so far.
     pub fn counts(&self) -> Counts
         ensures value { result ≡ self.now.counts }
-        ensures counted { (s : Setting) (w : Meant) (told : List Told) → Holds s w told self.now → AreKept result (counts_of s told) }
+        ensures counted { (s : Setting) (w : ModelWorld) (told : List NodeEvent)
+            → Holds s w told self.now → AreKept result (counts_of s told) }
     {
         self.counts
     }

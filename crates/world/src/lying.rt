@@ -6,8 +6,8 @@ ghost use Rattle.std.specs.Option.{option_map};
 ghost use Rattle.records.specs.Spelling.{HasPort};
 ghost use Rattle.world_rules.specs.Refusals.{newest_signed as newest_in};
 ghost use Rattle.world_rules.specs.Settings.{Setting};
-ghost use Rattle.world_rules.specs.Steps.{Told, epoch_meant as epoch_in, lies};
-ghost use Rattle.world_rules.specs.Worlds.{World as Meant, next_of_liar};
+ghost use Rattle.world_rules.specs.Steps.{NodeEvent, epoch_meant as epoch_in, lies};
+ghost use Rattle.world_rules.specs.Worlds.{World as ModelWorld, next_of_liar};
 ghost use Rattle.world.specs.Courses.{body_in};
 ghost use Rattle.world.specs.Holding.{Holds, numbers};
 
@@ -17,15 +17,16 @@ use ff_ids::{AccBody, Epoch, MemberId, RingNo};
 use fields::{Name, NoMemory};
 use records::Body;
 use schedule_world::WorldLine;
-use world_keys::newest_of;
+use world_host::newest_of;
 
 impl World {
     /// The greatest epoch among the notes of the member that its own key has signed.
     pub(crate) fn newest_signed(&self, member: MemberId) -> Option<Epoch>
-        ensures { (s : Setting) (w : Meant) (told : List Told) → Holds s w told self.now → result ≡ newest_in w member }
+        ensures { (s : Setting) (w : ModelWorld) (told : List NodeEvent) → Holds s w told self.now
+            → result ≡ newest_in w member }
     {
-        if let Some(at) = self.station_of(member) {
-            return self.stations[at].newest_signed();
+        if let Some(at) = self.host_of(member) {
+            return self.hosts[at].newest_signed();
         }
         let at = self.liar_of(member)?;
         newest_of(member, &self.liars[at].signed)
@@ -36,8 +37,11 @@ impl World {
         requires liar { at < length self.old.liars }
         requires port { HasPort body }
         ensures numbers { numbers self.new ≡ numbers self.old }
-        ensures lies { (s : Setting) (w : Meant) (told : List Told) (key : ℕ) → Holds s w told self.old → slice_get (map (λ x. x.member) self.old.liars) at ≡ Some key
-            → IfOk result (λ index. (index ≡ next_of_liar w key) × Holds s (lies s key body name.now w).world told self.new) }
+        ensures lies { (s : Setting) (w : ModelWorld) (told : List NodeEvent) (key : ℕ)
+            → Holds s w told self.old → slice_get (map (λ x. x.member) self.old.liars) at ≡ Some key
+            → IfOk result
+            (λ index. (index ≡ next_of_liar w key)
+            × Holds s (lies s key body name.now w).world told self.new) }
     {
         let liar = &mut self.liars[at];
         let index = liar.key.next();
@@ -52,7 +56,8 @@ impl World {
 
     /// The epoch that is said; or else that of the newest note of the accused which its own key has signed.
     fn epoch_meant(&self, accused: MemberId, said: Option<Epoch>) -> Option<Epoch>
-        ensures { (s : Setting) (w : Meant) (told : List Told) → Holds s w told self.now → result ≡ epoch_in w accused said }
+        ensures { (s : Setting) (w : ModelWorld) (told : List NodeEvent) → Holds s w told self.now
+            → result ≡ epoch_in w accused said }
     {
         match said {
             Some(epoch) => Some(epoch),
@@ -68,8 +73,11 @@ impl World {
         epoch: Option<Epoch>,
         ring: RingNo,
     ) -> Option<AccBody>
-        ensures { (s : Setting) (w : Meant) (told : List Told) → Holds s w told self.now
-            → result ≡ option_map (λ e. record { accuser = accuser; accused = accused; epoch = e; ring = ring }) (epoch_in w accused epoch) }
+        ensures { (s : Setting) (w : ModelWorld) (told : List NodeEvent) → Holds s w told self.now
+            → result
+            ≡ option_map
+            (λ e. record { accuser = accuser; accused = accused; epoch = e; ring = ring })
+            (epoch_in w accused epoch) }
     {
         let epoch = self.epoch_meant(accused, epoch)?;
         Some(AccBody {
@@ -83,7 +91,8 @@ impl World {
     /// The body that the line has a liar sign.
     pub(crate) fn body_meant(&self, line: &WorldLine) -> Option<Body>
         ensures port { IfSome result (λ body. HasPort body) }
-        ensures value { (s : Setting) (w : Meant) (told : List Told) → Holds s w told self.now → result ≡ body_in w line.now }
+        ensures value { (s : Setting) (w : ModelWorld) (told : List NodeEvent)
+            → Holds s w told self.now → result ≡ body_in w line.now }
     {
         match line {
             WorldLine::SignNote { note, .. } => Some(Body::Note(*note)),

@@ -26,8 +26,7 @@ use lms_tree::{PublicKey, TreeKind};
 use node_core::Outbox;
 use records::{Body, CertBody, Checked};
 use std::alloc::Global;
-use world_keys::{AUTHORITY, Authority, Kinds, SigningKey, key_of};
-use world_station::Station;
+use world_host::{AUTHORITY, Authority, Host, Kinds, SigningKey, key_of};
 
 /// The member's certificate with this key, whose port is 20,000 and the member's number, by the authority's key.
 fn certify(
@@ -37,8 +36,11 @@ fn certify(
     member: MemberId,
     key: PublicKey,
 ) -> Result<Checked, NoMemory>
-    ensures signed { IfOk result (λ c. c ≡ signed_by group.now authority.old.key authority.old.next (bodies.Certificate (record { member = member; port = 20000 + member; key = key }))) }
-    ensures next { OnOk result (authority.new ≡ record authority.old { next = authority.old.next + 1 }) }
+    ensures signed { IfOk result
+        (λ c. c ≡ signed_by group.now authority.old.key authority.old.next
+        (bodies.Certificate (record { member = member; port = 20000 + member; key = key }))) }
+    ensures next { OnOk result
+        (authority.new ≡ record authority.old { next = authority.old.next + 1 }) }
 {
     let body = Body::Certificate(CertBody {
         member,
@@ -67,14 +69,16 @@ impl World {
         requires few { length nodes.now + length liars.now ≤ 32 }
         requires kinds { height tree ≤ 10 }
         requires apart { IsApart nodes.now liars.now }
-        ensures { IfOk result (λ world. let s = setting_for group ots tree nodes.now liars.now in Holds s (begun_world s) [] world) }
+        ensures { IfOk result
+            (λ world. let s = setting_for group ots tree nodes.now liars.now in Holds s
+            (begun_world s) [] world) }
     {
         let kinds = Kinds { ots, tree };
         let mut signing = SigningKey::of(key_of(alloc, &group, kinds, AUTHORITY)?);
         let mut world = World {
             alloc,
             authority: Authority::new(alloc, group, signing.public()),
-            stations: Vec::new(alloc),
+            hosts: Vec::new(alloc),
             liars: Vec::new(alloc),
             sent: Outbox::new(alloc),
             flowed: 0,
@@ -97,7 +101,8 @@ impl World {
     ) -> Result<(), NoMemory>
         requires { self.old.authority.key ≡ public_of signing.old.key }
         ensures ok { OnOk result (self.new ≡ with_certificate self.old signing.old member key) }
-        ensures next { OnOk result (signing.new ≡ record signing.old { next = signing.old.next + 1 }) }
+        ensures next { OnOk result
+            (signing.new ≡ record signing.old { next = signing.old.next + 1 }) }
     {
         let group = *self.authority.group();
         let checked = certify(self.alloc, &group, signing, member, key)?;
@@ -112,13 +117,17 @@ impl World {
     ) -> Result<(), NoMemory>
         requires key { self.old.authority.key ≡ public_of signing.old.key }
         requires few { self.old.authority.group.t ≤ MAX_TOLERANCE }
-        ensures ok { OnOk result (AddsNode self.old self.new signing.old member (key_from kinds.ots kinds.tree (secret_in_world self.old.authority.group.tag member))) }
-        ensures next { OnOk result (signing.new ≡ record signing.old { next = signing.old.next + 1 }) }
+        ensures ok { OnOk result
+            (AddsNode self.old self.new signing.old member
+            (key_from kinds.ots kinds.tree
+            (secret_in_world self.old.authority.group.tag member))) }
+        ensures next { OnOk result
+            (signing.new ≡ record signing.old { next = signing.old.next + 1 }) }
     {
         let key = key_of(self.alloc, self.authority.group(), kinds, member.get())?;
         self.add_certificate(member, key.public(), signing)?;
-        let station = Station::open(self.alloc, self.authority.group(), member, key)?;
-        self.stations.push(station)?;
+        let host = Host::open(self.alloc, self.authority.group(), member, key)?;
+        self.hosts.push(host)?;
         Ok(())
     }
 
@@ -129,8 +138,12 @@ impl World {
         signing: &mut SigningKey,
     ) -> Result<(), NoMemory>
         requires { self.old.authority.key ≡ public_of signing.old.key }
-        ensures ok { OnOk result (AddsLiar self.old self.new signing.old member (key_from kinds.ots kinds.tree (secret_in_world self.old.authority.group.tag member))) }
-        ensures next { OnOk result (signing.new ≡ record signing.old { next = signing.old.next + 1 }) }
+        ensures ok { OnOk result
+            (AddsLiar self.old self.new signing.old member
+            (key_from kinds.ots kinds.tree
+            (secret_in_world self.old.authority.group.tag member))) }
+        ensures next { OnOk result
+            (signing.new ≡ record signing.old { next = signing.old.next + 1 }) }
     {
         let key = key_of(self.alloc, self.authority.group(), kinds, member.get())?;
         self.add_certificate(member, key.public(), signing)?;
@@ -149,8 +162,11 @@ impl World {
     ) -> Result<(), NoMemory>
         requires key { self.old.authority.key ≡ public_of signing.old.key }
         requires few { self.old.authority.group.t ≤ MAX_TOLERANCE }
-        ensures builds { (s : Setting) → s ≡ setting_for self.old.authority.group kinds.ots kinds.tree nodes.now liars.now → IsApart nodes.now liars.now
-            → Builds s kinds.ots kinds.tree member signing.old self.old → OnOk result (Builds s kinds.ots kinds.tree (member + 1) signing.new self.new) }
+        ensures builds { (s : Setting)
+            → s ≡ setting_for self.old.authority.group kinds.ots kinds.tree nodes.now liars.now
+            → IsApart nodes.now liars.now
+            → Builds s kinds.ots kinds.tree member signing.old self.old
+            → OnOk result (Builds s kinds.ots kinds.tree (member + 1) signing.new self.new) }
         ensures key { OnOk result (self.new.authority.key ≡ public_of signing.new.key) }
         ensures group { OnOk result (self.new.authority.group ≡ self.old.authority.group) }
     {

@@ -11,21 +11,23 @@ use crate::World;
 use ff_ids::MemberId;
 
 impl World {
-    /// The station of the member, if it is a node.
-    pub(crate) fn station_of(&self, member: MemberId) -> Option<usize>
-        ensures within { IfSome result (λ at. at < length self.now.stations) }
-        ensures place { (s : Setting) → numbers self.now ≡ nodes s → IsNodePlace s self.now member result }
+    /// The host of the member, if it is a node.
+    pub(crate) fn host_of(&self, member: MemberId) -> Option<usize>
+        ensures within { IfSome result (λ at. at < length self.now.hosts) }
+        ensures place { (s : Setting) → numbers self.now ≡ nodes s
+            → IsNodePlace s self.now member result }
     {
         let number = member.get();
-        self.stations
+        self.hosts
             .iter()
-            .position(|station| station.member().get() == number)
+            .position(|host| host.member().get() == number)
     }
 
     /// The place of the member, if it is a liar.
     pub(crate) fn liar_of(&self, member: MemberId) -> Option<usize>
         ensures within { IfSome result (λ at. at < length self.now.liars) }
-        ensures place { (s : Setting) → liar_numbers self.now ≡ in_order s.liars → IsLiarPlace s self.now member result }
+        ensures place { (s : Setting) → liar_numbers self.now ≡ in_order s.liars
+            → IsLiarPlace s self.now member result }
     {
         let number = member.get();
         self.liars

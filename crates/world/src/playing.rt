@@ -5,11 +5,10 @@ ghost use Rattle.ff_ids.specs.Views.{State, monitor as monitor_in, view};
 ghost use Rattle.membership.specs.Holds.{Holds as Stands};
 ghost use Rattle.world_rules.specs.Refusals.{node_named as node_in, why_not as refusal};
 ghost use Rattle.world_rules.specs.Settings.{Setting, is_liar};
-ghost use Rattle.world_rules.specs.Steps.{Course, Told, answered, asks, begun, does, flows, gives_each, monitored, step, ticks as ticks_of, viewed};
+ghost use Rattle.world_rules.specs.Steps.{Execution, NodeEvent, answered, asks, begun, does, flows, gives_each, monitored, step, ticks as ticks_of, viewed};
 ghost use Rattle.world_rules.specs.Walk.{behind_line};
-ghost use Rattle.world_rules.specs.Worlds.{World as Meant, named_so, running};
+ghost use Rattle.world_rules.specs.Worlds.{World as ModelWorld, named_so, running};
 ghost use Rattle.world_text.specs.Lines.{Began};
-ghost use Rattle.world_text.specs.Verdicts.{verdict_of};
 ghost use Rattle.world.specs.declared.fault.WorldFault.TheVariants as faults;
 ghost use Rattle.world.specs.Answers.{PlaysLine};
 ghost use Rattle.world.specs.Courses.{At, CanStart, Goes, IsPlace, NamesLiar, Replies, before_opening, body_in, course_of, does_or_opens, signs};
@@ -22,7 +21,8 @@ use fields::{Name, NoMemory};
 use membership::Membership;
 use schedule_world::WorldLine;
 use std::alloc::Global;
-use world_text::{MemberList, Verdict, write_line, write_verdict};
+use world_rules::{MemberList, Verdict};
+use world_text::{write_line, write_verdict};
 
 /// The monitor of the member on the ring. Whoever has a certificate has joined, and lines have no other ring than the
 /// group's.
@@ -31,7 +31,9 @@ fn monitor_of(
     ring: RingNo,
     member: MemberId,
 ) -> Result<Option<MemberId>, NoMemory>
-    ensures { IfOk result (λ monitor. (st : State) → Stands membership.now st → monitor ≡ monitor_in st ring.0 member) }
+    ensures { IfOk result
+        (λ monitor. (st : State) → Stands membership.now st
+        → monitor ≡ monitor_in st ring.0 member) }
 {
     let rings = 2 * u16::from(membership.group().t) + 1;
     if membership.is_member(member) && u16::from(ring.0) < rings {
@@ -52,7 +54,8 @@ fn end_line(out: &mut Vec<u8>) -> Result<(), WorldFault>
 
 /// Adds what stands behind a line with this verdict. Where memory is refused, a part of it may be there.
 fn add_answer(verdict: &Verdict, out: &mut Vec<u8>) -> Result<(), NoMemory>
-    ensures ok { OnOk result (out.new.items ≡ out.old.items ++ (behind_line (Some (verdict_of verdict.now)) ++ 10 ∷ [])) }
+    ensures ok { OnOk result (out.new.items
+        ≡ out.old.items ++ (behind_line (Some verdict.now) ++ 10 ∷ [])) }
     ensures refused { OnErr result (Began out.old.items out.new.items) }
 {
     out.extend_from_slice(b" : ")?;
@@ -62,25 +65,25 @@ fn add_answer(verdict: &Verdict, out: &mut Vec<u8>) -> Result<(), NoMemory>
 }
 
 impl World {
-    /// Ends the line with its verdict. Where memory is refused, `out` is as it was.
+    /// Ends the line with its verdict. Where memory is refused, a part of it may be there.
     pub(crate) fn answer(&self, verdict: &Verdict, out: &mut Vec<u8>) -> Result<(), WorldFault>
-        ensures ok { OnOk result (out.new.items ≡ out.old.items ++ (behind_line (Some (verdict_of verdict.now)) ++ 10 ∷ [])) }
-        ensures refused { OnErr result (out.new.items ≡ out.old.items) }
+        ensures ok { OnOk result (out.new.items
+            ≡ out.old.items ++ (behind_line (Some verdict.now) ++ 10 ∷ [])) }
+        ensures refused { OnErr result (Began out.old.items out.new.items) }
         ensures cause { IfErr result (λ fault. fault ≡ faults.OutOfMemory) }
     {
-        let held = out.len();
-        if add_answer(verdict, out).is_err() {
-            out.truncate(held);
-            return Err(WorldFault::OutOfMemory);
+        match add_answer(verdict, out) {
+            Ok(()) => Ok(()),
+            Err(NoMemory) => Err(WorldFault::OutOfMemory),
         }
-        Ok(())
     }
 
-    /// So many ticks of the node at this station, while it runs.
+    /// So many ticks of the node at this host, while it runs.
     fn tick(&mut self, at: usize, ticks: u32, out: &mut Vec<u8>) -> Result<(), WorldFault>
-        requires { at < length self.old.stations }
+        requires { at < length self.old.hosts }
         ensures numbers { numbers self.new ≡ numbers self.old }
-        ensures ticks { (s : Setting) (before : List Told) (base : List ℕ) (c : Course) (m : ℕ) → At s before base self.old out.old.items c → IsPlace self.old at m
+        ensures ticks { (s : Setting) (before : List NodeEvent) (base : List ℕ) (c : Execution)
+            (m : ℕ) → At s before base self.old out.old.items c → IsPlace self.old at m
             → Goes s before base self.new out.new.items (Ok (ticks_of s m ticks c)) result }
     {
         for _tick in 0..ticks {
@@ -94,11 +97,13 @@ impl World {
 
     /// The line `view`.
     fn see(&self, at: usize, out: &mut Vec<u8>) -> Result<(), WorldFault>
-        requires { at < length self.now.stations }
-        ensures { (s : Setting) (w : Meant) (before : List Told) (m : ℕ) → Holds s w before self.now → IsPlace self.now at m
-            → Replies s before self.now out.old.items out.new.items (Ok (asks s m viewed w)) result }
+        requires { at < length self.now.hosts }
+        ensures { (s : Setting) (w : ModelWorld) (before : List NodeEvent) (m : ℕ)
+            → Holds s w before self.now → IsPlace self.now at m
+            → Replies s before self.now out.old.items out.new.items (Ok (asks s m viewed w))
+            result }
     {
-        match self.stations[at].node() {
+        match self.hosts[at].node() {
             Some(node) => {
                 let members = node.membership().members_in_view(self.alloc)?;
                 self.answer(&Verdict::Sees(MemberList::from_vec(members)), out)
@@ -115,11 +120,13 @@ impl World {
         of: MemberId,
         out: &mut Vec<u8>,
     ) -> Result<(), WorldFault>
-        requires { at < length self.now.stations }
-        ensures { (s : Setting) (w : Meant) (before : List Told) (m : ℕ) → Holds s w before self.now → IsPlace self.now at m
-            → Replies s before self.now out.old.items out.new.items (Ok (asks s m (monitored ring.0 of) w)) result }
+        requires { at < length self.now.hosts }
+        ensures { (s : Setting) (w : ModelWorld) (before : List NodeEvent) (m : ℕ)
+            → Holds s w before self.now → IsPlace self.now at m
+            → Replies s before self.now out.old.items out.new.items
+            (Ok (asks s m (monitored ring.0 of) w)) result }
     {
-        match self.stations[at].node() {
+        match self.hosts[at].node() {
             Some(node) => {
                 let monitor = monitor_of(node.membership(), ring, of)?;
                 self.answer(&Verdict::MonitoredBy(monitor), out)
@@ -128,12 +135,14 @@ impl World {
         }
     }
 
-    /// What a line does that names this station's node, and has no verdict.
+    /// What a line does that names this host's node, and has no verdict.
     fn go_at(&mut self, at: usize, line: &WorldLine, out: &mut Vec<u8>) -> Result<(), WorldFault>
-        requires { at < length self.old.stations }
+        requires { at < length self.old.hosts }
         ensures numbers { numbers self.new ≡ numbers self.old }
-        ensures goes { (s : Setting) (before : List Told) (base : List ℕ) (c : Course) (m : ℕ) → At s before base self.old out.old.items c → IsPlace self.old at m
-            → node_in line.now ≡ Some m → Goes s before base self.new out.new.items (course_of s line.now c) result }
+        ensures goes { (s : Setting) (before : List NodeEvent) (base : List ℕ) (c : Execution)
+            (m : ℕ) → At s before base self.old out.old.items c → IsPlace self.old at m
+            → node_in line.now ≡ Some m
+            → Goes s before base self.new out.new.items (course_of s line.now c) result }
     {
         match line {
             WorldLine::Stop { outcome, .. } => {
@@ -159,10 +168,12 @@ impl World {
         line: &WorldLine,
         out: &mut Vec<u8>,
     ) -> Result<(), WorldFault>
-        requires { at < length self.old.stations }
+        requires { at < length self.old.hosts }
         ensures numbers { numbers self.new ≡ numbers self.old }
-        ensures goes { (s : Setting) (w : Meant) (before : List Told) (m : ℕ) → Holds s w before self.old → IsPlace self.old at m → node_in line.now ≡ Some m
-            → Replies s before self.new out.old.items out.new.items (answered (course_of s line.now (begun w))) result }
+        ensures goes { (s : Setting) (w : ModelWorld) (before : List NodeEvent) (m : ℕ)
+            → Holds s w before self.old → IsPlace self.old at m → node_in line.now ≡ Some m
+            → Replies s before self.new out.old.items out.new.items
+            (answered (course_of s line.now (begun w))) result }
     {
         match end_line(out) {
             Ok(()) => self.go_at(at, line, out),
@@ -170,12 +181,15 @@ impl World {
         }
     }
 
-    /// What a line does that names this station's node.
+    /// What a line does that names this host's node.
     fn do_at(&mut self, at: usize, line: &WorldLine, out: &mut Vec<u8>) -> Result<(), WorldFault>
-        requires { at < length self.old.stations }
+        requires { at < length self.old.hosts }
         ensures numbers { numbers self.new ≡ numbers self.old }
-        ensures does { (s : Setting) (w : Meant) (before : List Told) (m : ℕ) → Holds s w before self.old → IsPlace self.old at m → node_in line.now ≡ Some m → CanStart w line.now
-            → Replies s before self.new out.old.items out.new.items (does_or_opens s w line.now) result }
+        ensures does { (s : Setting) (w : ModelWorld) (before : List NodeEvent) (m : ℕ)
+            → Holds s w before self.old → IsPlace self.old at m → node_in line.now ≡ Some m
+            → CanStart w line.now
+            → Replies s before self.new out.old.items out.new.items (does_or_opens s w line.now)
+            result }
     {
         match line {
             WorldLine::Start { .. } => self.start(at, out),
@@ -194,8 +208,10 @@ impl World {
         out: &mut Vec<u8>,
     ) -> Result<(), WorldFault>
         ensures numbers { numbers self.new ≡ numbers self.old }
-        ensures signs { (s : Setting) (w : Meant) (before : List Told) → Holds s w before self.old → is_liar s key ≡ true
-            → Replies s before self.new out.old.items out.new.items (Ok (signs s key name.now w (body_in w line.now))) result }
+        ensures signs { (s : Setting) (w : ModelWorld) (before : List NodeEvent)
+            → Holds s w before self.old → is_liar s key ≡ true
+            → Replies s before self.new out.old.items out.new.items
+            (Ok (signs s key name.now w (body_in w line.now))) result }
     {
         let Some(body) = self.body_meant(line) else {
             return end_line(out);
@@ -210,7 +226,10 @@ impl World {
     /// The line `flow`, behind its end.
     fn end_and_flow(&mut self, most: u32, out: &mut Vec<u8>) -> Result<(), WorldFault>
         ensures numbers { numbers self.new ≡ numbers self.old }
-        ensures flows { (s : Setting) (w : Meant) (before : List Told) → Holds s w before self.old → Replies s before self.new out.old.items out.new.items (answered (flows s most (begun w))) result }
+        ensures flows { (s : Setting) (w : ModelWorld) (before : List NodeEvent)
+            → Holds s w before self.old
+            → Replies s before self.new out.old.items out.new.items
+            (answered (flows s most (begun w))) result }
     {
         match end_line(out) {
             Ok(()) => self.flow(most, out),
@@ -221,8 +240,10 @@ impl World {
     /// The line `give-all`, behind its end.
     fn end_and_give(&mut self, name: &[u8], out: &mut Vec<u8>) -> Result<(), WorldFault>
         ensures numbers { numbers self.new ≡ numbers self.old }
-        ensures gives { (s : Setting) (w : Meant) (before : List Told) → Holds s w before self.old
-            → Replies s before self.new out.old.items out.new.items (answered (gives_each s (running s w) (named_so w name.now) (begun w))) result }
+        ensures gives { (s : Setting) (w : ModelWorld) (before : List NodeEvent)
+            → Holds s w before self.old
+            → Replies s before self.new out.old.items out.new.items
+            (answered (gives_each s (running s w) (named_so w name.now) (begun w))) result }
     {
         match end_line(out) {
             Ok(()) => self.give_all(name, out),
@@ -233,7 +254,8 @@ impl World {
     /// What a line does that names no node.
     fn do_other(&mut self, line: &WorldLine, out: &mut Vec<u8>) -> Result<(), WorldFault>
         ensures numbers { numbers self.new ≡ numbers self.old }
-        ensures does { (s : Setting) (w : Meant) (before : List Told) → Holds s w before self.old → node_in line.now ≡ None → NamesLiar s line.now
+        ensures does { (s : Setting) (w : ModelWorld) (before : List NodeEvent)
+            → Holds s w before self.old → node_in line.now ≡ None → NamesLiar s line.now
             → Replies s before self.new out.old.items out.new.items (does s w line.now) result }
     {
         match line {
@@ -248,11 +270,12 @@ impl World {
     /// What a line does that can be done.
     fn do_line(&mut self, line: &WorldLine, out: &mut Vec<u8>) -> Result<(), WorldFault>
         ensures numbers { numbers self.new ≡ numbers self.old }
-        ensures does { (s : Setting) (w : Meant) (before : List Told) → Holds s w before self.old → before_opening line.now (refusal s w line.now) ≡ None
+        ensures does { (s : Setting) (w : ModelWorld) (before : List NodeEvent)
+            → Holds s w before self.old → before_opening line.now (refusal s w line.now) ≡ None
             → Replies s before self.new out.old.items out.new.items (step s w line.now) result }
     {
         if let Some(member) = node_named(line) {
-            return match self.station_of(member) {
+            return match self.host_of(member) {
                 Some(at) => self.do_at(at, line, out),
                 None => end_line(out),
             };
@@ -263,7 +286,8 @@ impl World {
     /// Answers the line, whose own text is written.
     fn do_or_refuse(&mut self, line: &WorldLine, out: &mut Vec<u8>) -> Result<(), WorldFault>
         ensures numbers { numbers self.new ≡ numbers self.old }
-        ensures steps { (s : Setting) (w : Meant) (before : List Told) → Holds s w before self.old
+        ensures steps { (s : Setting) (w : ModelWorld) (before : List NodeEvent)
+            → Holds s w before self.old
             → Replies s before self.new out.old.items out.new.items (step s w line.now) result }
     {
         match self.why_not(line) {
@@ -275,8 +299,10 @@ impl World {
     /// Plays the line, and appends its trace.
     pub(crate) fn play(&mut self, line: &WorldLine, out: &mut Vec<u8>) -> Result<(), WorldFault>
         ensures numbers { numbers self.new ≡ numbers self.old }
-        ensures plays { (s : Setting) (w : Meant) (before : List Told) → Holds s w before self.old
-            → PlaysLine s before line.now self.new out.old.items out.new.items (step s w line.now) result }
+        ensures plays { (s : Setting) (w : ModelWorld) (before : List NodeEvent)
+            → Holds s w before self.old
+            → PlaysLine s before line.now self.new out.old.items out.new.items (step s w line.now)
+            result }
     {
         write_line(line, out)?;
         self.do_or_refuse(line, out)

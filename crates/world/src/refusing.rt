@@ -4,9 +4,8 @@ ghost use Rattle.std.specs.Prelude.{◌≡◌, ℕ, List, not, nat_lt, is_some, 
 ghost use Rattle.std.specs.Option.{option_and_then, option_map};
 ghost use Rattle.world_rules.specs.Refusals.{asks_for_unknown as asks_in, datagram_named, first_row, holds_of, key_named as key_in, name_named as name_in, newest_signed as newest_in, node_named as node_in, noted_named, runner_named as runner_in, starter_named as starter_in, why_not as refusal};
 ghost use Rattle.world_rules.specs.Settings.{Setting, is_liar, is_node};
-ghost use Rattle.world_rules.specs.Steps.{Told};
-ghost use Rattle.world_rules.specs.Worlds.{World as Meant, is_running as runs, named_so};
-ghost use Rattle.world_text.specs.Verdicts.{why_of};
+ghost use Rattle.world_rules.specs.Steps.{NodeEvent};
+ghost use Rattle.world_rules.specs.Worlds.{World as ModelWorld, is_running as runs, named_so};
 ghost use Rattle.world.specs.Courses.{before_opening, key_used_up, last_rows};
 ghost use Rattle.world.specs.Holding.{Holds};
 
@@ -14,7 +13,7 @@ use crate::World;
 use ff_ids::MemberId;
 use fields::Name;
 use schedule_world::WorldLine;
-use world_text::Why;
+use world_rules::RefusalReason;
 
 /// The member that is to be a node.
 pub fn node_named(line: &WorldLine) -> Option<MemberId>
@@ -80,16 +79,18 @@ fn accused_named(line: &WorldLine) -> Option<MemberId>
 
 impl World {
     fn names_no_node(&self, line: &WorldLine) -> bool
-        ensures { (s : Setting) (w : Meant) (told : List Told) → Holds s w told self.now → result ≡ holds_of (λ m. not (is_node s m)) (node_in line.now) }
+        ensures { (s : Setting) (w : ModelWorld) (told : List NodeEvent) → Holds s w told self.now
+            → result ≡ holds_of (λ m. not (is_node s m)) (node_in line.now) }
     {
         match node_named(line) {
-            Some(member) => self.station_of(member).is_none(),
+            Some(member) => self.host_of(member).is_none(),
             None => false,
         }
     }
 
     fn names_no_liar(&self, line: &WorldLine) -> bool
-        ensures { (s : Setting) (w : Meant) (told : List Told) → Holds s w told self.now → result ≡ holds_of (λ key. not (is_liar s key)) (key_in line.now) }
+        ensures { (s : Setting) (w : ModelWorld) (told : List NodeEvent) → Holds s w told self.now
+            → result ≡ holds_of (λ key. not (is_liar s key)) (key_in line.now) }
     {
         match key_named(line) {
             Some(key) => self.liar_of(key).is_none(),
@@ -99,13 +100,15 @@ impl World {
 
     /// Whether nothing is kept under the name.
     fn is_free(&self, name: &Name) -> bool
-        ensures { (s : Setting) (w : Meant) (told : List Told) → Holds s w told self.now → result ≡ not (is_some (named_so w name.now)) }
+        ensures { (s : Setting) (w : ModelWorld) (told : List NodeEvent) → Holds s w told self.now
+            → result ≡ not (is_some (named_so w name.now)) }
     {
         self.named.get(name.as_slice()).is_none()
     }
 
     fn names_no_record(&self, line: &WorldLine) -> bool
-        ensures { (s : Setting) (w : Meant) (told : List Told) → Holds s w told self.now → result ≡ holds_of (λ name. not (is_some (named_so w name))) (name_in line.now) }
+        ensures { (s : Setting) (w : ModelWorld) (told : List NodeEvent) → Holds s w told self.now
+            → result ≡ holds_of (λ name. not (is_some (named_so w name))) (name_in line.now) }
     {
         match line {
             WorldLine::Give { name, .. } | WorldLine::GiveAll { name } => self.is_free(name),
@@ -114,7 +117,9 @@ impl World {
     }
 
     fn names_no_datagram(&self, line: &WorldLine) -> bool
-        ensures { (s : Setting) (w : Meant) (told : List Told) → Holds s w told self.now → result ≡ holds_of (λ number. not (nat_lt number (length w.sent))) (datagram_named line.now) }
+        ensures { (s : Setting) (w : ModelWorld) (told : List NodeEvent) → Holds s w told self.now
+            → result
+            ≡ holds_of (λ number. not (nat_lt number (length w.sent))) (datagram_named line.now) }
     {
         match line {
             WorldLine::Deliver { datagram, .. } => self.sent.as_slice().len() as u64 <= *datagram,
@@ -123,16 +128,18 @@ impl World {
     }
 
     fn is_running(&self, member: MemberId) -> bool
-        ensures { (s : Setting) (w : Meant) (told : List Told) → Holds s w told self.now → result ≡ runs w member }
+        ensures { (s : Setting) (w : ModelWorld) (told : List NodeEvent) → Holds s w told self.now
+            → result ≡ runs w member }
     {
-        match self.station_of(member) {
-            Some(at) => self.stations[at].is_running(),
+        match self.host_of(member) {
+            Some(at) => self.hosts[at].is_running(),
             None => false,
         }
     }
 
     fn starts_running(&self, line: &WorldLine) -> bool
-        ensures { (s : Setting) (w : Meant) (told : List Told) → Holds s w told self.now → result ≡ holds_of (runs w) (starter_in line.now) }
+        ensures { (s : Setting) (w : ModelWorld) (told : List NodeEvent) → Holds s w told self.now
+            → result ≡ holds_of (runs w) (starter_in line.now) }
     {
         match starter_named(line) {
             Some(member) => self.is_running(member),
@@ -141,7 +148,8 @@ impl World {
     }
 
     fn names_stopped(&self, line: &WorldLine) -> bool
-        ensures { (s : Setting) (w : Meant) (told : List Told) → Holds s w told self.now → result ≡ holds_of (λ m. not (runs w m)) (runner_in line.now) }
+        ensures { (s : Setting) (w : ModelWorld) (told : List NodeEvent) → Holds s w told self.now
+            → result ≡ holds_of (λ m. not (runs w m)) (runner_in line.now) }
     {
         match runner_named(line) {
             Some(member) => !self.is_running(member),
@@ -150,7 +158,8 @@ impl World {
     }
 
     fn means_no_note(&self, line: &WorldLine) -> bool
-        ensures { (s : Setting) (w : Meant) (told : List Told) → Holds s w told self.now → result ≡ holds_of (λ m. not (is_some (newest_in w m))) (noted_named line.now) }
+        ensures { (s : Setting) (w : ModelWorld) (told : List NodeEvent) → Holds s w told self.now
+            → result ≡ holds_of (λ m. not (is_some (newest_in w m))) (noted_named line.now) }
     {
         match accused_named(line) {
             Some(accused) => self.newest_signed(accused).is_none(),
@@ -160,7 +169,8 @@ impl World {
 
     /// The next index of the liar's key, if it is used up.
     fn used_up(&self, key: MemberId) -> Option<u32>
-        ensures { (s : Setting) (w : Meant) (told : List Told) → Holds s w told self.now → is_liar s key ≡ true → result ≡ key_used_up s w key }
+        ensures { (s : Setting) (w : ModelWorld) (told : List NodeEvent) → Holds s w told self.now
+            → is_liar s key ≡ true → result ≡ key_used_up s w key }
     {
         let at = self.liar_of(key)?;
         let liar = &self.liars[at];
@@ -173,7 +183,8 @@ impl World {
 
     /// Of a liar's key that is to sign, the next index, if it is used up.
     fn signer_used_up(&self, line: &WorldLine) -> Option<u32>
-        ensures { (s : Setting) (w : Meant) (told : List Told) → Holds s w told self.now → holds_of (λ key. not (is_liar s key)) (key_in line.now) ≡ false
+        ensures { (s : Setting) (w : ModelWorld) (told : List NodeEvent) → Holds s w told self.now
+            → holds_of (λ key. not (is_liar s key)) (key_in line.now) ≡ false
             → result ≡ option_and_then (key_used_up s w) (key_in line.now) }
     {
         match key_named(line) {
@@ -183,58 +194,61 @@ impl World {
     }
 
     fn asks_for_unknown(&self, line: &WorldLine) -> bool
-        ensures { (s : Setting) (w : Meant) (told : List Told) → Holds s w told self.now → result ≡ asks_in w line.now }
+        ensures { (s : Setting) (w : ModelWorld) (told : List NodeEvent) → Holds s w told self.now
+            → result ≡ asks_in w line.now }
     {
         let WorldLine::Monitor { member, of, .. } = line else {
             return false;
         };
-        let Some(at) = self.station_of(*member) else {
+        let Some(at) = self.host_of(*member) else {
             return false;
         };
-        match self.stations[at].node() {
+        match self.hosts[at].node() {
             Some(node) => node.port_of(*of).is_none(),
             None => false,
         }
     }
 
     /// Why the line can't be done, as far as the last rows of the table say.
-    fn why_not_signed(&self, line: &WorldLine) -> Option<Why>
-        ensures { (s : Setting) (w : Meant) (told : List Told) → Holds s w told self.now → holds_of (λ key. not (is_liar s key)) (key_in line.now) ≡ false
-            → option_map why_of result ≡ first_row (last_rows s w line.now) }
+    fn why_not_signed(&self, line: &WorldLine) -> Option<RefusalReason>
+        ensures { (s : Setting) (w : ModelWorld) (told : List NodeEvent) → Holds s w told self.now
+            → holds_of (λ key. not (is_liar s key)) (key_in line.now) ≡ false
+            → result ≡ first_row (last_rows s w line.now) }
     {
         if self.means_no_note(line) {
-            return Some(Why::NoNote);
+            return Some(RefusalReason::NoNote);
         }
         if let Some(first) = self.signer_used_up(line) {
-            return Some(Why::UsedUp { first });
+            return Some(RefusalReason::UsedUp { first });
         }
         if self.asks_for_unknown(line) {
-            return Some(Why::UnknownMember);
+            return Some(RefusalReason::UnknownMember);
         }
         None
     }
 
     /// Why the line can't be done, if it can't. Whether a node's key is used up shows once its store is open.
-    pub(crate) fn why_not(&self, line: &WorldLine) -> Option<Why>
-        ensures { (s : Setting) (w : Meant) (told : List Told) → Holds s w told self.now → option_map why_of result ≡ before_opening line.now (refusal s w line.now) }
+    pub(crate) fn why_not(&self, line: &WorldLine) -> Option<RefusalReason>
+        ensures { (s : Setting) (w : ModelWorld) (told : List NodeEvent) → Holds s w told self.now
+            → result ≡ before_opening line.now (refusal s w line.now) }
     {
         if self.names_no_node(line) {
-            return Some(Why::NotNode);
+            return Some(RefusalReason::NotNode);
         }
         if self.names_no_liar(line) {
-            return Some(Why::NotLiar);
+            return Some(RefusalReason::NotLiar);
         }
         if self.names_no_record(line) {
-            return Some(Why::NoName);
+            return Some(RefusalReason::NoName);
         }
         if self.names_no_datagram(line) {
-            return Some(Why::NoDatagram);
+            return Some(RefusalReason::NoDatagram);
         }
         if self.starts_running(line) {
-            return Some(Why::Running);
+            return Some(RefusalReason::Running);
         }
         if self.names_stopped(line) {
-            return Some(Why::NotRunning);
+            return Some(RefusalReason::NotRunning);
         }
         self.why_not_signed(line)
     }

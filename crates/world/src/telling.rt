@@ -1,9 +1,9 @@
-//! What nodes tell, as lines of the trace.
+//! What nodes report, as lines of the trace.
 
 ghost use Rattle.std.specs.Prelude.{◌≡◌, ◌+◌, ◌++◌, OnOk, OnErr};
 ghost use Rattle.journal.specs.declared.event.What.TheVariants as kinds;
 ghost use Rattle.world_rules.specs.Walk.{told_text};
-ghost use Rattle.node_core.specs.Told.{IsFront};
+ghost use Rattle.node_core.specs.Told.{IsPrefix};
 ghost use Rattle.world_text.specs.Lines.{Began};
 ghost use Rattle.world.specs.Telling.{call_lines, numbered, told_line};
 
@@ -25,7 +25,12 @@ fn add_sent(
     out: &mut Vec<u8>,
 ) -> Result<(), NoMemory>
     ensures ok { OnOk result (out.new.items ≡ out.old.items
-        ++ told_text (record { who = who; event = record { moment = moment; what = kinds.Sent (before + number) to bytes.now } })) }
+        ++ told_text
+        (record {
+          who = who;
+          event = record
+              { moment = moment; what = kinds.Sent (before + number) to bytes.now };
+        })) }
     ensures refused { OnErr result (out.new.items ≡ out.old.items) }
 {
     let number = number.checked_add(before as u64).ok_or(NoMemory)?;
@@ -42,7 +47,8 @@ fn add_numbered(
     event: &Event,
     out: &mut Vec<u8>,
 ) -> Result<(), NoMemory>
-    ensures ok { OnOk result (out.new.items ≡ out.old.items ++ told_text (numbered who before event.now)) }
+    ensures ok { OnOk result
+        (out.new.items ≡ out.old.items ++ told_text (numbered who before event.now)) }
     ensures refused { OnErr result (out.new.items ≡ out.old.items) }
 {
     match &event.what {
@@ -69,7 +75,8 @@ pub fn add_event(
     event: &Event,
     out: &mut Vec<u8>,
 ) -> Result<(), NoMemory>
-    ensures ok { OnOk result (out.new.items ≡ out.old.items ++ told_line (numbered who before event.now)) }
+    ensures ok { OnOk result
+        (out.new.items ≡ out.old.items ++ told_line (numbered who before event.now)) }
     ensures refused { OnErr result (Began out.old.items out.new.items) }
 {
     add_numbered(alloc, who, before, event, out)?;
@@ -86,7 +93,7 @@ pub fn add_events(
     out: &mut Vec<u8>,
 ) -> Result<(), NoMemory>
     ensures ok { OnOk result (out.new.items ≡ out.old.items ++ call_lines who before events.now) }
-    ensures front { IsFront out.old.items out.new.items }
+    ensures front { IsPrefix out.old.items out.new.items }
 {
     for event in events {
         add_event(alloc, who, before, event, out)?;

@@ -1,4 +1,4 @@
--- What an accepted note rules out in the rest of a life, and in what is told of it.
+-- What an accepted note rules out in the rest of a life, and in what is reported of it.
 use Rattle.std.proofs.Common.{◌≡◌, ℕ, ◌+◌, ◌-◌, zero, suc, ◌<◌, ◌≤◌, true, false, List, [], ◌∷◌, ◌++◌, length, filter, map, Option, Some, None, inl, inr, refl, ap, sym, ◌∙◌, subst, arith}
 use Rattle.std.specs.Prelude.{Contains}
 use Rattle.std.specs.List.{slice_get}
@@ -26,7 +26,7 @@ use Rattle.node_rules.specs.Calls.{told_of, whats_of}
 use Rattle.node_rules.specs.Lives.{is_of_life, told_by}
 use Rattle.world_rules.specs.Settings.{Setting}
 use Rattle.world_rules.specs.Worlds.{Life, lives_of}
-use Rattle.world_laws.specs.Replies.{AnswersHold, AnswersHoldInWorlds, EndsAcceptance, StoodSince, ToldExpiriesAreLived}
+use Rattle.world_laws.specs.Replies.{AnswersHold, AnswersHoldInWorlds, NoteRevokes, StoodSince, ToldExpiriesAreLived}
 use Rattle.world_laws.proofs.Removing.{in-told, told-moment}
 
 -- ---- what expires
@@ -92,7 +92,7 @@ due-by from timeout later moment then here due same passed is rising = omega ari
 
 -- ---- lives
 
-ends-so : (s : Setting) (life : Life) → EndsAcceptance s life
+ends-so : (s : Setting) (life : Life) → NoteRevokes s life
 ends-so s life i j n a less note about answered expires =
     let g : Group = s.group in
     let st : State = opening [] in
@@ -114,7 +114,7 @@ rules-out s life i j n a less at older = (none_accepted s.group (opening []) lif
 pub answers-hold : AnswersHoldInWorlds
 answers-hold s w who = All-from_In (AnswersHold s) (lives_of w who) (λ life i. record { rules_out = rules-out s life; ends = ends-so s life })
 
--- ---- what is told of it
+-- ---- what is reported of it
 
 no-expiry : {X : Type 0} (f : X → whats.What) (xs : List X) (a : AccBody) → ((x : X) → f x ≡ happened.Expired a → ⊥) → In (map f xs) (happened.Expired a) → ⊥
 no-expiry f xs a other i = let x = In-from_map f xs (happened.Expired a) i in other x.0 x.1.1

@@ -57,7 +57,7 @@ brings-more low c d news events told lived new h =
           ];
     }
 
--- Nothing is spent in what is told.
+-- Nothing is spent in what is reported.
 none-spent : (news : List journal.Event) → filter (λ (e : journal.Event). is_spent e.what) news ≡ [] → (moment index : ℕ) (a : AccBody) → In news (record { moment = moment; what = happened.Spent index (Accusation a) }) → ⊥
 none-spent news none moment index a i =
     subst (λ (es : List journal.Event). In es (record { moment = moment; what = happened.Spent index (Accusation a) })) none (In-filter (λ (e : journal.Event). is_spent e.what) news (record { moment = moment; what = happened.Spent index (Accusation a) }) i refl)

@@ -92,7 +92,7 @@ stepped-rises : (s : Setting) (w : World) (line : WorldLine) (r : Result Answer 
 stepped-rises s w line (Err found) b is e = cc
 stepped-rises s w line (Ok a) b is e = subst (λ (x : Brought). Rise w.flowed (flowed_at x.stage) (flowed_by (taken_of (Plays s w) line x))) (ok-is _ _ e) (played-rises s w line a is)
 
--- A line of a roster tells nothing.
+-- A line of a roster reports nothing.
 listed-rises : (r : Roster) (line : WorldLine) (b : Brought) → b.told ≡ [] → Rise 0 (flowed_at b.stage) (flowed_by (taken_of (Lists r) line b))
 listed-rises r (lines.Flow most) b none = subst (λ xs. Rise 0 (flowed_at b.stage) (numbers_of (handed_over xs))) (sym none) (rise-none 0 (flowed_at b.stage) (omega arith))
 listed-rises r line b none = rise-none 0 (flowed_at b.stage) (omega arith)

@@ -1,4 +1,4 @@
--- What is told as handed over was sent, and flows take each datagram once, in order.
+-- What is reported as handed over was sent, and flows take each datagram once, in order.
 use Rattle.std.proofs.Common.{◌≡◌, ◌⊎◌, ℕ, zero, suc, ◌+◌, ◌<◌, ◌≤◌, Bool, true, false, List, [], ◌∷◌, ◌++◌, length, Option, Some, None, inl, inr, refl, ap, sym, ◌∙◌, subst, filter, arith, length-append}
 use Rattle.std.specs.Prelude.{Result, Ok, Err, fold}
 use Rattle.std.specs.List.{AllByRecursion, slice_get}
@@ -28,12 +28,14 @@ use Rattle.schedule_world.specs.declared.line.WorldLine.TheVariants as lines
 use Rattle.world_rules.specs.Settings.{Setting, certificates, setting_of}
 use Rattle.world_rules.specs.Disks.{Disk, lets_pass, opening_calls, put_passes}
 use Rattle.world_rules.specs.Calls.{OnDisk, called_on}
-use Rattle.world_rules.specs.Worlds.{Life, Named, Station, World, begun_world, is_running, named_so, running, with_station}
+use Rattle.world_rules.specs.Worlds.{Life, Named, Host, World, begun_world, is_running, named_so, running, with_host}
 use Rattle.world_rules.specs.Forgeries.{Forgery, forgery}
-use Rattle.world_rules.specs.Verdicts as verdicts
-use Rattle.world_rules.specs.Verdicts.{Verdict, Why}
+use Rattle.world_rules.specs.declared.verdict.RefusalReason.{RefusalReason}
+use Rattle.world_rules.specs.declared.verdict.RefusalReason.TheVariants as whys
+use Rattle.world_rules.specs.declared.verdict.Verdict.{Verdict}
+use Rattle.world_rules.specs.declared.verdict.Verdict.TheVariants as verdicts
 use Rattle.world_rules.specs.Refusals.{why_not}
-use Rattle.world_rules.specs.Steps.{Answer, Course, Told, accuses_at, and_then, answered, begins, begun, calls, calls_running, does, epoch_meant, first_call, flows, flows_next, flows_one, given_bytes, gives, gives_each, hands, hands_sent, monitored, numbered_from, of_life, opens, refuses, says, starts, starts_in_vain, step, step_by, tells_got, ticks, told_in, unless_forged, viewed}
+use Rattle.world_rules.specs.Steps.{Answer, Execution, NodeEvent, accuses_at, and_then, answered, begins, begun, calls, calls_running, does, epoch_meant, first_call, flows, flows_next, flows_one, given_bytes, gives, gives_each, hands, hands_sent, monitored, numbered_from, of_life, opens, refuses, says, starts, starts_in_vain, step, step_by, tells_got, ticks, told_in, unless_forged, viewed}
 use Rattle.world_rules.specs.Laws.{goes, opens_so}
 use Rattle.world_rules.proofs.OnDisks.{chosen, other}
 use Rattle.world_laws.specs.Flows.{FlowsGoOn, Handed, HandsOverSent, IsSent, IsSentThere, OnlySentIsHandedOver, OthersTakeNone, got_in, handed_over, is_flow, numbers_of}
@@ -128,31 +130,31 @@ get-none (x ∷ xs) (suc n) h = let k = get-none xs n h in omega (arith, k)
 longer : {X : Type 0} (xs ys zs : List X) → zs ≡ xs ++ ys → length xs ≤ length zs
 longer xs ys zs e = omega (arith, ap length e, length-append xs ys)
 
-handed-append : (xs ys : List Told) → handed_over (xs ++ ys) ≡ handed_over xs ++ handed_over ys
-handed-append xs ys = filter_map-append (λ (t : Told). got_in t.who t.event.what) xs ys
+handed-append : (xs ys : List NodeEvent) → handed_over (xs ++ ys) ≡ handed_over xs ++ handed_over ys
+handed-append xs ys = filter_map-append (λ (t : NodeEvent). got_in t.who t.event.what) xs ys
 
 -- ---- from one course to a later one
 
--- What was told and sent meanwhile; flows have taken so many datagrams, and what was handed over was sent.
-pub record Goes (taken : ℕ) (c d : Course) : Type 0 where
-  pub news : List Told
+-- What was reported and sent meanwhile; flows have taken so many datagrams, and what was handed over was sent.
+pub record Goes (taken : ℕ) (c d : Execution) : Type 0 where
+  pub news : List NodeEvent
   pub told : d.told ≡ c.told ++ news
   pub more : List (ℕ × List ℕ)
   pub sent : d.world.sent ≡ c.world.sent ++ more
   pub until : d.world.flowed ≡ c.world.flowed + taken
   pub within : AllByRecursion (IsSent d.world) (handed_over news)
 
-abbrev goes-still : (w v : World) (told : List Told) → v.sent ≡ w.sent → v.flowed ≡ w.flowed → Goes 0 (record { world = w; told = told }) (record { world = v; told = told })
+abbrev goes-still : (w v : World) (told : List NodeEvent) → v.sent ≡ w.sent → v.flowed ≡ w.flowed → Goes 0 (record { world = w; told = told }) (record { world = v; told = told })
 goes-still w v told sent flowed =
     record { news = []; told = sym (nil-right told); more = []; sent = sent ∙ sym (nil-right w.sent); until = omega (arith, flowed); within = tt }
 
-abbrev goes-same : (c : Course) → Goes 0 c c
+abbrev goes-same : (c : Execution) → Goes 0 c c
 goes-same c = goes-still c.world c.world c.told refl refl
 
-sent-longer : {k : ℕ} (c d : Course) → Goes k c d → length c.world.sent ≤ length d.world.sent
+sent-longer : {k : ℕ} (c d : Execution) → Goes k c d → length c.world.sent ≤ length d.world.sent
 sent-longer c d h = longer c.world.sent h.more d.world.sent h.sent
 
-abbrev goes-then : (j k : ℕ) (c d e : Course) → Goes j c d → Goes k d e → Goes (j + k) c e
+abbrev goes-then : (j k : ℕ) (c d e : Execution) → Goes j c d → Goes k d e → Goes (j + k) c e
 goes-then j k c d e x y =
     let grown : length d.world.sent ≤ length e.world.sent = sent-longer d e y in
     record {
@@ -166,71 +168,71 @@ goes-then j k c d e x y =
     }
 
 -- Nothing was handed over meanwhile.
-record Quiet (c d : Course) : Type 0 where
+record Quiet (c d : Execution) : Type 0 where
   goes : Goes 0 c d
   none : handed_over goes.news ≡ []
 
-abbrev quiet-same : (c : Course) → Quiet c c
+abbrev quiet-same : (c : Execution) → Quiet c c
 quiet-same c = record { goes = goes-same c; none = refl }
 
-quiet-more : (c d : Course) (news : List Told) (more : List (ℕ × List ℕ)) → d.told ≡ c.told ++ news → d.world.sent ≡ c.world.sent ++ more → d.world.flowed ≡ c.world.flowed → handed_over news ≡ [] → Quiet c d
+quiet-more : (c d : Execution) (news : List NodeEvent) (more : List (ℕ × List ℕ)) → d.told ≡ c.told ++ news → d.world.sent ≡ c.world.sent ++ more → d.world.flowed ≡ c.world.flowed → handed_over news ≡ [] → Quiet c d
 quiet-more c d news more told sent flowed none =
     record {
       goes = record { news = news; told = told; more = more; sent = sent; until = omega (arith, flowed); within = subst (AllByRecursion (IsSent d.world)) (sym none) tt };
       none = none;
     }
 
-quiet-running : (s : Setting) (m : ℕ) (i : Input) (current : Option Life) (c : Course) → Quiet c (calls_running s m i (c.world.stations m) current c)
+quiet-running : (s : Setting) (m : ℕ) (i : Input) (current : Option Life) (c : Execution) → Quiet c (calls_running s m i (c.world.hosts m) current c)
 quiet-running s m i None c = quiet-same c
 quiet-running s m i (Some life) c =
-    let d : OnDisk = called_on (setting_of s m) life.node i (c.world.stations m).disk in
+    let d : OnDisk = called_on (setting_of s m) life.node i (c.world.hosts m).disk in
     quiet-more c _ (told_in m (length c.world.sent) d.call.told) d.call.sent refl refl refl
-    (none-over m (length c.world.sent) d.call.told (none-called (setting_of s m) life.node i (c.world.stations m).disk))
+    (none-over m (length c.world.sent) d.call.told (none-called (setting_of s m) life.node i (c.world.hosts m).disk))
 
-quiet-calls : (s : Setting) (m : ℕ) (i : Input) (c : Course) → Quiet c (calls s m i c)
+quiet-calls : (s : Setting) (m : ℕ) (i : Input) (c : Execution) → Quiet c (calls s m i c)
 unfolding calls
-quiet-calls s m i c = quiet-running s m i (c.world.stations m).current c
+quiet-calls s m i c = quiet-running s m i (c.world.hosts m).current c
 
-goes-ticks : (s : Setting) (m n : ℕ) (c : Course) → Goes 0 c (ticks s m n c)
+goes-ticks : (s : Setting) (m n : ℕ) (c : Execution) → Goes 0 c (ticks s m n c)
 goes-ticks s m zero c = goes-same c
-goes-ticks s m (suc n) c = let d : Course = calls s m Ticks c in goes-then 0 0 c d (ticks s m n d) (quiet-calls s m Ticks c).goes (goes-ticks s m n d)
+goes-ticks s m (suc n) c = let d : Execution = calls s m Ticks c in goes-then 0 0 c d (ticks s m n d) (quiet-calls s m Ticks c).goes (goes-ticks s m n d)
 
 -- ---- unless something is forged
 
-abbrev OnOk : (Course → Type 0) → Result Course Forgery → Type 0
+abbrev OnOk : (Execution → Type 0) → Result Execution Forgery → Type 0
 OnOk P (Err found) = Unit {0}
 OnOk P (Ok c) = P c
 
-ok-map : (P Q : Course → Type 0) (r : Result Course Forgery) → ((c : Course) → P c → Q c) → OnOk P r → OnOk Q r
+ok-map : (P Q : Execution → Type 0) (r : Result Execution Forgery) → ((c : Execution) → P c → Q c) → OnOk P r → OnOk Q r
 ok-map P Q (Err found) f h = tt
 ok-map P Q (Ok c) f h = f c h
 
-ok-then : (P Q : Course → Type 0) (r : Result Course Forgery) (f : Course → Result Course Forgery) → ((c : Course) → P c → OnOk Q (f c)) → OnOk P r → OnOk Q (and_then r f)
+ok-then : (P Q : Execution → Type 0) (r : Result Execution Forgery) (f : Execution → Result Execution Forgery) → ((c : Execution) → P c → OnOk Q (f c)) → OnOk P r → OnOk Q (and_then r f)
 ok-then P Q (Err found) f k h = tt
 ok-then P Q (Ok c) f k h = k c h
 
-ok-unless : (P : Course → Type 0) (found : Option Forgery) (c : Course) → P c → OnOk P (unless_forged found c)
+ok-unless : (P : Execution → Type 0) (found : Option Forgery) (c : Execution) → P c → OnOk P (unless_forged found c)
 ok-unless P (Some found) c h = tt
 ok-unless P None c h = h
 
-quiet-hands : (s : Setting) (m : ℕ) (bytes : List ℕ) (c : Course) → OnOk (Quiet c) (hands s m bytes c)
+quiet-hands : (s : Setting) (m : ℕ) (bytes : List ℕ) (c : Execution) → OnOk (Quiet c) (hands s m bytes c)
 unfolding hands
 quiet-hands s m bytes c = ok-unless (Quiet c) (forgery s c.world bytes) (calls s m (Delivers bytes) c) (quiet-calls s m (Delivers bytes) c)
 
-abbrev goes-got : (s : Setting) (m number : ℕ) (c : Course) → number < length c.world.sent → Goes 0 c (tells_got s m number c)
+abbrev goes-got : (s : Setting) (m number : ℕ) (c : Execution) → number < length c.world.sent → Goes 0 c (tells_got s m number c)
 goes-got s m number c less = record { news = _ ∷ []; told = refl; more = []; sent = sym (nil-right c.world.sent); until = omega arith; within = (less, tt) }
 
-goes-hands_sent : (s : Setting) (m number : ℕ) (o : Option (ℕ × List ℕ)) (c : Course) → slice_get c.world.sent number ≡ o → OnOk (Goes 0 c) (hands_sent s m number o c)
+goes-hands_sent : (s : Setting) (m number : ℕ) (o : Option (ℕ × List ℕ)) (c : Execution) → slice_get c.world.sent number ≡ o → OnOk (Goes 0 c) (hands_sent s m number o c)
 goes-hands_sent s m number None c is = goes-same c
 goes-hands_sent s m number (Some d) c is =
-    let got : Course = tells_got s m number c in
+    let got : Execution = tells_got s m number c in
     ok-map (Quiet got) (Goes 0 c) (hands s m d.1 got) (λ e h. goes-then 0 0 c got e (goes-got s m number c (slice_get_within c.world.sent number d is)) h.goes) (quiet-hands s m d.1 got)
 
-goes-gives : (s : Setting) (m : ℕ) (x : Option Named) (c : Course) → OnOk (Goes 0 c) (gives s m x c)
+goes-gives : (s : Setting) (m : ℕ) (x : Option Named) (c : Execution) → OnOk (Goes 0 c) (gives s m x c)
 goes-gives s m None c = goes-same c
 goes-gives s m (Some x) c = ok-map (Quiet c) (Goes 0 c) (hands s m (given_bytes x) c) (λ d h. h.goes) (quiet-hands s m (given_bytes x) c)
 
-goes-gives_each : (s : Setting) (ms : List ℕ) (x : Option Named) (c : Course) → OnOk (Goes 0 c) (gives_each s ms x c)
+goes-gives_each : (s : Setting) (ms : List ℕ) (x : Option Named) (c : Execution) → OnOk (Goes 0 c) (gives_each s ms x c)
 goes-gives_each s [] x c = goes-same c
 goes-gives_each s (m ∷ ms) x c =
     ok-then (Goes 0 c) (Goes 0 c) (gives s m x c) (gives_each s ms x)
@@ -242,21 +244,21 @@ abbrev handed_at : ℕ → ℕ → Handed
 handed_at who number = record { who = who; number = number }
 
 -- One datagram was taken, and handed over or not.
-record TakesOne (c d : Course) : Type 0 where
+record TakesOne (c d : Execution) : Type 0 where
   goes : Goes 1 c d
   who : ℕ
   bytes : List ℕ
   first : slice_get c.world.sent c.world.flowed ≡ Some (who, bytes)
   handed : (handed_over goes.news ≡ []) ⊎ (handed_over goes.news ≡ handed_at who c.world.flowed ∷ [])
 
-abbrev goes-took : (c : Course) → Goes 1 c (record c { world = record c.world { flowed = c.world.flowed + 1 } })
+abbrev goes-took : (c : Execution) → Goes 1 c (record c { world = record c.world { flowed = c.world.flowed + 1 } })
 goes-took c = record { news = []; told = sym (nil-right c.told); more = []; sent = sym (nil-right c.world.sent); until = refl; within = tt }
 
-one-handed : (s : Setting) (d : ℕ × List ℕ) (c e : Course) → slice_get c.world.sent c.world.flowed ≡ Some d
-    → (let took : Course = record c { world = record c.world { flowed = c.world.flowed + 1 } } in Quiet (tells_got s d.0 c.world.flowed took) e) → TakesOne c e
+one-handed : (s : Setting) (d : ℕ × List ℕ) (c e : Execution) → slice_get c.world.sent c.world.flowed ≡ Some d
+    → (let took : Execution = record c { world = record c.world { flowed = c.world.flowed + 1 } } in Quiet (tells_got s d.0 c.world.flowed took) e) → TakesOne c e
 one-handed s d c e is h =
-    let took : Course = record c { world = record c.world { flowed = c.world.flowed + 1 } } in
-    let got : Course = tells_got s d.0 c.world.flowed took in
+    let took : Execution = record c { world = record c.world { flowed = c.world.flowed + 1 } } in
+    let got : Execution = tells_got s d.0 c.world.flowed took in
     let first : Goes 1 c got = goes-then 1 0 c took got (goes-took c) (goes-got s d.0 c.world.flowed took (slice_get_within c.world.sent c.world.flowed d is)) in
     record {
       goes = goes-then 1 0 c got e first h.goes;
@@ -266,10 +268,10 @@ one-handed s d c e is h =
       handed = inr (ap (λ xs. handed_at d.0 c.world.flowed ∷ xs) h.none);
     }
 
-flows-one : (s : Setting) (d : ℕ × List ℕ) (c : Course) → slice_get c.world.sent c.world.flowed ≡ Some d → OnOk (TakesOne c) (flows_one s d c)
+flows-one : (s : Setting) (d : ℕ × List ℕ) (c : Execution) → slice_get c.world.sent c.world.flowed ≡ Some d → OnOk (TakesOne c) (flows_one s d c)
 flows-one s d c is =
     let number : ℕ = c.world.flowed in
-    let took : Course = record c { world = record c.world { flowed = number + 1 } } in
+    let took : Execution = record c { world = record c.world { flowed = number + 1 } } in
     cond_both (is_running c.world d.0) (hands_sent s d.0 number (Some d) took) (Ok took) (OnOk (TakesOne c))
     (λ yes. ok-map (Quiet (tells_got s d.0 number took)) (TakesOne c) (hands s d.0 d.1 (tells_got s d.0 number took)) (λ e h. one-handed s d c e is h) (quiet-hands s d.0 d.1 (tells_got s d.0 number took)))
     (λ no. record { goes = goes-took c; who = d.0; bytes = d.1; first = is; handed = inl refl })
@@ -294,7 +296,7 @@ between-first who n high handed less h =
     }
 
 -- A flow of at most so many.
-record FlowsTo (most : ℕ) (c d : Course) : Type 0 where
+record FlowsTo (most : ℕ) (c d : Execution) : Type 0 where
   taken : ℕ
   goes : Goes taken c d
   few : taken ≤ most
@@ -303,10 +305,10 @@ record FlowsTo (most : ℕ) (c d : Course) : Type 0 where
   between : Between c.world.flowed d.world.flowed (handed_over goes.news)
   there : AllByRecursion (IsSentThere d.world) (handed_over goes.news)
 
-flows-none : (most : ℕ) (c : Course) → (0 < most → length c.world.sent ≤ c.world.flowed) → FlowsTo most c c
+flows-none : (most : ℕ) (c : Execution) → (0 < most → length c.world.sent ≤ c.world.flowed) → FlowsTo most c c
 flows-none most c all = record { taken = 0; goes = goes-same c; few = omega arith; all = all; enough = λ less. less; between = record { rise = tt; among = tt }; there = tt }
 
-sent-there : (c d e : Course) (x : TakesOne c d) (k : ℕ) → Goes k d e → IsSentThere e.world (handed_at x.who c.world.flowed)
+sent-there : (c d e : Execution) (x : TakesOne c d) (k : ℕ) → Goes k d e → IsSentThere e.world (handed_at x.who c.world.flowed)
 sent-there c d e x k y =
     record {
       bytes = x.bytes;
@@ -315,7 +317,7 @@ sent-there c d e x k y =
           (subst (λ (xs : List (ℕ × List ℕ)). slice_get xs c.world.flowed ≡ Some (x.who, x.bytes)) (sym x.goes.sent) (get-front c.world.sent x.goes.more c.world.flowed (x.who, x.bytes) x.first)));
     }
 
-flows-more : (n : ℕ) (c d e : Course) → TakesOne c d → FlowsTo n d e → FlowsTo (suc n) c e
+flows-more : (n : ℕ) (c d e : Execution) → TakesOne c d → FlowsTo n d e → FlowsTo (suc n) c e
 flows-more n c d e x y =
     let goes : Goes (1 + y.taken) c e = goes-then 1 y.taken c d e x.goes y.goes in
     let both : handed_over goes.news ≡ handed_over x.goes.news ++ handed_over y.goes.news = handed-append x.goes.news y.goes.news in
@@ -340,63 +342,63 @@ flows-more n c d e x y =
           ]);
     }
 
-flows-next : (s : Setting) (n : ℕ) (o : Option (ℕ × List ℕ)) (c : Course) → slice_get c.world.sent c.world.flowed ≡ o → ((d : Course) → OnOk (FlowsTo n d) (flows s n d)) → OnOk (FlowsTo (suc n) c) (flows_next s o (flows s n) c)
+flows-next : (s : Setting) (n : ℕ) (o : Option (ℕ × List ℕ)) (c : Execution) → slice_get c.world.sent c.world.flowed ≡ o → ((d : Execution) → OnOk (FlowsTo n d) (flows s n d)) → OnOk (FlowsTo (suc n) c) (flows_next s o (flows s n) c)
 flows-next s n None c is rest = flows-none (suc n) c (λ less. get-none c.world.sent c.world.flowed is)
 flows-next s n (Some d) c is rest =
     ok-then (TakesOne c) (FlowsTo (suc n) c) (flows_one s d c) (flows s n) (λ e x. ok-map (FlowsTo n e) (FlowsTo (suc n) c) (flows s n e) (λ f y. flows-more n c e f x y) (rest e)) (flows-one s d c is)
 
-flows-on : (s : Setting) (n : ℕ) (c : Course) → OnOk (FlowsTo n c) (flows s n c)
+flows-on : (s : Setting) (n : ℕ) (c : Execution) → OnOk (FlowsTo n c) (flows s n c)
 flows-on s zero c = flows-none 0 c (λ less. absurd (omega (arith, less)))
 flows-on s (suc n) c = flows-next s n (slice_get c.world.sent c.world.flowed) c refl (flows-on s n)
 
 -- ---- lines
 
-abbrev pub course_of : Answer → Course
+abbrev pub course_of : Answer → Execution
 course_of a = record { world = a.world; told = a.told }
 
 -- What comes of a line, unless something is forged.
-abbrev OnAnswer : (Course → Type 0) → Result Answer Forgery → Type 0
+abbrev OnAnswer : (Execution → Type 0) → Result Answer Forgery → Type 0
 OnAnswer P (Err found) = Unit {0}
 OnAnswer P (Ok a) = P (course_of a)
 
-answer-ok : (P : Course → Type 0) (r : Result Course Forgery) → OnOk P r → OnAnswer P (answered r)
+answer-ok : (P : Execution → Type 0) (r : Result Execution Forgery) → OnOk P r → OnAnswer P (answered r)
 answer-ok P (Err found) h = tt
 answer-ok P (Ok c) h = h
 
 -- The line takes so many datagrams, which are none unless it is a flow.
-pub record Steps (line : WorldLine) (c d : Course) : Type 0 where
+pub record Steps (line : WorldLine) (c d : Execution) : Type 0 where
   pub taken : ℕ
   pub goes : Goes taken c d
   pub enough : c.world.flowed ≤ length c.world.sent → d.world.flowed ≤ length d.world.sent
   pub none : is_flow line ≡ false → taken ≡ 0
 
-steps-none : (line : WorldLine) (c d : Course) → Goes 0 c d → Steps line c d
+steps-none : (line : WorldLine) (c d : Execution) → Goes 0 c d → Steps line c d
 steps-none line c d h =
     let grown : length c.world.sent ≤ length d.world.sent = sent-longer c d h in
     record { taken = 0; goes = h; enough = λ less. omega (arith, less, h.until, grown); none = λ others. refl }
 
-steps-flow : (most : ℕ) (c d : Course) → FlowsTo most c d → Steps (lines.Flow most) c d
+steps-flow : (most : ℕ) (c d : Execution) → FlowsTo most c d → Steps (lines.Flow most) c d
 steps-flow most c d h = record { taken = h.taken; goes = h.goes; enough = h.enough; none = λ others. absurd (false≢true (sym others)) }
 
-goes-begins : (s : Setting) (m : ℕ) (station : Station) (call : Call) (w : World) → NoneGot call → Goes 0 (begun w) (course_of (begins s m station call w))
-goes-begins s m station call w none =
-    cond_both {A = Answer} (put_passes station.disk) _ _ (λ a. Goes 0 (begun w) (course_of a))
+goes-begins : (s : Setting) (m : ℕ) (host : Host) (call : Call) (w : World) → NoneGot call → Goes 0 (begun w) (course_of (begins s m host call w))
+goes-begins s m host call w none =
+    cond_both {A = Answer} (put_passes host.disk) _ _ (λ a. Goes 0 (begun w) (course_of a))
     (λ yes. (quiet-more (begun w) _ (told_in m (length w.sent) call.told) call.sent refl refl refl (none-over m (length w.sent) call.told none)).goes)
     (λ no. goes-still w _ [] refl refl)
 
-goes-opens : (m : ℕ) (station : Station) (rest : Station → Answer) (w : World) → ((opened : Station) → Goes 0 (begun w) (course_of (rest opened))) → Goes 0 (begun w) (course_of (opens m station rest w))
-goes-opens m station rest w h = cond_both {A = Answer} (lets_pass station.disk.armed (opening_calls station.disk)) _ _ (λ a. Goes 0 (begun w) (course_of a)) (λ yes. h _) (λ no. goes-still w _ [] refl refl)
+goes-opens : (m : ℕ) (host : Host) (rest : Host → Answer) (w : World) → ((opened : Host) → Goes 0 (begun w) (course_of (rest opened))) → Goes 0 (begun w) (course_of (opens m host rest w))
+goes-opens m host rest w h = cond_both {A = Answer} (lets_pass host.disk.armed (opening_calls host.disk)) _ _ (λ a. Goes 0 (begun w) (course_of a)) (λ yes. h _) (λ no. goes-still w _ [] refl refl)
 
 goes-starts : (s : Setting) (m : ℕ) (w : World) → Goes 0 (begun w) (course_of (starts s m w))
 unfolding starts
 goes-starts s m w =
-    let kept : Stored = (w.stations m).disk.state in
-    goes-opens m (w.stations m) (λ opened. begins s m opened (first_call s m kept) w) w
+    let kept : Stored = (w.hosts m).disk.state in
+    goes-opens m (w.hosts m) (λ opened. begins s m opened (first_call s m kept) w) w
     (λ opened. goes-begins s m opened (first_call s m kept) w (none-started (setting_of s m) (s.nonces m kept.next) (certificates s) kept))
 
 goes-starts_in_vain : (m first : ℕ) (w : World) → Goes 0 (begun w) (course_of (starts_in_vain m first w))
 unfolding starts_in_vain
-goes-starts_in_vain m first w = goes-opens m (w.stations m) (λ opened. says (verdicts.Refused (verdicts.UsedUp first)) (with_station m opened w)) w (λ opened. goes-still w _ [] refl refl)
+goes-starts_in_vain m first w = goes-opens m (w.hosts m) (λ opened. says (verdicts.Refused (whys.UsedUp first)) (with_host m opened w)) w (λ opened. goes-still w _ [] refl refl)
 
 goes-accuses_at : (s : Setting) (key accuser accused : ℕ) (ring : RingNo) (name : List ℕ) (w : World) (epoch : Option ℕ) → Goes 0 (begun w) (course_of (accuses_at s key accuser accused ring name w epoch))
 goes-accuses_at s key accuser accused ring name w None = goes-same (begun w)
@@ -410,7 +412,7 @@ abbrev StepsTo : World → WorldLine → Result Answer Forgery → Type 0
 StepsTo w line r = OnAnswer (Steps line (begun w)) r
 
 -- The line takes nothing, whatever comes of it.
-steps-ok : (w : World) (line : WorldLine) (r : Result Course Forgery) → OnOk (Goes 0 (begun w)) r → StepsTo w line (answered r)
+steps-ok : (w : World) (line : WorldLine) (r : Result Execution Forgery) → OnOk (Goes 0 (begun w)) r → StepsTo w line (answered r)
 steps-ok w line r h = answer-ok (Steps line (begun w)) r (ok-map (Goes 0 (begun w)) (Steps line (begun w)) r (λ d k. steps-none line (begun w) d k) h)
 
 steps-does : (s : Setting) (w : World) (line : WorldLine) → StepsTo w line (does s w line)
@@ -426,15 +428,15 @@ steps-does s w (lines.SignNote key note name) = steps-none _ (begun w) _ (goes-s
 steps-does s w (lines.SignAccusation key accuser accused epoch ring name) = steps-none _ (begun w) _ (goes-accuses_at s key accuser accused ring name w (epoch_meant w accused epoch))
 steps-does s w (lines.Give name m) = steps-ok w (lines.Give name m) (gives s m (named_so w name) (begun w)) (goes-gives s m (named_so w name) (begun w))
 steps-does s w (lines.GiveAll name) = steps-ok w (lines.GiveAll name) (gives_each s (running s w) (named_so w name) (begun w)) (goes-gives_each s (running s w) (named_so w name) (begun w))
-steps-does s w (lines.View m) = steps-none _ (begun w) _ (goes-of_life s m (w.stations m).current viewed w)
-steps-does s w (lines.Monitor m ring of) = steps-none _ (begun w) _ (goes-of_life s m (w.stations m).current (monitored ring.0 of) w)
+steps-does s w (lines.View m) = steps-none _ (begun w) _ (goes-of_life s m (w.hosts m).current viewed w)
+steps-does s w (lines.Monitor m ring of) = steps-none _ (begun w) _ (goes-of_life s m (w.hosts m).current (monitored ring.0 of) w)
 steps-does s w line = steps-none line (begun w) _ (goes-same (begun w))
 
-steps-refuses : (w : World) (line : WorldLine) (why : Why) → Goes 0 (begun w) (course_of (refuses w line why))
-steps-refuses w (lines.Start m) (verdicts.UsedUp first) = goes-starts_in_vain m first w
+steps-refuses : (w : World) (line : WorldLine) (why : RefusalReason) → Goes 0 (begun w) (course_of (refuses w line why))
+steps-refuses w (lines.Start m) (whys.UsedUp first) = goes-starts_in_vain m first w
 steps-refuses w line why = goes-same (begun w)
 
-steps-by : (s : Setting) (w : World) (line : WorldLine) (why : Option Why) → StepsTo w line (step_by s w line why)
+steps-by : (s : Setting) (w : World) (line : WorldLine) (why : Option RefusalReason) → StepsTo w line (step_by s w line why)
 steps-by s w line (Some why) = steps-none line (begun w) _ (steps-refuses w line why)
 steps-by s w line None = steps-does s w line
 
@@ -471,7 +473,7 @@ pub flow-done : (s : Setting) (w : World) (most : ℕ) → step s w (lines.Flow 
 unfolding step why_not
 flow-done s w most = refl
 
-flow-answer : (w : World) (most : ℕ) (r : Result Course Forgery) (a : Answer) → answered r ≡ Ok a → OnOk (FlowsTo most (begun w)) r → FlowsTo most (begun w) (course_of a)
+flow-answer : (w : World) (most : ℕ) (r : Result Execution Forgery) (a : Answer) → answered r ≡ Ok a → OnOk (FlowsTo most (begun w)) r → FlowsTo most (begun w) (course_of a)
 flow-answer w most (Err found) a is h = cc
 flow-answer w most (Ok c) a is h = subst (λ (x : Answer). FlowsTo most (begun w) (course_of x)) (same _ _ is) h
   where
@@ -486,7 +488,7 @@ flows-go-on s w most a is =
       until = h.goes.until;
       few = h.few;
       all = h.all;
-      rise = subst (λ (xs : List Told). IsRising (numbers_of (handed_over xs))) (sym h.goes.told) h.between.rise;
-      among = subst (λ (xs : List Told). AllByRecursion (λ k. (w.flowed ≤ k.number) × (k.number < a.world.flowed)) (handed_over xs)) (sym h.goes.told) h.between.among;
-      there = subst (λ (xs : List Told). AllByRecursion (IsSentThere a.world) (handed_over xs)) (sym h.goes.told) h.there;
+      rise = subst (λ (xs : List NodeEvent). IsRising (numbers_of (handed_over xs))) (sym h.goes.told) h.between.rise;
+      among = subst (λ (xs : List NodeEvent). AllByRecursion (λ k. (w.flowed ≤ k.number) × (k.number < a.world.flowed)) (handed_over xs)) (sym h.goes.told) h.between.among;
+      there = subst (λ (xs : List NodeEvent). AllByRecursion (IsSentThere a.world) (handed_over xs)) (sym h.goes.told) h.there;
     }

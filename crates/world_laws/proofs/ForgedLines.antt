@@ -12,9 +12,9 @@ use Rattle.world_rules.specs.Settings.{Setting, Signed, setting_of}
 use Rattle.world_rules.specs.Calls.{called_on}
 use Rattle.world_rules.specs.Worlds.{Life, Named, World, is_running, named_so, running}
 use Rattle.world_rules.specs.Forgeries.{Forgery, forgery}
-use Rattle.world_rules.specs.Verdicts.{Why}
+use Rattle.world_rules.specs.declared.verdict.RefusalReason.{RefusalReason}
 use Rattle.world_rules.specs.Refusals.{why_not}
-use Rattle.world_rules.specs.Steps.{Answer, Course, Told, and_then, answered, begun, calls, calls_running, does, flows, flows_next, flows_one, given_bytes, gives, gives_each, hands, hands_sent, quiet, signed_in, step, step_by, tells_got, unless_forged}
+use Rattle.world_rules.specs.Steps.{Answer, Execution, NodeEvent, and_then, answered, begun, calls, calls_running, does, flows, flows_next, flows_one, given_bytes, gives, gives_each, hands, hands_sent, quiet, signed_in, step, step_by, tells_got, unless_forged}
 use Rattle.world_rules.specs.Walk.{Brought, Forged, Grammar, Lists, Plays, Stage, Walk, at_end, brought, events_in, from_answer, from_line, no_roster, setting_in, stepped, walk, walk_over}
 use Rattle.world_rules.specs.Laws.{IsSetting}
 use Rattle.world_laws.specs.Flows.{FlowsOn}
@@ -39,13 +39,13 @@ extends-same w v same = record { more = []; signed = same ∙ sym (nil-right w.s
 extends-then : (u v w : World) → Extends u v → Extends v w → Extends u w
 extends-then u v w h k = record { more = h.more ++ k.more; signed = k.signed ∙ ap (λ xs. xs ++ k.more) h.signed ∙ append_assoc u.signed h.more k.more }
 
-extends-running : (s : Setting) (m : ℕ) (i : Input) (current : Option Life) (c : Course) → Extends c.world (calls_running s m i (c.world.stations m) current c).world
+extends-running : (s : Setting) (m : ℕ) (i : Input) (current : Option Life) (c : Execution) → Extends c.world (calls_running s m i (c.world.hosts m) current c).world
 extends-running s m i None c = extends-same c.world c.world refl
-extends-running s m i (Some life) c = record { more = signed_in m (called_on (setting_of s m) life.node i (c.world.stations m).disk).call.told; signed = refl }
+extends-running s m i (Some life) c = record { more = signed_in m (called_on (setting_of s m) life.node i (c.world.hosts m).disk).call.told; signed = refl }
 
-extends-calls : (s : Setting) (m : ℕ) (i : Input) (c : Course) → Extends c.world (calls s m i c).world
+extends-calls : (s : Setting) (m : ℕ) (i : Input) (c : Execution) → Extends c.world (calls s m i c).world
 unfolding calls
-extends-calls s m i c = extends-running s m i (c.world.stations m).current c
+extends-calls s m i c = extends-running s m i (c.world.hosts m).current c
 
 -- ---- what is handed over in this world
 
@@ -55,70 +55,70 @@ record Finding (s : Setting) (w : World) (P : List ℕ → Type 0) (f : Forgery)
   handed : P bytes
   found : forgery s w bytes ≡ Some f
 
-abbrev Finds : Setting → World → (List ℕ → Type 0) → Result Course Forgery → Type 0
+abbrev Finds : Setting → World → (List ℕ → Type 0) → Result Execution Forgery → Type 0
 Finds s w P (Err f) = Finding s w P f
 Finds s w P (Ok c) = Unit {0}
 
-finds-unless : (s : Setting) (w : World) (P : List ℕ → Type 0) (bytes : List ℕ) (found : Option Forgery) (d : Course) → forgery s w bytes ≡ found → P bytes → Finds s w P (unless_forged found d)
+finds-unless : (s : Setting) (w : World) (P : List ℕ → Type 0) (bytes : List ℕ) (found : Option Forgery) (d : Execution) → forgery s w bytes ≡ found → P bytes → Finds s w P (unless_forged found d)
 finds-unless s w P bytes (Some f) d is h = record { bytes = bytes; handed = h; found = is }
 finds-unless s w P bytes None d is h = tt
 
-finds-hands : (s : Setting) (P : List ℕ → Type 0) (m : ℕ) (bytes : List ℕ) (c : Course) → P bytes → Finds s c.world P (hands s m bytes c)
+finds-hands : (s : Setting) (P : List ℕ → Type 0) (m : ℕ) (bytes : List ℕ) (c : Execution) → P bytes → Finds s c.world P (hands s m bytes c)
 unfolding hands
 finds-hands s P m bytes c h = finds-unless s c.world P bytes (forgery s c.world bytes) (calls s m (Delivers bytes) c) refl h
 
-finds-hands_sent : (s : Setting) (P : List ℕ → Type 0) (m number : ℕ) (o : Option (ℕ × List ℕ)) (c : Course) → ((d : ℕ × List ℕ) → o ≡ Some d → P d.1) → Finds s c.world P (hands_sent s m number o c)
+finds-hands_sent : (s : Setting) (P : List ℕ → Type 0) (m number : ℕ) (o : Option (ℕ × List ℕ)) (c : Execution) → ((d : ℕ × List ℕ) → o ≡ Some d → P d.1) → Finds s c.world P (hands_sent s m number o c)
 finds-hands_sent s P m number None c h = tt
 finds-hands_sent s P m number (Some d) c h = finds-hands s P m d.1 (tells_got s m number c) (h d refl)
 
-finds-gives : (s : Setting) (P : List ℕ → Type 0) (m : ℕ) (x : Option Named) (c : Course) → ((y : Named) → x ≡ Some y → P (given_bytes y)) → Finds s c.world P (gives s m x c)
+finds-gives : (s : Setting) (P : List ℕ → Type 0) (m : ℕ) (x : Option Named) (c : Execution) → ((y : Named) → x ≡ Some y → P (given_bytes y)) → Finds s c.world P (gives s m x c)
 finds-gives s P m None c h = tt
 finds-gives s P m (Some y) c h = finds-hands s P m (given_bytes y) c (h y refl)
 
 -- ---- one after another: where the first is handed over, all are
 
-abbrev Spares : Setting → List ℕ → Result Course Forgery → Type 0
+abbrev Spares : Setting → List ℕ → Result Execution Forgery → Type 0
 Spares s bytes (Err f) = ⊥
 Spares s bytes (Ok c) = forgery s c.world bytes ≡ None
 
-spares-unless : (s : Setting) (bytes : List ℕ) (found : Option Forgery) (d : Course) → found ≡ None → forgery s d.world bytes ≡ None → Spares s bytes (unless_forged found d)
+spares-unless : (s : Setting) (bytes : List ℕ) (found : Option Forgery) (d : Execution) → found ≡ None → forgery s d.world bytes ≡ None → Spares s bytes (unless_forged found d)
 spares-unless s bytes (Some f) d none h = never f none
   where
     never : (f : Forgery) → Some f ≡ None → ⊥
     never f e = cc
 spares-unless s bytes None d none h = h
 
-spared-call : (s : Setting) (m : ℕ) (bytes : List ℕ) (c : Course) → forgery s c.world bytes ≡ None → forgery s (calls s m (Delivers bytes) c).world bytes ≡ None
+spared-call : (s : Setting) (m : ℕ) (bytes : List ℕ) (c : Execution) → forgery s c.world bytes ≡ None → forgery s (calls s m (Delivers bytes) c).world bytes ≡ None
 spared-call s m bytes c none =
-    let d : Course = calls s m (Delivers bytes) c in
+    let d : Execution = calls s m (Delivers bytes) c in
     let x : Extends c.world d.world = extends-calls s m (Delivers bytes) c in
     stays-spared s c.world d.world x.more bytes x.signed none
 
-spares-hands : (s : Setting) (m : ℕ) (bytes : List ℕ) (c : Course) → forgery s c.world bytes ≡ None → Spares s bytes (hands s m bytes c)
+spares-hands : (s : Setting) (m : ℕ) (bytes : List ℕ) (c : Execution) → forgery s c.world bytes ≡ None → Spares s bytes (hands s m bytes c)
 unfolding hands
 spares-hands s m bytes c none = spares-unless s bytes (forgery s c.world bytes) (calls s m (Delivers bytes) c) none (spared-call s m bytes c none)
 
-spares-then : (s : Setting) (bytes : List ℕ) (r : Result Course Forgery) (f : Course → Result Course Forgery) → Spares s bytes r → ((c : Course) → forgery s c.world bytes ≡ None → Spares s bytes (f c)) → Spares s bytes (and_then r f)
+spares-then : (s : Setting) (bytes : List ℕ) (r : Result Execution Forgery) (f : Execution → Result Execution Forgery) → Spares s bytes r → ((c : Execution) → forgery s c.world bytes ≡ None → Spares s bytes (f c)) → Spares s bytes (and_then r f)
 spares-then s bytes (Err found) f h k = h
 spares-then s bytes (Ok c) f h k = k c h
 
-spares-each : (s : Setting) (ms : List ℕ) (y : Named) (c : Course) → forgery s c.world (given_bytes y) ≡ None → Spares s (given_bytes y) (gives_each s ms (Some y) c)
+spares-each : (s : Setting) (ms : List ℕ) (y : Named) (c : Execution) → forgery s c.world (given_bytes y) ≡ None → Spares s (given_bytes y) (gives_each s ms (Some y) c)
 spares-each s [] y c none = none
 spares-each s (m ∷ ms) y c none =
     spares-then s (given_bytes y) (hands s m (given_bytes y) c) (gives_each s ms (Some y)) (spares-hands s m (given_bytes y) c none) (λ d h. spares-each s ms y d h)
 
-finds-spared : (s : Setting) (w : World) (P : List ℕ → Type 0) (bytes : List ℕ) (r : Result Course Forgery) → Spares s bytes r → Finds s w P r
+finds-spared : (s : Setting) (w : World) (P : List ℕ → Type 0) (bytes : List ℕ) (r : Result Execution Forgery) → Spares s bytes r → Finds s w P r
 finds-spared s w P bytes (Err f) h = absurd h
 finds-spared s w P bytes (Ok c) h = tt
 
-finds-first : (s : Setting) (P : List ℕ → Type 0) (m : ℕ) (ms : List ℕ) (y : Named) (found : Option Forgery) (c : Course) → forgery s c.world (given_bytes y) ≡ found → P (given_bytes y)
+finds-first : (s : Setting) (P : List ℕ → Type 0) (m : ℕ) (ms : List ℕ) (y : Named) (found : Option Forgery) (c : Execution) → forgery s c.world (given_bytes y) ≡ found → P (given_bytes y)
     → Finds s c.world P (and_then (unless_forged found (calls s m (Delivers (given_bytes y)) c)) (gives_each s ms (Some y)))
 finds-first s P m ms y (Some f) c is h = record { bytes = given_bytes y; handed = h; found = is }
 finds-first s P m ms y None c is h =
-    let d : Course = calls s m (Delivers (given_bytes y)) c in
+    let d : Execution = calls s m (Delivers (given_bytes y)) c in
     finds-spared s c.world P (given_bytes y) (gives_each s ms (Some y) d) (spares-each s ms y d (spared-call s m (given_bytes y) c is))
 
-finds-gives_each : (s : Setting) (P : List ℕ → Type 0) (ms : List ℕ) (x : Option Named) (c : Course) → ((y : Named) → x ≡ Some y → P (given_bytes y)) → Finds s c.world P (gives_each s ms x c)
+finds-gives_each : (s : Setting) (P : List ℕ → Type 0) (ms : List ℕ) (x : Option Named) (c : Execution) → ((y : Named) → x ≡ Some y → P (given_bytes y)) → Finds s c.world P (gives_each s ms x c)
 unfolding hands
 finds-gives_each s P [] x c h = tt
 finds-gives_each s P (m ∷ ms) None c h = finds-gives_each s P ms None c h
@@ -127,33 +127,33 @@ finds-gives_each s P (m ∷ ms) (Some y) c h = finds-first s P m ms y (forgery s
 -- ---- flows
 
 -- What a datagram that is taken comes to.
-abbrev TakesOne : Setting → ℕ × List ℕ → Course → Result Course Forgery → Type 0
+abbrev TakesOne : Setting → ℕ × List ℕ → Execution → Result Execution Forgery → Type 0
 TakesOne s d c (Err f) = (is_running c.world d.0 ≡ true) × (forgery s c.world d.1 ≡ Some f)
 TakesOne s d c (Ok e) = Extends c.world e.world
 
-one-unless : (s : Setting) (d : ℕ × List ℕ) (c e : Course) (found : Option Forgery) → is_running c.world d.0 ≡ true → forgery s c.world d.1 ≡ found → Extends c.world e.world → TakesOne s d c (unless_forged found e)
+one-unless : (s : Setting) (d : ℕ × List ℕ) (c e : Execution) (found : Option Forgery) → is_running c.world d.0 ≡ true → forgery s c.world d.1 ≡ found → Extends c.world e.world → TakesOne s d c (unless_forged found e)
 one-unless s d c e (Some f) runs is h = (runs, is)
 one-unless s d c e None runs is h = h
 
-one-hands : (s : Setting) (d : ℕ × List ℕ) (c taken : Course) → is_running c.world d.0 ≡ true → taken.world.signed ≡ c.world.signed → TakesOne s d c (hands s d.0 d.1 taken)
+one-hands : (s : Setting) (d : ℕ × List ℕ) (c taken : Execution) → is_running c.world d.0 ≡ true → taken.world.signed ≡ c.world.signed → TakesOne s d c (hands s d.0 d.1 taken)
 unfolding hands
 one-hands s d c taken runs same =
-    let e : Course = calls s d.0 (Delivers d.1) taken in
+    let e : Execution = calls s d.0 (Delivers d.1) taken in
     one-unless s d c e (forgery s taken.world d.1) runs (sym (same-forgery s c.world taken.world d.1 same))
     (extends-then c.world taken.world e.world (extends-same c.world taken.world same) (extends-calls s d.0 (Delivers d.1) taken))
 
-takes-one : (s : Setting) (d : ℕ × List ℕ) (c : Course) → TakesOne s d c (flows_one s d c)
+takes-one : (s : Setting) (d : ℕ × List ℕ) (c : Execution) → TakesOne s d c (flows_one s d c)
 takes-one s d c =
     let number : ℕ = c.world.flowed in
-    let taken : Course = record c { world = record c.world { flowed = number + 1 } } in
+    let taken : Execution = record c { world = record c.world { flowed = number + 1 } } in
     cond_both (is_running c.world d.0) (hands_sent s d.0 number (Some d) taken) (Ok taken) (TakesOne s d c)
     (λ yes. one-hands s d c (tells_got s d.0 number taken) yes refl) (λ no. extends-same c.world taken.world refl)
 
 -- The datagram that comes next behind so many, in the bytes of which this is forged.
-record FlowEnds (s : Setting) (n : ℕ) (c : Course) (f : Forgery) : Type 0 where
+record FlowEnds (s : Setting) (n : ℕ) (c : Execution) (f : Forgery) : Type 0 where
   before : ℕ
   fewer : before < n
-  flown : Course
+  flown : Execution
   is : flows s before c ≡ Ok flown
   extends : Extends c.world flown.world
   to : ℕ
@@ -162,14 +162,14 @@ record FlowEnds (s : Setting) (n : ℕ) (c : Course) (f : Forgery) : Type 0 wher
   runs : is_running flown.world to ≡ true
   found : forgery s flown.world bytes ≡ Some f
 
-abbrev FlowsSo : Setting → ℕ → Course → Result Course Forgery → Type 0
+abbrev FlowsSo : Setting → ℕ → Execution → Result Execution Forgery → Type 0
 FlowsSo s n c (Err f) = FlowEnds s n c f
 FlowsSo s n c (Ok d) = Unit {0}
 
-flow-longer : (s : Setting) (k : ℕ) (d : ℕ × List ℕ) (c e : Course) → slice_get c.world.sent c.world.flowed ≡ Some d → flows_one s d c ≡ Ok e → flows s (suc k) c ≡ flows s k e
+flow-longer : (s : Setting) (k : ℕ) (d : ℕ × List ℕ) (c e : Execution) → slice_get c.world.sent c.world.flowed ≡ Some d → flows_one s d c ≡ Ok e → flows s (suc k) c ≡ flows s k e
 flow-longer s k d c e is one = ap (λ o. flows_next s o (flows s k) c) is ∙ ap (λ r. and_then r (flows s k)) one
 
-ends-longer : (s : Setting) (n : ℕ) (d : ℕ × List ℕ) (c e : Course) (r : Result Course Forgery) → slice_get c.world.sent c.world.flowed ≡ Some d → flows_one s d c ≡ Ok e → Extends c.world e.world → FlowsSo s n e r → FlowsSo s (suc n) c r
+ends-longer : (s : Setting) (n : ℕ) (d : ℕ × List ℕ) (c e : Execution) (r : Result Execution Forgery) → slice_get c.world.sent c.world.flowed ≡ Some d → flows_one s d c ≡ Ok e → Extends c.world e.world → FlowsSo s n e r → FlowsSo s (suc n) c r
 ends-longer s n d c e (Err f) is one grown h =
     record {
       before = suc h.before;
@@ -185,16 +185,16 @@ ends-longer s n d c e (Err f) is one grown h =
     }
 ends-longer s n d c e (Ok x) is one grown h = tt
 
-ends-then : (s : Setting) (n : ℕ) (d : ℕ × List ℕ) (c : Course) (r : Result Course Forgery) → slice_get c.world.sent c.world.flowed ≡ Some d → flows_one s d c ≡ r → TakesOne s d c r → ((e : Course) → FlowsSo s n e (flows s n e)) → FlowsSo s (suc n) c (and_then r (flows s n))
+ends-then : (s : Setting) (n : ℕ) (d : ℕ × List ℕ) (c : Execution) (r : Result Execution Forgery) → slice_get c.world.sent c.world.flowed ≡ Some d → flows_one s d c ≡ r → TakesOne s d c r → ((e : Execution) → FlowsSo s n e (flows s n e)) → FlowsSo s (suc n) c (and_then r (flows s n))
 ends-then s n d c (Err f) is one h rest =
     record { before = 0; fewer = omega arith; flown = c; is = refl; extends = extends-same c.world c.world refl; to = d.0; bytes = d.1; next = is; runs = h.0; found = h.1 }
 ends-then s n d c (Ok e) is one h rest = ends-longer s n d c e (flows s n e) is one h (rest e)
 
-ends-next : (s : Setting) (n : ℕ) (o : Option (ℕ × List ℕ)) (c : Course) → slice_get c.world.sent c.world.flowed ≡ o → ((e : Course) → FlowsSo s n e (flows s n e)) → FlowsSo s (suc n) c (flows_next s o (flows s n) c)
+ends-next : (s : Setting) (n : ℕ) (o : Option (ℕ × List ℕ)) (c : Execution) → slice_get c.world.sent c.world.flowed ≡ o → ((e : Execution) → FlowsSo s n e (flows s n e)) → FlowsSo s (suc n) c (flows_next s o (flows s n) c)
 ends-next s n None c is rest = tt
 ends-next s n (Some d) c is rest = ends-then s n d c (flows_one s d c) is refl (takes-one s d c) rest
 
-flows-so : (s : Setting) (n : ℕ) (c : Course) → FlowsSo s n c (flows s n c)
+flows-so : (s : Setting) (n : ℕ) (c : Execution) → FlowsSo s n c (flows s n c)
 flows-so s zero c = tt
 flows-so s (suc n) c = ends-next s n (slice_get c.world.sent c.world.flowed) c refl (flows-so s n)
 
@@ -205,7 +205,7 @@ FindsIn s w line (Err f) = IsForgedIn s w line f
 FindsIn s w line (Ok a) = Unit {0}
 
 -- The line hands over such bytes as the world is what it was.
-finds-answered : (s : Setting) (w : World) (line : WorldLine) (r : Result Course Forgery) → IsSetting s → Finds s w (HandsOver s w w line) r → FindsIn s w line (answered r)
+finds-answered : (s : Setting) (w : World) (line : WorldLine) (r : Result Execution Forgery) → IsSetting s → Finds s w (HandsOver s w w line) r → FindsIn s w line (answered r)
 finds-answered s w line (Err f) fits h =
     record { later = w; more = []; signed = sym (nil-right w.signed); bytes = h.bytes; handed = h.handed; first = (forgeries-first s w h.bytes f fits).0 h.found }
 finds-answered s w line (Ok c) fits h = tt
@@ -218,7 +218,7 @@ finds-flown s w most f fits h =
     let handed : FlowsNext s w v most h.bytes = record { before = h.before; fewer = h.fewer; flown = quiet h.flown; flows = is; there = refl; untaken = omega (arith, on.until); to = h.to; next = h.next; runs = h.runs } in
     record { later = v; more = h.extends.more; signed = h.extends.signed; bytes = h.bytes; handed = handed; first = (forgeries-first s v h.bytes f fits).0 h.found }
 
-finds-flow : (s : Setting) (w : World) (most : ℕ) (r : Result Course Forgery) → IsSetting s → FlowsSo s most (begun w) r → FindsIn s w (lines.Flow most) (answered r)
+finds-flow : (s : Setting) (w : World) (most : ℕ) (r : Result Execution Forgery) → IsSetting s → FlowsSo s most (begun w) r → FindsIn s w (lines.Flow most) (answered r)
 finds-flow s w most (Err f) fits h = finds-flown s w most f fits h
 finds-flow s w most (Ok c) fits h = tt
 
@@ -237,7 +237,7 @@ finds-does s w (lines.GiveAll name) fits =
     (finds-gives_each s (HandsOver s w w (lines.GiveAll name)) (running s w) (named_so w name) (begun w) (λ y is. (refl, y, is, refl)))
 finds-does s w line fits = tt
 
-finds-by : (s : Setting) (w : World) (line : WorldLine) (why : Option Why) → IsSetting s → FindsIn s w line (step_by s w line why)
+finds-by : (s : Setting) (w : World) (line : WorldLine) (why : Option RefusalReason) → IsSetting s → FindsIn s w line (step_by s w line why)
 finds-by s w line (Some why) fits = tt
 finds-by s w line None fits = finds-does s w line fits
 
@@ -284,7 +284,7 @@ stepped-forged s w line (Err found) f is e = is ∙ ap (λ x. Err x) (same found
     same x y e = cc
 stepped-forged s w line (Ok a) f is e = cc
 
-forged-stage : (stage : Stage) (told : List Told) (line : WorldLine) (f : Forgery) → IsComeTo stage told → brought setting_in stage line ≡ Err f → IsForgedAt stage f
+forged-stage : (stage : Stage) (told : List NodeEvent) (line : WorldLine) (f : Forgery) → IsComeTo stage told → brought setting_in stage line ≡ Err f → IsForgedAt stage f
 forged-stage (Lists r) told line f come e = cc
 forged-stage (Plays s w) told line f come e = let is : step s w line ≡ Err f = stepped-forged s w line (step s w line) f refl e in (line, is, lines-hand-over s w line f come.fits is)
 

@@ -30,7 +30,7 @@ use Rattle.world_rules.specs.Calls.{called_on}
 use Rattle.node_rules.proofs.Called.{ComesSoFar, delivered_until, ticked_until}
 use Rattle.world_rules.proofs.SoFar.{so_far}
 
--- Beside verdicts on records, what goes with a step of its own, and what no call of a node tells.
+-- Beside verdicts on records, what goes with a step of its own, and what no call of a node reports.
 abbrev pub is_plain : whats.What → Bool
 is_plain (happened.Entered m) = false
 is_plain (happened.Expired a) = false
@@ -42,7 +42,7 @@ is_plain (happened.Spent index body) = false
 is_plain (happened.Got number) = false
 is_plain what = true
 
--- The record is accepted, which is told.
+-- The record is accepted, which is reported.
 abbrev pub accepts : Setting → Record → Call → Call
 accepts s r c = takes s r (tells s (happened.Took r.body None) c)
 
@@ -58,7 +58,7 @@ pub record Hands (s : Setting) (Given : Record → Type 0) (P : Call → Type 0)
   pub passed : (c : Call) → P c → P (lives s Ticks c)
   pub probed : (h : History) (c : Call) → P c → P (record c { node = record c.node { probes = h } })
 
--- So does each with what is told of a record apart from its acceptance.
+-- So does each with what is reported of a record apart from its acceptance.
 pub record HandsApart (s : Setting) (Given : Record → Type 0) (P : Call → Type 0) : Type 0 where
   pub told : (what : whats.What) (c : Call) → is_plain what ≡ true → P c → P (tells s what c)
   pub judged : (r : Record) (c : Call) → Given r → P c → P (tells s (happened.Took r.body (refusal s c.node r)) c)

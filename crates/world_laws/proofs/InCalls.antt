@@ -1,5 +1,5 @@
 -- What a call of a node in a world comes to: its roster stays, its own note is the store's, what it accepts of nodes was
--- signed by them, and what it signs is told.
+-- signed by them, and what it signs is reported.
 use Rattle.std.proofs.Common.{◌≡◌, ◌⊎◌, ℕ, ◌+◌, true, false, List, [], ◌∷◌, ◌++◌, Option, Some, None, inl, inr, refl, ap, sym, ◌∙◌, subst, map, arith}
 use Rattle.std.specs.Prelude.{fold}
 use Rattle.ff_ids.specs.declared.Fault.{Fault}
@@ -43,7 +43,7 @@ use Rattle.world_laws.proofs.Rightly.{HasNotesWithin, Knows, ahead-told, none-ah
 
 -- ---- what was signed before a call, or in it
 
--- An index was spent on the body, as these events tell.
+-- An index was spent on the body, as these events report.
 pub record IsSpentOn (events : List journal.Event) (body : Body) : Type 0 where
   pub moment : ℕ
   pub index : ℕ
@@ -63,7 +63,7 @@ abbrev pub AcceptsSigned : Setting → List Signed → whats.What → Type 0
 AcceptsSigned s signed (told.Took (Accusation a) None) = is_node s a.accuser ≡ true → SignedIn signed (Some a.accuser) (Accusation a)
 AcceptsSigned s signed what = Unit {0}
 
--- What is told of a record is right.
+-- What is reported of a record is right.
 pub record IsRight (s : Setting) (signed : List Signed) (what : whats.What) : Type 0 where
   pub fresh : is_own_ahead what ≡ false
   pub accepts : AcceptsSigned s signed what
@@ -73,7 +73,7 @@ pub record InCall (s : Setting) (w : World) (m : ℕ) (c : Call) : Type 0 where
   pub lived : (e : Event) → In c.node.lived e → ComesSigned s m w.signed c.told e
   pub told : (e : journal.Event) → In c.told e → IsRight s w.signed e.what
 
--- ---- more is told
+-- ---- more is reported
 
 more-by : (m : ℕ) (signed : List Signed) (events more : List journal.Event) (who : ℕ) (body : Body) → IsSignedBy m signed events who body → IsSignedBy m signed (events ++ more) who body
 more-by m signed events more who body (inl before) = inl before
@@ -86,7 +86,7 @@ more-signed s m signed events more (Accuses a) h = λ is. more-by m signed event
 more-signed s m signed events more (Joins number places) h = tt
 more-signed s m signed events more Passes h = tt
 
--- What a small step adds to the life and to what is told.
+-- What a small step adds to the life and to what is reported.
 stepped : (s : Setting) (w : World) (m : ℕ) (c d : Call) (es : List Event) (news : List journal.Event) → d.node.lived ≡ c.node.lived ++ es → d.told ≡ c.told ++ news → HasNotesWithin m w.signed d.node.stored
     → ((e : Event) → In es e → ComesSigned s m w.signed (c.told ++ news) e) → ((e : journal.Event) → In news e → IsRight s w.signed e.what) → InCall s w m c → InCall s w m d
 stepped s w m c d es news lived told within signed right h =

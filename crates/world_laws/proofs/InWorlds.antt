@@ -21,8 +21,8 @@ use Rattle.node_rules.proofs.Accusations.{In-filter_map}
 use Rattle.world_rules.specs.Settings.{Owner, Setting, Signed, is_node, setting_of}
 use Rattle.world_rules.specs.Disks.{Disk}
 use Rattle.world_rules.specs.Calls.{called_on}
-use Rattle.world_rules.specs.Worlds.{Life, Station, World, lives_of}
-use Rattle.world_rules.specs.Steps.{Told, signed_if_spent, signed_in}
+use Rattle.world_rules.specs.Worlds.{Life, Host, World, lives_of}
+use Rattle.world_rules.specs.Steps.{NodeEvent, signed_if_spent, signed_in}
 use Rattle.world_rules.proofs.CallSteps.{MayFollow}
 use Rattle.world_rules.proofs.Once.{Rises, Stands}
 use Rattle.world_laws.specs.Signing.{KeepsRoster, TellsSpent, node_after}
@@ -62,13 +62,13 @@ notes-rise =
 
 -- ---- lives
 
-abbrev pub lives_at : Station → List Life
-lives_at station = station.past ++ option_to_list station.current
+abbrev pub lives_at : Host → List Life
+lives_at host = host.past ++ option_to_list host.current
 
--- A life goes on in the station, or is there as it was.
-pub record IsThere (station : Station) (life : Life) : Type 0 where
+-- A life goes on in the host, or is there as it was.
+pub record IsThere (host : Host) (life : Life) : Type 0 where
   pub later : Life
-  pub among : In (lives_at station) later
+  pub among : In (lives_at host) later
   pub found : later.found ≡ life.found
   pub more : List Input
   pub inputs : later.inputs ≡ life.inputs ++ more
@@ -79,8 +79,8 @@ pub nil-right : {A : Type 0} (xs : List A) → xs ++ [] ≡ xs
 nil-right [] = refl
 nil-right (x ∷ xs) = ap (λ ys. x ∷ ys) (nil-right xs)
 
-pub there-itself : (station : Station) (life : Life) → In (lives_at station) life → IsThere station life
-there-itself station life i = record { later = life; among = i; found = refl; more = []; inputs = sym (nil-right life.inputs); events = []; grew = sym (nil-right life.node.lived) }
+pub there-itself : (host : Host) (life : Life) → In (lives_at host) life → IsThere host life
+there-itself host life i = record { later = life; among = i; found = refl; more = []; inputs = sym (nil-right life.inputs); events = []; grew = sym (nil-right life.node.lived) }
 
 pub get-front : {X : Type 0} (xs ys : List X) (n : ℕ) (x : X) → slice_get xs n ≡ Some x → slice_get (xs ++ ys) n ≡ Some x
 get-front [] ys n x h = cc
@@ -104,7 +104,7 @@ pub record SignedBy (s : Setting) (lives : List Life) (m index : ℕ) (a : AccBo
   pub came_in : slice_get (called_on (setting_of s m) (node_after s m life.found before) Ticks disk).call.node.lived place ≡ Some (Accuses a)
   pub stays : slice_get life.node.lived place ≡ Some (Accuses a)
 
-pub signed-later : (s : Setting) (m index : ℕ) (a : AccBody) (old new : Station) → ((life : Life) → In (lives_at old) life → IsThere new life) → SignedBy s (lives_at old) m index a → SignedBy s (lives_at new) m index a
+pub signed-later : (s : Setting) (m index : ℕ) (a : AccBody) (old new : Host) → ((life : Life) → In (lives_at old) life → IsThere new life) → SignedBy s (lives_at old) m index a → SignedBy s (lives_at new) m index a
 signed-later s m index a old new grows h =
     let x = grows h.life h.lived in
     record {
@@ -128,12 +128,12 @@ signed-later s m index a old new grows h =
 
 -- What runs is a node, which has come to what its store's state and its calls make of it; in each life its roster is
 -- kept, and what comes of nodes was signed by them.
-pub record Fits (s : Setting) (signed : List Signed) (m : ℕ) (station : Station) : Type 0 where
-  pub is : (life : Life) → station.current ≡ Some life → is_node s m ≡ true
-  pub after : (life : Life) → station.current ≡ Some life → life.node ≡ node_after s m life.found life.inputs
-  pub own : (life : Life) → station.current ≡ Some life → KeepsOwnNote (setting_of s m) life.node
-  pub rosters : (life : Life) → In (lives_at station) life → KeepsRoster s life.node
-  pub lived : (life : Life) → In (lives_at station) life → (e : Event) → In life.node.lived e → ComesSigned s m signed [] e
+pub record Fits (s : Setting) (signed : List Signed) (m : ℕ) (host : Host) : Type 0 where
+  pub is : (life : Life) → host.current ≡ Some life → is_node s m ≡ true
+  pub after : (life : Life) → host.current ≡ Some life → life.node ≡ node_after s m life.found life.inputs
+  pub own : (life : Life) → host.current ≡ Some life → KeepsOwnNote (setting_of s m) life.node
+  pub rosters : (life : Life) → In (lives_at host) life → KeepsRoster s life.node
+  pub lived : (life : Life) → In (lives_at host) life → (e : Event) → In life.node.lived e → ComesSigned s m signed [] e
 
 signed-more : (signed more : List Signed) (who : Owner) (body : Body) → SignedIn signed who body → SignedIn (signed ++ more) who body
 signed-more signed more who body h = record { index = h.index; among = In-append_left signed more _ h.among }
@@ -148,8 +148,8 @@ comes-more s m signed more (Accuses a) h = λ is. by-more m signed more a.accuse
 comes-more s m signed more (Joins number places) h = tt
 comes-more s m signed more Passes h = tt
 
-pub fits-more : (s : Setting) (signed more : List Signed) (m : ℕ) (station : Station) → Fits s signed m station → Fits s (signed ++ more) m station
-fits-more s signed more m station h =
+pub fits-more : (s : Setting) (signed more : List Signed) (m : ℕ) (host : Host) → Fits s signed m host → Fits s (signed ++ more) m host
+fits-more s signed more m host h =
     record { is = h.is; after = h.after; own = h.own; rosters = h.rosters; lived = λ life i e j. comes-more s m signed more e (h.lived life i e j) }
 
 accepts-more : (s : Setting) (signed more : List Signed) (what : whats.What) → AcceptsSigned s signed what → AcceptsSigned s (signed ++ more) what
@@ -178,35 +178,35 @@ comes-behind s m signed events Passes h = tt
 
 -- ---- the world
 
--- What holds of a world, and of what was told on the way to it.
-pub record Holds (s : Setting) (w : World) (told : List Told) : Type 0 where
+-- What holds of a world, and of what was reported on the way to it.
+pub record Holds (s : Setting) (w : World) (told : List NodeEvent) : Type 0 where
   pub only : OnlyCertifies s w.signed
   pub notes : (m : ℕ) → is_node s m ≡ true → Stands NotesWithin m w told
-  pub stations : (m : ℕ) → Fits s w.signed m (w.stations m)
-  pub right : (t : Told) → In told t → IsRight s w.signed t.event.what
+  pub hosts : (m : ℕ) → Fits s w.signed m (w.hosts m)
+  pub right : (t : NodeEvent) → In told t → IsRight s w.signed t.event.what
   pub accusations : (m index : ℕ) (a : AccBody) → is_node s m ≡ true → In w.signed (record { who = Some m; index = index; body = Accusation a }) → SignedBy s (lives_of w m) m index a
 
--- One step of a world: what is signed and told in it, and how the lives go on.
-pub step : (s : Setting) (w v : World) (told news : List Told) (made : List Signed) → v.signed ≡ w.signed ++ made → ((x : Signed) → In made x → x.who ≡ None → ⊥) → ((m : ℕ) → is_node s m ≡ true → Stands NotesWithin m v (told ++ news))
-    → ((m : ℕ) → Fits s (w.signed ++ made) m (v.stations m)) → ((t : Told) → In news t → IsRight s (w.signed ++ made) t.event.what)
-    → ((m : ℕ) (life : Life) → In (lives_of w m) life → IsThere (v.stations m) life)
+-- One step of a world: what is signed and reported in it, and how the lives go on.
+pub step : (s : Setting) (w v : World) (told news : List NodeEvent) (made : List Signed) → v.signed ≡ w.signed ++ made → ((x : Signed) → In made x → x.who ≡ None → ⊥) → ((m : ℕ) → is_node s m ≡ true → Stands NotesWithin m v (told ++ news))
+    → ((m : ℕ) → Fits s (w.signed ++ made) m (v.hosts m)) → ((t : NodeEvent) → In news t → IsRight s (w.signed ++ made) t.event.what)
+    → ((m : ℕ) (life : Life) → In (lives_of w m) life → IsThere (v.hosts m) life)
     → ((m index : ℕ) (a : AccBody) → is_node s m ≡ true → In made (record { who = Some m; index = index; body = Accusation a }) → SignedBy s (lives_of v m) m index a)
     → Holds s w told → Holds s v (told ++ news)
-step s w v told news made same nobody notes stations right grows accusations h =
+step s w v told news made same nobody notes hosts right grows accusations h =
     record {
       only = λ x i who. elim (In-append_cases w.signed made x (subst (λ xs. In xs x) same i)) [
         | inl old ↦ h.only x old who
         | inr new ↦ absurd (nobody x new who)
       ];
       notes = notes;
-      stations = λ m. subst (λ xs. Fits s xs m (v.stations m)) (sym same) (stations m);
+      hosts = λ m. subst (λ xs. Fits s xs m (v.hosts m)) (sym same) (hosts m);
       right = λ t i. subst (λ xs. IsRight s xs t.event.what) (sym same)
           (elim (In-append_cases told news t i) [
             | inl old ↦ right-more s w.signed made t.event.what (h.right t old)
             | inr new ↦ right t new
           ]);
       accusations = λ m index a is i. elim (In-append_cases w.signed made _ (subst (λ xs. In xs (record { who = Some m; index = index; body = Accusation a })) same i)) [
-        | inl old ↦ signed-later s m index a (w.stations m) (v.stations m) (grows m) (h.accusations m index a is old)
+        | inl old ↦ signed-later s m index a (w.hosts m) (v.hosts m) (grows m) (h.accusations m index a is old)
         | inr new ↦ accusations m index a is new
       ];
     }

@@ -19,7 +19,7 @@ use Rattle.journal.specs.declared.event.What as whats
 use Rattle.journal.specs.declared.event.What.TheVariants as happened
 use Rattle.world_rules.specs.Settings.{Setting, is_node}
 use Rattle.world_rules.specs.Worlds.{Life, World, lives_of}
-use Rattle.world_rules.specs.Steps.{Told}
+use Rattle.world_rules.specs.Steps.{NodeEvent}
 use Rattle.world_laws.specs.Signing.{SignedAtTick, WasSigned}
 use Rattle.world_laws.specs.Laws.{RostersAreKept, OwnAheadNeverComes, RestsOnOwnNote, RemovesRightly, TheRemovedHadSigned, NodesAccuseTheSilent, AccusesRightly, AcceptsRightly, AcceptedAccusationsWereSigned}
 use Rattle.world_laws.proofs.Handing.{In-taken}
@@ -29,7 +29,7 @@ use Rattle.world_laws.proofs.InWorlds.{Holds, SignedBy}
 use Rattle.world_laws.proofs.Reaching.{reached-holds}
 
 pub rosters : RostersAreKept
-rosters s w told who fits reached = All-from_In _ (lives_of w who) (((reached-holds s w told fits reached).stations who).rosters)
+rosters s w told who fits reached = All-from_In _ (lives_of w who) (((reached-holds s w told fits reached).hosts who).rosters)
 
 pub never-ahead : OwnAheadNeverComes
 never-ahead s w told fits reached = All-from_In _ told (λ t i. ((reached-holds s w told fits reached).right t i).fresh)
@@ -102,11 +102,11 @@ rests-on s w events j m who place a lived is rests =
       is_newest = subst (λ z. newest st.notes z ≡ Some p.note) rests.against p.newest;
     }
 
-removes : (s : Setting) (w : World) (told : List Told) (who : ℕ) → Holds s w told → (life : Life) → In (lives_of w who) life → RemovesRightly s w life
+removes : (s : Setting) (w : World) (told : List NodeEvent) (who : ℕ) → Holds s w told → (life : Life) → In (lives_of w who) life → RemovesRightly s w life
 removes s w told who h life i =
     λ j m within removed is.
     let rests = justified s.group [] life.node.lived j m within removed in
-    rests-on s w life.node.lived j m who rests.0 rests.1 ((h.stations who).lived life i) is rests.2
+    rests-on s w life.node.lived j m who rests.0 rests.1 ((h.hosts who).lived life i) is rests.2
 
 pub removed-signed : TheRemovedHadSigned
 removed-signed s w told who fits reached = All-from_In _ (lives_of w who) (removes s w told who (reached-holds s w told fits reached))
@@ -123,7 +123,7 @@ accuse-silent s w told m index a fits reached is spent =
     let h = (reached-holds s w told fits reached).accusations m index a is (spent-from w (Some m) index (Accusation a) (In-from_Contains _ _ spent)) in
     (h.own, at-tick s w m index a h)
 
-was-signed : (s : Setting) (w : World) (told : List Told) (a : AccBody) → Holds s w told → is_node s a.accuser ≡ true → SignedIn w.signed (Some a.accuser) (Accusation a) → WasSigned s w a
+was-signed : (s : Setting) (w : World) (told : List NodeEvent) (a : AccBody) → Holds s w told → is_node s a.accuser ≡ true → SignedIn w.signed (Some a.accuser) (Accusation a) → WasSigned s w a
 was-signed s w told a h is signed =
     record {
       index = signed.index;
@@ -131,13 +131,13 @@ was-signed s w told a h is signed =
       at_tick = at-tick s w a.accuser signed.index a (h.accusations a.accuser signed.index a is signed.among);
     }
 
-accuses-rightly : (s : Setting) (w : World) (told : List Told) (who : ℕ) (e : Event) → Holds s w told → ComesSigned s who w.signed [] e → AccusesRightly s w e
+accuses-rightly : (s : Setting) (w : World) (told : List NodeEvent) (who : ℕ) (e : Event) → Holds s w told → ComesSigned s who w.signed [] e → AccusesRightly s w e
 accuses-rightly s w told who (Accuses a) h comes = λ is. was-signed s w told a h is (elim (comes is) [ inl before ↦ before | inr now ↦ absurd now.1.among ])
 accuses-rightly s w told who (Joins number places) h comes = tt
 accuses-rightly s w told who (Notes n) h comes = tt
 accuses-rightly s w told who Ticks h comes = tt
 
-accepts-rightly : (s : Setting) (w : World) (told : List Told) (what : whats.What) → Holds s w told → AcceptsSigned s w.signed what → AcceptsRightly s w what
+accepts-rightly : (s : Setting) (w : World) (told : List NodeEvent) (what : whats.What) → Holds s w told → AcceptsSigned s w.signed what → AcceptsRightly s w what
 accepts-rightly s w told (happened.Took (Accusation a) None) h accepts = λ is. was-signed s w told a h is (accepts is)
 accepts-rightly s w told (happened.Took (Accusation a) (Some fault)) h accepts = tt
 accepts-rightly s w told (happened.Took (Certificate c) fault) h accepts = tt
@@ -147,6 +147,6 @@ accepts-rightly s w told what h accepts = tt
 pub accepted-signed : AcceptedAccusationsWereSigned
 accepted-signed s w told fits reached =
     let h : Holds s w told = reached-holds s w told fits reached in (
-      λ who. All-from_In _ (lives_of w who) (λ life i. All-from_In _ life.node.lived (λ e j. accuses-rightly s w told who e h ((h.stations who).lived life i e j))),
+      λ who. All-from_In _ (lives_of w who) (λ life i. All-from_In _ life.node.lived (λ e j. accuses-rightly s w told who e h ((h.hosts who).lived life i e j))),
       All-from_In _ told (λ t i. accepts-rightly s w told t.event.what h (h.right t i).accepts),
     )

@@ -1,4 +1,4 @@
--- What was told of a node as accepted or as its own is what came into its lives.
+-- What was reported of a node as accepted or as its own is what came into its lives.
 use Rattle.std.proofs.Common.{◌≡◌, ℕ, Bool, true, false, eqb, List, [], ◌∷◌, ◌++◌, length, filter, Some, None, refl, ap, sym, ◌∙◌, subst, inl, inr}
 use Rattle.std.specs.Prelude.{filter_map, flat_map, fold}
 use Rattle.std.specs.List.{cons_option}
@@ -25,11 +25,11 @@ use Rattle.node_rules.proofs.Handling.{nil-right, unlived}
 use Rattle.world_rules.specs.Settings.{Setting, certificates, setting_of}
 use Rattle.world_rules.specs.Disks.{Disk}
 use Rattle.world_rules.specs.Calls.{OnDisk, called_on}
-use Rattle.world_rules.specs.Worlds.{Life, Station, World, begun_world, with_station}
-use Rattle.world_rules.specs.Steps.{Told, first_call, first_life, life_over, numbered_from, station_after, told_in, with_disk, with_input}
+use Rattle.world_rules.specs.Worlds.{Life, Host, World, begun_world, with_host}
+use Rattle.world_rules.specs.Steps.{NodeEvent, first_call, first_life, life_over, numbered_from, host_after, told_in, with_disk, with_input}
 use Rattle.world_rules.proofs.OnDisks.{chosen, other}
 use Rattle.world_rules.proofs.LineSteps.{Keeps, keeps-reached}
-use Rattle.world_rules.proofs.Once.{at-station}
+use Rattle.world_rules.proofs.Once.{at-host}
 use Rattle.world_laws.specs.Telling.{AcceptedIsLived, said_in, statement, took_if_told, took_in}
 use Rattle.world_laws.proofs.Handing.{AnyRecord, Hands, any-handed, accepts, hands-called, is_plain}
 use Rattle.world_laws.proofs.InWorlds.{lives_at}
@@ -50,7 +50,7 @@ said-append xs ys = filter_map-append said_in xs ys
 
 -- ---- in a call
 
--- The call has added to a life what it has told as accepted or as its own.
+-- The call has added to a life what it has reported as accepted or as its own.
 record Says (base : List Event) (c : Call) : Type 0 where
   more : List Event
   lived : c.node.lived ≡ base ++ more
@@ -82,7 +82,7 @@ none-taken (e ∷ events) h =
     never : (e : journal.Event) (rest : List journal.Event) → e ∷ rest ≡ [] → ⊥
     never e rest h = cc
 
--- One thing is told, and one event comes into the life, which brings the same.
+-- One thing is reported, and one event comes into the life, which brings the same.
 says-more : (base : List Event) (c d : Call) (news : List journal.Event) (events : List Event) → d.told ≡ c.told ++ news → d.node.lived ≡ c.node.lived ++ events → taken news ≡ said events → Says base c → Says base d
 says-more base c d news events told lived same h =
     record {
@@ -103,7 +103,7 @@ unfolding lives
 says-lives s base e c none h =
     says-more base c (lives s e c) (told_of (step s.group (state_of s c.node) e).state.moment (step s.group (state_of s c.node) e).report) (e ∷ []) refl refl (life-untold s e c ∙ sym (ap (λ o. cons_option o []) none)) h
 
--- What is told before the record is taken brings what its event does.
+-- What is reported before the record is taken brings what its event does.
 says-takes : (s : node.Setting) (base : List Event) (what : whats.What) (r : Record) (c d : Call) → took_in what ≡ said_in (event_of s r.body) → d.told ≡ (tells s what c).told → d.node.lived ≡ c.node.lived → Says base c → Says base (takes s r d)
 unfolding takes lives
 says-takes s base what r c d same told lived h =
@@ -171,12 +171,12 @@ unfolding started
 says-started s seed records kept all =
     says-signs s [] (first_note s kept) (opened s seed records kept) (says-opened s [] records (begun (blank s seed kept)) all (record { more = []; lived = refl; same = refl }))
 
--- ---- what was told of a node
+-- ---- what was reported of a node
 
-abbrev told_for : ℕ → List Told → List Body
+abbrev told_for : ℕ → List NodeEvent → List Body
 told_for m told = filter_map (took_if_told m) told
 
-told_for-append : (m : ℕ) (xs ys : List Told) → told_for m (xs ++ ys) ≡ told_for m xs ++ told_for m ys
+told_for-append : (m : ℕ) (xs ys : List NodeEvent) → told_for m (xs ++ ys) ≡ told_for m xs ++ told_for m ys
 told_for-append m xs ys = filter_map-append (took_if_told m) xs ys
 
 numbered-taken : (before : ℕ) (what : whats.What) → took_in (numbered_from before what) ≡ took_in what
@@ -201,83 +201,83 @@ flat-append : {X Y : Type 0} (f : X → List Y) (xs ys : List X) → flat_map f 
 flat-append f [] ys = refl
 flat-append f (x ∷ xs) ys = ap (λ zs. f x ++ zs) (flat-append f xs ys) ∙ sym (append_assoc (f x) (flat_map f xs) (flat_map f ys))
 
-abbrev Tells : Station → List Body → Type 0
-Tells station bodies = bodies ≡ flat_map life_says (lives_at station)
+abbrev Tells : Host → List Body → Type 0
+Tells host bodies = bodies ≡ flat_map life_says (lives_at host)
 
 one-life : (past : List Life) (life : Life) → flat_map life_says (past ++ life ∷ []) ≡ flat_map life_says past ++ life_says life
 one-life past life = flat-append life_says past (life ∷ []) ∙ ap (λ xs. flat_map life_says past ++ xs) (nil-right (life_says life))
 
-lives-after : (station : Station) (life : Life) (d : OnDisk) → flat_map life_says (lives_at (station_after station life d)) ≡ flat_map life_says station.past ++ life_says life
-lives-after station life d =
-    cond_both {A = Station} d.call.ended _ _ (λ x. flat_map life_says (lives_at x) ≡ flat_map life_says station.past ++ life_says life)
-    (λ over. ap (flat_map life_says) (nil-right (station.past ++ life ∷ [])) ∙ one-life station.past life)
-    (λ going. one-life station.past life)
+lives-after : (host : Host) (life : Life) (d : OnDisk) → flat_map life_says (lives_at (host_after host life d)) ≡ flat_map life_says host.past ++ life_says life
+lives-after host life d =
+    cond_both {A = Host} d.call.ended _ _ (λ x. flat_map life_says (lives_at x) ≡ flat_map life_says host.past ++ life_says life)
+    (λ over. ap (flat_map life_says) (nil-right (host.past ++ life ∷ [])) ∙ one-life host.past life)
+    (λ going. one-life host.past life)
 
-tells-called : (s : Setting) (m : ℕ) (i : Input) (life : Life) (station : Station) (bodies : List Body) → station.current ≡ Some life → Tells station bodies
-    → let d = called_on (setting_of s m) life.node i station.disk in Tells (station_after station (with_input life i d.call.node) d) (bodies ++ taken d.call.told)
-tells-called s m i life station bodies is h =
-    let d : OnDisk = called_on (setting_of s m) life.node i station.disk in
-    let x : Says life.node.lived d.call = says-called (setting_of s m) life.node i station.disk in
-    let past : List Body = flat_map life_says station.past in
-    ap (λ xs. xs ++ taken d.call.told) (h ∙ ap (flat_map life_says) (lives-running station life is) ∙ one-life station.past life)
+tells-called : (s : Setting) (m : ℕ) (i : Input) (life : Life) (host : Host) (bodies : List Body) → host.current ≡ Some life → Tells host bodies
+    → let d = called_on (setting_of s m) life.node i host.disk in Tells (host_after host (with_input life i d.call.node) d) (bodies ++ taken d.call.told)
+tells-called s m i life host bodies is h =
+    let d : OnDisk = called_on (setting_of s m) life.node i host.disk in
+    let x : Says life.node.lived d.call = says-called (setting_of s m) life.node i host.disk in
+    let past : List Body = flat_map life_says host.past in
+    ap (λ xs. xs ++ taken d.call.told) (h ∙ ap (flat_map life_says) (lives-running host life is) ∙ one-life host.past life)
     ∙ append_assoc past (life_says life) (taken d.call.told)
     ∙ ap (λ xs. past ++ xs) (ap (λ xs. life_says life ++ xs) x.same ∙ sym (said-append life.node.lived x.more) ∙ sym (ap said x.lived))
-    ∙ sym (lives-after station (with_input life i d.call.node) d)
+    ∙ sym (lives-after host (with_input life i d.call.node) d)
 
-tells-began : (s : Setting) (m : ℕ) (d : Disk) (station : Station) (bodies : List Body) → station.current ≡ None → Tells station bodies
-    → let call = first_call s m station.disk.state in Tells (record { disk = d; past = station.past; current = Some (first_life station.disk.state call) }) (bodies ++ taken call.told)
-tells-began s m d station bodies idle h =
-    let kept : Stored = station.disk.state in
+tells-began : (s : Setting) (m : ℕ) (d : Disk) (host : Host) (bodies : List Body) → host.current ≡ None → Tells host bodies
+    → let call = first_call s m host.disk.state in Tells (record { disk = d; past = host.past; current = Some (first_life host.disk.state call) }) (bodies ++ taken call.told)
+tells-began s m d host bodies idle h =
+    let kept : Stored = host.disk.state in
     let call : Call = first_call s m kept in
     let x : Says [] call = says-started (setting_of s m) (s.nonces m kept.next) (certificates s) kept (kit-all s) in
-    ap (λ xs. xs ++ taken call.told) (h ∙ ap (flat_map life_says) (lives-idle station idle))
-    ∙ ap (λ xs. flat_map life_says station.past ++ xs) (x.same ∙ sym (ap said x.lived))
-    ∙ sym (one-life station.past (first_life kept call))
+    ap (λ xs. xs ++ taken call.told) (h ∙ ap (flat_map life_says) (lives-idle host idle))
+    ∙ ap (λ xs. flat_map life_says host.past ++ xs) (x.same ∙ sym (ap said x.lived))
+    ∙ sym (one-life host.past (first_life kept call))
 
 -- ---- worlds
 
-abbrev Stands : ℕ → World → List Told → Type 0
-Stands m w told = Tells (w.stations m) (told_for m told)
+abbrev Stands : ℕ → World → List NodeEvent → Type 0
+Stands m w told = Tells (w.hosts m) (told_for m told)
 
-news-own : (k before : ℕ) (station : Station) (told : List Told) (events : List journal.Event) → Tells station (told_for k told ++ taken events) → Tells station (told_for k (told ++ told_in k before events))
-news-own k before station told events h = told_for-append k told (told_in k before events) ∙ ap (λ xs. told_for k told ++ xs) (told_for-own k before events) ∙ h
+news-own : (k before : ℕ) (host : Host) (told : List NodeEvent) (events : List journal.Event) → Tells host (told_for k told ++ taken events) → Tells host (told_for k (told ++ told_in k before events))
+news-own k before host told events h = told_for-append k told (told_in k before events) ∙ ap (λ xs. told_for k told ++ xs) (told_for-own k before events) ∙ h
 
-news-other : (m k before : ℕ) (station : Station) (told : List Told) (events : List journal.Event) → eqb k m ≡ false → Tells station (told_for m told) → Tells station (told_for m (told ++ told_in k before events))
-news-other m k before station told events apart h =
+news-other : (m k before : ℕ) (host : Host) (told : List NodeEvent) (events : List journal.Event) → eqb k m ≡ false → Tells host (told_for m told) → Tells host (told_for m (told ++ told_in k before events))
+news-other m k before host told events apart h =
     told_for-append m told (told_in k before events) ∙ ap (λ xs. told_for m told ++ xs) (told_for-other m k before events apart) ∙ nil-right (told_for m told) ∙ h
 
 got-silent : (m k moment number : ℕ) → told_for m (record { who = k; event = record { moment = moment; what = happened.Got number } } ∷ []) ≡ []
 got-silent m k moment number = elim (cases_Bool (eqb k m)) [ inl same ↦ rw same refl | inr apart ↦ rw apart refl ]
 
 -- The node's own place is another, which has the same lives.
-same-lives : (m k : ℕ) (station : Station) (w : World) (told : List Told) → lives_at station ≡ lives_at (w.stations k) → Stands m w told → Tells ((with_station k station w).stations m) (told_for m told)
-same-lives m k station w told same h =
-    at-station m k station w (λ x. Tells x (told_for m told)) (λ e. h ∙ ap (λ z. flat_map life_says (lives_at (w.stations z))) (sym e) ∙ ap (flat_map life_says) (sym same)) (λ apart. h)
+same-lives : (m k : ℕ) (host : Host) (w : World) (told : List NodeEvent) → lives_at host ≡ lives_at (w.hosts k) → Stands m w told → Tells ((with_host k host w).hosts m) (told_for m told)
+same-lives m k host w told same h =
+    at-host m k host w (λ x. Tells x (told_for m told)) (λ e. h ∙ ap (λ z. flat_map life_says (lives_at (w.hosts z))) (sym e) ∙ ap (flat_map life_says) (sym same)) (λ apart. h)
 
 stands-kept : (s : Setting) (m : ℕ) → Keeps s (Stands m)
 stands-kept s m =
     record {
       called = λ k i life c running free h.
-          let station : Station = c.world.stations k in
-          let d : OnDisk = called_on (setting_of s k) life.node i station.disk in
-          let after : Station = station_after station (with_input life i d.call.node) d in
+          let host : Host = c.world.hosts k in
+          let d : OnDisk = called_on (setting_of s k) life.node i host.disk in
+          let after : Host = host_after host (with_input life i d.call.node) d in
           let before : ℕ = length c.world.sent in
-          at-station m k after c.world (λ x. Tells x (told_for m (c.told ++ told_in k before d.call.told)))
+          at-host m k after c.world (λ x. Tells x (told_for m (c.told ++ told_in k before d.call.told)))
           (λ e. subst (λ (z : ℕ). Stands z c.world c.told → Tells after (told_for z (c.told ++ told_in k before d.call.told))) e
-          (λ own. news-own k before after c.told d.call.told (tells-called s k i life station (told_for k c.told) running own)) h)
-          (λ apart. news-other m k before (c.world.stations m) c.told d.call.told apart h);
+          (λ own. news-own k before after c.told d.call.told (tells-called s k i life host (told_for k c.told) running own)) h)
+          (λ apart. news-other m k before (c.world.hosts m) c.told d.call.told apart h);
       began = λ k d c it idle left same h.
-          let station : Station = c.world.stations k in
-          let call : Call = first_call s k station.disk.state in
-          let after : Station = record { disk = d; past = station.past; current = Some (first_life station.disk.state call) } in
+          let host : Host = c.world.hosts k in
+          let call : Call = first_call s k host.disk.state in
+          let after : Host = record { disk = d; past = host.past; current = Some (first_life host.disk.state call) } in
           let before : ℕ = length c.world.sent in
-          at-station m k after c.world (λ x. Tells x (told_for m (c.told ++ told_in k before call.told)))
+          at-host m k after c.world (λ x. Tells x (told_for m (c.told ++ told_in k before call.told)))
           (λ e. subst (λ (z : ℕ). Stands z c.world c.told → Tells after (told_for z (c.told ++ told_in k before call.told))) e
-          (λ own. news-own k before after c.told call.told (tells-began s k d station (told_for k c.told) idle own)) h)
-          (λ apart. news-other m k before (c.world.stations m) c.told call.told apart h);
-      tried = λ k d w told idle left may h. same-lives m k (with_disk (w.stations k) d) w told refl h;
-      disked = λ k d w told same h. same-lives m k (with_disk (w.stations k) d) w told refl h;
-      ended = λ k life w told running h. same-lives m k (life_over (w.stations k) (Some life)) w told (lives-over (w.stations k) life running) h;
+          (λ own. news-own k before after c.told call.told (tells-began s k d host (told_for k c.told) idle own)) h)
+          (λ apart. news-other m k before (c.world.hosts m) c.told call.told apart h);
+      tried = λ k d w told idle left may h. same-lives m k (with_disk (w.hosts k) d) w told refl h;
+      disked = λ k d w told same h. same-lives m k (with_disk (w.hosts k) d) w told refl h;
+      ended = λ k life w told running h. same-lives m k (life_over (w.hosts k) (Some life)) w told (lives-over (w.hosts k) life running) h;
       got = λ k moment number w told h. told_for-append m told _ ∙ ap (λ xs. told_for m told ++ xs) (got-silent m k moment number) ∙ nil-right (told_for m told) ∙ h;
       flowed = λ number w told h. h;
       lied = λ key body name w told liar h. h;

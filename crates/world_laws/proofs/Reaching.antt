@@ -24,14 +24,14 @@ use Rattle.node_rules.proofs.Ticks.{only-silent}
 use Rattle.world_rules.specs.Settings.{Setting, Signed, is_node, is_liar, certificate, by_authority, certificates, setting_of}
 use Rattle.world_rules.specs.Disks.{Disk}
 use Rattle.world_rules.specs.Calls.{OnDisk, called_on}
-use Rattle.world_rules.specs.Worlds.{Life, Station, World, begun_world, lives_of, next_of_liar, with_station}
-use Rattle.world_rules.specs.Steps.{Course, Told, comes, first_call, first_life, life_over, lies, numbered_from, signed_if_spent, signed_in, station_after, told_in, with_disk, with_input}
+use Rattle.world_rules.specs.Worlds.{Life, Host, World, begun_world, lives_of, next_of_liar, with_host}
+use Rattle.world_rules.specs.Steps.{Execution, NodeEvent, comes, first_call, first_life, life_over, lies, numbered_from, signed_if_spent, signed_in, host_after, told_in, with_disk, with_input}
 use Rattle.node_rules.proofs.Called.{ComesSoFar}
 use Rattle.world_rules.specs.Laws.{IsSetting, Reached}
 use Rattle.world_rules.proofs.OnDisks.{chosen, other}
 use Rattle.world_rules.proofs.SoFar.{so_far}
 use Rattle.world_rules.proofs.LineSteps.{IsFree, HasIndexLeft, Keeps, begins_life, keeps-reached}
-use Rattle.world_rules.proofs.Once.{Stands, at-station, one-started, stands-kept, stands-first}
+use Rattle.world_rules.proofs.Once.{Stands, at-host, one-started, stands-kept, stands-first}
 use Rattle.world_rules.proofs.Telling.{call-on-tells}
 use Rattle.world_laws.specs.Signing.{KeepsRoster, TellsSpent, node_after}
 use Rattle.world_laws.proofs.Rosters.{kit-all, kit-own, roster-started}
@@ -51,55 +51,55 @@ none-some o x e f = cc
 clash : {A : Type 0} (b : Bool) → b ≡ true → b ≡ false → A
 clash b e f = absurd (false≢true (sym f ∙ e))
 
--- ---- nothing is signed or told
+-- ---- nothing is signed or reported
 
-quietly : (s : Setting) (w v : World) (told : List Told) → v.signed ≡ w.signed → ((m : ℕ) → is_node s m ≡ true → Stands NotesWithin m v told) → ((m : ℕ) → Fits s w.signed m (v.stations m))
-    → ((m : ℕ) (life : Life) → In (lives_of w m) life → IsThere (v.stations m) life) → Holds s w told → Holds s v told
-quietly s w v told same notes stations grows h =
+quietly : (s : Setting) (w v : World) (told : List NodeEvent) → v.signed ≡ w.signed → ((m : ℕ) → is_node s m ≡ true → Stands NotesWithin m v told) → ((m : ℕ) → Fits s w.signed m (v.hosts m))
+    → ((m : ℕ) (life : Life) → In (lives_of w m) life → IsThere (v.hosts m) life) → Holds s w told → Holds s v told
+quietly s w v told same notes hosts grows h =
     record {
       only = λ x i who. h.only x (subst (λ xs. In xs x) same i) who;
       notes = notes;
-      stations = λ m. subst (λ xs. Fits s xs m (v.stations m)) (sym same) (stations m);
+      hosts = λ m. subst (λ xs. Fits s xs m (v.hosts m)) (sym same) (hosts m);
       right = λ t i. subst (λ xs. IsRight s xs t.event.what) (sym same) (h.right t i);
-      accusations = λ m index a is i. signed-later s m index a (w.stations m) (v.stations m) (grows m) (h.accusations m index a is (subst (λ xs. In xs (record { who = Some m; index = index; body = Accusation a })) same i));
+      accusations = λ m index a is i. signed-later s m index a (w.hosts m) (v.hosts m) (grows m) (h.accusations m index a is (subst (λ xs. In xs (record { who = Some m; index = index; body = Accusation a })) same i));
     }
 
 -- The node's place in the world is another, and the others are as they were.
-pub placed : (s : Setting) (m : ℕ) (station : Station) (w : World) (signed : List Signed) → Fits s signed m station → ((k : ℕ) → Fits s signed k (w.stations k)) → (k : ℕ) → Fits s signed k ((with_station m station w).stations k)
-placed s m station w signed here others k = at-station k m station w (Fits s signed k) (λ e. subst (λ z. Fits s signed z station) e here) (λ apart. others k)
+pub placed : (s : Setting) (m : ℕ) (host : Host) (w : World) (signed : List Signed) → Fits s signed m host → ((k : ℕ) → Fits s signed k (w.hosts k)) → (k : ℕ) → Fits s signed k ((with_host m host w).hosts k)
+placed s m host w signed here others k = at-host k m host w (Fits s signed k) (λ e. subst (λ z. Fits s signed z host) e here) (λ apart. others k)
 
-there : (m : ℕ) (station : Station) (w : World) → ((life : Life) → In (lives_at (w.stations m)) life → IsThere station life) → (k : ℕ) (life : Life) → In (lives_of w k) life → IsThere ((with_station m station w).stations k) life
-there m station w here k life i =
-    at-station k m station w (λ x. IsThere x life) (λ e. here life (subst (λ z. In (lives_at (w.stations z)) life) (sym e) i)) (λ apart. there-itself (w.stations k) life i)
+there : (m : ℕ) (host : Host) (w : World) → ((life : Life) → In (lives_at (w.hosts m)) life → IsThere host life) → (k : ℕ) (life : Life) → In (lives_of w k) life → IsThere ((with_host m host w).hosts k) life
+there m host w here k life i =
+    at-host k m host w (λ x. IsThere x life) (λ e. here life (subst (λ z. In (lives_at (w.hosts z)) life) (sym e) i)) (λ apart. there-itself (w.hosts k) life i)
 
 -- ---- another disk
 
-disk-fits : (s : Setting) (signed : List Signed) (m : ℕ) (station : Station) (d : Disk) → Fits s signed m station → Fits s signed m (with_disk station d)
-disk-fits s signed m station d h = record { is = h.is; after = h.after; own = h.own; rosters = h.rosters; lived = h.lived }
+disk-fits : (s : Setting) (signed : List Signed) (m : ℕ) (host : Host) (d : Disk) → Fits s signed m host → Fits s signed m (with_disk host d)
+disk-fits s signed m host d h = record { is = h.is; after = h.after; own = h.own; rosters = h.rosters; lived = h.lived }
 
-on-disk : (s : Setting) (m : ℕ) (d : Disk) (w : World) (told : List Told) → ((k : ℕ) → is_node s k ≡ true → Stands NotesWithin k (with_station m (with_disk (w.stations m) d) w) told) → Holds s w told → Holds s (with_station m (with_disk (w.stations m) d) w) told
+on-disk : (s : Setting) (m : ℕ) (d : Disk) (w : World) (told : List NodeEvent) → ((k : ℕ) → is_node s k ≡ true → Stands NotesWithin k (with_host m (with_disk (w.hosts m) d) w) told) → Holds s w told → Holds s (with_host m (with_disk (w.hosts m) d) w) told
 on-disk s m d w told notes h =
-    quietly s w (with_station m (with_disk (w.stations m) d) w) told refl notes
-    (placed s m (with_disk (w.stations m) d) w w.signed (disk-fits s w.signed m (w.stations m) d (h.stations m)) h.stations)
-    (there m (with_disk (w.stations m) d) w (λ life i. there-itself (with_disk (w.stations m) d) life i)) h
+    quietly s w (with_host m (with_disk (w.hosts m) d) w) told refl notes
+    (placed s m (with_disk (w.hosts m) d) w w.signed (disk-fits s w.signed m (w.hosts m) d (h.hosts m)) h.hosts)
+    (there m (with_disk (w.hosts m) d) w (λ life i. there-itself (with_disk (w.hosts m) d) life i)) h
 
 -- ---- a life ends
 
-pub current-in : (station : Station) (life : Life) → station.current ≡ Some life → In (lives_at station) life
-current-in station life running = In-append_right station.past (option_to_list station.current) life (subst (λ o. In (option_to_list o) life) (sym running) (inl refl))
+pub current-in : (host : Host) (life : Life) → host.current ≡ Some life → In (lives_at host) life
+current-in host life running = In-append_right host.past (option_to_list host.current) life (subst (λ o. In (option_to_list o) life) (sym running) (inl refl))
 
-pub lives-running : (station : Station) (life : Life) → station.current ≡ Some life → lives_at station ≡ station.past ++ life ∷ []
-lives-running station life running = ap (λ o. station.past ++ option_to_list o) running
+pub lives-running : (host : Host) (life : Life) → host.current ≡ Some life → lives_at host ≡ host.past ++ life ∷ []
+lives-running host life running = ap (λ o. host.past ++ option_to_list o) running
 
-pub lives-idle : (station : Station) → station.current ≡ None → lives_at station ≡ station.past
-lives-idle station idle = ap (λ o. station.past ++ option_to_list o) idle ∙ nil-right station.past
+pub lives-idle : (host : Host) → host.current ≡ None → lives_at host ≡ host.past
+lives-idle host idle = ap (λ o. host.past ++ option_to_list o) idle ∙ nil-right host.past
 
-pub lives-over : (station : Station) (life : Life) → station.current ≡ Some life → lives_at (life_over station (Some life)) ≡ lives_at station
-lives-over station life running = nil-right (station.past ++ life ∷ []) ∙ sym (lives-running station life running)
+pub lives-over : (host : Host) (life : Life) → host.current ≡ Some life → lives_at (life_over host (Some life)) ≡ lives_at host
+lives-over host life running = nil-right (host.past ++ life ∷ []) ∙ sym (lives-running host life running)
 
-over-fits : (s : Setting) (signed : List Signed) (m : ℕ) (station : Station) (life : Life) → station.current ≡ Some life → Fits s signed m station → Fits s signed m (life_over station (Some life))
-over-fits s signed m station life running h =
-    let same = lives-over station life running in
+over-fits : (s : Setting) (signed : List Signed) (m : ℕ) (host : Host) (life : Life) → host.current ≡ Some life → Fits s signed m host → Fits s signed m (life_over host (Some life))
+over-fits s signed m host life running h =
+    let same = lives-over host life running in
     record {
       is = λ l none. none-some {X = Life} None l refl none;
       after = λ l none. none-some {X = Life} None l refl none;
@@ -108,25 +108,25 @@ over-fits s signed m station life running h =
       lived = λ l i e j. h.lived l (subst (λ xs. In xs l) same i) e j;
     }
 
-over : (s : Setting) (m : ℕ) (life : Life) (w : World) (told : List Told) → (w.stations m).current ≡ Some life → ((k : ℕ) → is_node s k ≡ true → Stands NotesWithin k (with_station m (life_over (w.stations m) (Some life)) w) told) → Holds s w told
-    → Holds s (with_station m (life_over (w.stations m) (Some life)) w) told
+over : (s : Setting) (m : ℕ) (life : Life) (w : World) (told : List NodeEvent) → (w.hosts m).current ≡ Some life → ((k : ℕ) → is_node s k ≡ true → Stands NotesWithin k (with_host m (life_over (w.hosts m) (Some life)) w) told) → Holds s w told
+    → Holds s (with_host m (life_over (w.hosts m) (Some life)) w) told
 over s m life w told running notes h =
-    let station : Station = life_over (w.stations m) (Some life) in
-    quietly s w (with_station m station w) told refl notes (placed s m station w w.signed (over-fits s w.signed m (w.stations m) life running (h.stations m)) h.stations)
-    (there m station w (λ l i. there-itself station l (subst (λ xs. In xs l) (sym (lives-over (w.stations m) life running)) i))) h
+    let host : Host = life_over (w.hosts m) (Some life) in
+    quietly s w (with_host m host w) told refl notes (placed s m host w w.signed (over-fits s w.signed m (w.hosts m) life running (h.hosts m)) h.hosts)
+    (there m host w (λ l i. there-itself host l (subst (λ xs. In xs l) (sym (lives-over (w.hosts m) life running)) i))) h
 
--- ---- what is told and signed in a call
+-- ---- what is reported and signed in a call
 
 numbered-right : (s : Setting) (signed : List Signed) (before : ℕ) (what : whats.What) → IsRight s signed what → IsRight s signed (numbered_from before what)
 numbered-right s signed before (happened.Sent number to bytes) h = record { fresh = refl; accepts = tt }
 numbered-right s signed before _ h = h
 
-told-right : (s : Setting) (signed more : List Signed) (m before : ℕ) (events : List journal.Event) → ((e : journal.Event) → In events e → IsRight s signed e.what) → (t : Told) → In (told_in m before events) t → IsRight s (signed ++ more) t.event.what
+told-right : (s : Setting) (signed more : List Signed) (m before : ℕ) (events : List journal.Event) → ((e : journal.Event) → In events e → IsRight s signed e.what) → (t : NodeEvent) → In (told_in m before events) t → IsRight s (signed ++ more) t.event.what
 told-right s signed more m before events right t i =
-    let x = In-from_map (λ (e : journal.Event). let made : Told = record { who = m; event = record e { what = numbered_from before e.what } } in made) events t i in
-    subst (λ (y : Told). IsRight s (signed ++ more) y.event.what) x.1.1 (numbered-right s (signed ++ more) before x.0.what (right-more s signed more x.0.what (right x.0 x.1.0)))
+    let x = In-from_map (λ (e : journal.Event). let made : NodeEvent = record { who = m; event = record e { what = numbered_from before e.what } } in made) events t i in
+    subst (λ (y : NodeEvent). IsRight s (signed ++ more) y.event.what) x.1.1 (numbered-right s (signed ++ more) before x.0.what (right-more s signed more x.0.what (right x.0 x.1.0)))
 
--- What is signed in a call is told in it.
+-- What is signed in a call is reported in it.
 pub record ToldAs (m : ℕ) (events : List journal.Event) (x : Signed) : Type 0 where
   pub who : x.who ≡ Some m
   pub moment : ℕ
@@ -151,10 +151,10 @@ not-nobody m events x i none = none-some x.who m none (told-as m events x i).who
 
 -- ---- a running node is called
 
-pub in-life : (s : Setting) (w : World) (told : List Told) (m : ℕ) (life : Life) → (w.stations m).current ≡ Some life → Holds s w told → InLife s w m life.node
+pub in-life : (s : Setting) (w : World) (told : List NodeEvent) (m : ℕ) (life : Life) → (w.hosts m).current ≡ Some life → Holds s w told → InLife s w m life.node
 in-life s w told m life running h =
-    let fits = h.stations m in
-    let i : In (lives_at (w.stations m)) life = current-in (w.stations m) life running in
+    let fits = h.hosts m in
+    let i : In (lives_at (w.hosts m)) life = current-in (w.hosts m) life running in
     let notes = h.notes m (fits.is life running) in
     record {
       roster = fits.rosters life i;
@@ -163,29 +163,29 @@ in-life s w told m life running h =
       lived = fits.lived life i;
     }
 
-after-past : (station : Station) (life : Life) (d : OnDisk) (x : Life) → In station.past x → In (lives_at (station_after station life d)) x
-after-past station life d x i =
-    cond_both {A = Station} d.call.ended _ _ (λ st. In (lives_at st) x) (λ over. In-append_left (station.past ++ life ∷ []) [] x (In-append_left station.past (life ∷ []) x i)) (λ going. In-append_left station.past (life ∷ []) x i)
+after-past : (host : Host) (life : Life) (d : OnDisk) (x : Life) → In host.past x → In (lives_at (host_after host life d)) x
+after-past host life d x i =
+    cond_both {A = Host} d.call.ended _ _ (λ st. In (lives_at st) x) (λ over. In-append_left (host.past ++ life ∷ []) [] x (In-append_left host.past (life ∷ []) x i)) (λ going. In-append_left host.past (life ∷ []) x i)
 
-after-itself : (station : Station) (life : Life) (d : OnDisk) → In (lives_at (station_after station life d)) life
-after-itself station life d =
-    let here : In (station.past ++ life ∷ []) life = In-append_right station.past (life ∷ []) life (inl refl) in
-    cond_both {A = Station} d.call.ended _ _ (λ st. In (lives_at st) life) (λ over. In-append_left (station.past ++ life ∷ []) [] life here) (λ going. here)
+after-itself : (host : Host) (life : Life) (d : OnDisk) → In (lives_at (host_after host life d)) life
+after-itself host life d =
+    let here : In (host.past ++ life ∷ []) life = In-append_right host.past (life ∷ []) life (inl refl) in
+    cond_both {A = Host} d.call.ended _ _ (λ st. In (lives_at st) life) (λ over. In-append_left (host.past ++ life ∷ []) [] life here) (λ going. here)
 
 pub in-last : (past : List Life) (life x : Life) → In (past ++ life ∷ []) x → In past x ⊎ (life ≡ x)
 in-last past life x i = elim (In-append_cases past (life ∷ []) x i) [ inl old ↦ inl old | inr (inl is) ↦ inr is | inr (inr none) ↦ absurd none ]
 
-pub after-lives : (station : Station) (life : Life) (d : OnDisk) (x : Life) → In (lives_at (station_after station life d)) x → In station.past x ⊎ (life ≡ x)
-after-lives station life d x =
-    cond_both {A = Station} d.call.ended _ _ (λ st. In (lives_at st) x → In station.past x ⊎ (life ≡ x))
-    (λ over i. in-last station.past life x (subst (λ xs. In xs x) (nil-right (station.past ++ life ∷ [])) i))
-    (λ going i. in-last station.past life x i)
+pub after-lives : (host : Host) (life : Life) (d : OnDisk) (x : Life) → In (lives_at (host_after host life d)) x → In host.past x ⊎ (life ≡ x)
+after-lives host life d x =
+    cond_both {A = Host} d.call.ended _ _ (λ st. In (lives_at st) x → In host.past x ⊎ (life ≡ x))
+    (λ over i. in-last host.past life x (subst (λ xs. In xs x) (nil-right (host.past ++ life ∷ [])) i))
+    (λ going i. in-last host.past life x i)
 
-pub after-current : (station : Station) (life : Life) (d : OnDisk) (x : Life) → (station_after station life d).current ≡ Some x → (d.call.ended ≡ false) × (life ≡ x)
-after-current station life d x e =
+pub after-current : (host : Host) (life : Life) (d : OnDisk) (x : Life) → (host_after host life d).current ≡ Some x → (d.call.ended ≡ false) × (life ≡ x)
+after-current host life d x e =
     elim (cases_Bool d.call.ended) [
-      | inl over ↦ none-some (station_after station life d).current x (ap (λ (st : Station). st.current) (chosen d.call.ended _ _ over)) e
-      | inr going ↦ (going, some-is life x (sym (ap (λ (st : Station). st.current) (other d.call.ended _ _ going)) ∙ e))
+      | inl over ↦ none-some (host_after host life d).current x (ap (λ (st : Host). st.current) (chosen d.call.ended _ _ over)) e
+      | inr going ↦ (going, some-is life x (sym (ap (λ (st : Host). st.current) (other d.call.ended _ _ going)) ∙ e))
     ]
 
 fold-push : {X Y : Type 0} (f : X → Y → X) (x : X) (ys : List Y) (y : Y) → fold f x (ys ++ y ∷ []) ≡ f (fold f x ys) y
@@ -205,117 +205,117 @@ node-more s m life i c after so going =
     whole-node own life.node i c so going ∙ ap (λ n. (call_of own n i).node) after
     ∙ sym (fold-push (λ n x. (call_of own n x).node) _ life.inputs i)
 
-called-fits : (s : Setting) (signed : List Signed) (m : ℕ) (life : Life) (i : Input) (station : Station) (w : World) (d : OnDisk) → d ≡ called_on (setting_of s m) life.node i station.disk → w.signed ≡ signed → station.current ≡ Some life → Fits s signed m station → GoesOn s w m d.call
-    → Fits s (signed ++ signed_in m d.call.told) m (station_after station (with_input life i d.call.node) d)
-called-fits s signed m life i station w d made at running h g =
+called-fits : (s : Setting) (signed : List Signed) (m : ℕ) (life : Life) (i : Input) (host : Host) (w : World) (d : OnDisk) → d ≡ called_on (setting_of s m) life.node i host.disk → w.signed ≡ signed → host.current ≡ Some life → Fits s signed m host → GoesOn s w m d.call
+    → Fits s (signed ++ signed_in m d.call.told) m (host_after host (with_input life i d.call.node) d)
+called-fits s signed m life i host w d made at running h g =
     let own : node.Setting = setting_of s m in
     let after : Life = with_input life i d.call.node in
-    let so : ComesSoFar own life.node i d.call = subst (λ (x : OnDisk). ComesSoFar own life.node i x.call) (sym made) (so_far own life.node i station.disk) in
+    let so : ComesSoFar own life.node i d.call = subst (λ (x : OnDisk). ComesSoFar own life.node i x.call) (sym made) (so_far own life.node i host.disk) in
     record {
       is = λ l e. h.is life running;
       after = λ l e.
-          let here = after-current station after d l e in
+          let here = after-current host after d l e in
           subst (λ (x : Life). x.node ≡ node_after s m x.found x.inputs) here.1 (node-more s m life i d.call (h.after life running) so here.0);
-      own = λ l e. subst (λ (x : Life). KeepsOwnNote own x.node) (after-current station after d l e).1 g.own;
-      rosters = λ l j. elim (after-lives station after d l j) [
-        | inl old ↦ h.rosters l (In-append_left station.past (option_to_list station.current) l old)
+      own = λ l e. subst (λ (x : Life). KeepsOwnNote own x.node) (after-current host after d l e).1 g.own;
+      rosters = λ l j. elim (after-lives host after d l j) [
+        | inl old ↦ h.rosters l (In-append_left host.past (option_to_list host.current) l old)
         | inr is ↦ subst (λ (x : Life). KeepsRoster s x.node) is g.roster
       ];
-      lived = λ l j e k. elim (after-lives station after d l j) [
-        | inl old ↦ comes-more s m signed (signed_in m d.call.told) e (h.lived l (In-append_left station.past (option_to_list station.current) l old) e k)
+      lived = λ l j e k. elim (after-lives host after d l j) [
+        | inl old ↦ comes-more s m signed (signed_in m d.call.told) e (h.lived l (In-append_left host.past (option_to_list host.current) l old) e k)
         | inr is ↦
             comes-behind s m signed d.call.told e (subst (λ xs. ComesSigned s m xs d.call.told e) at (g.so_far.lived e (subst (λ (x : Life). In x.node.lived e) (sym is) k)))
       ];
     }
 
-called-there : (station : Station) (life : Life) (i : Input) (n : node.Node) (events : List Event) (d : OnDisk) → n.lived ≡ life.node.lived ++ events → station.current ≡ Some life → (x : Life) → In (lives_at station) x → IsThere (station_after station (with_input life i n) d) x
-called-there station life i n events d grew running x j =
+called-there : (host : Host) (life : Life) (i : Input) (n : node.Node) (events : List Event) (d : OnDisk) → n.lived ≡ life.node.lived ++ events → host.current ≡ Some life → (x : Life) → In (lives_at host) x → IsThere (host_after host (with_input life i n) d) x
+called-there host life i n events d grew running x j =
     let after : Life = with_input life i n in
-    elim (in-last station.past life x (subst (λ xs. In xs x) (lives-running station life running) j)) [
-      | inl old ↦ there-itself (station_after station after d) x (after-past station after d x old)
-      | inr is ↦ subst (IsThere (station_after station after d)) is (record { later = after; among = after-itself station after d; found = refl; more = i ∷ []; inputs = refl; events = events; grew = grew })
+    elim (in-last host.past life x (subst (λ xs. In xs x) (lives-running host life running) j)) [
+      | inl old ↦ there-itself (host_after host after d) x (after-past host after d x old)
+      | inr is ↦ subst (IsThere (host_after host after d)) is (record { later = after; among = after-itself host after d; found = refl; more = i ∷ []; inputs = refl; events = events; grew = grew })
     ]
 
-called-signed : (s : Setting) (m index : ℕ) (a : AccBody) (life : Life) (i : Input) (station : Station) (moment : ℕ) → life.node ≡ node_after s m life.found life.inputs → life.node.stored ≡ station.disk.state
-    → In (called_on (setting_of s m) life.node i station.disk).call.told (record { moment = moment; what = happened.Spent index (Accusation a) })
-    → let d = called_on (setting_of s m) life.node i station.disk in SignedBy s (lives_at (station_after station (with_input life i d.call.node) d)) m index a
-called-signed s m index a life i station moment after kept told =
+called-signed : (s : Setting) (m index : ℕ) (a : AccBody) (life : Life) (i : Input) (host : Host) (moment : ℕ) → life.node ≡ node_after s m life.found life.inputs → life.node.stored ≡ host.disk.state
+    → In (called_on (setting_of s m) life.node i host.disk).call.told (record { moment = moment; what = happened.Spent index (Accusation a) })
+    → let d = called_on (setting_of s m) life.node i host.disk in SignedBy s (lives_at (host_after host (with_input life i d.call.node) d)) m index a
+called-signed s m index a life i host moment after kept told =
     let own : node.Setting = setting_of s m in
-    let d : OnDisk = called_on own life.node i station.disk in
-    let whole = (within-whole own life.node i d.call (so_far own life.node i station.disk)).spent moment index (Accusation a) told in
+    let d : OnDisk = called_on own life.node i host.disk in
+    let whole = (within-whole own life.node i d.call (so_far own life.node i host.disk)).spent moment index (Accusation a) told in
     let silent = only-silent own life.node i a (moment, index, Contains-from_In _ _ whole) in
-    let came : Came (length life.node.lived) d.call a = came-called own life.node i station.disk moment index a told in
+    let came : Came (length life.node.lived) d.call a = came-called own life.node i host.disk moment index a told in
     record {
       own = silent.1.by_the_node;
       life = with_input life i d.call.node;
-      lived = after-itself station (with_input life i d.call.node) d;
+      lived = after-itself host (with_input life i d.call.node) d;
       before = life.inputs;
       behind = [];
       at_tick = ap (λ x. life.inputs ++ x ∷ []) silent.0;
-      disk = station.disk;
+      disk = host.disk;
       kept = sym kept ∙ ap (λ (n : node.Node). n.stored) after;
-      signed = subst (λ n. TellsSpent (called_on own n Ticks station.disk).call index (Accusation a)) after
-          (subst (λ x. TellsSpent (called_on own life.node x station.disk).call index (Accusation a)) silent.0 (moment, Contains-from_In _ _ told));
+      signed = subst (λ n. TellsSpent (called_on own n Ticks host.disk).call index (Accusation a)) after
+          (subst (λ x. TellsSpent (called_on own life.node x host.disk).call index (Accusation a)) silent.0 (moment, Contains-from_In _ _ told));
       silent = subst (λ n. AccusesTheSilent own n a) after silent.1;
       place = came.place;
       since = subst (λ (n : node.Node). length n.lived ≤ came.place) after came.since;
-      came_in = subst (λ (n : node.Node). slice_get (called_on own n Ticks station.disk).call.node.lived came.place ≡ Some (Accuses a)) after
-          (subst (λ x. slice_get (called_on own life.node x station.disk).call.node.lived came.place ≡ Some (Accuses a)) silent.0 came.there);
+      came_in = subst (λ (n : node.Node). slice_get (called_on own n Ticks host.disk).call.node.lived came.place ≡ Some (Accuses a)) after
+          (subst (λ x. slice_get (called_on own life.node x host.disk).call.node.lived came.place ≡ Some (Accuses a)) silent.0 came.there);
       stays = came.there;
     }
 
 -- Of the member whose place it is.
-at-place : (m : ℕ) (station : Station) (w : World) (Q : Station → Type 0) → Q station → Q ((with_station m station w).stations m)
-at-place m station w Q h = at-station m m station w Q (λ e. h) (λ apart. clash (eqb m m) (eq-eqb m m refl) apart)
+at-place : (m : ℕ) (host : Host) (w : World) (Q : Host → Type 0) → Q host → Q ((with_host m host w).hosts m)
+at-place m host w Q h = at-host m m host w Q (λ e. h) (λ apart. clash (eqb m m) (eq-eqb m m refl) apart)
 
-holds-called : (s : Setting) → IsSetting s → (m : ℕ) (i : Input) (life : Life) (c : Course) → (c.world.stations m).current ≡ Some life → IsFree s c.world i → Holds s c.world c.told
-    → let d = comes m (c.world.stations m) life i (called_on (setting_of s m) life.node i (c.world.stations m).disk) c in Holds s d.world d.told
+holds-called : (s : Setting) → IsSetting s → (m : ℕ) (i : Input) (life : Life) (c : Execution) → (c.world.hosts m).current ≡ Some life → IsFree s c.world i → Holds s c.world c.told
+    → let d = comes m (c.world.hosts m) life i (called_on (setting_of s m) life.node i (c.world.hosts m).disk) c in Holds s d.world d.told
 holds-called s fits m i life c running free h =
     let w : World = c.world in
-    let station : Station = w.stations m in
-    let d : OnDisk = called_on (setting_of s m) life.node i station.disk in
-    let after : Station = station_after station (with_input life i d.call.node) d in
-    let v : World = (comes m station life i d c).world in
+    let host : Host = w.hosts m in
+    let d : OnDisk = called_on (setting_of s m) life.node i host.disk in
+    let after : Host = host_after host (with_input life i d.call.node) d in
+    let v : World = (comes m host life i d c).world in
     let made : List Signed = signed_in m d.call.told in
-    let tells : TellsItsLife (setting_of s m) life.node d.call = call-on-tells (setting_of s m) life.node i station.disk in
-    let g : GoesOn s w m d.call = called-goes_on s w m life.node i station.disk (record { fits = fits; is = (h.stations m).is life running; only = h.only }) free (in-life s w c.told m life running h) in
+    let tells : TellsItsLife (setting_of s m) life.node d.call = call-on-tells (setting_of s m) life.node i host.disk in
+    let g : GoesOn s w m d.call = called-goes_on s w m life.node i host.disk (record { fits = fits; is = (h.hosts m).is life running; only = h.only }) free (in-life s w c.told m life running h) in
     step s w v c.told (told_in m (length w.sent) d.call.told) made refl (not-nobody m d.call.told)
     (λ k is. (stands-kept NotesWithin notes-rise s k fits is).called m i life c running free (h.notes k is))
-    (placed s m after w (w.signed ++ made) (called-fits s w.signed m life i station w d refl refl running (h.stations m) g) (λ k. fits-more s w.signed made k (w.stations k) (h.stations k)))
+    (placed s m after w (w.signed ++ made) (called-fits s w.signed m life i host w d refl refl running (h.hosts m) g) (λ k. fits-more s w.signed made k (w.hosts k) (h.hosts k)))
     (told-right s w.signed made m (length w.sent) d.call.told g.so_far.told)
-    (there m after w (called-there station life i d.call.node tells.more d tells.grew running))
+    (there m after w (called-there host life i d.call.node tells.more d tells.grew running))
     (λ k index a is j.
     let t = told-as m d.call.told _ j in
     subst (λ z. SignedBy s (lives_of v z) z index a) (some-number k m t.who)
-    (at-place m after w (λ x. SignedBy s (lives_at x) m index a) (called-signed s m index a life i station t.moment ((h.stations m).after life running) ((h.notes m ((h.stations m).is life running)).runs life running) t.among)))
+    (at-place m after w (λ x. SignedBy s (lives_at x) m index a) (called-signed s m index a life i host t.moment ((h.hosts m).after life running) ((h.notes m ((h.hosts m).is life running)).runs life running) t.among)))
     h
 
 -- ---- a life begins
 
-began-fits : (s : Setting) (signed : List Signed) (m : ℕ) (d : Disk) (station : Station) (w : World) → IsSetting s → is_node s m ≡ true → w.signed ≡ signed → station.current ≡ None → Fits s signed m station → InCall s w m (first_call s m station.disk.state)
-    → Fits s (signed ++ signed_in m (first_call s m station.disk.state).told) m (record { disk = d; past = station.past; current = Some (first_life station.disk.state (first_call s m station.disk.state)) })
-began-fits s signed m d station w fits is at idle h g =
+began-fits : (s : Setting) (signed : List Signed) (m : ℕ) (d : Disk) (host : Host) (w : World) → IsSetting s → is_node s m ≡ true → w.signed ≡ signed → host.current ≡ None → Fits s signed m host → InCall s w m (first_call s m host.disk.state)
+    → Fits s (signed ++ signed_in m (first_call s m host.disk.state).told) m (record { disk = d; past = host.past; current = Some (first_life host.disk.state (first_call s m host.disk.state)) })
+began-fits s signed m d host w fits is at idle h g =
     let own : node.Setting = setting_of s m in
-    let kept : Stored = station.disk.state in
+    let kept : Stored = host.disk.state in
     let call : Call = first_call s m kept in
     record {
       is = λ l e. is;
       after = λ l e. subst (λ (x : Life). x.node ≡ node_after s m x.found x.inputs) (some-is _ l e) refl;
       own = λ l e. subst (λ (x : Life). KeepsOwnNote own x.node) (some-is _ l e) (own-started own (s.nonces m kept.next) (certificates s) kept (all_rings-good s.group.t) (kit-all s) (kit-own s m fits is));
-      rosters = λ l j. elim (in-last station.past (first_life kept call) l j) [
-        | inl old ↦ h.rosters l (In-append_left station.past (option_to_list station.current) l old)
+      rosters = λ l j. elim (in-last host.past (first_life kept call) l j) [
+        | inl old ↦ h.rosters l (In-append_left host.past (option_to_list host.current) l old)
         | inr same ↦ subst (λ (x : Life). KeepsRoster s x.node) same (roster-started s own (s.nonces m kept.next) kept)
       ];
-      lived = λ l j e k. elim (in-last station.past (first_life kept call) l j) [
-        | inl old ↦ comes-more s m signed (signed_in m call.told) e (h.lived l (In-append_left station.past (option_to_list station.current) l old) e k)
+      lived = λ l j e k. elim (in-last host.past (first_life kept call) l j) [
+        | inl old ↦ comes-more s m signed (signed_in m call.told) e (h.lived l (In-append_left host.past (option_to_list host.current) l old) e k)
         | inr same ↦ comes-behind s m signed call.told e (subst (λ xs. ComesSigned s m xs call.told e) at (g.lived e (subst (λ (x : Life). In x.node.lived e) (sym same) k)))
       ];
     }
 
-began-there : (station : Station) (life : Life) (d : Disk) → station.current ≡ None → (x : Life) → In (lives_at station) x → IsThere (record { disk = d; past = station.past; current = Some life }) x
-began-there station life d idle x i =
-    let after : Station = record { disk = d; past = station.past; current = Some life } in
-    there-itself after x (In-append_left station.past (life ∷ []) x (subst (λ xs. In xs x) (lives-idle station idle) i))
+began-there : (host : Host) (life : Life) (d : Disk) → host.current ≡ None → (x : Life) → In (lives_at host) x → IsThere (record { disk = d; past = host.past; current = Some life }) x
+began-there host life d idle x i =
+    let after : Host = record { disk = d; past = host.past; current = Some life } in
+    there-itself after x (In-append_left host.past (life ∷ []) x (subst (λ xs. In xs x) (lives-idle host idle) i))
 
 first-accuses : (s : Setting) (m k index : ℕ) (kept : Stored) (a : AccBody) → In (signed_in m (first_call s m kept).told) (record { who = Some k; index = index; body = Accusation a }) → ⊥
 first-accuses s m k index kept a i =
@@ -329,22 +329,22 @@ first-accuses s m k index kept a i =
     never (inl e) = no-note (ap (λ (x : Signed). x.body) e)
     never (inr none) = absurd none
 
-holds-began : (s : Setting) → IsSetting s → (m : ℕ) (d : Disk) (c : Course) → is_node s m ≡ true → (c.world.stations m).current ≡ None → HasIndexLeft s (c.world.stations m) → d.state ≡ (first_call s m (c.world.stations m).disk.state).node.stored → Holds s c.world c.told
+holds-began : (s : Setting) → IsSetting s → (m : ℕ) (d : Disk) (c : Execution) → is_node s m ≡ true → (c.world.hosts m).current ≡ None → HasIndexLeft s (c.world.hosts m) → d.state ≡ (first_call s m (c.world.hosts m).disk.state).node.stored → Holds s c.world c.told
     → Holds s (begins_life s m d c).world (begins_life s m d c).told
 holds-began s fits m d c is idle left same h =
     let w : World = c.world in
-    let station : Station = w.stations m in
-    let kept : Stored = station.disk.state in
+    let host : Host = w.hosts m in
+    let kept : Stored = host.disk.state in
     let call : Call = first_call s m kept in
     let life : Life = first_life kept call in
-    let after : Station = record { disk = d; past = station.past; current = Some life } in
+    let after : Host = record { disk = d; past = host.past; current = Some life } in
     let made : List Signed = signed_in m call.told in
     let g : InCall s w m call = started-in_call s w m kept (λ index note j. (h.notes m is).holds index note (spent-in w (Some m) index (Note note) (eq-eqb m m refl) j)) in
     step s w (begins_life s m d c).world c.told (told_in m (length w.sent) call.told) made refl (not-nobody m call.told)
     (λ k it. (stands-kept NotesWithin notes-rise s k fits it).began m d c is idle left same (h.notes k it))
-    (placed s m after w (w.signed ++ made) (began-fits s w.signed m d station w fits is refl idle (h.stations m) g) (λ k. fits-more s w.signed made k (w.stations k) (h.stations k)))
+    (placed s m after w (w.signed ++ made) (began-fits s w.signed m d host w fits is refl idle (h.hosts m) g) (λ k. fits-more s w.signed made k (w.hosts k) (h.hosts k)))
     (told-right s w.signed made m (length w.sent) call.told g.told)
-    (there m after w (began-there station life d idle))
+    (there m after w (began-there host life d idle))
     (λ k index a it j. absurd (first-accuses s m k index kept a j))
     h
 
@@ -353,7 +353,7 @@ holds-began s fits m d c is idle left same h =
 liar-apart : (s : Setting) (m key : ℕ) → IsSetting s → is_node s m ≡ true → is_liar s key ≡ true → key ≡ m → ⊥
 liar-apart s m key fits is liar same = clash (is_liar s m) (sym (ap (is_liar s) same) ∙ liar) (fits.apart m is)
 
-holds-lied : (s : Setting) → IsSetting s → (key : ℕ) (body : Body) (name : List ℕ) (w : World) (told : List Told) → is_liar s key ≡ true → Holds s w told → Holds s (lies s key body name w).world told
+holds-lied : (s : Setting) → IsSetting s → (key : ℕ) (body : Body) (name : List ℕ) (w : World) (told : List NodeEvent) → is_liar s key ≡ true → Holds s w told → Holds s (lies s key body name w).world told
 holds-lied s fits key body name w told liar h =
     let x : Signed = record { who = Some key; index = next_of_liar w key; body = body } in
     let v : World = (lies s key body name w).world in
@@ -361,9 +361,9 @@ holds-lied s fits key body name w told liar h =
     (step s w v told [] (x ∷ []) refl
     (λ y i who. elim i [ inl is ↦ none-some y.who key who (sym (ap (λ (z : Signed). z.who) is)) | inr none ↦ absurd none ])
     (λ k it. (stands-kept NotesWithin notes-rise s k fits it).lied key body name w told liar (h.notes k it))
-    (λ k. fits-more s w.signed (x ∷ []) k (w.stations k) (h.stations k))
+    (λ k. fits-more s w.signed (x ∷ []) k (w.hosts k) (h.hosts k))
     (λ t none. absurd none)
-    (λ k life i. there-itself (w.stations k) life i)
+    (λ k life i. there-itself (w.hosts k) life i)
     (λ k index a it i. elim i [ inl is ↦ absurd (liar-apart s k key fits it liar (number _ _ (ap (λ (z : Signed). z.who) is))) | inr none ↦ absurd none ])
     h)
   where
@@ -372,17 +372,17 @@ holds-lied s fits key body name w told liar h =
 
 -- ---- the other steps
 
-got-right : (s : Setting) (signed : List Signed) (m moment number : ℕ) (t : Told) → In (record { who = m; event = record { moment = moment; what = happened.Got number } } ∷ []) t → IsRight s signed t.event.what
-got-right s signed m moment number t (inl is) = subst (λ (x : Told). IsRight s signed x.event.what) is (record { fresh = refl; accepts = tt })
+got-right : (s : Setting) (signed : List Signed) (m moment number : ℕ) (t : NodeEvent) → In (record { who = m; event = record { moment = moment; what = happened.Got number } } ∷ []) t → IsRight s signed t.event.what
+got-right s signed m moment number t (inl is) = subst (λ (x : NodeEvent). IsRight s signed x.event.what) is (record { fresh = refl; accepts = tt })
 got-right s signed m moment number t (inr none) = absurd none
 
-holds-got : (s : Setting) → IsSetting s → (m moment number : ℕ) (w : World) (told : List Told) → Holds s w told → Holds s w (told ++ record { who = m; event = record { moment = moment; what = happened.Got number } } ∷ [])
+holds-got : (s : Setting) → IsSetting s → (m moment number : ℕ) (w : World) (told : List NodeEvent) → Holds s w told → Holds s w (told ++ record { who = m; event = record { moment = moment; what = happened.Got number } } ∷ [])
 holds-got s fits m moment number w told h =
     step s w w told (record { who = m; event = record { moment = moment; what = happened.Got number } } ∷ []) [] (sym (nil-right w.signed)) (λ x none. absurd none) (λ k it. h.notes k it)
-    (λ k. fits-more s w.signed [] k (w.stations k) (h.stations k)) (got-right s (w.signed ++ []) m moment number) (λ k life i. there-itself (w.stations k) life i) (λ k index a it none. absurd none) h
+    (λ k. fits-more s w.signed [] k (w.hosts k) (h.hosts k)) (got-right s (w.signed ++ []) m moment number) (λ k life i. there-itself (w.hosts k) life i) (λ k index a it none. absurd none) h
 
-holds-flowed : (s : Setting) (number : ℕ) (w : World) (told : List Told) → Holds s w told → Holds s (record w { flowed = number }) told
-holds-flowed s number w told h = quietly s w (record w { flowed = number }) told refl (λ k it. h.notes k it) h.stations (λ k life i. there-itself (w.stations k) life i) h
+holds-flowed : (s : Setting) (number : ℕ) (w : World) (told : List NodeEvent) → Holds s w told → Holds s (record w { flowed = number }) told
+holds-flowed s number w told h = quietly s w (record w { flowed = number }) told refl (λ k it. h.notes k it) h.hosts (λ k life i. there-itself (w.hosts k) life i) h
 
 pub holds-kept : (s : Setting) → IsSetting s → Keeps s (Holds s)
 holds-kept s fits =
@@ -419,10 +419,10 @@ holds-first s =
     record {
       only = λ x i who. i;
       notes = λ m is. stands-first NotesWithin notes-rise s m;
-      stations = λ m. first-fits s (by_authority s) m _;
+      hosts = λ m. first-fits s (by_authority s) m _;
       right = λ t none. absurd none;
       accusations = λ m index a is i. absurd (no-accusation s m index a i);
     }
 
-pub reached-holds : (s : Setting) (w : World) (told : List Told) → IsSetting s → Reached s w told → Holds s w told
+pub reached-holds : (s : Setting) (w : World) (told : List NodeEvent) → IsSetting s → Reached s w told → Holds s w told
 reached-holds s w told fits reached = keeps-reached s (Holds s) (holds-kept s fits) (holds-first s) w told reached

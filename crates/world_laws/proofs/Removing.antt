@@ -1,4 +1,4 @@
--- Each removal that is told rests on an accusation that has come of a record which verifies.
+-- Each removal that is reported rests on an accusation that has come of a record which verifies.
 use Rattle.std.proofs.Common.{◌≡◌, ℕ, ◌+◌, zero, suc, ◌<◌, true, false, not, List, [], ◌∷◌, ◌++◌, length, Option, Some, None, inl, inr, refl, ap, ◌∙◌, subst, map, filter, arith}
 use Rattle.std.specs.Prelude.{flat_map}
 use Rattle.std.proofs.lemmas.Bool.{cond_both, and_from, eq-eqb, not-true}
@@ -18,7 +18,7 @@ use Rattle.node_rules.specs.Calls.{told_of, whats_of}
 use Rattle.node_rules.specs.Lives.{is_of_life, told_by}
 use Rattle.world_rules.specs.Settings.{Setting}
 use Rattle.world_rules.specs.Worlds.{Life, World, lives_of}
-use Rattle.world_rules.specs.Steps.{Told}
+use Rattle.world_rules.specs.Steps.{NodeEvent}
 use Rattle.world_rules.specs.Laws.{IsSetting, Reached, tells_life}
 use Rattle.world_rules.proofs.Telling.{lives-justified}
 use Rattle.world_laws.specs.Laws.{IsVerifiedRemoval, RemovalsAreVerified, RemovesVerified, SignaturesVerify, ToldRemovalsAreVerified}
@@ -51,7 +51,7 @@ leaves-step g st (Notes n) m = leaves-unless (note_fault g.t st n) st (after_not
 leaves-step g st (Accuses a) m = leaves-unless (accusation_fault g.t st a) st (unchanged (after_accusation st a)) m (λ none. absurd none)
 leaves-step g st Ticks m = λ i. leaves-between st (step g st Ticks).state m i
 
--- ---- what is told of it
+-- ---- what is reported of it
 
 no-removal : {X : Type 0} (f : X → whats.What) (xs : List X) (m : ℕ) → ((x : X) → f x ≡ happened.Removed m → ⊥) → In (map f xs) (happened.Removed m) → ⊥
 no-removal f xs m other i = let x = In-from_map f xs (happened.Removed m) i in other x.0 x.1.1
@@ -93,7 +93,7 @@ told-removed moment r e m i is =
     let x = In-from_map (λ what. let made : journal.Event = record { moment = moment; what = what } in made) (whats_of r) e i in
     removed-among r m (subst (In (whats_of r)) (ap (λ (y : journal.Event). y.what) x.1.1 ∙ is) x.1.0)
 
--- ---- a life in which it is told
+-- ---- a life in which it is reported
 
 -- The member is removed at a place of the life, which has this moment behind it.
 record RemovedIn (g : Group) (st : State) (events : List Event) (m moment : ℕ) : Type 0 where
@@ -138,7 +138,7 @@ in-flat f (x ∷ xs) y i =
 
 -- ---- the law
 
-verified-at : (s : Setting) (w : World) (told : List Told) (who : ℕ) (life : Life) → IsSetting s → SignaturesVerify s → Reached s w told → In (lives_of w who) life → RemovesVerified s w who life
+verified-at : (s : Setting) (w : World) (told : List NodeEvent) (who : ℕ) (life : Life) → IsSetting s → SignaturesVerify s → Reached s w told → In (lives_of w who) life → RemovesVerified s w who life
 verified-at s w told who life fits verify reached i place m within removed =
     let rests = justified s.group [] life.node.lived place m within removed in
     let vouched-at : IsVouchedAt s w who life rests.0 rests.1 = vouched s w told who life rests.0 rests.1 fits verify reached (reached-verified s w told fits reached) i rests.2.accepted.event in
@@ -147,7 +147,7 @@ verified-at s w told who life fits verify reached i place m within removed =
 pub removals-verified : RemovalsAreVerified
 removals-verified s w told who fits verify reached = All-from_In _ (lives_of w who) (λ life i. verified-at s w told who life fits verify reached i)
 
-told-verified : (s : Setting) (w : World) (told : List Told) (t : Told) (m : ℕ) (life : Life) → IsSetting s → SignaturesVerify s → Reached s w told → In (lives_of w t.who) life → RemovedIn s.group (opening []) life.node.lived m t.event.moment → IsVerifiedRemoval s w t m
+told-verified : (s : Setting) (w : World) (told : List NodeEvent) (t : NodeEvent) (m : ℕ) (life : Life) → IsSetting s → SignaturesVerify s → Reached s w told → In (lives_of w t.who) life → RemovedIn s.group (opening []) life.node.lived m t.event.moment → IsVerifiedRemoval s w t m
 told-verified s w told t m life fits verify reached i gone =
     record {
       life = life;
@@ -159,11 +159,11 @@ told-verified s w told t m life fits verify reached i gone =
       rests = verified-at s w told t.who life fits verify reached i gone.place m gone.within gone.removed;
     }
 
--- What is told of a node's view or of accusations there is told by one of its lives.
-pub in-told : (s : Setting) (w : World) (told : List Told) (t : Told) → Reached s w told → In told t → is_of_life t.event.what ≡ true → (life : Life) × (In (lives_of w t.who) life × In (told_by s.group (opening []) life.node.lived) t.event)
+-- What is reported of a node's view or of accusations there is reported by one of its lives.
+pub in-told : (s : Setting) (w : World) (told : List NodeEvent) (t : NodeEvent) → Reached s w told → In told t → is_of_life t.event.what ≡ true → (life : Life) × (In (lives_of w t.who) life × In (told_by s.group (opening []) life.node.lived) t.event)
 in-told s w told t reached among is =
     let tells : tells_life t.who t ≡ true = and_from _ _ (eq-eqb t.who t.who refl) is in
-    let i : In (map (λ (x : Told). x.event) (filter (tells_life t.who) told)) t.event = in-mapped (λ (x : Told). x.event) (filter (tells_life t.who) told) t (In-filter (tells_life t.who) told t among tells) in
+    let i : In (map (λ (x : NodeEvent). x.event) (filter (tells_life t.who) told)) t.event = in-mapped (λ (x : NodeEvent). x.event) (filter (tells_life t.who) told) t (In-filter (tells_life t.who) told t among tells) in
     let so = (lives-justified s w told t.who reached).told_so in
     in-flat (λ (life : Life). told_by s.group (opening []) life.node.lived) (lives_of w t.who) t.event (subst (λ xs. In xs t.event) so i)
 

@@ -24,11 +24,11 @@ use Rattle.records.specs.declared.Body.{Body}
 use Rattle.records.specs.declared.Body.TheVariants.{Certificate, Note, Accusation}
 use Rattle.records.specs.declared.Record.{Record}
 use Rattle.epoch_store.specs.declared.Stored.{Stored}
-use Rattle.validate.specs.Table.{own_ahead}
+use Rattle.validate.specs.Table.{certificate_fault, signature_fault, own_ahead}
 use Rattle.journal.specs.declared.event.What.TheVariants as told
 use Rattle.node_rules.specs.Nodes as node
 use Rattle.node_rules.specs.Nodes.{Node, state_of, event_of, certificate_of, public_key_of}
-use Rattle.node_rules.specs.Refusals.{certificate_fault, signature_fault, refusal, refusal_of}
+use Rattle.node_rules.specs.Refusals.{refusal, refusal_of}
 use Rattle.node_rules.specs.Lives.{stored_note, KeepsOwnNote}
 use Rattle.node_rules.proofs.OwnNote.{option_or-none}
 use Rattle.world_rules.specs.Settings.{Setting, Signed, is_node, setting_of}
@@ -86,7 +86,7 @@ note-ahead : (t : ℕ) (joined : Bool) (kept : Option NoteBody) (n : NoteBody) �
 note-ahead t joined kept n =
     unless-ahead (not joined) faults.UnknownMember _ refl (unless-ahead (not (good_mask t n.mask.0)) faults.BadMask _ refl (after-ahead kept n))
 
-signature-ahead : (s : node.Setting) (author : Option PublicKey) (r : Record) → is_ahead (signature_fault s author r) ≡ false
+signature-ahead : (s : node.Setting) (author : Option PublicKey) (r : Record) → is_ahead (signature_fault s.verifies author r) ≡ false
 signature-ahead s None r = refl
 signature-ahead s (Some key) r = either (s.verifies key r)
   where
@@ -110,7 +110,7 @@ pub record Verifies (s : node.Setting) (author : Option PublicKey) (r : Record) 
   pub author_is : author ≡ Some key
   pub verifies : s.verifies key r ≡ true
 
-pub signature-verifies : (s : node.Setting) (author : Option PublicKey) (r : Record) → signature_fault s author r ≡ None → Verifies s author r
+pub signature-verifies : (s : node.Setting) (author : Option PublicKey) (r : Record) → signature_fault s.verifies author r ≡ None → Verifies s author r
 signature-verifies s None r none = cc
 signature-verifies s (Some key) r none =
     elim (cases_Bool (s.verifies key r)) [
@@ -122,7 +122,7 @@ signature-verifies s (Some key) r none =
     not-none e = cc
 
 -- What verifies as a member's, by the certificate that is kept of it, verifies under its key.
-roster-verifies : (s : Setting) (m : ℕ) (n : Node) (r : Record) (k : ℕ) → KeepsRoster s n → signature_fault (setting_of s m) (public_key_of n k) r ≡ None → s.verifies (s.key (Some k)) r ≡ true
+roster-verifies : (s : Setting) (m : ℕ) (n : Node) (r : Record) (k : ℕ) → KeepsRoster s n → signature_fault (setting_of s m).verifies (public_key_of n k) r ≡ None → s.verifies (s.key (Some k)) r ≡ true
 roster-verifies s m n r k roster none =
     let v = signature-verifies (setting_of s m) (public_key_of n k) r none in
     sym (ap (λ key. s.verifies key r) (roster-key s n k v.key roster v.author_is)) ∙ v.verifies
@@ -187,7 +187,7 @@ pub record Knows (s : Setting) (w : World) (m : ℕ) (n : Node) : Type 0 where
   pub within : HasNotesWithin m w.signed n.stored
 
 ahead-note : (s : Setting) (w : World) (m : ℕ) (n : Node) (r : Record) (note : NoteBody) → Knows s w m n → IsGenuine s w r → r.body ≡ Note note → note_fault s.group.t (state_of (setting_of s m) n) note ≡ None
-    → signature_fault (setting_of s m) (public_key_of n note.member) r ≡ None → is_ahead (own_ahead m (newest (state_of (setting_of s m) n).notes m) note) ≡ false
+    → signature_fault (setting_of s m).verifies (public_key_of n note.member) r ≡ None → is_ahead (own_ahead m (newest (state_of (setting_of s m) n).notes m) note) ≡ false
 ahead-note s w m n r note k free is unrefused verified =
     elim (cases_Bool (eqb note.member m)) [
       | inl mine ↦
@@ -203,7 +203,7 @@ ahead-of s w m n r (Certificate c) is k free =
 ahead-of s w m n r (Note note) is k free =
     let own : node.Setting = setting_of s m in
     or-ahead (note_fault s.group.t (state_of own n) note) _ (note-ahead s.group.t (is_member (state_of own n) note.member) (newest (state_of own n).notes note.member) note)
-    (λ unrefused. or-ahead (signature_fault own (public_key_of n note.member) r) _ (signature-ahead own (public_key_of n note.member) r) (λ verified. ahead-note s w m n r note k free is unrefused verified))
+    (λ unrefused. or-ahead (signature_fault own.verifies (public_key_of n note.member) r) _ (signature-ahead own (public_key_of n note.member) r) (λ verified. ahead-note s w m n r note k free is unrefused verified))
 ahead-of s w m n r (Accusation a) is k free =
     let own : node.Setting = setting_of s m in
     or-ahead (accusation_fault s.group.t (state_of own n) a) _ (accusation-ahead s.group.t (facts_of (state_of own n) a) a) (λ none. signature-ahead own (public_key_of n a.accuser) r)
@@ -224,7 +224,7 @@ pub accepted-note : (s : Setting) (w : World) (m : ℕ) (n : Node) (r : Record) 
 accepted-note s w m n r note k free fine is by =
     let own : node.Setting = setting_of s m in
     let rest = (option_or-none (note_fault s.group.t (state_of own n) note) _ (accepted-verifies own n r (Note note) is fine)).1 in
-    let verified = (option_or-none (signature_fault own (public_key_of n note.member) r) _ rest).0 in
+    let verified = (option_or-none (signature_fault own.verifies (public_key_of n note.member) r) _ rest).0 in
     node-signed s w r note.member (Note note) k.fits free by tt is (roster-verifies s m n r note.member k.roster verified)
 
 pub accepted-accusation : (s : Setting) (w : World) (m : ℕ) (n : Node) (r : Record) (a : AccBody) → Knows s w m n → IsGenuine s w r → refusal (setting_of s m) n r ≡ None → r.body ≡ Accusation a → is_node s a.accuser ≡ true → SignedIn w.signed (Some a.accuser) (Accusation a)

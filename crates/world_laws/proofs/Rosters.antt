@@ -18,9 +18,10 @@ use Rattle.records.specs.declared.Record.{Record}
 use Rattle.record_set.specs.Held.{key_cmp, key_of}
 use Rattle.record_set.proofs.KeyLemmas.{is_key-true, is_key-same}
 use Rattle.epoch_store.specs.declared.Stored.{Stored}
+use Rattle.validate.specs.Table.{certificate_fault, signature_fault}
 use Rattle.node_rules.specs.Nodes as node
 use Rattle.node_rules.specs.Nodes.{Node, Holding, state_of, event_of, with_record, without_ended, certificate_in, certificate_of, public_key_of}
-use Rattle.node_rules.specs.Refusals.{certificate_fault, signature_fault, refusal, refusal_of}
+use Rattle.node_rules.specs.Refusals.{refusal, refusal_of}
 use Rattle.node_rules.specs.Calls.{Call, begun, lives, takes, spends, signs, own_record}
 use Rattle.node_rules.specs.Starting.{blank, opened, first_note, started}
 use Rattle.node_rules.specs.Lives.{AreCertificates, is_certificate_for}
@@ -179,5 +180,5 @@ unlisted s k false e = refl
 pub accepted-unlisted : (s : Setting) (own : node.Setting) (n : Node) (r : Record) (x : CertBody) → KeepsRoster s n → refusal own n r ≡ None → r.body ≡ Certificate x → list_any (λ m. eqb m x.member) (members s) ≡ false
 unfolding refusal
 accepted-unlisted s own n r x keeps fine is =
-    let none : certificate_of n x.member ≡ None = map-none _ (certificate_of n x.member) (option_or-none (certificate_fault (certificate_of n x.member) x) (signature_fault own (Some own.authority) r) (sym (ap (refusal_of own n r) is) ∙ fine)).0 in
+    let none : certificate_of n x.member ≡ None = map-none _ (certificate_of n x.member) (option_or-none (certificate_fault (certificate_of n x.member) x) (signature_fault own.verifies (Some own.authority) r) (sym (ap (refusal_of own n r) is) ∙ fine)).0 in
     unlisted s x.member (list_any (λ m. eqb m x.member) (members s)) (sym (keeps x.member) ∙ none)

@@ -24,7 +24,7 @@ use Rattle.node_rules.specs.Lives.{Input, Delivers, Ticks, call_of}
 use Rattle.node_rules.proofs.Called.{ComesSoFar, IsCutAccusing, IsCutAnswering, delivered_until, ticked_until}
 use Rattle.world_laws.proofs.Handing.{Hands, AnyRecord, hands-wants, hands-handles_all, hands-accuses_all, hands-gossips, joined}
 
--- ---- what was told and lived stays
+-- ---- what was reported and lived stays
 
 -- The event of a call, and the event of its life, are in the call.
 pub record Holds (told_event : Option journal.Event) (lived_event : Option Event) (c : Call) : Type 0 where

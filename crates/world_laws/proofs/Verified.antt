@@ -15,9 +15,10 @@ use Rattle.records.specs.declared.Record.{Record}
 use Rattle.epoch_store.specs.declared.Stored.{Stored}
 use Rattle.signer.specs.Lives.{Spent}
 use Rattle.datagram.specs.declared.Datagram.TheVariants as kinds
+use Rattle.validate.specs.Table.{signature_fault}
 use Rattle.node_rules.specs.Nodes as node
 use Rattle.node_rules.specs.Nodes.{Node, state_of, event_of, public_key_of}
-use Rattle.node_rules.specs.Refusals.{signature_fault, refusal, refusal_of}
+use Rattle.node_rules.specs.Refusals.{refusal, refusal_of}
 use Rattle.node_rules.specs.Calls.{Call, begun, takes, signs}
 use Rattle.node_rules.specs.Deliveries.{handles_all}
 use Rattle.node_rules.specs.Starting.{blank, opened, first_note, started}
@@ -28,12 +29,12 @@ use Rattle.node_rules.proofs.OwnNote.{option_or-none}
 use Rattle.world_rules.specs.Settings.{Setting, is_node, members, certificate, certificates, record_of, setting_of}
 use Rattle.world_rules.specs.Disks.{Disk}
 use Rattle.world_rules.specs.Calls.{OnDisk, called_on}
-use Rattle.world_rules.specs.Worlds.{Life, Station, World, begun_world, lives_of, spent_of, with_station}
-use Rattle.world_rules.specs.Steps.{Told, first_call, first_life, life_over, station_after, with_disk, with_input}
+use Rattle.world_rules.specs.Worlds.{Life, Host, World, begun_world, lives_of, spent_of, with_host}
+use Rattle.world_rules.specs.Steps.{NodeEvent, first_call, first_life, life_over, host_after, with_disk, with_input}
 use Rattle.world_rules.specs.Laws.{IsSetting, Reached}
 use Rattle.world_rules.proofs.OnDisks.{next-after}
 use Rattle.world_rules.proofs.LineSteps.{IsFree, HasIndexLeft, Keeps, keeps-reached}
-use Rattle.world_rules.proofs.Once.{Rises, Stands, at-station, one-started, stands-kept, stands-first}
+use Rattle.world_rules.proofs.Once.{Rises, Stands, at-host, one-started, stands-kept, stands-first}
 use Rattle.world_laws.specs.Signing.{KeepsRoster, node_after}
 use Rattle.world_laws.specs.Origins.{HasComeOf, IsAcceptedBehind, node_behind}
 use Rattle.world_laws.specs.Laws.{SignaturesVerify}
@@ -70,7 +71,7 @@ accepted-verified : (s : Setting) (m : ℕ) (n : Node) (r : Record) (a : AccBody
 unfolding refusal
 accepted-verified s m n r a is keeps fine =
     let own : node.Setting = setting_of s m in
-    let none : signature_fault own (public_key_of n a.accuser) r ≡ None = (option_or-none (accusation_fault s.group.t (state_of own n) a) _ (sym (ap (refusal_of own n r) is) ∙ fine)).1 in
+    let none : signature_fault own.verifies (public_key_of n a.accuser) r ≡ None = (option_or-none (accusation_fault s.group.t (state_of own n) a) _ (sym (ap (refusal_of own n r) is) ∙ fine)).1 in
     let v : Verifies own (public_key_of n a.accuser) r = signature-verifies own (public_key_of n a.accuser) r none in
     record {
       listed = roster-listed s n a.accuser v.key keeps v.author_is;
@@ -238,31 +239,31 @@ started-quiet s m kept =
 none-first : {A : Type 0} (s : Setting) (m : ℕ) (kept : Stored) (place : ℕ) (a : AccBody) → slice_get (first_call s m kept).node.lived place ≡ Some (Accuses a) → A
 none-first s m kept place a found = absurd (quiet-not (Accuses a) a (started-quiet s m kept (Accuses a) (In-at (first_call s m kept).node.lived place (Accuses a) found)) refl)
 
-first-left : (s : Setting) (station : Station) → HasIndexLeft s station → station.disk.state.next ≤ s.indexes → station.disk.state.next < s.indexes
-first-left s station left within = grind (arith, nat_tests, left, within)
+first-left : (s : Setting) (host : Host) → HasIndexLeft s host → host.disk.state.next ≤ s.indexes → host.disk.state.next < s.indexes
+first-left s host left within = grind (arith, nat_tests, left, within)
 
-first-bounded : (s : Setting) (m : ℕ) (station : Station) → HasIndexLeft s station → station.disk.state.next ≤ s.indexes → (first_call s m station.disk.state).node.stored.next ≤ s.indexes
-first-bounded s m station left within =
-    let kept : Stored = station.disk.state in
+first-bounded : (s : Setting) (m : ℕ) (host : Host) → HasIndexLeft s host → host.disk.state.next ≤ s.indexes → (first_call s m host.disk.state).node.stored.next ≤ s.indexes
+first-bounded s m host left within =
+    let kept : Stored = host.disk.state in
     let one = one-started (setting_of s m) (s.nonces m kept.next) (certificates s) kept in
-    subst (λ (k : Stored). k.next ≤ s.indexes) (sym one.stored) (omega (arith, next-after kept (first_note (setting_of s m) kept), first-left s station left within))
+    subst (λ (k : Stored). k.next ≤ s.indexes) (sym one.stored) (omega (arith, next-after kept (first_note (setting_of s m) kept), first-left s host left within))
 
 -- ---- the world
 
 abbrev pub AllHaveCome : Setting → ℕ → Life → Type 0
 AllHaveCome s m life = (place : ℕ) (a : AccBody) → slice_get life.node.lived place ≡ Some (Accuses a) → HasCome s m life place a
 
-pub record IsVerifiedAt (s : Setting) (m : ℕ) (station : Station) : Type 0 where
-  pub disk : station.disk.state.next ≤ s.indexes
-  pub running : (life : Life) → station.current ≡ Some life → life.node.stored.next ≤ s.indexes
-  pub lived : (life : Life) → In (lives_at station) life → AllHaveCome s m life
+pub record IsVerifiedAt (s : Setting) (m : ℕ) (host : Host) : Type 0 where
+  pub disk : host.disk.state.next ≤ s.indexes
+  pub running : (life : Life) → host.current ≡ Some life → life.node.stored.next ≤ s.indexes
+  pub lived : (life : Life) → In (lives_at host) life → AllHaveCome s m life
 
-pub record AllVerified (s : Setting) (w : World) (told : List Told) : Type 0 where
+pub record AllVerified (s : Setting) (w : World) (told : List NodeEvent) : Type 0 where
   pub holds : Holds s w told
-  pub stations : (m : ℕ) → IsVerifiedAt s m (w.stations m)
+  pub hosts : (m : ℕ) → IsVerifiedAt s m (w.hosts m)
 
-put : (s : Setting) (m : ℕ) (station : Station) (w : World) → IsVerifiedAt s m station → ((k : ℕ) → IsVerifiedAt s k (w.stations k)) → (k : ℕ) → IsVerifiedAt s k ((with_station m station w).stations k)
-put s m station w here others k = at-station k m station w (IsVerifiedAt s k) (λ e. subst (λ z. IsVerifiedAt s z station) e here) (λ apart. others k)
+put : (s : Setting) (m : ℕ) (host : Host) (w : World) → IsVerifiedAt s m host → ((k : ℕ) → IsVerifiedAt s k (w.hosts k)) → (k : ℕ) → IsVerifiedAt s k ((with_host m host w).hosts k)
+put s m host w here others k = at-host k m host w (IsVerifiedAt s k) (λ e. subst (λ z. IsVerifiedAt s z host) e here) (λ apart. others k)
 
 some-is : {X : Type 0} (x y : X) → Some x ≡ Some y → x ≡ y
 some-is x y e = cc
@@ -270,59 +271,59 @@ some-is x y e = cc
 none-some : {X A : Type 0} (x : X) → None ≡ Some x → A
 none-some x e = cc
 
-after-disk : (station : Station) (life : Life) (d : OnDisk) → (station_after station life d).disk ≡ d.disk
-after-disk station life d = cond_both {A = Station} d.call.ended _ _ (λ x. x.disk ≡ d.disk) (λ over. refl) (λ going. refl)
+after-disk : (host : Host) (life : Life) (d : OnDisk) → (host_after host life d).disk ≡ d.disk
+after-disk host life d = cond_both {A = Host} d.call.ended _ _ (λ x. x.disk ≡ d.disk) (λ over. refl) (λ going. refl)
 
-called-at : (s : Setting) (w : World) (told : List Told) (m : ℕ) (i : Input) (life : Life) → IsSetting s → (w.stations m).current ≡ Some life → IsFree s w i → AllVerified s w told
-    → let d = called_on (setting_of s m) life.node i (w.stations m).disk in IsVerifiedAt s m (station_after (w.stations m) (with_input life i d.call.node) d)
+called-at : (s : Setting) (w : World) (told : List NodeEvent) (m : ℕ) (i : Input) (life : Life) → IsSetting s → (w.hosts m).current ≡ Some life → IsFree s w i → AllVerified s w told
+    → let d = called_on (setting_of s m) life.node i (w.hosts m).disk in IsVerifiedAt s m (host_after (w.hosts m) (with_input life i d.call.node) d)
 called-at s w told m i life fits running free h =
     let own : node.Setting = setting_of s m in
-    let station : Station = w.stations m in
-    let d : OnDisk = called_on own life.node i station.disk in
+    let host : Host = w.hosts m in
+    let d : OnDisk = called_on own life.node i host.disk in
     let after : Life = with_input life i d.call.node in
-    let at : IsVerifiedAt s m station = h.stations m in
-    let of : IsOfWorld s w m = record { fits = fits; is = (h.holds.stations m).is life running; only = h.holds.only } in
-    let bound : IsWithin own d = bounded-called own life.node i station.disk (at.running life running) at.disk in
-    let runs : Runs s w m life station.disk = record { of = of; in_life = in-life s w told m life running h.holds; after = (h.holds.stations m).after life running; runs = (h.holds.notes m of.is).runs life running } in
-    let come : AllHaveCome s m after = λ place a found. called-come s w m life i station.disk place a runs free (at.lived life (current-in station life running) place a) found in
+    let at : IsVerifiedAt s m host = h.hosts m in
+    let of : IsOfWorld s w m = record { fits = fits; is = (h.holds.hosts m).is life running; only = h.holds.only } in
+    let bound : IsWithin own d = bounded-called own life.node i host.disk (at.running life running) at.disk in
+    let runs : Runs s w m life host.disk = record { of = of; in_life = in-life s w told m life running h.holds; after = (h.holds.hosts m).after life running; runs = (h.holds.notes m of.is).runs life running } in
+    let come : AllHaveCome s m after = λ place a found. called-come s w m life i host.disk place a runs free (at.lived life (current-in host life running) place a) found in
     record {
-      disk = subst (λ (x : Disk). x.state.next ≤ s.indexes) (sym (after-disk station after d)) bound.disk;
-      running = λ l e. subst (λ (x : Life). x.node.stored.next ≤ s.indexes) (after-current station after d l e).1 bound.node;
-      lived = λ l j. elim (after-lives station after d l j) [
-        | inl old ↦ at.lived l (In-append_left station.past (option_to_list station.current) l old)
+      disk = subst (λ (x : Disk). x.state.next ≤ s.indexes) (sym (after-disk host after d)) bound.disk;
+      running = λ l e. subst (λ (x : Life). x.node.stored.next ≤ s.indexes) (after-current host after d l e).1 bound.node;
+      lived = λ l j. elim (after-lives host after d l j) [
+        | inl old ↦ at.lived l (In-append_left host.past (option_to_list host.current) l old)
         | inr is ↦ subst (AllHaveCome s m) is come
       ];
     }
 
-began-at : (s : Setting) (m : ℕ) (d : Disk) (station : Station) → HasIndexLeft s station → d.state ≡ (first_call s m station.disk.state).node.stored → IsVerifiedAt s m station
-    → IsVerifiedAt s m (record { disk = d; past = station.past; current = Some (first_life station.disk.state (first_call s m station.disk.state)) })
-began-at s m d station left same h =
-    let kept : Stored = station.disk.state in
+began-at : (s : Setting) (m : ℕ) (d : Disk) (host : Host) → HasIndexLeft s host → d.state ≡ (first_call s m host.disk.state).node.stored → IsVerifiedAt s m host
+    → IsVerifiedAt s m (record { disk = d; past = host.past; current = Some (first_life host.disk.state (first_call s m host.disk.state)) })
+began-at s m d host left same h =
+    let kept : Stored = host.disk.state in
     let call : Call = first_call s m kept in
-    let bound : call.node.stored.next ≤ s.indexes = first-bounded s m station left h.disk in
+    let bound : call.node.stored.next ≤ s.indexes = first-bounded s m host left h.disk in
     let first : AllHaveCome s m (first_life kept call) = λ place a found. none-first s m kept place a found in
     record {
       disk = subst (λ (k : Stored). k.next ≤ s.indexes) (sym same) bound;
       running = λ l e. subst (λ (x : Life). x.node.stored.next ≤ s.indexes) (some-is _ l e) bound;
-      lived = λ l j. elim (in-last station.past (first_life kept call) l j) [
-        | inl old ↦ h.lived l (In-append_left station.past (option_to_list station.current) l old)
+      lived = λ l j. elim (in-last host.past (first_life kept call) l j) [
+        | inl old ↦ h.lived l (In-append_left host.past (option_to_list host.current) l old)
         | inr is ↦ subst (AllHaveCome s m) is first
       ];
     }
 
-disk-at : (s : Setting) (m : ℕ) (station : Station) (d : Disk) → d.state.next ≤ s.indexes → IsVerifiedAt s m station → IsVerifiedAt s m (with_disk station d)
-disk-at s m station d bound h = record { disk = bound; running = h.running; lived = h.lived }
+disk-at : (s : Setting) (m : ℕ) (host : Host) (d : Disk) → d.state.next ≤ s.indexes → IsVerifiedAt s m host → IsVerifiedAt s m (with_disk host d)
+disk-at s m host d bound h = record { disk = bound; running = h.running; lived = h.lived }
 
-tried-at : (s : Setting) (m : ℕ) (station : Station) (d : Disk) → HasIndexLeft s station → (d.state ≡ station.disk.state) ⊎ (d.state ≡ (first_call s m station.disk.state).node.stored) → IsVerifiedAt s m station → d.state.next ≤ s.indexes
-tried-at s m station d left (inl same) h = subst (λ (k : Stored). k.next ≤ s.indexes) (sym same) h.disk
-tried-at s m station d left (inr after) h = subst (λ (k : Stored). k.next ≤ s.indexes) (sym after) (first-bounded s m station left h.disk)
+tried-at : (s : Setting) (m : ℕ) (host : Host) (d : Disk) → HasIndexLeft s host → (d.state ≡ host.disk.state) ⊎ (d.state ≡ (first_call s m host.disk.state).node.stored) → IsVerifiedAt s m host → d.state.next ≤ s.indexes
+tried-at s m host d left (inl same) h = subst (λ (k : Stored). k.next ≤ s.indexes) (sym same) h.disk
+tried-at s m host d left (inr after) h = subst (λ (k : Stored). k.next ≤ s.indexes) (sym after) (first-bounded s m host left h.disk)
 
-over-at : (s : Setting) (m : ℕ) (station : Station) (life : Life) → station.current ≡ Some life → IsVerifiedAt s m station → IsVerifiedAt s m (life_over station (Some life))
-over-at s m station life running h =
+over-at : (s : Setting) (m : ℕ) (host : Host) (life : Life) → host.current ≡ Some life → IsVerifiedAt s m host → IsVerifiedAt s m (life_over host (Some life))
+over-at s m host life running h =
     record {
       disk = h.disk;
       running = λ l none. none-some {X = Life} l none;
-      lived = λ l i. h.lived l (subst (λ xs. In xs l) (lives-over station life running) i);
+      lived = λ l i. h.lived l (subst (λ xs. In xs l) (lives-over host life running) i);
     }
 
 verified-kept : (s : Setting) → IsSetting s → Keeps s (AllVerified s)
@@ -330,16 +331,16 @@ verified-kept s fits =
     let k : Keeps s (Holds s) = holds-kept s fits in
     record {
       called = λ m i life c running free h.
-          record { holds = k.called m i life c running free h.holds; stations = put s m _ c.world (called-at s c.world c.told m i life fits running free h) h.stations };
-      began = λ m d c is idle left same h. record { holds = k.began m d c is idle left same h.holds; stations = put s m _ c.world (began-at s m d (c.world.stations m) left same (h.stations m)) h.stations };
+          record { holds = k.called m i life c running free h.holds; hosts = put s m _ c.world (called-at s c.world c.told m i life fits running free h) h.hosts };
+      began = λ m d c is idle left same h. record { holds = k.began m d c is idle left same h.holds; hosts = put s m _ c.world (began-at s m d (c.world.hosts m) left same (h.hosts m)) h.hosts };
       tried = λ m d w told idle left may h.
-          record { holds = k.tried m d w told idle left may h.holds; stations = put s m _ w (disk-at s m (w.stations m) d (tried-at s m (w.stations m) d left may (h.stations m)) (h.stations m)) h.stations };
+          record { holds = k.tried m d w told idle left may h.holds; hosts = put s m _ w (disk-at s m (w.hosts m) d (tried-at s m (w.hosts m) d left may (h.hosts m)) (h.hosts m)) h.hosts };
       disked = λ m d w told same h.
-          record { holds = k.disked m d w told same h.holds; stations = put s m _ w (disk-at s m (w.stations m) d (subst (λ (x : Stored). x.next ≤ s.indexes) (sym same) (h.stations m).disk) (h.stations m)) h.stations };
-      ended = λ m life w told running h. record { holds = k.ended m life w told running h.holds; stations = put s m _ w (over-at s m (w.stations m) life running (h.stations m)) h.stations };
-      got = λ m moment number w told h. record { holds = k.got m moment number w told h.holds; stations = h.stations };
-      flowed = λ number w told h. record { holds = k.flowed number w told h.holds; stations = h.stations };
-      lied = λ key body name w told liar h. record { holds = k.lied key body name w told liar h.holds; stations = h.stations };
+          record { holds = k.disked m d w told same h.holds; hosts = put s m _ w (disk-at s m (w.hosts m) d (subst (λ (x : Stored). x.next ≤ s.indexes) (sym same) (h.hosts m).disk) (h.hosts m)) h.hosts };
+      ended = λ m life w told running h. record { holds = k.ended m life w told running h.holds; hosts = put s m _ w (over-at s m (w.hosts m) life running (h.hosts m)) h.hosts };
+      got = λ m moment number w told h. record { holds = k.got m moment number w told h.holds; hosts = h.hosts };
+      flowed = λ number w told h. record { holds = k.flowed number w told h.holds; hosts = h.hosts };
+      lied = λ key body name w told liar h. record { holds = k.lied key body name w told liar h.holds; hosts = h.hosts };
     }
 
 verified-first : (s : Setting) → AllVerified s (begun_world s) []
@@ -347,10 +348,10 @@ unfolding begun_world
 verified-first s =
     record {
       holds = holds-first s;
-      stations = λ m. record { disk = omega arith; running = λ l none. none-some {X = Life} l none; lived = λ l none. absurd none };
+      hosts = λ m. record { disk = omega arith; running = λ l none. none-some {X = Life} l none; lived = λ l none. absurd none };
     }
 
-pub reached-verified : (s : Setting) (w : World) (told : List Told) → IsSetting s → Reached s w told → AllVerified s w told
+pub reached-verified : (s : Setting) (w : World) (told : List NodeEvent) → IsSetting s → Reached s w told → AllVerified s w told
 reached-verified s w told fits reached = keeps-reached s (AllVerified s) (verified-kept s fits) (verified-first s) w told reached
 
 -- ---- what it says
@@ -375,7 +376,7 @@ below-rises =
       later = λ kept body spent may h x i. omega (arith, h x i, next-after kept body);
     }
 
-spent-below : (s : Setting) (w : World) (told : List Told) (m : ℕ) → IsSetting s → is_node s m ≡ true → Reached s w told → IndexesBelow (w.stations m).disk.state (spent_of w (Some m))
+spent-below : (s : Setting) (w : World) (told : List NodeEvent) (m : ℕ) → IsSetting s → is_node s m ≡ true → Reached s w told → IndexesBelow (w.hosts m).disk.state (spent_of w (Some m))
 spent-below s w told m fits is reached = (keeps-reached s (Stands IndexesBelow m) (stands-kept IndexesBelow below-rises s m fits is) (stands-first IndexesBelow below-rises s m) w told reached).holds
 
 vouched-by : (s : Setting) (m : ℕ) (n : Node) (a : AccBody) (r : Record) → KeepsRoster s n → r.body ≡ Accusation a → Verified s a r → IsVouchedFor (setting_of s m) (public_key_of n a.accuser) (Accusation a)
@@ -393,13 +394,13 @@ pub record IsVouchedAt (s : Setting) (w : World) (m : ℕ) (life : Life) (place 
   pub verified : IsVouchedFor (setting_of s m) (public_key_of life.node a.accuser) (Accusation a)
   pub came : HasComeOf s w m life place a verified.witness
 
-own-vouched : (s : Setting) (w : World) (told : List Told) (m : ℕ) (life : Life) (place : ℕ) (a : AccBody) → IsSetting s → SignaturesVerify s → Reached s w told → AllVerified s w told → KeepsRoster s life.node → IsByItself s m life place a → SignedIn w.signed (Some a.accuser) (Accusation a)
+own-vouched : (s : Setting) (w : World) (told : List NodeEvent) (m : ℕ) (life : Life) (place : ℕ) (a : AccBody) → IsSetting s → SignaturesVerify s → Reached s w told → AllVerified s w told → KeepsRoster s life.node → IsByItself s m life place a → SignedIn w.signed (Some a.accuser) (Accusation a)
     → IsVouchedAt s w m life place a
 unfolding vouched-by
 own-vouched s w told m life place a fits verify reached h keeps own signed =
     let spent : In (spent_of w (Some m)) (record { index = signed.index; body = Accusation a }) = spent-in w (Some m) signed.index (Accusation a) (eq-eqb m m refl) (subst (λ z. In w.signed (record { who = Some z; index = signed.index; body = Accusation a })) own.by signed.among) in
-    let below : signed.index < (w.stations m).disk.state.next = spent-below s w told m fits own.is reached (record { index = signed.index; body = Accusation a }) spent in
-    let left : signed.index < s.indexes = omega (arith, below, (h.stations m).disk) in
+    let below : signed.index < (w.hosts m).disk.state.next = spent-below s w told m fits own.is reached (record { index = signed.index; body = Accusation a }) spent in
+    let left : signed.index < s.indexes = omega (arith, below, (h.hosts m).disk) in
     let r : Record = record_of s (record { who = Some m; index = signed.index; body = Accusation a }) in
     record {
       verified = vouched-by s m life.node a r keeps refl (record {
@@ -421,7 +422,7 @@ own-vouched s w told m life place a fits verify reached h keeps own signed =
       });
     }
 
-come-vouched : (s : Setting) (w : World) (told : List Told) (m : ℕ) (life : Life) (place : ℕ) (a : AccBody) → IsSetting s → SignaturesVerify s → Reached s w told → AllVerified s w told → KeepsRoster s life.node → ComesSigned s m w.signed [] (Accuses a) → HasCome s m life place a
+come-vouched : (s : Setting) (w : World) (told : List NodeEvent) (m : ℕ) (life : Life) (place : ℕ) (a : AccBody) → IsSetting s → SignaturesVerify s → Reached s w told → AllVerified s w told → KeepsRoster s life.node → ComesSigned s m w.signed [] (Accuses a) → HasCome s m life place a
     → IsVouchedAt s w m life place a
 unfolding vouched-by
 come-vouched s w told m life place a fits verify reached h keeps signed (inl x) = record { verified = vouched-by s m life.node a x.witness keeps x.says x.verified; came = inl x.accepted }
@@ -429,8 +430,8 @@ come-vouched s w told m life place a fits verify reached h keeps signed (inr own
     own-vouched s w told m life place a fits verify reached h keeps own (elim (signed (ap (is_node s) own.by ∙ own.is)) [ inl before ↦ before | inr now ↦ absurd now.1.among ])
 
 -- The record from which an accusation in a life has come verifies under the key of the accuser's certificate.
-pub vouched : (s : Setting) (w : World) (told : List Told) (m : ℕ) (life : Life) (place : ℕ) (a : AccBody) → IsSetting s → SignaturesVerify s → Reached s w told → AllVerified s w told → In (lives_of w m) life → slice_get life.node.lived place ≡ Some (Accuses a)
+pub vouched : (s : Setting) (w : World) (told : List NodeEvent) (m : ℕ) (life : Life) (place : ℕ) (a : AccBody) → IsSetting s → SignaturesVerify s → Reached s w told → AllVerified s w told → In (lives_of w m) life → slice_get life.node.lived place ≡ Some (Accuses a)
     → IsVouchedAt s w m life place a
 vouched s w told m life place a fits verify reached h i found =
-    let at = h.holds.stations m in
-    come-vouched s w told m life place a fits verify reached h (at.rosters life i) (at.lived life i (Accuses a) (In-at life.node.lived place (Accuses a) found)) ((h.stations m).lived life i place a found)
+    let at = h.holds.hosts m in
+    come-vouched s w told m life place a fits verify reached h (at.rosters life i) (at.lived life i (Accuses a) (In-at life.node.lived place (Accuses a) found)) ((h.hosts m).lived life i place a found)

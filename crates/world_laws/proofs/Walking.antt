@@ -19,11 +19,12 @@ use Rattle.schedule_world.specs.declared.text.WorldText.TheVariants as world
 use Rattle.schedule_world.specs.Rows.{has_node, is_body, is_ended, is_grouped, is_headed, is_roster, is_start, row_for}
 use Rattle.schedule_world.specs.Grammar.{InRange, IsWorld, Stands, after, behind, judge, opening}
 use Rattle.schedule_world.specs.Laws.{world-spelled}
+use Rattle.schedule_world.proofs.GrammarLemmas.{newcomer-in, world-in_range, world-stands}
 use Rattle.world_rules.specs.Settings.{Setting}
 use Rattle.world_rules.specs.Keys.{setting_for}
 use Rattle.world_rules.specs.Worlds.{World, begun_world}
 use Rattle.world_rules.specs.Forgeries.{Forgery}
-use Rattle.world_rules.specs.Steps.{Answer, Told, step}
+use Rattle.world_rules.specs.Steps.{Answer, NodeEvent, step}
 use Rattle.world_rules.specs.Walk.{Brought, Lists, Plays, Roster, Stage, Walk, at_end, brought, events_in, from_answer, from_line, listed, no_roster, setting_in, stepped, walk, walk_over}
 use Rattle.world_rules.specs.Laws.{IsSetting, opens_so, goes}
 use Rattle.world_laws.specs.Texts.{IsComeTo, IsLawful, IsLawfulStage, IsPlayed, TextsAreLawful, TextsComeToWorlds, end_fault, world_grammar}
@@ -88,7 +89,7 @@ header-line world.Start r stands h = h
 header-line _ r stands h = absurd (false≢true stands)
 
 group-line : (form : WorldText) (r : Roster) (g : Group) → IsTrue (is_headed form) → InRange form (lines.Group g) → Fits form r → Fits (world.Grouped g.t) (record r { group = g })
-group-line world.Headed r g stands range h = (record { nodes = h.nodes; liars = h.liars }, record { some = range.0; few = range.1 })
+group-line world.Headed r g stands range h = (record { nodes = h.nodes; liars = h.liars }, record { some = range.0.0; few = range.0.1 })
 group-line _ r g stands range h = absurd (false≢true stands)
 
 kinds-line : (form : WorldText) (r : Roster) (ots : OtsKind) (tree : TreeKind) → IsTrue (is_grouped form) → Fits form r → Fits (after form (lines.Kinds ots tree)) (record r { ots = ots; tree = tree })
@@ -104,23 +105,25 @@ kinds-line _ r ots tree stands h = absurd (false≢true stands)
 
 node-line : (form : WorldText) (r : Roster) (m : ℕ) → IsTrue (is_roster form) → InRange form (lines.Node m) → Fits form r → Fits (after form (lines.Node m)) (record r { correct = r.correct ++ m ∷ [] })
 node-line (world.Roster t names node) r m stands range h =
+    let new = newcomer-in (world.Roster t names node) m range in
     record {
       group = record { some = h.group.some; few = h.group.few };
       nodes = λ k i. elim (last-of r.correct m k i) [ inl old ↦ In-append_left names (m ∷ []) k (h.nodes k old) | inr is ↦ In-append_right names (m ∷ []) k (inl is) ];
       liars = λ k i. In-append_left names (m ∷ []) k (h.liars k i);
-      numbered = λ k i. elim (last-of r.correct m k i) [ inl old ↦ h.numbered k old | inr is ↦ omega (arith, is, range.range) ];
-      apart = λ k i j. elim (last-of r.correct m k i) [ inl old ↦ h.apart k old j | inr is ↦ range.unnamed (Contains-from_In names m (h.liars m (subst (In r.liars) (sym is) j))) ];
+      numbered = λ k i. elim (last-of r.correct m k i) [ inl old ↦ h.numbered k old | inr is ↦ omega (arith, is, new.range) ];
+      apart = λ k i j. elim (last-of r.correct m k i) [ inl old ↦ h.apart k old j | inr is ↦ new.unnamed (Contains-from_In names m (h.liars m (subst (In r.liars) (sym is) j))) ];
     }
 node-line _ r m stands range h = absurd (false≢true stands)
 
 liar-line : (form : WorldText) (r : Roster) (m : ℕ) → IsTrue (is_roster form) → InRange form (lines.Liar m) → Fits form r → Fits (after form (lines.Liar m)) (record r { liars = r.liars ++ m ∷ [] })
 liar-line (world.Roster t names node) r m stands range h =
+    let new = newcomer-in (world.Roster t names node) m range in
     record {
       group = record { some = h.group.some; few = h.group.few };
       nodes = λ k i. In-append_left names (m ∷ []) k (h.nodes k i);
       liars = λ k i. elim (last-of r.liars m k i) [ inl old ↦ In-append_left names (m ∷ []) k (h.liars k old) | inr is ↦ In-append_right names (m ∷ []) k (inl is) ];
       numbered = h.numbered;
-      apart = λ k i j. elim (last-of r.liars m k j) [ inl old ↦ h.apart k i old | inr is ↦ range.unnamed (Contains-from_In names m (h.nodes m (subst (In r.correct) (sym is) i))) ];
+      apart = λ k i j. elim (last-of r.liars m k j) [ inl old ↦ h.apart k i old | inr is ↦ new.unnamed (Contains-from_In names m (h.nodes m (subst (In r.correct) (sym is) i))) ];
     }
 liar-line _ r m stands range h = absurd (false≢true stands)
 
@@ -132,7 +135,7 @@ no-body : (form : WorldText) (r : Roster) → IsTrue (is_body form) → Fits for
 no-body (world.Body t ticks) r stands h = h
 no-body _ r stands h = absurd (false≢true stands)
 
-abbrev pub IsAt : WorldText → Stage → List Told → Type 0
+abbrev pub IsAt : WorldText → Stage → List NodeEvent → Type 0
 IsAt form (Lists r) told = Fits form r × (told ≡ [])
 IsAt form (Plays s w) told = IsPlayed s w told
 
@@ -147,7 +150,7 @@ roster-line form r l stands range h = absurd (no-body form r stands h)
 
 -- ---- a line
 
-played-step : (form : WorldText) (s : Setting) (w : World) (told : List Told) (l : WorldLine) (r : Result Answer Forgery) (b : Brought) → step s w l ≡ r → stepped s r ≡ Ok b → IsPlayed s w told → IsAt form b.stage (told ++ b.told)
+played-step : (form : WorldText) (s : Setting) (w : World) (told : List NodeEvent) (l : WorldLine) (r : Result Answer Forgery) (b : Brought) → step s w l ≡ r → stepped s r ≡ Ok b → IsPlayed s w told → IsAt form b.stage (told ++ b.told)
 played-step form s w told l (Err found) b is e h = cc
 played-step form s w told l (Ok a) b is e h =
     subst (λ (x : Brought). IsAt form x.stage (told ++ x.told)) (ok-is _ _ e)
@@ -156,11 +159,11 @@ played-step form s w told l (Ok a) b is e h =
     ok-is : (x y : Brought) → (let r : Result Brought Forgery = Ok x in r) ≡ Ok y → x ≡ y
     ok-is x y e = cc
 
-line-at : (p : Progress WorldText) (bytes : List ℕ) (l : WorldLine) (stage : Stage) (told : List Told) (b : Brought) → judge p bytes ≡ Ok l → brought setting_in stage l ≡ Ok b → IsAt p.form stage told → IsAt (behind p l).form b.stage (told ++ b.told)
+line-at : (p : Progress WorldText) (bytes : List ℕ) (l : WorldLine) (stage : Stage) (told : List NodeEvent) (b : Brought) → judge p bytes ≡ Ok l → brought setting_in stage l ≡ Ok b → IsAt p.form stage told → IsAt (behind p l).form b.stage (told ++ b.told)
 line-at p bytes l (Lists r) told b judged e h =
     let is = judge-spelled (next_line is_ended row_for p) (IsWorld p.form) (world-spelled p.form) bytes l judged in
     subst (λ (x : Brought). IsAt (after p.form l) x.stage (told ++ x.told)) (ok-is _ _ e)
-    (subst (λ xs. IsAt (after p.form l) (listed setting_in r l) (xs ++ [])) (sym h.1) (roster-line p.form r l is.spells.stands is.spells.in_range h.0))
+    (subst (λ xs. IsAt (after p.form l) (listed setting_in r l) (xs ++ [])) (sym h.1) (roster-line p.form r l (world-stands p.form (is.first ∷ is.others) l is.spells) (world-in_range p.form (is.first ∷ is.others) l is.spells) h.0))
   where
     ok-is : (x y : Brought) → (let r : Result Brought Forgery = Ok x in r) ≡ Ok y → x ≡ y
     ok-is x y e = cc
@@ -168,7 +171,7 @@ line-at p bytes l (Plays s w) told b judged e h = played-step (after p.form l) s
 
 -- ---- the walk
 
-at-come : (form : WorldText) (stage : Stage) (told : List Told) → IsAt form stage told → IsComeTo stage told
+at-come : (form : WorldText) (stage : Stage) (told : List NodeEvent) → IsAt form stage told → IsComeTo stage told
 at-come form (Lists r) told h = h.1
 at-come form (Plays s w) told h = h
 
@@ -177,25 +180,25 @@ nil-right [] = refl
 nil-right (x ∷ xs) = ap (λ ys. x ∷ ys) (nil-right xs)
 
 -- The walk ends here.
-ended : (form : WorldText) (stage : Stage) (told : List Told) → IsAt form stage told → IsComeTo stage (told ++ [])
+ended : (form : WorldText) (stage : Stage) (told : List NodeEvent) → IsAt form stage told → IsComeTo stage (told ++ [])
 ended form stage told h = subst (IsComeTo stage) (sym (nil-right told)) (at-come form stage told h)
 
-end-come : (form : WorldText) (stage : Stage) (told : List Told) (fault : Option BadWord) → IsAt form stage told → let w = at_end stage fault in IsComeTo w.stage (told ++ events_in w)
+end-come : (form : WorldText) (stage : Stage) (told : List NodeEvent) (fault : Option BadWord) → IsAt form stage told → let w = at_end stage fault in IsComeTo w.stage (told ++ events_in w)
 end-come form stage told None h = ended form stage told h
 end-come form stage told (Some bad) h = ended form stage told h
 
 -- The lines behind come to that.
 abbrev Comes : (WorldLine → List ℕ) → List (List ℕ) → Progress WorldText → Type 0
-Comes spelled rest p = (stage : Stage) (told : List Told) → IsAt p.form stage told → let w = walk (world_grammar spelled) setting_in rest p stage in IsComeTo w.stage (told ++ events_in w)
+Comes spelled rest p = (stage : Stage) (told : List NodeEvent) → IsAt p.form stage told → let w = walk (world_grammar spelled) setting_in rest p stage in IsComeTo w.stage (told ++ events_in w)
 
-answer-come : (spelled : WorldLine → List ℕ) (rest : List (List ℕ)) (p : Progress WorldText) (bytes : List ℕ) (stage : Stage) (told : List Told) (l : WorldLine) (r : Result Brought Forgery)
+answer-come : (spelled : WorldLine → List ℕ) (rest : List (List ℕ)) (p : Progress WorldText) (bytes : List ℕ) (stage : Stage) (told : List NodeEvent) (l : WorldLine) (r : Result Brought Forgery)
     → judge p bytes ≡ Ok l → brought setting_in stage l ≡ r → IsAt p.form stage told → Comes spelled rest (behind p l) → let w = from_answer stage l r (λ after. walk (world_grammar spelled) setting_in rest (behind p l) after) in IsComeTo w.stage (told ++ events_in w)
 answer-come spelled rest p bytes stage told l (Err found) judged is h later = ended p.form stage told h
 answer-come spelled rest p bytes stage told l (Ok b) judged is h later =
     let w : Walk = walk (world_grammar spelled) setting_in rest (behind p l) b.stage in
     subst (IsComeTo w.stage) (append_assoc told b.told (events_in w)) (later b.stage (told ++ b.told) (line-at p bytes l stage told b judged is h))
 
-line-come : (spelled : WorldLine → List ℕ) (rest : List (List ℕ)) (p : Progress WorldText) (bytes : List ℕ) (stage : Stage) (told : List Told) (r : Result WorldLine BadWord)
+line-come : (spelled : WorldLine → List ℕ) (rest : List (List ℕ)) (p : Progress WorldText) (bytes : List ℕ) (stage : Stage) (told : List NodeEvent) (r : Result WorldLine BadWord)
     → judge p bytes ≡ r → IsAt p.form stage told → ((l : WorldLine) → Comes spelled rest (behind p l)) → let w = from_line setting_in stage r (λ l after. walk (world_grammar spelled) setting_in rest (behind p l) after) in IsComeTo w.stage (told ++ events_in w)
 line-come spelled rest p bytes stage told (Err bad) is h later = ended p.form stage told h
 line-come spelled rest p bytes stage told (Ok l) is h later = answer-come spelled rest p bytes stage told l (brought setting_in stage l) is refl h (later l)
@@ -209,7 +212,7 @@ texts-come spelled text = walk-come spelled text opening (Lists no_roster) [] (r
 
 -- ---- what holds of it
 
-played-lawful : (s : Setting) (w : World) (told : List Told) → IsPlayed s w told → IsLawful s w told
+played-lawful : (s : Setting) (w : World) (told : List NodeEvent) → IsPlayed s w told → IsLawful s w told
 played-lawful s w told h =
     let accepted = accepted-signed s w told h.fits h.reached in
     record {
@@ -232,7 +235,7 @@ played-lawful s w told h =
       accepted = accepted.1;
     }
 
-come-lawful : (stage : Stage) (told : List Told) → IsComeTo stage told → IsLawfulStage stage told
+come-lawful : (stage : Stage) (told : List NodeEvent) → IsComeTo stage told → IsLawfulStage stage told
 come-lawful (Lists r) told h = h
 come-lawful (Plays s w) told h = played-lawful s w told h
 

@@ -1,4 +1,4 @@
--- What was told of spending and sending is all that was spent and sent.
+-- What was reported of spending and sending is all that was spent and sent.
 use Rattle.std.proofs.Common.{◌≡◌, ℕ, ◌+◌, ◌<◌, Bool, true, false, eqb, cond, List, [], ◌∷◌, ◌++◌, length, Some, None, inl, inr, refl, ap, sym, ◌∙◌, subst, map, filter, arith}
 use Rattle.std.specs.Prelude.{filter_map, fold}
 use Rattle.std.specs.List.{cons_option, AllByRecursion}
@@ -25,7 +25,7 @@ use Rattle.node_rules.proofs.Sendings.{called-sendings}
 use Rattle.world_rules.specs.Settings.{Setting, Signed, by_authority, certificate, certificates, certified_from, is_liar, is_node, members, setting_of}
 use Rattle.world_rules.specs.Calls.{OnDisk, called_on}
 use Rattle.world_rules.specs.Worlds.{World, begun_world, spent_if_by, spent_of}
-use Rattle.world_rules.specs.Steps.{Told, first_call, numbered_from, signed_if_spent, signed_in, told_in}
+use Rattle.world_rules.specs.Steps.{NodeEvent, first_call, numbered_from, signed_if_spent, signed_in, told_in}
 use Rattle.world_rules.specs.Laws.{IsSetting}
 use Rattle.world_rules.proofs.OnDisks.{other}
 use Rattle.world_rules.proofs.SoFar.{come-so-far}
@@ -39,7 +39,7 @@ neither : {X : Type 0} (b : Bool) (xs : List X) → cons_option (cond b None Non
 neither true xs = refl
 neither false xs = refl
 
-one-told : (m k before moment : ℕ) (what : whats.What) (rest : List Told) (signed : List Signed) → filter_map (spent_if_told m) rest ≡ filter_map (spent_if_by (Some m)) signed
+one-told : (m k before moment : ℕ) (what : whats.What) (rest : List NodeEvent) (signed : List Signed) → filter_map (spent_if_told m) rest ≡ filter_map (spent_if_by (Some m)) signed
     → filter_map (spent_if_told m) (record { who = k; event = record { moment = moment; what = numbered_from before what } } ∷ rest) ≡ filter_map (spent_if_by (Some m)) (cons_option (signed_if_spent k what) signed)
 one-told m k before moment (happened.Spent index body) rest signed h = ap (λ xs. cons_option (cond (eqb k m) (Some (record { index = index; body = body })) None) xs) h
 one-told m k before moment _ rest signed h = neither (eqb k m) (filter_map (spent_if_told m) rest) ∙ h
@@ -48,8 +48,8 @@ told-spent : (m k before : ℕ) (events : List journal.Event) → filter_map (sp
 told-spent m k before [] = refl
 told-spent m k before (e ∷ events) = one-told m k before e.moment e.what (told_in k before events) (signed_in k events) (told-spent m k before events)
 
--- Both grow by what a call tells.
-spent-more : (m k before : ℕ) (signed : List Signed) (told : List Told) (events : List journal.Event) → filter_map (spent_if_told m) told ≡ filter_map (spent_if_by (Some m)) signed
+-- Both grow by what a call reports.
+spent-more : (m k before : ℕ) (signed : List Signed) (told : List NodeEvent) (events : List journal.Event) → filter_map (spent_if_told m) told ≡ filter_map (spent_if_by (Some m)) signed
     → filter_map (spent_if_told m) (told ++ told_in k before events) ≡ filter_map (spent_if_by (Some m)) (signed ++ signed_in k events)
 spent-more m k before signed told events h =
     filter_map-append (spent_if_told m) told (told_in k before events) ∙ ap (λ xs. xs ++ filter_map (spent_if_told m) (told_in k before events)) h
@@ -66,9 +66,9 @@ spending-kept : (s : Setting) (m : ℕ) → IsSetting s → is_node s m ≡ true
 spending-kept s m fits is =
     record {
       called = λ k i life c running free h.
-          let d : OnDisk = called_on (setting_of s k) life.node i (c.world.stations k).disk in
+          let d : OnDisk = called_on (setting_of s k) life.node i (c.world.hosts k).disk in
           spent-more m k (length c.world.sent) c.world.signed c.told d.call.told h;
-      began = λ k d c it idle left same h. spent-more m k (length c.world.sent) c.world.signed c.told (first_call s k (c.world.stations k).disk.state).told h;
+      began = λ k d c it idle left same h. spent-more m k (length c.world.sent) c.world.signed c.told (first_call s k (c.world.hosts k).disk.state).told h;
       tried = λ k d w told idle left may h. h;
       disked = λ k d w told same h. h;
       ended = λ k life w told running h. h;
@@ -88,13 +88,13 @@ spending-told s w told m fits reached is = keeps-reached s (λ w told. IsSpentAs
 
 -- ---- sending
 
-abbrev sent_in : List Told → List whats.What
+abbrev sent_in : List NodeEvent → List whats.What
 sent_in told = map (λ t. t.event.what) (filter (λ t. is_sent t.event.what) told)
 
-sent-append : (xs ys : List Told) → sent_in (xs ++ ys) ≡ sent_in xs ++ sent_in ys
+sent-append : (xs ys : List NodeEvent) → sent_in (xs ++ ys) ≡ sent_in xs ++ sent_in ys
 sent-append xs ys =
-    ap (map (λ (t : Told). t.event.what)) (filter-append (λ (t : Told). is_sent t.event.what) xs ys)
-    ∙ map-append (λ (t : Told). t.event.what) (filter (λ (t : Told). is_sent t.event.what) xs) (filter (λ (t : Told). is_sent t.event.what) ys)
+    ap (map (λ (t : NodeEvent). t.event.what)) (filter-append (λ (t : NodeEvent). is_sent t.event.what) xs ys)
+    ∙ map-append (λ (t : NodeEvent). t.event.what) (filter (λ (t : NodeEvent). is_sent t.event.what) xs) (filter (λ (t : NodeEvent). is_sent t.event.what) ys)
 
 numbered-sent : (before : ℕ) (what : whats.What) → is_sent (numbered_from before what) ≡ is_sent what
 numbered-sent before (happened.Sent number to bytes) = refl
@@ -120,14 +120,14 @@ sendings-append place (x ∷ xs) ys =
     let next : place + 1 + length xs ≡ place + length (x ∷ xs) = omega arith in
     ap (λ (zs : List whats.What). happened.Sent place x.0 x.1 ∷ zs) (sendings-append (place + 1) xs ys ∙ ap (λ k. sendings (place + 1) xs ++ sendings k ys) next)
 
-sent-more : (k : ℕ) (sent : List (ℕ × List ℕ)) (told : List Told) (c : Call) → TellsSendings c → sent_in told ≡ sendings 0 sent → sent_in (told ++ told_in k (length sent) c.told) ≡ sendings 0 (sent ++ c.sent)
+sent-more : (k : ℕ) (sent : List (ℕ × List ℕ)) (told : List NodeEvent) (c : Call) → TellsSendings c → sent_in told ≡ sendings 0 sent → sent_in (told ++ told_in k (length sent) c.told) ≡ sendings 0 (sent ++ c.sent)
 sent-more k sent told c tells h =
     let first : length sent + 0 ≡ 0 + length sent = omega arith in
     sent-append told (told_in k (length sent) c.told) ∙ ap (λ xs. xs ++ sent_in (told_in k (length sent) c.told)) h
     ∙ ap (λ xs. sendings 0 sent ++ xs) (told-sent k (length sent) c.told ∙ ap (map (numbered_from (length sent))) tells ∙ numbered-sendings (length sent) 0 c.sent ∙ ap (λ n. sendings n c.sent) first)
     ∙ sym (sendings-append 0 sent c.sent)
 
--- Nothing was sent so far, or told as sent.
+-- Nothing was sent so far, or reported as sent.
 record SendsNothing (c : Call) : Type 0 where
   told : told_that is_sent c ≡ []
   sent : c.sent ≡ []
@@ -172,11 +172,11 @@ sending-kept s =
     record {
       called = λ k i life c running free h.
           let own : node.Setting = setting_of s k in
-          let d : OnDisk = called_on own life.node i (c.world.stations k).disk in
-          let it = come-so-far own life.node i (c.world.stations k).disk in
+          let d : OnDisk = called_on own life.node i (c.world.hosts k).disk in
+          let it = come-so-far own life.node i (c.world.hosts k).disk in
           sent-more k c.world.sent c.told d.call (subst TellsSendings (sym it.1) (called-sendings own life.node i it.0)) h;
       began = λ k d c it idle left same h.
-          let kept : Stored = (c.world.stations k).disk.state in
+          let kept : Stored = (c.world.hosts k).disk.state in
           sent-more k c.world.sent c.told (first_call s k kept) (started-sendings (setting_of s k) (s.nonces k kept.next) (certificates s) kept) h;
       tried = λ k d w told idle left may h. h;
       disked = λ k d w told same h. h;
@@ -195,7 +195,7 @@ sending-told s w told reached = keeps-reached s IsSentAsTold (sending-kept s) (s
 
 -- ---- the authority
 
-abbrev Issues : Setting → World → List Told → Type 0
+abbrev Issues : Setting → World → List NodeEvent → Type 0
 Issues s w told = spent_of w None ≡ map spent_as (by_authority s)
 
 no-issue : (k : ℕ) (what : whats.What) (signed : List Signed) → filter_map (spent_if_by None) (cons_option (signed_if_spent k what) signed) ≡ filter_map (spent_if_by None) signed
@@ -206,15 +206,15 @@ none-issued : (k : ℕ) (events : List journal.Event) → filter_map (spent_if_b
 none-issued k [] = refl
 none-issued k (e ∷ events) = no-issue k e.what (signed_in k events) ∙ none-issued k events
 
-issues-more : (s : Setting) (k : ℕ) (w : World) (told : List Told) (events : List journal.Event) → Issues s w told → filter_map (spent_if_by None) (w.signed ++ signed_in k events) ≡ map spent_as (by_authority s)
+issues-more : (s : Setting) (k : ℕ) (w : World) (told : List NodeEvent) (events : List journal.Event) → Issues s w told → filter_map (spent_if_by None) (w.signed ++ signed_in k events) ≡ map spent_as (by_authority s)
 issues-more s k w told events h =
     filter_map-append (spent_if_by None) w.signed (signed_in k events) ∙ ap (λ xs. spent_of w None ++ xs) (none-issued k events) ∙ nil-right (spent_of w None) ∙ h
 
 issues-kept : (s : Setting) → Keeps s (Issues s)
 issues-kept s =
     record {
-      called = λ k i life c running free h. issues-more s k c.world c.told (called_on (setting_of s k) life.node i (c.world.stations k).disk).call.told h;
-      began = λ k d c it idle left same h. issues-more s k c.world c.told (first_call s k (c.world.stations k).disk.state).told h;
+      called = λ k i life c running free h. issues-more s k c.world c.told (called_on (setting_of s k) life.node i (c.world.hosts k).disk).call.told h;
+      began = λ k d c it idle left same h. issues-more s k c.world c.told (first_call s k (c.world.hosts k).disk.state).told h;
       tried = λ k d w told idle left may h. h;
       disked = λ k d w told same h. h;
       ended = λ k life w told running h. h;

@@ -1,4 +1,4 @@
--- What is told as handed over, and that flows take each datagram once, in order.
+-- What is reported as handed over, and that flows take each datagram once, in order.
 use Rattle.std.specs.Prelude.{◌≡◌, ℕ, ◌+◌, ◌<◌, ◌≤◌, Bool, true, false, if◌then◌else◌, List, [], length, Option, Some, None, Ok, filter_map, flat_map, map}
 use Rattle.std.specs.List.{AllByRecursion, slice_get}
 use Rattle.signer.specs.Lives.{IsRising}
@@ -8,11 +8,11 @@ use Rattle.schedule_world.specs.declared.line.WorldLine.{WorldLine}
 use Rattle.schedule_world.specs.declared.line.WorldLine.TheVariants as lines
 use Rattle.world_rules.specs.Settings.{Setting}
 use Rattle.world_rules.specs.Worlds.{World}
-use Rattle.world_rules.specs.Steps.{Answer, Told, step}
+use Rattle.world_rules.specs.Steps.{Answer, NodeEvent, step}
 use Rattle.world_rules.specs.Walk.{Taken}
 use Rattle.world_rules.specs.Laws.{Reached}
 
--- Which datagram is told as handed over, by its number, and to whom.
+-- Which datagram is reported as handed over, by its number, and to whom.
 pub record Handed : Type 0 where
   pub who : ℕ
   pub number : ℕ
@@ -21,7 +21,7 @@ abbrev pub got_in : ℕ → whats.What → Option Handed
 got_in who (happened.Got number) = Some (record { who = who; number = number })
 got_in who what = None
 
-abbrev pub handed_over : List Told → List Handed
+abbrev pub handed_over : List NodeEvent → List Handed
 handed_over told = filter_map (λ t. got_in t.who t.event.what) told
 
 abbrev pub numbers_of : List Handed → List ℕ
@@ -36,19 +36,19 @@ pub record IsSentThere (w : World) (h : Handed) : Type 0 where
   pub bytes : List ℕ
   pub sent : slice_get w.sent h.number ≡ Some (h.who, bytes)
 
--- Whatever is told as handed over was sent, and flows took no more datagrams than were sent.
-pub record HandsOverSent (w : World) (told : List Told) : Type 0 where
+-- Whatever is reported as handed over was sent, and flows took no more datagrams than were sent.
+pub record HandsOverSent (w : World) (told : List NodeEvent) : Type 0 where
   pub sent : AllByRecursion (IsSent w) (handed_over told)
   pub flowed : w.flowed ≤ length w.sent
 
 abbrev pub OnlySentIsHandedOver : Type 0
-OnlySentIsHandedOver = (s : Setting) (w : World) (told : List Told) → Reached s w told → HandsOverSent w told
+OnlySentIsHandedOver = (s : Setting) (w : World) (told : List NodeEvent) → Reached s w told → HandsOverSent w told
 
 -- ---- flows
 
 -- A flow of at most so many takes datagrams from the first that none has taken, one after another: as many, or all that
 -- were sent, also meanwhile. What it hands over is among these, in order, each to its addressee.
-pub record FlowsOn (most : ℕ) (w v : World) (told : List Told) : Type 0 where
+pub record FlowsOn (most : ℕ) (w v : World) (told : List NodeEvent) : Type 0 where
   pub taken : ℕ
   pub until : v.flowed ≡ w.flowed + taken
   pub few : taken ≤ most

@@ -18,7 +18,7 @@ use Rattle.node_rules.specs.Vouching.{IsVouchedFor}
 use Rattle.world_rules.specs.Settings.{Owner, Setting, is_node, record_of, setting_of}
 use Rattle.world_rules.specs.Keys.{setting_for}
 use Rattle.world_rules.specs.Worlds.{Life, World, lives_of}
-use Rattle.world_rules.specs.Steps.{Told}
+use Rattle.world_rules.specs.Steps.{NodeEvent}
 use Rattle.world_rules.specs.Laws.{IsSetting, Reached}
 use Rattle.world_laws.specs.Signing.{KeepsRoster, HasSpentOn, HasEnabled, SignedAtTick, WasSigned}
 use Rattle.world_laws.specs.Origins.{HasComeOf}
@@ -27,7 +27,7 @@ use Rattle.world_laws.specs.Origins.{HasComeOf}
 
 -- In every life a node keeps the authority's certificates of the members, and no others.
 abbrev pub RostersAreKept : Type 0
-RostersAreKept = (s : Setting) (w : World) (told : List Told) (who : ℕ) → IsSetting s → Reached s w told → AllByRecursion (λ life. KeepsRoster s life.node) (lives_of w who)
+RostersAreKept = (s : Setting) (w : World) (told : List NodeEvent) (who : ℕ) → IsSetting s → Reached s w told → AllByRecursion (λ life. KeepsRoster s life.node) (lives_of w who)
 
 -- ---- own notes
 
@@ -38,7 +38,7 @@ is_own_ahead what = false
 
 -- No verdict says that a note is ahead of the node's own.
 abbrev pub OwnAheadNeverComes : Type 0
-OwnAheadNeverComes = (s : Setting) (w : World) (told : List Told) → IsSetting s → Reached s w told → AllByRecursion (λ t. is_own_ahead t.event.what ≡ false) told
+OwnAheadNeverComes = (s : Setting) (w : World) (told : List NodeEvent) → IsSetting s → Reached s w told → AllByRecursion (λ t. is_own_ahead t.event.what ≡ false) told
 
 -- ---- removals
 
@@ -57,14 +57,14 @@ RemovesRightly s w life = (j m : ℕ) → j < length life.node.lived → IsRemov
 
 -- Each node that is removed from a view had itself signed the note of the accusation's epoch, with its ring enabled.
 abbrev pub TheRemovedHadSigned : Type 0
-TheRemovedHadSigned = (s : Setting) (w : World) (told : List Told) (who : ℕ) → IsSetting s → Reached s w told → AllByRecursion (RemovesRightly s w) (lives_of w who)
+TheRemovedHadSigned = (s : Setting) (w : World) (told : List NodeEvent) (who : ℕ) → IsSetting s → Reached s w told → AllByRecursion (RemovesRightly s w) (lives_of w who)
 
 -- ---- accusations
 
 -- Each accusation that a node's key has signed names the node as its accuser, and was signed at a tick of one of its
 -- lives at which the accused was silent.
 abbrev pub NodesAccuseTheSilent : Type 0
-NodesAccuseTheSilent = (s : Setting) (w : World) (told : List Told) (m index : ℕ) (a : AccBody) → IsSetting s → Reached s w told → is_node s m ≡ true
+NodesAccuseTheSilent = (s : Setting) (w : World) (told : List NodeEvent) (m index : ℕ) (a : AccBody) → IsSetting s → Reached s w told → is_node s m ≡ true
     → HasSpentOn w (Some m) index (Accusation a) → (a.accuser ≡ m) × SignedAtTick s w index a
 
 -- An accusation of a node's comes of its own signature.
@@ -80,12 +80,12 @@ AcceptsRightly s w (happened.Took (Accusation a) None) = IsOfItsAccuser s w a
 AcceptsRightly s w what = Unit {0}
 
 -- Each accusation of a node's that is accepted in any life, own ones included, was so signed; also where only its
--- acceptance is told.
+-- acceptance is reported.
 abbrev pub AcceptedAccusationsWereSigned : Type 0
-AcceptedAccusationsWereSigned = (s : Setting) (w : World) (told : List Told) → IsSetting s → Reached s w told
+AcceptedAccusationsWereSigned = (s : Setting) (w : World) (told : List NodeEvent) → IsSetting s → Reached s w told
     → ((who : ℕ) → AllByRecursion (λ life. AllByRecursion (AccusesRightly s w) life.node.lived) (lives_of w who)) × AllByRecursion (λ t. AcceptsRightly s w t.event.what) told
 
--- ---- removals that are told
+-- ---- removals that are reported
 
 -- What is signed with a key at one of its indexes verifies under it.
 abbrev pub SignaturesVerify : Setting → Type 0
@@ -109,11 +109,11 @@ abbrev pub RemovesVerified : Setting → World → ℕ → Life → Type 0
 RemovesVerified s w who life = (j m : ℕ) → j < length life.node.lived → IsRemovedAt s.group (opening []) life.node.lived j m → RestsOnVerified s w who life j m
 
 abbrev pub RemovalsAreVerified : Type 0
-RemovalsAreVerified = (s : Setting) (w : World) (told : List Told) (who : ℕ) → IsSetting s → SignaturesVerify s → Reached s w told → AllByRecursion (RemovesVerified s w who) (lives_of w who)
+RemovalsAreVerified = (s : Setting) (w : World) (told : List NodeEvent) (who : ℕ) → IsSetting s → SignaturesVerify s → Reached s w told → AllByRecursion (RemovesVerified s w who) (lives_of w who)
 
--- What is told of the member is its removal at a place of one of the node's lives, which has the told moment behind it;
+-- What is reported of the member is its removal at a place of one of the node's lives, which has the reported moment behind it;
 -- and that rests on such a record.
-pub record IsVerifiedRemoval (s : Setting) (w : World) (t : Told) (m : ℕ) : Type 0 where
+pub record IsVerifiedRemoval (s : Setting) (w : World) (t : NodeEvent) (m : ℕ) : Type 0 where
   pub life : Life
   pub lived : Contains (lives_of w t.who) life
   pub place : ℕ
@@ -123,4 +123,4 @@ pub record IsVerifiedRemoval (s : Setting) (w : World) (t : Told) (m : ℕ) : Ty
   pub rests : RestsOnVerified s w t.who life place m
 
 abbrev pub ToldRemovalsAreVerified : Type 0
-ToldRemovalsAreVerified = (s : Setting) (w : World) (told : List Told) (t : Told) (m : ℕ) → IsSetting s → SignaturesVerify s → Reached s w told → Contains told t → t.event.what ≡ happened.Removed m → IsVerifiedRemoval s w t m
+ToldRemovalsAreVerified = (s : Setting) (w : World) (told : List NodeEvent) (t : NodeEvent) (m : ℕ) → IsSetting s → SignaturesVerify s → Reached s w told → Contains told t → t.event.what ≡ happened.Removed m → IsVerifiedRemoval s w t m

@@ -50,7 +50,7 @@ pub record HasEnabled (w : World) (a : AccBody) : Type 0 where
 abbrev pub node_after : Setting → ℕ → Stored → List Input → node.Node
 node_after s m found inputs = life_of (setting_of s m) (s.nonces m found.next) (certificates s) found inputs
 
--- The call tells that this index was spent on the body.
+-- The call reports that this index was spent on the body.
 abbrev pub TellsSpent : Call → ℕ → Body → Type 0
 TellsSpent c index body = (moment : ℕ) × Contains c.told (record { moment = moment; what = told.Spent index body })
 

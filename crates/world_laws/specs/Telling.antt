@@ -1,4 +1,4 @@
--- What was told of spending, sending and accepting is all that was spent, sent and accepted.
+-- What was reported of spending, sending and accepting is all that was spent, sent and accepted.
 use Rattle.std.specs.Prelude.{◌≡◌, ℕ, true, ◌==◌, if◌then◌else◌, List, Option, Some, None, filter, filter_map, flat_map, map}
 use Rattle.ff_ids.specs.Steps.{Event, Notes, Accuses}
 use Rattle.records.specs.declared.Body.{Body}
@@ -9,34 +9,34 @@ use Rattle.journal.specs.declared.event.What.TheVariants as happened
 use Rattle.node_rules.specs.Sending.{is_sent, sendings}
 use Rattle.world_rules.specs.Settings.{Setting, Signed, by_authority, is_node}
 use Rattle.world_rules.specs.Worlds.{World, lives_of, spent_of}
-use Rattle.world_rules.specs.Steps.{Told}
+use Rattle.world_rules.specs.Steps.{NodeEvent}
 use Rattle.world_rules.specs.Laws.{IsSetting, Reached}
 
 -- ---- what is spent
 
--- What an event tells as spent.
+-- What an event reports as spent.
 abbrev pub spent_in : whats.What → Option Spent
 spent_in (happened.Spent index body) = Some (record { index = index; body = body })
 spent_in what = None
 
-abbrev pub spent_if_told : ℕ → Told → Option Spent
+abbrev pub spent_if_told : ℕ → NodeEvent → Option Spent
 spent_if_told m t = if t.who == m then spent_in t.event.what else None
 
--- What was told of a node as spent, in order over all its lives, is what its key has spent.
-abbrev pub IsSpentAsTold : World → List Told → ℕ → Type 0
+-- What was reported of a node as spent, in order over all its lives, is what its key has spent.
+abbrev pub IsSpentAsTold : World → List NodeEvent → ℕ → Type 0
 IsSpentAsTold w told m = filter_map (spent_if_told m) told ≡ spent_of w (Some m)
 
 abbrev pub SpendingIsTold : Type 0
-SpendingIsTold = (s : Setting) (w : World) (told : List Told) (m : ℕ) → IsSetting s → Reached s w told → is_node s m ≡ true → IsSpentAsTold w told m
+SpendingIsTold = (s : Setting) (w : World) (told : List NodeEvent) (m : ℕ) → IsSetting s → Reached s w told → is_node s m ≡ true → IsSpentAsTold w told m
 
 -- ---- what is sent
 
--- What was told as sent, whoever sent it, is all datagrams in order, each with its number, from 0 on.
-abbrev pub IsSentAsTold : World → List Told → Type 0
+-- What was reported as sent, whoever sent it, is all datagrams in order, each with its number, from 0 on.
+abbrev pub IsSentAsTold : World → List NodeEvent → Type 0
 IsSentAsTold w told = map (λ t. t.event.what) (filter (λ t. is_sent t.event.what) told) ≡ sendings 0 w.sent
 
 abbrev pub SendingIsTold : Type 0
-SendingIsTold = (s : Setting) (w : World) (told : List Told) → Reached s w told → IsSentAsTold w told
+SendingIsTold = (s : Setting) (w : World) (told : List NodeEvent) → Reached s w told → IsSentAsTold w told
 
 -- ---- what comes into lives
 
@@ -50,21 +50,21 @@ abbrev pub statement : Body → Option Body
 statement (Certificate c) = None
 statement body = Some body
 
--- The note or the accusation that is told as accepted, or as the node's own.
+-- The note or the accusation that is reported as accepted, or as the node's own.
 abbrev pub took_in : whats.What → Option Body
 took_in (happened.Took body None) = statement body
 took_in (happened.Spent index body) = statement body
 took_in what = None
 
-abbrev pub took_if_told : ℕ → Told → Option Body
+abbrev pub took_if_told : ℕ → NodeEvent → Option Body
 took_if_told m t = if t.who == m then took_in t.event.what else None
 
--- What was told of a node as accepted or as its own, in order, is what came into its lives, one after another.
-abbrev pub IsLivedAsTold : World → List Told → ℕ → Type 0
+-- What was reported of a node as accepted or as its own, in order, is what came into its lives, one after another.
+abbrev pub IsLivedAsTold : World → List NodeEvent → ℕ → Type 0
 IsLivedAsTold w told m = filter_map (took_if_told m) told ≡ flat_map (λ life. filter_map said_in life.node.lived) (lives_of w m)
 
 abbrev pub AcceptedIsLived : Type 0
-AcceptedIsLived = (s : Setting) (w : World) (told : List Told) (m : ℕ) → Reached s w told → IsLivedAsTold w told m
+AcceptedIsLived = (s : Setting) (w : World) (told : List NodeEvent) (m : ℕ) → Reached s w told → IsLivedAsTold w told m
 
 -- ---- what the authority has signed
 
@@ -77,4 +77,4 @@ pub record IsIssued (s : Setting) (w : World) : Type 0 where
   pub once : IsOnce (spent_of w None)
 
 abbrev pub AuthoritySpendsOnce : Type 0
-AuthoritySpendsOnce = (s : Setting) (w : World) (told : List Told) → Reached s w told → IsIssued s w
+AuthoritySpendsOnce = (s : Setting) (w : World) (told : List NodeEvent) → Reached s w told → IsIssued s w

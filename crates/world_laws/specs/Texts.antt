@@ -15,7 +15,7 @@ use Rattle.schedule_world.specs.Grammar.{behind, judge, opening}
 use Rattle.world_rules.specs.Settings.{Setting, is_node}
 use Rattle.world_rules.specs.Worlds.{World, lives_of, spent_of}
 use Rattle.world_rules.specs.Forgeries.{Forgery}
-use Rattle.world_rules.specs.Steps.{Told, step}
+use Rattle.world_rules.specs.Steps.{NodeEvent, step}
 use Rattle.world_rules.specs.Walk.{Forged, Grammar, Stage, Lists, Plays, events_in, setting_in, walk_over}
 use Rattle.world_rules.specs.Laws.{IsSetting, Reached, TellsLives}
 use Rattle.world_laws.specs.Signing.{HasSpentOn, KeepsRoster, SignedAtTick}
@@ -35,13 +35,13 @@ world_grammar spelled = record { start = opening; behind = behind; judge = judge
 
 -- The world has a setting, under whose keys verifies what is signed with them; and lines lead to it, none of which is
 -- forged, with these events on the way.
-pub record IsPlayed (s : Setting) (w : World) (told : List Told) : Type 0 where
+pub record IsPlayed (s : Setting) (w : World) (told : List NodeEvent) : Type 0 where
   pub fits : IsSetting s
   pub verify : SignaturesVerify s
   pub reached : Reached s w told
 
--- What has come of a text is such a world; or it is a roster, and nothing was told.
-abbrev pub IsComeTo : Stage → List Told → Type 0
+-- What has come of a text is such a world; or it is a roster, and nothing was reported.
+abbrev pub IsComeTo : Stage → List NodeEvent → Type 0
 IsComeTo (Lists roster) told = told ≡ []
 IsComeTo (Plays s w) told = IsPlayed s w told
 
@@ -51,22 +51,22 @@ TextsComeToWorlds = (spelled : WorldLine → List ℕ) (text : List (List ℕ)) 
 
 -- ---- what holds of all of them
 
--- What was told of each node's view is what its lives tell, one after another; the notes and accusations that were told of
--- it as accepted or as its own are those that came into its lives, in order; what was told of it as spent is what its key
--- has spent, in order; what was told as sent is all datagrams, each with its number; and what was told as handed over is
+-- What was reported of each node's view is what its lives report, one after another; the notes and accusations that were reported of
+-- it as accepted or as its own are those that came into its lives, in order; what was reported of it as spent is what its key
+-- has spent, in order; what was reported as sent is all datagrams, each with its number; and what was reported as handed over is
 -- among these.
 --
 -- Each removal in a life rests on an accusation that stood for the timeout, and the record that the node accepted of it, or
 -- made of it, verifies under the key of the accuser's certificate. The certificates that a node keeps are the authority's.
--- Each removal that was told is one of these, at the told moment. What each node's key spent, over all its lives, rises
+-- Each removal that was reported is one of these, at the reported moment. What each node's key spent, over all its lives, rises
 -- in index and, for notes, in epoch; and the authority's key has spent an index on each member's certificate alone. No
--- verdict told that a note was ahead of a node's own. Behind an accepted note nothing that it answers expires unless it
--- is accepted again, nothing older is accepted, and each expiry that was told is one in a life.
+-- verdict reported that a note was ahead of a node's own. Behind an accepted note nothing that it answers expires unless it
+-- is accepted again, nothing older is accepted, and each expiry that was reported is one in a life.
 --
 -- Where a node was removed anywhere, it had itself signed the note of the accusation's epoch with the accusation's ring
 -- enabled. And each accusation of a node's, signed by it or accepted by anyone, was signed by it at a tick at which the
 -- accused was silent there.
-pub record IsLawful (s : Setting) (w : World) (told : List Told) : Type 0 where
+pub record IsLawful (s : Setting) (w : World) (told : List NodeEvent) : Type 0 where
   pub lives : (m : ℕ) → TellsLives s w told m
   pub living : (m : ℕ) → IsLivedAsTold w told m
   pub spending : (m : ℕ) → is_node s m ≡ true → IsSpentAsTold w told m
@@ -74,18 +74,18 @@ pub record IsLawful (s : Setting) (w : World) (told : List Told) : Type 0 where
   pub handing : HandsOverSent w told
   pub rosters : (who : ℕ) → AllByRecursion (λ life. KeepsRoster s life.node) (lives_of w who)
   pub verified : (who : ℕ) → AllByRecursion (RemovesVerified s w who) (lives_of w who)
-  pub removals : (t : Told) (m : ℕ) → Contains told t → t.event.what ≡ happened.Removed m → IsVerifiedRemoval s w t m
+  pub removals : (t : NodeEvent) (m : ℕ) → Contains told t → t.event.what ≡ happened.Removed m → IsVerifiedRemoval s w t m
   pub once : (m : ℕ) → is_node s m ≡ true → IsOnce (spent_of w (Some m))
   pub issued : IsIssued s w
   pub none_ahead : AllByRecursion (λ t. is_own_ahead t.event.what ≡ false) told
   pub answers : (who : ℕ) → AllByRecursion (AnswersHold s) (lives_of w who)
-  pub expiries : (t : Told) (a : AccBody) → Contains told t → t.event.what ≡ happened.Expired a → IsExpiryInLife s w t a
+  pub expiries : (t : NodeEvent) (a : AccBody) → Contains told t → t.event.what ≡ happened.Expired a → IsExpiryInLife s w t a
   pub had_signed : (who : ℕ) → AllByRecursion (RemovesRightly s w) (lives_of w who)
   pub signed : (m index : ℕ) (a : AccBody) → is_node s m ≡ true → HasSpentOn w (Some m) index (Accusation a) → (a.accuser ≡ m) × SignedAtTick s w index a
   pub lived : (who : ℕ) → AllByRecursion (λ life. AllByRecursion (AccusesRightly s w) life.node.lived) (lives_of w who)
   pub accepted : AllByRecursion (λ t. AcceptsRightly s w t.event.what) told
 
-abbrev pub IsLawfulStage : Stage → List Told → Type 0
+abbrev pub IsLawfulStage : Stage → List NodeEvent → Type 0
 IsLawfulStage (Lists roster) told = told ≡ []
 IsLawfulStage (Plays s w) told = IsLawful s w told
 

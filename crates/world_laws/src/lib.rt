@@ -16,7 +16,7 @@ pub fn rosters_are_kept()
     ensures { RostersAreKept }
 {}
 
-/// No verdict that is told refuses a record as a note of the node's own that is ahead of its newest.
+/// No verdict that is reported refuses a record as a note of the node's own that is ahead of its newest.
 pub fn own_ahead_never_comes()
     ensures { OwnAheadNeverComes }
 {}
@@ -44,29 +44,29 @@ pub fn keys_verify()
 /// of the member, and stood so and unanswered for the timeout. The record of it verifies under the key of the accuser's
 /// certificate, as the node keeps it: the one of a delivered datagram that the node accepted there; or, where the node came
 /// to accuse there itself, at a tick, one with the signature of an index that its key spent on the accusation. And each
-/// removal that is told of a node is one of these, at a place that has the told moment behind it.
+/// removal that is reported of a node is one of these, at a place that has the reported moment behind it.
 pub fn removals_are_verified()
     ensures lived { RemovalsAreVerified }
     ensures told { ToldRemovalsAreVerified }
 {}
 
-/// What is told as spent by a node, in order over all its lives, is what its key has spent.
+/// What is reported as spent by a node, in order over all its lives, is what its key has spent.
 pub fn spending_is_told()
     ensures { SpendingIsTold }
 {}
 
-/// What is told as sent is the list of all datagrams, each with its number there, counted from 0.
+/// What is reported as sent is the list of all datagrams, each with its number there, counted from 0.
 pub fn sending_is_told()
     ensures { SendingIsTold }
 {}
 
-/// The notes and accusations that are told of a node as accepted, or as its own, are in this order those that came into its
+/// The notes and accusations that are reported of a node as accepted, or as its own, are in this order those that came into its
 /// lives, one life after another.
 pub fn what_is_accepted_is_lived()
     ensures { AcceptedIsLived }
 {}
 
-/// Each datagram that is told as handed over was sent, and flows took no more datagrams than were sent.
+/// Each datagram that is reported as handed over was sent, and flows took no more datagrams than were sent.
 pub fn only_sent_is_handed_over()
     ensures { OnlySentIsHandedOver }
 {}
@@ -87,7 +87,7 @@ pub fn the_authority_spends_once()
 
 /// In every life no accusation of an older epoch than an accepted note's is accepted behind it against its member, or
 /// expires; and what the note answers otherwise expires only where it was accepted again, and stood for the timeout since.
-/// Each expiry that is told of a node is one in a life of the node, at a place that has the told moment behind it.
+/// Each expiry that is reported of a node is one in a life of the node, at a place that has the reported moment behind it.
 pub fn answers_hold()
     ensures lived { AnswersHoldInWorlds }
     ensures told { ToldExpiriesAreLived }
@@ -109,13 +109,13 @@ pub fn what_is_forged_is_handed_over()
 {}
 
 /// Whatever a text in the world form is, and whatever ends it: as soon as its roster is whole, the lines that were taken
-/// lead to its world, none of them is forged, and what was told is what they tell. Nobody in it is both a node and a
+/// lead to its world, none of them is forged, and what was reported is what they report. Nobody in it is both a node and a
 /// liar, the group has its rings, and what is signed with its keys verifies under them.
 pub fn texts_come_to_worlds()
     ensures { TextsComeToWorlds }
 {}
 
-/// What holds of all worlds holds of what any text in the world form comes to: what is told of its nodes' views, of what
+/// What holds of all worlds holds of what any text in the world form comes to: what is reported of its nodes' views, of what
 /// they spend and of what they send is all of it; and its removals, what answers rule out, what its nodes and the authority
 /// have signed and whom its nodes have accused are as the other laws say.
 pub fn texts_are_lawful()

@@ -8,14 +8,14 @@ use Rattle.schedule_world.specs.declared.line.WorldLine.{WorldLine}
 use Rattle.schedule_world.specs.Grammar.{behind, judge}
 use Rattle.schedule_world.specs.Rows.{TakesMemory}
 use Rattle.text_trace.specs.Lines.{has_line_feed}
-use Rattle.text_trace.specs.Trace.{Admits, IsFree, Owed, Steps, Trace, before}
+use Rattle.text_trace.specs.Trace.{Admits, IsFree, Continuation, Steps, Trace, before}
 use Rattle.text_trace.proofs.TraceLemmas.{free-as}
 use Rattle.world_rules.specs.Forgeries.{Forgery}
-use Rattle.world_rules.specs.Steps.{Told}
+use Rattle.world_rules.specs.Steps.{NodeEvent}
 use Rattle.world_rules.specs.Walk as walk
 use Rattle.world_rules.specs.Walk.{Brought, Lists, Plays, Stage, brought, from_answer, no_roster, setting_in, trace_in}
-use Rattle.world_stage.specs.declared.Stage.{Stage as Kept}
-use Rattle.world_stage.specs.Stages.{HoldsStage, Takes, brought_text}
+use Rattle.world_replay.specs.declared.stage.Stage.{Stage as Kept}
+use Rattle.world_replay.specs.Stages.{HoldsStage, Takes, brought_text}
 use Rattle.world_replay.specs.declared.cause.Cause.{Cause}
 use Rattle.world_replay.specs.declared.cause.Cause.TheVariants as causes
 use Rattle.world_replay.specs.Causes.{IsJudged, as_told, grammar, played}
@@ -23,8 +23,8 @@ use Rattle.world_replay.specs.Owing.{Owes}
 use Rattle.world_replay.proofs.RosterLemmas.{fits-behind}
 use Rattle.world_replay.specs.Unfed.{goes_on, judged-fed, played-unrefused}
 
-at-lines : (f g : Owed Cause) (text : List (List ℕ)) → f ≡ g → f text ≡ g text
-at-lines f g text same = ap (λ (h : Owed Cause). h text) same
+at-lines : (f g : Continuation Cause) (text : List (List ℕ)) → f ≡ g → f text ≡ g text
+at-lines f g text same = ap (λ (h : Continuation Cause). h text) same
 
 -- what the line brings, and what follows it
 abbrev brings_on : Progress WorldText → Stage → List (List ℕ) → WorldLine → Result Brought Forgery → Trace Cause
@@ -34,13 +34,13 @@ brings_on p stage rest l r = as_told (trace_in grammar (from_answer stage l r (�
 judged-on : (p : Progress WorldText) (stage : Stage) (bytes : List ℕ) (l : WorldLine) (rest : List (List ℕ)) → judge p bytes ≡ Ok l → played p stage (bytes ∷ rest) ≡ brings_on p stage rest l (brought setting_in stage l)
 judged-on p stage bytes l rest judged = ap (λ (j : Result WorldLine BadWord). as_told (trace_in grammar (goes_on p stage rest j))) judged
 
--- a line that is taken is told, and then the rest
+-- a line that is taken is reported, and then the rest
 played-taken : (p : Progress WorldText) (stage : Stage) (bytes : List ℕ) (l : WorldLine) (b : Brought) (rest : List (List ℕ)) → judge p bytes ≡ Ok l → brought setting_in stage l ≡ Ok b → played p stage (bytes ∷ rest) ≡ before (brought_text l b) (played (behind p l) b.stage rest)
 played-taken p stage bytes l b rest judged is = judged-on p stage bytes l rest judged ∙ ap (brings_on p stage rest l) is
 
 -- a line is taken
 pub line-steps : (p : Progress WorldText) (kept later : Kept) (bytes text : List ℕ) (l : WorldLine) → judge p bytes ≡ Ok l
-    → ((stage : Stage) (told : List Told) → HoldsStage stage told kept → Takes stage told l later [] text (Ok tt))
+    → ((stage : Stage) (told : List NodeEvent) → HoldsStage stage told kept → Takes stage told l later [] text (Ok tt))
     → Steps Cause (Owes p kept) (Owes (behind p l) later) (bytes ∷ []) text
 line-steps p kept later bytes text l judged takes = λ f owes.
     let t = takes owes.stage owes.told owes.holds in

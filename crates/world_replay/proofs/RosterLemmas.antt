@@ -14,14 +14,15 @@ use Rattle.schedule_world.specs.declared.text.WorldText.{WorldText}
 use Rattle.schedule_world.specs.declared.text.WorldText.TheVariants as form
 use Rattle.schedule_world.specs.Rows.{has_node, is_body, is_grouped, is_headed, is_roster, is_start}
 use Rattle.schedule_world.specs.Grammar.{InRange, Stands, after, behind, judge}
+use Rattle.schedule_world.proofs.GrammarLemmas.{height-low, newcomer-in, world-in_range, world-stands}
 use Rattle.world_rules.specs.Settings.{Setting}
 use Rattle.world_rules.specs.Forgeries.{Forgery}
-use Rattle.world_rules.specs.Steps.{Answer, Told, step}
+use Rattle.world_rules.specs.Steps.{Answer, NodeEvent, step}
 use Rattle.world_rules.specs.Walk.{Brought, Lists, Plays, Roster, Stage, brought, listed, no_roster, setting_in, stepped}
 use Rattle.world.specs.Opening.{IsApart}
-use Rattle.world_stage.specs.declared.Stage.{Stage as Kept}
-use Rattle.world_stage.specs.declared.Stage.TheVariants as kept_stages
-use Rattle.world_stage.specs.Stages.{CanBegin, CanTake, HoldsStage, IsReady}
+use Rattle.world_replay.specs.declared.stage.Stage.{Stage as Kept}
+use Rattle.world_replay.specs.declared.stage.Stage.TheVariants as kept_stages
+use Rattle.world_replay.specs.Stages.{CanBegin, CanTake, HoldsStage, IsReady}
 use Rattle.world_replay.specs.Rosters.{AreNamed, Fits, IsRead, is_listed}
 use Rattle.world_replay.specs.Unfed.{line-is}
 
@@ -84,14 +85,14 @@ group-line : (w : WorldText) (r : Roster) (g : Group) → IsTrue (is_headed w) �
 group-line form.Headed r g stands range h = (
   record { nodes = h.nodes; liars = h.liars },
   record {
-    some = range.0;
-    few = range.1;
-    waits = range.2;
-    ends = range.3;
-    period = omega (arith, range.4);
-    often = range.5;
-    missed = range.6;
-    misses = range.7;
+    some = range.0.0;
+    few = range.0.1;
+    waits = range.1.0.0;
+    ends = range.1.0.1;
+    period = omega (arith, range.1.1.0.0);
+    often = range.1.1.0.1;
+    missed = range.1.1.1.0.0;
+    misses = range.1.1.1.0.1;
   },
 )
 group-line _ r g stands range h = absurd (false≢true stands)
@@ -111,7 +112,7 @@ kinds-line (form.Grouped t) r ots tree stands range h =
         missed = h.1.missed;
         misses = h.1.misses;
       };
-      kinds = range;
+      kinds = height-low (form.Grouped t) ots tree range;
       some = λ node. absurd (false≢true node);
       count = omega (arith, ap (λ (xs : List ℕ). length xs) h.0.nodes, ap (λ (xs : List ℕ). length xs) h.0.liars);
       few = omega arith;
@@ -123,29 +124,31 @@ kinds-line _ r ots tree stands range h = absurd (false≢true stands)
 
 node-line : (w : WorldText) (r : Roster) (m : ℕ) → IsTrue (is_roster w) → InRange w (lines.Node m) → IsRead w r → IsRead (after w (lines.Node m)) (record r { correct = r.correct ++ m ∷ [] })
 node-line (form.Roster t names node) r m stands range h =
+    let newcomer = newcomer-in (form.Roster t names node) m range in
     record {
       group = h.group;
       kinds = h.kinds;
       some = λ is. omega (arith, length-append r.correct (m ∷ []));
       count = omega (arith, h.count, length-append r.correct (m ∷ []), length-append names (m ∷ []));
-      few = omega (arith, range.few, length-append names (m ∷ []));
+      few = omega (arith, newcomer.few, length-append names (m ∷ []));
       nodes = named-too names r.correct m h.nodes;
       liars = named-more names r.liars m h.liars;
-      apart = node-apart names r.correct r.liars m range.unnamed h.liars h.apart;
+      apart = node-apart names r.correct r.liars m newcomer.unnamed h.liars h.apart;
     }
 node-line _ r m stands range h = absurd (false≢true stands)
 
 liar-line : (w : WorldText) (r : Roster) (m : ℕ) → IsTrue (is_roster w) → InRange w (lines.Liar m) → IsRead w r → IsRead (after w (lines.Liar m)) (record r { liars = r.liars ++ m ∷ [] })
 liar-line (form.Roster t names node) r m stands range h =
+    let newcomer = newcomer-in (form.Roster t names node) m range in
     record {
       group = h.group;
       kinds = h.kinds;
       some = λ is. h.some (same-node node is);
       count = omega (arith, h.count, length-append r.liars (m ∷ []), length-append names (m ∷ []));
-      few = omega (arith, range.few, length-append names (m ∷ []));
+      few = omega (arith, newcomer.few, length-append names (m ∷ []));
       nodes = named-more names r.correct m h.nodes;
       liars = named-too names r.liars m h.liars;
-      apart = liar-apart names r.correct r.liars m range.unnamed h.nodes h.apart;
+      apart = liar-apart names r.correct r.liars m newcomer.unnamed h.nodes h.apart;
     }
   where
     same-node : (b : Bool) → (b || false) ≡ true → b ≡ true
@@ -179,7 +182,7 @@ stepped-fits w s (Ok a) b is = subst (λ (x : Brought). Fits w x.stage) (ok-is _
 pub fits-behind : (p : Progress WorldText) (bytes : List ℕ) (l : WorldLine) (stage : Stage) (b : Brought) → judge p bytes ≡ Ok l → brought setting_in stage l ≡ Ok b → Fits p.form stage → Fits (behind p l).form b.stage
 fits-behind p bytes l (Lists r) b judged is h =
     let line = line-is p bytes l judged in
-    subst (λ (x : Brought). Fits (after p.form l) x.stage) (ok-is _ b is) (listed-fits p.form r l line.spells.stands line.spells.in_range h)
+    subst (λ (x : Brought). Fits (after p.form l) x.stage) (ok-is _ b is) (listed-fits p.form r l (world-stands p.form (line.first ∷ line.others) l line.spells) (world-in_range p.form (line.first ∷ line.others) l line.spells) h)
   where
     ok-is : (x y : Brought) → (let r : Result Brought Forgery = Ok x in r) ≡ Ok y → x ≡ y
     ok-is x y e = cc
@@ -192,19 +195,21 @@ can-begin (form.Roster t names node) r stands h =
     record { group = h.group; some = h.some stands; few = omega (arith, h.count, h.few); kinds = h.kinds; apart = h.apart }
 can-begin _ r stands h = absurd (false≢true stands)
 
-ready : (w : WorldText) (stage : Stage) (told : List Told) (kept : Kept) → IsTrue (has_node w) → HoldsStage stage told kept → Fits w stage → IsReady kept
+ready : (w : WorldText) (stage : Stage) (told : List NodeEvent) (kept : Kept) → IsTrue (has_node w) → HoldsStage stage told kept → Fits w stage → IsReady kept
 ready w (Lists r) told (kept_stages.Lists kept) stands holds fits = subst CanBegin (sym holds.0) (can-begin w r stands fits)
 ready w (Plays s world) told (kept_stages.Plays kept) stands holds fits = tt
 ready w (Lists r) told (kept_stages.Plays kept) stands holds fits = absurd holds
 ready w (Plays s world) told (kept_stages.Lists kept) stands holds fits = absurd holds
 
-can-take : (w : WorldText) (l : WorldLine) (stage : Stage) (told : List Told) (kept : Kept) → Stands w l → HoldsStage stage told kept → Fits w stage → CanTake kept l
+can-take : (w : WorldText) (l : WorldLine) (stage : Stage) (told : List NodeEvent) (kept : Kept) → Stands w l → HoldsStage stage told kept → Fits w stage → CanTake kept l
 can-take w lines.Begin stage told kept stands holds fits = ready w stage told kept stands holds fits
 can-take w l stage told kept stands holds fits = tt
 
 -- A line that is one may be taken.
-pub taken-of : (p : Progress WorldText) (bytes : List ℕ) (l : WorldLine) (stage : Stage) (told : List Told) (kept : Kept) → judge p bytes ≡ Ok l → HoldsStage stage told kept → Fits p.form stage → CanTake kept l
-taken-of p bytes l stage told kept judged holds fits = can-take p.form l stage told kept (line-is p bytes l judged).spells.stands holds fits
+pub taken-of : (p : Progress WorldText) (bytes : List ℕ) (l : WorldLine) (stage : Stage) (told : List NodeEvent) (kept : Kept) → judge p bytes ≡ Ok l → HoldsStage stage told kept → Fits p.form stage → CanTake kept l
+taken-of p bytes l stage told kept judged holds fits =
+    let line = line-is p bytes l judged in
+    can-take p.form l stage told kept (world-stands p.form (line.first ∷ line.others) l line.spells) holds fits
 
 pub nothing-read : Fits form.Start (Lists no_roster)
 nothing-read = record { nodes = refl; liars = refl }

@@ -3,7 +3,7 @@ use Rattle.std.specs.Option.{option_map}
 use Rattle.line_text.specs.Answers.{Progress}
 use Rattle.schedule_world.specs.declared.text.WorldText.{WorldText}
 use Rattle.schedule_world.specs.Grammar.{opening}
-use Rattle.text_trace.specs.Trace.{Owed, Trace}
+use Rattle.text_trace.specs.Trace.{Continuation, Trace}
 use Rattle.world_rules.specs.Walk as walk
 use Rattle.world_rules.specs.Walk.{Grammar, Lists, Stage, no_roster, setting_in, trace_in}
 use Rattle.world_laws.specs.Texts.{world_grammar}
@@ -28,9 +28,9 @@ abbrev pub grammar : Grammar (Progress WorldText)
 grammar = world_grammar line_text
 
 -- What is owed for the lines of which so much was read before, and to which this has come.
-abbrev pub played : Progress WorldText → Stage → Owed Cause
+abbrev pub played : Progress WorldText → Stage → Continuation Cause
 played p stage = λ lines. as_told (trace_in grammar (walk.walk grammar setting_in lines p stage))
 
 -- What is owed for the lines of a whole text.
-abbrev pub replayed : Owed Cause
+abbrev pub replayed : Continuation Cause
 replayed = played opening (Lists no_roster)

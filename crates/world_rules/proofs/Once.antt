@@ -21,8 +21,8 @@ use Rattle.node_rules.specs.Lives.{Input}
 use Rattle.world_rules.specs.Settings.{Setting, Signed, is_node, is_liar, same_owner, certified_from, by_authority, certificates, members, setting_of}
 use Rattle.world_rules.specs.Disks.{Disk}
 use Rattle.world_rules.specs.Calls.{OnDisk, called_on}
-use Rattle.world_rules.specs.Worlds.{Life, Station, World, begun_world, spent_if_by, spent_of, with_station}
-use Rattle.world_rules.specs.Steps.{Course, Told, first_call, first_life, life_over, signed_if_spent, signed_in, station_after, with_disk, with_input}
+use Rattle.world_rules.specs.Worlds.{Life, Host, World, begun_world, spent_if_by, spent_of, with_host}
+use Rattle.world_rules.specs.Steps.{Execution, NodeEvent, first_call, first_life, life_over, signed_if_spent, signed_in, host_after, with_disk, with_input}
 use Rattle.world_rules.specs.Laws.{IsSetting, NodesSpendOnce}
 use Rattle.world_rules.proofs.CallSteps.{SpendsNothing, SpendsOne, MayFollow, nothing-same, nothing-then, nothing-takes, one-signs, one-behind}
 use Rattle.world_rules.proofs.OnDisks.{IsKept, Sound, chosen, other, next-after, sound-called}
@@ -168,19 +168,19 @@ below-rises : Rises Below
 below-rises = record { first = nothing-below; push = below-push; later = below-later }
 
 -- It holds of the store and of what was spent, and the store keeps what the running node does.
-pub record Fine (P : Stored → List Spent → Type 0) (station : Station) (spent : List Spent) : Type 0 where
-  pub holds : P station.disk.state spent
-  pub runs : (life : Life) → station.current ≡ Some life → life.node.stored ≡ station.disk.state
+pub record Fine (P : Stored → List Spent → Type 0) (host : Host) (spent : List Spent) : Type 0 where
+  pub holds : P host.disk.state spent
+  pub runs : (life : Life) → host.current ≡ Some life → life.node.stored ≡ host.disk.state
 
 none-some : {T : Type 0} {A : Type 0} (o : Option T) (x : T) → o ≡ None → o ≡ Some x → A
 none-some o x e f = cc
 
 -- What becomes of the node m where another place, or its own, is changed.
-pub at-station : (m k : ℕ) (station : Station) (w : World) (Q : Station → Type 0) → (k ≡ m → Q station) → (eqb k m ≡ false → Q (w.stations m)) → Q ((with_station k station w).stations m)
-at-station m k station w Q own apart =
+pub at-host : (m k : ℕ) (host : Host) (w : World) (Q : Host → Type 0) → (k ≡ m → Q host) → (eqb k m ≡ false → Q (w.hosts m)) → Q ((with_host k host w).hosts m)
+at-host m k host w Q own apart =
     elim (cases_Bool (eqb m k)) [
-      | inl same ↦ subst Q (sym (chosen (eqb m k) station (w.stations m) same)) (own (sym (eqb-true m k same)))
-      | inr differ ↦ subst Q (sym (other (eqb m k) station (w.stations m) differ)) (apart (swapped m k differ))
+      | inl same ↦ subst Q (sym (chosen (eqb m k) host (w.hosts m) same)) (own (sym (eqb-true m k same)))
+      | inr differ ↦ subst Q (sym (other (eqb m k) host (w.hosts m) differ)) (apart (swapped m k differ))
     ]
   where
     clash : (b : Bool) → b ≡ true → b ≡ false → ⊥
@@ -189,11 +189,11 @@ at-station m k station w Q own apart =
     swapped : (a b : ℕ) → eqb a b ≡ false → eqb b a ≡ false
     swapped a b e = elim (cases_Bool (eqb b a)) [ inl same ↦ absurd (clash (eqb a b) (eq-eqb a b (sym (eqb-true b a same))) e) | inr differ ↦ differ ]
 
-fine-at : (P : Stored → List Spent → Type 0) (m k : ℕ) (station : Station) (w : World) (spent : List Spent) → (k ≡ m → Fine P station spent) → (eqb k m ≡ false → Fine P (w.stations m) spent) → Fine P ((with_station k station w).stations m) spent
-fine-at P m k station w spent own apart = at-station m k station w (λ x. Fine P x spent) own apart
+fine-at : (P : Stored → List Spent → Type 0) (m k : ℕ) (host : Host) (w : World) (spent : List Spent) → (k ≡ m → Fine P host spent) → (eqb k m ≡ false → Fine P (w.hosts m) spent) → Fine P ((with_host k host w).hosts m) spent
+fine-at P m k host w spent own apart = at-host m k host w (λ x. Fine P x spent) own apart
 
-abbrev pub Stands : (Stored → List Spent → Type 0) → ℕ → World → List Told → Type 0
-Stands P m w told = Fine P (w.stations m) (spent_of w (Some m))
+abbrev pub Stands : (Stored → List Spent → Type 0) → ℕ → World → List NodeEvent → Type 0
+Stands P m w told = Fine P (w.hosts m) (spent_of w (Some m))
 
 own-kept : (P : Stored → List Spent → Type 0) (rises : Rises P) (m : ℕ) (signed : List Signed) → IsKept m (λ kept more. P kept (filter_map (spent_if_by (Some m)) (signed ++ more)))
 own-kept P rises m signed =
@@ -204,38 +204,38 @@ own-kept P rises m signed =
       leaves = λ kept more body may h. rises.later kept body _ may h;
     }
 
-station-disk : (station : Station) (life : Life) (d : OnDisk) → (station_after station life d).disk ≡ d.disk
-station-disk station life d = cond_both {A = Station} d.call.ended _ _ (λ x. x.disk ≡ d.disk) (λ over. refl) (λ going. refl)
+host-disk : (host : Host) (life : Life) (d : OnDisk) → (host_after host life d).disk ≡ d.disk
+host-disk host life d = cond_both {A = Host} d.call.ended _ _ (λ x. x.disk ≡ d.disk) (λ over. refl) (λ going. refl)
 
-station-current : (station : Station) (life : Life) (d : OnDisk) (other_life : Life) → (station_after station life d).current ≡ Some other_life → (d.call.ended ≡ false) × (life ≡ other_life)
-station-current station life d other_life e =
+host-current : (host : Host) (life : Life) (d : OnDisk) (other_life : Life) → (host_after host life d).current ≡ Some other_life → (d.call.ended ≡ false) × (life ≡ other_life)
+host-current host life d other_life e =
     elim (cases_Bool d.call.ended) [
-      | inl over ↦ none-some (station_after station life d).current other_life (ap (λ (x : Station). x.current) (chosen d.call.ended _ _ over)) e
-      | inr going ↦ (going, some-injective life other_life (sym (ap (λ (x : Station). x.current) (other d.call.ended _ _ going)) ∙ e))
+      | inl over ↦ none-some (host_after host life d).current other_life (ap (λ (x : Host). x.current) (chosen d.call.ended _ _ over)) e
+      | inr going ↦ (going, some-injective life other_life (sym (ap (λ (x : Host). x.current) (other d.call.ended _ _ going)) ∙ e))
     ]
 
-called-own : (P : Stored → List Spent → Type 0) (rises : Rises P) (s : Setting) (m : ℕ) (i : Input) (life : Life) (c : Course) → (c.world.stations m).current ≡ Some life → Stands P m c.world c.told
-    → Fine P (station_after (c.world.stations m) (with_input life i (called_on (setting_of s m) life.node i (c.world.stations m).disk).call.node) (called_on (setting_of s m) life.node i (c.world.stations m).disk))
-    (filter_map (spent_if_by (Some m)) (c.world.signed ++ signed_in m (called_on (setting_of s m) life.node i (c.world.stations m).disk).call.told))
+called-own : (P : Stored → List Spent → Type 0) (rises : Rises P) (s : Setting) (m : ℕ) (i : Input) (life : Life) (c : Execution) → (c.world.hosts m).current ≡ Some life → Stands P m c.world c.told
+    → Fine P (host_after (c.world.hosts m) (with_input life i (called_on (setting_of s m) life.node i (c.world.hosts m).disk).call.node) (called_on (setting_of s m) life.node i (c.world.hosts m).disk))
+    (filter_map (spent_if_by (Some m)) (c.world.signed ++ signed_in m (called_on (setting_of s m) life.node i (c.world.hosts m).disk).call.told))
 called-own P rises s m i life c is h =
-    let station : Station = c.world.stations m in
-    let d : OnDisk = called_on (setting_of s m) life.node i station.disk in
+    let host : Host = c.world.hosts m in
+    let d : OnDisk = called_on (setting_of s m) life.node i host.disk in
     let R : Stored → List Signed → Type 0 = λ kept more. P kept (filter_map (spent_if_by (Some m)) (c.world.signed ++ more)) in
-    let first : R station.disk.state [] = subst (λ xs. P station.disk.state (filter_map (spent_if_by (Some m)) xs)) (sym (nil-right c.world.signed)) h.holds in
-    let sound : Sound m R d = sound-called (setting_of s m) R life.node i station.disk (own-kept P rises m c.world.signed) (h.runs life is) first in
+    let first : R host.disk.state [] = subst (λ xs. P host.disk.state (filter_map (spent_if_by (Some m)) xs)) (sym (nil-right c.world.signed)) h.holds in
+    let sound : Sound m R d = sound-called (setting_of s m) R life.node i host.disk (own-kept P rises m c.world.signed) (h.runs life is) first in
     let after : Life = with_input life i d.call.node in
     record {
-      holds = subst (λ (x : Disk). R x.state (signed_in m d.call.told)) (sym (station-disk station after d)) sound.holds;
+      holds = subst (λ (x : Disk). R x.state (signed_in m d.call.told)) (sym (host-disk host after d)) sound.holds;
       runs = λ l e.
-          let at = station-current station after d l e in
-          ap (λ (x : Life). x.node.stored) (sym at.1) ∙ sound.same at.0 ∙ ap (λ (x : Disk). x.state) (sym (station-disk station after d));
+          let at = host-current host after d l e in
+          ap (λ (x : Life). x.node.stored) (sym at.1) ∙ sound.same at.0 ∙ ap (λ (x : Disk). x.state) (sym (host-disk host after d));
     }
 
-began-own : (P : Stored → List Spent → Type 0) (rises : Rises P) (s : Setting) (m : ℕ) (d : Disk) (c : Course) → d.state ≡ (first_call s m (c.world.stations m).disk.state).node.stored → Stands P m c.world c.told
-    → Fine P (record { disk = d; past = (c.world.stations m).past; current = Some (first_life (c.world.stations m).disk.state (first_call s m (c.world.stations m).disk.state)) })
-    (filter_map (spent_if_by (Some m)) (c.world.signed ++ signed_in m (first_call s m (c.world.stations m).disk.state).told))
+began-own : (P : Stored → List Spent → Type 0) (rises : Rises P) (s : Setting) (m : ℕ) (d : Disk) (c : Execution) → d.state ≡ (first_call s m (c.world.hosts m).disk.state).node.stored → Stands P m c.world c.told
+    → Fine P (record { disk = d; past = (c.world.hosts m).past; current = Some (first_life (c.world.hosts m).disk.state (first_call s m (c.world.hosts m).disk.state)) })
+    (filter_map (spent_if_by (Some m)) (c.world.signed ++ signed_in m (first_call s m (c.world.hosts m).disk.state).told))
 began-own P rises s m d c same h =
-    let kept : Stored = (c.world.stations m).disk.state in
+    let kept : Stored = (c.world.hosts m).disk.state in
     let call : Call = first_call s m kept in
     let body : Body = first_note (setting_of s m) kept in
     let one = one-started (setting_of s m) (s.nonces m kept.next) (certificates s) kept in
@@ -248,21 +248,21 @@ began-own P rises s m d c same h =
       runs = λ l e. ap (λ (z : Life). z.node.stored) (sym (some-injective _ l e)) ∙ sym same;
     }
 
-tried-own : (P : Stored → List Spent → Type 0) (rises : Rises P) (s : Setting) (m : ℕ) (d : Disk) (w : World) (told : List Told) → (w.stations m).current ≡ None → (d.state ≡ (w.stations m).disk.state) ⊎ (d.state ≡ (first_call s m (w.stations m).disk.state).node.stored) → Stands P m w told
-    → Fine P (with_disk (w.stations m) d) (spent_of w (Some m))
-tried-own P rises s m d w told idle (inl same) h = record { holds = subst (λ k. P k (spent_of w (Some m))) (sym same) h.holds; runs = λ l e. none-some (w.stations m).current l idle e }
+tried-own : (P : Stored → List Spent → Type 0) (rises : Rises P) (s : Setting) (m : ℕ) (d : Disk) (w : World) (told : List NodeEvent) → (w.hosts m).current ≡ None → (d.state ≡ (w.hosts m).disk.state) ⊎ (d.state ≡ (first_call s m (w.hosts m).disk.state).node.stored) → Stands P m w told
+    → Fine P (with_disk (w.hosts m) d) (spent_of w (Some m))
+tried-own P rises s m d w told idle (inl same) h = record { holds = subst (λ k. P k (spent_of w (Some m))) (sym same) h.holds; runs = λ l e. none-some (w.hosts m).current l idle e }
 tried-own P rises s m d w told idle (inr after) h =
-    let kept : Stored = (w.stations m).disk.state in
+    let kept : Stored = (w.hosts m).disk.state in
     let one = one-started (setting_of s m) (s.nonces m kept.next) (certificates s) kept in
     record {
       holds = subst (λ k. P k (spent_of w (Some m))) (sym (after ∙ one.stored)) (rises.later kept (first_note (setting_of s m) kept) (spent_of w (Some m)) refl h.holds);
-      runs = λ l e. none-some (w.stations m).current l idle e;
+      runs = λ l e. none-some (w.hosts m).current l idle e;
     }
 
-disked-own : (P : Stored → List Spent → Type 0) (m : ℕ) (d : Disk) (w : World) (told : List Told) → d.state ≡ (w.stations m).disk.state → Stands P m w told → Fine P (with_disk (w.stations m) d) (spent_of w (Some m))
+disked-own : (P : Stored → List Spent → Type 0) (m : ℕ) (d : Disk) (w : World) (told : List NodeEvent) → d.state ≡ (w.hosts m).disk.state → Stands P m w told → Fine P (with_disk (w.hosts m) d) (spent_of w (Some m))
 disked-own P m d w told same h = record { holds = subst (λ k. P k (spent_of w (Some m))) (sym same) h.holds; runs = λ l e. h.runs l e ∙ sym same }
 
-ended-own : (P : Stored → List Spent → Type 0) (m : ℕ) (life : Life) (w : World) (told : List Told) → Stands P m w told → Fine P (life_over (w.stations m) (Some life)) (spent_of w (Some m))
+ended-own : (P : Stored → List Spent → Type 0) (m : ℕ) (life : Life) (w : World) (told : List NodeEvent) → Stands P m w told → Fine P (life_over (w.hosts m) (Some life)) (spent_of w (Some m))
 ended-own P m life w told h = record { holds = h.holds; runs = λ l e. none-some {T = Life} None l refl e }
 
 liar-apart : (s : Setting) (m key : ℕ) → IsSetting s → is_node s m ≡ true → is_liar s key ≡ true → eqb key m ≡ false
@@ -279,25 +279,25 @@ pub stands-kept : (P : Stored → List Spent → Type 0) → Rises P → (s : Se
 stands-kept P rises s m fits is =
     record {
       called = λ k i life c running free h.
-          let d : OnDisk = called_on (setting_of s k) life.node i (c.world.stations k).disk in
+          let d : OnDisk = called_on (setting_of s k) life.node i (c.world.hosts k).disk in
           fine-at P m k _ c.world _
-          (λ e. subst (λ (z : ℕ). Stands P z c.world c.told → Fine P (station_after (c.world.stations k) (with_input life i d.call.node) d) (filter_map (spent_if_by (Some z)) (c.world.signed ++ signed_in k d.call.told))) e (called-own P rises s k i life c running) h)
-          (λ apart. subst (Fine P (c.world.stations m)) (sym (foreign-call m k c.world.signed d.call.told apart)) h);
+          (λ e. subst (λ (z : ℕ). Stands P z c.world c.told → Fine P (host_after (c.world.hosts k) (with_input life i d.call.node) d) (filter_map (spent_if_by (Some z)) (c.world.signed ++ signed_in k d.call.told))) e (called-own P rises s k i life c running) h)
+          (λ apart. subst (Fine P (c.world.hosts m)) (sym (foreign-call m k c.world.signed d.call.told apart)) h);
       began = λ k d c it idle free same h.
-          let call : Call = first_call s k (c.world.stations k).disk.state in
+          let call : Call = first_call s k (c.world.hosts k).disk.state in
           fine-at P m k _ c.world _
-          (λ e. subst (λ (z : ℕ). Stands P z c.world c.told → Fine P (record { disk = d; past = (c.world.stations k).past; current = Some (first_life (c.world.stations k).disk.state call) }) (filter_map (spent_if_by (Some z)) (c.world.signed ++ signed_in k call.told))) e (began-own P rises s k d c same) h)
-          (λ apart. subst (Fine P (c.world.stations m)) (sym (foreign-call m k c.world.signed call.told apart)) h);
+          (λ e. subst (λ (z : ℕ). Stands P z c.world c.told → Fine P (record { disk = d; past = (c.world.hosts k).past; current = Some (first_life (c.world.hosts k).disk.state call) }) (filter_map (spent_if_by (Some z)) (c.world.signed ++ signed_in k call.told))) e (began-own P rises s k d c same) h)
+          (λ apart. subst (Fine P (c.world.hosts m)) (sym (foreign-call m k c.world.signed call.told apart)) h);
       tried = λ k d w told idle free left h.
-          fine-at P m k _ w _ (λ e. subst (λ (z : ℕ). Stands P z w told → Fine P (with_disk (w.stations k) d) (spent_of w (Some z))) e (tried-own P rises s k d w told idle left) h) (λ apart. h);
+          fine-at P m k _ w _ (λ e. subst (λ (z : ℕ). Stands P z w told → Fine P (with_disk (w.hosts k) d) (spent_of w (Some z))) e (tried-own P rises s k d w told idle left) h) (λ apart. h);
       disked = λ k d w told same h.
-          fine-at P m k _ w _ (λ e. subst (λ (z : ℕ). Stands P z w told → Fine P (with_disk (w.stations k) d) (spent_of w (Some z))) e (disked-own P k d w told same) h) (λ apart. h);
+          fine-at P m k _ w _ (λ e. subst (λ (z : ℕ). Stands P z w told → Fine P (with_disk (w.hosts k) d) (spent_of w (Some z))) e (disked-own P k d w told same) h) (λ apart. h);
       ended = λ k life w told running h.
-          fine-at P m k _ w _ (λ e. subst (λ (z : ℕ). Stands P z w told → Fine P (life_over (w.stations k) (Some life)) (spent_of w (Some z))) e (ended-own P k life w told) h) (λ apart. h);
+          fine-at P m k _ w _ (λ e. subst (λ (z : ℕ). Stands P z w told → Fine P (life_over (w.hosts k) (Some life)) (spent_of w (Some z))) e (ended-own P k life w told) h) (λ apart. h);
       got = λ k moment number w told h. h;
       flowed = λ number w told h. h;
       lied = λ key body name w told liar h.
-          subst (Fine P (w.stations m)) (sym (filter_map-append (spent_if_by (Some m)) w.signed _
+          subst (Fine P (w.hosts m)) (sym (filter_map-append (spent_if_by (Some m)) w.signed _
           ∙ ap (λ o. spent_of w (Some m) ++ cons_option o []) (other (eqb key m) _ _ (liar-apart s m key fits is liar)) ∙ nil-right (spent_of w (Some m)))) h;
     }
 

@@ -24,7 +24,8 @@ use Rattle.world_rules.specs.Forgeries.{forgery}
 use Rattle.world_rules.specs.Refusals.{why_not}
 use Rattle.world_rules.specs.Steps.{calls, hands, starts, starts_in_vain, step}
 use Rattle.schedule_world.specs.declared.line.WorldLine.TheVariants as lines
-use Rattle.world_rules.specs.Verdicts as verdicts
+use Rattle.world_rules.specs.declared.verdict.RefusalReason.TheVariants as whys
+use Rattle.world_rules.specs.declared.verdict.Verdict.TheVariants as verdicts
 use Rattle.world_rules.proofs.Rows.{answers, note, plays, refused, says, setting, tells}
 
 abbrev three : Setting
@@ -62,7 +63,7 @@ abbrev left_alone : World
 left_alone = plays two met (lines.Stop 2 0 ∷ lines.Tick 1 7 ∷ lines.Flow 100 ∷ [])
 
 -- It is accused at the fourth tick, and removed at the eighth.
-sees_itself : (says two left_alone (lines.View 1) ≡ answers (verdicts.Sees (1 ∷ []))) × (says two left_alone (lines.View 2) ≡ refused verdicts.NotRunning)
+sees_itself : (says two left_alone (lines.View 1) ≡ answers (verdicts.Sees (1 ∷ []))) × (says two left_alone (lines.View 2) ≡ refused whys.NotRunning)
 unfolding all_numbers in_view_by started signs signs_and_sends wants takes lives state_of handles refusal sends certificate_of neighbours neighbours_and answering_mask bits_where read_of whole_of datagram_at head_at items_at content_at records_at counted_at record_at body_at certificate_at note_at accusation_at key_at signature_at head_bytes records_bytes note_bytes accusation_bytes certificate_bytes key_bytes nodes members by_authority begun_world delivered_on handles_on forgery why_not calls hands starts starts_in_vain step page partner page_number lacking accuses passed probed_at summary_at entries_at entry_at entry_bytes summary_bytes ticked_on due_on accuses_on
 sees_itself = (refl, refl)
 

@@ -33,11 +33,13 @@ use Rattle.node_rules.specs.OnDisks.{delivered_on, handles_on}
 use Rattle.world_rules.specs.Worlds.{World, begun_world}
 use Rattle.world_rules.specs.Forgeries.{Forgery, forgery}
 use Rattle.world_rules.specs.Refusals.{why_not}
-use Rattle.world_rules.specs.Steps.{Answer, Told, calls, hands, starts, starts_in_vain, step}
+use Rattle.world_rules.specs.Steps.{Answer, NodeEvent, calls, hands, starts, starts_in_vain, step}
 use Rattle.schedule_world.specs.declared.line.WorldLine.TheVariants as lines
 use Rattle.schedule_world.specs.declared.line.WorldLine.{WorldLine}
-use Rattle.world_rules.specs.Verdicts as verdicts
-use Rattle.world_rules.specs.Verdicts.{Verdict}
+use Rattle.world_rules.specs.declared.verdict.RefusalReason.{RefusalReason}
+use Rattle.world_rules.specs.declared.verdict.RefusalReason.TheVariants as whys
+use Rattle.world_rules.specs.declared.verdict.Verdict.{Verdict}
+use Rattle.world_rules.specs.declared.verdict.Verdict.TheVariants as verdicts
 
 -- ---- stand-ins
 
@@ -94,7 +96,7 @@ plays s w played = fold (λ v line. world_in v (step s v line)) w played
 
 -- A verdict and the events, or what is forged.
 abbrev pub Says : Type 0
-Says = Result (Option Verdict × List Told) Forgery
+Says = Result (Option Verdict × List NodeEvent) Forgery
 
 abbrev pub said : Result Answer Forgery → Says
 said (Ok a) = Ok (a.verdict, a.told)
@@ -103,7 +105,7 @@ said (Err found) = Err found
 abbrev pub says : Setting → World → WorldLine → Says
 says s w line = said (step s w line)
 
-abbrev pub tells : ℕ → ℕ → List whats.What → List Told
+abbrev pub tells : ℕ → ℕ → List whats.What → List NodeEvent
 tells who moment what = map (λ x. record { who = who; event = record { moment = moment; what = x } }) what
 
 -- No verdict, and these events of node 1 at moment 0.
@@ -113,7 +115,7 @@ brings what = Ok (None, tells 1 0 what)
 abbrev pub answers : Verdict → Says
 answers verdict = Ok (Some verdict, [])
 
-abbrev pub refused : verdicts.Why → Says
+abbrev pub refused : RefusalReason → Says
 refused why = answers (verdicts.Refused why)
 
 -- ---- a node and a liar
@@ -137,7 +139,7 @@ pong = 70 ∷ 70 ∷ 1 ∷ 2 ∷ 0 ∷ 1 ∷ 0 ∷ 0 ∷ 0 ∷ 0 ∷ 0 ∷ 0 ∷
 
 takes_any_bytes : (says one base (lines.Raw 1 ping) ≡ brings (told.Ping 2 258 ∷ told.Sent 0 2 pong ∷ []))
     × (says one base (lines.Raw 1 (70 ∷ 70 ∷ [])) ≡ brings (told.BadForm 2 ∷ []))
-    × (says one base (lines.Raw 2 (0 ∷ [])) ≡ refused verdicts.NotNode)
+    × (says one base (lines.Raw 2 (0 ∷ [])) ≡ refused whys.NotNode)
 unfolding all_numbers in_view_by started signs signs_and_sends wants takes lives state_of handles refusal sends certificate_of neighbours neighbours_and answering_mask bits_where read_of whole_of datagram_at head_at items_at content_at records_at counted_at record_at body_at certificate_at note_at accusation_at key_at signature_at head_bytes records_bytes note_bytes accusation_bytes certificate_bytes key_bytes nodes members by_authority begun_world delivered_on handles_on forgery why_not calls hands starts starts_in_vain step
 takes_any_bytes = (refl, refl, refl)
 
@@ -186,15 +188,15 @@ unfolding all_numbers in_view_by started signs signs_and_sends wants takes lives
 finds_the_forged = refl
 
 -- Why lines can't be done, the first row of the table that holds.
-refuses_in_order : (says one base (lines.Start 2) ≡ refused verdicts.NotNode)
-    × (says one base (lines.Deliver 7 2) ≡ refused verdicts.NotNode)
-    × (says one (begun_world one) (lines.Deliver 7 1) ≡ refused verdicts.NoDatagram)
-    × (says one (begun_world one) (lines.Give (codes "a") 1) ≡ refused verdicts.NoName)
-    × (says one (begun_world one) (lines.View 1) ≡ refused verdicts.NotRunning)
-    × (says one base (lines.Start 1) ≡ refused verdicts.Running)
-    × (says one base (accuse 2 None 0 (codes "b")) ≡ refused verdicts.NoNote)
-    × (says one base (lines.SignNote 1 (record { member = 2; epoch = 1; mask = record { 0 = 7 } }) (codes "a")) ≡ refused verdicts.NotLiar)
-    × (says one base (lines.Monitor 1 (record { 0 = 0 }) 3) ≡ refused verdicts.UnknownMember)
+refuses_in_order : (says one base (lines.Start 2) ≡ refused whys.NotNode)
+    × (says one base (lines.Deliver 7 2) ≡ refused whys.NotNode)
+    × (says one (begun_world one) (lines.Deliver 7 1) ≡ refused whys.NoDatagram)
+    × (says one (begun_world one) (lines.Give (codes "a") 1) ≡ refused whys.NoName)
+    × (says one (begun_world one) (lines.View 1) ≡ refused whys.NotRunning)
+    × (says one base (lines.Start 1) ≡ refused whys.Running)
+    × (says one base (accuse 2 None 0 (codes "b")) ≡ refused whys.NoNote)
+    × (says one base (lines.SignNote 1 (record { member = 2; epoch = 1; mask = record { 0 = 7 } }) (codes "a")) ≡ refused whys.NotLiar)
+    × (says one base (lines.Monitor 1 (record { 0 = 0 }) 3) ≡ refused whys.UnknownMember)
     × (says one base (lines.Monitor 1 (record { 0 = 0 }) 2) ≡ answers (verdicts.MonitoredBy (Some 1)))
     × (says one base (lines.View 1) ≡ answers (verdicts.Sees (1 ∷ [])))
 unfolding all_numbers in_view_by started signs signs_and_sends wants takes lives state_of handles refusal sends certificate_of neighbours neighbours_and answering_mask bits_where read_of whole_of datagram_at head_at items_at content_at records_at counted_at record_at body_at certificate_at note_at accusation_at key_at signature_at head_bytes records_bytes note_bytes accusation_bytes certificate_bytes key_bytes nodes members by_authority begun_world delivered_on handles_on forgery why_not calls hands starts starts_in_vain step

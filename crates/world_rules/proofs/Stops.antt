@@ -26,7 +26,8 @@ use Rattle.world_rules.specs.Refusals.{why_not}
 use Rattle.world_rules.specs.Steps.{calls, hands, starts, starts_in_vain, step}
 use Rattle.schedule_world.specs.declared.line.WorldLine.TheVariants as lines
 use Rattle.schedule_world.specs.declared.line.WorldLine.{WorldLine}
-use Rattle.world_rules.specs.Verdicts as verdicts
+use Rattle.world_rules.specs.declared.verdict.RefusalReason.TheVariants as whys
+use Rattle.world_rules.specs.declared.verdict.Verdict.TheVariants as verdicts
 use Rattle.world_rules.proofs.Rows.{Says, acc, answers, before_b, brings, note, one, plays, refused, says, setting, tells}
 
 -- What comes for each of these calls and outcomes.
@@ -93,14 +94,14 @@ accused_last = plays brief third_life (lines.Start 1 ∷ lines.SignNote 2 (recor
 
 uses_up : (says brief third_life (lines.Start 1) ≡ begins 3 2 3 7)
     × (says brief accused_last (lines.Give (codes "b") 1) ≡ brings (told.Took (Accusation (acc 2 1 3 0)) None ∷ told.Exhausted 3 ∷ []))
-    × (says brief (plays brief accused_last (lines.Give (codes "b") 1 ∷ lines.Stop 1 0 ∷ [])) (lines.Start 1) ≡ refused (verdicts.UsedUp 3))
+    × (says brief (plays brief accused_last (lines.Give (codes "b") 1 ∷ lines.Stop 1 0 ∷ [])) (lines.Start 1) ≡ refused (whys.UsedUp 3))
 unfolding all_numbers in_view_by started signs signs_and_sends wants takes lives state_of handles refusal sends certificate_of neighbours neighbours_and answering_mask bits_where read_of whole_of datagram_at head_at items_at content_at records_at counted_at record_at body_at certificate_at note_at accusation_at key_at signature_at head_bytes records_bytes note_bytes accusation_bytes certificate_bytes key_bytes nodes members by_authority begun_world delivered_on handles_on forgery why_not calls hands starts starts_in_vain step page partner page_number lacking accuses passed probed_at summary_at entries_at entry_at entry_bytes summary_bytes ticked_on due_on accuses_on
 uses_up = (refl, refl, refl)
 
 -- The calls of a start in vain are among those that pass: to open a store of four entries takes eight.
 in_vain : (says brief (plays brief accused_last (lines.Stop 1 0 ∷ lines.Arm 1 7 1 ∷ [])) (lines.Start 1) ≡ answers verdicts.DiskStopped)
     × (says brief (plays brief accused_last (lines.Stop 1 0 ∷ lines.Arm 1 15 1 ∷ lines.Start 1 ∷ [])) (lines.Start 1) ≡ answers verdicts.DiskStopped)
-    × (says brief (plays brief accused_last (lines.Stop 1 0 ∷ lines.Arm 1 16 1 ∷ lines.Start 1 ∷ [])) (lines.Start 1) ≡ refused (verdicts.UsedUp 3))
+    × (says brief (plays brief accused_last (lines.Stop 1 0 ∷ lines.Arm 1 16 1 ∷ lines.Start 1 ∷ [])) (lines.Start 1) ≡ refused (whys.UsedUp 3))
 unfolding all_numbers in_view_by started signs signs_and_sends wants takes lives state_of handles refusal sends certificate_of neighbours neighbours_and answering_mask bits_where read_of whole_of datagram_at head_at items_at content_at records_at counted_at record_at body_at certificate_at note_at accusation_at key_at signature_at head_bytes records_bytes note_bytes accusation_bytes certificate_bytes key_bytes nodes members by_authority begun_world delivered_on handles_on forgery why_not calls hands starts starts_in_vain step page partner page_number lacking accuses passed probed_at summary_at entries_at entry_at entry_bytes summary_bytes ticked_on due_on accuses_on
 in_vain = (refl, refl, refl)
 

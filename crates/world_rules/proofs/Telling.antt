@@ -1,4 +1,4 @@
--- What is told of the views of a node is what its lives tell.
+-- What is reported of the views of a node is what its lives report.
 use Rattle.std.proofs.Common.{◌≡◌, ℕ, true, false, eqb, List, [], ◌∷◌, ◌++◌, Some, None, inl, inr, refl, ap, sym, ◌∙◌, subst, map, filter, length}
 use Rattle.std.specs.Prelude.{flat_map, fold, option_to_list}
 use Rattle.std.specs.List.{AllByRecursion}
@@ -24,17 +24,17 @@ use Rattle.node_rules.proofs.Telling.{called-tells}
 use Rattle.world_rules.specs.Settings.{Setting, certificates, setting_of}
 use Rattle.world_rules.specs.Disks.{Disk}
 use Rattle.world_rules.specs.Calls.{OnDisk, called_on}
-use Rattle.world_rules.specs.Worlds.{Life, Station, World, begun_world, lives_of}
-use Rattle.world_rules.specs.Steps.{Told, first_call, first_life, life_over, numbered_from, station_after, told_in, with_disk, with_input}
+use Rattle.world_rules.specs.Worlds.{Life, Host, World, begun_world, lives_of}
+use Rattle.world_rules.specs.Steps.{NodeEvent, first_call, first_life, life_over, numbered_from, host_after, told_in, with_disk, with_input}
 use Rattle.world_rules.specs.Laws.{EachRemovalIsJustified, tells_life}
 use Rattle.world_rules.proofs.SoFar.{come-so-far}
 use Rattle.world_rules.proofs.LineSteps.{Keeps, keeps-reached}
-use Rattle.world_rules.proofs.Once.{at-station}
+use Rattle.world_rules.proofs.Once.{at-host}
 
 abbrev of_life : List journal.Event → List journal.Event
 of_life told = filter (λ e. is_of_life e.what) told
 
--- ---- a call tells its life
+-- ---- a call reports its life
 
 pub call-on-tells : (s : node.Setting) (n : node.Node) (i : Input) (d : Disk) → TellsItsLife s n (called_on s n i d).call
 call-on-tells s n i d = let it = come-so-far s n i d in subst (TellsItsLife s n) (sym it.1) (called-tells s n i it.0)
@@ -48,14 +48,14 @@ told_by-append g st (x ∷ xs) ys =
 abbrev life_tells : Setting → Life → List journal.Event
 life_tells s life = told_by s.group (opening []) life.node.lived
 
--- A life that a call goes on with tells what it told, and what the call tells of it.
+-- A life that a call goes on with reports what it reported, and what the call reports of it.
 pub goes-on-tells : (s : Setting) (m : ℕ) (life : Life) (i : Input) (c : Call) → TellsItsLife (setting_of s m) life.node c → life_tells s (with_input life i c.node) ≡ life_tells s life ++ of_life c.told
 unfolding node.state_of
 goes-on-tells s m life i c h =
     ap (told_by s.group (opening [])) h.grew ∙ told_by-append s.group (opening []) life.node.lived h.more
     ∙ ap (λ xs. life_tells s life ++ xs) (sym h.told_so)
 
--- ---- the first note tells its life
+-- ---- the first note reports its life
 
 all-pass : (moment : ℕ) (xs : List whats.What) → AllByRecursion (λ x. is_of_life x ≡ true) xs → of_life (map (λ what. record { moment = moment; what = what }) xs) ≡ map (λ what. record { moment = moment; what = what }) xs
 all-pass moment [] all = refl
@@ -82,7 +82,7 @@ nil-right : {A : Type 0} (xs : List A) → xs ++ [] ≡ xs
 nil-right [] = refl
 nil-right (x ∷ xs) = ap (λ ys. x ∷ ys) (nil-right xs)
 
--- The call has told what its life tells, from the opening on.
+-- The call has reported what its life reports, from the opening on.
 abbrev TellsAll : node.Setting → Call → Type 0
 TellsAll s c = of_life c.told ≡ told_by s.group (opening []) c.node.lived
 
@@ -114,17 +114,17 @@ pub started-tells : (s : node.Setting) (seed : List ℕ) (records : List Record)
 unfolding started
 started-tells s seed records kept = all-signs s (first_note s kept) (opened s seed records kept) (all-takes_all s records (begun (blank s seed kept)) refl)
 
--- ---- what was told of a node
+-- ---- what was reported of a node
 
-abbrev told_for : ℕ → List Told → List journal.Event
+abbrev told_for : ℕ → List NodeEvent → List journal.Event
 told_for m told = map (λ t. t.event) (filter (tells_life m) told)
 
 map-append : {X Y : Type 0} (f : X → Y) (xs ys : List X) → map f (xs ++ ys) ≡ map f xs ++ map f ys
 map-append f [] ys = refl
 map-append f (x ∷ xs) ys = ap (λ zs. f x ∷ zs) (map-append f xs ys)
 
-told_for-append : (m : ℕ) (xs ys : List Told) → told_for m (xs ++ ys) ≡ told_for m xs ++ told_for m ys
-told_for-append m xs ys = ap (map (λ (t : Told). t.event)) (filter-append (tells_life m) xs ys) ∙ map-append (λ (t : Told). t.event) (filter (tells_life m) xs) (filter (tells_life m) ys)
+told_for-append : (m : ℕ) (xs ys : List NodeEvent) → told_for m (xs ++ ys) ≡ told_for m xs ++ told_for m ys
+told_for-append m xs ys = ap (map (λ (t : NodeEvent). t.event)) (filter-append (tells_life m) xs ys) ∙ map-append (λ (t : NodeEvent). t.event) (filter (tells_life m) xs) (filter (tells_life m) ys)
 
 numbered-of_life : (before : ℕ) (what : whats.What) → is_of_life (numbered_from before what) ≡ is_of_life what
 numbered-of_life before (happened.Sent number to bytes) = refl
@@ -150,55 +150,55 @@ told_for-other m k before (e ∷ events) apart = rw apart (told_for-other m k be
 
 -- ---- a node's lives
 
-abbrev station_lives : Station → List Life
-station_lives station = station.past ++ option_to_list station.current
+abbrev host_lives : Host → List Life
+host_lives host = host.past ++ option_to_list host.current
 
 flat-append : {X Y : Type 0} (f : X → List Y) (xs ys : List X) → flat_map f (xs ++ ys) ≡ flat_map f xs ++ flat_map f ys
 flat-append f [] ys = refl
 flat-append f (x ∷ xs) ys = ap (λ zs. f x ++ zs) (flat-append f xs ys) ∙ sym (append_assoc (f x) (flat_map f xs) (flat_map f ys))
 
-abbrev Tells : Setting → Station → List journal.Event → Type 0
-Tells s station told = told ≡ flat_map (life_tells s) (station_lives station)
+abbrev Tells : Setting → Host → List journal.Event → Type 0
+Tells s host told = told ≡ flat_map (life_tells s) (host_lives host)
 
 one-life : (s : Setting) (past : List Life) (life : Life) → flat_map (life_tells s) (past ++ life ∷ []) ≡ flat_map (life_tells s) past ++ life_tells s life
 one-life s past life = flat-append (life_tells s) past (life ∷ []) ∙ ap (λ xs. flat_map (life_tells s) past ++ xs) (nil-right (life_tells s life))
 
-lives-running : (s : Setting) (station : Station) (life : Life) → station.current ≡ Some life → flat_map (life_tells s) (station_lives station) ≡ flat_map (life_tells s) station.past ++ life_tells s life
-lives-running s station life is = ap (λ o. flat_map (life_tells s) (station.past ++ option_to_list o)) is ∙ one-life s station.past life
+lives-running : (s : Setting) (host : Host) (life : Life) → host.current ≡ Some life → flat_map (life_tells s) (host_lives host) ≡ flat_map (life_tells s) host.past ++ life_tells s life
+lives-running s host life is = ap (λ o. flat_map (life_tells s) (host.past ++ option_to_list o)) is ∙ one-life s host.past life
 
-lives-idle : (s : Setting) (station : Station) → station.current ≡ None → flat_map (life_tells s) (station_lives station) ≡ flat_map (life_tells s) station.past
-lives-idle s station is = ap (λ o. flat_map (life_tells s) (station.past ++ option_to_list o)) is ∙ ap (flat_map (life_tells s)) (nil-right station.past)
+lives-idle : (s : Setting) (host : Host) → host.current ≡ None → flat_map (life_tells s) (host_lives host) ≡ flat_map (life_tells s) host.past
+lives-idle s host is = ap (λ o. flat_map (life_tells s) (host.past ++ option_to_list o)) is ∙ ap (flat_map (life_tells s)) (nil-right host.past)
 
-lives-after : (s : Setting) (station : Station) (life : Life) (d : OnDisk) → flat_map (life_tells s) (station_lives (station_after station life d)) ≡ flat_map (life_tells s) station.past ++ life_tells s life
-lives-after s station life d =
-    cond_both {A = Station} d.call.ended _ _ (λ x. flat_map (life_tells s) (station_lives x) ≡ flat_map (life_tells s) station.past ++ life_tells s life)
-    (λ over. ap (flat_map (life_tells s)) (nil-right (station.past ++ life ∷ [])) ∙ one-life s station.past life)
-    (λ going. one-life s station.past life)
+lives-after : (s : Setting) (host : Host) (life : Life) (d : OnDisk) → flat_map (life_tells s) (host_lives (host_after host life d)) ≡ flat_map (life_tells s) host.past ++ life_tells s life
+lives-after s host life d =
+    cond_both {A = Host} d.call.ended _ _ (λ x. flat_map (life_tells s) (host_lives x) ≡ flat_map (life_tells s) host.past ++ life_tells s life)
+    (λ over. ap (flat_map (life_tells s)) (nil-right (host.past ++ life ∷ [])) ∙ one-life s host.past life)
+    (λ going. one-life s host.past life)
 
-tells-called : (s : Setting) (m : ℕ) (i : Input) (life : Life) (station : Station) (told : List journal.Event) → station.current ≡ Some life → Tells s station told
-    → let d = called_on (setting_of s m) life.node i station.disk in Tells s (station_after station (with_input life i d.call.node) d) (told ++ of_life d.call.told)
-tells-called s m i life station told is h =
-    let d : OnDisk = called_on (setting_of s m) life.node i station.disk in
-    let past : List journal.Event = flat_map (life_tells s) station.past in
-    ap (λ xs. xs ++ of_life d.call.told) (h ∙ lives-running s station life is)
+tells-called : (s : Setting) (m : ℕ) (i : Input) (life : Life) (host : Host) (told : List journal.Event) → host.current ≡ Some life → Tells s host told
+    → let d = called_on (setting_of s m) life.node i host.disk in Tells s (host_after host (with_input life i d.call.node) d) (told ++ of_life d.call.told)
+tells-called s m i life host told is h =
+    let d : OnDisk = called_on (setting_of s m) life.node i host.disk in
+    let past : List journal.Event = flat_map (life_tells s) host.past in
+    ap (λ xs. xs ++ of_life d.call.told) (h ∙ lives-running s host life is)
     ∙ append_assoc past (life_tells s life) (of_life d.call.told)
-    ∙ ap (λ xs. past ++ xs) (sym (goes-on-tells s m life i d.call (call-on-tells (setting_of s m) life.node i station.disk)))
-    ∙ sym (lives-after s station (with_input life i d.call.node) d)
+    ∙ ap (λ xs. past ++ xs) (sym (goes-on-tells s m life i d.call (call-on-tells (setting_of s m) life.node i host.disk)))
+    ∙ sym (lives-after s host (with_input life i d.call.node) d)
 
-tells-began : (s : Setting) (m : ℕ) (d : Disk) (station : Station) (told : List journal.Event) → station.current ≡ None → Tells s station told
-    → let call = first_call s m station.disk.state in Tells s (record { disk = d; past = station.past; current = Some (first_life station.disk.state call) }) (told ++ of_life call.told)
-tells-began s m d station told idle h =
-    let call : Call = first_call s m station.disk.state in
-    ap (λ xs. xs ++ of_life call.told) (h ∙ lives-idle s station idle)
-    ∙ ap (λ xs. flat_map (life_tells s) station.past ++ xs) (started-tells (setting_of s m) (s.nonces m station.disk.state.next) (certificates s) station.disk.state)
-    ∙ sym (one-life s station.past (first_life station.disk.state call))
+tells-began : (s : Setting) (m : ℕ) (d : Disk) (host : Host) (told : List journal.Event) → host.current ≡ None → Tells s host told
+    → let call = first_call s m host.disk.state in Tells s (record { disk = d; past = host.past; current = Some (first_life host.disk.state call) }) (told ++ of_life call.told)
+tells-began s m d host told idle h =
+    let call : Call = first_call s m host.disk.state in
+    ap (λ xs. xs ++ of_life call.told) (h ∙ lives-idle s host idle)
+    ∙ ap (λ xs. flat_map (life_tells s) host.past ++ xs) (started-tells (setting_of s m) (s.nonces m host.disk.state.next) (certificates s) host.disk.state)
+    ∙ sym (one-life s host.past (first_life host.disk.state call))
 
 -- ---- worlds
 
-abbrev Stands : Setting → ℕ → World → List Told → Type 0
-Stands s m w told = Tells s (w.stations m) (told_for m told)
+abbrev Stands : Setting → ℕ → World → List NodeEvent → Type 0
+Stands s m w told = Tells s (w.hosts m) (told_for m told)
 
-news-other : (s : Setting) (m k before : ℕ) (w : World) (told : List Told) (events : List journal.Event) → eqb k m ≡ false → Stands s m w told → Tells s (w.stations m) (told_for m (told ++ told_in k before events))
+news-other : (s : Setting) (m k before : ℕ) (w : World) (told : List NodeEvent) (events : List journal.Event) → eqb k m ≡ false → Stands s m w told → Tells s (w.hosts m) (told_for m (told ++ told_in k before events))
 news-other s m k before w told events apart h =
     told_for-append m told (told_in k before events) ∙ ap (λ xs. told_for m told ++ xs) (told_for-other m k before events apart) ∙ nil-right (told_for m told) ∙ h
 
@@ -206,30 +206,30 @@ stands-kept : (s : Setting) (m : ℕ) → Keeps s (Stands s m)
 stands-kept s m =
     record {
       called = λ k i life c running free h.
-          let station : Station = c.world.stations k in
-          let d : OnDisk = called_on (setting_of s k) life.node i station.disk in
-          let after : Station = station_after station (with_input life i d.call.node) d in
+          let host : Host = c.world.hosts k in
+          let d : OnDisk = called_on (setting_of s k) life.node i host.disk in
+          let after : Host = host_after host (with_input life i d.call.node) d in
           let before : ℕ = length c.world.sent in
-          at-station m k after c.world (λ x. Tells s x (told_for m (c.told ++ told_in k before d.call.told)))
+          at-host m k after c.world (λ x. Tells s x (told_for m (c.told ++ told_in k before d.call.told)))
           (λ e. subst (λ (z : ℕ). Stands s z c.world c.told → Tells s after (told_for z (c.told ++ told_in k before d.call.told))) e
-          (λ own. told_for-append k c.told (told_in k before d.call.told) ∙ ap (λ xs. told_for k c.told ++ xs) (told_for-own k before d.call.told) ∙ tells-called s k i life station (told_for k c.told) running own) h)
+          (λ own. told_for-append k c.told (told_in k before d.call.told) ∙ ap (λ xs. told_for k c.told ++ xs) (told_for-own k before d.call.told) ∙ tells-called s k i life host (told_for k c.told) running own) h)
           (λ apart. news-other s m k before c.world c.told d.call.told apart h);
       began = λ k d c it idle free same h.
-          let station : Station = c.world.stations k in
-          let call : Call = first_call s k station.disk.state in
-          let after : Station = record { disk = d; past = station.past; current = Some (first_life station.disk.state call) } in
+          let host : Host = c.world.hosts k in
+          let call : Call = first_call s k host.disk.state in
+          let after : Host = record { disk = d; past = host.past; current = Some (first_life host.disk.state call) } in
           let before : ℕ = length c.world.sent in
-          at-station m k after c.world (λ x. Tells s x (told_for m (c.told ++ told_in k before call.told)))
+          at-host m k after c.world (λ x. Tells s x (told_for m (c.told ++ told_in k before call.told)))
           (λ e. subst (λ (z : ℕ). Stands s z c.world c.told → Tells s after (told_for z (c.told ++ told_in k before call.told))) e
-          (λ own. told_for-append k c.told (told_in k before call.told) ∙ ap (λ xs. told_for k c.told ++ xs) (told_for-own k before call.told) ∙ tells-began s k d station (told_for k c.told) idle own) h)
+          (λ own. told_for-append k c.told (told_in k before call.told) ∙ ap (λ xs. told_for k c.told ++ xs) (told_for-own k before call.told) ∙ tells-began s k d host (told_for k c.told) idle own) h)
           (λ apart. news-other s m k before c.world c.told call.told apart h);
-      tried = λ k d w told idle free left h. at-station m k _ w (λ x. Tells s x (told_for m told)) (λ e. subst (λ (z : ℕ). Stands s z w told → Tells s (with_disk (w.stations k) d) (told_for z told)) e (λ own. own) h) (λ apart. h);
-      disked = λ k d w told same h. at-station m k _ w (λ x. Tells s x (told_for m told)) (λ e. subst (λ (z : ℕ). Stands s z w told → Tells s (with_disk (w.stations k) d) (told_for z told)) e (λ own. own) h) (λ apart. h);
+      tried = λ k d w told idle free left h. at-host m k _ w (λ x. Tells s x (told_for m told)) (λ e. subst (λ (z : ℕ). Stands s z w told → Tells s (with_disk (w.hosts k) d) (told_for z told)) e (λ own. own) h) (λ apart. h);
+      disked = λ k d w told same h. at-host m k _ w (λ x. Tells s x (told_for m told)) (λ e. subst (λ (z : ℕ). Stands s z w told → Tells s (with_disk (w.hosts k) d) (told_for z told)) e (λ own. own) h) (λ apart. h);
       ended = λ k life w told running h.
-          let station : Station = w.stations k in
-          at-station m k _ w (λ x. Tells s x (told_for m told))
-          (λ e. subst (λ (z : ℕ). Stands s z w told → Tells s (life_over station (Some life)) (told_for z told)) e
-          (λ own. own ∙ lives-running s station life running ∙ sym (one-life s station.past life) ∙ ap (flat_map (life_tells s)) (sym (nil-right (station.past ++ life ∷ [])))) h)
+          let host : Host = w.hosts k in
+          at-host m k _ w (λ x. Tells s x (told_for m told))
+          (λ e. subst (λ (z : ℕ). Stands s z w told → Tells s (life_over host (Some life)) (told_for z told)) e
+          (λ own. own ∙ lives-running s host life running ∙ sym (one-life s host.past life) ∙ ap (flat_map (life_tells s)) (sym (nil-right (host.past ++ life ∷ [])))) h)
           (λ apart. h);
       got = λ k moment number w told h.
           told_for-append m told _ ∙ ap (λ xs. told_for m told ++ xs) (got-silent m k moment number) ∙ nil-right (told_for m told) ∙ h;

@@ -4,7 +4,7 @@ use Rattle.records.specs.declared.Body.TheVariants.{Note, Accusation}
 use Rattle.journal.specs.declared.event.What.{What}
 use Rattle.journal.specs.declared.event.What.TheVariants as happened
 use Rattle.world_rules.specs.Settings.{Setting, is_node}
-use Rattle.world_rules.specs.Steps.{Told}
+use Rattle.world_rules.specs.Steps.{NodeEvent}
 
 -- Datagrams that nodes sent, notes and accusations that were accepted as they were delivered, records that were refused,
 -- members that were removed from a view, those of them that are nodes, and indexes that nodes spent.
@@ -30,5 +30,5 @@ with_event s c (happened.Spent index body) = record c { spent = c.spent + 1 }
 with_event s c _ = c
 
 -- The counts of these events.
-abbrev pub counts_of : Setting → List Told → Counts
+abbrev pub counts_of : Setting → List NodeEvent → Counts
 counts_of s told = fold (λ c t. with_event s c t.event.what) nothing_counted told

@@ -8,8 +8,8 @@ use Rattle.schedule_world.specs.declared.line.WorldLine.TheVariants as lines
 use Rattle.schedule_world.specs.declared.line.WorldLine.{WorldLine}
 use Rattle.world_rules.specs.Settings.{Setting, is_node, is_liar}
 use Rattle.world_rules.specs.Worlds.{World, is_running, named_so, next_of_liar, spent_of}
-use Rattle.world_rules.specs.Verdicts as why
-use Rattle.world_rules.specs.Verdicts.{Why}
+use Rattle.world_rules.specs.declared.verdict.RefusalReason.{RefusalReason}
+use Rattle.world_rules.specs.declared.verdict.RefusalReason.TheVariants as why
 
 -- ---- what a line names
 
@@ -82,25 +82,25 @@ newest_signed w m = greatest (filter_map (λ x. epoch_of_note m x.body) (spent_o
 
 -- The member's store has its next index, and a liar's key too.
 abbrev pub next_index : World → WorldLine → Option ℕ
-next_index w (lines.Start m) = Some (w.stations m).disk.state.next
+next_index w (lines.Start m) = Some (w.hosts m).disk.state.next
 next_index w (lines.SignNote key note name) = Some (next_of_liar w key)
 next_index w (lines.SignAccusation key accuser accused epoch ring name) = Some (next_of_liar w key)
 next_index w _ = None
 
 -- The one whose monitor is asked for has no certificate that the node holds.
 abbrev pub asks_for_unknown : World → WorldLine → Bool
-asks_for_unknown w (lines.Monitor m ring of) = option_map_or (λ life. not (is_certified life.node of)) (w.stations m).current false
+asks_for_unknown w (lines.Monitor m ring of) = option_map_or (λ life. not (is_certified life.node of)) (w.hosts m).current false
 asks_for_unknown w _ = false
 
 abbrev pub holds_of : {X : Type 0} → (X → Bool) → Option X → Bool
 holds_of test x = option_map_or test x false
 
 -- A row: whether it holds, and what is then said.
-abbrev pub first_row : List (Bool × Why) → Option Why
+abbrev pub first_row : List (Bool × RefusalReason) → Option RefusalReason
 first_row [] = None
 first_row (row ∷ rows) = if row.0 then Some row.1 else first_row rows
 
-abbrev pub table : Setting → World → WorldLine → List (Bool × Why)
+abbrev pub table : Setting → World → WorldLine → List (Bool × RefusalReason)
 table s w line =
     (holds_of (λ m. not (is_node s m)) (node_named line), why.NotNode)
     ∷ (holds_of (λ key. not (is_liar s key)) (key_named line), why.NotLiar)
@@ -114,5 +114,5 @@ table s w line =
     ∷ []
 
 -- Why the line can't be done, if it can't.
-unfoldable pub why_not : Setting → World → WorldLine → Option Why
+unfoldable pub why_not : Setting → World → WorldLine → Option RefusalReason
 why_not s w line = first_row (table s w line)

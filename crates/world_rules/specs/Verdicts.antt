@@ -1,31 +1,13 @@
--- The verdicts on the lines of a schedule, and their texts.
-use Rattle.std.specs.Prelude.{ℕ, List, ◌++◌, Option, codes, decimal}
+-- The texts of the verdicts on the lines of a schedule.
+use Rattle.std.specs.Prelude.{ℕ, List, ◌++◌, codes, decimal}
 use Rattle.ff_ids.specs.Texts.{monitor_text}
 use Rattle.life_events.specs.Events.{members_text}
+use Rattle.world_rules.specs.declared.verdict.RefusalReason.{RefusalReason}
+use Rattle.world_rules.specs.declared.verdict.RefusalReason.TheVariants.{NotNode, NotLiar, NoName, NoDatagram, Running, NotRunning, NoNote, UsedUp, UnknownMember}
+use Rattle.world_rules.specs.declared.verdict.Verdict.{Verdict}
+use Rattle.world_rules.specs.declared.verdict.Verdict.TheVariants.{Began, DiskStopped, Spends, Sees, MonitoredBy, Refused}
 
--- Why a line can't be done.
-pub data Why : Type 0 where
-  NotNode : Why
-  NotLiar : Why
-  NoName : Why
-  NoDatagram : Why
-  Running : Why
-  NotRunning : Why
-  NoNote : Why
-  UsedUp : (first : ℕ) → Why
-  UnknownMember : Why
-
--- The verdict on a line: a life of this number began; the disk stopped as one was to begin; an index was spent; those in
--- the view; the monitor, if there is one; or the line can't be done.
-pub data Verdict : Type 0 where
-  Began : (life : ℕ) → Verdict
-  DiskStopped : Verdict
-  Spends : (index : ℕ) → Verdict
-  Sees : (members : List ℕ) → Verdict
-  MonitoredBy : (monitor : Option ℕ) → Verdict
-  Refused : (why : Why) → Verdict
-
-abbrev pub why_text : Why → List ℕ
+abbrev pub why_text : RefusalReason → List ℕ
 why_text NotNode = codes "not-node"
 why_text NotLiar = codes "not-liar"
 why_text NoName = codes "no-name"

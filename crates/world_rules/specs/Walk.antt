@@ -9,15 +9,16 @@ use Rattle.lms_tree.specs.declared.TreeKind.TheVariants.{H5}
 use Rattle.signer.specs.Lives.{Spent}
 use Rattle.journal.specs.Texts.{body_text, event_text}
 use Rattle.line_text.specs.declared.bad_word.BadWord.{BadWord}
-use Rattle.text_trace.specs.Trace.{Owed, Trace}
+use Rattle.text_trace.specs.Trace.{Continuation, Trace}
 use Rattle.schedule_world.specs.declared.line.WorldLine.TheVariants as lines
 use Rattle.schedule_world.specs.declared.line.WorldLine.{WorldLine}
 use Rattle.world_rules.specs.Settings.{Owner, Setting}
 use Rattle.world_rules.specs.Keys.{setting_for}
 use Rattle.world_rules.specs.Worlds.{Life, World, begun_world, lives_of, spent_of}
 use Rattle.world_rules.specs.Forgeries.{Forgery}
-use Rattle.world_rules.specs.Verdicts.{Verdict, verdict_text}
-use Rattle.world_rules.specs.Steps.{Answer, Told, step}
+use Rattle.world_rules.specs.declared.verdict.Verdict.{Verdict}
+use Rattle.world_rules.specs.Verdicts.{verdict_text}
+use Rattle.world_rules.specs.Steps.{Answer, NodeEvent, step}
 
 -- ## Texts
 
@@ -26,7 +27,7 @@ behind_line None = []
 behind_line (Some verdict) = codes " : " ++ verdict_text verdict
 
 -- The node in whose life the event came, and the event.
-abbrev pub told_text : Told → List ℕ
+abbrev pub told_text : NodeEvent → List ℕ
 told_text t = codes "@" ++ decimal t.who ++ codes " " ++ event_text t.event
 
 abbrev pub owner_text : Owner → List ℕ
@@ -65,7 +66,7 @@ pub data Stage : Type 0 where
 pub record Brought : Type 0 where
   pub stage : Stage
   pub verdict : Option Verdict
-  pub told : List Told
+  pub told : List NodeEvent
 
 abbrev pub just : Stage → Brought
 just stage = record { stage = stage; verdict = None; told = [] }
@@ -165,8 +166,8 @@ trace_in g w = record { output = output_of g w.taken; cause = w.cause }
 abbrev pub last_line : Walk → ℕ
 last_line w = length w.taken + 1
 
--- The events that are told.
-abbrev pub events_in : Walk → List Told
+-- The events that are reported.
+abbrev pub events_in : Walk → List NodeEvent
 events_in w = flat_map (λ t. t.brought.told) w.taken
 
 -- The lives of a node, one after another.
@@ -186,5 +187,5 @@ abbrev pub spent_in : Walk → Owner → List Spent
 spent_in w who = spent_at w.stage who
 
 -- What is owed for the lines of which so much was read before.
-abbrev pub played : {P : Type 0} → Grammar P → (Roster → Setting) → P → Stage → Owed Cause
+abbrev pub played : {P : Type 0} → Grammar P → (Roster → Setting) → P → Stage → Continuation Cause
 played g make p stage = λ text. trace_in g (walk g make text p stage)

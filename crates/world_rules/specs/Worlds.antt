@@ -18,7 +18,7 @@ pub record Life : Type 0 where
   pub node : node.Node
 
 -- A node's place in the world: its disk, its lives that are over, the first one first, and the one that runs.
-pub record Station : Type 0 where
+pub record Host : Type 0 where
   pub disk : Disk
   pub past : List Life
   pub current : Option Life
@@ -32,7 +32,7 @@ pub record Named : Type 0 where
 -- The nodes by number; the datagrams that were sent, each with its addressee, in order; how many of them were taken by a
 -- flow, which takes them in order; the named records; and the signatures that were made, in order.
 pub record World : Type 0 where
-  pub stations : ℕ → Station
+  pub hosts : ℕ → Host
   pub sent : List (ℕ × List ℕ)
   pub flowed : ℕ
   pub named : List Named
@@ -43,13 +43,13 @@ pub record World : Type 0 where
 -- All certificates are signed, and each node's store is made, with all rings enabled.
 unfoldable pub begun_world : Setting → World
 begun_world s =
-    let station : Station = record { disk = made_disk (record { 0 = all_rings s.group.t }); past = []; current = None } in
-    record { stations = λ m. station; sent = []; flowed = 0; named = []; signed = by_authority s }
+    let host : Host = record { disk = made_disk (record { 0 = all_rings s.group.t }); past = []; current = None } in
+    record { hosts = λ m. host; sent = []; flowed = 0; named = []; signed = by_authority s }
 
 -- ---- what is read off
 
 abbrev pub is_running : World → ℕ → Bool
-is_running w m = is_some (w.stations m).current
+is_running w m = is_some (w.hosts m).current
 
 -- The running nodes, in order of number.
 abbrev pub running : Setting → World → List ℕ
@@ -57,7 +57,7 @@ running s w = filter (is_running w) (nodes s)
 
 -- A node's lives, in order.
 abbrev pub lives_of : World → ℕ → List Life
-lives_of w m = (w.stations m).past ++ option_to_list (w.stations m).current
+lives_of w m = (w.hosts m).past ++ option_to_list (w.hosts m).current
 
 abbrev pub spent_if_by : Owner → Signed → Option Spent
 spent_if_by who x = if same_owner x.who who then Some (record { index = x.index; body = x.body }) else None
@@ -75,8 +75,8 @@ named_so w name = find (λ x. bytes_eq x.name name) w.named
 
 -- ---- small changes
 
-abbrev pub with_station : ℕ → Station → World → World
-with_station m station w = record w { stations = λ k. if k == m then station else w.stations k }
+abbrev pub with_host : ℕ → Host → World → World
+with_host m host w = record w { hosts = λ k. if k == m then host else w.hosts k }
 
 -- What was kept under the name is replaced.
 abbrev pub with_named : Named → World → World

@@ -1,9 +1,14 @@
-//! Floor: world. What a world of nodes does with each line of a schedule, as definitions and theorems alone: the disks
-//! and calls of its nodes, its lines with their verdicts and events, and the one walk over a text. Each theorem is the
-//! contract of a function that does nothing. The contracts of all crates of worlds cite it.
+//! Floor: world. What a world of nodes does with each line of a schedule, as definitions and theorems: the disks and
+//! calls of its nodes, its lines with their verdicts and events, and the one walk over a text. Each theorem is the
+//! contract of a function that does nothing; of the code, only the type of verdicts stands here. The contracts of all
+//! crates of worlds cite it.
 #![tactic(auto)]
 
 ghost use Rattle.world_rules.specs.Laws.{CallsComeSoFar, EachRemovalIsJustified, NodesSpendOnce};
+
+mod verdict;
+
+pub use verdict::{MemberList, RefusalReason, Verdict};
 
 /// A call of a node over its disk is the node's call, whole; or, where an armed stop comes, the call up to the put in
 /// which it does.
@@ -17,7 +22,7 @@ pub fn nodes_spend_once()
     ensures { NodesSpendOnce }
 {}
 
-/// What was told of a node's view, line after line, is what its lives tell, one after another; and in each of them each
+/// What was reported of a node's view, line after line, is what its lives report, one after another; and in each of them each
 /// member that leaves the view does so at a tick, and an accusation accepted earlier against it stood in each state
 /// between, for the timeout at least.
 pub fn each_removal_is_justified()

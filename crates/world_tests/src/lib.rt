@@ -3,8 +3,6 @@
 #![tactic(auto)]
 
 #[cfg(test)]
-mod first_lines;
-#[cfg(test)]
 mod lines;
 #[cfg(test)]
 mod player;

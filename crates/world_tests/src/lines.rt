@@ -4,14 +4,18 @@ use ff_ids::MemberId;
 use journal::{Event, What};
 use schedule_world::WorldLine;
 use std::test::Fail;
-use world_text::{MemberList, Verdict, Why, write_line, write_told, write_verdict};
+use world_rules::{MemberList, RefusalReason, Verdict};
+use world_text::{write_line, write_told, write_verdict};
 
 #[test]
 fn a_line_and_what_stands_behind_it(rt: HostRuntime) -> Result<(), Fail> {
     let member = MemberId::new(7);
     let mut out = Vec::new(rt.alloc());
     write_line(&WorldLine::View { member }, &mut out)?;
-    write_verdict(&Verdict::Refused(Why::UsedUp { first: 32 }), &mut out)?;
+    write_verdict(
+        &Verdict::Refused(RefusalReason::UsedUp { first: 32 }),
+        &mut out,
+    )?;
     write_told(
         member,
         &Event {

@@ -5,7 +5,7 @@ use lms_ots::OtsKind;
 use lms_tree::{TreeKind, verify};
 use records::{Body, signed_bytes};
 use std::test::Fail;
-use world_keys::{Authority, Kinds, SigningKey, is_same, key_of};
+use world_host::{Authority, Kinds, SigningKey, is_same, key_of};
 
 #[test]
 fn a_key_signs_by_its_next_leaf(rt: HostRuntime) -> Result<(), Fail> {

@@ -52,7 +52,10 @@ fn width(ots: OtsKind) -> u8
 }
 
 fn add_kinds(ots: OtsKind, tree: TreeKind, out: &mut Vec<u8>) -> Result<(), NoMemory>
-    ensures ok { OnOk result (out.new.items ≡ out.old.items ++ (codes "kinds " ++ decimal (width_of ots) ++ codes " " ++ decimal (height tree))) }
+    ensures ok { OnOk result
+        (out.new.items
+        ≡ out.old.items ++ (codes "kinds " ++ decimal (width_of ots) ++ codes " " ++ decimal
+        (height tree))) }
     ensures refused { OnErr result (Began out.old.items out.new.items) }
 {
     let (width, height) = (width(ots), tree.height());
@@ -60,7 +63,9 @@ fn add_kinds(ots: OtsKind, tree: TreeKind, out: &mut Vec<u8>) -> Result<(), NoMe
 }
 
 fn add_raw(member: MemberId, bytes: &[u8], out: &mut Vec<u8>) -> Result<(), NoMemory>
-    ensures ok { OnOk result (out.new.items ≡ out.old.items ++ (codes "raw " ++ decimal member ++ codes " " ++ bytes_text bytes.now)) }
+    ensures ok { OnOk result
+        (out.new.items
+        ≡ out.old.items ++ (codes "raw " ++ decimal member ++ codes " " ++ bytes_text bytes.now)) }
     ensures refused { OnErr result (Began out.old.items out.new.items) }
 {
     write_text(format_args!("raw {member} "), out)?;
@@ -93,7 +98,9 @@ fn add_sign_note(
 }
 
 fn add_give(name: &Name, member: MemberId, out: &mut Vec<u8>) -> Result<(), NoMemory>
-    ensures ok { OnOk result (out.new.items ≡ out.old.items ++ (codes "give " ++ name.now ++ codes " " ++ decimal member)) }
+    ensures ok { OnOk result
+        (out.new.items
+        ≡ out.old.items ++ (codes "give " ++ name.now ++ codes " " ++ decimal member)) }
     ensures refused { OnErr result (Began out.old.items out.new.items) }
 {
     add(out, b"give ")?;
@@ -142,7 +149,9 @@ fn add_accusation(
     name: &Name,
     out: &mut Vec<u8>,
 ) -> Result<(), NoMemory>
-    ensures ok { OnOk result (out.new.items ≡ out.old.items ++ (accusation_middle accused epoch ++ accusation_end ring name.now)) }
+    ensures ok { OnOk result
+        (out.new.items
+        ≡ out.old.items ++ (accusation_middle accused epoch ++ accusation_end ring name.now)) }
     ensures refused { OnErr result (Began out.old.items out.new.items) }
 {
     add_accused(accused, epoch, out)?;
@@ -158,7 +167,9 @@ fn add_sign_accusation(
     name: &Name,
     out: &mut Vec<u8>,
 ) -> Result<(), NoMemory>
-    ensures ok { OnOk result (out.new.items ≡ out.old.items ++ accusation_line key accuser accused epoch ring name.now) }
+    ensures ok { OnOk result
+        (out.new.items
+        ≡ out.old.items ++ accusation_line key accuser accused epoch ring name.now) }
     ensures refused { OnErr result (Began out.old.items out.new.items) }
 {
     write_text(format_args!("sign-accusation {key} {accuser}"), out)?;

@@ -1,4 +1,4 @@
-//! What a node of a world tells.
+//! What a node of a world reports.
 
 ghost use Rattle.std.specs.Prelude.{◌≡◌, ◌++◌, OnOk, OnErr};
 ghost use Rattle.world_rules.specs.Walk.{told_text};
@@ -10,7 +10,8 @@ use journal::{Event, write_event};
 use life_events::write_text;
 
 fn add_told(who: MemberId, event: &Event, out: &mut Vec<u8>) -> Result<(), NoMemory>
-    ensures ok { OnOk result (out.new.items ≡ out.old.items ++ told_text (record { who = who; event = event.now })) }
+    ensures ok { OnOk result
+        (out.new.items ≡ out.old.items ++ told_text (record { who = who; event = event.now })) }
     ensures refused { OnErr result (Began out.old.items out.new.items) }
 {
     write_text(format_args!("@{who} "), out)?;
@@ -19,7 +20,8 @@ fn add_told(who: MemberId, event: &Event, out: &mut Vec<u8>) -> Result<(), NoMem
 
 /// Adds the event of this node, as `@1 at 0 entered 1`, without a line feed.
 pub fn write_told(who: MemberId, event: &Event, out: &mut Vec<u8>) -> Result<(), NoMemory>
-    ensures ok { OnOk result (out.new.items ≡ out.old.items ++ told_text (record { who = who; event = event.now })) }
+    ensures ok { OnOk result
+        (out.new.items ≡ out.old.items ++ told_text (record { who = who; event = event.now })) }
     ensures refused { OnErr result (out.new.items ≡ out.old.items) }
 {
     let held = out.len();

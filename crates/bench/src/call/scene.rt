@@ -4,9 +4,9 @@ ghost use Rattle.records.specs.Spelling.{HasPort};
 
 use datagram::records_head;
 use ff_ids::{AccBody, Epoch, Group, Mask, MemberId, NoteBody, RingNo};
+use fixtures::{Crew, Key, Kinds, Player, SceneFault};
 use lms_ots::OtsKind;
 use lms_tree::TreeKind;
-use node_scene::{Crew, Key, Kinds, Player, SceneFault};
 use ports::MemoryDisk;
 use records::{Body, Checked, write_record};
 use std::alloc::Global;

@@ -4,9 +4,9 @@ ghost use Rattle.std.specs.Prelude.{◌≡◌, ◌<◌, IfOk};
 
 use datagram::records_head;
 use ff_ids::{Epoch, Group, Mask, MemberId, NoteBody};
+use fixtures::{Crew, Key, Kinds, Player};
 use lms_ots::OtsKind;
 use lms_tree::TreeKind;
-use node_scene::{Crew, Key, Kinds, Player};
 use ports::MemoryDisk;
 use records::{Body, Checked, write_record};
 use std::alloc::Global;

@@ -6,14 +6,14 @@ use Rattle.epoch_store.proofs.read_entries.Given as goal
 
 abbrev pub invariant-loop-state : goal.invariant-loop-state
 invariant-loop-state g l = record {
-  told : g.D.Disk.moments l.disk ≡ g.D.Disk.moments l.initial.disk;
-  faults : g.D.Disk.faults l.disk ≡ g.D.Disk.faults l.initial.disk;
-  so_far : Continues l.tag (g.D.Disk.moments l.initial.disk) l.before l.seat;
+  told : (g.D.Disk.state l.disk).moments ≡ (g.D.Disk.state l.initial.disk).moments;
+  faults : (g.D.Disk.state l.disk).faults ≡ (g.D.Disk.state l.initial.disk).faults;
+  so_far : Continues l.tag (g.D.Disk.state l.initial.disk).moments l.before l.seat;
   place : IsPlaced l.before l.seat;
   in_force : l.seat.tag ≡ l.tag;
-  reached : ReachesIn l.tag (g.D.Disk.moments l.initial.disk) l.before l.seat;
-  follows : HasPassed l.seat.gate (g.D.Disk.state l.initial.disk) (g.D.Disk.state l.disk);
-  calls : HasRead l.seat.gate (g.D.Disk.calls l.initial.disk) (g.D.Disk.calls l.disk);
+  reached : ReachesIn l.tag (g.D.Disk.state l.initial.disk).moments l.before l.seat;
+  follows : HasPassed l.seat.gate (g.D.Disk.state l.initial.disk).model (g.D.Disk.state l.disk).model;
+  calls : HasRead l.seat.gate (g.D.Disk.state l.initial.disk).calls (g.D.Disk.state l.disk).calls;
 }
 
 abbrev pub decreases-loop-state : goal.decreases-loop-state

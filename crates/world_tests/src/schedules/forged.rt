@@ -9,7 +9,7 @@ use records::Body;
 use std::alloc::Global;
 use std::process::Abort;
 use std::test::Fail;
-use world_keys::{Kinds, SigningKey, key_of};
+use world_host::{Kinds, SigningKey, key_of};
 
 const GROUP: Group = Group {
     tag: [0; 16],

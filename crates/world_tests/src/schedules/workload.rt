@@ -1,9 +1,9 @@
 //! The smallest workload.
 
 use std::test::Fail;
-use world_soak::{soak, write_summary};
+use world_replay::{soak, write_summary};
 
-/// Each node tells one other of itself at its tick. Two of the three meet twice over, so two notes come that are known.
+/// Each node reports one other of itself at its tick. Two of the three meet twice over, so two notes come that are known.
 const SUMMARY: &str = "soak 7 3 1\n\
 lines 15\n\
 sent 12\n\

@@ -93,17 +93,17 @@ pub returns-then-has_accused-clause-spends : goal.returns-then-has_accused-claus
 returns-then-has_accused-clause-spends g c = spends-none c.args.self.now c.args.self.now _ (nothing-same c.args.self.now)
 
 pub returns-in_default-clause-spends : goal.returns-in_default-clause-spends
-returns-in_default-clause-spends g c = spends-none c.args.self.now c.tell.new.self _ c.tell.ensures.quiet
+returns-in_default-clause-spends g c = spends-none c.args.self.now c.tell.new.self _ c.tell.ensures.signs_nothing
 
 pub returns-in_default-ring_for-clause-spends : goal.returns-in_default-ring_for-clause-spends
-returns-in_default-ring_for-clause-spends g c = spends-none c.args.self.now c.tell.new.self _ c.tell.ensures.quiet
+returns-in_default-ring_for-clause-spends g c = spends-none c.args.self.now c.tell.new.self _ c.tell.ensures.signs_nothing
 
 pub returns-clause-spends : goal.returns-clause-spends
-returns-clause-spends g c = spends-after c.args.self.now c.tell.new.self c.want_accusation.new.self _ _ c.tell.ensures.quiet c.want_accusation.ensures.spends
+returns-clause-spends g c = spends-after c.args.self.now c.tell.new.self c.want_accusation.new.self _ _ c.tell.ensures.signs_nothing c.want_accusation.ensures.spends
 
 pub returns-then-not-is_member-clause-spends : goal.returns-then-not-is_member-clause-spends
 returns-then-not-is_member-clause-spends g c =
-    spends-none c.args.self.now _ _ (nothing-trans c.args.self.now c.tell.new.self _ c.tell.ensures.quiet (refused-none (the_view c.self-2.inside) c.tell.new.self _ c.self-2.view_is refl c.fail.ensures))
+    spends-none c.args.self.now _ _ (nothing-trans c.args.self.now c.tell.new.self _ c.tell.ensures.signs_nothing (refused-none (the_view c.self-2.inside) c.tell.new.self _ c.self-2.view_is refl c.fail.ensures))
 
 pub returns-then-not-is_member-clause-plays : goal.returns-then-not-is_member-clause-plays
 returns-then-not-is_member-clause-plays g c = λ s es os call p.
@@ -121,23 +121,23 @@ returns-then-not-is_member-clause-plays g c = λ s es os call p.
     (plays-refused s es os c.tell.new.self w c1 (wants_accusation true s m (ring_of s st m) c1) same (c.tell.ensures.plays s es os call p) (extends-wants_accusation s m (ring_of s st m) c1)))
 
 pub returns-clause-closed : goal.returns-clause-closed
-returns-clause-closed g c = open-further c.want_accusation.result _ _ _ c.want_accusation.ensures.closed (ap (λ (s : SignerState). s.closed) c.tell.ensures.quiet.signer)
+returns-clause-closed g c = open-further c.want_accusation.result _ _ _ c.want_accusation.ensures.closed (ap (λ (s : SignerState). s.closed) c.tell.ensures.signs_nothing.signer)
 
 pub returns-then-has_accused-clause-stores : goal.returns-then-has_accused-clause-stores
-returns-then-has_accused-clause-stores g c = stores-none c.args.self.now.signer c.args.self.now.signer (g.D.Disk.state c.args.disk.now) refl
+returns-then-has_accused-clause-stores g c = stores-none c.args.self.now.signer c.args.self.now.signer (g.D.Disk.state c.args.disk.now).model refl
 
 pub returns-in_default-clause-stores : goal.returns-in_default-clause-stores
-returns-in_default-clause-stores g c = stores-none c.args.self.now.signer c.tell.new.self.signer (g.D.Disk.state c.args.disk.now) c.tell.ensures.quiet.signer
+returns-in_default-clause-stores g c = stores-none c.args.self.now.signer c.tell.new.self.signer (g.D.Disk.state c.args.disk.now).model c.tell.ensures.signs_nothing.signer
 
 pub returns-in_default-ring_for-clause-stores : goal.returns-in_default-ring_for-clause-stores
-returns-in_default-ring_for-clause-stores g c = stores-none c.args.self.now.signer c.tell.new.self.signer (g.D.Disk.state c.args.disk.now) c.tell.ensures.quiet.signer
+returns-in_default-ring_for-clause-stores g c = stores-none c.args.self.now.signer c.tell.new.self.signer (g.D.Disk.state c.args.disk.now).model c.tell.ensures.signs_nothing.signer
 
 pub returns-then-not-is_member-clause-stores : goal.returns-then-not-is_member-clause-stores
-returns-then-not-is_member-clause-stores g c = stores-none c.args.self.now.signer c.self-2.inside.signer (g.D.Disk.state c.args.disk.now) (ap (λ (v : Kept). v.signer) c.self-2.view_is ∙ c.tell.ensures.quiet.signer)
+returns-then-not-is_member-clause-stores g c = stores-none c.args.self.now.signer c.self-2.inside.signer (g.D.Disk.state c.args.disk.now).model (ap (λ (v : Kept). v.signer) c.self-2.view_is ∙ c.tell.ensures.signs_nothing.signer)
 
 pub returns-clause-stores : goal.returns-clause-stores
 returns-clause-stores g c =
-    stored-behind c.args.self.now c.tell.new.self c.want_accusation.new.self (g.D.Disk.state c.args.disk.now) (g.D.Disk.state c.want_accusation.new.disk) c.want_accusation.result c.tell.ensures.quiet c.want_accusation.ensures.stores
+    stored-behind c.args.self.now c.tell.new.self c.want_accusation.new.self (g.D.Disk.state c.args.disk.now).model (g.D.Disk.state c.want_accusation.new.disk).model c.want_accusation.result c.tell.ensures.signs_nothing c.want_accusation.ensures.stores
 
 pub returns-clause-fails : goal.returns-clause-fails
 returns-clause-fails g c = λ s es os call p.
@@ -148,8 +148,8 @@ returns-clause-fails g c = λ s es os call p.
     let c1 : Call = tells s (told.Silent m) call in
     let body : Body = Accusation (record { accuser = c.self-2.inside.me; accused = m; epoch = c.in-Some.note.epoch; ring = c.in-Some-ring_for.ring }) in
     let at = c.tell.ensures.plays s es os call p in
-    let x = (g.D.Disk.state c.args.disk.now) in
-    let y = g.D.Disk.state c.want_accusation.new.disk in
+    let x = (g.D.Disk.state c.args.disk.now).model in
+    let y = (g.D.Disk.state c.want_accusation.new.disk).model in
     fails-given (accuses true s call m) c.args.self.now c.want_accusation.new.self x y c.want_accusation.result (λ fine.
     let told_fine = c.want_accusation.ensures.grows.going fine in
     let is = subst (λ v. IsNode s v call.node) (sym c.self.view_is) (p.at (c.tell.ensures.grows.going told_fine)).is in
@@ -166,4 +166,4 @@ returns-clause-fails g c = λ s es os call p.
     sym (ap (λ (o : Option ℕ). wants_accusation true s m o c1) ring ∙ ap (λ (b : Body). wants true s b (addressees s (Some m)) c1) (sym (body-is s st m v2.me c.in-Some.note c.in-Some-ring_for.ring who noted)))
     ∙ sym (accuses-wanted true s call m fails) in
     fails-same wanted (accuses true s call m) c.args.self.now c.want_accusation.new.self x y c.want_accusation.result (λ again. same)
-    (fails-behind wanted c.args.self.now c.tell.new.self c.want_accusation.new.self x y c.want_accusation.result c.tell.ensures.quiet (c.want_accusation.ensures.fails s es os c1 at)))
+    (fails-behind wanted c.args.self.now c.tell.new.self c.want_accusation.new.self x y c.want_accusation.result c.tell.ensures.signs_nothing (c.want_accusation.ensures.fails s es os c1 at)))

@@ -21,7 +21,7 @@ use Rattle.node_core.proofs.Node.accuse_all.Goals as goal
 pub loop-member-init : goal.loop-member-init
 loop-member-init g c =
     let same : c.into_iter-member-iterator.result.rest.items ≡ c.args.silent.items = c.into_iter-member-iterator.ensures.into_iter_gives.0 in
-    (record { done = []; split = sym same; plays = λ s es os call p. p; comes = λ s es os call d p on is fine. starts-there s es os c.args.self.now (g.D.Disk.state c.args.disk.now) call d (p.at fine) on is; grows = grows-refl c.args.self.now; spends = spends-none c.args.self.now c.args.self.now _ (nothing-same c.args.self.now); closed = refl }, refl)
+    (record { done = []; split = sym same; plays = λ s es os call p. p; comes = λ s es os call d p on is fine. starts-there s es os c.args.self.now (g.D.Disk.state c.args.disk.now).model call d (p.at fine) on is; grows = grows-refl c.args.self.now; spends = spends-none c.args.self.now c.args.self.now _ (nothing-same c.args.self.now); closed = refl }, refl)
 
 pub loop-member-preserved : goal.loop-member-preserved
 loop-member-preserved g c =
@@ -36,8 +36,8 @@ loop-member-preserved g c =
             let before = h.comes s es os call d p on is (c.accuse.ensures.grows.going fine) in
             let o : OnDisk PlacedStore = fold (accuses_on storage s) (on_disk call d c.args.self.now.signer.seat) h.done in
             let ran = (c.in_ok-accuse.ensures.plays s es os o.call (plays-at s es os c.loop-member.self o.call before.at)).at fine in
-            subst (ComesTo s es os c.accuse.new.self (g.D.Disk.state c.accuse.new.disk) false) (sym (accuses-going s o r before.ended) ∙ sym (fold-push (accuses_on storage s) (on_disk call d c.args.self.now.signer.seat) h.done r))
-            (comes-further s es os c.loop-member.self c.accuse.new.self (g.D.Disk.state c.loop-member.disk) (g.D.Disk.state c.accuse.new.disk) o (λ works. accuses works s o.call r) before c.in_ok-accuse.ensures.stores ran (on-accuses s o.call r));
+            subst (ComesTo s es os c.accuse.new.self (g.D.Disk.state c.accuse.new.disk).model false) (sym (accuses-going s o r before.ended) ∙ sym (fold-push (accuses_on storage s) (on_disk call d c.args.self.now.signer.seat) h.done r))
+            (comes-further s es os c.loop-member.self c.accuse.new.self (g.D.Disk.state c.loop-member.disk).model (g.D.Disk.state c.accuse.new.disk).model o (λ works. accuses works s o.call r) before c.in_ok-accuse.ensures.stores ran (on-accuses s o.call r));
         grows = grows-trans c.args.self.now c.loop-member.self c.accuse.new.self h.grows c.accuse.ensures.grows;
         spends = spends-trans c.args.self.now c.loop-member.self c.accuse.new.self _ _ _ h.spends c.accuse.ensures.grows c.accuse.ensures.spends;
         closed = c.in_ok-accuse.ensures.closed ∙ h.closed;
@@ -97,9 +97,9 @@ returns-in_err-accuse-clause-follows g c = λ s es os call d p on is fine.
     let before = h.comes s es os call d p on is (c.accuse.ensures.grows.going fine) in
     let played = plays-at s es os c.loop-member.self o.call before.at in
     let ran = c.in_err-accuse.ensures.plays s es os o.call played in
-    let y = g.D.Disk.state c.accuse.new.disk in
+    let y = (g.D.Disk.state c.accuse.new.disk).model in
     let ended = subst (ComesTo s es os c.accuse.new.self y true) (sym (accuses-going s o r before.ended))
-    (comes-to_end s es os c.loop-member.self c.accuse.new.self (g.D.Disk.state c.loop-member.disk) y o (λ works. accuses works s o.call r) before (c.in_err-accuse.ensures.fails s es os o.call played fine) (ran.at fine) (ran.ended fine)) in
+    (comes-to_end s es os c.loop-member.self c.accuse.new.self (g.D.Disk.state c.loop-member.disk).model y o (λ works. accuses works s o.call r) before (c.in_err-accuse.ensures.fails s es os o.call played fine) (ran.at fine) (ran.ended fine)) in
     let all : fold (accuses_on storage s) begun c.args.silent.items ≡ accuses_on storage s o r =
     ap (λ (xs : List ℕ). fold (accuses_on storage s) begun xs) whole ∙ fold-split (accuses_on storage s) begun h.done r rest ∙ all-accused-over s (accuses_on storage s o r) rest ended.ended in
     subst (λ (failed : Bool). ComesTo s es os c.accuse.new.self y failed (fold (accuses_on storage s) begun c.args.silent.items)) (sym c.from_residual.ensures.0)
@@ -111,4 +111,4 @@ returns-clause-follows g c = λ s es os call d p on is fine.
     let long : length c.loop-member.member-iterator.rest.items ≡ 0 = sym c.loop-member.member-iterator.rest.ok.0 ∙ c.in-None.ensures.steps.0 in
     let none : c.loop-member.member-iterator.rest.items ≡ [] = no_items c.loop-member.member-iterator.rest.items long in
     let whole : c.args.silent.items ≡ h.done = h.split ∙ ap (λ (xs : List ℕ). h.done ++ xs) none ∙ nil-right h.done in
-    subst (λ (xs : List ℕ). ComesTo s es os c.loop-member.self (g.D.Disk.state c.loop-member.disk) false (fold (accuses_on storage s) (on_disk call d c.args.self.now.signer.seat) xs)) (sym whole) (h.comes s es os call d p on is fine)
+    subst (λ (xs : List ℕ). ComesTo s es os c.loop-member.self (g.D.Disk.state c.loop-member.disk).model false (fold (accuses_on storage s) (on_disk call d c.args.self.now.signer.seat) xs)) (sym whole) (h.comes s es os call d p on is fine)

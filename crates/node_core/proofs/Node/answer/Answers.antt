@@ -56,10 +56,10 @@ returns-then-not-enables-clause-plays g c = λ s es os call p.
     plays-refused s es os v _ call (answers true s b call) c.fail.ensures (subst (λ v. Plays s es os v call) (sym c.self.view_is) p) (extends-answers s b call)
 
 pub returns-then-ne-clause-stores : goal.returns-then-ne-clause-stores
-returns-then-ne-clause-stores g c = stores-none c.args.self.now.signer c.args.self.now.signer (g.D.Disk.state c.args.disk.now) refl
+returns-then-ne-clause-stores g c = stores-none c.args.self.now.signer c.args.self.now.signer (g.D.Disk.state c.args.disk.now).model refl
 
 pub returns-then-not-enables-clause-stores : goal.returns-then-not-enables-clause-stores
-returns-then-not-enables-clause-stores g c = stores-none c.args.self.now.signer c.self.inside.signer (g.D.Disk.state c.args.disk.now) (ap (λ (v : Kept). v.signer) c.self.view_is)
+returns-then-not-enables-clause-stores g c = stores-none c.args.self.now.signer c.self.inside.signer (g.D.Disk.state c.args.disk.now).model (ap (λ (v : Kept). v.signer) c.self.view_is)
 
 pub returns-clause-fails : goal.returns-clause-fails
 returns-clause-fails g c = λ s es os call p.
@@ -68,7 +68,7 @@ returns-clause-fails g c = λ s es os call p.
     let exact = subst (λ (x : Stored). c.answer_mask.result.0 ≡ answering_mask c.self.inside.group.t x.mask.0 c.args.acc.now.ring.0) c.state.ensures c.answer_mask.ensures.exact in
     let a = c.args.acc.now in
     let wanted : Call = wants true s (next_own s call.node c.answer_mask.result) (addressees s None) call in
-    fails-same wanted (answers true s (bodies.Accusation a) call) c.args.self.now c.want_note.new.self (g.D.Disk.state c.args.disk.now) (g.D.Disk.state c.want_note.new.disk) c.want_note.result (λ fine.
+    fails-same wanted (answers true s (bodies.Accusation a) call) c.args.self.now c.want_note.new.self (g.D.Disk.state c.args.disk.now).model (g.D.Disk.state c.want_note.new.disk).model c.want_note.result (λ fine.
     let h = p.at (c.want_note.ensures.grows.going fine) in
     let n = subst (λ v. IsNode s v call.node) (sym c.self.view_is) h.is in
     answers-is s v call a c.answer_mask.result true n who exact) (c.want_note.ensures.fails s es os call p)

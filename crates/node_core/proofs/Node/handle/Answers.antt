@@ -1,4 +1,4 @@
-use Rattle.std.proofs.Common.{◌≡◌, ℕ, Bool, true, List, Some, None, subst, sym, ap, ◌∙◌}
+use Rattle.std.proofs.Common.{◌≡◌, Bool, true, Some, None, subst, sym, ap, ◌∙◌}
 use Rattle.records.specs.declared.Record.{Record}
 use Rattle.journal.specs.declared.event.What.TheVariants as told
 use Rattle.node_rules.specs.Nodes.{state_of}
@@ -12,7 +12,6 @@ use Rattle.node_core.proofs.PlayLemmas.{grows-trans}
 use Rattle.node_core.proofs.ExtendLemmas.{extends-handles}
 use Rattle.node_core.proofs.DueLemmas.{from-fine, runs-from-fine, runs-same}
 use Rattle.node_core.proofs.RefusalLemmas.{refusal-is}
-use Rattle.std.proofs.Common.{◌<◌, get_or}
 use Rattle.node_core.proofs.SpendLemmas.{open-further, spends-none, spends-after}
 use Rattle.signer.specs.Signing.{SignerState}
 use Rattle.node_core.proofs.DiskLemmas.{stores-none, stored-behind, fails-behind, fails-given, fails-same}
@@ -23,7 +22,7 @@ returns-in-Err-clause-plays g c = λ s es os call p.
     let v : Kept = the_view c.self.inside in
     from-fine s es os c.args.self.now c.tell-in-Err.new.self call (handles true s call c.args.rec) p c.tell-in-Err.ensures.grows (extends-handles s call c.args.rec) (λ h.
     let n = subst (λ v. IsNode s v call.node) (sym c.self.view_is) h.is in
-    let fault = refusal-is s v call.node c.args.rec (Some c.in-Err.fault) n (λ k. subst (λ (xs : List ℕ). get_or xs k 0 < 256) c.as_slice.ensures (c.see_signature.ensures k)) c.see_body.ensures (c.in-Err.ensures.fault (state_of s call.node) n.holds) in
+    let fault = refusal-is s v call.node c.args.rec (Some c.in-Err.fault) n (c.in-Err.ensures.fault (state_of s call.node) n.holds) in
     subst (Plays s es os c.tell-in-Err.new.self) (sym (handles-refuses true s call c.args.rec c.in-Err.fault (sym fault))) (c.tell-in-Err.ensures.plays s es os call p))
 
 pub returns-in-Ok-clause-plays : goal.returns-in-Ok-clause-plays
@@ -33,7 +32,7 @@ returns-in-Ok-clause-plays g c = λ s es os call p.
     let handled : Bool → Call = λ works. handles works s call c.args.rec in
     runs-from-fine s es os c.args.self.now c.accept.new.self call handled c.accept.result p grows (extends-handles s call c.args.rec) (λ h.
     let n = subst (λ v. IsNode s v call.node) (sym c.self.view_is) h.is in
-    let none = sym (refusal-is s v call.node c.args.rec None n (λ k. subst (λ (xs : List ℕ). get_or xs k 0 < 256) c.as_slice.ensures (c.see_signature.ensures k)) c.see_body.ensures (c.in-Ok.ensures.fault (state_of s call.node) n.holds)) in
+    let none = sym (refusal-is s v call.node c.args.rec None n (c.in-Ok.ensures.fault (state_of s call.node) n.holds)) in
     let same : c.in-Ok.checked.rec ≡ c.args.rec = ap (λ x. x.rec) c.in-Ok.ensures.checked.same in
     let after = tells s (told.Took c.args.rec.body None) call in
     let ran = c.accept.ensures.plays s es os after (c.tell.ensures.plays s es os call p) (ap (λ (r : Record). refusal s call.node r) same ∙ none) in
@@ -41,35 +40,35 @@ returns-in-Ok-clause-plays g c = λ s es os call p.
     (λ works. ap (λ (r : Record). answers works s c.args.rec.body (takes s r after)) same ∙ sym (handles-accepts works s call c.args.rec none)) ran)
 
 pub returns-in-Err-clause-spends : goal.returns-in-Err-clause-spends
-returns-in-Err-clause-spends g c = spends-none c.args.self.now c.tell-in-Err.new.self _ c.tell-in-Err.ensures.quiet
+returns-in-Err-clause-spends g c = spends-none c.args.self.now c.tell-in-Err.new.self _ c.tell-in-Err.ensures.signs_nothing
 
 pub returns-in-Ok-clause-spends : goal.returns-in-Ok-clause-spends
-returns-in-Ok-clause-spends g c = spends-after c.args.self.now c.tell.new.self c.accept.new.self _ _ c.tell.ensures.quiet c.accept.ensures.spends
+returns-in-Ok-clause-spends g c = spends-after c.args.self.now c.tell.new.self c.accept.new.self _ _ c.tell.ensures.signs_nothing c.accept.ensures.spends
 
 pub returns-in-Ok-clause-closed : goal.returns-in-Ok-clause-closed
-returns-in-Ok-clause-closed g c = open-further c.accept.result _ _ _ c.accept.ensures.closed (ap (λ (s : SignerState). s.closed) c.tell.ensures.quiet.signer)
+returns-in-Ok-clause-closed g c = open-further c.accept.result _ _ _ c.accept.ensures.closed (ap (λ (s : SignerState). s.closed) c.tell.ensures.signs_nothing.signer)
 
 pub returns-in-Err-clause-stores : goal.returns-in-Err-clause-stores
-returns-in-Err-clause-stores g c = stores-none c.args.self.now.signer c.tell-in-Err.new.self.signer (g.D.Disk.state c.args.disk.now) c.tell-in-Err.ensures.quiet.signer
+returns-in-Err-clause-stores g c = stores-none c.args.self.now.signer c.tell-in-Err.new.self.signer (g.D.Disk.state c.args.disk.now).model c.tell-in-Err.ensures.signs_nothing.signer
 
 pub returns-in-Ok-clause-stores : goal.returns-in-Ok-clause-stores
 returns-in-Ok-clause-stores g c =
-    stored-behind c.args.self.now c.tell.new.self c.accept.new.self (g.D.Disk.state c.args.disk.now) (g.D.Disk.state c.accept.new.disk) c.accept.result c.tell.ensures.quiet c.accept.ensures.stores
+    stored-behind c.args.self.now c.tell.new.self c.accept.new.self (g.D.Disk.state c.args.disk.now).model (g.D.Disk.state c.accept.new.disk).model c.accept.result c.tell.ensures.signs_nothing c.accept.ensures.stores
 
 pub returns-in-Ok-clause-fails : goal.returns-in-Ok-clause-fails
 returns-in-Ok-clause-fails g c = λ s es os call p.
     let v : Kept = the_view c.self.inside in
-    let x = (g.D.Disk.state c.args.disk.now) in
-    let y = g.D.Disk.state c.accept.new.disk in
+    let x = (g.D.Disk.state c.args.disk.now).model in
+    let y = (g.D.Disk.state c.accept.new.disk).model in
     let grows = grows-trans c.args.self.now c.tell.new.self c.accept.new.self c.tell.ensures.grows c.accept.ensures.grows in
     fails-given (handles true s call c.args.rec) c.args.self.now c.accept.new.self x y c.accept.result (λ fine.
     let h = p.at (grows.going fine) in
     let n = subst (λ v. IsNode s v call.node) (sym c.self.view_is) h.is in
-    let none = sym (refusal-is s v call.node c.args.rec None n (λ k. subst (λ (xs : List ℕ). get_or xs k 0 < 256) c.as_slice.ensures (c.see_signature.ensures k)) c.see_body.ensures (c.in-Ok.ensures.fault (state_of s call.node) n.holds)) in
+    let none = sym (refusal-is s v call.node c.args.rec None n (c.in-Ok.ensures.fault (state_of s call.node) n.holds)) in
     let same : c.in-Ok.checked.rec ≡ c.args.rec = ap (λ x. x.rec) c.in-Ok.ensures.checked.same in
     let after = tells s (told.Took c.args.rec.body None) call in
     let accepted : Call = answers true s c.args.rec.body (takes s c.in-Ok.checked.rec after) in
     let ran = c.accept.ensures.fails s es os after (c.tell.ensures.plays s es os call p) (ap (λ (r : Record). refusal s call.node r) same ∙ none) in
     fails-same accepted (handles true s call c.args.rec) c.args.self.now c.accept.new.self x y c.accept.result
     (λ again. ap (λ (r : Record). answers true s c.args.rec.body (takes s r after)) same ∙ sym (handles-accepts true s call c.args.rec none))
-    (fails-behind accepted c.args.self.now c.tell.new.self c.accept.new.self x y c.accept.result c.tell.ensures.quiet ran))
+    (fails-behind accepted c.args.self.now c.tell.new.self c.accept.new.self x y c.accept.result c.tell.ensures.signs_nothing ran))

@@ -22,7 +22,7 @@ use Rattle.node_core.proofs.Node.handle_all.Goals as goal
 pub loop-rec-init : goal.loop-rec-init
 loop-rec-init g c =
     let same : c.into_iter-rec-iterator.result.rest.items ≡ c.args.records.items = c.into_iter-rec-iterator.ensures.into_iter_gives.0 in
-    (record { done = []; split = sym same; plays = λ s es os call p. p; comes = λ s es os call d p on is fine. starts-there s es os c.args.self.now (g.D.Disk.state c.args.disk.now) call d (p.at fine) on is; grows = grows-refl c.args.self.now; spends = spends-none c.args.self.now c.args.self.now _ (nothing-same c.args.self.now); closed = refl }, refl, subst (λ (xs : List Record). All (λ r. HasPort r.body) xs) (sym same) c.requires)
+    (record { done = []; split = sym same; plays = λ s es os call p. p; comes = λ s es os call d p on is fine. starts-there s es os c.args.self.now (g.D.Disk.state c.args.disk.now).model call d (p.at fine) on is; grows = grows-refl c.args.self.now; spends = spends-none c.args.self.now c.args.self.now _ (nothing-same c.args.self.now); closed = refl }, refl, subst (λ (xs : List Record). All (λ r. HasPort r.body) xs) (sym same) c.requires)
 
 pub loop-rec-preserved : goal.loop-rec-preserved
 loop-rec-preserved g c =
@@ -37,8 +37,8 @@ loop-rec-preserved g c =
             let before = h.comes s es os call d p on is (c.handle.ensures.grows.going fine) in
             let o : OnDisk PlacedStore = fold (handles_on storage s) (on_disk call d c.args.self.now.signer.seat) h.done in
             let ran = (c.in_ok-handle.ensures.plays s es os o.call (plays-at s es os c.loop-rec.self o.call before.at)).at fine in
-            subst (ComesTo s es os c.handle.new.self (g.D.Disk.state c.handle.new.disk) false) (sym (handles-going s o r before.ended) ∙ sym (fold-push (handles_on storage s) (on_disk call d c.args.self.now.signer.seat) h.done r))
-            (comes-further s es os c.loop-rec.self c.handle.new.self (g.D.Disk.state c.loop-rec.disk) (g.D.Disk.state c.handle.new.disk) o (λ works. handles works s o.call r) before c.in_ok-handle.ensures.stores ran (on-handles s o.call r));
+            subst (ComesTo s es os c.handle.new.self (g.D.Disk.state c.handle.new.disk).model false) (sym (handles-going s o r before.ended) ∙ sym (fold-push (handles_on storage s) (on_disk call d c.args.self.now.signer.seat) h.done r))
+            (comes-further s es os c.loop-rec.self c.handle.new.self (g.D.Disk.state c.loop-rec.disk).model (g.D.Disk.state c.handle.new.disk).model o (λ works. handles works s o.call r) before c.in_ok-handle.ensures.stores ran (on-handles s o.call r));
         grows = grows-trans c.args.self.now c.loop-rec.self c.handle.new.self h.grows c.handle.ensures.grows;
         spends = spends-trans c.args.self.now c.loop-rec.self c.handle.new.self _ _ _ h.spends c.handle.ensures.grows c.handle.ensures.spends;
         closed = c.in_ok-handle.ensures.closed ∙ h.closed;
@@ -99,9 +99,9 @@ returns-in_err-handle-clause-follows g c = λ s es os call d p on is fine.
     let before = h.comes s es os call d p on is (c.handle.ensures.grows.going fine) in
     let played = plays-at s es os c.loop-rec.self o.call before.at in
     let ran = c.in_err-handle.ensures.plays s es os o.call played in
-    let y = g.D.Disk.state c.handle.new.disk in
+    let y = (g.D.Disk.state c.handle.new.disk).model in
     let ended = subst (ComesTo s es os c.handle.new.self y true) (sym (handles-going s o r before.ended))
-    (comes-to_end s es os c.loop-rec.self c.handle.new.self (g.D.Disk.state c.loop-rec.disk) y o (λ works. handles works s o.call r) before (c.in_err-handle.ensures.fails s es os o.call played fine) (ran.at fine) (ran.ended fine)) in
+    (comes-to_end s es os c.loop-rec.self c.handle.new.self (g.D.Disk.state c.loop-rec.disk).model y o (λ works. handles works s o.call r) before (c.in_err-handle.ensures.fails s es os o.call played fine) (ran.at fine) (ran.ended fine)) in
     let all : fold (handles_on storage s) begun c.args.records.items ≡ handles_on storage s o r =
     ap (λ (xs : List Record). fold (handles_on storage s) begun xs) whole ∙ fold-split (handles_on storage s) begun h.done r rest ∙ all-over s (handles_on storage s o r) rest ended.ended in
     subst (λ (failed : Bool). ComesTo s es os c.handle.new.self y failed (fold (handles_on storage s) begun c.args.records.items)) (sym c.from_residual.ensures.0)
@@ -113,4 +113,4 @@ returns-clause-follows g c = λ s es os call d p on is fine.
     let long : length c.loop-rec.rec-iterator.rest.items ≡ 0 = sym c.loop-rec.rec-iterator.rest.ok.0 ∙ c.in-None.ensures.steps.0 in
     let none : c.loop-rec.rec-iterator.rest.items ≡ [] = no_items c.loop-rec.rec-iterator.rest.items long in
     let whole : c.args.records.items ≡ h.done = h.split ∙ ap (λ (xs : List Record). h.done ++ xs) none ∙ nil-right h.done in
-    subst (λ (xs : List Record). ComesTo s es os c.loop-rec.self (g.D.Disk.state c.loop-rec.disk) false (fold (handles_on storage s) (on_disk call d c.args.self.now.signer.seat) xs)) (sym whole) (h.comes s es os call d p on is fine)
+    subst (λ (xs : List Record). ComesTo s es os c.loop-rec.self (g.D.Disk.state c.loop-rec.disk).model false (fold (handles_on storage s) (on_disk call d c.args.self.now.signer.seat) xs)) (sym whole) (h.comes s es os call d p on is fine)

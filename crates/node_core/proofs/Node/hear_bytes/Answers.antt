@@ -16,14 +16,14 @@ returns-in-Ok-clause-plays g c = λ s es os call p.
     heard-by (Plays s es os c.hear.new.self) (Stops s es os c.hear.new.self) s (read_of c.args.bytes.now) c.in-Ok.datagram call c.hear.result c.in-Ok.ensures.exact (c.hear.ensures.plays s es os call p)
 
 pub returns-in-Err-clause-spends : goal.returns-in-Err-clause-spends
-returns-in-Err-clause-spends g c = spends-none c.args.self.now c.hear_fault.new.self _ c.hear_fault.ensures.quiet
+returns-in-Err-clause-spends g c = spends-none c.args.self.now c.hear_fault.new.self _ c.hear_fault.ensures.signs_nothing
 
 pub returns-in-Err-clause-follows : goal.returns-in-Err-clause-follows
 returns-in-Err-clause-follows g c = λ s es os call d p on is fine.
-    fault-comes s es os c.args.self.now c.hear_fault.new.self (g.D.Disk.state c.args.disk.now) (read_of c.args.bytes.now) c.in-Err.fault call d c.in-Err.ensures.exact c.hear_fault.ensures.quiet c.hear_fault.ensures.memory
+    fault-comes s es os c.args.self.now c.hear_fault.new.self (g.D.Disk.state c.args.disk.now).model (read_of c.args.bytes.now) c.in-Err.fault call d c.in-Err.ensures.exact c.hear_fault.ensures.signs_nothing c.hear_fault.ensures.memory
     (λ place at. c.hear_fault.ensures.plays s es os call place p at) on is fine
 
 pub returns-in-Ok-clause-follows : goal.returns-in-Ok-clause-follows
 returns-in-Ok-clause-follows g c = λ s es os call d p on is fine.
-    read-comes s es os c.hear.new.self (g.D.Disk.state c.hear.new.disk) (is_err c.hear.result) (read_of c.args.bytes.now) c.in-Ok.datagram (on_disk call d c.args.self.now.signer.seat) c.in-Ok.ensures.exact
+    read-comes s es os c.hear.new.self (g.D.Disk.state c.hear.new.disk).model (is_err c.hear.result) (read_of c.args.bytes.now) c.in-Ok.datagram (on_disk call d c.args.self.now.signer.seat) c.in-Ok.ensures.exact
     (c.hear.ensures.follows s es os call d p on is fine)

@@ -17,8 +17,8 @@ returns-clause-plays c = λ s es os call p.
     lives-plays s es os (the_view c.self.inside) call (Notes c.args.note) c.put_note-fault.new.self c.report.new.records c.report.new.telling c.put_note-fault.new.out
     (subst (λ v. Plays s es os v call) (sym c.self.view_is) p) steps c.report.ensures.records (subst (λ m. Adds (with_report m c.put_note-fault.new.out) c.self.inside.telling c.report.new.telling) c.now.ensures.moment c.report.ensures.told)
 
-pub returns-clause-quiet : goal.returns-clause-quiet
-returns-clause-quiet c = record {
+pub returns-clause-signs_nothing : goal.returns-clause-signs_nothing
+returns-clause-signs_nothing c = record {
   signer = ap (λ (v : Kept). v.signer) c.self.view_is;
   told_none = changes-none c.now.result c.put_note-fault.new.out c.self.inside.telling c.report.new.telling c.report.ensures.told ∙ ap (λ (v : Kept). spent_told v.telling.events) c.self.view_is;
 }

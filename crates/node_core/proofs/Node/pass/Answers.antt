@@ -77,7 +77,7 @@ returns-in-Err-clause-plays g c = λ s es os n p.
 
 pub returns-then-not-is_due-clause-spends : goal.returns-then-not-is_due-clause-spends
 returns-then-not-is_due-clause-spends g c =
-    let quiet = c.live_tick.ensures.quiet in
+    let quiet = c.live_tick.ensures.signs_nothing in
     spends-none c.args.self.now _ _ (record {
       signer = ap (λ (v : Kept). v.signer) c.self.view_is ∙ quiet.signer;
       told_none = ap (λ (v : Kept). spent_told v.telling.events) c.self.view_is ∙ quiet.told_none;
@@ -86,7 +86,7 @@ returns-then-not-is_due-clause-spends g c =
 pub returns-in-Ok-clause-spends : goal.returns-in-Ok-clause-spends
 returns-in-Ok-clause-spends g c =
     let v2 : Kept = record (the_view c.self.inside) { detector = c.tick.new.self } in
-    let quiet = c.live_tick.ensures.quiet in
+    let quiet = c.live_tick.ensures.signs_nothing in
     let none : SignsNothing c.args.self.now v2 = record {
       signer = ap (λ (v : Kept). v.signer) c.self.view_is ∙ quiet.signer;
       told_none = ap (λ (v : Kept). spent_told v.telling.events) c.self.view_is ∙ quiet.told_none;
@@ -95,7 +95,7 @@ returns-in-Ok-clause-spends g c =
 
 pub returns-in-Err-clause-spends : goal.returns-in-Err-clause-spends
 returns-in-Err-clause-spends g c =
-    let quiet = c.live_tick.ensures.quiet in
+    let quiet = c.live_tick.ensures.signs_nothing in
     spends-none c.args.self.now _ _ (record {
       signer = ap (λ (v : Kept). v.signer) c.self.view_is ∙ quiet.signer;
       told_none = ap (λ t. spent_told t.events) c.fail.ensures ∙ ap (λ (v : Kept). spent_told v.telling.events) c.self.view_is ∙ quiet.told_none;
@@ -103,20 +103,20 @@ returns-in-Err-clause-spends g c =
 
 pub returns-in-Ok-clause-closed : goal.returns-in-Ok-clause-closed
 returns-in-Ok-clause-closed g c =
-    open-further c.pass_due.result _ _ _ c.pass_due.ensures.closed (ap (λ (v : Kept). v.signer.closed) c.self.view_is ∙ ap (λ (s : SignerState). s.closed) c.live_tick.ensures.quiet.signer)
+    open-further c.pass_due.result _ _ _ c.pass_due.ensures.closed (ap (λ (v : Kept). v.signer.closed) c.self.view_is ∙ ap (λ (s : SignerState). s.closed) c.live_tick.ensures.signs_nothing.signer)
 
 pub returns-then-not-is_due-clause-closed : goal.returns-then-not-is_due-clause-closed
-returns-then-not-is_due-clause-closed g c = ap (λ (v : Kept). v.signer.closed) c.self.view_is ∙ ap (λ (s : SignerState). s.closed) c.live_tick.ensures.quiet.signer
+returns-then-not-is_due-clause-closed g c = ap (λ (v : Kept). v.signer.closed) c.self.view_is ∙ ap (λ (s : SignerState). s.closed) c.live_tick.ensures.signs_nothing.signer
 
 pub returns-in-Err-clause-closed : goal.returns-in-Err-clause-closed
-returns-in-Err-clause-closed g c = ap (λ (v : Kept). v.signer.closed) c.self.view_is ∙ ap (λ (s : SignerState). s.closed) c.live_tick.ensures.quiet.signer
+returns-in-Err-clause-closed g c = ap (λ (v : Kept). v.signer.closed) c.self.view_is ∙ ap (λ (s : SignerState). s.closed) c.live_tick.ensures.signs_nothing.signer
 
 pub returns-then-not-is_due-clause-follows : goal.returns-then-not-is_due-clause-follows
 returns-then-not-is_due-clause-follows g c = λ s es os n d p told fine.
     let v : Kept = the_view c.self.inside in
     let v2 : Kept = record v { detector = c.tick.new.self } in
     let c1 : Call = passed s n in
-    let x = g.D.Disk.state c.args.disk.now in
+    let x = (g.D.Disk.state c.args.disk.now).model in
     let seat : Seat = c.args.self.now.signer.seat in
     let lived : Plays s es os c.live_tick.new.self c1 = subst (λ x. Plays s es os c.live_tick.new.self x) (sym (passed-is s n)) (c.live_tick.ensures.plays s es os (begun n) p) in
     let at : Plays s es os v c1 = subst (λ v. Plays s es os v c1) (sym c.self.view_is) lived in
@@ -128,7 +128,7 @@ returns-then-not-is_due-clause-follows g c = λ s es os n d p told fine.
       at = seen-at s es os v c1 c.tick.new.self (eqb (c.now-now.result % c.from-period.result) 0) h c.self.invariant.detector_group same c.tick.ensures.holds;
       ended = seen-on s n;
       disk = told;
-      seat = ap (λ (w : Kept). w.signer.seat) c.self.view_is ∙ ap (λ k. k.seat) c.live_tick.ensures.quiet.signer;
+      seat = ap (λ (w : Kept). w.signer.seat) c.self.view_is ∙ ap (λ k. k.seat) c.live_tick.ensures.signs_nothing.signer;
     })
 
 pub returns-in-Ok-clause-follows : goal.returns-in-Ok-clause-follows
@@ -140,7 +140,7 @@ returns-in-Ok-clause-follows g c = λ s es os n d p told fine.
     let silent : List ℕ = c.in-Ok.due.silent.items in
     let pings : List (ℕ × ℕ) = c.in-Ok.due.pings.items in
     let round : ℕ = c.saturating_sub.result in
-    let y = g.D.Disk.state c.pass_due.new.disk in
+    let y = (g.D.Disk.state c.pass_due.new.disk).model in
     let lived : Plays s es os c.live_tick.new.self c1 = subst (λ x. Plays s es os c.live_tick.new.self x) (sym (passed-is s n)) (c.live_tick.ensures.plays s es os (begun n) p) in
     let at : Plays s es os v c1 = subst (λ v. Plays s es os v c1) (sym c.self.view_is) lived in
     let h = at.at ((grows-probed v c.pass_due.new.self c.tick.new.self c.pass_due.ensures.grows).going fine) in
@@ -159,7 +159,7 @@ returns-in-Ok-clause-follows g c = λ s es os n d p told fine.
       round_is = search rules ∙ round-same s v c1.node c.now-now.result c.from-period.result n1 c.now-now.ensures.moment c.from-period.ensures;
     } in
     let ran = c.pass_due.ensures.follows s es os (seen s c1) d saw (seen-on s n) told fine in
-    let gates : v.signer.seat ≡ c.args.self.now.signer.seat = ap (λ (w : Kept). w.signer.seat) c.self.view_is ∙ ap (λ k. k.seat) c.live_tick.ensures.quiet.signer in
+    let gates : v.signer.seat ≡ c.args.self.now.signer.seat = ap (λ (w : Kept). w.signer.seat) c.self.view_is ∙ ap (λ k. k.seat) c.live_tick.ensures.signs_nothing.signer in
     subst (λ (seat : Seat). ComesTo s es os c.pass_due.new.self y (is_err c.pass_due.result) (ticked_on storage s n (record { disk = d; seat = seat }))) gates
     (subst (ComesTo s es os c.pass_due.new.self y (is_err c.pass_due.result)) (ticked-on-found s n silent pings round d v.signer.seat finds) ran)
 

@@ -26,7 +26,7 @@ returns-clause-plays g c = λ s es os call p.
 
 pub returns-clause-spends : goal.returns-clause-spends
 returns-clause-spends g c =
-    spends-before c.args.self.now c.accuse_all.new.self c.gossip.new.self _ _ c.in_ok-accuse_all.ensures.spends (nothing-trans c.accuse_all.new.self c.ping_all.new.self c.gossip.new.self c.ping_all.ensures.quiet c.gossip.ensures.quiet)
+    spends-before c.args.self.now c.accuse_all.new.self c.gossip.new.self _ _ c.in_ok-accuse_all.ensures.spends (nothing-trans c.accuse_all.new.self c.ping_all.new.self c.gossip.new.self c.ping_all.ensures.signs_nothing c.gossip.ensures.signs_nothing)
     (λ fine. c.ping_all.ensures.grows.going (c.gossip.ensures.grows.going fine))
 
 pub returns-in_err-accuse_all-clause-plays : goal.returns-in_err-accuse_all-clause-plays
@@ -36,13 +36,13 @@ returns-in_err-accuse_all-clause-plays g c = λ s es os call p.
 pub returns-clause-closed : goal.returns-clause-closed
 returns-clause-closed g c =
     let closed : SignerState → Bool = λ s. s.closed in
-    ap closed c.gossip.ensures.quiet.signer ∙ ap closed c.ping_all.ensures.quiet.signer ∙ c.in_ok-accuse_all.ensures.closed
+    ap closed c.gossip.ensures.signs_nothing.signer ∙ ap closed c.ping_all.ensures.signs_nothing.signer ∙ c.in_ok-accuse_all.ensures.closed
 
 pub returns-clause-follows : goal.returns-clause-follows
 returns-clause-follows g c = λ s es os call d p on is fine.
     let silent : List ℕ = c.args.due.silent.items in
     let pings : List (ℕ × ℕ) = c.args.due.pings.items in
-    let y = g.D.Disk.state c.accuse_all.new.disk in
+    let y = (g.D.Disk.state c.accuse_all.new.disk).model in
     let begun : OnDisk PlacedStore = on_disk call d c.args.self.now.signer.seat in
     let o : OnDisk PlacedStore = fold (accuses_on storage s) begun silent in
     let h = c.in_ok-accuse_all.ensures.follows s es os call d p on is (c.ping_all.ensures.grows.going (c.gossip.ensures.grows.going fine)) in
@@ -50,13 +50,13 @@ returns-clause-follows g c = λ s es os call d p on is fine.
     let done = (c.gossip.ensures.plays s es os (pings_all s c.deref.result.now o.call) pinged).at fine in
     due-comes s es os c.accuse_all.new.self c.gossip.new.self y silent pings c.args.round begun h
     (subst (λ (ps : List (ℕ × ℕ)). IsAt s es os c.gossip.new.self (gossips s c.args.round (pings_all s ps o.call))) c.deref.ensures.value done)
-    (c.gossip.ensures.quiet.signer ∙ c.ping_all.ensures.quiet.signer)
+    (c.gossip.ensures.signs_nothing.signer ∙ c.ping_all.ensures.signs_nothing.signer)
 
 pub returns-in_err-accuse_all-clause-follows : goal.returns-in_err-accuse_all-clause-follows
 returns-in_err-accuse_all-clause-follows g c = λ s es os call d p on is fine.
     let silent : List ℕ = c.args.due.silent.items in
     let pings : List (ℕ × ℕ) = c.args.due.pings.items in
-    let y = g.D.Disk.state c.accuse_all.new.disk in
+    let y = (g.D.Disk.state c.accuse_all.new.disk).model in
     let begun : OnDisk PlacedStore = on_disk call d c.args.self.now.signer.seat in
     let o : OnDisk PlacedStore = fold (accuses_on storage s) begun silent in
     let h = c.in_err-accuse_all.ensures.follows s es os call d p on is fine in

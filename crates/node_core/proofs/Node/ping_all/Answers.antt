@@ -20,7 +20,7 @@ loop-ping-preserved c = (
       ap (λ (ps : List (ℕ × ℕ)). pings_all s ps call) longer ∙ fold-push (λ (c : Call) (q : ℕ × ℕ). sends s (kinds.Ping s.me q.1) c q.0) call (take i sent) x in
       subst (λ (y : Call). Plays s es os c.send_ping.new.self y) (sym more) (c.send_ping.ensures.plays s es os (pings_all s (take i sent) call) (c.loop-ping.invariant.0 s es os call p)),
   grows-trans c.args.self.now c.loop-ping.self c.send_ping.new.self c.loop-ping.invariant.1 c.send_ping.ensures.grows,
-  nothing-trans c.args.self.now c.loop-ping.self c.send_ping.new.self c.loop-ping.invariant.2 c.send_ping.ensures.quiet,
+  nothing-trans c.args.self.now c.loop-ping.self c.send_ping.new.self c.loop-ping.invariant.2 c.send_ping.ensures.signs_nothing,
 )
 
 pub returns-clause-plays : goal.returns-clause-plays

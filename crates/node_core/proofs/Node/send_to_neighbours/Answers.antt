@@ -24,7 +24,7 @@ loop-number-preserved c = (
       let at2 = subst (λ (m : ℕ). Plays s es os c.send_if_listed.new.self (cond (list_any (λ o. is_number o m) listed) (sends s d so_far m) so_far)) c.new-member.ensures at1 in
       subst (Plays s es os c.send_if_listed.new.self) (sends-more s listed n d call) at2,
   grows-trans c.args.self.now c.loop-number.self c.send_if_listed.new.self c.loop-number.invariant.1 c.send_if_listed.ensures.grows,
-  nothing-trans c.args.self.now c.loop-number.self c.send_if_listed.new.self c.loop-number.invariant.2 c.send_if_listed.ensures.quiet,
+  nothing-trans c.args.self.now c.loop-number.self c.send_if_listed.new.self c.loop-number.invariant.2 c.send_if_listed.ensures.signs_nothing,
 )
 
 pub returns-clause-plays : goal.returns-clause-plays

@@ -6,8 +6,8 @@ use Rattle.node_core.specs.contracts.Node.{the_view}
 use Rattle.node_core.proofs.PlayLemmas.{tells-plays}
 use Rattle.node_core.proofs.Node.tell.Goals as goal
 
-pub returns-clause-quiet : goal.returns-clause-quiet
-returns-clause-quiet c = record {
+pub returns-clause-signs_nothing : goal.returns-clause-signs_nothing
+returns-clause-signs_nothing c = record {
   signer = ap (λ (v : Kept). v.signer) c.self.view_is;
   told_none = event-none c.now.result c.args.what c.self.inside.telling c.tell.new.self c.tell.ensures.adds c.requires ∙ ap (λ (v : Kept). spent_told v.telling.events) c.self.view_is;
 }

@@ -3,7 +3,7 @@ use Rattle.journal.specs.declared.event.Event as journal
 use Rattle.node_rules.specs.Calls.{begun}
 use Rattle.node_core.specs.Told.{Tellings}
 use Rattle.node_core.specs.Playing.{Kept, IsNode, Plays}
-use Rattle.node_core.specs.Answers.{Lent, Stands}
+use Rattle.node_core.specs.Answers.{CallerBuffers, Stands}
 use Rattle.std.proofs.Common.{refl, Err}
 use Rattle.node_core.specs.declared.NodeFault.TheVariants as faults
 use Rattle.node_core.specs.contracts.Node.{the_view}
@@ -36,8 +36,8 @@ returns-clause-step g c = λ s n is0 going.
     }) in
     let ran = tick-ran s es os n c.pass-passed.new.self c.pass-passed.result (c.pass-passed.ensures.plays s es os n p) in
     let grows = c.pass-passed.ensures.grows in
-    let old : Lent = record { events = es; sent = os } in
-    let new : Lent = record { events = c.finish.new.events; sent = c.finish.new.out } in
+    let old : CallerBuffers = record { events = es; sent = os } in
+    let new : CallerBuffers = record { events = c.finish.new.events; sent = c.finish.new.out } in
     let stands : Stands old new = record {
       events = record { more = grows.events.more; is = c.finish.ensures.events ∙ grows.events.is ∙ ap (λ (t : Tellings). t.events ++ grows.events.more) over };
       sent = record { more = grows.sent.more; is = c.finish.ensures.sent ∙ grows.sent.is ∙ ap (λ (t : Tellings). t.sent ++ grows.sent.more) over };
@@ -54,8 +54,8 @@ returns-clause-spends g c =
 pub returns-then-self-clause-spends : goal.returns-then-self-clause-spends
 returns-then-self-clause-spends g c = idle-spends (Err faults.Ended) c.args.self.now.signer c.args.self.now.signer _ _ c.args.events.now c.args.events.now refl refl refl refl
 
-pub returns-clause-calm : goal.returns-clause-calm
-returns-clause-calm g c = calm-by c.pass-passed.result c.finish.result c.pass-passed.new.self.telling.failed _ _ c.pass-passed.ensures.faults c.finish.ensures.failed c.finish.ensures.going
+pub returns-clause-no_disk_fault : goal.returns-clause-no_disk_fault
+returns-clause-no_disk_fault g c = calm-by c.pass-passed.result c.finish.result c.pass-passed.new.self.telling.failed _ _ c.pass-passed.ensures.faults c.finish.ensures.failed c.finish.ensures.going
 
 pub returns-clause-closed : goal.returns-clause-closed
 returns-clause-closed g c =
@@ -76,9 +76,9 @@ returns-clause-follows g c = λ s n d is0 going told.
       sent = ap (λ (t : Tellings). t.sent) over ∙ sym (nil-right os);
       before = ap (λ (t : Tellings). t.before) over;
     }) in
-    let old : Lent = record { events = es; sent = os } in
-    let new : Lent = record { events = c.finish.new.events; sent = c.finish.new.out } in
-    let y = g.D.Disk.state c.pass-passed.new.disk in
+    let old : CallerBuffers = record { events = es; sent = os } in
+    let new : CallerBuffers = record { events = c.finish.new.events; sent = c.finish.new.out } in
+    let y = (g.D.Disk.state c.pass-passed.new.disk).model in
     let made = λ (seat : Seat). ticked_on storage s n (record { disk = d; seat = seat }) in
     follows-by s c.pass-passed.new.self c.finish.new.self old new y (made c.args.self.now.signer.seat) c.pass-passed.result c.finish.result
     (λ fine. subst (λ (seat : Seat). ComesTo s es os c.pass-passed.new.self y (is_err c.pass-passed.result) (made seat)) (ap (λ (w : Kept). w.signer.seat) c.self.view_is)

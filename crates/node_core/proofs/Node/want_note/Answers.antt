@@ -60,26 +60,26 @@ returns-in-Note-clause-spends g c =
     let v : Kept = the_view c.self.inside in
     let b : Body = next_note c.self.inside.signer.state c.self.inside.me c.args.mask in
     let note-is : bodies.Note c.in-Note.note ≡ b = search rules in
-    let lives = lives-signed c.self.inside.signer c.sign_note.new.self b (Ok c.in-Ok.rec) _ _ _ _ _ _ c.in-Ok.ensures in
+    let lives = lives-signed c.self.inside.signer c.sign_note.new.self b (Ok c.in-Ok.rec) _ _ c.in-Ok.ensures in
     signed-spends v c.args.self.now c.pass_on_note.new.self c.sign_note.new.self _ _ c.state-index.result.next (bodies.Note c.in-Note.note) b c.self.view_is (ap (λ x. x.next) c.state-index.ensures) note-is lives c.pass_on_note.ensures.spent
 
 pub returns-in-Err-StoreFault-clause-spends : goal.returns-in-Err-StoreFault-clause-spends
 returns-in-Err-StoreFault-clause-spends g c =
     let b : Body = next_note c.self.inside.signer.state c.self.inside.me c.args.mask in
-    let lives = lives-signed c.self.inside.signer c.sign_note.new.self b (Err c.in-Err-StoreFault.field-0) _ _ _ _ _ _ c.in-Err-StoreFault.ensures in
-    unsigned-spends (the_view c.self.inside) c.args.self.now c.tell-in-Err-StoreFault.new.self c.sign_note.new.self _ _ c.self.view_is lives c.tell-in-Err-StoreFault.ensures.quiet
+    let lives = lives-signed c.self.inside.signer c.sign_note.new.self b (Err c.in-Err-StoreFault.field-0) _ _ c.in-Err-StoreFault.ensures in
+    unsigned-spends (the_view c.self.inside) c.args.self.now c.tell-in-Err-StoreFault.new.self c.sign_note.new.self _ _ c.self.view_is lives c.tell-in-Err-StoreFault.ensures.signs_nothing
 
 pub returns-in-Err-Exhausted-clause-spends : goal.returns-in-Err-Exhausted-clause-spends
 returns-in-Err-Exhausted-clause-spends g c =
     let b : Body = next_note c.self.inside.signer.state c.self.inside.me c.args.mask in
-    let lives = lives-signed c.self.inside.signer c.sign_note.new.self b (Err c.in-Err-Exhausted.field-0) _ _ _ _ _ _ c.in-Err-Exhausted.ensures in
-    unsigned-spends (the_view c.self.inside) c.args.self.now c.tell.new.self c.sign_note.new.self _ _ c.self.view_is lives c.tell.ensures.quiet
+    let lives = lives-signed c.self.inside.signer c.sign_note.new.self b (Err c.in-Err-Exhausted.field-0) _ _ c.in-Err-Exhausted.ensures in
+    unsigned-spends (the_view c.self.inside) c.args.self.now c.tell.new.self c.sign_note.new.self _ _ c.self.view_is lives c.tell.ensures.signs_nothing
 
 pub returns-in-Err-OutOfMemory-clause-spends : goal.returns-in-Err-OutOfMemory-clause-spends
 returns-in-Err-OutOfMemory-clause-spends g c =
     let v : Kept = the_view c.self.inside in
     let b : Body = next_note c.self.inside.signer.state c.self.inside.me c.args.mask in
-    let lives = lives-signed c.self.inside.signer c.sign_note.new.self b (Err c.in-Err-OutOfMemory.field-0) _ _ _ _ _ _ c.in-Err-OutOfMemory.ensures in
+    let lives = lives-signed c.self.inside.signer c.sign_note.new.self b (Err c.in-Err-OutOfMemory.field-0) _ _ c.in-Err-OutOfMemory.ensures in
     let v1 : Kept = record v { signer = c.sign_note.new.self } in
     unsigned-spends v c.args.self.now _ c.sign_note.new.self _ _ c.self.view_is lives (refused-none v1 v1 _ refl refl c.fail-in-Err-OutOfMemory.ensures)
 
@@ -97,14 +97,14 @@ pub returns-in-Err-Exhausted-clause-closed : goal.returns-in-Err-Exhausted-claus
 returns-in-Err-Exhausted-clause-closed g c =
     let closed : SignerState → Bool = λ s. s.closed in
     let same : c.sign_note.new.self ≡ c.self.inside.signer = subst (λ (f : SignFault). c.sign_note.new.self ≡ after_signing {T = CheckedRecord} c.self.inside.signer (next_note c.self.inside.signer.state c.self.inside.me c.args.mask) (Err f)) c.in-Err-Exhausted.field-0-is c.in-Err-Exhausted.ensures.after in
-    ap closed c.tell.ensures.quiet.signer ∙ ap closed same ∙ ap (λ (v : Kept). v.signer.closed) c.self.view_is
+    ap closed c.tell.ensures.signs_nothing.signer ∙ ap closed same ∙ ap (λ (v : Kept). v.signer.closed) c.self.view_is
 
 pub returns-in-Note-clause-stores : goal.returns-in-Note-clause-stores
 returns-in-Note-clause-stores g c =
     let v : Kept = the_view c.self.inside in
     let b : Body = next_note c.self.inside.signer.state c.self.inside.me c.args.mask in
-    let x = g.D.Disk.state c.args.disk.now in
-    let y = g.D.Disk.state c.sign_note.new.disk in
+    let x = (g.D.Disk.state c.args.disk.now).model in
+    let y = (g.D.Disk.state c.sign_note.new.disk).model in
     subst (λ (w : Kept). Stores w.signer c.pass_on_note.new.self.signer x y) c.self.view_is
     (stores-signed v.signer c.sign_note.new.self c.pass_on_note.new.self.signer b c.in-Ok.rec x y c.in-Ok.ensures.after c.pass_on_note.ensures.spent.signer c.in-Ok.ensures.follows)
 
@@ -118,8 +118,8 @@ returns-in-Err-StoreFault-clause-fails g c = λ s es os call p fine.
     let answered = subst (λ (f : SignFault). AnswersBy {T = CheckedRecord} c.self.inside.signer (Err f)) c.in-Err-StoreFault.field-0-is c.in-Err-StoreFault.ensures.answers in
     let after = subst (λ (f : SignFault). c.sign_note.new.self ≡ after_signing {T = CheckedRecord} c.self.inside.signer b (Err f)) c.in-Err-StoreFault.field-0-is c.in-Err-StoreFault.ensures.after in
     let free = free-below s v call.node h.is answered.1 in
-    let x = g.D.Disk.state c.args.disk.now in
-    let y = g.D.Disk.state c.sign_note.new.disk in
+    let x = (g.D.Disk.state c.args.disk.now).model in
+    let y = (g.D.Disk.state c.sign_note.new.disk).model in
     let kept : Stored = (wants true s (next_own s call.node c.args.mask) (addressees s None) call).node.stored in
     subst (λ (w : Kept). FailsToStore kept w.signer told.new.self.signer x y) c.self.view_is
-    (fails-signed v.signer c.sign_note.new.self told.new.self.signer b kept x y after told.ensures.quiet.signer (subst (λ (f : SignFault). MakesFrom {T = CheckedRecord} (Err f) (put_calls v.signer.seat (stored_after v.signer.state b)) x y) c.in-Err-StoreFault.field-0-is c.in-Err-StoreFault.ensures.follows) (wants-stored s (next_own s call.node c.args.mask) None call free ∙ ap (λ (x : Body). stored_after call.node.stored x) (sym (next-own-is s v call.node c.args.mask h.is)) ∙ ap (λ (k : Stored). stored_after k b) (sym h.is.stored)))
+    (fails-signed v.signer c.sign_note.new.self told.new.self.signer b kept x y after told.ensures.signs_nothing.signer (subst (λ (f : SignFault). MakesFrom {T = CheckedRecord} (Err f) (put_calls v.signer.seat (stored_after v.signer.state b)) x y) c.in-Err-StoreFault.field-0-is c.in-Err-StoreFault.ensures.follows) (wants-stored s (next_own s call.node c.args.mask) None call free ∙ ap (λ (x : Body). stored_after call.node.stored x) (sym (next-own-is s v call.node c.args.mask h.is)) ∙ ap (λ (k : Stored). stored_after k b) (sym h.is.stored)))

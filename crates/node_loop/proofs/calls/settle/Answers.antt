@@ -7,6 +7,6 @@ use Rattle.node_loop.proofs.calls.settle.Goals as goal
 
 pub returns-in-Err-clause-settles : goal.returns-in-Err-clause-settles
 returns-in-Err-clause-settles g c = λ before moments r at.
-    let w : Standing = standing c.args.node.now (g.L.Link.contents c.tell_all.new.link) (g.O.Sink.taken c.tell_all.new.out) moments c.tell_all.new.sent in
+    let w : Standing = standing c.args.node.now (g.L.Link.state c.tell_all.new.link).contents (g.O.Sink.state c.tell_all.new.out).taken moments c.tell_all.new.sent in
     settles-at before w (tells_all c.args.events.now r) (Err c.fault_of.result)
     (subst (λ (es : List journal.Event). IsAt before w (tells_all es r)) c.as_slice.ensures (c.in_ok-tell_all.ensures.tells before moments r at))

@@ -1,18 +1,18 @@
 use Rattle.std.proofs.Common.{◌≡◌, true, false}
 use Rattle.node_rules.specs.Nodes.{Setting}
 use Rattle.node_loop.specs.Turns.{ticks_of}
-use Rattle.node_loop.specs.Courses.{Course, served}
+use Rattle.node_loop.specs.Courses.{ServeState, served}
 use Rattle.node_loop.specs.Writing.{Before, GoesOn, Stands, standing}
 use Rattle.node_loop.proofs.calls.tick_times.Given as goal
 
 abbrev pub invariant-loop-done : goal.invariant-loop-done
 invariant-loop-done g l = record {
-  writable : g.O.Sink.is_open l.out ≡ true;
+  writable : (g.O.Sink.state l.out).is_open ≡ true;
   going : l.node.ended ≡ false;
-  calm : g.D.Disk.faults l.disk ≡ g.D.Disk.faults l.initial.disk;
-  faults : g.O.Sink.faults l.out ≡ g.O.Sink.faults l.initial.out;
+  calm : (g.D.Disk.state l.disk).faults ≡ (g.D.Disk.state l.initial.disk).faults;
+  faults : (g.O.Sink.state l.out).faults ≡ (g.O.Sink.state l.initial.out).faults;
   closed : l.node.signer.closed ≡ l.initial.node.signer.closed;
-  goes : GoesOn l.initial.node.signer l.node.signer (g.D.Disk.moments l.initial.disk) (g.D.Disk.moments l.disk);
-  ticked : (s : Setting) (before : Before) (r : Course) → Stands s before (standing l.initial.node (g.L.Link.contents l.initial.link) (g.O.Sink.taken l.initial.out) (g.D.Disk.moments l.initial.disk) l.initial.sent) r
-      → Stands s before (standing l.node (g.L.Link.contents l.link) (g.O.Sink.taken l.out) (g.D.Disk.moments l.disk) l.sent) (served s (ticks_of l._done) r);
+  goes : GoesOn l.initial.node.signer l.node.signer (g.D.Disk.state l.initial.disk).moments (g.D.Disk.state l.disk).moments;
+  ticked : (s : Setting) (before : Before) (r : ServeState) → Stands s before (standing l.initial.node (g.L.Link.state l.initial.link).contents (g.O.Sink.state l.initial.out).taken (g.D.Disk.state l.initial.disk).moments l.initial.sent) r
+      → Stands s before (standing l.node (g.L.Link.state l.link).contents (g.O.Sink.state l.out).taken (g.D.Disk.state l.disk).moments l.sent) (served s (ticks_of l._done) r);
 }

@@ -4,7 +4,7 @@ use Rattle.ports.specs.Count.{Rose}
 use Rattle.node_loop.specs.declared.fault.ServeFault.{ServeFault}
 use Rattle.node_loop.specs.declared.fault.ServeFault.TheVariants as faults
 use Rattle.node_loop.specs.Turns.{Outlook, room, after_turn, life_acts, turn_acts, turn_in}
-use Rattle.node_loop.specs.Courses.{Course, served, served_from}
+use Rattle.node_loop.specs.Courses.{ServeState, served, served_from}
 use Rattle.node_loop.specs.Serving.{Sees, Serves}
 use Rattle.node_loop.specs.Writing.{Before, Stands, Standing, before_all, standing}
 use Rattle.node_loop.proofs.CallLemmas.{goes-same, goes-trans}
@@ -14,18 +14,18 @@ use Rattle.node_loop.proofs.TurnLemmas.{Turned, at-pace, base-read, begins-at, b
 use Rattle.node_loop.proofs.serving.serve.Goals as goal
 
 pub returns-in_default-clause-spends : goal.returns-in_default-clause-spends
-returns-in_default-clause-spends g c = goes-same c.args.node.now.signer (g.D.Disk.moments c.args.disk.now)
+returns-in_default-clause-spends g c = goes-same c.args.node.now.signer (g.D.Disk.state c.args.disk.now).moments
 
 pub returns-in_default-clause-serves : goal.returns-in_default-clause-serves
 returns-in_default-clause-serves g c = λ s n link_told readings is link_is coming_is.
-    let taken = g.O.Sink.taken c.args.out.now in
-    let moments = g.D.Disk.moments c.args.disk.now in
-    let link = g.L.Link.contents c.args.link.now in
+    let taken = (g.O.Sink.state c.args.out.now).taken in
+    let moments = (g.D.Disk.state c.args.disk.now).moments in
+    let link = (g.L.Link.state c.args.link.now).contents in
     let before : Before = before_all taken c.args.node.now.signer moments in
-    let start : Course = served_from n link_told in
+    let start : ServeState = served_from n link_told in
     let w : Standing = standing c.args.node.now link taken moments 0 in (
       0,
-      unheard-turn s before w start (life_acts c.args.millis c.args.turns link_told.coming (g.C.Clock.reading c.args.clock.now) readings)
+      unheard-turn s before w start (life_acts c.args.millis c.args.turns link_told.coming (g.C.Clock.state c.args.clock.now).reading readings)
           (at-within before w start (begins-at s c.args.node.now n link taken moments link_told is link_is).at),
     )
 
@@ -39,7 +39,7 @@ loop-done-init g c = record {
   base = refl;
   room = sym c.in-Ok.buf.ok.0 ∙ c.in-Ok.ensures.len;
   closed = refl;
-  goes = goes-same c.args.node.now.signer (g.D.Disk.moments c.args.disk.now);
+  goes = goes-same c.args.node.now.signer (g.D.Disk.state c.args.disk.now).moments;
   turned = λ s before o start at sees. turned-first s before c.args.millis c.now-base.result c.args.turns o start _ _ _ _ at sees;
 }
 
@@ -50,7 +50,7 @@ loop-done-preserved g c =
     record {
       writable = c.in_ok-turn.ensures.open;
       going = c.in_ok-turn.ensures.going;
-      calm = c.in_ok-turn.ensures.calm ∙ h.calm;
+      calm = c.in_ok-turn.ensures.no_disk_fault ∙ h.calm;
       faults = c.in_ok-turn.ensures.faults ∙ h.faults;
       millis = c.in_ok-turn.ensures.kept.1 ∙ h.millis;
       base = c.in_ok-turn.ensures.kept.0 ∙ h.base;
@@ -58,16 +58,16 @@ loop-done-preserved g c =
       closed = c.in_ok-turn.ensures.closed ∙ h.closed;
       goes = goes-trans _ _ _ _ _ _ h.goes c.in_ok-turn.ensures.spends;
       turned = λ s before o start at sees.
-          let w : Standing = standing c.loop-done.node (g.L.Link.contents c.loop-done.link) (g.O.Sink.taken c.loop-done.out) (g.D.Disk.moments c.loop-done.disk) c.loop-done.progress.sent in
-          let w1 : Standing = standing c.turn.new.node (g.L.Link.contents c.turn.new.link) (g.O.Sink.taken c.turn.new.out) (g.D.Disk.moments c.turn.new.disk) c.turn.new.progress.sent in
-          let reading = g.C.Clock.reading c.loop-done.clock in
-          let readings = g.C.Clock.coming c.loop-done.clock in
-          let now = g.C.Clock.reading c.turn.new.clock in
-          let later = g.C.Clock.coming c.turn.new.clock in
+          let w : Standing = standing c.loop-done.node (g.L.Link.state c.loop-done.link).contents (g.O.Sink.state c.loop-done.out).taken (g.D.Disk.state c.loop-done.disk).moments c.loop-done.progress.sent in
+          let w1 : Standing = standing c.turn.new.node (g.L.Link.state c.turn.new.link).contents (g.O.Sink.state c.turn.new.out).taken (g.D.Disk.state c.turn.new.disk).moments c.turn.new.progress.sent in
+          let reading = (g.C.Clock.state c.loop-done.clock).reading in
+          let readings = (g.C.Clock.state c.loop-done.clock).coming in
+          let now = (g.C.Clock.state c.turn.new.clock).reading in
+          let later = (g.C.Clock.state c.turn.new.clock).coming in
           let made : ℕ = c.loop-done.progress.made in
           let made1 : ℕ = c.turn.new.progress.made in
           let t : Turned s before c.args.millis c.now-base.result c.args.turns done o start w reading readings made = h.turned s before o start at sees in
-          let r : Course = served s t.acts start in
+          let r : ServeState = served s t.acts start in
           turned-next s before c.args.millis c.now-base.result c.args.turns done o start w w1 reading now readings later made made1 c.loop-done-test.true t
           (at-pace (λ m b. Stands s before w1 (served s (turn_acts (turn_in m b (done + 1) t.outlook)) r)) c.loop-done.progress.millis c.args.millis c.loop-done.progress.base c.now-base.result h.millis h.base
           (c.in_ok-turn.ensures.serves s before r t.outlook t.at t.sees))
@@ -78,8 +78,8 @@ loop-done-preserved g c =
 pub returns-in_err-turn-clause-store_fault : goal.returns-in_err-turn-clause-store_fault
 returns-in_err-turn-clause-store_fault g c =
     let e : ServeFault = c.in_err-turn.field-0.0 in
-    let older = g.D.Disk.faults c.args.disk.now in
-    let newer = g.D.Disk.faults c.turn.new.disk in
+    let older = (g.D.Disk.state c.args.disk.now).faults in
+    let newer = (g.D.Disk.state c.turn.new.disk).faults in
     let rose : e ≡ faults.StoreFault → Rose older newer = λ is. subst (λ k. Rose k newer) c.loop-done.invariant.calm (c.in_err-turn.ensures.store is) in
     subst (λ x. IfErr x (λ y. y ≡ faults.StoreFault → Rose older newer)) (sym (thrown c.from_residual.result e c.from_residual.ensures.1)) rose
 
@@ -91,24 +91,24 @@ returns-in_err-turn-clause-serves g c = λ s n link_told readings is link_is com
     let h = c.loop-done.invariant in
     let done : ℕ = c.loop-done.done in
     let base : ℕ = c.now-base.result in
-    let last = g.C.Clock.reading c.args.clock.now in
-    let taken = g.O.Sink.taken c.args.out.now in
-    let moments = g.D.Disk.moments c.args.disk.now in
-    let link = g.L.Link.contents c.args.link.now in
-    let later = g.C.Clock.coming c.now-base.new.self in
-    let read = base-read last (g.C.Clock.coming c.args.clock.now) later readings base coming_is c.now-base.ensures.reads in
+    let last = (g.C.Clock.state c.args.clock.now).reading in
+    let taken = (g.O.Sink.state c.args.out.now).taken in
+    let moments = (g.D.Disk.state c.args.disk.now).moments in
+    let link = (g.L.Link.state c.args.link.now).contents in
+    let later = (g.C.Clock.state c.now-base.new.self).coming in
+    let read = base-read last (g.C.Clock.state c.args.clock.now).coming later readings base coming_is c.now-base.ensures.reads in
     let before : Before = before_all taken c.args.node.now.signer moments in
-    let start : Course = served_from n link_told in
+    let start : ServeState = served_from n link_told in
     let o : Outlook = first_outlook link_told.coming base readings in
-    let w : Standing = standing c.loop-done.node (g.L.Link.contents c.loop-done.link) (g.O.Sink.taken c.loop-done.out) (g.D.Disk.moments c.loop-done.disk) c.loop-done.progress.sent in
-    let w1 : Standing = standing c.turn.new.node (g.L.Link.contents c.turn.new.link) (g.O.Sink.taken c.turn.new.out) (g.D.Disk.moments c.turn.new.disk) c.turn.new.progress.sent in
-    let t : Turned s before c.args.millis base c.args.turns done o start w (g.C.Clock.reading c.loop-done.clock) (g.C.Clock.coming c.loop-done.clock) c.loop-done.progress.made =
-    h.turned s before o start (begins-at s c.args.node.now n link taken moments link_told is link_is) (begins-seeing n link_told (g.C.Clock.reading c.now-base.new.self) base later readings c.now-base.ensures.kept read.1) in
-    let r : Course = served s t.acts start in
+    let w : Standing = standing c.loop-done.node (g.L.Link.state c.loop-done.link).contents (g.O.Sink.state c.loop-done.out).taken (g.D.Disk.state c.loop-done.disk).moments c.loop-done.progress.sent in
+    let w1 : Standing = standing c.turn.new.node (g.L.Link.state c.turn.new.link).contents (g.O.Sink.state c.turn.new.out).taken (g.D.Disk.state c.turn.new.disk).moments c.turn.new.progress.sent in
+    let t : Turned s before c.args.millis base c.args.turns done o start w (g.C.Clock.state c.loop-done.clock).reading (g.C.Clock.state c.loop-done.clock).coming c.loop-done.progress.made =
+    h.turned s before o start (begins-at s c.args.node.now n link taken moments link_told is link_is) (begins-seeing n link_told (g.C.Clock.state c.now-base.new.self).reading base later readings c.now-base.ensures.kept read.1) in
+    let r : ServeState = served s t.acts start in
     let e : ServeFault = c.in_err-turn.field-0.0 in
     let ended = at-pace (λ m b. Serves s before (turn_acts (turn_in m b (done + 1) t.outlook)) r w1 (Err e)) c.loop-done.progress.millis c.args.millis c.loop-done.progress.base base h.millis h.base
     (c.in_err-turn.ensures.serves s before r t.outlook t.at t.sees) in
-    let whole = turned-ends s before c.args.millis base c.args.turns done o start w w1 (g.C.Clock.reading c.loop-done.clock) (g.C.Clock.coming c.loop-done.clock) c.loop-done.progress.made e c.loop-done-test.true t ended in (
+    let whole = turned-ends s before c.args.millis base c.args.turns done o start w w1 (g.C.Clock.state c.loop-done.clock).reading (g.C.Clock.state c.loop-done.clock).coming c.loop-done.progress.made e c.loop-done-test.true t ended in (
       c.turn.new.progress.sent,
       subst (λ x. Serves s before (life_acts c.args.millis c.args.turns link_told.coming last readings) start w1 x) (sym (thrown c.from_residual.result e c.from_residual.ensures.1))
           (subst (λ acts. Serves s before acts start w1 (Err e)) (life-is c.args.millis c.args.turns last base link_told.coming readings read.0) whole),
@@ -117,21 +117,21 @@ returns-in_err-turn-clause-serves g c = λ s n link_told readings is link_is com
 pub returns-clause-serves : goal.returns-clause-serves
 returns-clause-serves g c = λ s n link_told readings is link_is coming_is.
     let base : ℕ = c.now-base.result in
-    let last = g.C.Clock.reading c.args.clock.now in
-    let taken = g.O.Sink.taken c.args.out.now in
-    let moments = g.D.Disk.moments c.args.disk.now in
-    let link = g.L.Link.contents c.args.link.now in
-    let later = g.C.Clock.coming c.now-base.new.self in
-    let read = base-read last (g.C.Clock.coming c.args.clock.now) later readings base coming_is c.now-base.ensures.reads in
+    let last = (g.C.Clock.state c.args.clock.now).reading in
+    let taken = (g.O.Sink.state c.args.out.now).taken in
+    let moments = (g.D.Disk.state c.args.disk.now).moments in
+    let link = (g.L.Link.state c.args.link.now).contents in
+    let later = (g.C.Clock.state c.now-base.new.self).coming in
+    let read = base-read last (g.C.Clock.state c.args.clock.now).coming later readings base coming_is c.now-base.ensures.reads in
     let before : Before = before_all taken c.args.node.now.signer moments in
-    let start : Course = served_from n link_told in
+    let start : ServeState = served_from n link_told in
     let o : Outlook = first_outlook link_told.coming base readings in
-    let w : Standing = standing c.loop-done.node (g.L.Link.contents c.loop-done.link) (g.O.Sink.taken c.loop-done.out) (g.D.Disk.moments c.loop-done.disk) c.loop-done.progress.sent in
-    let reading = g.C.Clock.reading c.loop-done.clock in
-    let coming = g.C.Clock.coming c.loop-done.clock in
+    let w : Standing = standing c.loop-done.node (g.L.Link.state c.loop-done.link).contents (g.O.Sink.state c.loop-done.out).taken (g.D.Disk.state c.loop-done.disk).moments c.loop-done.progress.sent in
+    let reading = (g.C.Clock.state c.loop-done.clock).reading in
+    let coming = (g.C.Clock.state c.loop-done.clock).coming in
     let made : ℕ = c.loop-done.progress.made in
     let t : Turned s before c.args.millis base c.args.turns c.loop-done.done o start w reading coming made =
-    c.loop-done.invariant.turned s before o start (begins-at s c.args.node.now n link taken moments link_told is link_is) (begins-seeing n link_told (g.C.Clock.reading c.now-base.new.self) base later readings c.now-base.ensures.kept read.1) in
+    c.loop-done.invariant.turned s before o start (begins-at s c.args.node.now n link taken moments link_told is link_is) (begins-seeing n link_told (g.C.Clock.state c.now-base.new.self).reading base later readings c.now-base.ensures.kept read.1) in
     let all : c.loop-done.done ≡ c.args.turns = omega arith in
     let last_turn = subst (λ k. Turned s before c.args.millis base c.args.turns k o start w reading coming made) all t in (
       c.loop-done.progress.sent,

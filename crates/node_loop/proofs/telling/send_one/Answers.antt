@@ -1,7 +1,7 @@
 use Rattle.std.proofs.Common.{◌≡◌, true, false, Ok, Err, subst, sym, ◌∙◌}
 use Rattle.journal.specs.declared.event.What.TheVariants as kinds
 use Rattle.node_loop.specs.declared.fault.ServeFault.{ServeFault}
-use Rattle.node_loop.specs.Courses.{Course, fails_next, hands_over, line_of, sends_one, writes_event}
+use Rattle.node_loop.specs.Courses.{ServeState, fails_next, hands_over, line_of, sends_one, writes_event}
 use Rattle.node_loop.specs.Writing.{IsAt, Standing, Tells, standing}
 use Rattle.node_loop.proofs.TellLemmas.{extends-handed, extends-line, extends-trans, handed, lost-is, not-handed}
 use Rattle.node_loop.proofs.SendLemmas.{got-lost, sent-line, thrown, unsent, went-out, within-sent}
@@ -9,36 +9,36 @@ use Rattle.node_loop.proofs.telling.send_one.Goals as goal
 
 pub returns-in_err-write_sent-clause-tells : goal.returns-in_err-write_sent-clause-tells
 returns-in_err-write_sent-clause-tells g c = λ before moments r at.
-    let w : Standing = standing c.args.node.now (g.L.Link.contents c.args.link.now) (g.O.Sink.taken c.write_sent.new.out) moments c.args.sent.now in
+    let w : Standing = standing c.args.node.now (g.L.Link.state c.args.link.now).contents (g.O.Sink.state c.write_sent.new.out).taken moments c.args.sent.now in
     let e : ServeFault = c.in_err-write_sent.field-0.0 in
-    let line = sent-line before c.args.node.now (g.L.Link.contents c.args.link.now) (g.O.Sink.taken c.args.out.now) (g.O.Sink.taken c.write_sent.new.out) moments c.args.sent.now c.args.moment c.args.to c.args.bytes.now r (Err e) at c.in_err-write_sent.ensures.wrote in
+    let line = sent-line before c.args.node.now (g.L.Link.state c.args.link.now).contents (g.O.Sink.state c.args.out.now).taken (g.O.Sink.state c.write_sent.new.out).taken moments c.args.sent.now c.args.moment c.args.to c.args.bytes.now r (Err e) at c.in_err-write_sent.ensures.wrote in
     subst (λ x. Tells before w (sends_one c.args.moment c.args.to c.args.bytes.now r) x) (sym (thrown c.from_residual.result e c.from_residual.ensures.1)) (unsent before w c.args.moment c.args.to c.args.bytes.now r e line)
 
 pub returns-in_err-write_sent-clause-extends : goal.returns-in_err-write_sent-clause-extends
 returns-in_err-write_sent-clause-extends g c =
-    extends-line (g.O.Sink.taken c.args.out.now) (g.O.Sink.taken c.write_sent.new.out) (g.L.Link.contents c.args.link.now)
+    extends-line (g.O.Sink.state c.args.out.now).taken (g.O.Sink.state c.write_sent.new.out).taken (g.L.Link.state c.args.link.now).contents
     (line_of (record { moment = c.args.moment; what = kinds.Sent c.args.sent.now c.args.to c.args.bytes.now })) (Err c.in_err-write_sent.field-0.0) c.in_err-write_sent.ensures.wrote
 
 pub returns-then-lost-clause-tells : goal.returns-then-lost-clause-tells
 returns-then-lost-clause-tells g c = λ before moments r at.
     let v = c.args.node.now in
-    let l0 = g.L.Link.contents c.args.link.now in
-    let l1 = g.L.Link.contents c.hand_over.new.link in
-    let t1 = g.O.Sink.taken c.write_sent.new.out in
-    let line = sent-line before v l0 (g.O.Sink.taken c.args.out.now) t1 moments c.args.sent.now c.args.moment c.args.to c.args.bytes.now r (Ok c.in_ok-write_sent.field-0) at c.in_ok-write_sent.ensures.wrote in
-    let r1 : Course = writes_event c.args.moment (kinds.Sent r.sent c.args.to c.args.bytes.now) r in
+    let l0 = (g.L.Link.state c.args.link.now).contents in
+    let l1 = (g.L.Link.state c.hand_over.new.link).contents in
+    let t1 = (g.O.Sink.state c.write_sent.new.out).taken in
+    let line = sent-line before v l0 (g.O.Sink.state c.args.out.now).taken t1 moments c.args.sent.now c.args.moment c.args.to c.args.bytes.now r (Ok c.in_ok-write_sent.field-0) at c.in_ok-write_sent.ensures.wrote in
+    let r1 : ServeState = writes_event c.args.moment (kinds.Sent r.sent c.args.to c.args.bytes.now) r in
     let given = handed before v l0 l1 t1 moments c.args.sent.now c.args.to c.args.bytes.now r1 c.in-Ok.lost line c.in-Ok.ensures.given in
     let counted = subst (λ k. IsAt before (standing v l1 t1 moments k) (hands_over c.args.to c.args.bytes.now r1)) (sym c.saturating_add.ensures) given in
     let lost : true ≡ fails_next r.link = sym c.if-lost.true ∙ lost-is before v l0 l1 t1 moments c.args.sent.now _ c.args.bytes.now r1 c.in-Ok.lost line c.in-Ok.ensures.given in
-    got-lost before v l1 t1 (g.O.Sink.taken c.write_told.new.out) moments c.saturating_add.result c.args.sent.now c.args.moment c.args.to c.args.bytes.now r c.write_told.result lost at.sent counted c.write_told.ensures.wrote
+    got-lost before v l1 t1 (g.O.Sink.state c.write_told.new.out).taken moments c.saturating_add.result c.args.sent.now c.args.moment c.args.to c.args.bytes.now r c.write_told.result lost at.sent counted c.write_told.ensures.wrote
 
 pub returns-then-lost-clause-extends : goal.returns-then-lost-clause-extends
 returns-then-lost-clause-extends g c =
-    let l0 = g.L.Link.contents c.args.link.now in
-    let l1 = g.L.Link.contents c.hand_over.new.link in
-    let t0 = g.O.Sink.taken c.args.out.now in
-    let t1 = g.O.Sink.taken c.write_sent.new.out in
-    let t2 = g.O.Sink.taken c.write_told.new.out in
+    let l0 = (g.L.Link.state c.args.link.now).contents in
+    let l1 = (g.L.Link.state c.hand_over.new.link).contents in
+    let t0 = (g.O.Sink.state c.args.out.now).taken in
+    let t1 = (g.O.Sink.state c.write_sent.new.out).taken in
+    let t2 = (g.O.Sink.state c.write_told.new.out).taken in
     let first = extends-line t0 t1 l0 (line_of (record { moment = c.args.moment; what = kinds.Sent c.args.sent.now c.args.to c.args.bytes.now })) (Ok c.in_ok-write_sent.field-0) c.in_ok-write_sent.ensures.wrote in
     let given = extends-handed t1 _ c.args.bytes.now l0 l1 (Ok c.in-Ok.lost) c.in-Ok.ensures.given in
     let last = extends-line t1 t2 l1 (line_of (record { moment = c.args.moment; what = kinds.Lost c.args.sent.now })) c.write_told.result c.write_told.ensures.wrote in
@@ -47,11 +47,11 @@ returns-then-lost-clause-extends g c =
 pub returns-else-lost-clause-tells : goal.returns-else-lost-clause-tells
 returns-else-lost-clause-tells g c = λ before moments r at.
     let v = c.args.node.now in
-    let l0 = g.L.Link.contents c.args.link.now in
-    let l1 = g.L.Link.contents c.hand_over.new.link in
-    let t1 = g.O.Sink.taken c.write_sent.new.out in
-    let line = sent-line before v l0 (g.O.Sink.taken c.args.out.now) t1 moments c.args.sent.now c.args.moment c.args.to c.args.bytes.now r (Ok c.in_ok-write_sent.field-0) at c.in_ok-write_sent.ensures.wrote in
-    let r1 : Course = writes_event c.args.moment (kinds.Sent r.sent c.args.to c.args.bytes.now) r in
+    let l0 = (g.L.Link.state c.args.link.now).contents in
+    let l1 = (g.L.Link.state c.hand_over.new.link).contents in
+    let t1 = (g.O.Sink.state c.write_sent.new.out).taken in
+    let line = sent-line before v l0 (g.O.Sink.state c.args.out.now).taken t1 moments c.args.sent.now c.args.moment c.args.to c.args.bytes.now r (Ok c.in_ok-write_sent.field-0) at c.in_ok-write_sent.ensures.wrote in
+    let r1 : ServeState = writes_event c.args.moment (kinds.Sent r.sent c.args.to c.args.bytes.now) r in
     let given = handed before v l0 l1 t1 moments c.args.sent.now c.args.to c.args.bytes.now r1 c.in-Ok.lost line c.in-Ok.ensures.given in
     let counted = subst (λ k. IsAt before (standing v l1 t1 moments k) (hands_over c.args.to c.args.bytes.now r1)) (sym c.saturating_add.ensures) given in
     let works : false ≡ fails_next r.link = sym c.if-lost.false ∙ lost-is before v l0 l1 t1 moments c.args.sent.now _ c.args.bytes.now r1 c.in-Ok.lost line c.in-Ok.ensures.given in
@@ -60,10 +60,10 @@ returns-else-lost-clause-tells g c = λ before moments r at.
 pub returns-in-Err-clause-tells : goal.returns-in-Err-clause-tells
 returns-in-Err-clause-tells g c = λ before moments r at.
     let v = c.args.node.now in
-    let l0 = g.L.Link.contents c.args.link.now in
-    let l1 = g.L.Link.contents c.hand_over.new.link in
-    let t1 = g.O.Sink.taken c.write_sent.new.out in
-    let line = sent-line before v l0 (g.O.Sink.taken c.args.out.now) t1 moments c.args.sent.now c.args.moment c.args.to c.args.bytes.now r (Ok c.in_ok-write_sent.field-0) at c.in_ok-write_sent.ensures.wrote in
-    let r1 : Course = writes_event c.args.moment (kinds.Sent r.sent c.args.to c.args.bytes.now) r in
+    let l0 = (g.L.Link.state c.args.link.now).contents in
+    let l1 = (g.L.Link.state c.hand_over.new.link).contents in
+    let t1 = (g.O.Sink.state c.write_sent.new.out).taken in
+    let line = sent-line before v l0 (g.O.Sink.state c.args.out.now).taken t1 moments c.args.sent.now c.args.moment c.args.to c.args.bytes.now r (Ok c.in_ok-write_sent.field-0) at c.in_ok-write_sent.ensures.wrote in
+    let r1 : ServeState = writes_event c.args.moment (kinds.Sent r.sent c.args.to c.args.bytes.now) r in
     within-sent before (standing v l1 t1 moments c.args.sent.now) c.args.moment c.args.to c.args.bytes.now r
     (not-handed before v l0 l1 t1 moments c.args.sent.now _ c.args.bytes.now r1 c.in-Err.field-0 line c.in-Err.ensures.given)

@@ -32,7 +32,7 @@ returns-in_err-tell-clause-tells g c = λ before moments r at.
     let longer : take (i + 1) events ≡ take i events ++ x ∷ [] = take_more events i x c.loop-event-test.true ∙ ap (λ (y : journal.Event). take i events ++ y ∷ []) (sym c.event-item.is) in
     let split : events ≡ take i events ++ (x ∷ drop (i + 1) events) =
     sym (take-append-drop (i + 1) events) ∙ ap (λ (xs : List journal.Event). xs ++ drop (i + 1) events) longer ∙ append_assoc (take i events) (x ∷ []) (drop (i + 1) events) in
-    let w : Standing = standing c.args.node.now (g.L.Link.contents c.tell.new.link) (g.O.Sink.taken c.tell.new.out) moments c.tell.new.sent in
+    let w : Standing = standing c.args.node.now (g.L.Link.state c.tell.new.link).contents (g.O.Sink.state c.tell.new.out).taken moments c.tell.new.sent in
     subst (λ y. Tells before w (tells_all events r) y) (sym (thrown c.from_residual.result e c.from_residual.ensures.1))
     (told-part before w (take i events) events (drop (i + 1) events) x r e split (c.in_err-tell.ensures.tells before moments (tells_all (take i events) r) (h.told.tells before moments r at)))
 
@@ -43,5 +43,5 @@ pub returns-clause-tells : goal.returns-clause-tells
 returns-clause-tells g c = λ before moments r at.
     let events : List journal.Event = c.args.events.now in
     let whole : take c.loop-event.event-index events ≡ events = take-all c.loop-event.event-index events (omega (arith, c.loop-event-test.false)) in
-    let w : Standing = standing c.args.node.now (g.L.Link.contents c.loop-event.link) (g.O.Sink.taken c.loop-event.out) moments c.loop-event.sent in
+    let w : Standing = standing c.args.node.now (g.L.Link.state c.loop-event.link).contents (g.O.Sink.state c.loop-event.out).taken moments c.loop-event.sent in
     subst (λ (es : List journal.Event). IsAt before w (tells_all es r)) whole (c.loop-event.invariant.told.tells before moments r at)

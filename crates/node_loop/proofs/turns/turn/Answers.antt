@@ -3,7 +3,7 @@ use Rattle.journal.specs.declared.turn.Turn.{Turn}
 use Rattle.journal.specs.Turns.{turn_text}
 use Rattle.node_loop.specs.declared.fault.ServeFault.{ServeFault}
 use Rattle.node_loop.specs.Turns.{Receives, turn_acts, turn_in}
-use Rattle.node_loop.specs.Courses.{Course, acted, with_feed, writes}
+use Rattle.node_loop.specs.Courses.{ServeState, acted, with_feed, writes}
 use Rattle.node_loop.specs.Writing.{Stands, Standing, standing}
 use Rattle.node_loop.specs.Serving.{Serves}
 use Rattle.node_loop.proofs.CallLemmas.{goes-same, goes-trans}
@@ -13,30 +13,30 @@ use Rattle.node_loop.proofs.TurnLemmas.{at-heard, heard-is, on-any, read-next, s
 use Rattle.node_loop.proofs.turns.turn.Goals as goal
 
 pub returns-in_default-clause-spends : goal.returns-in_default-clause-spends
-returns-in_default-clause-spends g c = goes-same c.args.node.now.signer (g.D.Disk.moments c.args.disk.now)
+returns-in_default-clause-spends g c = goes-same c.args.node.now.signer (g.D.Disk.state c.args.disk.now).moments
 
 pub returns-in_default-clause-serves : goal.returns-in_default-clause-serves
 returns-in_default-clause-serves g c = λ s before r o at sees.
-    let w : Standing = standing c.args.node.now (g.L.Link.contents c.hear.new.link) (g.O.Sink.taken c.args.out.now) (g.D.Disk.moments c.args.disk.now) c.args.progress.now.sent in
+    let w : Standing = standing c.args.node.now (g.L.Link.state c.hear.new.link).contents (g.O.Sink.state c.args.out.now).taken (g.D.Disk.state c.args.disk.now).moments c.args.progress.now.sent in
     unheard-turn s before w r (turn_acts (turn_in c.args.progress.now.millis c.args.progress.now.base c.args.number o))
-    (within-unheard s before c.args.node.now (g.L.Link.contents c.args.link.now) (g.L.Link.contents c.hear.new.link) (g.O.Sink.taken c.args.out.now) (g.D.Disk.moments c.args.disk.now) c.args.progress.now.sent r c.in_default.field-0 at c.in_default.ensures.hears)
+    (within-unheard s before c.args.node.now (g.L.Link.state c.args.link.now).contents (g.L.Link.state c.hear.new.link).contents (g.O.Sink.state c.args.out.now).taken (g.D.Disk.state c.args.disk.now).moments c.args.progress.now.sent r c.in_default.field-0 at c.in_default.ensures.hears)
 
 pub returns-in_err-write_turn_line-clause-spends : goal.returns-in_err-write_turn_line-clause-spends
-returns-in_err-write_turn_line-clause-spends g c = goes-same c.args.node.now.signer (g.D.Disk.moments c.args.disk.now)
+returns-in_err-write_turn_line-clause-spends g c = goes-same c.args.node.now.signer (g.D.Disk.state c.args.disk.now).moments
 
 pub returns-in_err-write_turn_line-clause-serves : goal.returns-in_err-write_turn_line-clause-serves
 returns-in_err-write_turn_line-clause-serves g c = λ s before r o at0 sees.
     let p = c.args.progress.now in
     let sent : ℕ = c.next_ticks-ticks.new.self.sent in
     let v = c.args.node.now in
-    let l0 = g.L.Link.contents c.args.link.now in
-    let l1 = g.L.Link.contents c.hear.new.link in
-    let t0 = g.O.Sink.taken c.args.out.now in
-    let t1 = g.O.Sink.taken c.write_turn_line.new.out in
-    let m = g.D.Disk.moments c.args.disk.now in
+    let l0 = (g.L.Link.state c.args.link.now).contents in
+    let l1 = (g.L.Link.state c.hear.new.link).contents in
+    let t0 = (g.O.Sink.state c.args.out.now).taken in
+    let t1 = (g.O.Sink.state c.write_turn_line.new.out).taken in
+    let m = (g.D.Disk.state c.args.disk.now).moments in
     let at : Stands s before (standing v l0 t0 m sent) r = subst (λ k. Stands s before (standing v l0 t0 m k) r) (sym (ap (λ x. x.sent) c.next_ticks-ticks.ensures.made)) at0 in
     let made : Turn = record { number = c.args.number; heard = c.in-Ok.heard; ticks = c.next_ticks-ticks.result } in
-    let due = seen-turn p.millis p.base c.args.number o r (g.C.Clock.reading c.args.clock.now) (g.C.Clock.coming c.args.clock.now) (g.C.Clock.coming c.now.new.self) p.made c.now.result c.next_ticks-ticks.result c.in-Ok.heard sees c.now.ensures.reads
+    let due = seen-turn p.millis p.base c.args.number o r (g.C.Clock.state c.args.clock.now).reading (g.C.Clock.state c.args.clock.now).coming (g.C.Clock.state c.now.new.self).coming p.made c.now.result c.next_ticks-ticks.result c.in-Ok.heard sees c.now.ensures.reads
     (heard-is s before v l0 l1 t0 m sent r c.in-Ok.heard at c.in-Ok.ensures.hears) c.next_ticks-ticks.ensures.ticks in
     let heard = at-heard s before v l0 l1 t0 m sent r c.in-Ok.heard at c.in-Ok.ensures.hears in
     let e : ServeFault = c.in_err-write_turn_line.field-0.0 in
@@ -51,14 +51,14 @@ returns-in_err-deliver_heard-clause-serves g c = λ s before r o at0 sees.
     let p = c.args.progress.now in
     let sent : ℕ = c.next_ticks-ticks.new.self.sent in
     let v = c.args.node.now in
-    let l0 = g.L.Link.contents c.args.link.now in
-    let l1 = g.L.Link.contents c.hear.new.link in
-    let t0 = g.O.Sink.taken c.args.out.now in
-    let t1 = g.O.Sink.taken c.write_turn_line.new.out in
-    let m = g.D.Disk.moments c.args.disk.now in
+    let l0 = (g.L.Link.state c.args.link.now).contents in
+    let l1 = (g.L.Link.state c.hear.new.link).contents in
+    let t0 = (g.O.Sink.state c.args.out.now).taken in
+    let t1 = (g.O.Sink.state c.write_turn_line.new.out).taken in
+    let m = (g.D.Disk.state c.args.disk.now).moments in
     let at : Stands s before (standing v l0 t0 m sent) r = subst (λ k. Stands s before (standing v l0 t0 m k) r) (sym (ap (λ x. x.sent) c.next_ticks-ticks.ensures.made)) at0 in
     let made : Turn = record { number = c.args.number; heard = c.in-Ok.heard; ticks = c.next_ticks-ticks.result } in
-    let due = seen-turn p.millis p.base c.args.number o r (g.C.Clock.reading c.args.clock.now) (g.C.Clock.coming c.args.clock.now) (g.C.Clock.coming c.now.new.self) p.made c.now.result c.next_ticks-ticks.result c.in-Ok.heard sees c.now.ensures.reads
+    let due = seen-turn p.millis p.base c.args.number o r (g.C.Clock.state c.args.clock.now).reading (g.C.Clock.state c.args.clock.now).coming (g.C.Clock.state c.now.new.self).coming p.made c.now.result c.next_ticks-ticks.result c.in-Ok.heard sees c.now.ensures.reads
     (heard-is s before v l0 l1 t0 m sent r c.in-Ok.heard at c.in-Ok.ensures.hears) c.next_ticks-ticks.ensures.ticks in
     let heard = at-heard s before v l0 l1 t0 m sent r c.in-Ok.heard at c.in-Ok.ensures.hears in
     let told : Stands s before (standing v l1 t1 m sent) (writes (with_feed (turn_text made)) (acted s r Receives)) = record {
@@ -66,8 +66,8 @@ returns-in_err-deliver_heard-clause-serves g c = λ s before r o at0 sees.
       at = written before v l1 t0 t1 m sent (with_feed (turn_text made)) (acted s r Receives) (Ok c.in_ok-write_turn_line.field-0) heard.at c.in_ok-write_turn_line.ensures.wrote;
     } in
     let e : ServeFault = c.in_err-deliver_heard.field-0.0 in
-    let r1 : Course = writes (with_feed (turn_text made)) (acted s r Receives) in
-    let w : Standing = standing c.deliver_heard.new.node (g.L.Link.contents c.deliver_heard.new.link) (g.O.Sink.taken c.deliver_heard.new.out) (g.D.Disk.moments c.deliver_heard.new.disk) c.deliver_heard.new.sent in
+    let r1 : ServeState = writes (with_feed (turn_text made)) (acted s r Receives) in
+    let w : Standing = standing c.deliver_heard.new.node (g.L.Link.state c.deliver_heard.new.link).contents (g.O.Sink.state c.deliver_heard.new.out).taken (g.D.Disk.state c.deliver_heard.new.disk).moments c.deliver_heard.new.sent in
     let T : Turn = turn_in p.millis p.base c.args.number o in
     subst (λ x. Serves s before (turn_acts T) r w x) (sym (thrown c.from_residual-in_err-deliver_heard.result e c.from_residual-in_err-deliver_heard.ensures.1))
     (turn-due s before r w made T (Err e) due (undelivered-turn s before w r made e (c.in_err-deliver_heard.ensures.serves s before r1 told)))
@@ -80,23 +80,23 @@ returns-clause-serves g c = λ s before r o at0 sees.
     let p = c.args.progress.now in
     let sent : ℕ = c.next_ticks-ticks.new.self.sent in
     let v = c.args.node.now in
-    let l0 = g.L.Link.contents c.args.link.now in
-    let l1 = g.L.Link.contents c.hear.new.link in
-    let t0 = g.O.Sink.taken c.args.out.now in
-    let t1 = g.O.Sink.taken c.write_turn_line.new.out in
-    let m = g.D.Disk.moments c.args.disk.now in
+    let l0 = (g.L.Link.state c.args.link.now).contents in
+    let l1 = (g.L.Link.state c.hear.new.link).contents in
+    let t0 = (g.O.Sink.state c.args.out.now).taken in
+    let t1 = (g.O.Sink.state c.write_turn_line.new.out).taken in
+    let m = (g.D.Disk.state c.args.disk.now).moments in
     let at : Stands s before (standing v l0 t0 m sent) r = subst (λ k. Stands s before (standing v l0 t0 m k) r) (sym (ap (λ x. x.sent) c.next_ticks-ticks.ensures.made)) at0 in
     let made : Turn = record { number = c.args.number; heard = c.in-Ok.heard; ticks = c.next_ticks-ticks.result } in
-    let due = seen-turn p.millis p.base c.args.number o r (g.C.Clock.reading c.args.clock.now) (g.C.Clock.coming c.args.clock.now) (g.C.Clock.coming c.now.new.self) p.made c.now.result c.next_ticks-ticks.result c.in-Ok.heard sees c.now.ensures.reads
+    let due = seen-turn p.millis p.base c.args.number o r (g.C.Clock.state c.args.clock.now).reading (g.C.Clock.state c.args.clock.now).coming (g.C.Clock.state c.now.new.self).coming p.made c.now.result c.next_ticks-ticks.result c.in-Ok.heard sees c.now.ensures.reads
     (heard-is s before v l0 l1 t0 m sent r c.in-Ok.heard at c.in-Ok.ensures.hears) c.next_ticks-ticks.ensures.ticks in
     let heard = at-heard s before v l0 l1 t0 m sent r c.in-Ok.heard at c.in-Ok.ensures.hears in
     let told : Stands s before (standing v l1 t1 m sent) (writes (with_feed (turn_text made)) (acted s r Receives)) = record {
       node = heard.node;
       at = written before v l1 t0 t1 m sent (with_feed (turn_text made)) (acted s r Receives) (Ok c.in_ok-write_turn_line.field-0) heard.at c.in_ok-write_turn_line.ensures.wrote;
     } in
-    let r1 : Course = writes (with_feed (turn_text made)) (acted s r Receives) in
+    let r1 : ServeState = writes (with_feed (turn_text made)) (acted s r Receives) in
     let delivered = c.in_ok-deliver_heard.ensures.serves s before r1 told in
-    let w : Standing = standing c.tick_times.new.node (g.L.Link.contents c.tick_times.new.link) (g.O.Sink.taken c.tick_times.new.out) (g.D.Disk.moments c.tick_times.new.disk) c.tick_times.new.sent in
+    let w : Standing = standing c.tick_times.new.node (g.L.Link.state c.tick_times.new.link).contents (g.O.Sink.state c.tick_times.new.out).taken (g.D.Disk.state c.tick_times.new.disk).moments c.tick_times.new.sent in
     turn-due s before r w made (turn_in p.millis p.base c.args.number o) c.tick_times.result due
     (ticked-turn s before w r made c.tick_times.result (c.tick_times.ensures.serves s before _ delivered))
 
@@ -104,16 +104,16 @@ pub returns-clause-sees : goal.returns-clause-sees
 returns-clause-sees g c = λ s before r o at sees.
     let p = c.args.progress.now in
     let v = c.args.node.now in
-    let l0 = g.L.Link.contents c.args.link.now in
-    let l1 = g.L.Link.contents c.hear.new.link in
-    let t0 = g.O.Sink.taken c.args.out.now in
-    let m = g.D.Disk.moments c.args.disk.now in
-    let reading = g.C.Clock.reading c.args.clock.now in
-    let readings = g.C.Clock.coming c.args.clock.now in
-    let later = g.C.Clock.coming c.now.new.self in
+    let l0 = (g.L.Link.state c.args.link.now).contents in
+    let l1 = (g.L.Link.state c.hear.new.link).contents in
+    let t0 = (g.O.Sink.state c.args.out.now).taken in
+    let m = (g.D.Disk.state c.args.disk.now).moments in
+    let reading = (g.C.Clock.state c.args.clock.now).reading in
+    let readings = (g.C.Clock.state c.args.clock.now).coming in
+    let later = (g.C.Clock.state c.now.new.self).coming in
     let due = seen-turn p.millis p.base c.args.number o r reading readings later p.made c.now.result c.next_ticks-ticks.result c.in-Ok.heard sees c.now.ensures.reads
     (heard-is s before v l0 l1 t0 m p.sent r c.in-Ok.heard at c.in-Ok.ensures.hears) c.next_ticks-ticks.ensures.ticks in
     let read = read-next o r reading readings later p.made c.now.result sees c.now.ensures.reads in
     on-any c.tick_times.result _
-    (sees-after s p.millis p.base c.args.number o r reading readings p.made (g.C.Clock.reading c.now.new.self) later c.next_ticks-ticks.new.self.made sees (c.now.ensures.kept ∙ read.0) read.1
+    (sees-after s p.millis p.base c.args.number o r reading readings p.made (g.C.Clock.state c.now.new.self).reading later c.next_ticks-ticks.new.self.made sees (c.now.ensures.kept ∙ read.0) read.1
     (ap (λ x. x.made) c.next_ticks-ticks.ensures.made ∙ ap (λ (t : Turn). p.made + t.ticks) due))

@@ -7,50 +7,50 @@ use Rattle.play.proofs.player.turn.Goals as goal
 
 pub returns-in-Err-clause-turns : goal.returns-in-Err-clause-turns
 returns-in-Err-clause-turns g c =
-    unread-here _ (g.P.Script.owes c.args.script.now) _ _ _ c.read_line.new.line.items c.in-Err.ensures.reads (g.met.P.Script.waits c.args.script.now) (Appends-nil (g.O.Sink.taken c.args.out.now)) c.in-Err.ensures.faults refl
+    unread-here _ (g.P.Script.owes c.args.script.now) _ _ _ c.read_line.new.line.items c.in-Err.ensures.reads (g.met.P.Script.waits c.args.script.now) (Appends-nil (g.O.Sink.state c.args.out.now).taken) c.in-Err.ensures.faults refl
 
 pub returns-in-Ok-write_all-clause-turns : goal.returns-in-Ok-write_all-clause-turns
 returns-in-Ok-write_all-clause-turns g c =
-    finished-here _ (g.P.Script.owes c.args.script.now) _ _ _ c.read_line.new.line.items c.end.new.text.items c.in-Ok.field-0 c.in-Ok.ensures.reads (search rules) c.in-Ok-end.ensures.end (subst (Appends (g.O.Sink.taken c.args.out.now) (g.O.Sink.taken c.write_all.new.out)) c.deref.ensures.value c.in-Ok-write_all.ensures.wrote) (record { reads = c.in-Ok.ensures.faults; writes = c.in-Ok-write_all.ensures.faults })
+    finished-here _ (g.P.Script.owes c.args.script.now) _ _ _ c.read_line.new.line.items c.end.new.text.items c.in-Ok.field-0 c.in-Ok.ensures.reads (search rules) c.in-Ok-end.ensures.end (subst (Appends (g.O.Sink.state c.args.out.now).taken (g.O.Sink.state c.write_all.new.out).taken) c.deref.ensures.value c.in-Ok-write_all.ensures.wrote) (record { reads = c.in-Ok.ensures.faults; writes = c.in-Ok-write_all.ensures.faults })
 
 pub returns-in-Err-write_all-clause-turns : goal.returns-in-Err-write_all-clause-turns
 returns-in-Err-write_all-clause-turns g c =
     unwritten-end _ (g.P.Script.owes c.args.script.now) _ _ _ c.read_line.new.line.items c.end.new.text.items c.in-Ok.field-0 c.in-Ok.ensures.reads (search rules) c.in-Ok-end.ensures.end (g.met.P.Script.waits c.args.script.now)
-    (subst (λ (b : List ℕ). TookFront (g.O.Sink.taken c.args.out.now) (g.O.Sink.taken c.write_all.new.out) b) c.deref.ensures.value c.in-Err-write_all.ensures.wrote) c.in-Err-write_all.ensures.faults c.in-Ok.ensures.faults
+    (subst (λ (b : List ℕ). TookFront (g.O.Sink.state c.args.out.now).taken (g.O.Sink.state c.write_all.new.out).taken b) c.deref.ensures.value c.in-Err-write_all.ensures.wrote) c.in-Err-write_all.ensures.faults c.in-Ok.ensures.faults
 
 pub returns-in-Err-Refused-clause-turns : goal.returns-in-Err-Refused-clause-turns
 returns-in-Err-Refused-clause-turns g c =
     let refuses = rw c.in-Err-Refused.field-0-is at c.in-Err-Refused.ensures.end in
-    refused-end _ (g.P.Script.owes c.args.script.now) _ _ c.in-Err-Refused.cause _ _ c.read_line.new.line.items c.in-Ok.field-0 c.in-Ok.ensures.reads (search rules) refuses (Appends-nil (g.O.Sink.taken c.args.out.now)) (record { reads = c.in-Ok.ensures.faults; writes = refl })
+    refused-end _ (g.P.Script.owes c.args.script.now) _ _ c.in-Err-Refused.cause _ _ c.read_line.new.line.items c.in-Ok.field-0 c.in-Ok.ensures.reads (search rules) refuses (Appends-nil (g.O.Sink.state c.args.out.now).taken) (record { reads = c.in-Ok.ensures.faults; writes = refl })
 
 pub returns-in-Err-OutOfMemory-clause-turns : goal.returns-in-Err-OutOfMemory-clause-turns
 returns-in-Err-OutOfMemory-clause-turns g c =
     let admits = rw c.in-Err-OutOfMemory.field-0-is at c.in-Err-OutOfMemory.ensures.end in
-    starved-end _ g.P.Script.judged (g.P.Script.owes c.args.script.now) _ _ _ c.read_line.new.line.items c.in-Ok.field-0 c.in-Ok.ensures.reads (search rules) admits (g.met.P.Script.waits c.args.script.now) (Appends-nil (g.O.Sink.taken c.args.out.now)) (record { reads = c.in-Ok.ensures.faults; writes = refl })
+    starved-end _ g.P.Script.judged (g.P.Script.owes c.args.script.now) _ _ _ c.read_line.new.line.items c.in-Ok.field-0 c.in-Ok.ensures.reads (search rules) admits (g.met.P.Script.waits c.args.script.now) (Appends-nil (g.O.Sink.state c.args.out.now).taken) (record { reads = c.in-Ok.ensures.faults; writes = refl })
 
 pub returns-in-Ok-write_all-2-clause-turns : goal.returns-in-Ok-write_all-2-clause-turns
 returns-in-Ok-write_all-2-clause-turns g c =
     let answered = rw c.deref-2.ensures.value at c.in-Ok-line.ensures.line in
     went-one _ (g.P.Script.owes c.args.script.now) (g.P.Script.owes c.line.new.self) _ _ _ _ _ c.read_line.new.line.items c.line.new.text.items c.in-Ok.field-0 c.in-Ok.ensures.reads answered.0 answered.1
-    (subst (Appends (g.O.Sink.taken c.args.out.now) (g.O.Sink.taken c.write_all-in-Ok-line.new.out)) c.deref-in-Ok-line.ensures.value c.in-Ok-write_all-2.ensures.wrote) c.in-Ok-line.ensures.room (record { reads = c.in-Ok.ensures.faults; writes = c.in-Ok-write_all-2.ensures.faults })
+    (subst (Appends (g.O.Sink.state c.args.out.now).taken (g.O.Sink.state c.write_all-in-Ok-line.new.out).taken) c.deref-in-Ok-line.ensures.value c.in-Ok-write_all-2.ensures.wrote) c.in-Ok-line.ensures.room (record { reads = c.in-Ok.ensures.faults; writes = c.in-Ok-write_all-2.ensures.faults })
 
 pub returns-in-Err-write_all-2-clause-turns : goal.returns-in-Err-write_all-2-clause-turns
 returns-in-Err-write_all-2-clause-turns g c =
     let answered = rw c.deref-2.ensures.value at c.in-Ok-line.ensures.line in
     unwritten-line _ (g.P.Script.owes c.args.script.now) (g.P.Script.owes c.line.new.self) _ _ _ c.read_line.new.line.items c.line.new.text.items c.in-Ok.field-0 c.in-Ok.ensures.reads answered.0 answered.1 (g.met.P.Script.waits c.args.script.now) (g.met.P.Script.waits c.line.new.self)
-    (subst (λ (b : List ℕ). TookFront (g.O.Sink.taken c.args.out.now) (g.O.Sink.taken c.write_all-in-Ok-line.new.out) b) c.deref-in-Ok-line.ensures.value c.in-Err-write_all-2.ensures.wrote) c.in-Err-write_all-2.ensures.faults c.in-Ok.ensures.faults
+    (subst (λ (b : List ℕ). TookFront (g.O.Sink.state c.args.out.now).taken (g.O.Sink.state c.write_all-in-Ok-line.new.out).taken b) c.deref-in-Ok-line.ensures.value c.in-Err-write_all-2.ensures.wrote) c.in-Err-write_all-2.ensures.faults c.in-Ok.ensures.faults
 
 pub returns-in-Err-Refused-line-clause-turns : goal.returns-in-Err-Refused-line-clause-turns
 returns-in-Err-Refused-line-clause-turns g c =
     let answered = rw c.in-Err-Refused-line.field-0-is at c.in-Err-Refused-line.ensures.line in
     let refuses = rw c.deref-2.ensures.value at answered in
-    refused-line _ (g.P.Script.owes c.args.script.now) _ _ c.in-Err-Refused-line.cause _ _ c.read_line.new.line.items c.in-Ok.field-0 c.in-Ok.ensures.reads (search rules) refuses (Appends-nil (g.O.Sink.taken c.args.out.now)) (record { reads = c.in-Ok.ensures.faults; writes = refl })
+    refused-line _ (g.P.Script.owes c.args.script.now) _ _ c.in-Err-Refused-line.cause _ _ c.read_line.new.line.items c.in-Ok.field-0 c.in-Ok.ensures.reads (search rules) refuses (Appends-nil (g.O.Sink.state c.args.out.now).taken) (record { reads = c.in-Ok.ensures.faults; writes = refl })
 
 pub returns-in-Err-OutOfMemory-line-clause-turns : goal.returns-in-Err-OutOfMemory-line-clause-turns
 returns-in-Err-OutOfMemory-line-clause-turns g c =
     let answered = rw c.in-Err-OutOfMemory-line.field-0-is at c.in-Err-OutOfMemory-line.ensures.line in
     let admits = rw c.deref-2.ensures.value at answered in
-    starved-line _ g.P.Script.judged (g.P.Script.owes c.args.script.now) _ _ _ c.read_line.new.line.items c.in-Ok.field-0 c.in-Ok.ensures.reads admits.0 admits.1 (g.met.P.Script.waits c.args.script.now) (Appends-nil (g.O.Sink.taken c.args.out.now)) (record { reads = c.in-Ok.ensures.faults; writes = refl })
+    starved-line _ g.P.Script.judged (g.P.Script.owes c.args.script.now) _ _ _ c.read_line.new.line.items c.in-Ok.field-0 c.in-Ok.ensures.reads admits.0 admits.1 (g.met.P.Script.waits c.args.script.now) (Appends-nil (g.O.Sink.state c.args.out.now).taken) (record { reads = c.in-Ok.ensures.faults; writes = refl })
 
 pub returns-in-Ok-write_all-clause-came : goal.returns-in-Ok-write_all-clause-came
 returns-in-Ok-write_all-clause-came g c =

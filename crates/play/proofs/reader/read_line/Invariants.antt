@@ -6,9 +6,9 @@ use Rattle.play.proofs.reader.read_line.Given as goal
 -- what was taken so far has no line feed
 abbrev pub invariant-bytes : goal.invariant-bytes
 invariant-bytes g l = record {
-  open_ : g.S.Source.is_open l.input ≡ true;
-  faults : g.S.Source.faults l.input ≡ g.S.Source.faults l.fn.input;
-  front : Consumes (g.S.Source.left l.fn.input) (g.S.Source.left l.input) l.line.items;
+  open_ : (g.S.Source.state l.input).is_open ≡ true;
+  faults : (g.S.Source.state l.input).faults ≡ (g.S.Source.state l.fn.input).faults;
+  front : Consumes (g.S.Source.state l.fn.input).left (g.S.Source.state l.input).left l.line.items;
   clear : has_no_feed l.line.items ≡ true;
   short : vec_len l.line ≤ seen_bytes;
   room : seen_bytes ≤ vec_capacity l.line;

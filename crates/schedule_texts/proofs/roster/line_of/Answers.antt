@@ -1,7 +1,7 @@
 use Rattle.std.proofs.Common.{rules}
 use Rattle.schedule_texts.specs.declared.line.RosterLine.TheVariants as lines
 use Rattle.schedule_texts.specs.declared.roster.LineWord.TheVariants as words
-use Rattle.schedule_texts.specs.Shared.{kinds_fields, kinds_in}
+use Rattle.schedule_texts.specs.Shared.{group_fields, group_in, kinds_fields, kinds_in}
 use Rattle.schedule_texts.specs.RosterRows.{cert_fields, cert_in, line_of}
 use Rattle.schedule_texts.proofs.TableLemmas.{line_bad, line_good}
 use Rattle.schedule_texts.proofs.roster.line_of.Goals as goal
@@ -19,3 +19,12 @@ returns-in_err-read_cert-in-Cert c =
 pub returns-in_ok-read_kinds-in-Kinds : goal.returns-in_ok-read_kinds-in-Kinds
 returns-in_ok-read_kinds-in-Kinds c =
     rw c.in-Kinds.is (line_good kinds_fields kinds_in lines.Kinds c.args.args c.in_ok-read_kinds-in-Kinds.field-0 c.in_ok-read_kinds-in-Kinds.ensures)
+
+pub returns-in_err-read_group-in-Group : goal.returns-in_err-read_group-in-Group
+returns-in_err-read_group-in-Group c =
+    let x = line_bad group_fields group_in (line_of words.Group) c.args.args c.in_err-read_group-in-Group.field-0.0 c.in_err-read_group-in-Group.ensures in
+    rw c.in-Group.is (search (rules, x))
+
+pub returns-in_ok-read_group-in-Group : goal.returns-in_ok-read_group-in-Group
+returns-in_ok-read_group-in-Group c =
+    rw c.in-Group.is (line_good group_fields group_in lines.Group c.args.args c.in_ok-read_group-in-Group.field-0 c.in_ok-read_group-in-Group.ensures)

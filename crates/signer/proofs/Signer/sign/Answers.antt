@@ -4,8 +4,8 @@ use Rattle.signer.proofs.Signer.sign.Goals as goal
 pub returns : goal.returns
 returns g c =
     let done = c.sign_body.ensures in
-    let older = g.D.Disk.moments c.args.disk.now in
-    let newer = g.D.Disk.moments c.sign_body.new.disk in
+    let older = (g.D.Disk.state c.args.disk.now).moments in
+    let newer = (g.D.Disk.state c.sign_body.new.disk).moments in
     record {
       faults = done.faults;
       answers = done.answers;

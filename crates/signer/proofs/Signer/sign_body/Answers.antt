@@ -25,5 +25,5 @@ returns-in-Ok-clause-follows g c =
     let next : c.stored_after.result ≡ stored_after c.args.self.now.state c.args.body =
     c.stored_after.ensures ∙ ap (λ (s : Stored). stored_after s c.args.body) (c.state-state.ensures.value ∙ state) in
     c.in-Ok.ensures.follows
-    ∙ ap (λ (at : Seat). runs_on (put_calls at c.stored_after.result) (g.D.Disk.state c.args.disk.now)) seat
-    ∙ ap (λ (s : Stored). runs_on (put_calls c.args.self.now.seat s) (g.D.Disk.state c.args.disk.now)) next
+    ∙ ap (λ (at : Seat). runs_on (put_calls at c.stored_after.result) (g.D.Disk.state c.args.disk.now).model) seat
+    ∙ ap (λ (s : Stored). runs_on (put_calls c.args.self.now.seat s) (g.D.Disk.state c.args.disk.now).model) next

@@ -2,7 +2,7 @@ use Rattle.text_trace.specs.Trace.{Every}
 use Rattle.std.proofs.Common.{◌≡◌, ◌-◌, ◌+◌, Result, subst}
 use Rattle.line_text.specs.declared.bad_word.BadWord.{BadWord}
 use Rattle.line_text.specs.Answers.{Progress}
-use Rattle.play.specs.Plays.{Runs, Standing, standing}
+use Rattle.play.specs.Plays.{IoState, Runs, io}
 use Rattle.text_trace.specs.Lines.{text_lines}
 use Rattle.verify_text.specs.declared.question.Asked.{Asked}
 use Rattle.verify_text.specs.declared.question.Asked.TheVariants as asked
@@ -15,7 +15,7 @@ use Rattle.verifier.proofs.TextLemmas.{run-brings}
 use Rattle.verifier.proofs.input.verify_input.Goals as goal
 
 -- what a verifier that has read nothing owes
-opened : (v : Verifier) (was now : Standing) (result : Result (Unit {0}) (Stop BadWord)) → v.reader ≡ opening → v.asked ≡ asked.Nothing → Runs BadWord Every (λ f. f ≡ answered v.reader v.asked) (text_lines + 1 - v.reader.number) was now result → Runs BadWord Every (λ f. f ≡ verified) text_lines was now result
+opened : (v : Verifier) (was now : IoState) (result : Result (Unit {0}) (Stop BadWord)) → v.reader ≡ opening → v.asked ≡ asked.Nothing → Runs BadWord Every (λ f. f ≡ answered v.reader v.asked) (text_lines + 1 - v.reader.number) was now result → Runs BadWord Every (λ f. f ≡ verified) text_lines was now result
 opened v was now result reader asks h =
     let P : Asked → Type 0 = λ a. Runs BadWord Every (λ f. f ≡ answered v.reader a) (text_lines + 1 - v.reader.number) was now result in
     let Q : Progress Verify → Type 0 = λ p. Runs BadWord Every (λ f. f ≡ answered p asked.Nothing) (text_lines + 1 - p.number) was now result in
@@ -23,8 +23,8 @@ opened v was now result reader asks h =
 
 pub returns-clause-runs : goal.returns-clause-runs
 returns-clause-runs g c =
-    opened c.open-verifier.result (standing (g.S.Source.left c.args.input.now) (g.O.Sink.taken c.args.out.now) (g.S.Source.faults c.args.input.now) (g.O.Sink.faults c.args.out.now))
-    (standing (g.S.Source.left c.play.new.input) (g.O.Sink.taken c.play.new.out) (g.S.Source.faults c.play.new.input) (g.O.Sink.faults c.play.new.out))
+    opened c.open-verifier.result (io (g.S.Source.state c.args.input.now) (g.O.Sink.state c.args.out.now))
+    (io (g.S.Source.state c.play.new.input) (g.O.Sink.state c.play.new.out))
     c.play.result c.open-verifier.ensures.reader c.open-verifier.ensures.asked c.play.ensures.runs
 
 pub returns-clause-brings : goal.returns-clause-brings

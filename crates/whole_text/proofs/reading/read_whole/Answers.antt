@@ -1,5 +1,5 @@
 use Rattle.std.proofs.Common.{◌∙◌, Err}
-use Rattle.play.specs.Plays.{standing}
+use Rattle.play.specs.Plays.{io}
 use Rattle.whole_text.proofs.WholeLemmas.{unfinished, whole, writable}
 use Rattle.whole_text.proofs.reading.read_whole.Goals as goal
 
@@ -12,8 +12,8 @@ returns-in-Ok-clause-whole g c =
 pub returns-in-Err-clause-sink : goal.returns-in-Err-clause-sink
 returns-in-Err-clause-sink g c =
     c.in-Err.ensures.sink ∙ writable (record { is_ended = g.F.Form.is_ended; row = g.F.Form.row_for; after = g.F.Form.after }) c.args.form c.open-gatherer.result.reader
-    (standing (g.S.Source.left c.args.input.now) (g.O.Sink.taken c.args.out.now) (g.S.Source.faults c.args.input.now) (g.O.Sink.faults c.args.out.now))
-    (standing (g.S.Source.left c.play.new.input) (g.O.Sink.taken c.play.new.out) (g.S.Source.faults c.play.new.input) (g.O.Sink.faults c.play.new.out))
+    (io (g.S.Source.state c.args.input.now) (g.O.Sink.state c.args.out.now))
+    (io (g.S.Source.state c.play.new.input) (g.O.Sink.state c.play.new.out))
     (Err c.in-Err.stop) c.open-gatherer.ensures.reader c.in-Err.ensures.runs
 
 pub returns-in-Err-clause-unfinished : goal.returns-in-Err-clause-unfinished

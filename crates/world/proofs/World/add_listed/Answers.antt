@@ -4,7 +4,7 @@ use Rattle.lms_tree.specs.declared.TreeKind.{TreeKind}
 use Rattle.lms_tree.specs.declared.secret.Secret.{Secret}
 use Rattle.secrets.specs.Secrets.{key_from, world_secret}
 use Rattle.world_rules.specs.Settings.{is_liar, is_node}
-use Rattle.world_station.specs.Holding.{IsWorld}
+use Rattle.world_host.specs.Holding.{IsWorld}
 use Rattle.world.specs.Holding.{Kept}
 use Rattle.world.specs.Opening.{AddsLiar, AddsNode, Builds}
 use Rattle.world.proofs.OpeningLemmas.{both-ok, builds-liar, builds-node, builds-none, is-apart, is-liar-made, is-node-made, is-world}

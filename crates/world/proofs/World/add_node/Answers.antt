@@ -7,15 +7,15 @@ use Rattle.lms_tree.specs.declared.secret.Secret.{Secret}
 use Rattle.lms_tree.specs.Lms.{public_of}
 use Rattle.secrets.specs.Secrets.{key_from, world_secret}
 use Rattle.world_rules.specs.Keys.{owner_key}
-use Rattle.world_station.specs.Stations.{StationState}
-use Rattle.world_station.specs.Holding.{IsWorld}
+use Rattle.world_host.specs.Hosts.{HostState}
+use Rattle.world_host.specs.Holding.{IsWorld}
 use Rattle.world.specs.contracts.World.{the_view}
 use Rattle.world.specs.Holding.{Kept}
 use Rattle.world.specs.Opening.{with_certificate}
 use Rattle.world.proofs.World.add_node.Goals as goal
 
-abbrev with_stations : Kept → List StationState → Kept
-with_stations v stations = record v { stations = stations }
+abbrev with_hosts : Kept → List HostState → Kept
+with_hosts v hosts = record v { hosts = hosts }
 
 pub returns-clause-ok : goal.returns-clause-ok
 returns-clause-ok c =
@@ -31,13 +31,13 @@ returns-clause-ok c =
     let certified : the_view c.self-2.inside ≡ with_certificate v c.args.signing.now m (public_of secret) =
     c.self-2.view_is ∙ c.in_ok-add_certificate.ensures.ok ∙ ap (λ (k : PublicKey). with_certificate v c.args.signing.now m k) public in
     let again : c.group-2.result.now ≡ v.authority.group = c.group-2.ensures ∙ ap (λ (z : Kept). z.authority.group) certified in
-    let station : StationState = c.in_ok-station.station in
-    let stations : c.push.new.self.items ≡ v.stations ++ station ∷ [] = c.in_ok-push.ensures.items ∙ ap (λ (z : Kept). z.stations ++ station ∷ []) certified in
+    let host : HostState = c.in_ok-host.host in
+    let hosts : c.push.new.self.items ≡ v.hosts ++ host ∷ [] = c.in_ok-push.ensures.items ∙ ap (λ (z : Kept). z.hosts ++ host ∷ []) certified in
     record {
-      station = station;
-      member = c.in_ok-station.ensures.member;
+      host = host;
+      member = c.in_ok-host.ensures.member;
       holds = λ s ots_now tree_now world own.
-          c.in_ok-station.ensures.holds s ots_now tree_now (subst (λ (g : Group). IsWorld s g ots_now tree_now) (sym again) world)
+          c.in_ok-host.ensures.holds s ots_now tree_now (subst (λ (g : Group). IsWorld s g ots_now tree_now) (sym again) world)
           (key ∙ own ∙ ap (λ (g : Group). owner_key g ots_now tree_now (Some m)) (sym again));
-      added = ap (λ (z : Kept). with_stations z c.push.new.self.items) certified ∙ ap (with_stations (with_certificate v c.args.signing.now m (public_of secret))) stations;
+      added = ap (λ (z : Kept). with_hosts z c.push.new.self.items) certified ∙ ap (with_hosts (with_certificate v c.args.signing.now m (public_of secret))) hosts;
     }

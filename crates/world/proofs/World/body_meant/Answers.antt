@@ -6,7 +6,7 @@ use Rattle.records.specs.declared.Body.TheVariants.{Accusation}
 use Rattle.schedule_world.specs.declared.line.WorldLine.TheVariants as lines
 use Rattle.schedule_world.specs.declared.line.WorldLine.{WorldLine}
 use Rattle.world_rules.specs.Steps.{epoch_meant}
-use Rattle.world_rules.specs.Worlds.{World as Meant}
+use Rattle.world_rules.specs.Worlds.{World as ModelWorld}
 use Rattle.world.specs.Courses.{body_in}
 use Rattle.world.proofs.World.body_meant.Goals as goal
 
@@ -14,7 +14,7 @@ mapped-twice : (f : ℕ → AccBody) (o : Option ℕ) → option_map (λ (a : Ac
 mapped-twice f None = refl
 mapped-twice f (Some x) = refl
 
-accuses : (w : Meant) (line : WorldLine) (key accuser accused : ℕ) (epoch : Option ℕ) (ring : RingNo) (name : List ℕ) (o : Option AccBody) → line ≡ lines.SignAccusation key accuser accused epoch ring name
+accuses : (w : ModelWorld) (line : WorldLine) (key accuser accused : ℕ) (epoch : Option ℕ) (ring : RingNo) (name : List ℕ) (o : Option AccBody) → line ≡ lines.SignAccusation key accuser accused epoch ring name
     → o ≡ option_map (λ e. record { accuser = accuser; accused = accused; epoch = e; ring = ring }) (epoch_meant w accused epoch) → option_map (λ (a : AccBody). Accusation a) o ≡ body_in w line
 accuses w line key accuser accused epoch ring name o same is =
     let of_epoch : ℕ → AccBody = λ e. record { accuser = accuser; accused = accused; epoch = e; ring = ring } in

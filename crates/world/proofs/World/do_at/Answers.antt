@@ -1,6 +1,6 @@
 use Rattle.std.proofs.Common.{◌≡◌, ℕ, false, Some, refl, ap, sym, ◌∙◌, subst}
 use Rattle.world_rules.specs.Settings.{Setting}
-use Rattle.world_rules.specs.Worlds.{World as Meant, is_running}
+use Rattle.world_rules.specs.Worlds.{World as ModelWorld, is_running}
 use Rattle.schedule_world.specs.declared.line.WorldLine.TheVariants as lines
 use Rattle.schedule_world.specs.declared.line.WorldLine.{WorldLine}
 use Rattle.ff_ids.specs.declared.RingNo.{RingNo}
@@ -12,7 +12,7 @@ use Rattle.world.proofs.World.do_at.Goals as goal
 same-number : (a b : ℕ) → Some a ≡ Some b → a ≡ b
 same-number a b e = cc
 
-opens-course : (s : Setting) (w : Meant) (m : ℕ) (line : WorldLine) → ((a : ℕ) → line ≡ lines.Start a → ⊥) → ((a : ℕ) → line ≡ lines.View a → ⊥)
+opens-course : (s : Setting) (w : ModelWorld) (m : ℕ) (line : WorldLine) → ((a : ℕ) → line ≡ lines.Start a → ⊥) → ((a : ℕ) → line ≡ lines.View a → ⊥)
     → ((a : ℕ) (ring : RingNo) (of : ℕ) → line ≡ lines.Monitor a ring of → ⊥) → node_named line ≡ Some m → does_or_opens s w line ≡ answered (course_of s line (begun w))
 opens-course s w m (lines.Start a) no-start no-view no-monitor named = absurd (no-start a refl)
 opens-course s w m (lines.Stop a outcome) no-start no-view no-monitor named = refl

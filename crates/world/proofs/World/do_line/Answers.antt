@@ -6,10 +6,10 @@ use Rattle.world.proofs.AnswerLemmas.{replies-same}
 use Rattle.world.proofs.StepLemmas.{can-start, names-liar, names-node, step-node, step-other}
 use Rattle.world.proofs.World.do_line.Goals as goal
 
-pub returns-in-Some-station_of-clause-does : goal.returns-in-Some-station_of-clause-does
-returns-in-Some-station_of-clause-does c = λ s w before h none.
+pub returns-in-Some-host_of-clause-does : goal.returns-in-Some-host_of-clause-does
+returns-in-Some-host_of-clause-does c = λ s w before h none.
     let named : node_named c.args.line.now ≡ Some c.in-Some.member = sym c.in-Some.ensures in
-    let placed = c.in-Some-station_of.ensures.place s h.nodes in
+    let placed = c.in-Some-host_of.ensures.place s h.nodes in
     replies-same s before c.do_at.new.self c.args.out.now.items c.do_at.new.out.items (step s w c.args.line.now) (does_or_opens s w c.args.line.now) c.do_at.result (step-node s w c.args.line.now c.in-Some.member none named placed.0)
     (c.do_at.ensures.does s w before c.in-Some.member h placed.1 named (can-start s w c.args.line.now c.in-Some.member none named placed.0))
 

@@ -2,7 +2,7 @@ use Rattle.std.proofs.Common.{◌≡◌, ℕ, true, List, Option, None, refl, ap
 use Rattle.std.specs.Prelude.{Ok}
 use Rattle.world_rules.specs.Settings.{Setting, is_liar}
 use Rattle.world_rules.specs.Steps.{flows, gives_each}
-use Rattle.world_rules.specs.Worlds.{World as Meant}
+use Rattle.world_rules.specs.Worlds.{World as ModelWorld}
 use Rattle.schedule_world.specs.declared.line.WorldLine.TheVariants as lines
 use Rattle.schedule_world.specs.declared.line.WorldLine.{WorldLine}
 use Rattle.ff_ids.specs.declared.NoteBody.{NoteBody}
@@ -14,7 +14,7 @@ use Rattle.world.specs.Courses.{NamesLiar, body_in, signs}
 use Rattle.world.proofs.AnswerLemmas.{SignsSo, does-signs, ends-replies, replies-same}
 use Rattle.world.proofs.World.do_other.Goals as goal
 
-quiet-other : (s : Setting) (w : Meant) (line : WorldLine) → ((a : ℕ) → line ≡ lines.Flow a → ⊥) → ((key : ℕ) (note : NoteBody) (name : List ℕ) → line ≡ lines.SignNote key note name → ⊥)
+quiet-other : (s : Setting) (w : ModelWorld) (line : WorldLine) → ((a : ℕ) → line ≡ lines.Flow a → ⊥) → ((key : ℕ) (note : NoteBody) (name : List ℕ) → line ≡ lines.SignNote key note name → ⊥)
     → ((key accuser accused : ℕ) (epoch : Option ℕ) (ring : RingNo) (name : List ℕ) → line ≡ lines.SignAccusation key accuser accused epoch ring name → ⊥)
     → ((name : List ℕ) → line ≡ lines.GiveAll name → ⊥) → node_named line ≡ None → does s w line ≡ Ok (quiet (begun w))
 quiet-other s w (lines.Start a) no-flow no-note no-accusation no-gift named = cc

@@ -1,6 +1,6 @@
 use Rattle.std.proofs.Common.{ℕ, ◌+◌, List, ◌++◌, sym, subst}
 use Rattle.world_rules.specs.Settings.{Setting}
-use Rattle.world_rules.specs.Steps.{Course, Told}
+use Rattle.world_rules.specs.Steps.{Execution, NodeEvent}
 use Rattle.world.specs.contracts.World.{the_view}
 use Rattle.world.specs.Holding.{Holds, Kept}
 use Rattle.world.specs.Courses.{At}
@@ -8,7 +8,7 @@ use Rattle.world.proofs.HandingLemmas.{flows-idle, flows-runs, taken_of}
 use Rattle.world.proofs.WorldLemmas.{holds-flowed}
 use Rattle.world.proofs.World.flow_one.Goals as goal
 
-taken-at : (s : Setting) (before : List Told) (base : List ℕ) (v : Kept) (out : List ℕ) (k : Course) → At s before base v out k → At s before base (record v { flowed = v.flowed + 1 }) out (taken_of k)
+taken-at : (s : Setting) (before : List NodeEvent) (base : List ℕ) (v : Kept) (out : List ℕ) (k : Execution) → At s before base v out k → At s before base (record v { flowed = v.flowed + 1 }) out (taken_of k)
 taken-at s before base v out k at =
     record {
       holds = subst (λ (n : ℕ). Holds s (record k.world { flowed = n + 1 }) (before ++ k.told) (record v { flowed = v.flowed + 1 })) at.holds.flowed (holds-flowed s k.world (before ++ k.told) v (v.flowed + 1) at.holds);

@@ -4,29 +4,29 @@ use Rattle.std.proofs.lemmas.Option.{slice_get_read}
 use Rattle.world_rules.specs.Settings.{is_liar, is_node}
 use Rattle.world.specs.contracts.World.{the_view}
 use Rattle.world.specs.declared.liar.Liar.{Liar}
-use Rattle.world_station.specs.Stations.{StationState}
+use Rattle.world_host.specs.Hosts.{HostState}
 use Rattle.world.specs.Holding.{Holds, Kept, liar_numbers}
 use Rattle.world.specs.Courses.{IsNodePlace, IsPlace}
 use Rattle.std.specs.Prelude.{filter_map}
 use Rattle.records.specs.declared.Body.{Body}
 use Rattle.world_rules.specs.Refusals.{epoch_of_note, greatest}
-use Rattle.world.proofs.SignerLemmas.{newest-liar, newest-none, newest-station}
+use Rattle.world.proofs.SignerLemmas.{newest-liar, newest-none, newest-host}
 use Rattle.world.proofs.World.newest_signed.Goals as goal
 
 pub returns-in-Some : goal.returns-in-Some
 returns-in-Some c = λ s w told h.
     let v : Kept = the_view c.self.inside in
     let at : ℕ = c.in-Some.at in
-    let x : StationState = c.index.result.now in
+    let x : HostState = c.index.result.now in
     let placed = c.in-Some.ensures.place s h.nodes in
-    let within : at < length v.stations = subst (λ (z : Kept). at < length z.stations) (sym c.self.view_is) c.in-Some.ensures.within in
-    let found : slice_get v.stations at ≡ Some x = slice_get_read v.stations (length v.stations) at x refl within c.index.ensures in
-    c.newest_signed.ensures ∙ newest-station s w told v c.args.member at x (subst (Holds s w told) (sym c.self.view_is) h) (subst (λ (z : Kept). IsPlace z at c.args.member) (sym c.self.view_is) placed.1) found
+    let within : at < length v.hosts = subst (λ (z : Kept). at < length z.hosts) (sym c.self.view_is) c.in-Some.ensures.within in
+    let found : slice_get v.hosts at ≡ Some x = slice_get_read v.hosts (length v.hosts) at x refl within c.index.ensures in
+    c.newest_signed.ensures ∙ newest-host s w told v c.args.member at x (subst (Holds s w told) (sym c.self.view_is) h) (subst (λ (z : Kept). IsPlace z at c.args.member) (sym c.self.view_is) placed.1) found
 
 pub returns-in_err-at : goal.returns-in_err-at
 returns-in_err-at c = λ s w told h.
-    let none : c.station_of.result ≡ None = search rules in
-    let no_node : is_node s c.args.member ≡ false = subst (IsNodePlace s c.args.self.now c.args.member) none (c.station_of.ensures.place s h.nodes) in
+    let none : c.host_of.result ≡ None = search rules in
+    let no_node : is_node s c.args.member ≡ false = subst (IsNodePlace s c.args.self.now c.args.member) none (c.host_of.ensures.place s h.nodes) in
     let no_liar : is_liar s c.args.member ≡ false = c.in_err-at.ensures.place s h.lying in
     let back : c.from_residual.result ≡ None = search rules in
     back ∙ sym (newest-none w c.args.member (h.silent c.args.member no_node no_liar))

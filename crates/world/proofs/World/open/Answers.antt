@@ -5,7 +5,7 @@ use Rattle.lms_ots.specs.declared.OtsKind.{OtsKind}
 use Rattle.lms_tree.specs.declared.TreeKind.{TreeKind}
 use Rattle.world_rules.specs.Keys.{setting_for}
 use Rattle.world_rules.specs.Settings.{Setting}
-use Rattle.world_station.specs.Holding.{IsWorld}
+use Rattle.world_host.specs.Holding.{IsWorld}
 use Rattle.world.specs.Holding.{Kept}
 use Rattle.world.specs.Opening.{Builds}
 use Rattle.world.proofs.OpeningLemmas.{builds-first, holds-built, is-apart, is-world, mapped-none, new_authority}

@@ -1,2 +1,0 @@
-pub mod WaitLemmas
-pub mod LineLemmas

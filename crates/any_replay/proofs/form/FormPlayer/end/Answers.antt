@@ -1,5 +1,0 @@
-use Rattle.any_replay.proofs.LineLemmas.{bad-end}
-use Rattle.any_replay.proofs.form.FormPlayer.end.Goals as goal
-
-pub returns-in-Direct : goal.returns-in-Direct
-returns-in-Direct c = record { end = rw (c.for_word.ensures, c.in-Direct.is) (bad-end c.in-Direct.player c.end.new._text.items c.end.result c.end.ensures.end) }

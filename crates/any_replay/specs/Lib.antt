@@ -1,4 +1,0 @@
-pub mod Replayed
-pub mod Answers
-pub mod Owing
-pub mod Laws

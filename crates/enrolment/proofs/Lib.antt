@@ -1,3 +1,0 @@
-pub mod SigningLemmas
-pub mod OpeningLemmas
-pub mod EnrolLemmas

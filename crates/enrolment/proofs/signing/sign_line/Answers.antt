@@ -1,4 +1,0 @@
-use Rattle.enrolment.proofs.signing.sign_line.Goals as goal
-
-pub returns-in-Cert-clause-signs : goal.returns-in-Cert-clause-signs
-returns-in-Cert-clause-signs g c = λ left reads. rw c.in-Cert.is (c.sign_one.ensures.signs left reads)

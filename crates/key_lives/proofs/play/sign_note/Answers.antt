@@ -1,7 +1,0 @@
-use Rattle.key_lives.specs.Played.{told}
-use Rattle.key_lives.proofs.PlayLemmas.{signs_on}
-use Rattle.key_lives.proofs.play.sign_note.Goals as goal
-
-pub returns-in-Ok : goal.returns-in-Ok
-returns-in-Ok c = λ before spent stands.
-    signs_on c.args.holder.now before spent c.in-Some.signer c.sign_note.new.self _ c.in-Ok.record _ _ _ _ (told c.args.disk.now) (told c.sign_note.new.disk) c.in-Ok.ensures (rw c.in-Some.is at stands)

@@ -1,0 +1,206 @@
+-- The whole lines of a journal, and which event a line gives.
+use Rattle.std.proofs.Common.{◌≡◌, ℕ, Bool, true, false, List, [], ◌∷◌, ◌++◌, get_or, Option, Some, None, inl, inr, refl, ap, sym, ◌∙◌, append_assoc, append-nil, drop, arith}
+use Rattle.std.specs.Prelude.{codes}
+use Rattle.std.specs.Fmt.{decimal}
+use Rattle.std.specs.List.{AllByRecursion, concat}
+use Rattle.std.proofs.lemmas.List.Folds.{concat-append}
+use Rattle.ff_ids.specs.declared.Fault.{Fault}
+use Rattle.ff_ids.specs.Texts.{accusation_text, fault_text}
+use Rattle.hex.specs.Hex.{encode_lower}
+use Rattle.life_events.specs.declared.event.What.TheVariants as in_life
+use Rattle.life_laws.proofs.Lists.{All-at}
+use Rattle.lms_tree.specs.Lms.{key_bytes}
+use Rattle.records.specs.declared.Body.{Body}
+use Rattle.records.specs.declared.Body.TheVariants.{Certificate, Note, Accusation}
+use Rattle.journal.specs.declared.event.Event as journal
+use Rattle.journal.specs.declared.event.What as whats
+use Rattle.journal.specs.declared.event.What.TheVariants as told
+use Rattle.journal.specs.declared.turn.Heard.{Heard}
+use Rattle.journal.specs.declared.turn.Heard.TheVariants as heard
+use Rattle.journal.specs.declared.turn.Turn.{Turn}
+use Rattle.journal.specs.Texts.{answer_text, body_text, event_text, flag_text, verdict_text, what_text}
+use Rattle.journal.specs.Turns.{bytes_text, heard_text, turn_text}
+use Rattle.text_trace.specs.Lines.{has_no_feed}
+use Rattle.trace.specs.Written.{IsLineOf, IsWholeLine}
+use Rattle.trace.proofs.JustifiedLemmas.{IsTail, among-tail, line-among}
+use Rattle.trace.proofs.TextLemmas.{clear-append, clear-decimal, clear-hex, same-fronts, unspaced-decimal}
+use Rattle.trace.proofs.WrittenLemmas.{clear-accusation, clear-fault, clear-then}
+use Rattle.trace.proofs.WrittenLemmas as written
+use Rattle.node_loop.specs.Courses.{line_of, with_feed}
+use Rattle.node_command.specs.Removals.{removal_line}
+
+-- ## No line has a line feed inside it
+
+pub clear-body : (b : Body) → has_no_feed (body_text b) ≡ true
+clear-body (Certificate c) =
+    let two = (codes "cert " ++ decimal c.member) ++ codes " " ++ decimal c.port in
+    clear-append (two ++ codes " ") (encode_lower (key_bytes c.key))
+    (clear-append two (codes " ") (clear-then (codes "cert " ++ decimal c.member) c.port (clear-append (codes "cert ") (decimal c.member) refl (clear-decimal c.member))) refl)
+    (clear-hex (key_bytes c.key))
+clear-body (Note n) =
+    let two = (codes "note " ++ decimal n.member) ++ codes " " ++ decimal n.epoch in
+    clear-then two n.mask.0 (clear-then (codes "note " ++ decimal n.member) n.epoch (clear-append (codes "note ") (decimal n.member) refl (clear-decimal n.member)))
+clear-body (Accusation a) = clear-append (codes "accuse ") (accusation_text a) refl (clear-accusation a)
+
+clear-verdict : (f : Option Fault) → has_no_feed (verdict_text f) ≡ true
+clear-verdict None = refl
+clear-verdict (Some f) = clear-append (codes "refused ") (fault_text f) refl (clear-fault f)
+
+clear-answer : (counted : Bool) → has_no_feed (answer_text counted) ≡ true
+clear-answer true = refl
+clear-answer false = refl
+
+clear-flag : (flag : Bool) → has_no_feed (flag_text flag) ≡ true
+clear-flag true = refl
+clear-flag false = refl
+
+-- a word and a number
+clear-number : (word : List ℕ) (n : ℕ) → has_no_feed word ≡ true → has_no_feed (word ++ decimal n) ≡ true
+clear-number word n h = clear-append word (decimal n) h (clear-decimal n)
+
+-- a text, a space and another one
+clear-both : (a b : List ℕ) → has_no_feed a ≡ true → has_no_feed b ≡ true → has_no_feed ((a ++ codes " ") ++ b) ≡ true
+clear-both a b h k = clear-append (a ++ codes " ") b (clear-append a (codes " ") h refl) k
+
+clear-what : (w : whats.What) → has_no_feed (what_text w) ≡ true
+clear-what (told.Entered m) = written.clear-what (in_life.Entered m)
+clear-what (told.Expired a) = written.clear-what (in_life.Expired a)
+clear-what (told.Removed m) = written.clear-what (in_life.Removed m)
+clear-what (told.Fell a) = written.clear-what (in_life.Fell a)
+clear-what (told.Spent index body) = clear-both (codes "spent " ++ decimal index) (body_text body) (clear-number (codes "spent ") index refl) (clear-body body)
+clear-what (told.Took body fault) =
+    clear-append ((codes "took " ++ body_text body) ++ codes " : ") (verdict_text fault)
+    (clear-append (codes "took " ++ body_text body) (codes " : ") (clear-append (codes "took ") (body_text body) refl (clear-body body)) refl) (clear-verdict fault)
+clear-what (told.BadForm place) = clear-number (codes "bad-form ") place refl
+clear-what (told.Ping from nonce) = clear-then (codes "ping " ++ decimal from) nonce (clear-number (codes "ping ") from refl)
+clear-what (told.Pong from nonce counted) =
+    clear-both ((codes "pong " ++ decimal from) ++ codes " " ++ decimal nonce) (answer_text counted) (clear-then (codes "pong " ++ decimal from) nonce (clear-number (codes "pong ") from refl)) (clear-answer counted)
+clear-what (told.Summary from page flag) =
+    clear-both ((codes "summary " ++ decimal from) ++ codes " " ++ decimal page) (flag_text flag) (clear-then (codes "summary " ++ decimal from) page (clear-number (codes "summary ") from refl)) (clear-flag flag)
+clear-what (told.Silent m) = clear-number (codes "silent ") m refl
+clear-what (told.Exhausted next) = clear-number (codes "exhausted ") next refl
+clear-what (told.Sent number to bytes) =
+    clear-both ((codes "sent " ++ decimal number) ++ codes " " ++ decimal to) (encode_lower bytes) (clear-then (codes "sent " ++ decimal number) to (clear-number (codes "sent ") number refl)) (clear-hex bytes)
+clear-what (told.Lost number) = clear-number (codes "lost ") number refl
+clear-what (told.Got number) = clear-number (codes "got ") number refl
+clear-what told.Stopped = refl
+
+clear-event : (e : journal.Event) → has_no_feed (event_text e) ≡ true
+clear-event e = clear-both (codes "at " ++ decimal e.moment) (what_text e.what) (clear-number (codes "at ") e.moment refl) (clear-what e.what)
+
+clear-bytes : (bytes : List ℕ) → has_no_feed (bytes_text bytes) ≡ true
+clear-bytes [] = refl
+clear-bytes (b ∷ bytes) = clear-hex (b ∷ bytes)
+
+clear-heard : (came : Heard) → has_no_feed (heard_text came) ≡ true
+clear-heard (heard.Got bytes) = clear-append (codes "got ") (bytes_text bytes) refl (clear-bytes bytes)
+clear-heard heard.Nothing = refl
+clear-heard heard.Failed = refl
+
+clear-turn : (t : Turn) → has_no_feed (turn_text t) ≡ true
+clear-turn t =
+    let front = (codes "turn " ++ decimal t.number) ++ codes " " ++ heard_text t.heard in
+    clear-append (front ++ codes " ticks ") (decimal t.ticks)
+    (clear-append front (codes " ticks ") (clear-both (codes "turn " ++ decimal t.number) (heard_text t.heard) (clear-number (codes "turn ") t.number refl) (clear-heard t.heard)) refl)
+    (clear-decimal t.ticks)
+
+pub whole-fed : (text : List ℕ) → has_no_feed text ≡ true → IsWholeLine (with_feed text)
+whole-fed text clear = record { front = text; clear = clear; ended = refl }
+
+pub whole-event : (e : journal.Event) → IsWholeLine (line_of e)
+whole-event e = whole-fed (event_text e) (clear-event e)
+
+pub whole-turn : (t : Turn) → IsWholeLine (with_feed (turn_text t))
+whole-turn t = whole-fed (turn_text t) (clear-turn t)
+
+-- ## Which line gives a removal
+
+-- a line that begins as no event does
+pub other-line : (line : List ℕ) (moment m : ℕ) → (get_or line 0 0 ≡ 97 → ⊥) → line ≡ removal_line moment m → ⊥
+other-line line moment m other e = other (ap (λ (x : List ℕ). get_or x 0 0) e)
+
+pub turn-other : (t : Turn) → get_or (with_feed (turn_text t)) 0 0 ≡ 97 → ⊥
+turn-other t e = absurd (omega (arith, e))
+
+-- the text of what happened, where it is that of a removal
+removed-word : (w : whats.What) (m : ℕ) → what_text w ++ 10 ∷ [] ≡ (codes "removed " ++ decimal m) ++ 10 ∷ [] → (k : ℕ) × (w ≡ told.Removed k)
+removed-word (told.Entered k) m e = absurd (omega (arith, ap (λ (x : List ℕ). get_or x 0 0) e))
+removed-word (told.Expired a) m e = absurd (omega (arith, ap (λ (x : List ℕ). get_or x 0 0) e))
+removed-word (told.Removed k) m e = (k, refl)
+removed-word (told.Fell a) m e = absurd (omega (arith, ap (λ (x : List ℕ). get_or x 0 0) e))
+removed-word (told.Spent index body) m e = absurd (omega (arith, ap (λ (x : List ℕ). get_or x 0 0) e))
+removed-word (told.Took body fault) m e = absurd (omega (arith, ap (λ (x : List ℕ). get_or x 0 0) e))
+removed-word (told.BadForm place) m e = absurd (omega (arith, ap (λ (x : List ℕ). get_or x 0 0) e))
+removed-word (told.Ping from nonce) m e = absurd (omega (arith, ap (λ (x : List ℕ). get_or x 0 0) e))
+removed-word (told.Pong from nonce counted) m e = absurd (omega (arith, ap (λ (x : List ℕ). get_or x 0 0) e))
+removed-word (told.Summary from page flag) m e = absurd (omega (arith, ap (λ (x : List ℕ). get_or x 0 0) e))
+removed-word (told.Silent k) m e = absurd (omega (arith, ap (λ (x : List ℕ). get_or x 0 0) e))
+removed-word (told.Exhausted next) m e = absurd (omega (arith, ap (λ (x : List ℕ). get_or x 0 0) e))
+removed-word (told.Sent number to bytes) m e = absurd (omega (arith, ap (λ (x : List ℕ). get_or x 0 0) e))
+removed-word (told.Lost number) m e = absurd (omega (arith, ap (λ (x : List ℕ). get_or x 0 0) e))
+removed-word (told.Got number) m e = absurd (omega (arith, ap (λ (x : List ℕ). get_or x 0 0) e))
+removed-word told.Stopped m e = absurd (omega (arith, ap (λ (x : List ℕ). get_or x 0 0) e))
+
+-- the text behind the word `at` and a space
+behind-at : (e : journal.Event) → line_of e ≡ codes "at " ++ (decimal e.moment ++ 32 ∷ (what_text e.what ++ 10 ∷ []))
+behind-at e =
+    append_assoc ((codes "at " ++ decimal e.moment) ++ codes " ") (what_text e.what) (10 ∷ [])
+    ∙ append_assoc (codes "at " ++ decimal e.moment) (codes " ") (what_text e.what ++ 10 ∷ [])
+    ∙ append_assoc (codes "at ") (decimal e.moment) (32 ∷ (what_text e.what ++ 10 ∷ []))
+
+drop-at : (x y : List ℕ) → codes "at " ++ x ≡ codes "at " ++ y → x ≡ y
+drop-at x y e = ap (λ (t : List ℕ). drop 3 t) e
+
+-- an event whose line gives a removal is one
+pub removal-event : (e : journal.Event) (moment m : ℕ) → line_of e ≡ removal_line moment m → (k : ℕ) × (e.what ≡ told.Removed k)
+removal-event e moment m same =
+    let other : journal.Event = record { moment = moment; what = told.Removed m } in
+    let behind = drop-at _ _ (sym (behind-at e) ∙ same ∙ behind-at other) in
+    let s = same-fronts 32 (decimal e.moment) (decimal moment) _ _ (unspaced-decimal e.moment) (unspaced-decimal moment) behind in
+    removed-word e.what m s.rests
+
+-- ## Texts that are whole lines
+
+-- the text is whole lines, of each of which P holds
+pub record AreLines (P : List ℕ → Type 0) (text : List ℕ) : Type 0 where
+  pub lines : List (List ℕ)
+  pub joined : text ≡ concat lines
+  pub whole : AllByRecursion IsWholeLine lines
+  pub each : AllByRecursion P lines
+
+all-behind : (P : List ℕ → Type 0) (xs ys : List (List ℕ)) → AllByRecursion P xs → AllByRecursion P ys → AllByRecursion P (xs ++ ys)
+all-behind P [] ys a b = b
+all-behind P (x ∷ xs) ys a b = (a.0, all-behind P xs ys a.1 b)
+
+pub lines-none : (P : List ℕ → Type 0) → AreLines P []
+lines-none P = record { lines = []; joined = refl; whole = tt; each = tt }
+
+pub lines-one : (P : List ℕ → Type 0) (line : List ℕ) → IsWholeLine line → P line → AreLines P line
+lines-one P line whole h = record { lines = line ∷ []; joined = sym (append-nil line); whole = (whole, tt); each = (h, tt) }
+
+pub lines-behind : (P : List ℕ → Type 0) (a b : List ℕ) → AreLines P a → AreLines P b → AreLines P (a ++ b)
+lines-behind P a b x y = record {
+  lines = x.lines ++ y.lines;
+  joined = ap (λ (t : List ℕ). t ++ b) x.joined ∙ ap (λ (t : List ℕ). concat x.lines ++ t) y.joined ∙ sym (concat-append x.lines y.lines);
+  whole = all-behind IsWholeLine x.lines y.lines x.whole y.whole;
+  each = all-behind P x.lines y.lines x.each y.each;
+}
+
+all-weaker : (P Q : List ℕ → Type 0) (xs : List (List ℕ)) → ((line : List ℕ) → P line → Q line) → AllByRecursion P xs → AllByRecursion Q xs
+all-weaker P Q [] f h = tt
+all-weaker P Q (x ∷ xs) f h = (f x h.0, all-weaker P Q xs f h.1)
+
+pub lines-weaker : (P Q : List ℕ → Type 0) (text : List ℕ) → ((line : List ℕ) → P line → Q line) → AreLines P text → AreLines Q text
+lines-weaker P Q text f h = record { lines = h.lines; joined = h.joined; whole = h.whole; each = all-weaker P Q h.lines f h.each }
+
+-- P holds of each whole line of a front
+pub in-front : (P : List ℕ → Type 0) (whole written rest line : List ℕ) → AreLines P whole → whole ≡ written ++ rest → IsLineOf line written → P line
+in-front P whole written rest line h same of = All-at P h.lines line h.each (line-among h.lines line written rest h.whole (sym h.joined ∙ same) of)
+
+-- the same, where what stands behind the lines begins otherwise
+pub in-tail : (P : List ℕ → Type 0) (text last line : List ℕ) → AreLines P text → IsTail last → (get_or last 0 0 ≡ get_or line 0 0 → ⊥) → IsLineOf line (text ++ last) → P line
+in-tail P text last line h tail other of =
+    elim (among-tail h.lines of.earlier line of.after last h.whole of.whole of.here tail (ap (λ (t : List ℕ). t ++ last) (sym h.joined) ∙ of.parts)) [
+      | inl i ↦ All-at P h.lines line h.each i
+      | inr begins ↦ absurd (other begins)
+    ]

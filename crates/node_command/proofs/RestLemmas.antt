@@ -1,0 +1,220 @@
+-- What the removals rest on that a run has written.
+use Rattle.std.proofs.Common.{◌≡◌, ℕ, List, [], ◌∷◌, ◌++◌, length, Option, Some, None, Result, Ok, Err, inl, inr, refl, ap, sym, ◌∙◌, subst, arith}
+use Rattle.std.specs.List.{concat}
+use Rattle.std.specs.Io.KnownBytes.{Appends}
+use Rattle.std.proofs.KnownBytes.{Appends-nil, Appends-trans}
+use Rattle.std.proofs.lemmas.List.{length-append}
+use Rattle.epoch_store.specs.declared.Stored.{Stored}
+use Rattle.line_text.specs.declared.bad_word.BadWord.{BadWord}
+use Rattle.lms_tree.specs.Lms.{public_of}
+use Rattle.play.specs.Plays.{IoState}
+use Rattle.play.specs.declared.stop.Stop.{Stop}
+use Rattle.play.specs.declared.stop.Stop.TheVariants as stop
+use Rattle.schedule_texts.specs.declared.kit.KitText.TheVariants as kit
+use Rattle.secrets.specs.Secrets.{nonce_seed}
+use Rattle.text_trace.specs.Trace.{Continuation, Refuses, Trace, Writes}
+use Rattle.trace.specs.Written.{IsLineOf}
+use Rattle.whole_text.specs.Gathered.{IsUnfinished, lines_from, nothing, owed_whole, unread}
+use Rattle.whole_text.specs.Laws.{told-silent}
+use Rattle.whole_text.proofs.WholeLemmas.{never-unwritten}
+use Rattle.node_core.specs.Begins.{IsVouchable}
+use Rattle.node_core.specs.Rolls.{recs_of}
+use Rattle.node_rules.proofs.OwnKey.{key-started}
+use Rattle.node_command.specs.declared.halt.NodeHalt.{NodeHalt}
+use Rattle.node_command.specs.declared.halt.NodeHalt.TheVariants as halt
+use Rattle.node_command.specs.declared.kit.Member.{Member}
+use Rattle.node_command.specs.Members.{IsMember, kit_judging}
+use Rattle.node_command.specs.Opening.{IsFound, setting_for, start_of}
+use Rattle.ports.specs.Outside.{OfDisk}
+use Rattle.node_command.specs.Journal.{Environment, end_line, lines_of}
+use Rattle.node_command.specs.Running.{NetInputs, HasRun, IsUnwritten, LivesOut, Runs, RunsBehind, RunsOnce, life_in, once_bound}
+use Rattle.node_command.specs.Removals.{AreWholeLines, RemovalsRest, UnlessCut, acts_of, first_of, removal_line}
+use Rattle.node_command.proofs.LineLemmas.{in-front, lines-behind}
+use Rattle.node_command.proofs.RemovalLemmas.{start-quiet, start-unaccused}
+use Rattle.node_command.proofs.WrittenLemmas.{Gives, IsFounded, TellsOf, WritesOf, end-lines, life-of, lines-all, lines-told, lives-written, writes-all}
+
+-- ## The life that began
+
+founded : (m : Member) (stored : Stored) (feed : NetInputs) → IsVouchable (setting_for m) (public_of m.own.key) (recs_of m.certificates.items) stored → IsFounded (setting_for m) (public_of m.own.key) (first_of m stored feed)
+founded m stored feed v =
+    let seed = nonce_seed m.own.secret stored.next in
+    let recs = recs_of m.certificates.items in
+    record {
+      sign = v.signatures;
+      vouched = key-started (setting_for m) (public_of m.own.key) seed recs stored v.kit.all v.kit.own v.certified v.left;
+      unaccused = start-unaccused (setting_for m) seed recs stored v.kit.all;
+    }
+
+tells-start : (m : Member) (stored : Stored) (feed : NetInputs) → TellsOf (setting_for m) (first_of m stored feed) (acts_of m feed) (start_of m stored).told
+tells-start m stored feed at who i = absurd (start-quiet (setting_for m) (nonce_seed m.own.secret stored.next) (recs_of m.certificates.items) stored at who i)
+
+-- what was written of the life
+abbrev WritesIn : Member → Stored → NetInputs → Option (List ℕ) → Option (List ℕ) → Result (Unit {0}) NodeHalt → Type 0
+WritesIn m stored feed was now result = WritesOf (setting_for m) (first_of m stored feed) (acts_of m feed) was now result
+
+run-written : (m : Member) (feed : NetInputs) (was now : Environment) (done : Unit {0}) → (h : HasRun m feed was now) → WritesIn m h.stored feed was.taken now.taken (Ok done)
+run-written m feed was now done h =
+    let s = setting_for m in
+    let start = first_of m h.stored feed in
+    let acts = acts_of m feed in
+    let told = (start_of m h.stored).told in
+    let text = (life_in m h.stored feed).text in
+    let first = lines-told s start acts told (tells-start m h.stored feed) in
+    let all = lines-all s (public_of m.own.key) start acts (founded m h.stored feed h.vouchable) refl (life-of m.millis feed.turns feed.link.coming feed.reading feed.readings) in
+    writes-all s start acts was.taken now.taken (lines_of told ++ text ++ end_line) (Ok done) h.written
+    (lines-behind (Gives s start acts) (lines_of told ++ text) end_line (lines-behind (Gives s start acts) (lines_of told) text first all) (end-lines s start acts)) (λ x. x)
+
+out-written : (m : Member) (feed : NetInputs) (was now : Environment) (result : Result (Unit {0}) NodeHalt) → (l : LivesOut m feed was now result) → WritesIn m l.0 feed was.taken now.taken result
+out-written m feed was now result l =
+    let stored = l.0 in
+    lives-written (setting_for m) (public_of m.own.key) l.1 (first_of m stored feed) (acts_of m feed) (start_of m stored).told (record was { disk = l.2 }) now result
+    (founded m stored feed l.3.vouchable) refl (life-of m.millis feed.turns feed.link.coming feed.reading feed.readings) (tells-start m stored feed) l.4
+
+-- ## The removals of a run
+
+unless-cut : (result : Result (Unit {0}) NodeHalt) (P : Type 0) → P → UnlessCut result P
+unless-cut (Ok x) P p = p
+unless-cut (Err (halt.Refused line w)) P p = p
+unless-cut (Err halt.ReadFault) P p = p
+unless-cut (Err halt.WriteFault) P p = tt
+unless-cut (Err halt.StoreFault) P p = p
+unless-cut (Err (halt.StoreBroken place byte)) P p = p
+unless-cut (Err halt.LinkFault) P p = p
+unless-cut (Err (halt.Exhausted next)) P p = p
+unless-cut (Err halt.OutOfMemory) P p = tt
+
+no-lines : AreWholeLines []
+no-lines = record { lines = []; joined = refl; whole = tt }
+
+none-in : (line : List ℕ) → IsLineOf line [] → ⊥
+none-in line of =
+    absurd (omega (arith, ap length of.parts, length-append (concat of.earlier) (line ++ of.after), length-append line of.after, ap length of.here.ended, length-append of.here.front (10 ∷ [])))
+
+-- nothing was written
+rests-none : (feed : NetInputs) (was now : IoState) (old : OfDisk) (result : Result (Unit {0}) NodeHalt) → Appends was.taken now.taken [] → RemovalsRest feed was now old result
+rests-none feed was now old result none =
+    record { bytes = []; written = none; rests = λ moment m of. absurd (none-in (removal_line moment m) of); ended = unless-cut result (AreWholeLines []) no-lines }
+
+-- a life was written
+rests-life : (feed : NetInputs) (was between now : IoState) (old : OfDisk) (m : Member) (stored : Stored) (result : Result (Unit {0}) NodeHalt) → IsMember was between m → IsFound m stored old → WritesIn m stored feed between.taken now.taken result
+    → RemovalsRest feed was now old result
+rests-life feed was between now old m stored result read found w =
+    record {
+      bytes = w.bytes;
+      written = Appends-trans was.taken between.taken now.taken [] w.bytes read.whole.wrote w.written;
+      rests = λ moment who of. record {
+        member = m;
+        between = between;
+        read = read;
+        stored = stored;
+        found = found;
+        gives = in-front (Gives (setting_for m) (first_of m stored feed) (acts_of m feed)) w.whole w.bytes w.front.more (removal_line moment who) w.lines w.front.is of moment who refl;
+      };
+      ended = w.ended;
+    }
+
+same-taken : (was now : Option (List ℕ)) → now ≡ was → Appends was now []
+same-taken was now same = subst (λ (x : Option (List ℕ)). Appends was x []) (sym same) (Appends-nil was)
+
+-- the text was read, and no life written
+rests-read : (feed : NetInputs) (was between now : IoState) (old : OfDisk) (m : Member) (result : Result (Unit {0}) NodeHalt) → IsMember was between m → now.taken ≡ between.taken → RemovalsRest feed was now old result
+rests-read feed was between now old m result read same =
+    rests-none feed was now old result (Appends-trans was.taken between.taken now.taken [] [] read.whole.wrote (same-taken between.taken now.taken same))
+
+-- ## A text that wasn't read
+
+no-front : (front rest : List ℕ) → [] ≡ front ++ rest → front ≡ []
+no-front [] rest e = refl
+no-front (b ∷ front) rest e = absurd (omega (arith, ap length e))
+
+abbrev owed : Continuation BadWord
+owed = owed_whole kit_judging kit.Start nothing
+
+silent-refused : (lines : List (List ℕ)) (last : Option (List ℕ)) (text : List ℕ) (w : BadWord) → Refuses BadWord (λ f. f ≡ owed) lines last text w → text ≡ []
+silent-refused lines (Some line) text w h = sym (ap (λ (t : Trace BadWord). t.output) (h owed refl [])) ∙ told-silent (lines_from kit_judging (unread kit.Start) (lines ++ line ∷ []))
+silent-refused lines None text w h = sym (ap (λ (t : Trace BadWord). t.output) (h owed refl)) ∙ told-silent (lines_from kit_judging (unread kit.Start) lines)
+
+silent-written : (lines : List (List ℕ)) (text : List ℕ) → Writes BadWord (λ f. f ≡ owed) lines text → text ≡ []
+silent-written lines text h =
+    let goes = h owed refl in
+    no-front text (goes.later []).output (sym (told-silent (lines_from kit_judging (unread kit.Start) (lines ++ []))) ∙ ap (λ (t : Trace BadWord). t.output) (goes.same []))
+
+silent-unread : (was now : IoState) (s : Stop BadWord) → IsUnfinished kit_judging kit.Start was now s → Appends was.taken now.taken []
+silent-unread was now (stop.Refused line w) h = let x = h nothing in subst (Appends was.taken now.taken) (silent-refused x.lines x.last x.text w x.refuses) x.wrote
+silent-unread was now stop.ReadFault h = let x = h nothing in subst (Appends was.taken now.taken) (silent-written x.lines x.text x.writes) x.wrote
+silent-unread was now stop.WriteFault h = absurd (never-unwritten kit_judging kit.Start was now (h nothing))
+silent-unread was now stop.OutOfMemory h =
+    elim (h nothing) [
+      | inl same ↦ same-taken was.taken now.taken (ap (λ (x : IoState). x.taken) same)
+      | inr x ↦ subst (Appends was.taken now.taken) (silent-written x.lines x.text x.writes) x.wrote
+    ]
+
+-- ## The whole
+
+once-rests : (feed : NetInputs) (was between now : IoState) (old new : Environment) (m : Member) (result : Result (Unit {0}) NodeHalt) → IsMember was between m → new.taken ≡ now.taken
+    → RunsOnce m feed (once_bound m feed (record old { taken = between.taken })) new result → RemovalsRest feed was now old.disk result
+once-rests feed was between now old new m result read same h = by result h
+  where
+    o : Environment
+    o = once_bound m feed (record old { taken = between.taken })
+
+    life : (result : Result (Unit {0}) NodeHalt) (stored : Stored) → IsFound m stored old.disk → WritesIn m stored feed between.taken new.taken result → RemovalsRest feed was now old.disk result
+    life result stored found w = rests-life feed was between now old.disk m stored result read found (subst (λ (x : Option (List ℕ)). WritesIn m stored feed between.taken x result) same w)
+
+    out : (result : Result (Unit {0}) NodeHalt) → LivesOut m feed o new result → RemovalsRest feed was now old.disk result
+    out result l = life result l.0 l.3.found (out-written m feed o new result l)
+
+    none : (result : Result (Unit {0}) NodeHalt) → IsUnwritten o new → RemovalsRest feed was now old.disk result
+    none result u = rests-read feed was between now old.disk m result read (sym same ∙ u.taken)
+
+    by : (result : Result (Unit {0}) NodeHalt) → RunsOnce m feed o new result → RemovalsRest feed was now old.disk result
+    by (Ok done) h = life (Ok done) h.stored h.found (run-written m feed o new done h)
+    by (Err (halt.Refused line w)) h = absurd h
+    by (Err halt.ReadFault) h = absurd h
+    by (Err halt.WriteFault) h = out (Err halt.WriteFault) h
+    by (Err halt.StoreFault) h = elim h [ inl u ↦ none (Err halt.StoreFault) u.0 | inr l ↦ out (Err halt.StoreFault) l ]
+    by (Err (halt.StoreBroken place byte)) h = none (Err (halt.StoreBroken place byte)) h.0
+    by (Err halt.LinkFault) h = absurd h
+    by (Err (halt.Exhausted next)) h = none (Err (halt.Exhausted next)) h.0
+    by (Err halt.OutOfMemory) h = elim h [ inl u ↦ none (Err halt.OutOfMemory) u.0 | inr l ↦ out (Err halt.OutOfMemory) l ]
+
+behind-rests : (feed : NetInputs) (was between now : IoState) (old new : Environment) (m : Member) (result : Result (Unit {0}) NodeHalt) → IsMember was between m → new.taken ≡ now.taken
+    → RunsBehind m feed (record old { taken = between.taken }) new result → RemovalsRest feed was now old.disk result
+behind-rests feed was between now old new m result read same h = by result h
+  where
+    o : Environment
+    o = record old { taken = between.taken }
+
+    once : (result : Result (Unit {0}) NodeHalt) → RunsOnce m feed (once_bound m feed o) new result → RemovalsRest feed was now old.disk result
+    once result h = once-rests feed was between now old new m result read same h
+
+    still : (result : Result (Unit {0}) NodeHalt) → new ≡ o → RemovalsRest feed was now old.disk result
+    still result is = rests-read feed was between now old.disk m result read (sym same ∙ ap (λ (x : Environment). x.taken) is)
+
+    by : (result : Result (Unit {0}) NodeHalt) → RunsBehind m feed o new result → RemovalsRest feed was now old.disk result
+    by (Ok done) h = once (Ok done) h
+    by (Err (halt.Refused line w)) h = once (Err (halt.Refused line w)) h
+    by (Err halt.ReadFault) h = once (Err halt.ReadFault) h
+    by (Err halt.WriteFault) h = once (Err halt.WriteFault) h
+    by (Err halt.StoreFault) h = once (Err halt.StoreFault) h
+    by (Err (halt.StoreBroken place byte)) h = once (Err (halt.StoreBroken place byte)) h
+    by (Err halt.LinkFault) h = still (Err halt.LinkFault) h
+    by (Err (halt.Exhausted next)) h = once (Err (halt.Exhausted next)) h
+    by (Err halt.OutOfMemory) h = elim h [ inl is ↦ still (Err halt.OutOfMemory) is | inr run ↦ once (Err halt.OutOfMemory) run ]
+
+-- Whatever ended the run, what it wrote of removals rests on its life.
+pub run-rests : (feed : NetInputs) (was now : IoState) (old new : Environment) (result : Result (Unit {0}) NodeHalt) → new.taken ≡ now.taken → Runs feed was now old new result → RemovalsRest feed was now old.disk result
+run-rests feed was now old new (Ok done) same h = behind-rests feed was h.between now old new h.member (Ok done) h.read same h.rest
+run-rests feed was now old new (Err (halt.Refused line w)) same h = rests-none feed was now old.disk (Err (halt.Refused line w)) (silent-unread was now (stop.Refused line w) h.unfinished)
+run-rests feed was now old new (Err halt.ReadFault) same h = rests-none feed was now old.disk (Err halt.ReadFault) (silent-unread was now stop.ReadFault h.unfinished)
+run-rests feed was now old new (Err halt.WriteFault) same h = behind-rests feed was h.between now old new h.member (Err halt.WriteFault) h.read same h.rest
+run-rests feed was now old new (Err halt.StoreFault) same h = behind-rests feed was h.between now old new h.member (Err halt.StoreFault) h.read same h.rest
+run-rests feed was now old new (Err (halt.StoreBroken place byte)) same h = behind-rests feed was h.between now old new h.member (Err (halt.StoreBroken place byte)) h.read same h.rest
+run-rests feed was now old new (Err halt.LinkFault) same h = behind-rests feed was h.between now old new h.member (Err halt.LinkFault) h.read same h.rest
+run-rests feed was now old new (Err (halt.Exhausted next)) same h = behind-rests feed was h.between now old new h.member (Err (halt.Exhausted next)) h.read same h.rest
+run-rests feed was now old new (Err halt.OutOfMemory) same h =
+    elim h [
+      | inl unread ↦ rests-none feed was now old.disk (Err halt.OutOfMemory) (silent-unread was now stop.OutOfMemory unread.unfinished)
+      | inr (inl whole) ↦ rests-none feed was now old.disk (Err halt.OutOfMemory) whole.whole.wrote
+      | inr (inr went) ↦ behind-rests feed was went.between now old new went.member (Err halt.OutOfMemory) went.read same went.rest
+    ]

@@ -1,0 +1,21 @@
+use Rattle.std.proofs.Common.{refl}
+use Rattle.node_command.proofs.LiveLemmas.{behind-so, served-so, told-part, told-whole}
+use Rattle.node_command.proofs.living.live.Goals as goal
+
+pub returns-in-Ok-clause-lives : goal.returns-in-Ok-clause-lives
+returns-in-Ok-clause-lives g c = λ s n link_told readings is link_is coming_is.
+    let t = told-whole s n c.args.node c.as_slice.result.now c.args.events.now link_told (g.L.Link.state c.args.link.now).contents (g.O.Sink.state c.args.out.now).taken (g.O.Sink.state c.tell_all.new.out).taken (g.L.Link.state c.tell_all.new.link).contents
+    (g.D.Disk.state c.args.disk.now).moments 0 _ c.as_slice.ensures c.requires.unsent is link_is refl c.in-Ok.ensures.tells in
+    c.serve_to_end.ensures.lives s n link_told readings c.args.events.now (g.L.Link.state c.args.link.now).contents (g.O.Sink.state c.args.out.now).taken is t.given coming_is t.written
+
+pub returns-in-Err-clause-lives : goal.returns-in-Err-clause-lives
+returns-in-Err-clause-lives g c = λ s n link_told readings is link_is coming_is.
+    rw c.from.ensures
+    (told-part s n c.args.node c.as_slice.result.now c.args.events.now _ link_told (g.L.Link.state c.args.link.now).contents (g.L.Link.state c.tell_all.new.link).contents (g.O.Sink.state c.args.out.now).taken (g.O.Sink.state c.tell_all.new.out).taken
+    (g.D.Disk.state c.args.disk.now) 0 _ c.in-Err.fault c.as_slice.ensures c.requires.unsent is link_is refl c.in-Err.ensures.tells)
+
+pub returns-in-Err-clause-behind : goal.returns-in-Err-clause-behind
+returns-in-Err-clause-behind g c = rw c.from.ensures (behind-so c.in-Err.fault)
+
+pub returns-in-Err-clause-served : goal.returns-in-Err-clause-served
+returns-in-Err-clause-served g c = rw c.from.ensures (served-so c.in-Err.fault)

@@ -1,0 +1,59 @@
+use Rattle.std.proofs.Common.{◌≡◌, ◌≤◌, ◌∙◌, [], ap, arith}
+use Rattle.lms_tree.specs.Leaves.{index_count}
+use Rattle.secrets.specs.Secrets.{nonce_seed, store_tag}
+use Rattle.epoch_store.specs.declared.Stored.{Stored}
+use Rattle.node_command.specs.Members.{tag_of}
+use Rattle.node_command.proofs.OpenLemmas.{opened, used-up, signer_of, started-from, not-started-from}
+use Rattle.node_command.proofs.opening.begin.Goals as goal
+
+pub returns-then-next-index_count : goal.returns-then-next-index_count
+returns-then-next-index_count g c =
+    let m = c.args.member in
+    let tag : c.store_tag.result ≡ tag_of m = c.store_tag.ensures ∙ ap (store_tag m.group) c.public-public.ensures in
+    let old = g.D.Disk.state c.args.disk.now in
+    let mid = g.D.Disk.state c.open.new.disk in
+    let h = opened m c.store_tag.result c.in-Ok.store old mid tag c.in-Ok.ensures.faults c.in-Ok.ensures.settles c.in-Ok.ensures.store c.in-Ok.ensures.any_moment in
+    let next : c.state-next.result.next ≡ c.in-Ok.store.state.next = ap (λ (s : Stored). s.next) c.state-next.ensures.value in
+    let count = ap index_count c.split-tree.ensures.tree in
+    let gone : index_count m.own.key ≤ c.state-next.result.next = let a = c.if-next-index_count.true in let b = c.index_count.ensures.value in omega (arith, a, b, count) in
+    record { begins = used-up m c.in-Ok.store old mid [] c.state-next.result.next h next gone }
+
+pub open-signer-requires-clause-within : goal.open-signer-requires-clause-within
+open-signer-requires-clause-within g c =
+    let m = c.args.member in
+    let next : c.state-next.result.next ≡ c.in-Ok.store.state.next = ap (λ (s : Stored). s.next) c.state-next.ensures.value in
+    let a = c.if-next-index_count.false in let b = c.index_count.ensures.value in omega (arith, a, b, next)
+
+pub returns-in-Ok-start : goal.returns-in-Ok-start
+returns-in-Ok-start g c =
+    let m = c.args.member in
+    let tag : c.store_tag.result ≡ tag_of m = c.store_tag.ensures ∙ ap (store_tag m.group) c.public-public.ensures in
+    let old = g.D.Disk.state c.args.disk.now in
+    let mid = g.D.Disk.state c.open.new.disk in
+    let new = g.D.Disk.state c.start.new.disk in
+    let st = c.in-Ok.store in
+    let h = opened m c.store_tag.result st old mid tag c.in-Ok.ensures.faults c.in-Ok.ensures.settles c.in-Ok.ensures.store c.in-Ok.ensures.any_moment in
+    let is : c.open-signer.result ≡ signer_of m st = c.open-signer.ensures.value ∙ ap (λ k. record (signer_of m st) { key = k }) c.split-tree.ensures.tree in
+    let next : c.state-next.result.next ≡ st.state.next = ap (λ (s : Stored). s.next) c.state-next.ensures.value in
+    let seed : c.nonce_seed.result ≡ nonce_seed m.own.secret st.state.next = c.nonce_seed.ensures ∙ ap (nonce_seed m.own.secret) next in
+    let e = c.in-Ok-start.ensures in
+    record {
+      begins = started-from m st c.in-Ok-start.node c.start.new.events c.args.events.now old mid new c.open-signer.result c.nonce_seed.result h is seed c.requires.untold
+          c.open-signer.ensures.begins e.faults e.starts e.vouchable e.going e.closed e.spends;
+    }
+
+pub returns-in-Err-start : goal.returns-in-Err-start
+returns-in-Err-start g c =
+    let m = c.args.member in
+    let tag : c.store_tag.result ≡ tag_of m = c.store_tag.ensures ∙ ap (store_tag m.group) c.public-public.ensures in
+    let old = g.D.Disk.state c.args.disk.now in
+    let mid = g.D.Disk.state c.open.new.disk in
+    let new = g.D.Disk.state c.start.new.disk in
+    let st = c.in-Ok.store in
+    let h = opened m c.store_tag.result st old mid tag c.in-Ok.ensures.faults c.in-Ok.ensures.settles c.in-Ok.ensures.store c.in-Ok.ensures.any_moment in
+    let is : c.open-signer.result ≡ signer_of m st = c.open-signer.ensures.value ∙ ap (λ k. record (signer_of m st) { key = k }) c.split-tree.ensures.tree in
+    let e = c.in-Err-start.ensures in
+    record {
+      begins = rw c.from-in-Err-start.ensures
+          (not-started-from m st c.start.new.events old mid new c.open-signer.result c.in-Err-start.fault h is c.open-signer.ensures.begins e.faults e.cause e.spends);
+    }

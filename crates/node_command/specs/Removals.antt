@@ -1,0 +1,148 @@
+-- What the removals rest on that the journal of a life gives.
+use Rattle.std.specs.Prelude.{◌≡◌, ◌⊎◌, ℕ, ◌+◌, ◌<◌, true, List, [], ◌∷◌, ◌++◌, length, Contains, Option, Some, None, Result, Ok, Err}
+use Rattle.std.specs.List.{slice_get, AllByRecursion, concat}
+use Rattle.std.specs.Io.KnownBytes.{Appends}
+use Rattle.ff_ids.specs.declared.AccBody.{AccBody}
+use Rattle.ff_ids.specs.Steps.{Event, Accuses, Ticks as Passes}
+use Rattle.ff_ids.specs.Lives.{opening, IsRemovedAt, RestsOn}
+use Rattle.lms_tree.specs.declared.key.PublicKey.{PublicKey}
+use Rattle.records.specs.declared.Body.TheVariants.{Accusation}
+use Rattle.records.specs.declared.Record.{Record}
+use Rattle.epoch_store.specs.declared.Stored.{Stored}
+use Rattle.datagram.specs.declared.Datagram.TheVariants as kinds
+use Rattle.datagram.specs.Grammar.{read_of}
+use Rattle.journal.specs.declared.event.What.TheVariants as told
+use Rattle.play.specs.Plays.{IoState}
+use Rattle.trace.specs.Written.{IsLineOf, IsWholeLine}
+use Rattle.node_rules.specs.Nodes.{Setting, Node, public_key_of, state_of}
+use Rattle.node_rules.specs.Refusals.{refusal}
+use Rattle.node_rules.specs.Verdicts.{when_all_handled}
+use Rattle.node_rules.specs.Gaining.{gained}
+use Rattle.node_rules.specs.Accusing.{AccusesTheSilent}
+use Rattle.node_rules.specs.Outgoing.{at_tick}
+use Rattle.node_rules.specs.Lives.{Delivers, Ticks, call_of}
+use Rattle.node_loop.specs.Turns.{Act, Calls, life_acts}
+use Rattle.node_loop.specs.Courses.{ServeState, line_of, may_tick, served, served_from}
+use Rattle.node_command.specs.declared.halt.NodeHalt.{NodeHalt}
+use Rattle.node_command.specs.declared.halt.NodeHalt.TheVariants as halt
+use Rattle.node_command.specs.declared.kit.Member.{Member}
+use Rattle.node_command.specs.Members.{IsMember}
+use Rattle.node_command.specs.Opening.{IsFound, setting_for, start_of}
+use Rattle.ports.specs.Outside.{OfDisk}
+use Rattle.node_command.specs.Journal.{bound_for}
+use Rattle.node_command.specs.Running.{NetInputs}
+
+-- ## The life
+
+-- The node as these acts leave it, and the events of its life till then.
+abbrev pub node_behind : Setting → ServeState → List Act → Node
+node_behind s start acts = (served s acts start).node
+
+abbrev pub life_behind : Setting → ServeState → List Act → List Event
+life_behind s start acts = (node_behind s start acts).lived
+
+-- ## Where an accusation has come from
+
+-- The author has a key, under which the record verifies.
+pub record VerifiesFor (s : Setting) (author : Option PublicKey) (r : Record) : Type 0 where
+  pub key : PublicKey
+  pub author_is : author ≡ Some key
+  pub verifies : s.verifies key r ≡ true
+
+-- The accusation that stands at this place in the life is a record of a datagram that one of these acts delivered. As the acts
+-- and the records before it had left the node, it had no fault, and it verifies under the key of the accuser's certificate.
+pub record WasDelivered (s : Setting) (start : ServeState) (acts : List Act) (place : ℕ) (a : AccBody) : Type 0 where
+  pub before : List Act
+  pub bytes : List ℕ
+  pub behind : List Act
+  pub delivers : acts ≡ before ++ Calls (Delivers bytes) ∷ behind
+  pub from : ℕ
+  pub earlier : List Record
+  pub taken : Record
+  pub later : List Record
+  pub read : read_of bytes ≡ Ok (kinds.Records from (earlier ++ taken ∷ later))
+  pub says : taken.body ≡ Accusation a
+  pub at : place ≡ length (life_behind s start before) + length (gained s (node_behind s start before) earlier)
+  pub no_fault : refusal s (when_all_handled s (node_behind s start before) earlier) taken ≡ None
+  pub verified : VerifiesFor s (public_key_of (when_all_handled s (node_behind s start before) earlier) a.accuser) taken
+
+-- The accusation that stands at this place in the life is the node's own: at a tick among these acts the accused was silent, and
+-- the node its monitor; it spent an index on the accusation, and that signature verifies under the key of its certificate.
+pub record WasMade (s : Setting) (start : ServeState) (acts : List Act) (place : ℕ) (a : AccBody) : Type 0 where
+  pub before : List Act
+  pub behind : List Act
+  pub ticks : acts ≡ before ++ Calls Ticks ∷ behind
+  pub counts : may_tick s (node_behind s start before) ≡ true
+  pub by : a.accuser ≡ s.me
+  pub silent : AccusesTheSilent s (node_behind s start before) a
+  pub moment : ℕ
+  pub index : ℕ
+  pub spent : Contains (call_of s (node_behind s start before) Ticks).told (record { moment = moment; what = told.Spent index (Accusation a) })
+  pub since : length (life_behind s start before) < place
+  pub came_in : slice_get (call_of s (node_behind s start before) Ticks).node.lived place ≡ Some (Accuses a)
+  pub verified : VerifiesFor s (public_key_of (node_behind s start before) a.accuser) (record { body = Accusation a; signature = s.signature index (Accusation a) })
+
+-- ## Removals
+
+-- At a tick among these acts, which brings the moment, the member leaves the view. That rests on an accusation that was
+-- accepted earlier in the life, and stood in each state between, for the timeout; and which was delivered, or made.
+pub record Removes (s : Setting) (start : ServeState) (acts : List Act) (moment m : ℕ) : Type 0 where
+  pub before : List Act
+  pub behind : List Act
+  pub ticks : acts ≡ before ++ Calls Ticks ∷ behind
+  pub at : (state_of s (at_tick s (node_behind s start before))).moment ≡ moment
+  pub removed : IsRemovedAt s.group (opening []) (life_behind s start before ++ Passes ∷ []) (length (life_behind s start before)) m
+  pub accepted : ℕ
+  pub accusation : AccBody
+  pub rests : RestsOn s.group (opening []) (life_behind s start before ++ Passes ∷ []) (length (life_behind s start before)) m accepted accusation
+  pub came : WasDelivered s start before accepted accusation ⊎ WasMade s start before accepted accusation
+
+-- The line that gives a removal.
+abbrev pub removal_line : ℕ → ℕ → List ℕ
+removal_line moment m = line_of (record { moment = moment; what = told.Removed m })
+
+-- The line gives a removal at one of these acts.
+pub record GivesRemoval (s : Setting) (start : ServeState) (acts : List Act) (line : List ℕ) : Type 0 where
+  pub moment : ℕ
+  pub member : ℕ
+  pub spelled : line ≡ removal_line moment member
+  pub removal : Removes s start acts moment member
+
+-- ## A run
+
+-- as the life begins, and what its turns do
+abbrev pub first_of : Member → Stored → NetInputs → ServeState
+first_of m stored feed = served_from (start_of m stored).node (bound_for m feed.link)
+
+abbrev pub acts_of : Member → NetInputs → List Act
+acts_of m feed = life_acts m.millis feed.turns feed.link.coming feed.reading feed.readings
+
+-- A member was read from the text, a store of its key was found, and the line gives a removal of the life that this began: at one of
+-- its turns, which the answers of the link and the readings of the clock bring.
+pub record IsReported (was : IoState) (old : OfDisk) (feed : NetInputs) (line : List ℕ) : Type 0 where
+  pub member : Member
+  pub between : IoState
+  pub read : IsMember was between member
+  pub stored : Stored
+  pub found : IsFound member stored old
+  pub gives : GivesRemoval (setting_for member) (first_of member stored feed) (acts_of member feed) line
+
+-- whole lines
+pub record AreWholeLines (text : List ℕ) : Type 0 where
+  pub lines : List (List ℕ)
+  pub joined : text ≡ concat lines
+  pub whole : AllByRecursion IsWholeLine lines
+
+-- P holds, unless a write failed or memory was refused.
+abbrev pub UnlessCut : Result (Unit {0}) NodeHalt → Type 0 → Type 0
+UnlessCut (Err halt.WriteFault) P = Unit {0}
+UnlessCut (Err halt.OutOfMemory) P = Unit {0}
+UnlessCut other P = P
+
+-- Each whole line that was written and gives a removal is reported by the life. The journal is whole lines, unless a write
+-- failed or memory was refused.
+pub record RemovalsRest (feed : NetInputs) (was now : IoState) (old : OfDisk) (result : Result (Unit {0}) NodeHalt) : Type 0 where
+  pub bytes : List ℕ
+  pub written : Appends was.taken now.taken bytes
+  pub rests : (moment m : ℕ) → IsLineOf (removal_line moment m) bytes → IsReported was old feed (removal_line moment m)
+  pub ended : UnlessCut result (AreWholeLines bytes)

@@ -1,0 +1,63 @@
+//! From the store of a member to a life that has begun.
+
+ghost use Rattle.std.specs.Prelude.{◌≡◌, []};
+ghost use Rattle.node_command.specs.Members.{IsSoundMember};
+ghost use Rattle.node_command.specs.Opening.{Begins};
+
+use crate::halt::NodeHalt;
+use crate::kit::{Member, Own};
+use epoch_store::Store;
+use node_core::{Events, Kit, Node};
+use ports::Disk;
+use secrets::{nonce_seed, store_tag};
+use signer::Signer;
+use std::alloc::Global;
+
+/// Opens the member's store in the file of that name, and begins a life: signs its first note, and reports what that brings.
+pub fn begin<D: Disk>(
+    alloc: Global,
+    name: &str,
+    member: Member,
+    disk: &mut D,
+    events: &mut Events,
+) -> Result<Node, NodeHalt>
+    requires sound { IsSoundMember member }
+    requires untold { events.old ≡ [] }
+    ensures begins { Begins member
+        (D.state disk.old) (D.state disk.new) events.new result }
+{
+    let Member {
+        group,
+        own,
+        authority,
+        certificates,
+        ..
+    } = member;
+    let Own {
+        member: me,
+        secret,
+        key,
+    } = own;
+    let public = key.public();
+    let (tree, leaves) = key.split();
+    let store = match Store::open(disk, name, &store_tag(&group, &public)) {
+        Ok(store) => store,
+        Err(error) => return Err(NodeHalt::from(error)),
+    };
+    let next = store.state().next;
+    if next > tree.index_count() {
+        return Err(NodeHalt::Exhausted { next });
+    }
+    let kit = Kit {
+        group,
+        me,
+        authority,
+        certificates,
+        nonce_seed: nonce_seed(&secret, next),
+    };
+    let signer = Signer::open(group, tree, leaves, store);
+    match Node::start(alloc, kit, signer, disk, events) {
+        Ok(node) => Ok(node),
+        Err(fault) => Err(NodeHalt::from(fault)),
+    }
+}

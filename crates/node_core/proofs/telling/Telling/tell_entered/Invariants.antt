@@ -1,7 +1,0 @@
-use Rattle.std.proofs.Common.{take}
-use Rattle.journal.specs.declared.event.What.TheVariants as kinds
-use Rattle.node_core.specs.Told.{Adds, with_each}
-use Rattle.node_core.proofs.telling.Telling.tell_entered.Given as goal
-
-abbrev pub invariant-loop-member : goal.invariant-loop-member
-invariant-loop-member l = Adds (with_each l.fn.moment kinds.Entered (take l.member-index l.list)) l.initial.self l.self

@@ -1,0 +1,96 @@
+-- Worked lines: what each is, or its first bad word. Each row is computed.
+use Rattle.std.proofs.Common.{◌≡◌, ℕ, true, false, ◌++◌, [], ◌∷◌, List, Option, Some, None, Result, Ok, Err, refl, codes}
+use Rattle.std.specs.Prelude.{replicate}
+use Rattle.hex.proofs.OnLiterals.{hex_on_literals}
+use Rattle.ff_ids.specs.declared.Group.{Group}
+use Rattle.lms_ots.specs.declared.kind.OtsKind.TheVariants.{W1, W4}
+use Rattle.lms_tree.specs.declared.kind.TreeKind.TheVariants.{H5}
+use Rattle.lms_tree.specs.declared.key.PublicKey.{PublicKey}
+use Rattle.lms_tree.specs.Lms.{key_bytes, key_in, verdict_of}
+use Rattle.secrets.specs.Secrets.{key_from}
+use Rattle.line_text.specs.declared.bad_word.BadWord.{BadWord}
+use Rattle.line_text.specs.declared.bad_word.BadWord.TheVariants as bad
+use Rattle.line_text.specs.Frame.{judge as judge_line}
+use Rattle.records.specs.declared.CertBody.{CertBody}
+use Rattle.schedule_texts.specs.declared.kit.KitText.{KitText}
+use Rattle.schedule_texts.specs.declared.kit.KitText.TheVariants as kit
+use Rattle.schedule_texts.specs.declared.kit_line.KitLine.{KitLine}
+use Rattle.schedule_texts.specs.declared.kit_line.KitLine.TheVariants as lines
+use Rattle.schedule_texts.specs.KitGrammar.{certifying, judge}
+
+-- the line with a line feed, where so much has been read
+abbrev at : KitText → List ℕ → Result KitLine BadWord
+at form text = judge (record { number = 7; form = form }) (text ++ 10 ∷ [])
+
+abbrev group_1 : Group
+group_1 = record { tag = replicate 16 0; t = 1; timeout = 4; period = 1; misses = 2 }
+
+abbrev some_key : PublicKey
+some_key = record { tree = H5; ots = W4; id = replicate 16 161; root = replicate 32 178 }
+
+abbrev other_key : PublicKey
+other_key = record { tree = H5; ots = W1; id = replicate 16 161; root = replicate 32 178 }
+
+abbrev key_digits : List ℕ
+key_digits = codes "0000000500000003a1a1a1a1a1a1a1a1a1a1a1a1a1a1a1a1b2b2b2b2b2b2b2b2b2b2b2b2b2b2b2b2b2b2b2b2b2b2b2b2b2b2b2b2b2b2b2b2"
+
+-- the text of member 2, where 1 has a certificate, and the own number this one
+abbrev one_named : Option PublicKey → KitText
+one_named own = kit.Body (record { group = group_1; member = 2; key = some_key }) some_key (false ∷ true ∷ false ∷ false ∷ []) own
+
+abbrev certificate : ℕ → PublicKey → CertBody
+certificate m k = record { member = m; port = 1; key = k }
+
+heads : (at kit.Start (codes "fireflies 1 kit") ≡ Ok lines.Header)
+    × (at kit.Start (codes "fireflies 1 roster") ≡ Err bad.Header)
+    × (at kit.Headed (codes "secret 00") ≡ Err bad.Word)
+    × (at kit.Headed (codes "self 1 00") ≡ Err bad.Order)
+unfolding judge_line key_in hex_on_literals
+heads = (refl, refl, refl, refl)
+
+abbrev kinded : KitText
+kinded = kit.Kinded group_1 (record { ots = W1; tree = H5 })
+
+owners : (at kinded (codes "self 2 000000000000000000000000000000000000000000000000000000000000000A") ≡ Ok (lines.Own 2 (replicate 31 0 ++ 10 ∷ []) (key_from W1 H5 (replicate 31 0 ++ 10 ∷ []))))
+    × (at kinded (codes "self 1024 00") ≡ Err bad.Limit)
+    × (at kinded (codes "self 1 00") ≡ Err bad.Limit)
+    × (at kinded (codes "self 1 -") ≡ Err bad.Hex)
+    × (at kinded (codes "self 1") ≡ Err bad.Count)
+unfolding judge_line key_in hex_on_literals
+owners = (refl, refl, refl, refl, refl)
+
+abbrev authorized : KitText
+authorized = kit.Authorized (record { group = group_1; member = 2; key = some_key }) some_key
+
+ticks : (at authorized (codes "tick 1") ≡ Ok (lines.Tick 1))
+    × (at authorized (codes "tick 60000") ≡ Ok (lines.Tick 60000))
+    × (at authorized (codes "tick 0") ≡ Err bad.Limit)
+    × (at authorized (codes "tick 60001") ≡ Err bad.Limit)
+    × (at authorized (codes "end") ≡ Err bad.Order)
+unfolding judge_line key_in hex_on_literals
+ticks = (refl, refl, refl, refl, refl)
+
+-- Each word comes before the certificate as a whole: the number that has one, and the signature that isn't good.
+certificates : (at (one_named None) (codes "cert 3 1 " ++ key_digits ++ codes " 00") ≡ Err bad.Cert)
+    × (at (one_named None) (codes "cert 1 1 " ++ key_digits ++ codes " 00") ≡ Err bad.Cert)
+    × (at (one_named None) (codes "cert 1 0 " ++ key_digits ++ codes " 00") ≡ Err bad.Limit)
+    × (at (one_named None) (codes "cert 1 1 0" ++ key_digits ++ codes " 00") ≡ Err bad.Hex)
+    × (at (one_named None) (codes "cert 1 1 " ++ key_digits ++ codes " 0") ≡ Err bad.Hex)
+    × (at (one_named None) (codes "cert 1 1 " ++ key_digits ++ codes " -") ≡ Err bad.Hex)
+    × (at (one_named None) (codes "cert 1 1 " ++ key_digits) ≡ Err bad.Count)
+    × (at (one_named None) (codes "tick 1") ≡ Err bad.Order)
+unfolding judge_line key_in hex_on_literals verdict_of
+certificates = (refl, refl, refl, refl, refl, refl, refl, refl)
+
+-- The end wants the certificate of the own number, with the own key.
+ends : (at (one_named (Some some_key)) (codes "end") ≡ Ok lines.End)
+    × (at (one_named (Some other_key)) (codes "end") ≡ Err bad.OwnKey)
+    × (at (one_named None) (codes "end") ≡ Err bad.OwnKey)
+    × (at (one_named None) (codes "end 1") ≡ Err bad.Count)
+    × (at kit.Ended (codes "end") ≡ Err bad.AfterEnd)
+unfolding judge_line key_in hex_on_literals key_bytes
+ends = (refl, refl, refl, refl, refl)
+
+named : (certifying (certificate 2 some_key) (one_named None) ≡ kit.Body (record { group = group_1; member = 2; key = some_key }) some_key (false ∷ true ∷ true ∷ false ∷ []) (Some some_key))
+    × (certifying (certificate 3 other_key) (one_named (Some some_key)) ≡ kit.Body (record { group = group_1; member = 2; key = some_key }) some_key (false ∷ true ∷ false ∷ true ∷ []) (Some some_key))
+named = (refl, refl)

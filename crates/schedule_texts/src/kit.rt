@@ -1,0 +1,238 @@
+//! The text of a member, line by line.
+
+ghost use Rattle.std.specs.Prelude.{◌≡◌, ◌==◌, if◌then◌else◌, [], Some};
+ghost use Rattle.line_text.specs.Answers.{AnswersBy};
+ghost use Rattle.line_text.specs.Frame.{fields_line, row_line};
+ghost use Rattle.schedule_texts.specs.KitRows.{TakesMemory, is_ended, is_owned, is_start, end_fault, end_line, refused_whole, row_for, row_in};
+ghost use Rattle.schedule_texts.specs.KitGrammar.{IsKit, IsSound, after, certified_by, certifying, nobody};
+
+use crate::kit_cert::cert_line;
+use crate::kit_line::{KitLine, LineWord};
+use crate::kit_read::{authority_line, header_line, line_word, own_line, tick_line};
+use crate::{Kinds, read_group, read_kinds};
+use ff_ids::{Group, MEMBERS, MemberId};
+use line_text::{BadWord, Form, LineFault, Words};
+use lms_tree::PublicKey;
+use records::{Body, CertBody};
+use std::alloc::Global;
+
+/// Whom the text is for.
+#[derive(Clone, Copy, Debug, PartialEq, Eq)]
+pub struct Owner {
+    pub group: Group,
+    pub member: MemberId,
+    /// The public half of the own key.
+    pub key: PublicKey,
+}
+
+/// What has been read of the text.
+#[derive(Clone, Copy, Debug, PartialEq, Eq)]
+pub enum KitText {
+    /// Nothing: the header comes next.
+    Start,
+    /// The header: the group comes next.
+    Headed,
+    /// The group: the kinds come next.
+    Grouped {
+        group: Group,
+    },
+    /// The kinds: the own number and secret come next.
+    Kinded {
+        group: Group,
+        kinds: Kinds,
+    },
+    /// The own number and secret: the authority's key comes next.
+    Owned {
+        owner: Owner,
+    },
+    /// The authority's key: the length of a tick comes next.
+    Authorized {
+        owner: Owner,
+        authority: PublicKey,
+    },
+    /// The length of a tick: certificates come next, or the line `end`. `named` says of each number whether it has a
+    /// certificate, and `own` is the key in that of the own number.
+    Body {
+        owner: Owner,
+        authority: PublicKey,
+        named: [bool; MEMBERS as usize],
+        own: Option<PublicKey>,
+    },
+    /// The line `end`.
+    Ended,
+}
+
+fn is_start(form: &KitText) -> bool
+    ensures { result ≡ is_start form.now }
+{
+    matches!(form, KitText::Start)
+}
+
+/// Whether the certificate of the own number has the own key.
+fn is_owned(owner: &Owner, own: &Option<PublicKey>) -> bool
+    ensures { result ≡ is_owned owner.now.key own.now }
+{
+    match own {
+        Some(key) => key.write() == owner.key.write(),
+        None => false,
+    }
+}
+
+fn end_line(owner: &Owner, own: &Option<PublicKey>, args: Words) -> Result<KitLine, BadWord>
+    ensures { result ≡ refused_whole (end_fault owner.now.key own.now)
+        (fields_line [] end_line args.entry) }
+{
+    args.exactly(0)?;
+    if is_owned(owner, own) {
+        Ok(KitLine::End)
+    } else {
+        Err(BadWord::OwnKey)
+    }
+}
+
+/// The line of this line word, where it may stand here.
+fn line_of(alloc: Global, form: &KitText, word: LineWord, args: Words) -> Result<KitLine, LineFault>
+    ensures { AnswersBy TakesMemory (row_line (row_in form.now word args.entry) args.entry) result }
+{
+    match (form, word) {
+        (KitText::Headed, LineWord::Group) => Ok(KitLine::Group(read_group(args)?)),
+        (KitText::Grouped { .. }, LineWord::Kinds) => Ok(KitLine::Kinds(read_kinds(args)?)),
+        (KitText::Kinded { kinds, .. }, LineWord::Own) => own_line(alloc, *kinds, args),
+        (KitText::Owned { .. }, LineWord::Authority) => Ok(authority_line(args)?),
+        (KitText::Authorized { .. }, LineWord::Tick) => Ok(tick_line(args)?),
+        (
+            KitText::Body {
+                owner,
+                authority,
+                named,
+                ..
+            },
+            LineWord::Cert,
+        ) => cert_line(alloc, &owner.group, authority, named, args),
+        (KitText::Body { owner, own, .. }, LineWord::End) => Ok(end_line(owner, own, args)?),
+        _ => Err(LineFault::Bad(BadWord::Order)),
+    }
+}
+
+/// The key in the certificate of the own number, behind one more certificate.
+fn own_key(me: MemberId, cert: &CertBody, own: Option<PublicKey>) -> Option<PublicKey>
+    ensures { result ≡ (if cert.now.member == me then Some cert.now.key else own) }
+{
+    if cert.member == me {
+        Some(cert.key)
+    } else {
+        own
+    }
+}
+
+impl KitText {
+    /// No certificate has been read.
+    fn nobody(owner: Owner, authority: PublicKey) -> KitText
+        ensures { result ≡ nobody owner authority }
+    {
+        KitText::Body {
+            owner,
+            authority,
+            named: [false; MEMBERS as usize],
+            own: None,
+        }
+    }
+
+    /// The body has been read, which is a certificate.
+    fn behind(self, body: &Body) -> KitText
+        ensures { result ≡ certified_by body.now self }
+    {
+        match body {
+            Body::Certificate(cert) => self.certified(cert),
+            Body::Note(_) | Body::Accusation(_) => self,
+        }
+    }
+
+    /// The certificate has been read.
+    fn certified(self, cert: &CertBody) -> KitText
+        ensures { result ≡ certifying cert.now self }
+    {
+        match self {
+            KitText::Body {
+                owner,
+                authority,
+                named,
+                own,
+            } => {
+                let mut named = named;
+                named[cert.member.get() as usize] = true;
+                let own = own_key(owner.member, cert, own);
+                KitText::Body {
+                    owner,
+                    authority,
+                    named,
+                    own,
+                }
+            }
+            other => other,
+        }
+    }
+}
+
+impl Form for KitText {
+    ghost use Rattle.schedule_texts.specs.KitLaws.{kit-spelled, kit-taken};
+
+    type Line = KitLine;
+
+    ghost is_sound = { IsSound };
+
+    ghost is_ended = { is_ended };
+
+    ghost row_for = { row_for };
+
+    ghost spells = { IsKit };
+
+    ghost takes_memory = { TakesMemory };
+
+    ghost after = { after };
+
+    fn is_ended(&self) -> bool {
+        matches!(self, KitText::Ended)
+    }
+
+    fn judge(&self, alloc: Global, words: Words) -> Result<KitLine, LineFault> {
+        if is_start(self) {
+            return Ok(header_line(words)?);
+        }
+        let (first, args) = words.split();
+        let word = line_word(first)?;
+        line_of(alloc, self, word, args)
+    }
+
+    fn advance(&mut self, line: &KitLine) {
+        *self = match (*self, line) {
+            (_, KitLine::Header) => KitText::Headed,
+            (_, KitLine::Group(group)) => KitText::Grouped { group: *group },
+            (KitText::Grouped { group }, KitLine::Kinds(kinds)) => KitText::Kinded {
+                group,
+                kinds: *kinds,
+            },
+            (KitText::Kinded { group, .. }, KitLine::Own { member, key, .. }) => KitText::Owned {
+                owner: Owner {
+                    group,
+                    member: *member,
+                    key: key.public(),
+                },
+            },
+            (KitText::Owned { owner }, KitLine::Authority(authority)) => KitText::Authorized {
+                owner,
+                authority: *authority,
+            },
+            (KitText::Authorized { owner, authority }, KitLine::Tick { .. }) => {
+                KitText::nobody(owner, authority)
+            }
+            (form, KitLine::Cert(checked)) => form.behind(&checked.rec().body),
+            (_, KitLine::End) => KitText::Ended,
+            (form, _) => form,
+        };
+    }
+
+    ghost spelled = { kit-spelled };
+
+    ghost taken = { kit-taken };
+}

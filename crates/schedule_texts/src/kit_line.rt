@@ -1,0 +1,48 @@
+//! The lines that are read.
+
+use crate::Kinds;
+use ff_ids::{Group, MemberId};
+use lms_tree::{PublicKey, SecretKey};
+use records::Checked;
+
+/// One line of the text.
+#[derive(Drop)]
+pub enum KitLine {
+    /// `fireflies 1 kit`
+    Header,
+    /// `group T TIMEOUT PERIOD MISSES TAG`: the tolerance, 1 to 15; the timeout in ticks, 1 to 10,000; the period,
+    /// 1 to 1,000; the misses, 1 to 16; and the tag in 16 bytes.
+    Group(Group),
+    /// `kinds W H`: the width, 1, 2, 4 or 8, and the height, 5, 10 or 15.
+    Kinds(Kinds),
+    /// `self M SECRET`: the own number and the own secret in 32 bytes; and the key of these kinds that the secret
+    /// gives.
+    Own {
+        member: MemberId,
+        secret: [u8; 32],
+        key: SecretKey,
+    },
+    /// `authority KEY`: a public key in 56 bytes.
+    Authority(PublicKey),
+    /// `tick MILLIS`: how many milliseconds a tick lasts, 1 to 60,000.
+    Tick {
+        millis: u32,
+    },
+    /// `cert M PORT KEY SIGNATURE`: the certificate of a member that none of the lines before certifies, with a
+    /// signature of 1 to 9,004 bytes that verifies under the authority's key in the group.
+    Cert(Checked),
+    /// `end`: the own number has a certificate of the own key.
+    End,
+}
+
+/// The first words of the lines below the header.
+#[derive(Clone, Copy, Debug, PartialEq, Eq)]
+pub(crate) enum LineWord {
+    Group,
+    Kinds,
+    Own,
+    Authority,
+    Tick,
+    Cert,
+    End,
+}

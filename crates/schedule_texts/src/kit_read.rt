@@ -1,0 +1,95 @@
+//! The lines that no earlier line decides, read word by word.
+
+ghost use Rattle.std.specs.Prelude.{◌≡◌, codes, IfOk};
+ghost use Rattle.line_text.specs.Answers.{AnswersBy, refusal};
+ghost use Rattle.line_text.specs.Fields.{number_in};
+ghost use Rattle.line_text.specs.Frame.{behind, fields_line, first_word, row_line, word_or_bad};
+ghost use Rattle.schedule_texts.specs.Table.{start_row};
+ghost use Rattle.schedule_texts.specs.declared.kit_line.KitLine.TheVariants.{Header};
+ghost use Rattle.schedule_texts.specs.KitRows.{TakesMemory, authority_fields, authority_line, line_word, member, own_fields, own_line, tick_fields, tick_line};
+
+use crate::kit_line::{KitLine, LineWord};
+use crate::{Kinds, take_key};
+use ff_ids::{LAST_MEMBER, MemberId};
+use line_text::{BadWord, LineFault, Words};
+use secrets::make_key;
+use std::alloc::Global;
+
+#[tactic(auto, using(crate::proofs::TableLemmas::header_read))]
+pub(crate) fn header_line(words: Words) -> Result<KitLine, BadWord>
+    ensures { result ≡ row_line (start_row (codes "kit") Header words.entry) (behind words.entry) }
+{
+    if words.is_header(b"kit") {
+        Ok(KitLine::Header)
+    } else {
+        Err(BadWord::Header)
+    }
+}
+
+/// The line word that a word is.
+pub(crate) fn line_word(word: &[u8]) -> Result<LineWord, BadWord>
+    ensures { result ≡ word_or_bad (line_word word.now) }
+{
+    if word == b"group".as_slice() {
+        Ok(LineWord::Group)
+    } else if word == b"kinds".as_slice() {
+        Ok(LineWord::Kinds)
+    } else if word == b"self".as_slice() {
+        Ok(LineWord::Own)
+    } else if word == b"authority".as_slice() {
+        Ok(LineWord::Authority)
+    } else if word == b"tick".as_slice() {
+        Ok(LineWord::Tick)
+    } else if word == b"cert".as_slice() {
+        Ok(LineWord::Cert)
+    } else if word == b"end".as_slice() {
+        Ok(LineWord::End)
+    } else {
+        Err(BadWord::Word)
+    }
+}
+
+/// Takes the number of a member.
+pub(crate) fn take_member(words: &mut Words) -> Result<MemberId, BadWord>
+    ensures refused { member (first_word words.old) ≡ refusal result }
+    ensures value { IfOk result (λ m. m ≡ number_in (first_word words.old)) }
+    ensures moved { words.new ≡ behind words.old }
+{
+    let number = words.number(0, LAST_MEMBER as u64)?;
+    Ok(MemberId::new(number as u16))
+}
+
+/// The own number and secret, and the key that it gives. The words are judged before memory is asked for.
+pub(crate) fn own_line(alloc: Global, kinds: Kinds, args: Words) -> Result<KitLine, LineFault>
+    ensures { AnswersBy TakesMemory (fields_line own_fields (own_line kinds) args.entry) result }
+{
+    let mut args = args.exactly(2)?;
+    let member = take_member(&mut args)?;
+    let secret = args.bytes::<32>()?;
+    match make_key(alloc, kinds.ots, kinds.tree, &secret) {
+        Ok(key) => Ok(KitLine::Own {
+            member,
+            secret,
+            key,
+        }),
+        Err(_) => Err(LineFault::OutOfMemory),
+    }
+}
+
+pub(crate) fn authority_line(args: Words) -> Result<KitLine, BadWord>
+    ensures { result ≡ fields_line authority_fields authority_line args.entry }
+{
+    let mut args = args.exactly(1)?;
+    let key = take_key(&mut args)?;
+    Ok(KitLine::Authority(key))
+}
+
+pub(crate) fn tick_line(args: Words) -> Result<KitLine, BadWord>
+    ensures { result ≡ fields_line tick_fields tick_line args.entry }
+{
+    let mut args = args.exactly(1)?;
+    let millis = args.number(1, 60_000)?;
+    Ok(KitLine::Tick {
+        millis: millis as u32,
+    })
+}

@@ -1,0 +1,6 @@
+use Rattle.signer.proofs.PlayLemmas.{signs_on}
+use Rattle.signer.proofs.key_lives.sign_accusation.Goals as goal
+
+pub returns-in-Ok : goal.returns-in-Ok
+returns-in-Ok c = λ before spent stands.
+    signs_on c.args.holder.now before spent c.in-Some.signer c.sign_accusation.new.self _ c.in-Ok.record _ _ c.in-Ok.ensures (rw c.in-Some.is at stands)

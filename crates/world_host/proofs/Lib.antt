@@ -1,0 +1,13 @@
+pub mod WorldLemmas
+pub mod SpentLemmas
+pub mod OpenLemmas
+pub mod CallLemmas
+pub mod StartLemmas
+pub mod DiskTurns
+pub mod DiskGarbling
+pub mod DiskIdle
+pub mod DiskOpening
+pub mod DiskPuts
+pub mod DiskMaking
+pub mod DiskReading
+pub mod DiskCalling

@@ -1,0 +1,19 @@
+-- What is kept of a node's place in a world.
+use Rattle.std.specs.Prelude.{ℕ, List, Option}
+use Rattle.lms_tree.specs.declared.key.PublicKey.{PublicKey}
+use Rattle.lms_tree.specs.declared.secret.Secret.{Secret}
+use Rattle.ports.specs.MemoryDisk.{DiskState}
+use Rattle.records.specs.declared.Body.{Body}
+use Rattle.node_core.specs.Playing.{Kept}
+
+-- Whose place it is, the public half of the key, the key if no life has taken it, the mark of the store, the disk, how many
+-- lives began, the node that runs, and what the key has signed.
+pub record HostState : Type 0 where
+  pub member : ℕ
+  pub public : PublicKey
+  pub key : Option Secret
+  pub tag : List ℕ
+  pub disk : DiskState
+  pub lives : ℕ
+  pub node : Option Kept
+  pub signed : List Body

@@ -1,0 +1,9 @@
+pub mod Hosts
+pub mod Holding
+pub mod Answers
+pub mod Held
+pub mod OnDisks
+pub mod DiskLaws
+pub mod Certifying
+pub mod KeySigning
+pub mod Bodies

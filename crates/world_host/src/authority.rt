@@ -1,0 +1,139 @@
+//! The authority of a world, which certifies all its members as the world begins.
+
+ghost use Rattle.std.specs.Prelude.{◌≡◌, ◌++◌, ◌∷◌, [], All, map, IfOk, OnOk};
+ghost use Rattle.node_core.specs.Begins.{IsCheckedIn};
+ghost use Rattle.secrets.specs.Secrets.{nonce_seed as seed_of_life, world_secret as secret_in_world};
+ghost use Rattle.world_host.specs.Bodies.{is_among as is_one_of};
+
+use crate::bodies::is_same;
+use ff_ids::{Group, MemberId};
+use fields::{Bytes, NoMemory};
+use lms_tree::PublicKey;
+use node_core::Kit;
+use records::{Body, Checked, Record};
+use secrets::{nonce_seed, world_secret};
+use std::alloc::Global;
+use std::marker::Model;
+
+/// The group, the authority's key, and the certificates that it has signed, in order of number. Contracts see these.
+#[derive(Drop)]
+pub struct Authority {
+    group: Group,
+    key: PublicKey,
+    certificates: Vec<Checked>,
+}
+
+impl Model for Authority {
+    ghost use Rattle.std.specs.Prelude.{All};
+    ghost use Rattle.node_core.specs.Begins.{IsCheckedIn};
+    ghost use Rattle.world_host.specs.Certifying.{Certifying};
+
+    ghost Value = { Certifying };
+
+    ghost view = { λ a. record
+        { group = a.group; key = a.key; certificates = a.certificates.items } };
+
+    ghost invariant = { λ a. All (IsCheckedIn a.group a.key) a.certificates.items };
+}
+
+/// A copy of the certificate.
+fn copy_of(
+    alloc: Global,
+    group: &Group,
+    key: &PublicKey,
+    checked: &Checked,
+) -> Result<Checked, NoMemory>
+    requires { IsCheckedIn group.now key.now checked.now }
+    ensures { IfOk result (λ copy. copy ≡ checked.now) }
+{
+    let rec = checked.rec();
+    let copy = Record {
+        body: rec.body,
+        signature: Bytes::from_vec(rec.signature.as_slice().to_vec(alloc)?),
+    };
+    Ok(Checked::from_signed(group, key, copy))
+}
+
+/// Copies of the certificates.
+fn copies_of(
+    alloc: Global,
+    group: &Group,
+    key: &PublicKey,
+    certificates: &[Checked],
+) -> Result<Vec<Checked>, NoMemory>
+    requires { All (IsCheckedIn group.now key.now) certificates.now }
+    ensures { IfOk result (λ copies. copies.items ≡ certificates.now) }
+{
+    let mut copies = Vec::new(alloc);
+    for checked in certificates {
+        copies.push(copy_of(alloc, group, key, checked)?)?;
+    }
+    Ok(copies)
+}
+
+impl Authority {
+    /// Nobody is certified yet.
+    pub fn new(alloc: Global, group: Group, key: PublicKey) -> Authority
+        ensures { result ≡ record { group = group; key = key; certificates = [] } }
+    {
+        Authority {
+            group,
+            key,
+            certificates: Vec::new(alloc),
+        }
+    }
+
+    /// Keeps one more certificate.
+    pub fn keep(&mut self, checked: Checked) -> Result<(), NoMemory>
+        requires { IsCheckedIn self.old.group self.old.key checked }
+        ensures { OnOk result
+            (self.new
+            ≡ record self.old { certificates = self.old.certificates ++ checked ∷ [] }) }
+    {
+        self.certificates.push(checked)?;
+        Ok(())
+    }
+
+    pub fn group(&self) -> &Group
+        ensures { result.now ≡ self.now.group }
+    {
+        &self.group
+    }
+
+    pub fn key(&self) -> &PublicKey
+        ensures { result.now ≡ self.now.key }
+    {
+        &self.key
+    }
+
+    /// Whether it has signed the body.
+    pub fn has_signed(&self, body: &Body) -> bool
+        ensures { result ≡ is_one_of (map (λ x. x.rec.body) self.now.certificates) body.now }
+    {
+        self.certificates
+            .iter()
+            .any(|checked| is_same(&checked.rec().body, body))
+    }
+
+    /// What a life of the member begins with, its store's next index being `next`.
+    pub fn kit(&self, alloc: Global, me: MemberId, next: u32) -> Result<Kit, NoMemory>
+        ensures group { IfOk result (λ kit. kit.group ≡ self.now.group) }
+        ensures me { IfOk result (λ kit. kit.me ≡ me) }
+        ensures authority { IfOk result (λ kit. kit.authority ≡ self.now.key) }
+        ensures certificates { IfOk result (λ kit. kit.certificates.items ≡ self.now.certificates) }
+        ensures checked { IfOk result
+            (λ kit. All (IsCheckedIn kit.group kit.authority) kit.certificates.items) }
+        ensures seed { IfOk result
+            (λ kit. kit.nonce_seed
+            ≡ seed_of_life (secret_in_world self.now.group.tag me) next) }
+    {
+        let secret = world_secret(&self.group.tag, me.get());
+        Ok(Kit {
+            group: self.group,
+            me,
+            authority: self.key,
+            certificates: copies_of(alloc, &self.group, &self.key, &self.certificates)?,
+            nonce_seed: nonce_seed(&secret, next),
+        })
+    }
+}

@@ -1,0 +1,187 @@
+//! Lives that begin.
+
+ghost use Rattle.std.specs.Prelude.{◌≡◌, ℕ, List, [], None, Some, IfOk, IfSome, false};
+ghost use Rattle.lms_ots.specs.declared.OtsKind.{OtsKind};
+ghost use Rattle.lms_tree.specs.declared.TreeKind.{TreeKind};
+ghost use Rattle.signer.specs.Lives.{Spent};
+ghost use Rattle.world_rules.specs.Disks.{Disk, seat_of};
+ghost use Rattle.world_rules.specs.Keys.{owner_key};
+ghost use Rattle.world_rules.specs.Settings.{Setting};
+ghost use Rattle.world_rules.specs.Worlds.{Host as Place};
+ghost use Rattle.world_host.specs.Held.{HoldsDisk};
+ghost use Rattle.world_host.specs.Answers.{BeginsLife, BeginsNode, OpensStore, StartsNode};
+ghost use Rattle.world_host.specs.Holding.{Certifies, HoldsHost, IsWorld, tag_of};
+
+use crate::host::{FILE, Host};
+use crate::{Authority, Kinds, key_of};
+use epoch_store::{Store, StoreError};
+use ff_ids::{Group, MemberId};
+use fields::NoMemory;
+use lms_tree::SecretKey;
+use node_core::{Events, Node, NodeFault};
+use ports::MemoryDisk;
+use signer::Signer;
+use std::alloc::Global;
+
+/// How a start went: a life of this number began, which reports this; the disk stopped; or the key is used up, of which this
+/// is the next index.
+#[derive(Drop)]
+pub enum Started {
+    Began { life: u64, events: Events },
+    DiskStopped,
+    UsedUp { next: u32 },
+}
+
+/// A signer with the key over its store. The store's next index is one of the key's, or the number of all of them.
+fn open_signer(group: Group, key: SecretKey, store: Store) -> Result<Signer, NoMemory>
+    requires { store.failed ≡ false }
+    ensures { IfOk result (λ signer. signer ≡ record {
+      group = group;
+      key = key;
+      leaf = store.state.next;
+      state = store.state;
+      seat = store.seat;
+      closed = false;
+    }) }
+{
+    let (tree, leaves) = key.split();
+    if store.state().next > tree.index_count() {
+        return Err(NoMemory);
+    }
+    Ok(Signer::open(group, tree, leaves, store))
+}
+
+impl Host {
+    /// Opens the store; none where the disk stops. The file is then the one that the stop has picked.
+    fn open_store(&mut self) -> Result<Option<Store>, NoMemory>
+        ensures runs { IfOk result (λ opened. IfSome opened (λ store. store.failed ≡ false)) }
+        ensures opens { (indexes : ℕ) (e : Disk) → HoldsDisk self.old.tag indexes self.old.disk e
+            → OpensStore self.old.tag indexes e self.new.disk result }
+        ensures frame { self.new ≡ record self.old { disk = self.new.disk } }
+    {
+        match Store::open(&mut self.disk, FILE, &self.tag) {
+            Ok(store) => Ok(Some(store)),
+            Err(StoreError::OutOfMemory) => Err(NoMemory),
+            Err(_) => {
+                self.disk.crash(0);
+                Ok(None)
+            }
+        }
+    }
+
+    /// The key with no leaf handed out. It is made again where a life has taken it.
+    fn take_key(&mut self, alloc: Global, group: &Group) -> Result<SecretKey, NoMemory>
+        ensures key { (s : Setting) (ots : OtsKind) (tree : TreeKind) (place : Place)
+            (spent : List Spent) → IsWorld s group.now ots tree
+            → HoldsHost s ots tree place spent self.old
+            → IfOk result (λ key. key ≡ owner_key group.now ots tree (Some self.old.member)) }
+        ensures frame { self.new ≡ record self.old { key = None } }
+    {
+        if let Some(key) = self.key.take() {
+            return Ok(key);
+        }
+        let kinds = Kinds {
+            ots: self.public.ots,
+            tree: self.public.tree,
+        };
+        key_of(alloc, group, kinds, self.member.get())
+    }
+}
+
+/// The life of a member's node begins over its store, which is open: its first note is signed. Where the key is used up, or
+/// the kit is not sound, the answer is that memory was refused.
+fn begin_node(
+    alloc: Global,
+    authority: &Authority,
+    member: MemberId,
+    key: SecretKey,
+    store: Store,
+    disk: &mut MemoryDisk,
+    events: &mut Events,
+) -> Result<Node, NodeFault>
+    requires { store.failed ≡ false }
+    ensures { (s : Setting) (ots : OtsKind) (tree : TreeKind) (tag : List ℕ) (e : Disk)
+        → IsWorld s authority.now.group ots tree → Certifies s authority.now
+        → key ≡ owner_key authority.now.group ots tree (Some member)
+        → store ≡ record { state = e.state; seat = seat_of tag e; failed = false }
+        → tag ≡ tag_of s member → HoldsDisk tag s.indexes disk.old e → events.old ≡ []
+        → BeginsNode s tag member e disk.new events.new result }
+{
+    let Ok(kit) = authority.kit(alloc, member, store.state().next) else {
+        return Err(NodeFault::OutOfMemory);
+    };
+    if !kit.is_sound(&key.public()) {
+        return Err(NodeFault::OutOfMemory);
+    }
+    let Ok(signer) = open_signer(*authority.group(), key, store) else {
+        return Err(NodeFault::OutOfMemory);
+    };
+    Node::start(alloc, kit, signer, disk, events)
+}
+
+impl Host {
+    /// The store is open, and the key isn't used up: a life begins.
+    fn begin_life(
+        &mut self,
+        alloc: Global,
+        authority: &Authority,
+        store: Store,
+    ) -> Result<Started, NoMemory>
+        requires { store.failed ≡ false }
+        ensures member { self.new.member ≡ self.old.member }
+        ensures begins { (s : Setting) (ots : OtsKind) (tree : TreeKind) (place : Place)
+            (spent : List Spent) → IsWorld s authority.now.group ots tree
+            → Certifies s authority.now
+            → HoldsHost s ots tree place spent self.old → place.current ≡ None
+            → store ≡ record
+            { state = place.disk.state; seat = seat_of self.old.tag place.disk; failed = false }
+            → BeginsLife s ots tree place spent self.new result }
+    {
+        let life = self.lives.checked_add(1).ok_or(NoMemory)?;
+        let key = self.take_key(alloc, authority.group())?;
+        let mut events = Events::new(alloc);
+        match begin_node(
+            alloc,
+            authority,
+            self.member,
+            key,
+            store,
+            &mut self.disk,
+            &mut events,
+        ) {
+            Ok(node) => {
+                self.node = Some(node);
+                self.lives = life;
+                self.keep_bodies(events.as_slice())?;
+                Ok(Started::Began { life, events })
+            }
+            Err(NodeFault::StoreFault) => {
+                self.stop(0);
+                Ok(Started::DiskStopped)
+            }
+            Err(NodeFault::OutOfMemory | NodeFault::Exhausted { .. } | NodeFault::Ended) => Err(
+                NoMemory,
+            ),
+        }
+    }
+
+    /// Starts the node, which doesn't run: opens its store and begins a life, whose number and events are given. A stop of
+    /// the disk in the middle, or a key that is used up, begins none. Once memory is refused, nothing is said of the place.
+    pub fn start(&mut self, alloc: Global, authority: &Authority) -> Result<Started, NoMemory>
+        ensures member { self.new.member ≡ self.old.member }
+        ensures starts { (s : Setting) (ots : OtsKind) (tree : TreeKind) (place : Place)
+            (spent : List Spent) → IsWorld s authority.now.group ots tree
+            → Certifies s authority.now
+            → HoldsHost s ots tree place spent self.old → place.current ≡ None
+            → StartsNode s ots tree place spent self.new result }
+    {
+        let Some(store) = self.open_store()? else {
+            return Ok(Started::DiskStopped);
+        };
+        let next = store.state().next;
+        if next == self.public.tree.leaf_count() {
+            return Ok(Started::UsedUp { next });
+        }
+        self.begin_life(alloc, authority, store)
+    }
+}

@@ -1,3 +1,0 @@
-pub mod Certifying
-pub mod Signing
-pub mod Bodies

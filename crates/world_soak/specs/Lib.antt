@@ -1,3 +1,0 @@
-pub mod Soaking
-pub mod Summaries
-pub mod Turning
