@@ -1,6 +1,6 @@
 -- The turns of a life: in each one receive and one reading of the clock, the turn's line, and the calls of the node that
 -- these bring. What they are depends on the answers of the link and the readings of the clock alone.
-use Rattle.std.specs.Prelude.{ℕ, zero, suc, ◌+◌, ◌-◌, ◌/◌, min, List, [], ◌∷◌, ◌++◌, replicate, take, drop}
+use Rattle.std.specs.Prelude.{ℕ, zero, suc, ◌+◌, ◌-◌, ◌/◌, ◌≤◌, ◌<◌, min, List, [], ◌∷◌, ◌++◌, replicate, take, drop}
 use Rattle.ports.specs.declared.link.LinkAnswer.{LinkAnswer}
 use Rattle.ports.specs.declared.link.LinkAnswer.TheVariants as answers
 use Rattle.ports.specs.Link.{next_of}
@@ -76,6 +76,13 @@ after_turn millis base o =
       readings = drop 1 o.readings;
       made = o.made + ticks_in millis base o;
     }
+
+-- Behind a turn no more ticks were made than the clock gives, if that was so before; and as many, unless the turn made
+-- the most.
+abbrev pub TicksFollowTheClock : Type 0
+TicksFollowTheClock = (millis base : ℕ) (o : Outlook)
+    → (o.made ≤ (reading_of o - base) / millis → (after_turn millis base o).made ≤ (reading_of o - base) / millis)
+    × (ticks_in millis base o < most_ticks → (reading_of o - base) / millis ≤ (after_turn millis base o).made)
 
 -- so many turns, the first of which has this number
 abbrev pub turns_from : ℕ → ℕ → ℕ → ℕ → Outlook → List Act

@@ -2,6 +2,8 @@
 //! writes the node's events as the journal of the life, and sends its datagrams. `node_command` calls it.
 #![tactic(auto)]
 
+ghost use Rattle.node_loop.specs.Turns.{TicksFollowTheClock};
+
 mod calls;
 mod fault;
 mod serving;
@@ -12,3 +14,9 @@ mod writing;
 pub use fault::ServeFault;
 pub use serving::serve;
 pub use telling::tell_all;
+
+/// Behind a turn a life has made no more ticks than one for each `millis` milliseconds since its base; and as many, but
+/// behind a turn that made the most that one may.
+pub fn ticks_follow_the_clock()
+    ensures { TicksFollowTheClock }
+{}
