@@ -31,3 +31,5 @@ mod Forms
 mod Sendable
 mod Addressing
 pub mod ExchangeRows
+mod WideRows
+mod SentRecords

@@ -75,7 +75,7 @@ accused accuser accused_one epoch ring = record { accuser = accuser; accused = a
 abbrev first : Call
 first = started (setting 1) seed (certificate 1 ∷ certificate 2 ∷ []) new_store
 
-abbrev at0 : whats.What → journal.Event
+abbrev pub at0 : whats.What → journal.Event
 at0 what = record { moment = 0; what = what }
 
 starts : first.told ≡ at0 (told.Spent 0 (note 1 1 7)) ∷ at0 (told.Entered 1) ∷ []
@@ -98,7 +98,7 @@ unfolding all_numbers in_view_by started signs takes lives state_of delivered se
 cut = (refl, refl)
 
 -- The bytes of a datagram of member 2 with a record of this body.
-abbrev given : Body → List ℕ
+abbrev pub given : Body → List ℕ
 given body = datagram_bytes (kinds.Records 2 (record { body = body; signature = 5 ∷ [] } ∷ []))
 
 -- A note is accepted once.
@@ -121,7 +121,7 @@ abbrev thrice : Call
 thrice = delivered (setting 1) twice.node (given (acc 2 1 3 1))
 
 -- The datagram of node 1 with its own note.
-abbrev own : ℕ → ℕ → ℕ → List ℕ
+abbrev pub own : ℕ → ℕ → ℕ → List ℕ
 own index epoch mask = datagram_bytes (kinds.Records 1 (record { body = note 1 epoch mask; signature = index ∷ [] } ∷ []))
 
 answered : once.told ≡ at0 (told.Took (acc 2 1 1 0) None) ∷ at0 (told.Spent 1 (note 1 2 6)) ∷ at0 (told.Fell (accused 2 1 1 0)) ∷ at0 (told.Sent 0 2 (own 1 2 6)) ∷ []

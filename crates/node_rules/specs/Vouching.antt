@@ -8,9 +8,13 @@ use Rattle.records.specs.declared.Body.{Body}
 use Rattle.records.specs.declared.Body.TheVariants.{Certificate, Note, Accusation}
 use Rattle.records.specs.declared.Record.{Record}
 use Rattle.epoch_store.specs.declared.Stored.{Stored}
+use Rattle.datagram.specs.declared.Datagram.{Datagram}
+use Rattle.datagram.specs.Spelling.{datagram_bytes}
 use Rattle.node_rules.specs.Nodes.{Setting, Node, public_key_of}
+use Rattle.node_rules.specs.Calls.{Call}
+use Rattle.node_rules.specs.OnDisks.{called}
 use Rattle.node_rules.specs.Lives.{HasRings, IsKit, Input, life_of}
-use Rattle.node_rules.specs.Known.{known_in}
+use Rattle.node_rules.specs.Known.{known_in, records_of}
 
 -- There is a record with this body, which verifies under the author's key.
 pub record IsVouchedFor (s : Setting) (author : Option PublicKey) (body : Body) : Type 0 where
@@ -51,3 +55,36 @@ abbrev pub LivesAreVouchedFor : Type 0
 LivesAreVouchedFor = (s : Setting) (own : PublicKey) (seed : List ℕ) (certificates : List Record) (stored : Stored) (inputs : List Input)
     → HasRings s → IsKit s certificates → AllByRecursion (IsCertifiedBy s own) certificates → OwnSignaturesVerify s own → stored.next < s.indexes
     → AllByRecursion (IsVouched s (known_in s seed certificates stored inputs) (life_of s seed certificates stored inputs)) (life_of s seed certificates stored inputs).lived
+
+-- ---- what is sent
+
+-- Under this key, as the node holds it, a record with the body is to verify: the authority's for a certificate, its
+-- member's for a note, its accuser's for an accusation.
+abbrev pub author_key : Setting → Node → Body → Option PublicKey
+author_key s n (Certificate c) = Some s.authority
+author_key s n (Note note) = public_key_of n note.member
+author_key s n (Accusation a) = public_key_of n a.accuser
+
+-- The record verifies under that key.
+pub record IsAuthentic (s : Setting) (n : Node) (r : Record) : Type 0 where
+  pub key : PublicKey
+  pub author_is : author_key s n r.body ≡ Some key
+  pub verifies : s.verifies key r ≡ true
+
+-- The bytes are a datagram's, each of whose records does.
+pub record IsOfAuthentic (s : Setting) (n : Node) (bytes : List ℕ) : Type 0 where
+  pub datagram : Datagram
+  pub spelled : bytes ≡ datagram_bytes datagram
+  pub records : AllByRecursion (IsAuthentic s n) (records_of datagram)
+
+-- Each datagram of the call is so, by the certificates that the node holds afterwards.
+abbrev pub SendsAuthentic : Setting → Call → Type 0
+SendsAuthentic s c = AllByRecursion (λ d. IsOfAuthentic s c.node d.1) c.sent
+
+-- In every life that starts with an index left, whichever put fails.
+abbrev pub SentRecordsVerify : Type 0
+SentRecordsVerify = (s : Setting) (own : PublicKey) (seed : List ℕ) (certificates : List Record) (stored : Stored)
+    (inputs : List Input) (i : Input) (fails_at : Option ℕ)
+    → HasRings s → IsKit s certificates → AllByRecursion (IsCertifiedBy s own) certificates → OwnSignaturesVerify s own
+    → stored.next < s.indexes
+    → SendsAuthentic s (called s (life_of s seed certificates stored inputs) i fails_at)

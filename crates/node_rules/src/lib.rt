@@ -4,7 +4,7 @@
 #![tactic(auto)]
 
 ghost use Rattle.node_rules.specs.Lives.{EachLifeIsJustified, AnswersHoldInLives, EachCallTellsItsLife, OwnNoteIsKept, OwnAnswersAreAccepted};
-ghost use Rattle.node_rules.specs.Vouching.{LivesAreVouchedFor, NoIndexBeyondTheKey};
+ghost use Rattle.node_rules.specs.Vouching.{LivesAreVouchedFor, NoIndexBeyondTheKey, SentRecordsVerify};
 ghost use Rattle.node_rules.specs.Accusing.{HasAccusedIsKept, OwnAccusationsAreAccepted, OnlyTheSilentAreAccused};
 ghost use Rattle.node_rules.specs.Verdicts.{VerdictsAreTold, BadFormsAreTold};
 ghost use Rattle.node_rules.specs.Answering.{AnswersAreTold, RecordsAreTold, AnswersAreSent};
@@ -119,6 +119,13 @@ pub fn stopped_calls_end()
 /// signed in that call; also in a call in which a put fails.
 pub fn only_known_is_sent()
     ensures { OnlyKnownIsSent }
+{}
+
+/// In every life that starts with an index left each record in each datagram of a call verifies: a certificate under the
+/// authority's key, a note or an accusation under that of its signer, by the certificate which the node holds of it; also
+/// in a call in which a put fails. The kit's certificates are to verify, and what the node signs, under its own key.
+pub fn sent_records_verify()
+    ensures { SentRecordsVerify }
 {}
 
 /// In every life each datagram of a call goes to another member, whose certificate the node holds; also in a call in
