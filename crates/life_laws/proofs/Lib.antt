@@ -6,3 +6,4 @@ pub mod StepLemmas
 pub mod LifeLemmas
 pub mod JustifiedLemmas
 pub mod AnsweredLemmas
+pub mod SameLemmas

@@ -3,7 +3,7 @@
 #![tactic(auto)]
 
 ghost use Rattle.life_laws.specs.Newest.{NewestIsGreatest, OrderOfNotes, OrderOfGoodNotes};
-ghost use Rattle.life_laws.specs.Sameness.{OneView};
+ghost use Rattle.life_laws.specs.Sameness.{OneView, OneViewOfLives};
 ghost use Rattle.life_laws.specs.Removals.{AnswerEndsAcceptance, AnswersHold, EachLifeIsJustified};
 
 /// The newest note of a member is the greatest of its notes, and there is none exactly where it has no note.
@@ -18,9 +18,11 @@ pub fn order_of_notes()
     ensures good { OrderOfGoodNotes }
 {}
 
-/// Two states with the same notes and the same expired accusations have the same view.
+/// Two states with the same notes and the same expired accusations have the same view. So have two lives of a group that
+/// accept the same notes and report the same accusations as expired, whatever their order and repeats.
 pub fn one_view()
-    ensures { OneView }
+    ensures states { OneView }
+    ensures lives { OneViewOfLives }
 {}
 
 /// In every life each member that leaves the view does so at a tick, and an accusation accepted earlier

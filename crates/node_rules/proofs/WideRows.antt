@@ -38,8 +38,8 @@ behind ticks = fold (λ n i. (ticked slow n).node) paged (range_with_len 0 ticks
 abbrev first_page : List ℕ
 first_page =
     70 ∷ 70 ∷ 1 ∷ 3 ∷ 0 ∷ 1 ∷ 0 ∷ 0 ∷ 2
-        ∷ 0 ∷ 1 ∷ 0 ∷ 0 ∷ 0 ∷ 0 ∷ 0 ∷ 0 ∷ 0 ∷ 1 ∷ 0 ∷ 0 ∷ 0 ∷ 7 ∷ 0 ∷ 0 ∷ 0 ∷ 0
-        ∷ 0 ∷ 2 ∷ replicate 16 0
+    ∷ 0 ∷ 1 ∷ 0 ∷ 0 ∷ 0 ∷ 0 ∷ 0 ∷ 0 ∷ 0 ∷ 1 ∷ 0 ∷ 0 ∷ 0 ∷ 7 ∷ 0 ∷ 0 ∷ 0 ∷ 0
+    ∷ 0 ∷ 2 ∷ replicate 16 0
 
 -- One of the page 1, with 40, which has no note.
 abbrev second_page : ℕ → List ℕ
@@ -61,7 +61,7 @@ rounds = (refl, refl, refl, refl, refl, refl, refl, refl)
 abbrev handed : List ℕ
 handed =
     70 ∷ 70 ∷ 1 ∷ 4 ∷ 0 ∷ 1 ∷ 0 ∷ 1
-        ∷ 1 ∷ 0 ∷ 40 ∷ 78 ∷ 32 ∷ 0 ∷ 0 ∷ 0 ∷ 5 ∷ 0 ∷ 0 ∷ 0 ∷ 4 ∷ (replicate 48 0 ++ (0 ∷ 1 ∷ 9 ∷ []))
+    ∷ 1 ∷ 0 ∷ 40 ∷ 78 ∷ 32 ∷ 0 ∷ 0 ∷ 0 ∷ 5 ∷ 0 ∷ 0 ∷ 0 ∷ 4 ∷ (replicate 48 0 ++ (0 ∷ 1 ∷ 9 ∷ []))
 
 -- A summary of the page 1 without an entry, from 2: it gets the certificate, and the same page as an answer.
 asked : (delivered slow paged (70 ∷ 70 ∷ 1 ∷ 3 ∷ 0 ∷ 2 ∷ 1 ∷ 0 ∷ 0 ∷ [])).sent ≡ (2, handed) ∷ (2, second_page 1) ∷ []

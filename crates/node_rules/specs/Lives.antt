@@ -6,12 +6,13 @@ use Rattle.ff_ids.specs.declared.Group.{Group}
 use Rattle.ff_ids.specs.declared.NoteBody.{NoteBody}
 use Rattle.ff_ids.specs.Masks.{good_mask}
 use Rattle.ff_ids.specs.Notes.{newest}
-use Rattle.ff_ids.specs.Views.{State, is_member}
+use Rattle.ff_ids.specs.Views.{State, is_member, view}
 use Rattle.ff_ids.specs.declared.AccBody.{AccBody}
 use Rattle.ff_ids.specs.Faults.{note_fault}
 use Rattle.ff_ids.specs.Steps.{Event, step}
 use Rattle.ff_ids.specs.Lives.{opening, IsJustified}
 use Rattle.life_laws.specs.Removals.{RulesOut}
+use Rattle.life_laws.specs.Sameness.{HaveSameRecords}
 use Rattle.records.specs.declared.CertBody.{CertBody}
 use Rattle.records.specs.declared.Record.{Record}
 use Rattle.records.specs.declared.Body.{Body}
@@ -115,3 +116,9 @@ OwnNoteIsKept = (s : Setting) (seed : List ℕ) (certificates : List Record) (st
 abbrev pub OwnAnswersAreAccepted : Type 0
 OwnAnswersAreAccepted = (s : Setting) (r : Record) (a : AccBody) (c : Call) → HasRings s → KeepsOwnNote s c.node → refusal s c.node r ≡ None → r.body ≡ Accusation a → a.accused ≡ s.me
     → note_fault s.group.t (state_of s (takes s r c).node) (answering_note s (takes s r c).node.stored a) ≡ None
+
+-- Two nodes of a group whose lives accept the same notes, and report the same accusations as expired, have the same view.
+abbrev pub EqualRecordsGiveOneView : Type 0
+EqualRecordsGiveOneView = (one other : Setting) (n m : Node) → one.group ≡ other.group
+    → HaveSameRecords one.group (opening []) (opening []) n.lived m.lived
+    → view (state_of one n) ≡ view (state_of other m)

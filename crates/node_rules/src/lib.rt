@@ -3,7 +3,7 @@
 //! nothing. The contracts of all nodes and worlds cite it.
 #![tactic(auto)]
 
-ghost use Rattle.node_rules.specs.Lives.{EachLifeIsJustified, AnswersHoldInLives, EachCallTellsItsLife, OwnNoteIsKept, OwnAnswersAreAccepted};
+ghost use Rattle.node_rules.specs.Lives.{EqualRecordsGiveOneView, EachLifeIsJustified, AnswersHoldInLives, EachCallTellsItsLife, OwnNoteIsKept, OwnAnswersAreAccepted};
 ghost use Rattle.node_rules.specs.Vouching.{LivesAreVouchedFor, NoIndexBeyondTheKey, SentRecordsVerify};
 ghost use Rattle.node_rules.specs.Accusing.{HasAccusedIsKept, OwnAccusationsAreAccepted, OnlyTheSilentAreAccused};
 ghost use Rattle.node_rules.specs.Verdicts.{VerdictsAreTold, BadFormsAreTold};
@@ -55,6 +55,12 @@ pub fn no_index_beyond_the_key()
 /// was accepted or signed in the life, and verifies under its author's key, by the certificates that the node holds.
 pub fn lives_are_vouched_for()
     ensures { LivesAreVouchedFor }
+{}
+
+/// Two nodes of a group have the same view where their lives accept the same notes and the same accusations expire in
+/// them, whatever their order and repeats.
+pub fn equal_records_give_one_view()
+    ensures { EqualRecordsGiveOneView }
 {}
 
 /// In every life the node has accused a member exactly where an accusation by it against the member is kept.
