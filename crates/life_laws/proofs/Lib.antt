@@ -7,3 +7,4 @@ pub mod LifeLemmas
 pub mod JustifiedLemmas
 pub mod AnsweredLemmas
 pub mod SameLemmas
+pub mod SinceLemmas

@@ -1,9 +1,9 @@
 -- Removals: what each rests on, and what an answer rules out.
-use Rattle.std.specs.Prelude.{◌≡◌, ℕ, ◌<◌, true, List, Some, None, All, Contains, slice_get}
+use Rattle.std.specs.Prelude.{◌≡◌, ℕ, ◌+◌, ◌<◌, ◌≤◌, true, false, List, Some, None, All, Contains, slice_get}
 use Rattle.ff_ids.specs.declared.NoteBody.{NoteBody}
 use Rattle.ff_ids.specs.declared.AccBody.{AccBody}
 use Rattle.ff_ids.specs.declared.Group.{Group}
-use Rattle.ff_ids.specs.Views.{Member, State, is_unanswered_by}
+use Rattle.ff_ids.specs.Views.{Member, State, is_unanswered_by, stands}
 use Rattle.ff_ids.specs.Faults.{note_fault}
 use Rattle.ff_ids.specs.Steps.{Event, Notes, Report, after_note}
 use Rattle.ff_ids.specs.Lives.{opening, reports, state_at, IsAcceptedAt, IsJustified}
@@ -46,3 +46,22 @@ AnswersHold = (g : Group) (s : State) (events : List Event) → RulesOut g s eve
 -- ring that it enables.
 abbrev pub AnswerEndsAcceptance : Type 0
 AnswerEndsAcceptance = (g : Group) (s : State) (n : NoteBody) → note_fault g.t s n ≡ None → All (λ q. q.0.accused ≡ n.member → is_unanswered_by q.0 n ≡ true) (after_note s n).state.kept
+
+-- Behind place i the accusation was accepted, and it stood in each state up to place j, for the timeout at least.
+pub record StoodSince (g : Group) (s : State) (events : List Event) (i j : ℕ) (a : AccBody) : Type 0 where
+  pub place : ℕ
+  pub later : i < place
+  pub earlier : place < j
+  pub again : IsAcceptedAt g s events place a
+  pub stood : (k : ℕ) → place < k → k ≤ j → stands (state_at g s events k) a ≡ true
+  pub timeout : (state_at g s events (place + 1)).moment + g.timeout ≤ (state_at g s events (j + 1)).moment
+
+-- In this life, from this state on: what an accepted note answers expires later only where it was accepted again behind
+-- the note, and stood for the timeout since.
+abbrev pub Revokes : Group → State → List Event → Type 0
+Revokes g s events = (i j : ℕ) (n : NoteBody) (a : AccBody) → i < j → IsNoteAcceptedAt g s events i n
+    → a.accused ≡ n.member → is_unanswered_by a n ≡ false → ExpiresAt g s events j a → StoodSince g s events i j a
+
+-- In every life.
+abbrev pub AnswersRevoke : Type 0
+AnswersRevoke = (g : Group) (members : List Member) (events : List Event) → Revokes g (opening members) events

@@ -4,7 +4,7 @@
 
 ghost use Rattle.life_laws.specs.Newest.{NewestIsGreatest, OrderOfNotes, OrderOfGoodNotes};
 ghost use Rattle.life_laws.specs.Sameness.{OneView, OneViewOfLives};
-ghost use Rattle.life_laws.specs.Removals.{AnswerEndsAcceptance, AnswersHold, EachLifeIsJustified};
+ghost use Rattle.life_laws.specs.Removals.{AnswerEndsAcceptance, AnswersHold, AnswersRevoke, EachLifeIsJustified};
 
 /// The newest note of a member is the greatest of its notes, and there is none exactly where it has no note.
 pub fn newest_is_greatest()
@@ -31,9 +31,11 @@ pub fn each_life_is_justified()
     ensures { EachLifeIsJustified }
 {}
 
-/// Once a note is accepted, no accusation of an older epoch against its member is accepted or expires.
+/// Once a note is accepted, no accusation of an older epoch against its member is accepted or expires. One that it answers
+/// otherwise expires only where it was accepted again, and stood for the timeout since.
 pub fn answers_hold()
-    ensures { AnswersHold }
+    ensures older { AnswersHold }
+    ensures answered { AnswersRevoke }
 {}
 
 /// An accepted note ends the acceptance of each accusation against its member that has another epoch or is on

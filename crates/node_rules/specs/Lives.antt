@@ -11,7 +11,7 @@ use Rattle.ff_ids.specs.declared.AccBody.{AccBody}
 use Rattle.ff_ids.specs.Faults.{note_fault}
 use Rattle.ff_ids.specs.Steps.{Event, step}
 use Rattle.ff_ids.specs.Lives.{opening, IsJustified}
-use Rattle.life_laws.specs.Removals.{RulesOut}
+use Rattle.life_laws.specs.Removals.{Revokes, RulesOut}
 use Rattle.life_laws.specs.Sameness.{HaveSameRecords}
 use Rattle.records.specs.declared.CertBody.{CertBody}
 use Rattle.records.specs.declared.Record.{Record}
@@ -104,6 +104,10 @@ EachLifeIsJustified = (s : Setting) (n : Node) → IsJustified s.group (opening 
 -- Once a note is accepted in a life, no accusation of an older epoch against its member is accepted in it, or expires.
 abbrev pub AnswersHoldInLives : Type 0
 AnswersHoldInLives = (s : Setting) (n : Node) → RulesOut s.group (opening []) n.lived
+
+-- What the note answers otherwise expires later only where it was accepted again, and stood for the timeout since.
+abbrev pub AnswersRevokeInLives : Type 0
+AnswersRevokeInLives = (s : Setting) (n : Node) → Revokes s.group (opening []) n.lived
 
 -- Each call reports its life, whichever put fails in it.
 abbrev pub EachCallTellsItsLife : Type 0

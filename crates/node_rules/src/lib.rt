@@ -3,7 +3,7 @@
 //! nothing. The contracts of all nodes and worlds cite it.
 #![tactic(auto)]
 
-ghost use Rattle.node_rules.specs.Lives.{EqualRecordsGiveOneView, EachLifeIsJustified, AnswersHoldInLives, EachCallTellsItsLife, OwnNoteIsKept, OwnAnswersAreAccepted};
+ghost use Rattle.node_rules.specs.Lives.{EqualRecordsGiveOneView, EachLifeIsJustified, AnswersHoldInLives, AnswersRevokeInLives, EachCallTellsItsLife, OwnNoteIsKept, OwnAnswersAreAccepted};
 ghost use Rattle.node_rules.specs.Vouching.{LivesAreVouchedFor, NoIndexBeyondTheKey, SentRecordsVerify};
 ghost use Rattle.node_rules.specs.Accusing.{HasAccusedIsKept, OwnAccusationsAreAccepted, OnlyTheSilentAreAccused};
 ghost use Rattle.node_rules.specs.Verdicts.{VerdictsAreTold, BadFormsAreTold};
@@ -24,9 +24,11 @@ pub fn each_life_is_justified()
 {}
 
 /// Once a node has accepted a note in a life, it accepts no accusation of an older epoch against the note's member in
-/// that life, and none expires.
+/// that life, and none expires. One that the note answers otherwise expires later in the life only where it was accepted
+/// again, and stood for the timeout since.
 pub fn answers_hold_in_lives()
-    ensures { AnswersHoldInLives }
+    ensures older { AnswersHoldInLives }
+    ensures answered { AnswersRevokeInLives }
 {}
 
 /// What a call reports of the view and of accusations is what the events report that it adds to the life, in order; also
