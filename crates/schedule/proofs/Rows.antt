@@ -5,6 +5,9 @@ use Rattle.line_text.specs.Frame.{judge as judge_line}
 use Rattle.schedule_direct.specs.declared.line.DirectLine.TheVariants as direct
 use Rattle.schedule_world.specs.declared.line.WorldLine.TheVariants as world
 use Rattle.schedule_world.specs.declared.text.WorldText.TheVariants as world_form
+use Rattle.schedule_texts.specs.declared.kit_line.KitLine.TheVariants as kit
+use Rattle.schedule_texts.specs.declared.line.RosterLine.TheVariants as roster
+use Rattle.schedule_texts.specs.declared.line.SecretLine.TheVariants as secret
 use Rattle.schedule.specs.declared.text.Command.TheVariants as commands
 use Rattle.schedule.specs.declared.text.Line.TheVariants as lines
 use Rattle.schedule.specs.declared.text.Text.TheVariants as texts
@@ -18,3 +21,10 @@ heads : (judge (opening commands.Replay) (codes "fireflies 1 direct" ++ 10 ∷ [
     × (after texts.Schedule (lines.World world.Header) ≡ texts.World world_form.Headed)
 unfolding judge_line
 heads = (refl, refl, refl, refl, refl, refl)
+
+operators : (judge (opening commands.Secret) (codes "fireflies 1 secret" ++ 10 ∷ []) ≡ Ok (lines.Secret secret.Header))
+    × (judge (opening commands.Roster) (codes "fireflies 1 roster" ++ 10 ∷ []) ≡ Ok (lines.Roster roster.Header))
+    × (judge (opening commands.Kit) (codes "fireflies 1 kit" ++ 10 ∷ []) ≡ Ok (lines.Kit kit.Header))
+    × (judge (opening commands.Kit) (codes "fireflies 1 roster" ++ 10 ∷ []) ≡ Err bad.Header)
+unfolding judge_line
+operators = (refl, refl, refl, refl)

@@ -10,6 +10,15 @@ use Rattle.schedule_direct.specs.Rows as direct_rows
 use Rattle.schedule_world.specs.declared.text.WorldText.TheVariants as world_form
 use Rattle.schedule_world.specs.Grammar as world
 use Rattle.schedule_world.specs.Rows as world_rows
+use Rattle.schedule_texts.specs.declared.secret.SecretText.TheVariants as secret_form
+use Rattle.schedule_texts.specs.SecretGrammar as secret
+use Rattle.schedule_texts.specs.SecretRows as secret_rows
+use Rattle.schedule_texts.specs.declared.roster.RosterText.TheVariants as roster_form
+use Rattle.schedule_texts.specs.RosterGrammar as roster
+use Rattle.schedule_texts.specs.RosterRows as roster_rows
+use Rattle.schedule_texts.specs.declared.kit.KitText.TheVariants as kit_form
+use Rattle.schedule_texts.specs.KitGrammar as kit
+use Rattle.schedule_texts.specs.KitRows as kit_rows
 use Rattle.verify_text.specs.declared.verify.Verify.TheVariants as verify_form
 use Rattle.verify_text.specs.Grammar as verify
 use Rattle.verify_text.specs.Rows as verify_rows
@@ -24,18 +33,27 @@ use Rattle.schedule.specs.declared.text.Text.TheVariants as texts
 abbrev pub form_of : Command → Text
 form_of commands.Replay = texts.Schedule
 form_of commands.Verify = texts.Verify verify_form.Start
+form_of commands.Secret = texts.Secret secret_form.Start
+form_of commands.Roster = texts.Roster roster_form.Start
+form_of commands.Kit = texts.Kit kit_form.Start
 
 abbrev pub IsSound : Text → Type 0
 IsSound texts.Schedule = Unit {0}
 IsSound (texts.Direct d) = direct.IsSound d
 IsSound (texts.World w) = world.IsSound w
 IsSound (texts.Verify v) = verify.IsSound v
+IsSound (texts.Secret t) = secret.IsSound t
+IsSound (texts.Roster t) = roster.IsSound t
+IsSound (texts.Kit t) = kit.IsSound t
 
 abbrev pub is_ended : Text → Bool
 is_ended texts.Schedule = false
 is_ended (texts.Direct d) = direct_rows.is_ended d
 is_ended (texts.World w) = world_rows.is_ended w
 is_ended (texts.Verify v) = verify_rows.is_ended v
+is_ended (texts.Secret t) = secret_rows.is_ended t
+is_ended (texts.Roster t) = roster_rows.is_ended t
+is_ended (texts.Kit t) = kit_rows.is_ended t
 
 -- The header of a schedule is that of the world form, or else what the direct form says of it.
 abbrev pub header_row : List (List ℕ) → Result (Row Line) BadWord
@@ -48,6 +66,9 @@ row_for texts.Schedule ws = header_row ws
 row_for (texts.Direct d) ws = row_of_line lines.Direct (direct_rows.row_for d ws)
 row_for (texts.World w) ws = row_of_line lines.World (world_rows.row_for w ws)
 row_for (texts.Verify v) ws = row_of_line lines.Verify (verify_rows.row_for v ws)
+row_for (texts.Secret t) ws = row_of_line lines.Secret (secret_rows.row_for t ws)
+row_for (texts.Roster t) ws = row_of_line lines.Roster (roster_rows.row_for t ws)
+row_for (texts.Kit t) ws = row_of_line lines.Kit (kit_rows.row_for t ws)
 
 -- These words are this line, which may stand here, with its numbers and bytes in range.
 abbrev pub Spells : Text → List (List ℕ) → Line → Type 0
@@ -56,12 +77,18 @@ Spells texts.Schedule ws (lines.World l) = world.IsWorld world_form.Start ws l
 Spells (texts.Direct d) ws (lines.Direct l) = direct.IsDirect d ws l
 Spells (texts.World w) ws (lines.World l) = world.IsWorld w ws l
 Spells (texts.Verify v) ws (lines.Verify l) = verify.IsVerify v ws l
+Spells (texts.Secret t) ws (lines.Secret l) = secret.IsSecret t ws l
+Spells (texts.Roster t) ws (lines.Roster l) = roster.IsRoster t ws l
+Spells (texts.Kit t) ws (lines.Kit l) = kit.IsKit t ws l
 Spells _ ws _ = ⊥
 
 abbrev pub TakesMemory : Line → Type 0
 TakesMemory (lines.Direct l) = direct_rows.TakesMemory l
 TakesMemory (lines.World l) = world_rows.TakesMemory l
 TakesMemory (lines.Verify l) = verify_rows.TakesMemory l
+TakesMemory (lines.Secret l) = secret_rows.TakesMemory l
+TakesMemory (lines.Roster l) = roster_rows.TakesMemory l
+TakesMemory (lines.Kit l) = kit_rows.TakesMemory l
 
 abbrev pub after : Text → Line → Text
 after texts.Schedule (lines.Direct l) = texts.Direct (direct.after direct_form.Start l)
@@ -69,6 +96,9 @@ after texts.Schedule (lines.World l) = texts.World (world.after world_form.Start
 after (texts.Direct d) (lines.Direct l) = texts.Direct (direct.after d l)
 after (texts.World w) (lines.World l) = texts.World (world.after w l)
 after (texts.Verify v) (lines.Verify l) = texts.Verify (verify.after v l)
+after (texts.Secret t) (lines.Secret l) = texts.Secret (secret.after t l)
+after (texts.Roster t) (lines.Roster l) = texts.Roster (roster.after t l)
+after (texts.Kit t) (lines.Kit l) = texts.Kit (kit.after t l)
 after text _ = text
 
 -- ## A reader

@@ -15,6 +15,12 @@ use Rattle.schedule_world.specs.declared.line.WorldLine.TheVariants as world_lin
 use Rattle.schedule_world.specs.Rows as world_rows
 use Rattle.schedule_world.specs.Grammar as world
 use Rattle.schedule_world.specs.Laws.{world-spelled, world-taken}
+use Rattle.schedule_texts.specs.SecretRows as secret_rows
+use Rattle.schedule_texts.specs.SecretLaws.{secret-spelled, secret-taken}
+use Rattle.schedule_texts.specs.RosterRows as roster_rows
+use Rattle.schedule_texts.specs.RosterLaws.{roster-spelled, roster-taken}
+use Rattle.schedule_texts.specs.KitRows as kit_rows
+use Rattle.schedule_texts.specs.KitLaws.{kit-spelled, kit-taken}
 use Rattle.verify_text.specs.Rows as verify_rows
 use Rattle.verify_text.specs.Laws.{verify-spelled, verify-taken}
 use Rattle.schedule.specs.declared.text.Line.{Line}
@@ -65,6 +71,15 @@ text-spelled (texts.World w) first args l e =
 text-spelled (texts.Verify v) first args l e =
     let m = row_of_line-ok lines.Verify (verify_rows.row_for v (first ∷ args)) args l e in
     subst (Spells (texts.Verify v) (first ∷ args)) m.2 (verify-spelled v first args m.0 m.1)
+text-spelled (texts.Secret t) first args l e =
+    let m = row_of_line-ok lines.Secret (secret_rows.row_for t (first ∷ args)) args l e in
+    subst (Spells (texts.Secret t) (first ∷ args)) m.2 (secret-spelled t first args m.0 m.1)
+text-spelled (texts.Roster t) first args l e =
+    let m = row_of_line-ok lines.Roster (roster_rows.row_for t (first ∷ args)) args l e in
+    subst (Spells (texts.Roster t) (first ∷ args)) m.2 (roster-spelled t first args m.0 m.1)
+text-spelled (texts.Kit t) first args l e =
+    let m = row_of_line-ok lines.Kit (kit_rows.row_for t (first ∷ args)) args l e in
+    subst (Spells (texts.Kit t) (first ∷ args)) m.2 (kit-spelled t first args m.0 m.1)
 
 -- What is a line is taken, as that line.
 pub text-taken : (t : Text) (first : List ℕ) (args : List (List ℕ)) (l : Line) → IsSound t → Spells t (first ∷ args) l → row_line (row_for t (first ∷ args)) args ≡ Ok l
@@ -82,4 +97,10 @@ text-taken (texts.World w) first args (lines.World l) sound h =
     row_of_line-line lines.World (world_rows.row_for w (first ∷ args)) args l (world-taken w first args l sound h)
 text-taken (texts.Verify v) first args (lines.Verify l) sound h =
     row_of_line-line lines.Verify (verify_rows.row_for v (first ∷ args)) args l (verify-taken v first args l sound h)
+text-taken (texts.Secret t) first args (lines.Secret l) sound h =
+    row_of_line-line lines.Secret (secret_rows.row_for t (first ∷ args)) args l (secret-taken t first args l sound h)
+text-taken (texts.Roster t) first args (lines.Roster l) sound h =
+    row_of_line-line lines.Roster (roster_rows.row_for t (first ∷ args)) args l (roster-taken t first args l sound h)
+text-taken (texts.Kit t) first args (lines.Kit l) sound h =
+    row_of_line-line lines.Kit (kit_rows.row_for t (first ∷ args)) args l (kit-taken t first args l sound h)
 text-taken _ first args _ sound h = absurd h

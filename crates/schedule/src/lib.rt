@@ -1,5 +1,6 @@
-//! Floor: texts. The lines of both forms of schedules and of the text of `verify` as one type, for a caller that reads
-//! any of them. Each form is a crate of its own. The commands call these, so nothing here stands on this crate.
+//! Floor: texts. The lines of all texts as one type, for a caller that reads any of them: both forms of schedules, and the
+//! texts of `verify`, of a secret, of a roster and of a member. The commands call the forms, so nothing here stands on this
+//! crate.
 #![tactic(auto)]
 
 mod lines;

@@ -10,7 +10,7 @@ use std::alloc::Global;
 use std::marker::Model;
 
 /// Reads the lines of a command's text, one call for each. Contracts see what has been read.
-#[derive(Debug, Drop)]
+#[derive(Drop)]
 pub struct Lines {
     reader: Reader<Text>,
 }

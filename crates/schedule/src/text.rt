@@ -7,6 +7,7 @@ ghost use Rattle.schedule.specs.Forms.{IsSound, Spells, TakesMemory, after, form
 
 use line_text::{Form, LineFault, Words};
 use schedule_direct::{Direct, DirectLine};
+use schedule_texts::{KitLine, KitText, RosterLine, RosterText, SecretLine, SecretText};
 use schedule_world::{WorldLine, WorldText};
 use std::alloc::Global;
 use verify_text::{Verify, VerifyLine};
@@ -18,10 +19,16 @@ pub enum Command {
     Replay,
     /// A question whether a signature is good.
     Verify,
+    /// The secret of an authority's key, for which a store is made.
+    Secret,
+    /// The members whose certificates an authority is asked for.
+    Roster,
+    /// What a member starts from.
+    Kit,
 }
 
-/// One line of a text, by its form.
-#[derive(Debug, Drop)]
+/// One line of a text, by its form. Some hold a secret, so a line is not printed.
+#[derive(Drop)]
 pub enum Line {
     /// A line of a schedule in the direct form.
     Direct(DirectLine),
@@ -29,10 +36,16 @@ pub enum Line {
     World(WorldLine),
     /// A line of a text that asks whether a signature is good.
     Verify(VerifyLine),
+    /// A line of the text of a secret.
+    Secret(SecretLine),
+    /// A line of a roster.
+    Roster(RosterLine),
+    /// A line of the text of a member.
+    Kit(KitLine),
 }
 
 /// What has been read of a text, by its form.
-#[derive(Debug, Drop)]
+#[derive(Drop)]
 pub enum Text {
     /// A schedule of which nothing has been read: its header says the form.
     Schedule,
@@ -42,6 +55,12 @@ pub enum Text {
     World(WorldText),
     /// A text that asks whether a signature is good.
     Verify(Verify),
+    /// The text of a secret.
+    Secret(SecretText),
+    /// A roster.
+    Roster(RosterText),
+    /// The text of a member.
+    Kit(KitText),
 }
 
 impl Text {
@@ -52,6 +71,9 @@ impl Text {
         match command {
             Command::Replay => Text::Schedule,
             Command::Verify => Text::Verify(Verify::Start),
+            Command::Secret => Text::Secret(SecretText::Start),
+            Command::Roster => Text::Roster(RosterText::Start),
+            Command::Kit => Text::Kit(KitText::Start),
         }
     }
 }
@@ -84,7 +106,7 @@ fn schedule_text(line: &Line) -> Text
             world.advance(line);
             Text::World(world)
         }
-        Line::Verify(_) => Text::Schedule,
+        Line::Verify(_) | Line::Secret(_) | Line::Roster(_) | Line::Kit(_) => Text::Schedule,
     }
 }
 
@@ -111,6 +133,9 @@ impl Form for Text {
             Text::Direct(direct) => direct.is_ended(),
             Text::World(world) => world.is_ended(),
             Text::Verify(verify) => verify.is_ended(),
+            Text::Secret(secret) => secret.is_ended(),
+            Text::Roster(roster) => roster.is_ended(),
+            Text::Kit(kit) => kit.is_ended(),
         }
     }
 
@@ -120,6 +145,9 @@ impl Form for Text {
             Text::Direct(direct) => Ok(Line::Direct(direct.judge(alloc, words)?)),
             Text::World(world) => Ok(Line::World(world.judge(alloc, words)?)),
             Text::Verify(verify) => Ok(Line::Verify(verify.judge(alloc, words)?)),
+            Text::Secret(secret) => Ok(Line::Secret(secret.judge(alloc, words)?)),
+            Text::Roster(roster) => Ok(Line::Roster(roster.judge(alloc, words)?)),
+            Text::Kit(kit) => Ok(Line::Kit(kit.judge(alloc, words)?)),
         }
     }
 
@@ -132,6 +160,9 @@ impl Form for Text {
             (Text::Direct(direct), Line::Direct(line)) => direct.advance(line),
             (Text::World(world), Line::World(line)) => world.advance(line),
             (Text::Verify(verify), Line::Verify(line)) => verify.advance(line),
+            (Text::Secret(secret), Line::Secret(line)) => secret.advance(line),
+            (Text::Roster(roster), Line::Roster(line)) => roster.advance(line),
+            (Text::Kit(kit), Line::Kit(line)) => kit.advance(line),
             _ => {}
         }
     }

@@ -3,6 +3,9 @@ use Rattle.line_text.specs.Frame.{behind}
 use Rattle.line_text.proofs.FrameLemmas.{row_of_line-line}
 use Rattle.schedule_direct.specs.Rows as direct
 use Rattle.schedule_world.specs.Rows as world
+use Rattle.schedule_texts.specs.SecretRows as secret
+use Rattle.schedule_texts.specs.RosterRows as roster
+use Rattle.schedule_texts.specs.KitRows as kit
 use Rattle.verify_text.specs.Rows as verify
 use Rattle.schedule.specs.declared.text.Line.TheVariants as lines
 use Rattle.schedule.specs.Forms.{TakesMemory}
@@ -35,3 +38,30 @@ returns-in_err-judge-in-World c =
 pub returns-in_ok-judge-in-World : goal.returns-in_ok-judge-in-World
 returns-in_ok-judge-in-World c =
     rw c.in-World.is (row_of_line-line lines.World (world.row_for c.in-World.world c.args.words) (behind c.args.words) c.in_ok-judge-in-World.field-0 c.in_ok-judge-in-World.ensures)
+
+pub returns-in_err-judge-in-Secret : goal.returns-in_err-judge-in-Secret
+returns-in_err-judge-in-Secret c =
+    let x = answers-of lines.Secret secret.TakesMemory TakesMemory (λ l t. t) (secret.row_for c.in-Secret.secret c.args.words) (behind c.args.words) (Err c.in_err-judge-in-Secret.field-0.0) c.in_err-judge-in-Secret.ensures in
+    rw c.in-Secret.is (search (rules, x))
+
+pub returns-in_ok-judge-in-Secret : goal.returns-in_ok-judge-in-Secret
+returns-in_ok-judge-in-Secret c =
+    rw c.in-Secret.is (row_of_line-line lines.Secret (secret.row_for c.in-Secret.secret c.args.words) (behind c.args.words) c.in_ok-judge-in-Secret.field-0 c.in_ok-judge-in-Secret.ensures)
+
+pub returns-in_err-judge-in-Roster : goal.returns-in_err-judge-in-Roster
+returns-in_err-judge-in-Roster c =
+    let x = answers-of lines.Roster roster.TakesMemory TakesMemory (λ l t. t) (roster.row_for c.in-Roster.roster c.args.words) (behind c.args.words) (Err c.in_err-judge-in-Roster.field-0.0) c.in_err-judge-in-Roster.ensures in
+    rw c.in-Roster.is (search (rules, x))
+
+pub returns-in_ok-judge-in-Roster : goal.returns-in_ok-judge-in-Roster
+returns-in_ok-judge-in-Roster c =
+    rw c.in-Roster.is (row_of_line-line lines.Roster (roster.row_for c.in-Roster.roster c.args.words) (behind c.args.words) c.in_ok-judge-in-Roster.field-0 c.in_ok-judge-in-Roster.ensures)
+
+pub returns-in_err-judge-in-Kit : goal.returns-in_err-judge-in-Kit
+returns-in_err-judge-in-Kit c =
+    let x = answers-of lines.Kit kit.TakesMemory TakesMemory (λ l t. t) (kit.row_for c.in-Kit.kit c.args.words) (behind c.args.words) (Err c.in_err-judge-in-Kit.field-0.0) c.in_err-judge-in-Kit.ensures in
+    rw c.in-Kit.is (search (rules, x))
+
+pub returns-in_ok-judge-in-Kit : goal.returns-in_ok-judge-in-Kit
+returns-in_ok-judge-in-Kit c =
+    rw c.in-Kit.is (row_of_line-line lines.Kit (kit.row_for c.in-Kit.kit c.args.words) (behind c.args.words) c.in_ok-judge-in-Kit.field-0 c.in_ok-judge-in-Kit.ensures)
