@@ -3,7 +3,7 @@
 #![tactic(auto)]
 
 pub use lacking::lacks;
-pub use partners::{in_turn, page_of, partner};
+pub use partners::{page_of, partner};
 
 mod lacking;
 mod partners;

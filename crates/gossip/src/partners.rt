@@ -1,8 +1,8 @@
 //! With whom a node exchanges summaries in a round, and of which page.
 
-ghost use Rattle.std.specs.Prelude.{◌≡◌, ℕ, ◌≤◌, ◌↔◌, true, [], None, IfSome, length};
+ghost use Rattle.std.specs.Prelude.{◌≡◌, ℕ, ◌<◌, ◌≤◌, ◌↔◌, true, [], None, IfSome, length};
 ghost use Rattle.std.specs.List.{slice_get};
-ghost use Rattle.ff_ids.specs.declared.TheConstants.{MAX_TOLERANCE};
+ghost use Rattle.ff_ids.specs.declared.TheConstants.{MAX_TOLERANCE, PAGES};
 ghost use Rattle.ff_ids.specs.Views.{State};
 ghost use Rattle.membership.specs.Holds.{Holds};
 ghost use Rattle.membership.specs.Life.{has_joined};
@@ -36,7 +36,7 @@ fn other_at(numbers: &[MemberId], me: MemberId, place: usize) -> Option<MemberId
 }
 
 /// Of the numbers other than `me`, in their order, the one whose turn it is in this round; none where there is no other.
-pub fn in_turn(numbers: &[MemberId], me: MemberId, round: u64) -> Option<MemberId>
+fn in_turn(numbers: &[MemberId], me: MemberId, round: u64) -> Option<MemberId>
     ensures { result ≡ in_turn (others numbers.now me) round }
 {
     let count = count_others(numbers, me);
@@ -66,9 +66,7 @@ fn successor_or_other(
 }
 
 /// With whom the node `me` exchanges summaries in this round: its successor on the ring whose turn it is, or where
-/// the view has nobody else, the other certified member whose turn it is, in order of number. `certified` are the
-/// members of the membership in order of number, the node among them. Without another there is none. The group has a
-/// tolerance of at most `MAX_TOLERANCE`.
+/// the view has nobody else, the other certified member whose turn it is, in their order.
 pub fn partner(
     membership: &Membership,
     certified: &[MemberId],
@@ -76,15 +74,16 @@ pub fn partner(
     round: u64,
 ) -> Option<MemberId>
     requires tolerance { membership.now.group.t ≤ MAX_TOLERANCE }
-    requires members { AreMembers membership.now certified.now }
-    requires own { is_listed certified.now me ≡ true }
+    requires member { has_joined membership.now me ≡ true }
     ensures value { (s : State) → Holds membership.now s
         → result ≡ partner_in membership.now.group.t s certified.now me round }
-    // None comes exactly where no other is certified.
+    // Where `certified` are the members, in order of number, none comes exactly where no other is certified.
     ensures none { (s : State) → Holds membership.now s → NotesOfMembers s
+        → AreMembers membership.now certified.now
         → (result ≡ None) ↔ (others certified.now me ≡ []) }
-    // It is another that is certified.
+    // Where they are, it is another that is certified.
     ensures other { (s : State) → Holds membership.now s → NotesOfMembers s
+        → AreMembers membership.now certified.now
         → IfSome result (λ p. is_listed (others certified.now me) p ≡ true) }
 {
     successor_or_other(membership, certified, me, round)
@@ -94,7 +93,8 @@ pub fn partner(
 /// each page in turn, for `k` rounds.
 pub fn page_of(round: u64, k: u8, highest: MemberId) -> u8
     requires { 1 ≤ k }
-    ensures { result ≡ page_in round k highest }
+    ensures value { result ≡ page_in round k highest }
+    ensures page { result < PAGES }
 {
     let pages = highest.get() / PAGE_MEMBERS + 1;
     (round / k as u64 % pages as u64) as u8

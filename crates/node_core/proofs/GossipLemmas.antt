@@ -36,22 +36,13 @@ certified-is : (s : Setting) (v : Kept) (n : Node) (numbers : List ℕ) → IsNo
 certified-is s v n numbers is listed = listed ∙ filter-same _ _ all_numbers (λ m. ap is_some (is.roster m))
 
 pub partner-is : (s : Setting) (v : Kept) (n : Node) (numbers : List ℕ) (round : ℕ) → IsNode s v n → numbers ≡ filter (λ m. is_some (kept_certificate v.roster m)) all_numbers
-    → option_or (successor (state_of s n) (round % ring_count v.group.t) v.me) (gossip.in_turn (gossip.others numbers v.me) round) ≡ partner s n round
+    → gossip.partner v.group.t (state_of s n) numbers v.me round ≡ partner s n round
 unfolding partner
 partner-is s v n numbers round is listed =
     let g : v.group ≡ s.group = sym (setting-group s v.group v.me v.authority v.signer.key is.setting) in
     let me : v.me ≡ s.me = sym (setting-me s v.group v.me v.authority v.signer.key is.setting) in
-    ap (λ (x : Group). option_or (successor (state_of s n) (round % ring_count x.t) v.me) (gossip.in_turn (gossip.others numbers v.me) round)) g
-    ∙ ap (λ (m : ℕ). option_or (successor (state_of s n) (round % ring_count s.group.t) m) (gossip.in_turn (gossip.others numbers m) round)) me
-    ∙ ap (λ (xs : List ℕ). option_or (successor (state_of s n) (round % ring_count s.group.t) s.me) (gossip.in_turn (gossip.others xs s.me) round)) (certified-is s v n numbers is listed)
-
-pub partner-some : (o later : Option ℕ) → is_some o ≡ true → o ≡ option_or o later
-partner-some None later h = cc
-partner-some (Some x) later h = refl
-
-pub partner-none : (o later : Option ℕ) → is_some o ≡ false → later ≡ option_or o later
-partner-none None later h = refl
-partner-none (Some x) later h = cc
+    ap (λ (x : Group). gossip.partner x.t (state_of s n) numbers v.me round) g ∙ ap (λ (m : ℕ). gossip.partner s.group.t (state_of s n) numbers m round) me
+    ∙ ap (λ (xs : List ℕ). gossip.partner s.group.t (state_of s n) xs s.me round) (certified-is s v n numbers is listed)
 
 pub number-is : (s : Setting) (v : Kept) (n : Node) (numbers : List ℕ) (round : ℕ) → IsNode s v n → numbers ≡ filter (λ m. is_some (kept_certificate v.roster m)) all_numbers
     → gossip.page_of round (ring_count v.group.t) (unwrap_or (last_or None numbers) 0) ≡ page_number s n round

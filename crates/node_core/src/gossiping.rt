@@ -16,9 +16,9 @@ ghost use Rattle.node_core.specs.Spending.{SignsNothing};
 use crate::Node;
 use crate::hearing::bytes_of;
 use datagram::Datagram;
-use ff_ids::{MEMBERS, MemberId, RingNo};
+use ff_ids::{MEMBERS, MemberId};
 use fields::NoMemory;
-use gossip::{in_turn, page_of};
+use gossip::{page_of, partner};
 use std::alloc::Global;
 use validate::Roster;
 
@@ -101,15 +101,7 @@ impl Node {
             → numbers.now ≡ filter (λ m. is_some (certificate_of self.now.roster m)) all_numbers
             → result ≡ partner_of s n round }
     {
-        let rings = 2 * self.group.t + 1;
-        let me = self.me;
-        let next = self
-            .membership
-            .successor(RingNo((round % rings as u64) as u8), me);
-        if next.is_some() {
-            return next;
-        }
-        in_turn(numbers, me, round)
+        partner(&self.membership, numbers, self.me, round)
     }
 
     /// The same, where these are the certified members.

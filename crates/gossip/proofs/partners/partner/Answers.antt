@@ -14,14 +14,14 @@ if_some None P h = tt
 if_some (Some p) P h = h p refl
 
 pub returns-clause-none : goal.returns-clause-none
-returns-clause-none c s holds notes =
+returns-clause-none c s holds notes members =
     let certified = c.args.certified.now in
     let same = c.successor_or_other.ensures s holds in
-    let law = partner-none c.args.membership.now.group.t s certified c.args.me c.args.round (known_by c.args.membership.now s certified c.requires.members holds notes) in
+    let law = partner-none c.args.membership.now.group.t s certified c.args.me c.args.round (known_by c.args.membership.now s certified members holds notes) in
     (λ e. law.0 (sym same ∙ e), λ e. same ∙ law.1 e)
 
 pub returns-clause-other : goal.returns-clause-other
-returns-clause-other c s holds notes =
+returns-clause-other c s holds notes members =
     let certified = c.args.certified.now in
     let same = c.successor_or_other.ensures s holds in
-    if_some c.successor_or_other.result _ (λ p e. partner-listed c.args.membership.now.group.t s certified c.args.me c.args.round p (known_by c.args.membership.now s certified c.requires.members holds notes) (sym same ∙ e))
+    if_some c.successor_or_other.result _ (λ p e. partner-listed c.args.membership.now.group.t s certified c.args.me c.args.round p (known_by c.args.membership.now s certified members holds notes) (sym same ∙ e))

@@ -25,7 +25,7 @@ returns-in-Some-clause-plays c = λ s es os call p listed.
     let is = subst (λ v. IsNode s v call.node) (sym c.self.view_is) is0 in
     let listed0 : c.args.numbers.now ≡ filter (λ m. is_some (certificate_of c.self.inside.roster m)) all_numbers = listed ∙ ap (λ (v : Kept). filter (λ m. is_some (certificate_of v.roster m)) all_numbers) (sym c.self.view_is) in
     let to : partner s call.node c.args.round ≡ Some c.in-Some.to = sym (c.partner-partner.ensures s call.node is0 listed) ∙ c.in-Some.is in
-    let number : c.page_of-page.result ≡ page_number s call.node c.args.round = c.page_of-page.ensures ∙ ap (λ (h : ℕ). page_of c.args.round (ring_count c.self.inside.group.t) h) c.highest.ensures ∙ number-is s v call.node c.args.numbers.now c.args.round is listed0 in
+    let number : c.page_of-page.result ≡ page_number s call.node c.args.round = c.page_of-page.ensures.value ∙ ap (λ (h : ℕ). page_of c.args.round (ring_count c.self.inside.group.t) h) c.highest.ensures ∙ number-is s v call.node c.args.numbers.now c.args.round is listed0 in
     let at = subst (λ (k : ℕ). Plays s es os c.send_page.new.self (sends s (kinds.Summary s.me false (page call.node k)) call c.in-Some.to)) number (c.send_page.ensures.plays s es os call p) in
     subst (λ o. Plays s es os c.send_page.new.self (summary_to s c.args.round o call)) (sym to) at)
 
