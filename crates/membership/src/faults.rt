@@ -17,15 +17,18 @@ use std::sync::ledger::{Blank, Ledger};
 impl Membership {
     /// Why the note would be refused now, or none where it would be accepted.
     pub fn note_fault(&self, note: &NoteBody) -> Option<Fault>
-        ensures { (s : State) → Holds self.now s → result ≡ note_fault self.now.group.t s note.now }
+        ensures value { (s : State) → Holds self.now s
+            → result ≡ note_fault self.now.group.t s note.now }
+        ensures kept { result ≡ note_fault_in self.now note.now }
     {
         self.fault_of_note(note)
     }
 
     /// Why the accusation would be refused now, or none where it would be kept.
     pub fn accusation_fault(&self, acc: &AccBody) -> Option<Fault>
-        ensures { (s : State) → Holds self.now s
+        ensures value { (s : State) → Holds self.now s
             → result ≡ accusation_fault self.now.group.t s acc.now }
+        ensures kept { result ≡ accusation_fault_in self.now acc.now }
     {
         self.fault_of_accusation(acc)
     }

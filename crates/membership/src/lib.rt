@@ -4,7 +4,7 @@
 //! the replay of plain records.
 #![tactic(auto)]
 
-ghost use Rattle.std.specs.Prelude.{◌≡◌, ℕ, ◌<◌, ◌≤◌, ◌+◌, ◌-◌, ◌*◌, ◌^◌, true, not, [], Option, None, Some, length, if◌then◌else◌, map, filter, slice_index_or, IfOk, OnOk, OnErr};
+ghost use Rattle.std.specs.Prelude.{◌≡◌, ℕ, ◌<◌, ◌≤◌, ◌+◌, ◌-◌, ◌*◌, ◌^◌, true, not, [], Option, None, Some, length, if◌then◌else◌, map, filter, slice_index_or, IfOk, IfSome, OnOk, OnErr};
 ghost use Rattle.std.specs.Ordering.{nat_cmp};
 ghost use Rattle.std.specs.FinMap.{get, insert, empty};
 ghost use Rattle.ff_ids.specs.declared.TheConstants.{MEMBERS, MAX_RINGS, MAX_TOLERANCE};
@@ -148,6 +148,7 @@ impl Membership {
     pub fn note_of(&self, member: MemberId) -> Option<NoteBody>
         ensures value { (s : State) → Holds self.now s → result ≡ newest s.notes member }
         ensures kept { result ≡ get self.now.notes member }
+        ensures joined { IfSome result (λ n. has_joined self.now member ≡ true) }
     {
         self.notes.get(member).copied()
     }

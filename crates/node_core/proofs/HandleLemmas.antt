@@ -1,6 +1,6 @@
 -- Records that are handled, and answers.
-use Rattle.std.proofs.Common.{zero, ◌≡◌, ◌≢◌, ℕ, ◌+◌, ◌≤◌, Bool, true, false, cond, eqb, List, [], ◌∷◌, ◌++◌, length, suc, Option, Some, None, refl, ap, sym, ◌∙◌, subst, arith, eq-eqb, Result, Ok, Err}
-use Rattle.std.proofs.lemmas.Bool.{false≢true}
+use Rattle.std.proofs.Common.{zero, ◌≡◌, ◌≢◌, ℕ, ◌+◌, ◌<◌, ◌≤◌, Bool, true, false, not, cond, eqb, leb, List, [], ◌∷◌, ◌++◌, length, suc, Option, Some, None, refl, ap, sym, ◌∙◌, subst, arith, eq-eqb, Result, Ok, Err}
+use Rattle.std.proofs.lemmas.Bool.{false≢true, leb-false}
 use Rattle.std.proofs.lemmas.Bool.Decides.{nat_tests}
 use Rattle.std.specs.Prelude.{fold, All, take, IsErr}
 use Rattle.std.specs.List.{slice_get}
@@ -9,6 +9,8 @@ use Rattle.ff_ids.specs.declared.AccBody.{AccBody}
 use Rattle.ff_ids.specs.declared.Mask.{Mask}
 use Rattle.ff_ids.specs.declared.Group.{Group}
 use Rattle.ff_ids.specs.declared.Fault.{Fault}
+use Rattle.ff_ids.specs.Masks.{ring_count}
+use Rattle.membership.specs.Life.{Life, facts_in, accusation_fault_in}
 use Rattle.records.specs.declared.CertBody.{CertBody}
 use Rattle.records.specs.declared.Body.TheVariants.{Certificate, Note, Accusation}
 use Rattle.records.specs.declared.Record.{Record}
@@ -77,6 +79,18 @@ handles-accepts works s c r fine = ap (λ f. judged works s f r c) fine
 pub handles-refuses : (works : Bool) (s : Setting) (c : Call) (r : Record) (f : Fault) → refusal s c.node r ≡ Some f → handles works s c r ≡ tells s (told.Took r.body (Some f)) c
 unfolding handles
 handles-refuses works s c r f fault = ap (λ f. judged works s f r c) fault
+
+passed : (b : Bool) (f : Fault) (later : Option Fault) → cond b (Some f) later ≡ None → (b ≡ false) × (later ≡ None)
+passed true f later e = absurd cc
+passed false f later e = (refl, e)
+
+-- the ring of an accusation without a fault is one of the group
+pub ring-in : (l : Life) (g : Group) (a : AccBody) → l.group ≡ g → accusation_fault_in l a ≡ None → a.ring.0 < ring_count g.t
+ring-in l g a same none =
+    let apart = passed (not (facts_in l a).both_joined) _ _ none in
+    let ring = passed (eqb a.accuser a.accused) _ _ apart.1 in
+    let low = passed (leb (ring_count l.group.t) a.ring.0) _ _ ring.1 in
+    subst (λ (x : Group). a.ring.0 < ring_count x.t) same (leb-false (ring_count l.group.t) a.ring.0 low.0)
 
 -- ---- records in turn
 

@@ -130,10 +130,6 @@ impl Node {
         let Some(note) = self.membership.note_of(member) else {
             return Ok(());
         };
-        if !self.membership.is_member(member) {
-            self.telling.fail();
-            return Ok(());
-        }
         let Some(ring) = ring_for(&self.membership, self.me, member, &note) else {
             return Ok(());
         };

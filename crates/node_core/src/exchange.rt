@@ -82,9 +82,6 @@ pub(crate) fn lacking_bytes(
     if count == 0 {
         return Ok(None);
     }
-    if count > 65535 {
-        return Err(NoMemory);
-    }
     let mut bytes = Vec::new(alloc);
     bytes.extend_from_slice(&records_head(from, count as u16))?;
     bytes.extend_from_slice(&picked)?;

@@ -7,6 +7,7 @@ ghost use Rattle.ports.specs.Count.{counted};
 ghost use Rattle.journal.specs.declared.event.Event as journal;
 ghost use Rattle.records.specs.declared.Body.TheVariants as bodies;
 ghost use Rattle.records.specs.Spelling.{HasPort};
+ghost use Rattle.validate.specs.Table.{IsUnrefusedBy};
 ghost use Rattle.node_rules.specs.Nodes.{Setting};
 ghost use Rattle.node_rules.specs.Refusals.{refusal};
 ghost use Rattle.node_rules.specs.Calls.{Call, takes};
@@ -75,6 +76,8 @@ impl Node {
     ) -> Result<(), NodeFault>
         requires body { rec.rec.body ≡ body.now }
         requires tolerance { rec.t ≡ self.old.group.t }
+        requires group { self.old.membership.group ≡ self.old.group }
+        requires unrefused { IsUnrefusedBy self.old.membership self.old.roster body.now }
         ensures plays { (s : Setting) (es : List journal.Event) (os : List (ℕ × List ℕ)) (c : Call)
             → Plays s es os self.old c
             → refusal s c.node rec.rec ≡ None
@@ -99,10 +102,6 @@ impl Node {
             Body::Certificate(cert) => self.take_certificate(rec, *cert),
             Body::Note(note) => self.take_note(rec, *note),
             Body::Accusation(acc) => {
-                if acc.ring.0 > 2 * self.group.t {
-                    self.telling.fail();
-                    return Ok(());
-                }
                 self.take_accusation(rec, *acc);
                 return self.answer(alloc, disk, acc);
             }

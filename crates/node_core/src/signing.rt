@@ -98,7 +98,7 @@ impl Node {
         match self.signer.sign_note(alloc, disk, self.me, mask) {
             Ok(rec) => match rec.rec().body {
                 Body::Note(note) => self.pass_on_note(alloc, index, rec, &note),
-                Body::Certificate(_) | Body::Accusation(_) => self.telling.fail(),
+                Body::Certificate(_) | Body::Accusation(_) => unreachable!(),
             },
             Err(SignFault::Exhausted { .. }) => self.tell(What::Exhausted { next: index }),
             Err(SignFault::OutOfMemory | SignFault::Closed) => self.telling.fail(),

@@ -131,7 +131,8 @@ fn sign_first<D: Disk>(
             rec,
         }),
         Err(SignFault::Exhausted { next }) => Err(NodeFault::Exhausted { next }),
-        Err(SignFault::OutOfMemory | SignFault::Closed) => Err(NodeFault::OutOfMemory),
+        Err(SignFault::OutOfMemory) => Err(NodeFault::OutOfMemory),
+        Err(SignFault::Closed) => unreachable!(),
         Err(SignFault::StoreFault) => Err(NodeFault::StoreFault),
     }
 }

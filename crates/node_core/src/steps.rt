@@ -6,6 +6,7 @@ ghost use Rattle.ff_ids.specs.Steps.{Notes, Accuses, Ticks, Joins};
 ghost use Rattle.journal.specs.declared.event.Event as journal;
 ghost use Rattle.journal.specs.declared.event.What.TheVariants as told;
 ghost use Rattle.records.specs.declared.Body.TheVariants as bodies;
+ghost use Rattle.validate.specs.Certified.{certificate_of as kept_certificate};
 ghost use Rattle.node_rules.specs.Nodes.{Setting, certificate_of};
 ghost use Rattle.node_rules.specs.Calls.{Call, tells, lives, takes};
 ghost use Rattle.node_core.specs.Playing.{Kept, Plays, Grows};
@@ -29,6 +30,7 @@ impl Node {
         ensures signs_nothing { SignsNothing self.old self.new }
         ensures refused { self.new.telling.failed ≡ true
             → self.new.telling ≡ record self.old.telling { failed = true } }
+        ensures frame { self.new ≡ record self.old { telling = self.new.telling } }
     {
         self.telling.tell(self.membership.now(), what);
     }
@@ -113,6 +115,7 @@ impl Node {
     pub(crate) fn take_certificate(&mut self, rec: Checked, cert: CertBody)
         requires certificate { rec.rec.body ≡ bodies.Certificate cert }
         requires tolerance { rec.t ≡ self.old.group.t }
+        requires fresh { kept_certificate self.old.roster cert.member ≡ None }
         ensures plays { (s : Setting) (es : List journal.Event) (os : List (ℕ × List ℕ)) (c : Call)
             → Plays s es os self.old c
             → certificate_of c.node cert.member ≡ None
@@ -120,9 +123,6 @@ impl Node {
         ensures grows { Grows self.old self.new }
         ensures signs_nothing { SignsNothing self.old self.new }
     {
-        if self.roster.get(cert.member).is_some() {
-            return;
-        }
         let places = hash_places(&self.group, cert.member);
         let _fault = self.membership.add_member(cert.member, places);
         self.roster.put(cert);

@@ -10,6 +10,7 @@ use Rattle.ff_ids.specs.declared.summary.RecordKey.{RecordKey}
 use Rattle.records.specs.Spelling.{record_bytes}
 use Rattle.records.specs.Signing.{CheckedRecord}
 use Rattle.record_set.specs.Held.{Held, held_under}
+use Rattle.record_set.proofs.LengthLemmas.{record_long}
 use Rattle.record_set.specs.Picks.{held_all, spelled, fitting, IsLongestFit, IsFront}
 
 abbrev long : CheckedRecord → ℕ
@@ -79,6 +80,15 @@ longest_by room c rs false is rest = longest_none room c rs (leb-false (long c) 
 pub fitting-longest : (room : ℕ) (rs : List CheckedRecord) → IsLongestFit room rs (fitting room rs)
 fitting-longest room [] = record { within = omega arith; fits = omega arith; longest = λ more above within. absurd (omega arith) }
 fitting-longest room (c ∷ rs) = longest_by room c rs (leb (long c) room) refl (fitting-longest (room - long c) rs)
+
+fitting-few_by : (room : ℕ) (c : CheckedRecord) (rs : List CheckedRecord) (b : Bool) → leb (long c) room ≡ b → fitting (room - long c) rs ≤ room - long c → cond b (1 + fitting (room - long c) rs) 0 ≤ room
+fitting-few_by room c rs true is rest = omega (arith, leb-true (long c) room is, record_long c.rec, rest)
+fitting-few_by room c rs false is rest = omega arith
+
+-- no more than there are bytes of room
+pub fitting-few : (room : ℕ) (rs : List CheckedRecord) → fitting room rs ≤ room
+fitting-few room [] = omega arith
+fitting-few room (c ∷ rs) = fitting-few_by room c rs (leb (long c) room) refl (fitting-few (room - long c) rs)
 
 -- ---- what was picked so far
 

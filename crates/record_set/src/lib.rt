@@ -120,6 +120,7 @@ impl RecordSet {
         ensures bytes { IfOk result
             (λ n. out.new.items
             ≡ out.old.items ++ spelled (take n (held_all self.now keys.now))) }
+        ensures few { IfOk result (λ n. n ≤ room) }
         ensures longest { IfOk result (λ n. IsLongestFit room (held_all self.now keys.now) n) }
         ensures checked { IfOk result (λ n. All IsChecked (take n (held_all self.now keys.now))) }
         ensures front { OnErr result

@@ -10,6 +10,7 @@ use Rattle.ff_ids.specs.declared.Fault.TheVariants as faults
 use Rattle.ff_ids.specs.Notes.{newest}
 use Rattle.ff_ids.specs.Views.{State}
 use Rattle.ff_ids.specs.Faults.{note_fault, accusation_fault}
+use Rattle.membership.specs.Life.{Life, note_fault_in, accusation_fault_in}
 use Rattle.lms_ots.specs.Ots as ots
 use Rattle.lms_tree.specs.declared.key.PublicKey.{PublicKey}
 use Rattle.lms_tree.specs.Kinds.{type_number}
@@ -77,6 +78,12 @@ abbrev pub IsUnrefused : Group → Certificates → State → Body → Type 0
 IsUnrefused g certificates s (Certificate c) = certificate_of certificates c.member ≡ None
 IsUnrefused g certificates s (Note n) = note_fault g.t s n ≡ None
 IsUnrefused g certificates s (Accusation a) = accusation_fault g.t s a ≡ None
+
+-- The same, by what is kept of the state.
+abbrev pub IsUnrefusedBy : Life → Certificates → Body → Type 0
+IsUnrefusedBy l certificates (Certificate c) = certificate_of certificates c.member ≡ None
+IsUnrefusedBy l certificates (Note n) = note_fault_in l n ≡ None
+IsUnrefusedBy l certificates (Accusation a) = accusation_fault_in l a ≡ None
 
 -- ---- what a call gives
 

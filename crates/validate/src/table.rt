@@ -1,13 +1,14 @@
 //! The ordered table of faults.
 
-ghost use Rattle.std.specs.Prelude.{◌≡◌, IfOk, None, Some};
+ghost use Rattle.std.specs.Prelude.{◌≡◌, IfOk, OnOk, None, Some};
 ghost use Rattle.std.specs.Option.{option_or};
 ghost use Rattle.ff_ids.specs.Views.{State};
 ghost use Rattle.membership.specs.Holds.{Holds};
+ghost use Rattle.membership.specs.Life.{note_fault_in, accusation_fault_in};
 ghost use Rattle.records.specs.declared.Body.TheVariants.{Certificate, Note, Accusation};
 ghost use Rattle.records.specs.Spelling.{HasPort};
 ghost use Rattle.validate.specs.Certified.{key_of, certificate_of, signing_key};
-ghost use Rattle.validate.specs.Table.{certificate_fault, signature_fault, own_ahead, first_fault, known_by, verifies_in, fault_in, IsCheckOf, IsUnrefused};
+ghost use Rattle.validate.specs.Table.{certificate_fault, signature_fault, own_ahead, first_fault, known_by, verifies_in, fault_in, IsCheckOf, IsUnrefused, IsUnrefusedBy};
 ghost use Rattle.ff_ids.specs.Notes.{newest};
 ghost use Rattle.ff_ids.specs.Faults.{note_fault, accusation_fault};
 
@@ -81,6 +82,8 @@ impl<'a> Observer<'a> {
         requires body { rec.body ≡ Certificate cert.now }
         requires port { HasPort rec.body }
         ensures checked { IfOk result (IsCheckOf self.now.group.now (Some authority.now) rec) }
+        ensures unrefused { OnOk result
+            (certificate_of self.now.roster.now cert.now.member ≡ None) }
         ensures fault { fault_in result
             ≡ option_or
             (certificate_fault (certificate_of self.now.roster.now cert.now.member) cert.now)
@@ -98,6 +101,7 @@ impl<'a> Observer<'a> {
         requires port { HasPort rec.body }
         ensures checked { IfOk result
             (IsCheckOf self.now.group.now (key_of self.now.roster.now note.now.member) rec) }
+        ensures unrefused { OnOk result (note_fault_in self.now.membership.now note.now ≡ None) }
         ensures fault { (s : State) → Holds self.now.membership.now s → fault_in result
             ≡ option_or (note_fault self.now.group.now.t s note.now)
             (option_or
@@ -124,6 +128,8 @@ impl<'a> Observer<'a> {
         requires port { HasPort rec.body }
         ensures checked { IfOk result
             (IsCheckOf self.now.group.now (key_of self.now.roster.now acc.now.accuser) rec) }
+        ensures unrefused { OnOk result
+            (accusation_fault_in self.now.membership.now acc.now ≡ None) }
         ensures fault { (s : State) → Holds self.now.membership.now s → fault_in result
             ≡ option_or (accusation_fault self.now.group.now.t s acc.now)
             (signature_fault (verifies_in self.now.group.now)
@@ -154,6 +160,7 @@ pub fn check(
     requires port { HasPort rec.body }
     ensures checked { IfOk result
         (IsCheckOf group.now (signing_key authority.now roster.now rec.body) rec) }
+    ensures unrefused { OnOk result (IsUnrefusedBy membership.now roster.now rec.body) }
     ensures fault { (s : State) → Holds membership.now s
         → fault_in result ≡ first_fault (known_by group.now authority.now roster.now s own) rec }
 {

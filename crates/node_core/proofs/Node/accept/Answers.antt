@@ -1,11 +1,15 @@
 use Rattle.std.proofs.Common.{◌≡◌, true, ap, subst, sym, ◌∙◌, rules}
+use Rattle.std.specs.Prelude.{◌<◌}
+use Rattle.ff_ids.specs.declared.Group.{Group}
+use Rattle.ff_ids.specs.Masks.{ring_count}
+use Rattle.validate.specs.Table.{IsUnrefusedBy}
 use Rattle.records.specs.declared.Body.{Body}
 use Rattle.records.specs.declared.Body.TheVariants as bodies
 use Rattle.node_rules.specs.Calls.{Call, takes}
 use Rattle.node_rules.specs.Deliveries.{answers}
 use Rattle.node_core.specs.Playing.{Kept, Plays}
 use Rattle.node_core.proofs.DueLemmas.{Ran, plays-refused}
-use Rattle.node_core.proofs.HandleLemmas.{free-of}
+use Rattle.node_core.proofs.HandleLemmas.{free-of, ring-in}
 use Rattle.node_core.proofs.SpendLemmas.{open-further, refused-none, spends-none, spends-after}
 use Rattle.std.proofs.Common.{refl}
 use Rattle.node_core.specs.contracts.Node.{the_view}
@@ -15,6 +19,19 @@ use Rattle.std.proofs.Common.{ap}
 use Rattle.node_core.specs.OnDisks.{FailsIn}
 use Rattle.node_core.proofs.DiskLemmas.{stores-none, stored-behind, fails-behind}
 use Rattle.node_core.proofs.Node.accept.Goals as goal
+
+pub take_accusation-requires-clause-ring : goal.take_accusation-requires-clause-ring
+take_accusation-requires-clause-ring g c =
+    let is : c.args.body.now ≡ bodies.Accusation c.in-Accusation.acc = search rules in
+    let v = c.args.self.now in
+    ring-in v.membership v.group c.in-Accusation.acc c.requires.group (subst (λ (b : Body). IsUnrefusedBy v.membership v.roster b) is c.requires.unrefused)
+
+pub answer-requires : goal.answer-requires
+answer-requires g c =
+    let is : c.args.body.now ≡ bodies.Accusation c.in-Accusation.acc = search rules in
+    let v = c.args.self.now in
+    let low = ring-in v.membership v.group c.in-Accusation.acc c.requires.group (subst (λ (b : Body). IsUnrefusedBy v.membership v.roster b) is c.requires.unrefused) in
+    subst (λ (x : Group). c.in-Accusation.acc.ring.0 < ring_count x.t) (sym c.take_accusation.ensures.grows.group) low
 
 pub returns-in-Certificate-clause-plays : goal.returns-in-Certificate-clause-plays
 returns-in-Certificate-clause-plays g c = λ s es os call p accepted.
@@ -41,16 +58,6 @@ returns-in-Note-clause-spends g c = spends-none c.args.self.now c.take_note.new.
 pub returns-in-Accusation-clause-spends : goal.returns-in-Accusation-clause-spends
 returns-in-Accusation-clause-spends g c = spends-after c.args.self.now c.take_accusation.new.self c.answer.new.self _ _ c.take_accusation.ensures.signs_nothing c.answer.ensures.spends
 
-pub returns-then-acc-self-clause-spends : goal.returns-then-acc-self-clause-spends
-returns-then-acc-self-clause-spends g c = spends-none c.args.self.now _ _ (refused-none (the_view c.self.inside) c.args.self.now _ c.self.view_is refl c.fail.ensures)
-
-pub returns-then-acc-self-clause-plays : goal.returns-then-acc-self-clause-plays
-returns-then-acc-self-clause-plays g c = λ s es os call p accepted.
-    let v : Kept = the_view c.self.inside in
-    let c1 : Call = takes s c.args.rec.rec call in
-    let c2 : Call = answers true s c.args.body.now c1 in
-    plays-refused s es os v _ call c2 c.fail.ensures (subst (λ v. Plays s es os v call) (sym c.self.view_is) p) (extends-trans call c1 c2 (extends-takes s c.args.rec.rec call) (extends-answers s c.args.body.now c1))
-
 pub returns-in-Accusation-clause-closed : goal.returns-in-Accusation-clause-closed
 returns-in-Accusation-clause-closed g c = open-further c.answer.result _ _ _ c.answer.ensures.closed (ap (λ (s : SignerState). s.closed) c.take_accusation.ensures.signs_nothing.signer)
 
@@ -59,9 +66,6 @@ returns-in-Certificate-clause-stores g c = stores-none c.args.self.now.signer c.
 
 pub returns-in-Note-clause-stores : goal.returns-in-Note-clause-stores
 returns-in-Note-clause-stores g c = stores-none c.args.self.now.signer c.take_note.new.self.signer (g.D.Disk.state c.args.disk.now).model c.take_note.ensures.signs_nothing.signer
-
-pub returns-then-acc-self-clause-stores : goal.returns-then-acc-self-clause-stores
-returns-then-acc-self-clause-stores g c = stores-none c.args.self.now.signer c.self.inside.signer (g.D.Disk.state c.args.disk.now).model (ap (λ (v : Kept). v.signer) c.self.view_is)
 
 pub returns-in-Accusation-clause-stores : goal.returns-in-Accusation-clause-stores
 returns-in-Accusation-clause-stores g c =

@@ -101,25 +101,6 @@ returns-in_default-ring_for-clause-spends g c = spends-none c.args.self.now c.te
 pub returns-clause-spends : goal.returns-clause-spends
 returns-clause-spends g c = spends-after c.args.self.now c.tell.new.self c.want_accusation.new.self _ _ c.tell.ensures.signs_nothing c.want_accusation.ensures.spends
 
-pub returns-then-not-is_member-clause-spends : goal.returns-then-not-is_member-clause-spends
-returns-then-not-is_member-clause-spends g c =
-    spends-none c.args.self.now _ _ (nothing-trans c.args.self.now c.tell.new.self _ c.tell.ensures.signs_nothing (refused-none (the_view c.self-2.inside) c.tell.new.self _ c.self-2.view_is refl c.fail.ensures))
-
-pub returns-then-not-is_member-clause-plays : goal.returns-then-not-is_member-clause-plays
-returns-then-not-is_member-clause-plays g c = λ s es os call p.
-    let v : Kept = the_view c.self.inside in
-    let m : ℕ = c.args.member in
-    let st : State = state_of s call.node in
-    let c1 : Call = tells s (told.Silent m) call in
-    let w : Kept = record (the_view c.self-2.inside) { telling = c.fail.new.self } in
-    let same : w.telling ≡ record c.tell.new.self.telling { failed = true } = c.fail.ensures ∙ ap (λ (v : Kept). record v.telling { failed = true }) c.self-2.view_is in
-    let refusing = grows-refused c.tell.new.self w same (ap (λ (v : Kept). v.ended) c.self-2.view_is) (ap (λ (v : Kept). v.group) c.self-2.view_is) (ap (λ (v : Kept). v.me) c.self-2.view_is) in
-    from-fine s es os c.args.self.now w call (accuses true s call m) p (grows-trans c.args.self.now c.tell.new.self w c.tell.ensures.grows refusing) (extends-accuses s call m) (λ h.
-    let is = subst (λ v. IsNode s v call.node) (sym c.self.view_is) h.is in
-    let fails : has_accused s st m ≡ false = sym (accused-same s v call.node m is c.self.invariant.membership_group) ∙ sym (c.has_accused.ensures st is.holds) ∙ c.if-has_accused.false in
-    subst (Plays s es os w) (sym (accuses-wanted true s call m fails))
-    (plays-refused s es os c.tell.new.self w c1 (wants_accusation true s m (ring_of s st m) c1) same (c.tell.ensures.plays s es os call p) (extends-wants_accusation s m (ring_of s st m) c1)))
-
 pub returns-clause-closed : goal.returns-clause-closed
 returns-clause-closed g c = open-further c.want_accusation.result _ _ _ c.want_accusation.ensures.closed (ap (λ (s : SignerState). s.closed) c.tell.ensures.signs_nothing.signer)
 
@@ -131,9 +112,6 @@ returns-in_default-clause-stores g c = stores-none c.args.self.now.signer c.tell
 
 pub returns-in_default-ring_for-clause-stores : goal.returns-in_default-ring_for-clause-stores
 returns-in_default-ring_for-clause-stores g c = stores-none c.args.self.now.signer c.tell.new.self.signer (g.D.Disk.state c.args.disk.now).model c.tell.ensures.signs_nothing.signer
-
-pub returns-then-not-is_member-clause-stores : goal.returns-then-not-is_member-clause-stores
-returns-then-not-is_member-clause-stores g c = stores-none c.args.self.now.signer c.self-2.inside.signer (g.D.Disk.state c.args.disk.now).model (ap (λ (v : Kept). v.signer) c.self-2.view_is ∙ c.tell.ensures.signs_nothing.signer)
 
 pub returns-clause-stores : goal.returns-clause-stores
 returns-clause-stores g c =

@@ -37,10 +37,3 @@ returns-clause-plays c = λ s es os call p free.
     let at = quiet-at s es os v call (Joins c.args.cert.member c.hash_places-places.result) c.add_member-fault.new.self p1.at steps fine in
     certified-at s es os (record v { membership = c.add_member-fault.new.self }) call c.args.rec c.args.cert c.put-2.new.self c.put.new.self c.requires.certificate c.put-2.ensures.held c.put.ensures
     (subst (λ x. IsAt s es os (record v { membership = c.add_member-fault.new.self }) (lives s (Joins c.args.cert.member x) call)) places at))
-
-pub returns-then-is_some-clause-plays : goal.returns-then-is_some-clause-plays
-returns-then-is_some-clause-plays c = λ s es os call p free.
-    takes-quietly s es os c.args.self.now c.args.self.now call c.args.rec.rec refl p (λ fine.
-    let n = subst (λ v. IsNode s v call.node) (sym c.self.view_is) (p.at fine).is in
-    let none : is_some c.get.result ≡ false = some-copied c.get.result ∙ ap is_some (c.get.ensures ∙ n.roster c.args.cert.member ∙ free) in
-    absurd (false≢true (sym none ∙ sym c.is_some.ensures ∙ c.if-is_some.true)))

@@ -81,12 +81,12 @@ returns-in-Err-OutOfMemory-clause-spends g c =
     let b : Body = next_note c.self.inside.signer.state c.self.inside.me c.args.mask in
     let lives = lives-signed c.self.inside.signer c.sign_note.new.self b (Err c.in-Err-OutOfMemory.field-0) _ _ c.in-Err-OutOfMemory.ensures in
     let v1 : Kept = record v { signer = c.sign_note.new.self } in
-    unsigned-spends v c.args.self.now _ c.sign_note.new.self _ _ c.self.view_is lives (refused-none v1 v1 _ refl refl c.fail-in-Err-OutOfMemory.ensures)
+    unsigned-spends v c.args.self.now _ c.sign_note.new.self _ _ c.self.view_is lives (refused-none v1 v1 _ refl refl c.fail.ensures)
 
 pub returns-in-Err-OutOfMemory-clause-plays : goal.returns-in-Err-OutOfMemory-clause-plays
 returns-in-Err-OutOfMemory-clause-plays g c = λ s es os call p.
     let v : Kept = the_view c.self.inside in
-    wants-refused s es os v _ call _ None (subst (λ v. Plays s es os v call) (sym c.self.view_is) p) c.fail-in-Err-OutOfMemory.ensures
+    wants-refused s es os v _ call _ None (subst (λ v. Plays s es os v call) (sym c.self.view_is) p) c.fail.ensures
 
 pub returns-in-Note-clause-closed : goal.returns-in-Note-clause-closed
 returns-in-Note-clause-closed g c =

@@ -1,9 +1,9 @@
-use Rattle.std.proofs.Common.{◌≡◌, ℕ, ◌+◌, ◌-◌, ◌<◌, ◌++◌, List, All, length, take, ap, sym, subst, ◌∙◌, append_assoc, arith}
+use Rattle.std.proofs.Common.{◌≡◌, ℕ, ◌+◌, ◌-◌, ◌<◌, ◌≤◌, ◌++◌, List, All, length, take, ap, sym, subst, ◌∙◌, append_assoc, arith}
 use Rattle.std.proofs.lemmas.List.Elements.{All-push}
 use Rattle.records.specs.Spelling.{record_bytes}
 use Rattle.records.specs.Signing.{CheckedRecord, IsChecked}
-use Rattle.record_set.specs.Picks.{held_all, spelled, IsLongestFit}
-use Rattle.record_set.proofs.PickLemmas.{stopped, ended, taken, one_more, so_far_more, spelled_more, fitting-longest, front_so_far, anyway}
+use Rattle.record_set.specs.Picks.{held_all, spelled, fitting, IsLongestFit}
+use Rattle.record_set.proofs.PickLemmas.{stopped, ended, taken, one_more, so_far_more, spelled_more, fitting-few, fitting-longest, front_so_far, anyway}
 use Rattle.record_set.proofs.RecordSet.pick.Goals as goal
 
 pub returns-then-length-left-clause-count : goal.returns-then-length-left-clause-count
@@ -14,6 +14,21 @@ returns-then-length-left-clause-count c =
 pub returns-then-length-left-clause-bytes : goal.returns-then-length-left-clause-bytes
 returns-then-length-left-clause-bytes c =
     c.loop-count.invariant.grown ∙ ap (λ (rs : List CheckedRecord). c.args.out.now.items ++ spelled rs) (sym (taken c.args.self.now c.args.keys.now c.loop-count.count c.args.room c.loop-count.left c.loop-count.invariant.so_far))
+
+pub returns-then-length-left-clause-few : goal.returns-then-length-left-clause-few
+returns-then-length-left-clause-few c =
+    let rs = held_all c.args.self.now c.args.keys.now in
+    let longer : c.loop-count.left < length (record_bytes c.get.result.now.rec) = omega (arith, c.if-length-left.true, c.spelled_length-length.ensures, ap (λ r. length (record_bytes r)) c.rec-rec.ensures.value) in
+    let P : ℕ → Type 0 = λ n. n ≤ c.args.room in
+    subst P (sym (stopped c.args.self.now c.args.keys.now c.loop-count.count c.args.room c.loop-count.left c.index-keys-count.result c.get.result.now c.loop-count-test.true c.index-keys-count.is c.get.ensures c.loop-count.invariant.so_far longer)) (fitting-few c.args.room rs)
+
+pub returns-clause-few : goal.returns-clause-few
+returns-clause-few c =
+    let rs = held_all c.args.self.now c.args.keys.now in
+    let end : length c.args.keys.now ≡ c.loop-count.count = omega arith in
+    let count : length c.args.keys.now ≡ fitting c.args.room rs = end ∙ ended c.args.self.now c.args.keys.now c.loop-count.count c.args.room c.loop-count.left c.loop-count-test.false c.loop-count.invariant.so_far in
+    let P : ℕ → Type 0 = λ n. n ≤ c.args.room in
+    subst P (sym count) (fitting-few c.args.room rs)
 
 pub returns-then-length-left-clause-longest : goal.returns-then-length-left-clause-longest
 returns-then-length-left-clause-longest c =
