@@ -46,6 +46,10 @@ behind-stuck es os v w c d failed grows h further =
 refused : (v w : Kept) → v.telling.failed ≡ true → Grows v w → w.telling.failed ≡ false → ⊥
 refused v w failed grows fine = false≢true (sym (grows.going fine) ∙ failed)
 
+-- a call that ends, since memory was refused
+pub plays-stuck : (s : Setting) (es : List journal.Event) (os : List (ℕ × List ℕ)) (v : Kept) (c d : Call) → v.telling.failed ≡ true → Plays s es os v c → Extends c d → Plays s es os v d
+plays-stuck s es os v c d failed p further = record { at = λ fine. absurd (false≢true (sym fine ∙ failed)); due = behind-extends es os v c d p.due further }
+
 -- a step that is the definition's, unless memory was refused before
 pub from-fine : (s : Setting) (es : List journal.Event) (os : List (ℕ × List ℕ)) (v w : Kept) (c d : Call) → Plays s es os v c → Grows v w → Extends c d → (IsAt s es os v c → Plays s es os w d) → Plays s es os w d
 from-fine s es os v w c d p grows further step =

@@ -1,7 +1,8 @@
 -- What is reported of signatures, and what becomes of the key.
-use Rattle.std.proofs.Common.{◌≡◌, ℕ, Bool, true, false, inl, inr, List, [], ◌∷◌, ◌++◌, map, refl, ap, sym, ◌∙◌, subst, append_assoc, Result, Ok, Err}
+use Rattle.std.proofs.Common.{◌≡◌, ℕ, Bool, true, false, inl, inr, List, [], ◌∷◌, ◌++◌, length, map, refl, ap, sym, ◌∙◌, subst, append_assoc, arith, Result, Ok, Err}
 use Rattle.std.specs.Prelude.{IfErr, OnOk}
-use Rattle.std.proofs.lemmas.Bool.{cases_Bool}
+use Rattle.std.proofs.lemmas.Bool.{cases_Bool, false≢true}
+use Rattle.std.proofs.lemmas.List.{length-append}
 use Rattle.ports.specs.Disk.{Moment}
 use Rattle.ff_ids.specs.Steps.{Report}
 use Rattle.records.specs.declared.Body.{Body}
@@ -16,7 +17,7 @@ use Rattle.node_core.specs.declared.NodeFault.{NodeFault}
 use Rattle.node_core.specs.declared.NodeFault.TheVariants as faults
 use Rattle.node_core.specs.Told.{Tellings, Adds, IsPrefix, with_event, with_report, with_sent}
 use Rattle.node_core.specs.Playing.{Kept, Grows}
-use Rattle.node_core.specs.Spending.{spent_by, spent_told, LivesOn, SignsNothing, TellsOf, TellsSpent, Spends, TellsSo, SpendsIn, SpendsUntold, StartSpends}
+use Rattle.node_core.specs.Spending.{spent_by, spent_told, LivesOn, SignsNothing, IsAllButLast, TellsOf, TellsSpent, Spends, TellsSo, SpendsIn, SpendsUntold, StartSpends}
 use Rattle.node_core.proofs.TellingLemmas.{nil-right, front-trans, append-cancel, map-append}
 
 -- ---- what events report
@@ -73,13 +74,17 @@ changes-none moment r a b adds = told-none a.events b.events (told_of moment r) 
 pub sent-none : (moment : ℕ) (bytes : List ℕ) (to : ℕ) (a b : Tellings) → Adds (with_sent moment bytes to) a b → spent_told b.events ≡ spent_told a.events
 sent-none moment bytes to a b adds = told-none a.events b.events _ adds.events adds.events_due refl
 
+-- one more, or it is the last that lacks
+but-last : (a b : List Spent) (x : Spent) → IsPrefix a b → IsPrefix b (a ++ x ∷ []) → IsAllButLast b (a ++ x ∷ [])
+but-last a b x p q = record { last = q.more; is = q.is; one = omega (arith, ap length q.is, ap length p.is, length-append a (x ∷ []), length-append b q.more, length-append a p.more) }
+
 pub event-spent : (moment index : ℕ) (body : Body) (a b : Tellings) → Adds (with_event moment (told.Spent index body)) a b → TellsOf (record { index = index; body = body } ∷ []) a.events b.events b.failed
 event-spent moment index body a b adds =
     let due : journal.Event = record { moment = moment; what = told.Spent index body } in
     let whole = told-append a.events (due ∷ []) in
     record {
       all = λ fine. ap (λ (t : Tellings). spent_told t.events) (adds.going fine).1 ∙ whole;
-      front = subst (λ (z : List Spent). IsPrefix (spent_told b.events) z) whole (front-told b.events (a.events ++ due ∷ []) adds.events_due);
+      front = but-last (spent_told a.events) (spent_told b.events) _ (front-told a.events b.events adds.events) (subst (λ (z : List Spent). IsPrefix (spent_told b.events) z) whole (front-told b.events (a.events ++ due ∷ []) adds.events_due));
     }
 
 -- ---- steps
@@ -92,7 +97,7 @@ spent-then index body a b c p q going = record {
   signer = q.signer ∙ p.signer;
   tells = record {
     all = λ fine. q.told_none ∙ p.tells.all (going fine);
-    front = subst (λ (z : List Spent). IsPrefix z (spent_told a.telling.events ++ record { index = index; body = body } ∷ [])) (sym q.told_none) p.tells.front;
+    front = subst (λ (z : List Spent). IsAllButLast z (spent_told a.telling.events ++ record { index = index; body = body } ∷ [])) (sym q.told_none) p.tells.front;
   };
 }
 
@@ -102,19 +107,25 @@ spends-none a b moments h = record {
   spent = [];
   tells = record {
     all = λ fine. h.told_none ∙ sym (nil-right (spent_told a.telling.events));
-    front = record { more = []; is = refl ∙ ap (λ (z : List Spent). z ++ []) (sym h.told_none) };
+    front = record { last = []; is = refl ∙ ap (λ (z : List Spent). z ++ []) (sym h.told_none); one = omega arith };
   };
   key = lives-same a.signer b.signer moments h.signer;
+  idle = λ failed. record { spent_none = refl; signer = h.signer; moments = refl };
 }
 
-pub spends-after : (a b c : Kept) (x y : List Moment) → SignsNothing a b → Spends b c x y → Spends a c x y
-spends-after a b c x y p q = record {
+-- memory stays refused
+pub still-failed : (a b : Kept) → Grows a b → a.telling.failed ≡ true → b.telling.failed ≡ true
+still-failed a b grows failed = ap (λ (t : Tellings). t.failed) (grows.stuck failed) ∙ failed
+
+pub spends-after : (a b c : Kept) (x y : List Moment) → SignsNothing a b → (a.telling.failed ≡ true → b.telling.failed ≡ true) → Spends b c x y → Spends a c x y
+spends-after a b c x y p still q = record {
   spent = q.spent;
   tells = record {
     all = λ fine. q.tells.all fine ∙ ap (λ (z : List Spent). z ++ q.spent) p.told_none;
-    front = subst (λ (z : List Spent). IsPrefix (spent_told c.telling.events) (z ++ q.spent)) p.told_none q.tells.front;
+    front = subst (λ (z : List Spent). IsAllButLast (spent_told c.telling.events) (z ++ q.spent)) p.told_none q.tells.front;
   };
   key = subst (λ (s : SignerState). LivesOn q.spent s c.signer x y) p.signer q.key;
+  idle = λ failed. let i = q.idle (still failed) in record { spent_none = i.spent_none; signer = i.signer ∙ p.signer; moments = i.moments };
 }
 
 pub spends-before : (a b c : Kept) (x y : List Moment) → Spends a b x y → SignsNothing b c → (c.telling.failed ≡ false → b.telling.failed ≡ false) → Spends a c x y
@@ -122,44 +133,41 @@ spends-before a b c x y p q going = record {
   spent = p.spent;
   tells = record {
     all = λ fine. q.told_none ∙ p.tells.all (going fine);
-    front = subst (λ (z : List Spent). IsPrefix z (spent_told a.telling.events ++ p.spent)) (sym q.told_none) p.tells.front;
+    front = subst (λ (z : List Spent). IsAllButLast z (spent_told a.telling.events ++ p.spent)) (sym q.told_none) p.tells.front;
   };
   key = subst (λ (s : SignerState). LivesOn p.spent a.signer s x y) (sym q.signer) p.key;
+  idle = λ failed. let i = p.idle failed in record { spent_none = i.spent_none; signer = q.signer ∙ i.signer; moments = i.moments };
 }
 
-pub spends-trans : (a b c : Kept) (x y z : List Moment) → Spends a b x y → Grows b c → Spends b c y z → Spends a c x z
-spends-trans a b c x y z p grows q = record {
+pub spends-trans : (a b c : Kept) (x y z : List Moment) → Grows a b → Spends a b x y → Grows b c → Spends b c y z → Spends a c x z
+spends-trans a b c x y z first p grows q = record {
   spent = p.spent ++ q.spent;
   tells = record {
     all = λ fine. q.tells.all fine ∙ ap (λ (w : List Spent). w ++ q.spent) (p.tells.all (grows.going fine)) ∙ append_assoc (spent_told a.telling.events) p.spent q.spent;
     front = elim (cases_Bool b.telling.failed) [
       | inl failed ↦
           let same : spent_told c.telling.events ≡ spent_told b.telling.events = ap (λ (t : Tellings). spent_told t.events) (grows.stuck failed) in
-          let wider : IsPrefix (spent_told a.telling.events ++ p.spent) (spent_told a.telling.events ++ (p.spent ++ q.spent)) = record { more = q.spent; is = sym (append_assoc (spent_told a.telling.events) p.spent q.spent) } in
-          subst (λ (w : List Spent). IsPrefix w (spent_told a.telling.events ++ (p.spent ++ q.spent))) (sym same) (front-trans (spent_told b.telling.events) (spent_told a.telling.events ++ p.spent) (spent_told a.telling.events ++ (p.spent ++ q.spent)) p.tells.front wider)
+          let none : p.spent ++ q.spent ≡ p.spent = ap (λ (l : List Spent). p.spent ++ l) (q.idle failed).spent_none ∙ nil-right p.spent in
+          subst (λ (w : List Spent). IsAllButLast w (spent_told a.telling.events ++ (p.spent ++ q.spent))) (sym same) (subst (λ (l : List Spent). IsAllButLast (spent_told b.telling.events) (spent_told a.telling.events ++ l)) (sym none) p.tells.front)
       | inr fine ↦
           let whole : spent_told b.telling.events ++ q.spent ≡ spent_told a.telling.events ++ (p.spent ++ q.spent) = ap (λ (w : List Spent). w ++ q.spent) (p.tells.all fine) ∙ append_assoc (spent_told a.telling.events) p.spent q.spent in
-          subst (λ (w : List Spent). IsPrefix (spent_told c.telling.events) w) whole q.tells.front
+          subst (λ (w : List Spent). IsAllButLast (spent_told c.telling.events) w) whole q.tells.front
     ];
   };
   key = lives-trans p.spent q.spent a.signer b.signer c.signer x y z p.key q.key;
-}
-
--- what a signer's call does to a node's signer, and what the node reports of it
-pub spends-signed : (a b c : Kept) (x y : List Moment) (spent : List Spent) → b.telling ≡ a.telling → LivesOn spent a.signer b.signer x y → c.signer ≡ b.signer → TellsOf spent b.telling.events c.telling.events c.telling.failed → Spends a c x y
-spends-signed a b c x y spent same lives signer tells = record {
-  spent = spent;
-  tells = subst (λ (t : Tellings). TellsOf spent t.events c.telling.events c.telling.failed) same tells;
-  key = subst (λ (s : SignerState). LivesOn spent a.signer s x y) (sym signer) lives;
+  idle = λ failed.
+      let i = p.idle failed in
+      let j = q.idle (still-failed a b first failed) in
+      record { spent_none = ap (λ (l : List Spent). l ++ q.spent) i.spent_none ∙ j.spent_none; signer = j.signer ∙ i.signer; moments = j.moments ∙ i.moments };
 }
 
 pub nothing-same : (a : Kept) → SignsNothing a a
 nothing-same a = record { signer = refl; told_none = refl }
 
 -- the signature was made, and is reported
-pub signed-spends : (v w v1 : Kept) (later : SignerState) (x y : List Moment) (index : ℕ) (said body : Body) → v ≡ w → index ≡ v.signer.state.next → said ≡ body
+pub signed-spends : (v w v1 : Kept) (later : SignerState) (x y : List Moment) (index : ℕ) (said body : Body) → v ≡ w → v.telling.failed ≡ false → index ≡ v.signer.state.next → said ≡ body
     → LivesOn (record { index = v.signer.state.next; body = body } ∷ []) v.signer later x y → TellsSpent index said (record v { signer = later }) v1 → Spends w v1 x y
-signed-spends v w v1 later x y index said body view at is lives h =
+signed-spends v w v1 later x y index said body view fine at is lives h =
     subst (λ (a : Kept). Spends a v1 x y) view (
     let one : ℕ → Body → List Spent = λ k b. record { index = k; body = b } ∷ [] in
     let same : one index said ≡ one v.signer.state.next body = ap (λ (k : ℕ). one k said) at ∙ ap (λ (b : Body). one v.signer.state.next b) is in
@@ -167,19 +175,21 @@ signed-spends v w v1 later x y index said body view at is lives h =
       spent = one v.signer.state.next body;
       tells = subst (λ (spent : List Spent). TellsOf spent v.telling.events v1.telling.events v1.telling.failed) same (record { all = h.tells.all; front = h.tells.front });
       key = subst (λ (s : SignerState). LivesOn (one v.signer.state.next body) v.signer s x y) (sym h.signer) lives;
+      idle = λ failed. absurd (false≢true (sym fine ∙ failed));
     })
 
 -- no signature was made
-pub unsigned-spends : (v w v1 : Kept) (later : SignerState) (x y : List Moment) → v ≡ w → LivesOn [] v.signer later x y → SignsNothing (record v { signer = later }) v1 → Spends w v1 x y
-unsigned-spends v w v1 later x y view lives h =
+pub unsigned-spends : (v w v1 : Kept) (later : SignerState) (x y : List Moment) → v ≡ w → v.telling.failed ≡ false → LivesOn [] v.signer later x y → SignsNothing (record v { signer = later }) v1 → Spends w v1 x y
+unsigned-spends v w v1 later x y view fine lives h =
     subst (λ (a : Kept). Spends a v1 x y) view
     (record {
       spent = [];
       tells = record {
         all = λ fine. h.told_none ∙ sym (nil-right (spent_told v.telling.events));
-        front = record { more = []; is = ap (λ (z : List Spent). z ++ []) (sym h.told_none) };
+        front = record { last = []; is = ap (λ (z : List Spent). z ++ []) (sym h.told_none); one = omega arith };
       };
       key = subst (λ (s : SignerState). LivesOn [] v.signer s x y) (sym h.signer) lives;
+      idle = λ failed. absurd (false≢true (sym fine ∙ failed));
     })
 
 -- memory was refused
@@ -190,13 +200,13 @@ refused-none v w v1 view signer telling =
 -- ---- a call
 
 pub tells-so : {T : Type 0} (result : Result T NodeFault) (failed : Bool) (before after added : List journal.Event) (spent : List Spent) → after ≡ before ++ added → TellsOf spent before after failed
-    → (failed ≡ true → IsPrefix (spent_told added) spent → TellsSo result spent (spent_told added)) → (failed ≡ false → spent_told added ≡ spent → TellsSo result spent (spent_told added)) → TellsSo result spent (spent_told added)
+    → (failed ≡ true → IsAllButLast (spent_told added) spent → TellsSo result spent (spent_told added)) → (failed ≡ false → spent_told added ≡ spent → TellsSo result spent (spent_told added)) → TellsSo result spent (spent_told added)
 tells-so result failed before after added spent is tells whenever fine =
     let whole : spent_told after ≡ spent_told before ++ spent_told added = ap spent_told is ∙ told-append before added in
     elim (cases_Bool failed) [
       | inl refused ↦
           let h = tells.front in
-          whenever refused (record { more = h.more; is = append-cancel (spent_told before) spent (spent_told added ++ h.more) (h.is ∙ ap (λ (z : List Spent). z ++ h.more) whole ∙ append_assoc (spent_told before) (spent_told added) h.more) })
+          whenever refused (record { last = h.last; is = append-cancel (spent_told before) spent (spent_told added ++ h.last) (h.is ∙ ap (λ (z : List Spent). z ++ h.last) whole ∙ append_assoc (spent_told before) (spent_told added) h.last); one = h.one })
       | inr ok ↦ fine ok (append-cancel (spent_told before) (spent_told added) spent (sym whole ∙ tells.all ok))
     ]
 
@@ -251,7 +261,7 @@ start-spends s signer node x y spent over before told_by after failed lives same
 
 none-untold : (fault : NodeFault) → TellsSo {T = Unit {0}} (Err fault) [] []
 none-untold faults.StoreFault = refl
-none-untold faults.OutOfMemory = record { more = []; is = refl }
+none-untold faults.OutOfMemory = record { last = []; is = refl; one = omega arith }
 none-untold (faults.Exhausted next) = refl
 none-untold faults.Ended = refl
 
@@ -260,8 +270,8 @@ pub unsigned-untold : (fault : NodeFault) (s later : SignerState) (x y : List Mo
 unsigned-untold fault s later x y lives = record { later = later; spent = []; tells = none-untold fault; key = lives }
 
 -- memory was refused behind the signature
-pub signed-untold : (s later : SignerState) (x y : List Moment) (spent : List Spent) → LivesOn spent s later x y → SpendsUntold faults.OutOfMemory s x y
-signed-untold s later x y spent lives = record { later = later; spent = spent; tells = record { more = spent; is = refl }; key = lives }
+pub signed-untold : (s later : SignerState) (x y : List Moment) (one : Spent) → LivesOn (one ∷ []) s later x y → SpendsUntold faults.OutOfMemory s x y
+signed-untold s later x y one lives = record { later = later; spent = one ∷ []; tells = record { last = one ∷ []; is = refl; one = omega arith }; key = lives }
 
 -- the first note, by its index
 pub first-lives : (s later : SignerState) (x y : List Moment) (index : ℕ) (said body : Body) → index ≡ s.state.next → said ≡ body → LivesOn (record { index = s.state.next; body = body } ∷ []) s later x y → LivesOn (record { index = index; body = said } ∷ []) s later x y

@@ -142,7 +142,8 @@ impl Node {
         self.want_accusation(alloc, disk, &acc)
     }
 
-    /// The silent members are accused in turn, up to one in whose accusation the disk fails.
+    /// The silent members are accused in turn, up to one in whose accusation the disk fails, or behind which memory was
+    /// refused.
     pub(crate) fn accuse_all<D: Disk>(
         &mut self,
         alloc: Global,
@@ -167,6 +168,9 @@ impl Node {
             (fold (accuses_on storage s) (on_disk c d self.old.signer.seat) silent.items) }
     {
         for member in silent {
+            if self.telling.has_failed() {
+                return Ok(());
+            }
             self.accuse(alloc, disk, member)?;
         }
         Ok(())

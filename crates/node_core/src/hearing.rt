@@ -39,7 +39,7 @@ pub(crate) fn bytes_of(alloc: Global, datagram: &Datagram) -> Result<Vec<u8>, No
 }
 
 impl Node {
-    /// The records are handled in turn, up to one in whose answer the disk fails.
+    /// The records are handled in turn, up to one in whose answer the disk fails, or behind which memory was refused.
     pub(crate) fn handle_all<D: Disk>(
         &mut self,
         alloc: Global,
@@ -64,6 +64,9 @@ impl Node {
             (fold (handles_on storage s) (on_disk c d self.old.signer.seat) records.items) }
     {
         for rec in records {
+            if self.telling.has_failed() {
+                return Ok(());
+            }
             self.handle(alloc, disk, rec)?;
         }
         Ok(())

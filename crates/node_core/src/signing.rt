@@ -68,7 +68,7 @@ impl Node {
         }
     }
 
-    /// A note of the next epoch with this mask is wanted.
+    /// A note of the next epoch with this mask is wanted; behind a refusal of memory none is signed.
     pub(crate) fn want_note<D: Disk>(
         &mut self,
         alloc: Global,
@@ -94,6 +94,9 @@ impl Node {
             → FailsIn (wants true s (next_own s c.node mask) (addressees s None) c) self.old
             self.new (D.state disk.old).model (D.state disk.new).model result }
     {
+        if self.telling.has_failed() {
+            return Ok(());
+        }
         let index = self.signer.state().next;
         match self.signer.sign_note(alloc, disk, self.me, mask) {
             Ok(rec) => match rec.rec().body {
@@ -110,7 +113,7 @@ impl Node {
         Ok(())
     }
 
-    /// This accusation is wanted.
+    /// This accusation is wanted; behind a refusal of memory none is signed.
     pub(crate) fn want_accusation<D: Disk>(
         &mut self,
         alloc: Global,
@@ -138,6 +141,9 @@ impl Node {
             (addressees s (Some acc.now.accused)) c) self.old self.new (D.state disk.old).model
             (D.state disk.new).model result }
     {
+        if self.telling.has_failed() {
+            return Ok(());
+        }
         let index = self.signer.state().next;
         match self.signer.sign_accusation(alloc, disk, *acc) {
             Ok(rec) => self.pass_on_accusation(alloc, index, rec, acc),

@@ -163,6 +163,13 @@ impl CallOutput {
         }
     }
 
+    /// Whether memory was refused.
+    pub fn has_failed(&self) -> bool
+        ensures { result ≡ self.now.failed }
+    {
+        self.failed
+    }
+
     /// Memory was refused elsewhere.
     pub fn fail(&mut self)
         ensures { self.new ≡ record self.old { failed = true } }

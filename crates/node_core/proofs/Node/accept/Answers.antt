@@ -10,7 +10,7 @@ use Rattle.node_rules.specs.Deliveries.{answers}
 use Rattle.node_core.specs.Playing.{Kept, Plays}
 use Rattle.node_core.proofs.DueLemmas.{Ran, plays-refused}
 use Rattle.node_core.proofs.HandleLemmas.{free-of, ring-in}
-use Rattle.node_core.proofs.SpendLemmas.{open-further, refused-none, spends-none, spends-after}
+use Rattle.node_core.proofs.SpendLemmas.{open-further, still-failed, refused-none, spends-none, spends-after}
 use Rattle.std.proofs.Common.{refl}
 use Rattle.node_core.specs.contracts.Node.{the_view}
 use Rattle.node_core.proofs.ExtendLemmas.{extends-trans, extends-takes, extends-answers}
@@ -56,7 +56,7 @@ pub returns-in-Note-clause-spends : goal.returns-in-Note-clause-spends
 returns-in-Note-clause-spends g c = spends-none c.args.self.now c.take_note.new.self _ c.take_note.ensures.signs_nothing
 
 pub returns-in-Accusation-clause-spends : goal.returns-in-Accusation-clause-spends
-returns-in-Accusation-clause-spends g c = spends-after c.args.self.now c.take_accusation.new.self c.answer.new.self _ _ c.take_accusation.ensures.signs_nothing c.answer.ensures.spends
+returns-in-Accusation-clause-spends g c = spends-after c.args.self.now c.take_accusation.new.self c.answer.new.self _ _ c.take_accusation.ensures.signs_nothing (still-failed c.args.self.now c.take_accusation.new.self c.take_accusation.ensures.grows) c.answer.ensures.spends
 
 pub returns-in-Accusation-clause-closed : goal.returns-in-Accusation-clause-closed
 returns-in-Accusation-clause-closed g c = open-further c.answer.result _ _ _ c.answer.ensures.closed (ap (λ (s : SignerState). s.closed) c.take_accusation.ensures.signs_nothing.signer)

@@ -16,7 +16,7 @@ use Rattle.node_core.proofs.PlayLemmas.{setting-me, grows-refl, grows-trans}
 use Rattle.node_core.proofs.ExtendLemmas.{extends-accuses, extends-wants_accusation}
 use Rattle.node_core.proofs.DueLemmas.{from-fine, runs-from-fine, runs-same, plays-refused, grows-refused}
 use Rattle.node_core.proofs.AccusingLemmas.{accused-same, accuses-kept, accuses-wanted, no-note, ring-of_note, rings-same, body-is, wanted-if}
-use Rattle.node_core.proofs.SpendLemmas.{open-further, nothing-same, nothing-trans, refused-none, spends-none, spends-after}
+use Rattle.node_core.proofs.SpendLemmas.{open-further, still-failed, nothing-same, nothing-trans, refused-none, spends-none, spends-after}
 use Rattle.signer.specs.Signing.{SignerState}
 use Rattle.node_core.proofs.DiskLemmas.{stores-none, stored-behind, fails-behind, fails-given, fails-same}
 use Rattle.node_core.proofs.Node.accuse.Goals as goal
@@ -99,7 +99,7 @@ pub returns-in_default-ring_for-clause-spends : goal.returns-in_default-ring_for
 returns-in_default-ring_for-clause-spends g c = spends-none c.args.self.now c.tell.new.self _ c.tell.ensures.signs_nothing
 
 pub returns-clause-spends : goal.returns-clause-spends
-returns-clause-spends g c = spends-after c.args.self.now c.tell.new.self c.want_accusation.new.self _ _ c.tell.ensures.signs_nothing c.want_accusation.ensures.spends
+returns-clause-spends g c = spends-after c.args.self.now c.tell.new.self c.want_accusation.new.self _ _ c.tell.ensures.signs_nothing (still-failed c.args.self.now c.tell.new.self c.tell.ensures.grows) c.want_accusation.ensures.spends
 
 pub returns-clause-closed : goal.returns-clause-closed
 returns-clause-closed g c = open-further c.want_accusation.result _ _ _ c.want_accusation.ensures.closed (ap (λ (s : SignerState). s.closed) c.tell.ensures.signs_nothing.signer)

@@ -1,7 +1,7 @@
 use Rattle.std.proofs.Common.{◌≡◌, ℕ, List, [], ◌∷◌, ◌++◌, length, subst, sym, ap, ◌∙◌, refl, append_assoc, true, false}
 use Rattle.node_rules.specs.Calls.{Call}
 use Rattle.node_rules.specs.Ticking.{accuses, accuses_all}
-use Rattle.node_core.specs.Playing.{Plays, Stops, Extends}
+use Rattle.node_core.specs.Playing.{Kept, Plays, Stops, Extends}
 use Rattle.node_core.proofs.PlayLemmas.{grows-refl, grows-trans}
 use Rattle.node_core.proofs.HandleLemmas.{fold-push, no_items}
 use Rattle.node_core.proofs.AccusingLemmas.{IsFoundBehind, found-behind, accuses-further, err-accusing}
@@ -14,8 +14,10 @@ use Rattle.epoch_store.specs.Placed.{PlacedStore}
 use Rattle.node_rules.specs.OnDisks.{OnDisk, accuses_on}
 use Rattle.node_rules.proofs.GoingOn.{on-accuses}
 use Rattle.node_core.specs.OnDisks.{ComesTo, on_disk, storage}
-use Rattle.node_core.proofs.DueLemmas.{plays-at}
+use Rattle.node_core.proofs.DueLemmas.{plays-at, plays-stuck}
 use Rattle.node_core.proofs.DiskLemmas.{starts-there, comes-further, comes-to_end, accuses-going, all-accused-over, fold-split}
+use Rattle.std.proofs.lemmas.Bool.{false≢true}
+use Rattle.node_core.proofs.ExtendLemmas.{extends-trans, extends-accuses}
 use Rattle.node_core.proofs.Node.accuse_all.Goals as goal
 
 pub loop-member-init : goal.loop-member-init
@@ -39,7 +41,7 @@ loop-member-preserved g c =
             subst (ComesTo s es os c.accuse.new.self (g.D.Disk.state c.accuse.new.disk).model false) (sym (accuses-going s o r before.ended) ∙ sym (fold-push (accuses_on storage s) (on_disk call d c.args.self.now.signer.seat) h.done r))
             (comes-further s es os c.loop-member.self c.accuse.new.self (g.D.Disk.state c.loop-member.disk).model (g.D.Disk.state c.accuse.new.disk).model o (λ works. accuses works s o.call r) before c.in_ok-accuse.ensures.stores ran (on-accuses s o.call r));
         grows = grows-trans c.args.self.now c.loop-member.self c.accuse.new.self h.grows c.accuse.ensures.grows;
-        spends = spends-trans c.args.self.now c.loop-member.self c.accuse.new.self _ _ _ h.spends c.accuse.ensures.grows c.accuse.ensures.spends;
+        spends = spends-trans c.args.self.now c.loop-member.self c.accuse.new.self _ _ _ h.grows h.spends c.accuse.ensures.grows c.accuse.ensures.spends;
         closed = c.in_ok-accuse.ensures.closed ∙ h.closed;
       },
       c.in_ok-accuse.ensures.faults ∙ c.loop-member.invariant.1,
@@ -77,7 +79,7 @@ returns-clause-plays g c = λ s es os call p.
 
 pub returns-in_err-accuse-clause-spends : goal.returns-in_err-accuse-clause-spends
 returns-in_err-accuse-clause-spends g c =
-    spends-trans c.args.self.now c.loop-member.self c.accuse.new.self _ _ _ c.loop-member.invariant.0.spends c.accuse.ensures.grows c.accuse.ensures.spends
+    spends-trans c.args.self.now c.loop-member.self c.accuse.new.self _ _ _ c.loop-member.invariant.0.grows c.loop-member.invariant.0.spends c.accuse.ensures.grows c.accuse.ensures.spends
 
 pub returns-clause-spends : goal.returns-clause-spends
 returns-clause-spends g c = c.loop-member.invariant.0.spends
@@ -112,3 +114,26 @@ returns-clause-follows g c = λ s es os call d p on is fine.
     let none : c.loop-member.member-iterator.rest.items ≡ [] = no_items c.loop-member.member-iterator.rest.items long in
     let whole : c.args.silent.items ≡ h.done = h.split ∙ ap (λ (xs : List ℕ). h.done ++ xs) none ∙ nil-right h.done in
     subst (λ (xs : List ℕ). ComesTo s es os c.loop-member.self (g.D.Disk.state c.loop-member.disk).model false (fold (accuses_on storage s) (on_disk call d c.args.self.now.signer.seat) xs)) (sym whole) (h.comes s es os call d p on is fine)
+
+pub returns-then-has_failed-clause-plays : goal.returns-then-has_failed-clause-plays
+returns-then-has_failed-clause-plays g c = λ s es os call p.
+    let h = c.loop-member.invariant.0 in
+    let r : ℕ = c.in-Some.member in
+    let rest = c.next.new.self.rest.items in
+    let next : c.loop-member.member-iterator.rest.items ≡ r ∷ rest = c.in-Some.ensures.steps.0 in
+    let whole : c.args.silent.items ≡ h.done ++ r ∷ rest = h.split ∙ ap (λ (xs : List ℕ). h.done ++ xs) next in
+    let behind = extends-trans (accuses_all s h.done call) (accuses true s (accuses_all s h.done call) r) (accuses_all s (h.done ++ r ∷ rest) call) (extends-accuses s (accuses_all s h.done call) r) (accuses-further s call h.done rest r) in
+    let further = subst (λ (xs : List ℕ). Extends (accuses_all s h.done call) (accuses_all s xs call)) (sym whole) behind in
+    let failed = ap (λ (v : Kept). v.telling.failed) (sym c.self.view_is) ∙ sym c.has_failed.ensures ∙ c.if-has_failed.true in
+    plays-stuck s es os c.loop-member.self (accuses_all s h.done call) (accuses_all s c.args.silent.items call) failed (h.plays s es os call p) further
+
+pub returns-then-has_failed-clause-spends : goal.returns-then-has_failed-clause-spends
+returns-then-has_failed-clause-spends g c = c.loop-member.invariant.0.spends
+
+pub returns-then-has_failed-clause-closed : goal.returns-then-has_failed-clause-closed
+returns-then-has_failed-clause-closed g c = c.loop-member.invariant.0.closed
+
+pub returns-then-has_failed-clause-follows : goal.returns-then-has_failed-clause-follows
+returns-then-has_failed-clause-follows g c = λ s es os call d p on is fine.
+    let failed = ap (λ (v : Kept). v.telling.failed) (sym c.self.view_is) ∙ sym c.has_failed.ensures ∙ c.if-has_failed.true in
+    absurd (false≢true (sym fine ∙ failed))

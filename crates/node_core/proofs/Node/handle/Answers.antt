@@ -12,7 +12,7 @@ use Rattle.node_core.proofs.PlayLemmas.{grows-trans}
 use Rattle.node_core.proofs.ExtendLemmas.{extends-handles}
 use Rattle.node_core.proofs.DueLemmas.{from-fine, runs-from-fine, runs-same}
 use Rattle.node_core.proofs.RefusalLemmas.{refusal-is}
-use Rattle.node_core.proofs.SpendLemmas.{open-further, spends-none, spends-after}
+use Rattle.node_core.proofs.SpendLemmas.{open-further, still-failed, spends-none, spends-after}
 use Rattle.signer.specs.Signing.{SignerState}
 use Rattle.node_core.proofs.DiskLemmas.{stores-none, stored-behind, fails-behind, fails-given, fails-same}
 use Rattle.node_core.proofs.Node.handle.Goals as goal
@@ -43,7 +43,7 @@ pub returns-in-Err-clause-spends : goal.returns-in-Err-clause-spends
 returns-in-Err-clause-spends g c = spends-none c.args.self.now c.tell-in-Err.new.self _ c.tell-in-Err.ensures.signs_nothing
 
 pub returns-in-Ok-clause-spends : goal.returns-in-Ok-clause-spends
-returns-in-Ok-clause-spends g c = spends-after c.args.self.now c.tell.new.self c.accept.new.self _ _ c.tell.ensures.signs_nothing c.accept.ensures.spends
+returns-in-Ok-clause-spends g c = spends-after c.args.self.now c.tell.new.self c.accept.new.self _ _ c.tell.ensures.signs_nothing (still-failed c.args.self.now c.tell.new.self c.tell.ensures.grows) c.accept.ensures.spends
 
 pub returns-in-Ok-clause-closed : goal.returns-in-Ok-clause-closed
 returns-in-Ok-clause-closed g c = open-further c.accept.result _ _ _ c.accept.ensures.closed (ap (λ (s : SignerState). s.closed) c.tell.ensures.signs_nothing.signer)

@@ -3,7 +3,7 @@ use Rattle.records.specs.declared.Record.{Record}
 use Rattle.records.specs.Spelling.{HasPort}
 use Rattle.node_rules.specs.Calls.{Call}
 use Rattle.node_rules.specs.Deliveries.{handles, handles_all}
-use Rattle.node_core.specs.Playing.{Plays, Stops, Extends}
+use Rattle.node_core.specs.Playing.{Kept, Plays, Stops, Extends}
 use Rattle.node_core.proofs.PlayLemmas.{grows-refl, grows-trans}
 use Rattle.node_core.proofs.HandleLemmas.{fold-push, IsFound, found-at, all-tail, err-runs, handles-further, no_items}
 use Rattle.node_core.proofs.DueLemmas.{behind-extends}
@@ -15,8 +15,10 @@ use Rattle.epoch_store.specs.Placed.{PlacedStore}
 use Rattle.node_rules.specs.OnDisks.{OnDisk, handles_on}
 use Rattle.node_rules.proofs.GoingOn.{on-handles}
 use Rattle.node_core.specs.OnDisks.{ComesTo, on_disk, storage}
-use Rattle.node_core.proofs.DueLemmas.{plays-at}
+use Rattle.node_core.proofs.DueLemmas.{plays-at, plays-stuck}
 use Rattle.node_core.proofs.DiskLemmas.{starts-there, comes-further, comes-to_end, handles-going, all-over, fold-split}
+use Rattle.std.proofs.lemmas.Bool.{false≢true}
+use Rattle.node_core.proofs.ExtendLemmas.{extends-trans, extends-handles}
 use Rattle.node_core.proofs.Node.handle_all.Goals as goal
 
 pub loop-rec-init : goal.loop-rec-init
@@ -40,7 +42,7 @@ loop-rec-preserved g c =
             subst (ComesTo s es os c.handle.new.self (g.D.Disk.state c.handle.new.disk).model false) (sym (handles-going s o r before.ended) ∙ sym (fold-push (handles_on storage s) (on_disk call d c.args.self.now.signer.seat) h.done r))
             (comes-further s es os c.loop-rec.self c.handle.new.self (g.D.Disk.state c.loop-rec.disk).model (g.D.Disk.state c.handle.new.disk).model o (λ works. handles works s o.call r) before c.in_ok-handle.ensures.stores ran (on-handles s o.call r));
         grows = grows-trans c.args.self.now c.loop-rec.self c.handle.new.self h.grows c.handle.ensures.grows;
-        spends = spends-trans c.args.self.now c.loop-rec.self c.handle.new.self _ _ _ h.spends c.handle.ensures.grows c.handle.ensures.spends;
+        spends = spends-trans c.args.self.now c.loop-rec.self c.handle.new.self _ _ _ h.grows h.spends c.handle.ensures.grows c.handle.ensures.spends;
         closed = c.in_ok-handle.ensures.closed ∙ h.closed;
       },
       c.in_ok-handle.ensures.faults ∙ c.loop-rec.invariant.1,
@@ -79,7 +81,7 @@ returns-clause-plays g c = λ s es os call p.
 
 pub returns-in_err-handle-clause-spends : goal.returns-in_err-handle-clause-spends
 returns-in_err-handle-clause-spends g c =
-    spends-trans c.args.self.now c.loop-rec.self c.handle.new.self _ _ _ c.loop-rec.invariant.0.spends c.handle.ensures.grows c.handle.ensures.spends
+    spends-trans c.args.self.now c.loop-rec.self c.handle.new.self _ _ _ c.loop-rec.invariant.0.grows c.loop-rec.invariant.0.spends c.handle.ensures.grows c.handle.ensures.spends
 
 pub returns-clause-spends : goal.returns-clause-spends
 returns-clause-spends g c = c.loop-rec.invariant.0.spends
@@ -114,3 +116,26 @@ returns-clause-follows g c = λ s es os call d p on is fine.
     let none : c.loop-rec.rec-iterator.rest.items ≡ [] = no_items c.loop-rec.rec-iterator.rest.items long in
     let whole : c.args.records.items ≡ h.done = h.split ∙ ap (λ (xs : List Record). h.done ++ xs) none ∙ nil-right h.done in
     subst (λ (xs : List Record). ComesTo s es os c.loop-rec.self (g.D.Disk.state c.loop-rec.disk).model false (fold (handles_on storage s) (on_disk call d c.args.self.now.signer.seat) xs)) (sym whole) (h.comes s es os call d p on is fine)
+
+pub returns-then-has_failed-clause-plays : goal.returns-then-has_failed-clause-plays
+returns-then-has_failed-clause-plays g c = λ s es os call p.
+    let h = c.loop-rec.invariant.0 in
+    let r : Record = c.in-Some.rec in
+    let rest = c.next.new.self.rest.items in
+    let next : c.loop-rec.rec-iterator.rest.items ≡ r ∷ rest = c.in-Some.ensures.steps.0 in
+    let whole : c.args.records.items ≡ h.done ++ r ∷ rest = h.split ∙ ap (λ (xs : List Record). h.done ++ xs) next in
+    let behind = extends-trans (handles_all s h.done call) (handles true s (handles_all s h.done call) r) (handles_all s (h.done ++ r ∷ rest) call) (extends-handles s (handles_all s h.done call) r) (handles-further s call h.done rest r) in
+    let further = subst (λ (xs : List Record). Extends (handles_all s h.done call) (handles_all s xs call)) (sym whole) behind in
+    let failed = ap (λ (v : Kept). v.telling.failed) (sym c.self.view_is) ∙ sym c.has_failed.ensures ∙ c.if-has_failed.true in
+    plays-stuck s es os c.loop-rec.self (handles_all s h.done call) (handles_all s c.args.records.items call) failed (h.plays s es os call p) further
+
+pub returns-then-has_failed-clause-spends : goal.returns-then-has_failed-clause-spends
+returns-then-has_failed-clause-spends g c = c.loop-rec.invariant.0.spends
+
+pub returns-then-has_failed-clause-closed : goal.returns-then-has_failed-clause-closed
+returns-then-has_failed-clause-closed g c = c.loop-rec.invariant.0.closed
+
+pub returns-then-has_failed-clause-follows : goal.returns-then-has_failed-clause-follows
+returns-then-has_failed-clause-follows g c = λ s es os call d p on is fine.
+    let failed = ap (λ (v : Kept). v.telling.failed) (sym c.self.view_is) ∙ sym c.has_failed.ensures ∙ c.if-has_failed.true in
+    absurd (false≢true (sym fine ∙ failed))

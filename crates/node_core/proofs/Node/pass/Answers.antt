@@ -13,7 +13,7 @@ use Rattle.std.proofs.Common.{refl}
 use Rattle.node_core.specs.Told.{Tellings}
 use Rattle.node_core.proofs.HearLemmas.{grows-probed}
 use Rattle.node_core.specs.Spending.{SignsNothing, spent_told}
-use Rattle.node_core.proofs.SpendLemmas.{open-further, spends-none, spends-after}
+use Rattle.node_core.proofs.SpendLemmas.{open-further, still-failed, spends-none, spends-after}
 use Rattle.signer.specs.Signing.{SignerState}
 use Rattle.std.proofs.Common.{ℕ, List}
 use Rattle.std.specs.Prelude.{is_err}
@@ -91,7 +91,8 @@ returns-in-Ok-clause-spends g c =
       signer = ap (λ (v : Kept). v.signer) c.self.view_is ∙ quiet.signer;
       told_none = ap (λ (v : Kept). spent_told v.telling.events) c.self.view_is ∙ quiet.told_none;
     } in
-    spends-after c.args.self.now v2 c.pass_due.new.self _ _ none c.pass_due.ensures.spends
+    spends-after c.args.self.now v2 c.pass_due.new.self _ _ none
+    (λ failed. ap (λ (v : Kept). v.telling.failed) c.self.view_is ∙ still-failed c.args.self.now c.live_tick.new.self c.live_tick.ensures.grows failed) c.pass_due.ensures.spends
 
 pub returns-in-Err-clause-spends : goal.returns-in-Err-clause-spends
 returns-in-Err-clause-spends g c =

@@ -37,7 +37,7 @@ returns-clause-spends g c =
 pub returns-then-give_back-clause-spends : goal.returns-then-give_back-clause-spends
 returns-then-give_back-clause-spends g c =
     let r = c.in_ok-ready.ready in
-    signed-untold c.args.signer r.signer _ _ (record { index = r.index; body = bodies.Note r.note } ∷ []) c.in_ok-ready.ensures.key
+    signed-untold c.args.signer r.signer _ _ (record { index = r.index; body = bodies.Note r.note }) c.in_ok-ready.ensures.key
 
 pub returns-clause-vouchable : goal.returns-clause-vouchable
 returns-clause-vouchable g c = λ s setting. vouchable s c.args.kit c.args.signer setting c.requires.kit c.in_ok-ready.ensures.free

@@ -13,7 +13,7 @@ use Rattle.node_core.specs.Playing.{Plays, Kept}
 use Rattle.node_core.specs.contracts.Node.{the_view}
 use Rattle.node_core.proofs.PlayLemmas.{signer-at, stopped-at, used_up-at, signed-at, grows-signer, wants-refused, next-own-is, refused-keeps}
 use Rattle.node_core.specs.Signatures.{next_own}
-use Rattle.node_core.proofs.SpendLemmas.{lives-signed, signed-spends, unsigned-spends, refused-none}
+use Rattle.node_core.proofs.SpendLemmas.{lives-signed, signed-spends, unsigned-spends, spends-none, nothing-same, refused-none}
 use Rattle.node_rules.specs.Calls.{wants}
 use Rattle.epoch_store.specs.Asked.{put_calls}
 use Rattle.std.proofs.Common.{true, false}
@@ -21,8 +21,10 @@ use Rattle.epoch_store.specs.declared.Stored.{Stored}
 use Rattle.signer.specs.Signing.{after_signing, stored_after}
 use Rattle.signer.specs.Signs.{MakesFrom}
 use Rattle.node_core.proofs.PlayLemmas.{free-below}
-use Rattle.node_core.proofs.DiskLemmas.{stores-idle, stores-signed, fails-signed, wants-stored}
+use Rattle.node_core.proofs.DiskLemmas.{stores-idle, stores-none, stores-signed, fails-signed, wants-stored}
 use Rattle.node_core.specs.OnDisks.{Stores, FailsToStore}
+use Rattle.node_core.proofs.DueLemmas.{plays-stuck}
+use Rattle.node_core.proofs.ExtendLemmas.{extends-wants}
 use Rattle.node_core.proofs.Node.want_note.Goals as goal
 
 pub returns-in-Err-StoreFault-clause-plays : goal.returns-in-Err-StoreFault-clause-plays
@@ -61,19 +63,19 @@ returns-in-Note-clause-spends g c =
     let b : Body = next_note c.self.inside.signer.state c.self.inside.me c.args.mask in
     let note-is : bodies.Note c.in-Note.note ≡ b = search rules in
     let lives = lives-signed c.self.inside.signer c.sign_note.new.self b (Ok c.in-Ok.rec) _ _ c.in-Ok.ensures in
-    signed-spends v c.args.self.now c.pass_on_note.new.self c.sign_note.new.self _ _ c.state-index.result.next (bodies.Note c.in-Note.note) b c.self.view_is (ap (λ x. x.next) c.state-index.ensures) note-is lives c.pass_on_note.ensures.spent
+    signed-spends v c.args.self.now c.pass_on_note.new.self c.sign_note.new.self _ _ c.state-index.result.next (bodies.Note c.in-Note.note) b c.self.view_is (sym c.has_failed.ensures ∙ c.if-has_failed.false) (ap (λ x. x.next) c.state-index.ensures) note-is lives c.pass_on_note.ensures.spent
 
 pub returns-in-Err-StoreFault-clause-spends : goal.returns-in-Err-StoreFault-clause-spends
 returns-in-Err-StoreFault-clause-spends g c =
     let b : Body = next_note c.self.inside.signer.state c.self.inside.me c.args.mask in
     let lives = lives-signed c.self.inside.signer c.sign_note.new.self b (Err c.in-Err-StoreFault.field-0) _ _ c.in-Err-StoreFault.ensures in
-    unsigned-spends (the_view c.self.inside) c.args.self.now c.tell-in-Err-StoreFault.new.self c.sign_note.new.self _ _ c.self.view_is lives c.tell-in-Err-StoreFault.ensures.signs_nothing
+    unsigned-spends (the_view c.self.inside) c.args.self.now c.tell-in-Err-StoreFault.new.self c.sign_note.new.self _ _ c.self.view_is (sym c.has_failed.ensures ∙ c.if-has_failed.false) lives c.tell-in-Err-StoreFault.ensures.signs_nothing
 
 pub returns-in-Err-Exhausted-clause-spends : goal.returns-in-Err-Exhausted-clause-spends
 returns-in-Err-Exhausted-clause-spends g c =
     let b : Body = next_note c.self.inside.signer.state c.self.inside.me c.args.mask in
     let lives = lives-signed c.self.inside.signer c.sign_note.new.self b (Err c.in-Err-Exhausted.field-0) _ _ c.in-Err-Exhausted.ensures in
-    unsigned-spends (the_view c.self.inside) c.args.self.now c.tell.new.self c.sign_note.new.self _ _ c.self.view_is lives c.tell.ensures.signs_nothing
+    unsigned-spends (the_view c.self.inside) c.args.self.now c.tell.new.self c.sign_note.new.self _ _ c.self.view_is (sym c.has_failed.ensures ∙ c.if-has_failed.false) lives c.tell.ensures.signs_nothing
 
 pub returns-in-Err-OutOfMemory-clause-spends : goal.returns-in-Err-OutOfMemory-clause-spends
 returns-in-Err-OutOfMemory-clause-spends g c =
@@ -81,7 +83,7 @@ returns-in-Err-OutOfMemory-clause-spends g c =
     let b : Body = next_note c.self.inside.signer.state c.self.inside.me c.args.mask in
     let lives = lives-signed c.self.inside.signer c.sign_note.new.self b (Err c.in-Err-OutOfMemory.field-0) _ _ c.in-Err-OutOfMemory.ensures in
     let v1 : Kept = record v { signer = c.sign_note.new.self } in
-    unsigned-spends v c.args.self.now _ c.sign_note.new.self _ _ c.self.view_is lives (refused-none v1 v1 _ refl refl c.fail.ensures)
+    unsigned-spends v c.args.self.now _ c.sign_note.new.self _ _ c.self.view_is (sym c.has_failed.ensures ∙ c.if-has_failed.false) lives (refused-none v1 v1 _ refl refl c.fail.ensures)
 
 pub returns-in-Err-OutOfMemory-clause-plays : goal.returns-in-Err-OutOfMemory-clause-plays
 returns-in-Err-OutOfMemory-clause-plays g c = λ s es os call p.
@@ -123,3 +125,15 @@ returns-in-Err-StoreFault-clause-fails g c = λ s es os call p fine.
     let kept : Stored = (wants true s (next_own s call.node c.args.mask) (addressees s None) call).node.stored in
     subst (λ (w : Kept). FailsToStore kept w.signer told.new.self.signer x y) c.self.view_is
     (fails-signed v.signer c.sign_note.new.self told.new.self.signer b kept x y after told.ensures.signs_nothing.signer (subst (λ (f : SignFault). MakesFrom {T = CheckedRecord} (Err f) (put_calls v.signer.seat (stored_after v.signer.state b)) x y) c.in-Err-StoreFault.field-0-is c.in-Err-StoreFault.ensures.follows) (wants-stored s (next_own s call.node c.args.mask) None call free ∙ ap (λ (x : Body). stored_after call.node.stored x) (sym (next-own-is s v call.node c.args.mask h.is)) ∙ ap (λ (k : Stored). stored_after k b) (sym h.is.stored)))
+
+pub returns-then-has_failed-clause-plays : goal.returns-then-has_failed-clause-plays
+returns-then-has_failed-clause-plays g c = λ s es os call p.
+    let b : Body = next_own s call.node c.args.mask in
+    let failed = ap (λ (v : Kept). v.telling.failed) (sym c.self.view_is) ∙ sym c.has_failed.ensures ∙ c.if-has_failed.true in
+    plays-stuck s es os c.args.self.now call (wants true s b (addressees s None) call) failed p (extends-wants s b (addressees s None) call)
+
+pub returns-then-has_failed-clause-spends : goal.returns-then-has_failed-clause-spends
+returns-then-has_failed-clause-spends g c = spends-none c.args.self.now c.args.self.now _ (nothing-same c.args.self.now)
+
+pub returns-then-has_failed-clause-stores : goal.returns-then-has_failed-clause-stores
+returns-then-has_failed-clause-stores g c = stores-none c.args.self.now.signer c.args.self.now.signer (g.D.Disk.state c.args.disk.now).model refl
