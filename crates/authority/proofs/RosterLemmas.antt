@@ -10,9 +10,8 @@ use Rattle.schedule_texts.specs.declared.roster.RosterText.{RosterText}
 use Rattle.schedule_texts.specs.declared.roster.RosterText.TheVariants as roster
 use Rattle.schedule_texts.specs.RosterGrammar.{IsRoster}
 use Rattle.schedule_texts.specs.RosterLaws.{roster-spelled}
-use Rattle.schedule_texts.specs.Shared.{group_shape, group_values}
-use Rattle.schedule_texts.specs.Spelling.{IsGroup}
-use Rattle.schedule_texts.specs.SharedLaws.{group-is}
+use Rattle.schedule_texts.specs.Shared.{IsGroup, group_shape, group_values}
+use Rattle.schedule_texts.proofs.FieldLemmas.{group-is}
 use Rattle.play.specs.Plays.{IoState}
 use Rattle.whole_text.specs.Gathered.{IsWhole, lines_from, unread}
 use Rattle.whole_text.proofs.GatherLemmas.{line-is}

@@ -10,9 +10,8 @@ use Rattle.schedule_texts.specs.declared.secret.SecretText.{SecretText}
 use Rattle.schedule_texts.specs.declared.secret.SecretText.TheVariants as secret
 use Rattle.schedule_texts.specs.SecretGrammar.{IsSecret}
 use Rattle.schedule_texts.specs.SecretLaws.{secret-spelled}
-use Rattle.schedule_texts.specs.Shared.{group_shape, group_values}
-use Rattle.schedule_texts.specs.Spelling.{IsGroup}
-use Rattle.schedule_texts.specs.SharedLaws.{group-is}
+use Rattle.schedule_texts.specs.Shared.{IsGroup, group_shape, group_values}
+use Rattle.schedule_texts.proofs.FieldLemmas.{group-is}
 use Rattle.play.specs.Plays.{IoState}
 use Rattle.whole_text.specs.Gathered.{IsWhole, lines_from, unread}
 use Rattle.whole_text.proofs.GatherLemmas.{line-is}

@@ -7,7 +7,7 @@ use Rattle.schedule_texts.specs.declared.line.RosterLine.TheVariants as asked
 use Rattle.schedule_texts.specs.declared.line.SecretLine.{SecretLine}
 use Rattle.schedule_texts.specs.declared.roster.RosterText.TheVariants as roster
 use Rattle.schedule_texts.specs.declared.secret.SecretText.TheVariants as secret
-use Rattle.schedule_texts.specs.Spelling.{IsGroup}
+use Rattle.schedule_texts.specs.Shared.{IsGroup}
 use Rattle.whole_text.specs.Gathered.{IsWhole}
 use Rattle.authority.specs.declared.setting.Setting.{Setting}
 use Rattle.authority.specs.Settings.{roster_judging, roster_setting, secret_judging, secret_setting}

@@ -2,7 +2,7 @@
 
 ghost use Rattle.std.specs.Prelude.{◌≡◌, true, IfOk, IfErr};
 ghost use Rattle.play.specs.Plays.{io};
-ghost use Rattle.schedule_texts.specs.Spelling.{IsGroup};
+ghost use Rattle.schedule_texts.specs.Shared.{IsGroup};
 ghost use Rattle.schedule_texts.specs.declared.roster.RosterText.TheVariants as roster;
 ghost use Rattle.schedule_texts.specs.declared.secret.SecretText.TheVariants as secret;
 ghost use Rattle.whole_text.specs.Gathered.{IsUnfinished};

@@ -1,15 +1,15 @@
 -- Fields: what passes a test is spelled in one way and in range, and what is spelled so passes.
-use Rattle.std.proofs.Common.{◌≡◌, ℕ, zero, suc, ◌-◌, ◌^◌, ◌<◌, ◌≤◌, Bool, true, false, cond, ltb, leb, eqb, List, [], ◌∷◌, length, get_or, map, replicate, Option, Some, None, Result, Ok, inl, inr, refl, sym, ap, subst, ◌∙◌, arith, rules, lt-ltb, eq-eqb, ltb-true}
+use Rattle.std.proofs.Common.{◌≡◌, ℕ, ◌^◌, ◌<◌, ◌≤◌, Bool, true, false, cond, ltb, leb, eqb, List, [], ◌∷◌, length, get_or, Option, Some, None, Result, Ok, inl, inr, refl, sym, ap, subst, ◌∙◌, arith, rules, lt-ltb, eq-eqb, ltb-true}
 use Rattle.std.specs.Char.{is_ascii_digit}
 use Rattle.std.specs.Fmt.{decimal}
-use Rattle.std.specs.List.{list_all, AllByRecursion}
-use Rattle.std.proofs.lemmas.Bool.{cases_Bool, cases_lt, leb-true, le-leb, ne_eqb, eqb-true, eqb-false, and_parts, and_right, not-true, not-false}
+use Rattle.std.specs.List.{list_all}
+use Rattle.std.proofs.lemmas.Bool.{cases_Bool, cases_lt, leb-true, ne_eqb, eqb-true, eqb-false, and_parts, and_right, not-true, not-false}
 use Rattle.std.proofs.lemmas.Fmt.{decimal-digits_value, digits_decimal, digits_value-decimal, decimal_nonempty, first_decimal, decimal_digit}
 use Rattle.std.proofs.lemmas.Str.Parse.{IsNumeralModel, numerals_by_fold}
 use Rattle.line_text.specs.declared.bad_word.BadWord.{BadWord}
 use Rattle.line_text.specs.declared.bad_word.BadWord.TheVariants as bad
-use Rattle.line_text.specs.Fields.{Test, bad_number, is_within, number, number_32, number_in, or_zero}
-use Rattle.line_text.specs.Frame.{field_tests, fields_line, first_of, first_word, second_word, third_word, fourth_word, word_tests}
+use Rattle.line_text.specs.Fields.{Test, bad_number, is_within, number, number_in, or_zero}
+use Rattle.line_text.specs.Frame.{field_tests, first_of, first_word, second_word, unless_bad, whole_line, word_tests}
 use Rattle.line_text.specs.Numbers.{read_digits, has_leading_zero, is_numeral, fits_64, number_of}
 use Rattle.line_text.proofs.FrameLemmas.{or_none, passed, unless_ok}
 
@@ -102,19 +102,13 @@ numbered low high word (Some n) is e =
 pub number-good : (low high : ℕ) (word : List ℕ) → number low high word ≡ None → IsNumber low high word
 number-good low high word e = numbered low high word (number_of word) refl e
 
-pub number-decimal : (low high n : ℕ) → low ≤ n → n ≤ high → high < 2 ^ 64 → number low high (decimal n) ≡ None
-number-decimal low high n h k wide =
-    rw (number_of-decimal n (omega (arith, k, wide))) (rw (le-leb low n h, le-leb n high k) refl)
-
-pub number_in-decimal : (n : ℕ) → n < 2 ^ 64 → number_in (decimal n) ≡ n
-number_in-decimal n small = ap or_zero (number_of-decimal n small)
-
 -- ## A row
 
 -- The words pass the row's tests, and are this line.
-pub record Passed {L : Type 0} (fields : List Test) (line : List (List ℕ) → L) (words : List (List ℕ)) (l : L) : Type 0 where
+pub record Passed {L : Type 0} (fields : List Test) (whole_fault : List (List ℕ) → Option BadWord) (line : List (List ℕ) → L) (words : List (List ℕ)) (l : L) : Type 0 where
   pub many : length words ≡ length fields
   pub good : first_of (word_tests fields words) ≡ None
+  pub whole : whole_fault words ≡ None
   pub same : line words ≡ l
 
 abbrev right : {L : Type 0} → L → Result L BadWord
@@ -123,18 +117,21 @@ right x = Ok x
 ok_is : {L : Type 0} (x y : L) → right x ≡ right y → x ≡ y
 ok_is x y e = cc
 
-pub fields_line-ok : {L : Type 0} (fields : List Test) (line : List (List ℕ) → L) (words : List (List ℕ)) (l : L) → fields_line fields line words ≡ Ok l → Passed fields line words l
-fields_line-ok fields line words l e =
-    let u = unless_ok (first_of (field_tests fields words)) (right (line words)) l e in
-    let p = or_none _ _ u.0 in
-    record {
-      many = eqb-true (length words) (length fields) (not-false _ (passed bad.Count _ p.0));
-      good = p.1;
-      same = ok_is (line words) l u.1;
-    }
+module _ {L : Type 0} (fields : List Test) (whole_fault : List (List ℕ) → Option BadWord) (line : List (List ℕ) → L) (words : List (List ℕ)) where
+  pub whole_line-ok : (l : L) → whole_line fields whole_fault line words ≡ Ok l → Passed fields whole_fault line words l
+  whole_line-ok l e =
+      let u = unless_ok (first_of (field_tests fields words)) (unless_bad (whole_fault words) (right (line words))) l e in
+      let v = unless_ok (whole_fault words) (right (line words)) l u.1 in
+      let p = or_none _ _ u.0 in
+      record {
+        many = eqb-true (length words) (length fields) (not-false _ (passed bad.Count _ p.0));
+        good = p.1;
+        whole = v.0;
+        same = ok_is (line words) l v.1;
+      }
 
-pub fields_line-good : {L : Type 0} (fields : List Test) (line : List (List ℕ) → L) (words : List (List ℕ)) → length words ≡ length fields → first_of (word_tests fields words) ≡ None → fields_line fields line words ≡ Ok (line words)
-fields_line-good fields line words many good = rw (eq-eqb (length words) (length fields) many) (rw good refl)
+  pub whole_line-good : length words ≡ length fields → first_of (word_tests fields words) ≡ None → whole_fault words ≡ None → whole_line fields whole_fault line words ≡ Ok (line words)
+  whole_line-good many good whole = rw (eq-eqb (length words) (length fields) many) (rw (good, whole) refl)
 
 -- ## So many words
 
@@ -149,43 +146,3 @@ one_word (w ∷ words) e = ap (λ (more : List (List ℕ)). w ∷ more) (no_word
 pub two_words : (words : List (List ℕ)) → length words ≡ 2 → words ≡ first_word words ∷ second_word words ∷ []
 two_words [] e = absurd (omega arith)
 two_words (w ∷ words) e = ap (λ (more : List (List ℕ)). w ∷ more) (one_word words (omega arith))
-
-pub three_words : (words : List (List ℕ)) → length words ≡ 3 → words ≡ first_word words ∷ second_word words ∷ third_word words ∷ []
-three_words [] e = absurd (omega arith)
-three_words (w ∷ words) e = ap (λ (more : List (List ℕ)). w ∷ more) (two_words words (omega arith))
-
-pub four_words : (words : List (List ℕ)) → length words ≡ 4 → words ≡ first_word words ∷ second_word words ∷ third_word words ∷ fourth_word words ∷ []
-four_words [] e = absurd (omega arith)
-four_words (w ∷ words) e = ap (λ (more : List (List ℕ)). w ∷ more) (three_words words (omega arith))
-
--- ## Numbers of 32 bits, as many as there are
-
-pub record AreNumbers (words : List (List ℕ)) : Type 0 where
-  pub spelled : words ≡ map decimal (map number_in words)
-  pub range : AllByRecursion (λ n. n ≤ 2 ^ 32 - 1) (map number_in words)
-
-pub numbers-good : (many : ℕ) (words : List (List ℕ)) → length words ≡ many → first_of (word_tests (replicate many number_32) words) ≡ None → AreNumbers words
-numbers-good many [] e good = record { spelled = refl; range = tt }
-numbers-good zero (w ∷ words) e good = absurd (omega arith)
-numbers-good (suc many) (w ∷ words) e good =
-    let p = or_none _ _ good in
-    let first = number-good 0 (2 ^ 32 - 1) w p.0 in
-    let others = numbers-good many words (omega arith) p.1 in
-    record {
-      spelled = ap (λ (v : List ℕ). v ∷ words) first.spelled ∙ ap (λ (more : List (List ℕ)). decimal (number_in w) ∷ more) others.spelled;
-      range = (first.high, others.range);
-    }
-
-pub numbers-again : (ns : List ℕ) → AllByRecursion (λ n. n ≤ 2 ^ 32 - 1) ns → first_of (word_tests (replicate (length ns) number_32) (map decimal ns)) ≡ None
-numbers-again [] h = refl
-numbers-again (n ∷ ns) h =
-    let first = number-decimal 0 (2 ^ 32 - 1) n (omega arith) h.0 (omega arith) in
-    let others = numbers-again ns h.1 in
-    rw (first, others) refl
-
-pub numbers_in-decimals : (ns : List ℕ) → AllByRecursion (λ n. n ≤ 2 ^ 32 - 1) ns → map number_in (map decimal ns) ≡ ns
-numbers_in-decimals [] h = refl
-numbers_in-decimals (n ∷ ns) h =
-    let first = number_in-decimal n (omega (arith, h.0)) in
-    let others = numbers_in-decimals ns h.1 in
-    rw (first, others) refl

@@ -16,7 +16,7 @@ use Rattle.line_text.specs.declared.bad_word.LineFault.{LineFault}
 use Rattle.line_text.specs.declared.bad_word.LineFault.TheVariants as faults
 use Rattle.line_text.specs.Answers.{AnswersBy, AnswersThat, Refuses}
 use Rattle.line_text.specs.Fields.{bad_where}
-use Rattle.line_text.specs.Frame.{IsLine, Next, Row, before_line_feed, behind, field_tests, fields_line, first_bad, first_of, frame_tests, has_line_feed, header_row, is_header, judge, known_row, line_bytes, or_else, row_line, row_of_line, row_tests, text_lines, unless_bad, word_among, word_or_bad, words_in}
+use Rattle.line_text.specs.Frame.{IsLine, Next, Row, before_line_feed, behind, field_tests, first_bad, first_of, frame_tests, has_line_feed, header_row, is_header, judge, line_bytes, or_else, row_line, row_of_line, row_tests, text_lines, unless_bad, word_among, words_in}
 use Rattle.line_text.specs.Words.{is_space, is_printable, is_word, is_spaced, parts}
 
 -- ## Tests that did not hold
@@ -152,17 +152,16 @@ tests_stand : {L : Type 0} (stands : Bool) (b : Option BadWord) (r : Result L Ba
 tests_stand true b r h = h
 tests_stand false b r h = refl
 
-or_nothing : (a : Option BadWord) → a ≡ or_else a None
-or_nothing None = refl
-or_nothing (Some w) = refl
-
 row_tested : {L : Type 0} (row : Result (Row L) BadWord) (words : List (List ℕ)) → Tests (first_of (row_tests row words)) (row_line row words)
 row_tested (Err w) words = refl
 row_tested {L} (Ok row) words =
-    let b = first_of (field_tests row.fields words) in
+    let a = field_tests row.fields words in
+    let f = row.whole_fault words in
     let good : Result L BadWord = Ok (row.line words) in
-    let tested : Tests b (unless_bad b good) = subst (λ (w : Option BadWord). Tests w (unless_bad b good)) (sym (or_nothing b)) (tests_unless b None good refl) in
-    tests_stand row.stands b (unless_bad b good) tested
+    let whole = tests_unless f None good refl in
+    let each = tests_unless (first_of a) (or_else f None) (unless_bad f good) whole in
+    let judged : Result L BadWord = unless_bad (first_of a) (unless_bad f good) in
+    tests_stand row.stands (first_of (a ++ f ∷ [])) judged (subst (λ (w : Option BadWord). Tests w judged) (sym (first_of-append a (f ∷ []))) each)
 
 -- A line is refused by its first bad word, and taken where it has none.
 pub judge-first_bad : {L : Type 0} (next : Next L) (bytes : List ℕ) → Tests (first_bad next bytes) (judge next bytes)
@@ -239,20 +238,11 @@ pub stood : {A : Type 0} (b : Bool) (r : Result A BadWord) (w : BadWord) (x : A)
 stood true r w x e = (refl, e)
 stood false r w x e = cc
 
--- what was read behind a line word that may stand here is what its row says
-pub known-read : {W L : Type 0} (Takes : L → Type 0) (row : W → Row L) (o : Option W) (k : W) (words args : List (List ℕ)) (answer : Result L LineFault) → word_or_bad o ≡ Ok k → (row k).stands ≡ true → args ≡ behind words → AnswersBy Takes (fields_line (row k).fields (row k).line args) answer
-    → AnswersBy Takes (row_line (known_row row o) (behind words)) answer
-known-read {W} {L} Takes row None k words args answer word may same h = cc
-known-read {W} {L} Takes row (Some j) k words args answer word may same h =
-    let is : k ≡ j = cc in
-    subst (λ (i : W). AnswersBy Takes (row_line (known_row row (Some i)) (behind words)) answer) is
-    (rw may (subst (λ (ws : List (List ℕ)). AnswersBy Takes (fields_line (row k).fields (row k).line ws) answer) same h))
-
 -- ## Headers
 
 -- a header is a line by its row
-pub header-line : {L : Type 0} (form : List ℕ) (words : List (List ℕ)) (line : L) → is_header form words ≡ true → row_line (Ok (header_row line)) (behind words) ≡ Ok line
-header-line form words line h =
+pub header_read : {L : Type 0} (form : List ℕ) (words : List (List ℕ)) (line : L) → is_header form words ≡ true → Ok line ≡ row_line (Ok (header_row line)) (behind words)
+header_read form words line h =
     let p = and_parts _ _ h in
     let many : eqb (length (behind words)) 2 ≡ true = (and_parts _ _ p.1).0 in
     rw many refl
@@ -269,14 +259,15 @@ abbrev pub mapped : {L M : Type 0} → (L → M) → Result L BadWord → Result
 mapped of (Err w) = Err w
 mapped of (Ok l) = Ok (of l)
 
-mapped_row : {L M : Type 0} (of : L → M) (stands : Bool) (bad_word : Option BadWord) (l : L) → cond stands (unless_bad bad_word (right (of l))) (Err bad.Order) ≡ mapped of (cond stands (unless_bad bad_word (right l)) (Err bad.Order))
-mapped_row of false bad_word l = refl
-mapped_row of true None l = refl
-mapped_row of true (Some w) l = refl
+mapped_row : {L M : Type 0} (of : L → M) (stands : Bool) (bad_word whole : Option BadWord) (l : L) → cond stands (unless_bad bad_word (unless_bad whole (right (of l)))) (Err bad.Order) ≡ mapped of (cond stands (unless_bad bad_word (unless_bad whole (right l))) (Err bad.Order))
+mapped_row of false bad_word whole l = refl
+mapped_row of true None None l = refl
+mapped_row of true None (Some w) l = refl
+mapped_row of true (Some w) whole l = refl
 
 pub row_mapped : {L M : Type 0} (of : L → M) (row : Result (Row L) BadWord) (words : List (List ℕ)) → row_line (row_of_line of row) words ≡ mapped of (row_line row words)
 row_mapped of (Err w) words = refl
-row_mapped of (Ok row) words = mapped_row of row.stands (first_of (field_tests row.fields words)) (row.line words)
+row_mapped of (Ok row) words = mapped_row of row.stands (first_of (field_tests row.fields words)) (row.whole_fault words) (row.line words)
 
 -- a line by the row of its form is one among those of several forms
 pub row_of_line-line : {L M : Type 0} (of : L → M) (row : Result (Row L) BadWord) (words : List (List ℕ)) (l : L) → row_line row words ≡ Ok l → row_line (row_of_line of row) words ≡ Ok (of l)

@@ -189,6 +189,18 @@ below_256 (upper ∷ lower ∷ word) (b ∷ bs) h zero =
     omega (arith, high, low, h.0.value)
 below_256 (upper ∷ lower ∷ word) (b ∷ bs) h (suc k) = below_256 word bs h.1 k
 
+none_of_length : (within fits : Bool) (w : BadWord) → (within ≡ false → fits ≡ false) → cond within none_bad (Some bad.Limit) ≡ Some w → cond fits none_bad (Some bad.Limit) ≡ Some w
+none_of_length true fits w h e = absurd cc
+none_of_length false fits w h e = rw (h refl) e
+
+out_of_length : {V E : Type 0} (read : List ℕ → Result V E) (many : ℕ) → ((b : List ℕ) → eqb (length b) many ≡ false → is_ok (read b) ≡ false) → (o : Option (List ℕ)) (w : BadWord) → bad_bytes (λ b. eqb (length b) many) o ≡ Some w → bad_bytes (λ b. is_ok (read b)) o ≡ Some w
+out_of_length read many long None w e = e
+out_of_length read many long (Some b) w e = none_of_length (eqb (length b) many) (is_ok (read b)) w (long b) e
+
+-- what are no bytes of this length are no value that has so many
+pub no_value : {V E : Type 0} (read : List ℕ → Result V E) (many : ℕ) → ((b : List ℕ) → eqb (length b) many ≡ false → is_ok (read b) ≡ false) → (word : List ℕ) (w : BadWord) → hex many word ≡ Some w → hex_that (λ b. is_ok (read b)) word ≡ Some w
+no_value read many long word w e = out_of_length read many long (hex_of word) w e
+
 module _ {V E : Type 0} (read : List ℕ → Result V E) (any : V) (Are : List ℕ → V → Type 0) where
   as_read : ((b : List ℕ) (v : V) → AreBytes b → read b ≡ Ok v → Are b v) → (word b : List ℕ) (r : Result V E) → SpellsBytes word b → read b ≡ r → is_ok r ≡ true → SpellsAs Are word (or_any any r)
   as_read are word b (Ok v) digits is ok = record { bytes = b; digits = digits; are = are b v (below_256 word b digits) is }

@@ -1,15 +1,13 @@
 -- What a table takes as a line is one by its grammar, and what is one is taken.
-use Rattle.std.proofs.Common.{◌≡◌, ℕ, Bool, true, false, cond, List, [], ◌∷◌, length, Option, Some, None, Result, Ok, Err, refl, sym, ap, subst, ◌∙◌, codes}
+use Rattle.std.proofs.Common.{◌≡◌, ℕ, Bool, true, false, cond, List, [], ◌∷◌, length, Option, Some, None, Ok, Err, refl, sym, ap, subst, ◌∙◌, codes}
 use Rattle.std.proofs.lemmas.Bool.{and_parts, eqb-true}
 use Rattle.std.proofs.lemmas.Slice.Eq.{bytes_eq-Decides}
 use Rattle.line_text.specs.declared.bad_word.BadWord.TheVariants as bad
-use Rattle.line_text.specs.declared.bad_word.LineFault.{LineFault}
-use Rattle.line_text.specs.Answers.{AnswersBy}
-use Rattle.line_text.specs.Frame.{behind, fields_line, first_word, header_row, is_header, known_row, row_line, second_word, word_among, word_or_bad}
-use Rattle.line_text.specs.Shapes.{have_one_word, line_from, made_of, tests, values, words_for}
+use Rattle.line_text.specs.Frame.{behind, first_word, header_row, is_header, known_row, row_line, second_word, whole_line, word_among}
+use Rattle.line_text.specs.Shapes.{Values, have_one_word, line_from, made_of, tests, values, words_for}
 use Rattle.line_text.specs.Tables.{Header, InRange, IsHeader, IsRow, IsSound, Line, Parts, PartsInRange, PartsStand, Spells, SpellsParts, Stands, Table, row_for, row_of, start_row, words_of, words_of_parts}
-use Rattle.line_text.proofs.FieldLemmas.{fields_line-good, fields_line-ok, two_words}
-use Rattle.line_text.proofs.FrameLemmas.{known-read, stood, word_among-text}
+use Rattle.line_text.proofs.FieldLemmas.{two_words, whole_line-good, whole_line-ok}
+use Rattle.line_text.proofs.FrameLemmas.{stood, word_among-text}
 use Rattle.line_text.proofs.ShapeLemmas.{AllHaveWords, all-in_range, all-made, all-own, all-spelled, all-taken, all-words, digits_among, has_one_digits}
 
 -- the words of a header
@@ -28,14 +26,6 @@ header_words form first args h =
 pub header_again : (form : List ℕ) → is_header form (codes "fireflies" ∷ codes "1" ∷ form ∷ []) ≡ true
 header_again form = rw ((bytes_eq-Decides form form).1 refl) refl
 
--- what was read behind a line word that may stand here is what the table says
-pub table-read : {F W L : Type 0} (t : Table F W L) (Takes : L → Type 0) (s : F) (words : List (List ℕ)) (first : List ℕ) (k : W) (args : List (List ℕ)) (line : List (List ℕ) → L) (answer : Result L LineFault)
-    → t.is_start s ≡ false → first ≡ first_word words → word_or_bad (word_among t.text t.words first) ≡ Ok k → t.may_stand s k ≡ true → args ≡ behind words → line ≡ line_from (t.fields s k) (t.line s k)
-    → AnswersBy Takes (fields_line (tests (t.fields s k)) line args) answer → AnswersBy Takes (row_line (row_for t s words) (behind words)) answer
-table-read {F} {W} {L} t Takes s words first k args line answer start is word may same made h =
-    let read = known-read Takes (row_of t s) (word_among t.text t.words first) k words args answer word may same (subst (λ (of : List (List ℕ) → L). AnswersBy Takes (fields_line (tests (t.fields s k)) of args) answer) made h) in
-    rw start (subst (λ (w : List ℕ). AnswersBy Takes (row_line (known_row (row_of t s) (word_among t.text t.words w)) (behind words)) answer) is read)
-
 module _ {F W L : Type 0} (t : Table F W L) (sound : IsSound t) where
   -- ## What is taken is a line
 
@@ -43,8 +33,9 @@ module _ {F W L : Type 0} (t : Table F W L) (sound : IsSound t) where
   known_spelled s None first args l start is e = cc
   known_spelled s (Some word) first args l start is e =
       let fs = t.fields s word in
-      let h = stood (t.may_stand s word) (fields_line (tests fs) (line_from fs (t.line s word)) args) bad.Order l e in
-      let p = fields_line-ok (tests fs) (line_from fs (t.line s word)) args l h.1 in
+      let fault = (row_of t s word).whole_fault in
+      let h = stood (t.may_stand s word) (whole_line (tests fs) fault (line_from fs (t.line s word)) args) bad.Order l e in
+      let p = whole_line-ok (tests fs) fault (line_from fs (t.line s word)) args l h.1 in
       let first_is : first ≡ t.text word = word_among-text t.text t.words first word is in
       let row : IsRow t s word (values fs args) (first ∷ args) (line_from fs (t.line s word) args) = record {
         below = start;
@@ -52,6 +43,7 @@ module _ {F W L : Type 0} (t : Table F W L) (sound : IsSound t) where
         args = args;
         words = ap (λ (w : List ℕ). w ∷ args) first_is;
         spells = all-spelled fs args p.many p.good;
+        whole = p.whole;
         made = refl;
       } in
       let parted = sound.parted s word (values fs args) in
@@ -59,7 +51,7 @@ module _ {F W L : Type 0} (t : Table F W L) (sound : IsSound t) where
 
   start_spelled : (s : F) (b : Bool) (first : List ℕ) (args : List (List ℕ)) (l : L) → t.is_start s ≡ true → is_header t.form (first ∷ args) ≡ b → row_line (cond b (Ok (header_row t.header)) (Err (t.no_header (first ∷ args)))) args ≡ Ok l → Spells t s (first ∷ args) l
   start_spelled s true first args l start is e =
-      let p = fields_line-ok (header_row t.header).fields (header_row t.header).line args l e in
+      let p = whole_line-ok (header_row t.header).fields (header_row t.header).whole_fault (header_row t.header).line args l e in
       let made : IsHeader t s (first ∷ args) t.header = record { stands = start; words = header_words t.form first args is; made = refl } in
       subst (Spells t s (first ∷ args)) p.same (subst (SpellsParts t s (first ∷ args) t.header) (sym (sound.headed s)) made)
   start_spelled s false first args l start is e = cc
@@ -80,7 +72,8 @@ module _ {F W L : Type 0} (t : Table F W L) (sound : IsSound t) where
   parts_taken s ws l (Line word vs) h =
       let fs = t.fields s word in
       let r = all-taken fs h.args vs h.spells in
-      let good = fields_line-good (tests fs) (line_from fs (t.line s word)) h.args r.many r.good in
+      let whole = ap (t.whole_fault s word) r.same ∙ h.whole in
+      let good = whole_line-good (tests fs) (row_of t s word).whole_fault (line_from fs (t.line s word)) h.args r.many r.good whole in
       rw h.words (rw (h.below, sound.named word, h.stands) (good ∙ ap (λ us. Ok (made_of fs (t.line s word) us)) r.same ∙ ap Ok h.made))
 
   -- What is a line is taken, as that line.
@@ -131,11 +124,11 @@ module _ {F W L : Type 0} (t : Table F W L) (s : F) (digits : List ℕ) (l : L) 
   PartsHaveWords Header = Unit {0}
   PartsHaveWords (Line word vs) = AllHaveWords digits (t.fields s word) vs
 
-  parts_made : ((word : W) → t.may_stand s word ≡ true → t.is_start s ≡ false) → (p : Parts W (t.fields s)) → PartsMake p → PartsStand t s p → PartsInRange (t.fields s) p → PartsHaveWords p → SpellsParts t s (words_of_parts t s digits p) l p
-  parts_made below Header whole stands range has = record { stands = stands; words = refl; made = whole }
-  parts_made below (Line word vs) whole stands range has =
-      record { below = below word stands; stands = stands; args = words_for digits (t.fields s word) vs; words = refl; spells = all-made digits (t.fields s word) vs range has; made = whole }
+  parts_made : ((word : W) → t.may_stand s word ≡ true → t.is_start s ≡ false) → ((word : W) (vs : Values (t.fields s word)) → t.whole_fault s word vs ≡ None) → (p : Parts W (t.fields s)) → PartsMake p → PartsStand t s p → PartsInRange (t.fields s) p → PartsHaveWords p → SpellsParts t s (words_of_parts t s digits p) l p
+  parts_made below whole Header made stands range has = record { stands = stands; words = refl; made = made }
+  parts_made below whole (Line word vs) made stands range has =
+      record { below = below word stands; stands = stands; args = words_for digits (t.fields s word) vs; words = refl; spells = all-made digits (t.fields s word) vs range has; whole = whole word vs; made = made }
 
-  -- The words of a line that may stand here, with its values in range, spell it.
-  pub table-made : ((word : W) → t.may_stand s word ≡ true → t.is_start s ≡ false) → PartsMake (t.parts s l) → Stands t s l → InRange t s l → PartsHaveWords (t.parts s l) → Spells t s (words_of t s digits l) l
-  table-made below whole stands range has = parts_made below (t.parts s l) whole stands range has
+  -- The words of a line that may stand here, with its values in range, spell it, where nothing is refused as a whole.
+  pub table-made : ((word : W) → t.may_stand s word ≡ true → t.is_start s ≡ false) → ((word : W) (vs : Values (t.fields s word)) → t.whole_fault s word vs ≡ None) → PartsMake (t.parts s l) → Stands t s l → InRange t s l → PartsHaveWords (t.parts s l) → Spells t s (words_of t s digits l) l
+  table-made below whole made stands range has = parts_made below whole (t.parts s l) made stands range has

@@ -33,9 +33,6 @@ second_word words = first_word (behind words)
 abbrev pub third_word : List (List ℕ) → List ℕ
 third_word words = first_word (behind (behind words))
 
-abbrev pub fourth_word : List (List ℕ) → List ℕ
-fourth_word words = first_word (behind (behind (behind words)))
-
 -- the words `fireflies 1 FORM`, which head a text of this form
 abbrev pub is_header : List ℕ → List (List ℕ) → Bool
 is_header form words =
@@ -66,10 +63,11 @@ word_tests (field ∷ fields) words = field (first_word words) ∷ word_tests fi
 -- ## What a form says of a line
 
 -- What a form says of the lines with one first word: whether one may stand here, what the words behind it
--- must be, and what line they are.
+-- must be, what refuses words as a whole that are good one by one, and what line they are.
 pub record Row (L : Type 0) : Type 0 where
   pub stands : Bool
   pub fields : List Test
+  pub whole_fault : List (List ℕ) → Option BadWord
   pub line : List (List ℕ) → L
 
 -- the number of words, and then each of them
@@ -80,7 +78,8 @@ field_tests fields words = bad_where bad.Count (not (length words == length fiel
 -- line 1, and else `word`, or `not-built` for a line that isn't read yet.
 abbrev pub row_tests : {L : Type 0} → Result (Row L) BadWord → List (List ℕ) → List (Option BadWord)
 row_tests (Err word) words = Some word ∷ []
-row_tests (Ok row) words = bad_where bad.Order (not row.stands) ∷ field_tests row.fields words
+row_tests (Ok row) words =
+    bad_where bad.Order (not row.stands) ∷ (field_tests row.fields words ++ row.whole_fault words ∷ [])
 
 -- the line word of a word, or that it is none
 abbrev pub word_or_bad : {W : Type 0} → Option W → Result W BadWord
@@ -121,15 +120,21 @@ any_word word = None
 
 -- the row of the header
 abbrev pub header_row : {L : Type 0} → L → Row L
-header_row line = record { stands = true; fields = any_word ∷ any_word ∷ []; line = λ words. line }
+header_row line = record {
+  stands = true;
+  fields = any_word ∷ any_word ∷ [];
+  whole_fault = λ words. None;
+  line = λ words. line;
+}
 
 -- the same row, whose line stands among those of several forms
 abbrev pub row_of_line : {L M : Type 0} → (L → M) → Result (Row L) BadWord → Result (Row M) BadWord
 row_of_line of (Err word) = Err word
-row_of_line of (Ok row) = Ok (record { stands = row.stands; fields = row.fields; line = λ words. of (row.line words) })
+row_of_line of (Ok row) =
+    Ok (record { stands = row.stands; fields = row.fields; whole_fault = row.whole_fault; line = λ words. of (row.line words) })
 
 -- The first bad word of the next line, in the order of the table: after-end, long, line-feed, lines, spaces;
--- header, word or not-built; order; count; and each word's own from the left.
+-- header, word or not-built; order; count; each word's own from the left; and what refuses them as a whole.
 unfoldable pub first_bad : {L : Type 0} → Next L → List ℕ → Option BadWord
 first_bad next bytes =
     first_of (frame_tests next.ended next.number bytes ++ row_tests (next.row (words_in bytes)) (behind (words_in bytes)))
@@ -144,9 +149,14 @@ unless_bad None judged = judged
 abbrev pub fields_line : {L : Type 0} → List Test → (List (List ℕ) → L) → List (List ℕ) → Result L BadWord
 fields_line fields line words = unless_bad (first_of (field_tests fields words)) (Ok (line words))
 
+-- the same, where words that are good one by one may be refused as a whole
+abbrev pub whole_line : {L : Type 0} → List Test → (List (List ℕ) → Option BadWord) → (List (List ℕ) → L) → List (List ℕ) → Result L BadWord
+whole_line fields whole_fault line words =
+    unless_bad (first_of (field_tests fields words)) (unless_bad (whole_fault words) (Ok (line words)))
+
 abbrev pub row_line : {L : Type 0} → Result (Row L) BadWord → List (List ℕ) → Result L BadWord
 row_line (Err word) words = Err word
-row_line (Ok row) words = if row.stands then fields_line row.fields row.line words else Err bad.Order
+row_line (Ok row) words = if row.stands then whole_line row.fields row.whole_fault row.line words else Err bad.Order
 
 -- What the next line is, or its first bad word.
 unfoldable pub judge : {L : Type 0} → Next L → List ℕ → Result L BadWord

@@ -1,9 +1,9 @@
 -- A form of text as a table of its lines: each line word, where its line may stand, its fields, and the line that their
 -- values make. The rows that the form reads by and the grammar of its lines are both made of it.
-use Rattle.std.specs.Prelude.{◌≡◌, ℕ, Bool, true, false, if◌then◌else◌, List, [], ◌∷◌, Some, Result, Ok, Err, codes}
+use Rattle.std.specs.Prelude.{◌≡◌, ℕ, Bool, true, false, if◌then◌else◌, List, [], ◌∷◌, Option, Some, None, Result, Ok, Err, codes}
 use Rattle.line_text.specs.declared.bad_word.BadWord.{BadWord}
 use Rattle.line_text.specs.Frame.{Row, first_word, header_row, is_header, known_row, word_among}
-use Rattle.line_text.specs.Shapes.{AllInRange, Fields, Makes, SpellsAll, Values, line_from, made_of, tests, words_for}
+use Rattle.line_text.specs.Shapes.{AllInRange, Fields, Makes, SpellsAll, Values, line_from, made_of, tests, values, words_for}
 
 -- What a line is made of: it is the header, or has a line word and the values of its fields.
 pub data Parts (W : Type 0) (fields : W → Fields) : Type 0 where
@@ -12,7 +12,8 @@ pub data Parts (W : Type 0) (fields : W → Fields) : Type 0 where
 
 -- A table of the lines L that have the line words W, in the form F: whether nothing has been read; the last word of
 -- the header, the header, and what refuses another; the line words with their texts; where the line of a word may
--- stand; its fields; the line that their values make; and what a line is made of.
+-- stand; its fields; what refuses values as a whole that are good one by one; the line that they make; and what a line
+-- is made of.
 pub record Table (F W L : Type 0) : Type 1 where
   pub is_start : F → Bool
   pub form : List ℕ
@@ -22,13 +23,19 @@ pub record Table (F W L : Type 0) : Type 1 where
   pub text : W → List ℕ
   pub may_stand : F → W → Bool
   pub fields : F → W → Fields
+  pub whole_fault : (s : F) (word : W) → Values (fields s word) → Option BadWord
   pub line : (s : F) (word : W) → Makes (fields s word) L
   pub parts : (s : F) → L → Parts W (fields s)
 
 -- ## The rows
 
 abbrev pub row_of : {F W L : Type 0} → Table F W L → F → W → Row L
-row_of t s word = record { stands = t.may_stand s word; fields = tests (t.fields s word); line = line_from (t.fields s word) (t.line s word) }
+row_of t s word = record {
+  stands = t.may_stand s word;
+  fields = tests (t.fields s word);
+  whole_fault = λ ws. t.whole_fault s word (values (t.fields s word) ws);
+  line = line_from (t.fields s word) (t.line s word);
+}
 
 abbrev pub start_row : {F W L : Type 0} → Table F W L → List (List ℕ) → Result (Row L) BadWord
 start_row t ws = if is_header t.form ws then Ok (header_row t.header) else Err (t.no_header ws)
@@ -44,13 +51,15 @@ pub record IsHeader {F W L : Type 0} (t : Table F W L) (s : F) (ws : List (List 
   pub words : ws ≡ codes "fireflies" ∷ codes "1" ∷ t.form ∷ []
   pub made : t.header ≡ l
 
--- These words are a line word whose line may stand here, below the header, and words that spell the values of the line.
+-- These words are a line word whose line may stand here, below the header, and words that spell the values of the line,
+-- which nothing refuses as a whole.
 pub record IsRow {F W L : Type 0} (t : Table F W L) (s : F) (word : W) (vs : Values (t.fields s word)) (ws : List (List ℕ)) (l : L) : Type 0 where
   pub below : t.is_start s ≡ false
   pub stands : t.may_stand s word ≡ true
   pub args : List (List ℕ)
   pub words : ws ≡ t.text word ∷ args
   pub spells : SpellsAll (t.fields s word) args vs
+  pub whole : t.whole_fault s word vs ≡ None
   pub made : made_of (t.fields s word) (t.line s word) vs ≡ l
 
 abbrev pub SpellsParts : {F W L : Type 0} (t : Table F W L) (s : F) → List (List ℕ) → L → Parts W (t.fields s) → Type 0

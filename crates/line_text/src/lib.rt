@@ -10,9 +10,11 @@ mod frame;
 mod names;
 mod numbers;
 mod reader;
+mod table_form;
 mod words;
 
 pub use bad_word::{BadWord, LineFault};
 pub use form::Form;
 pub use reader::Reader;
+pub use table_form::{TableForm, judge_by_table};
 pub use words::Words;

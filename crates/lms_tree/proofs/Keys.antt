@@ -1,18 +1,22 @@
--- The kinds that numbers stand for.
-use Rattle.std.proofs.Common.{◌≡◌, ℕ, ◌<◌, List, ◌++◌, length, take, get_or, Some, refl, ap, ◌∙◌, lit≤, lit<, arith, ◌^◌, drop, Ok, Err, eq-eqb, length-append, if◌then◌else◌}
-use Rattle.std.specs.Prelude.{slice_range}
+-- Bytes are read as a key exactly where they are its 56 bytes.
+use Rattle.std.proofs.Common.{◌≡◌, ℕ, ◌<◌, Bool, true, false, cond, eqb, List, ◌++◌, length, take, get_or, Option, Some, None, Result, refl, ap, subst, ◌∙◌, lit≤, lit<, arith, ◌^◌, drop, Ok, Err, eq-eqb, length-append, if◌then◌else◌}
+use Rattle.std.specs.Prelude.{is_ok, slice_range}
 use Rattle.std.specs.Int.{w32, to_be_bytes}
-use Rattle.std.proofs.lemmas.List.{take_at, drop_at, take_all}
+use Rattle.std.proofs.lemmas.Bool.{eqb-true}
+use Rattle.std.proofs.lemmas.List.{take_at, drop_at, take_all, length-drop, length-take}
 use Rattle.std.proofs.lemmas.Nat.{from_be_bytes-to_be_bytes_4}
 use Rattle.lms_ots.specs.declared.kind.OtsKind.{OtsKind}
 use Rattle.lms_ots.specs.declared.kind.OtsKind.TheVariants.{W1, W2, W4, W8}
 use Rattle.lms_ots.specs.Ots as ots
 use Rattle.lms_tree.specs.declared.kind.TreeKind.{TreeKind}
 use Rattle.lms_tree.specs.declared.kind.TreeKind.TheVariants.{H5, H10, H15}
+use Rattle.lms_tree.specs.declared.kind.KeyFault.{KeyFault}
 use Rattle.lms_tree.specs.declared.kind.KeyFault.TheVariants as key_fault
 use Rattle.lms_tree.specs.declared.key.PublicKey.{PublicKey}
 use Rattle.lms_tree.specs.Kinds.{type_number}
+use Rattle.lms_tree.specs.Keys.{AreKey}
 use Rattle.lms_tree.specs.Lms.{tree_of, key_bytes, key_in, key_with}
+use Rattle.lms_tree.proofs.KindTables.{ots_typed, tree_typed}
 use Rattle.lms_tree.proofs.Parts.{four_parts, number-spelled}
 
 -- 56 bytes spell the key that is read from them
@@ -64,3 +68,38 @@ key_in-key_bytes key id_long root_long =
     ∙ ap (λ t. key_with bytes t (ots.kind_of (ots.number_at 4 bytes))) tree ∙ ap (key_with bytes (Some key.tree)) kind
     ∙ ap (λ i. Ok (record { tree = key.tree; ots = key.ots; id = i; root = slice_range bytes 24 56 })) id
     ∙ ap (λ r. Ok (record { tree = key.tree; ots = key.ots; id = key.id; root = r })) root
+
+abbrev right : PublicKey → Result PublicKey KeyFault
+right k = Ok k
+
+key_same : (a b : PublicKey) → right a ≡ right b → a ≡ b
+key_same a b e = cc
+
+key_kinds : (bytes : List ℕ) (k : PublicKey) (t : Option TreeKind) (o : Option OtsKind) → length bytes ≡ 56 → ((i : ℕ) → get_or bytes i 0 < 256) → tree_of (ots.number_at 0 bytes) ≡ t → ots.kind_of (ots.number_at 4 bytes) ≡ o → key_with bytes t o ≡ Ok k → AreKey bytes k
+key_kinds bytes k None o long below t_is o_is e = cc
+key_kinds bytes k (Some t) None long below t_is o_is e = cc
+key_kinds bytes k (Some t) (Some o) long below t_is o_is e =
+    let made : PublicKey = record { tree = t; ots = o; id = slice_range bytes 8 24; root = slice_range bytes 24 56 } in
+    let same : made ≡ k = key_same made k e in
+    let spelled = key-spelled bytes long below t (tree_typed (ots.number_at 0 bytes) t t_is) o (ots_typed (ots.number_at 4 bytes) o o_is) in
+    let id : length (slice_range bytes 8 24) ≡ 16 = omega (arith, long, length-take 16 (drop 8 bytes), length-drop 8 bytes) in
+    let root : length (slice_range bytes 24 56) ≡ 32 = omega (arith, long, length-take 32 (drop 24 bytes), length-drop 24 bytes) in
+    let all : AreKey bytes made = record { spelled = spelled; id = id; root = root } in
+    subst (AreKey bytes) same all
+
+key_read : (bytes : List ℕ) (k : PublicKey) (b : Bool) → eqb (length bytes) 56 ≡ b → ((i : ℕ) → get_or bytes i 0 < 256) → cond b (key_with bytes (tree_of (ots.number_at 0 bytes)) (ots.kind_of (ots.number_at 4 bytes))) (Err (key_fault.Length (length bytes))) ≡ Ok k → AreKey bytes k
+key_read bytes k true is below e = key_kinds bytes k (tree_of (ots.number_at 0 bytes)) (ots.kind_of (ots.number_at 4 bytes)) (eqb-true (length bytes) 56 is) below refl refl e
+key_read bytes k false is below e = cc
+
+-- bytes that are read as a key are its own
+pub key-are : (bytes : List ℕ) (k : PublicKey) → ((i : ℕ) → get_or bytes i 0 < 256) → key_in bytes ≡ Ok k → AreKey bytes k
+unfolding key_in
+key-are bytes k below e = key_read bytes k (eqb (length bytes) 56) refl below e
+
+pub key-again : (bytes : List ℕ) (k : PublicKey) → AreKey bytes k → key_in bytes ≡ Ok k
+key-again bytes k h = ap key_in h.spelled ∙ key_in-key_bytes k h.id h.root
+
+-- bytes of another length are no key
+pub key-long : (bytes : List ℕ) → eqb (length bytes) 56 ≡ false → is_ok (key_in bytes) ≡ false
+unfolding key_in
+key-long bytes other = rw other refl

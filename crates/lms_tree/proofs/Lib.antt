@@ -1,3 +1,4 @@
+pub mod KindTables
 pub mod Keys
 pub mod Parts
 pub mod Roots

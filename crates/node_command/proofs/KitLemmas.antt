@@ -4,9 +4,9 @@ use Rattle.std.specs.Prelude.{slice_set}
 use Rattle.std.specs.List.{AllByRecursion, list_any}
 use Rattle.std.proofs.lemmas.Bool.{false≢true}
 use Rattle.std.proofs.lemmas.List.{get_or-set_same, get_or-set_other, length-set, length-replicate}
-use Rattle.ff_ids.specs.declared.TheConstants.{MEMBERS}
+use Rattle.ff_ids.specs.declared.TheConstants.{LAST_MEMBER, MEMBERS}
 use Rattle.sha2.specs.Sha256.{sha256}
-use Rattle.secrets.specs.Secrets.{key_id}
+use Rattle.secrets.specs.Secrets.{key_from, key_id}
 use Rattle.schedule_texts.specs.declared.line.Kinds.{Kinds}
 use Rattle.lms_tree.proofs.Keys.{key_in-key_bytes}
 use Rattle.lms_tree.proofs.Roots.{length-node}
@@ -25,10 +25,16 @@ use Rattle.records.specs.declared.CertBody.{CertBody}
 use Rattle.records.specs.declared.Record.{Record}
 use Rattle.records.specs.Signing.{CheckedRecord, IsChecked}
 use Rattle.line_text.specs.Answers.{Progress, moved}
-use Rattle.schedule_texts.specs.Spelling as Spelling
-use Rattle.schedule_texts.specs.KitGrammar.{IsKit, IsOwned, SpellsCert, SpellsOwn, after, certified_by}
-use Rattle.schedule_texts.specs.KitLaws.{kit-spelled}
-use Rattle.schedule_texts.specs.KitRows.{is_ended, is_named}
+use Rattle.line_text.specs.Shapes.{Values}
+use Rattle.line_text.specs.Tables.{SpellsParts}
+use Rattle.line_text.proofs.ShapeLemmas.{all-in_range}
+use Rattle.schedule_texts.specs.Shared.{group_shape, group_values}
+use Rattle.schedule_texts.specs.Shared as shared
+use Rattle.schedule_texts.proofs.FieldLemmas.{group-is}
+use Rattle.schedule_texts.specs.KitGrammar.{IsKit, after, certified_by}
+use Rattle.schedule_texts.specs.KitLaws.{IsOwned, cert-whole, end-whole, kit-spelled}
+use Rattle.schedule_texts.specs.KitRows.{cert_parts, checked_as, fields, is_ended, is_named, kit_table, may_stand}
+use Rattle.schedule_texts.specs.declared.kit_line.LineWord.TheVariants as words
 use Rattle.schedule_texts.specs.declared.kit.KitText.{KitText}
 use Rattle.schedule_texts.specs.declared.kit.KitText.TheVariants as kit
 use Rattle.schedule_texts.specs.declared.kit.Owner.{Owner}
@@ -200,7 +206,7 @@ same-key a b x y e =
 
 -- ## What has been read, and what it sets up
 
-numbers : (g : Group) → Spelling.IsGroup g → IsGroup g
+numbers : (g : Group) → shared.IsGroup g → IsGroup g
 numbers g h = record {
   some = h.t_low;
   few = h.t_high;
@@ -214,7 +220,7 @@ numbers g h = record {
 
 -- the owner is the one of the own line
 record IsOwner (owner : Owner) (own : Own) : Type 0 where
-  group : Spelling.IsGroup owner.group
+  group : shared.IsGroup owner.group
   member : owner.member ≡ own.member
   key : owner.key ≡ public_of own.key
   long : length own.key.id ≡ 16
@@ -258,7 +264,7 @@ pub record IsUp (u : SetUp) : Type 0 where
 
 record FitsGroup (g : Group) (u : SetUp) : Type 0 where
   is : u ≡ record nothing_up { group = Some g }
-  numbers : Spelling.IsGroup g
+  numbers : shared.IsGroup g
 
 abbrev Fits : KitText → SetUp → Type 0
 Fits kit.Start u = u ≡ nothing_up
@@ -270,16 +276,44 @@ Fits (kit.Authorized owner authority) u = FitsAuthorized owner authority u
 Fits (kit.Body owner authority named ownkey) u = FitsBody owner authority named ownkey u
 Fits kit.Ended u = IsUp u
 
-own-up : (g : Group) (kinds : Kinds) (ws : List (List ℕ)) (m : ℕ) (secret : List ℕ) (own_key : Secret) (u : SetUp) → SpellsOwn kinds ws m secret own_key → FitsGroup g u → FitsOwned (record { group = g; member = m; key = public_of own_key }) (sets u (lines.Own m secret own_key))
-own-up g kinds ws m secret own_key u h fits = record {
+own-up : (g : Group) (kinds : Kinds) (m : ℕ) (secret : List ℕ) (own_key : Secret) (u : SetUp) → key_from kinds.ots kinds.tree secret ≡ own_key → FitsGroup g u → FitsOwned (record { group = g; member = m; key = public_of own_key }) (sets u (lines.Own m secret own_key))
+own-up g kinds m secret own_key u made fits = record {
   own = record { member = m; secret = secret; key = own_key };
   is = ap (λ (v : SetUp). sets v (lines.Own m secret own_key)) fits.is;
-  owner_is = record { group = fits.numbers; member = refl; key = refl; long = subst (λ (k : Secret). length k.id ≡ 16) (sym h.made) (id-long secret) };
+  owner_is = record { group = fits.numbers; member = refl; key = refl; long = subst (λ (k : Secret). length k.id ≡ 16) made (id-long secret) };
 }
 
-body-up : (owner : Owner) (authority : PublicKey) (named : List Bool) (ownkey : Option PublicKey) (ws : List (List ℕ)) (x : CheckedRecord) (u : SetUp) (h : SpellsCert owner.group authority named ws x) → FitsBody owner authority named ownkey u
+-- A certificate of a number that had none, of a key that is one.
+record IsNewCert (group : Group) (authority : PublicKey) (named : List Bool) (x : CheckedRecord) : Type 0 where
+  cert : CertBody
+  line : x ≡ checked_as group authority cert x.rec.signature
+  member_high : cert.member ≤ LAST_MEMBER
+  new : is_named named cert.member ≡ false
+  long : IsLong cert.key
+
+cert-values : (owner : Owner) (authority : PublicKey) (named : List Bool) (ownkey : Option PublicKey) (ws : List (List ℕ)) (x : CheckedRecord) (b : Body) → SpellsParts kit_table (kit.Body owner authority named ownkey) ws (lines.Cert x) (cert_parts b x.rec.signature) → IsNewCert owner.group authority named x
+cert-values owner authority named ownkey ws x (Certificate c) h =
+    let vs : Values (fields words.Cert) = (c.member, (c.port, (c.key, (x.rec.signature, tt)))) in
+    let range = all-in_range (fields words.Cert) h.args vs h.spells in
+    let made : lines.Cert (checked_as owner.group authority c x.rec.signature) ≡ lines.Cert x = h.made in
+    let key = range.1.1.0 in
+    record {
+      cert = c;
+      line = cc;
+      member_high = range.0.1;
+      new = (cert-whole owner.group authority named vs h.whole).new;
+      long = record { id_long = key.1.id; root_long = key.1.root };
+    }
+cert-values owner authority named ownkey ws x _ h = absurd (let e = h.made in cc)
+
+-- where no certificate stands
+no-cert : (form : KitText) (ws : List (List ℕ)) (x : CheckedRecord) (b : Body) → may_stand form words.Cert ≡ false → SpellsParts kit_table form ws (lines.Cert x) (cert_parts b x.rec.signature) → ⊥
+no-cert form ws x (Certificate c) none h = false≢true (sym none ∙ h.stands)
+no-cert form ws x _ none h = absurd (let e = h.made in cc)
+
+body-up : (owner : Owner) (authority : PublicKey) (named : List Bool) (ownkey : Option PublicKey) (x : CheckedRecord) (u : SetUp) (h : IsNewCert owner.group authority named x) → FitsBody owner authority named ownkey u
     → FitsBody owner authority (slice_set named h.cert.member true) (cond (h.cert.member == owner.member) (Some h.cert.key) ownkey) (sets u (lines.Cert x))
-body-up owner authority named ownkey ws x u h fits =
+body-up owner authority named ownkey x u h fits =
     let body : x.rec.body ≡ Certificate h.cert = ap (λ (y : CheckedRecord). y.rec.body) h.line in
     let few : h.cert.member < length named = omega (arith, h.member_high, fits.room) in
     record {
@@ -299,14 +333,14 @@ body-up owner authority named ownkey ws x u h fits =
             checked = rw h.line (record { under = refl; tag = refl; tolerance = refl });
           });
       apart = subst AreApart (sym (recs-append fits.certificates x)) (apart-append owner.group authority named h.cert x fits.certificates body h.new fits.listed fits.apart);
-      found = own-append owner.group authority named owner.member ownkey h.cert x fits.certificates body h.new (record { id_long = h.key.id_long; root_long = h.key.root_long }) fits.listed fits.found;
+      found = own-append owner.group authority named owner.member ownkey h.cert x fits.certificates body h.new h.long fits.listed fits.found;
     }
 
-certified : (owner : Owner) (authority : PublicKey) (named : List Bool) (ownkey : Option PublicKey) (ws : List (List ℕ)) (x : CheckedRecord) (u : SetUp) → SpellsCert owner.group authority named ws x → FitsBody owner authority named ownkey u
+certified : (owner : Owner) (authority : PublicKey) (named : List Bool) (ownkey : Option PublicKey) (x : CheckedRecord) (u : SetUp) → IsNewCert owner.group authority named x → FitsBody owner authority named ownkey u
     → Fits (after (kit.Body owner authority named ownkey) (lines.Cert x)) (sets u (lines.Cert x))
-certified owner authority named ownkey ws x u h fits =
+certified owner authority named ownkey x u h fits =
     subst (λ (b : Body). Fits (certified_by b (kit.Body owner authority named ownkey)) (sets u (lines.Cert x))) (sym (ap (λ (y : CheckedRecord). y.rec.body) h.line))
-    (body-up owner authority named ownkey ws x u h fits)
+    (body-up owner authority named ownkey x u h fits)
 
 ended-up : (owner : Owner) (authority : PublicKey) (named : List Bool) (ownkey : Option PublicKey) (u : SetUp) → IsOwned owner.key ownkey → FitsBody owner authority named ownkey u → IsUp u
 ended-up owner authority named None u owned fits = absurd owned
@@ -332,9 +366,12 @@ ended-up owner authority named (Some k) u owned fits =
 -- One line more.
 step : (form : KitText) (ws : List (List ℕ)) (l : KitLine) (u : SetUp) → IsKit form ws l → Fits form u → Fits (after form l) (sets u l)
 step kit.Start ws lines.Header u is fits = fits
-step kit.Headed ws (lines.Group g) u is fits = record { is = ap (λ (v : SetUp). sets v (lines.Group g)) fits; numbers = is.group }
+step kit.Headed ws (lines.Group g) u is fits = record { is = ap (λ (v : SetUp). sets v (lines.Group g)) fits; numbers = group-is g (all-in_range group_shape is.args (group_values g) is.spells) }
 step (kit.Grouped g) ws (lines.Kinds kinds) u is fits = fits
-step (kit.Kinded g kinds) ws (lines.Own m secret own_key) u is fits = own-up g kinds ws m secret own_key u is fits
+step (kit.Kinded g kinds) ws (lines.Own m secret own_key) u is fits =
+    let line : lines.Own m secret (key_from kinds.ots kinds.tree secret) ≡ lines.Own m secret own_key = is.made in
+    let made : key_from kinds.ots kinds.tree secret ≡ own_key = cc in
+    own-up g kinds m secret own_key u made fits
 step (kit.Owned owner) ws (lines.Authority authority) u is fits =
     record { own = fits.own; is = ap (λ (v : SetUp). sets v (lines.Authority authority)) fits.is; owner_is = fits.owner_is }
 step (kit.Authorized owner authority) ws (lines.Tick millis) u is fits = record {
@@ -343,15 +380,17 @@ step (kit.Authorized owner authority) ws (lines.Tick millis) u is fits = record 
   certificates = [];
   is = ap (λ (v : SetUp). sets v (lines.Tick millis)) fits.is;
   owner_is = fits.owner_is;
-  pace = is.low;
+  pace = (all-in_range (fields words.Tick) is.args (millis, tt) is.spells).0.0;
   room = length-replicate MEMBERS false;
   listed = tt;
   apart = tt;
   found = tt;
 }
-step (kit.Body owner authority named ownkey) ws (lines.Cert x) u is fits = certified owner authority named ownkey ws x u is fits
-step (kit.Body owner authority named ownkey) ws lines.End u is fits = ended-up owner authority named ownkey u is.1 fits
-step _ ws _ u is fits = absurd is
+step (kit.Body owner authority named ownkey) ws (lines.Cert x) u is fits =
+    certified owner authority named ownkey x u (cert-values owner authority named ownkey ws x x.rec.body is) fits
+step form ws (lines.Cert x) u is fits = absurd (no-cert form ws x x.rec.body refl is)
+step (kit.Body owner authority named ownkey) ws lines.End u is fits = ended-up owner authority named ownkey u (end-whole owner.key ownkey is.whole) fits
+step _ ws _ u is fits = absurd (false≢true is.stands)
 
 is-up : (form : KitText) (u : SetUp) → is_ended form ≡ true → Fits form u → IsUp u
 is-up kit.Ended u e fits = fits

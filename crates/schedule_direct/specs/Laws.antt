@@ -1,14 +1,15 @@
 -- What is taken as a line of the direct form is one by its grammar, and what is one is taken.
-use Rattle.std.proofs.Common.{◌≡◌, ℕ, List, ◌∷◌, Some, Ok, refl}
-use Rattle.line_text.specs.Frame.{row_line}
-use Rattle.line_text.specs.Shapes.{Values, made_of}
-use Rattle.line_text.specs.Tables.{IsSound as IsSoundTable, Line}
+use Rattle.std.proofs.Common.{◌≡◌, ℕ, List, ◌∷◌, Some, Ok, Err, refl, ap, if◌then◌else◌}
+use Rattle.line_text.specs.declared.bad_word.BadWord.TheVariants as bad
+use Rattle.line_text.specs.Frame.{fields_line, row_line}
+use Rattle.line_text.specs.Shapes.{Values, line_from, made_of}
+use Rattle.line_text.specs.Tables.{IsSound as IsSoundTable, Line, row_of}
 use Rattle.line_text.proofs.TableLemmas.{table-spelled, table-taken}
 use Rattle.schedule_direct.specs.declared.direct.Direct.{Direct}
 use Rattle.schedule_direct.specs.declared.line.DirectLine.{DirectLine}
 use Rattle.schedule_direct.specs.declared.line.LineWord.{LineWord}
 use Rattle.schedule_direct.specs.declared.line.LineWord.TheVariants as words
-use Rattle.schedule_direct.specs.Rows.{direct_table, fields, line, line_word, parts, row_for, word_text}
+use Rattle.schedule_direct.specs.Rows.{direct_table, fields, fields_of, line, line_of, line_word, may_stand, parts, reads, row_for, word_text}
 use Rattle.schedule_direct.specs.Grammar.{IsDirect, IsSound}
 
 named : (word : LineWord) → line_word (word_text word) ≡ Some word
@@ -29,3 +30,11 @@ direct-spelled d first args l e = table-spelled direct_table sound d first args 
 -- What is a line is taken, as that line.
 pub direct-taken : (d : Direct) (first : List ℕ) (args : List (List ℕ)) (l : DirectLine) → IsSound d → IsDirect d (first ∷ args) l → row_line (row_for d (first ∷ args)) args ≡ Ok l
 direct-taken d first args l good h = table-taken direct_table sound d first args l h
+
+line_is : (d : Direct) (word : LineWord) → line_of word ≡ line_from (fields d word) (line d word)
+line_is d words.End = refl
+line_is d _ = refl
+
+-- What is read is what the table says.
+pub direct-reads : (d : Direct) (word : LineWord) (args : List (List ℕ)) → reads d word args ≡ row_line (Ok (row_of direct_table d word)) args
+direct-reads d word args = ap (λ (of : List (List ℕ) → DirectLine). if may_stand d word then fields_line (fields_of d word) of args else Err bad.Order) (line_is d word)

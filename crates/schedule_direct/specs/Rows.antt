@@ -1,6 +1,6 @@
 -- The table of the direct form: each line word, where its line may stand, what the words behind it must be, and what line
 -- they are.
-use Rattle.std.specs.Prelude.{ℕ, ◌*◌, ◌-◌, ◌^◌, min, Bool, true, false, if◌then◌else◌, List, [], ◌∷◌, map, replicate, length, Option, Result, Ok, codes}
+use Rattle.std.specs.Prelude.{ℕ, ◌*◌, ◌-◌, ◌^◌, min, Bool, true, false, if◌then◌else◌, List, [], ◌∷◌, map, replicate, length, Option, None, Result, Ok, Err, codes}
 use Rattle.ff_ids.specs.declared.AccBody.{AccBody}
 use Rattle.ff_ids.specs.declared.NoteBody.{NoteBody}
 use Rattle.ff_ids.specs.declared.TheConstants.{LAST_MEMBER, MAX_TOLERANCE, ALL_BITS}
@@ -8,7 +8,7 @@ use Rattle.ff_ids.specs.Masks.{ring_count}
 use Rattle.line_text.specs.declared.bad_word.BadWord.{BadWord}
 use Rattle.line_text.specs.declared.bad_word.BadWord.TheVariants as bad
 use Rattle.line_text.specs.Fields.{Test, number_32, number_in}
-use Rattle.line_text.specs.Frame.{Row, first_of, is_header, unless_bad, word_among, word_tests}
+use Rattle.line_text.specs.Frame.{Row, fields_line, first_of, is_header, unless_bad, word_among, word_tests}
 use Rattle.line_text.specs.Shapes.{◌and◌, Field, Fields, Makes, line_from, no_more, number_from, so_many, tests}
 use Rattle.line_text.specs.Tables as table
 use Rattle.line_text.specs.Tables.{Header, Line, Parts, Table}
@@ -167,6 +167,7 @@ direct_table = record {
   text = word_text;
   may_stand = may_stand;
   fields = fields;
+  whole_fault = λ d word values. None;
   line = line;
   parts = parts;
 }
@@ -185,8 +186,9 @@ abbrev pub line_of : LineWord → List (List ℕ) → DirectLine
 line_of words.End args = lines.End
 line_of word args = line_from (fields direct.Start word) (line direct.Start word) args
 
-abbrev pub start_row : List (List ℕ) → Result (Row DirectLine) BadWord
-start_row ws = table.start_row direct_table ws
+-- what the words behind a line word are read as
+abbrev pub reads : Direct → LineWord → List (List ℕ) → Result DirectLine BadWord
+reads d word args = if may_stand d word then fields_line (fields_of d word) (line_of word) args else Err bad.Order
 
 abbrev pub row_for : Direct → List (List ℕ) → Result (Row DirectLine) BadWord
 row_for d ws = table.row_for direct_table d ws

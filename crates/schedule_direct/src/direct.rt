@@ -4,15 +4,13 @@ ghost use Rattle.std.specs.Prelude.{◌≡◌, ◌≤◌};
 ghost use Rattle.ff_ids.specs.declared.TheConstants.{MAX_TOLERANCE};
 ghost use Rattle.line_text.specs.Answers.{AnswersBy};
 ghost use Rattle.line_text.specs.Frame.{fields_line};
-ghost use Rattle.schedule_direct.specs.Rows.{TakesMemory, fields_of, is_body, is_ended, is_headed, is_start, line_of, may_stand, row_for, ticks_left, tolerance};
+ghost use Rattle.schedule_direct.specs.Rows.{TakesMemory, direct_table, fields_of, is_body, is_ended, is_headed, line_of, may_stand, reads, row_for, ticks_left, tolerance};
 ghost use Rattle.schedule_direct.specs.Grammar.{IsDirect, IsSound, after};
 
 use crate::line::{DirectLine, LineWord};
 use crate::member::member_line;
-use crate::read::{
-    accuse_line, group_line, header_line, line_word, lone_line, monitor_line, note_line, tick_line,
-};
-use line_text::{BadWord, Form, LineFault, Words};
+use crate::read::{accuse_line, group_line, lone_line, monitor_line, note_line, tick_line};
+use line_text::{BadWord, Form, LineFault, TableForm, Words, judge_by_table};
 use std::alloc::Global;
 
 /// How many ticks a schedule may have.
@@ -29,12 +27,6 @@ pub enum Direct {
     Body { t: u8, ticks: u32 },
     /// The line `end`.
     Ended,
-}
-
-fn is_start(direct: Direct) -> bool
-    ensures { result ≡ is_start direct }
-{
-    matches!(direct, Direct::Start)
 }
 
 /// Whether a line with this word may stand here.
@@ -92,6 +84,71 @@ fn line_of(
     }
 }
 
+impl TableForm for Direct {
+    ghost use Rattle.schedule_direct.specs.Laws.{direct-reads};
+
+    type Line = DirectLine;
+
+    type Word = LineWord;
+
+    ghost table = { direct_table };
+
+    ghost is_sound = { IsSound };
+
+    ghost takes_memory = { TakesMemory };
+
+    ghost reads = { reads };
+
+    fn is_start(&self) -> bool {
+        matches!(self, Direct::Start)
+    }
+
+    #[tactic(auto, using(line_text::proofs::FrameLemmas::header_read))]
+    fn header_line(words: Words) -> Result<DirectLine, BadWord> {
+        if words.again().is_header(b"direct") {
+            Ok(DirectLine::Header)
+        } else if words.is_header(b"world") {
+            Err(BadWord::NotBuilt)
+        } else {
+            Err(BadWord::Header)
+        }
+    }
+
+    fn line_word(word: &[u8]) -> Result<LineWord, BadWord> {
+        if word == b"group".as_slice() {
+            Ok(LineWord::Group)
+        } else if word == b"member".as_slice() {
+            Ok(LineWord::Member)
+        } else if word == b"note".as_slice() {
+            Ok(LineWord::Note)
+        } else if word == b"accuse".as_slice() {
+            Ok(LineWord::Accuse)
+        } else if word == b"tick".as_slice() {
+            Ok(LineWord::Tick)
+        } else if word == b"view".as_slice() {
+            Ok(LineWord::View)
+        } else if word == b"monitor".as_slice() {
+            Ok(LineWord::Monitor)
+        } else if word == b"life".as_slice() {
+            Ok(LineWord::Life)
+        } else if word == b"end".as_slice() {
+            Ok(LineWord::End)
+        } else {
+            Err(BadWord::Word)
+        }
+    }
+
+    fn line_of(&self, alloc: Global, word: LineWord, args: Words) -> Result<DirectLine, LineFault> {
+        if may_stand(*self, word) {
+            line_of(alloc, *self, word, args)
+        } else {
+            Err(LineFault::Bad(BadWord::Order))
+        }
+    }
+
+    ghost as_table = { direct-reads };
+}
+
 impl Form for Direct {
     ghost use Rattle.schedule_direct.specs.Laws.{direct-spelled, direct-taken};
 
@@ -114,16 +171,7 @@ impl Form for Direct {
     }
 
     fn judge(&self, alloc: Global, words: Words) -> Result<DirectLine, LineFault> {
-        if is_start(*self) {
-            return Ok(header_line(words)?);
-        }
-        let (first, args) = words.split();
-        let word = line_word(first)?;
-        if may_stand(*self, word) {
-            line_of(alloc, *self, word, args)
-        } else {
-            Err(LineFault::Bad(BadWord::Order))
-        }
+        judge_by_table(self, alloc, words)
     }
 
     fn advance(&mut self, line: &DirectLine) {

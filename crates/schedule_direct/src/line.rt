@@ -66,7 +66,7 @@ impl PlaceList {
 
 /// The first words of the lines below the header.
 #[derive(Clone, Copy, Debug, PartialEq, Eq)]
-pub(crate) enum LineWord {
+pub enum LineWord {
     Group,
     Member,
     Note,

@@ -4,55 +4,15 @@ ghost use Rattle.std.specs.Prelude.{◌≡◌, ◌*◌, ◌≤◌, [], IfOk};
 ghost use Rattle.ff_ids.specs.declared.TheConstants.{MAX_TOLERANCE};
 ghost use Rattle.line_text.specs.Answers.{refusal};
 ghost use Rattle.line_text.specs.Fields.{number_in};
-ghost use Rattle.line_text.specs.Frame.{behind, fields_line, first_word, row_line, word_or_bad};
+ghost use Rattle.line_text.specs.Frame.{behind, fields_line, first_word};
 ghost use Rattle.line_text.specs.Shapes.{test, tests};
-ghost use Rattle.schedule_direct.specs.Rows.{accuse_fields, epoch, group_fields, line_of, line_word, member, monitor_fields, note_fields, start_row, tick_fields};
+ghost use Rattle.schedule_direct.specs.Rows.{accuse_fields, epoch, group_fields, line_of, member, monitor_fields, note_fields, tick_fields};
 
 use crate::line::{DirectLine, LineWord};
 use ff_ids::{
     ALL_BITS, AccBody, Bits, Epoch, LAST_MEMBER, MAX_TOLERANCE, Mask, MemberId, NoteBody, RingNo,
 };
 use line_text::{BadWord, Words};
-
-#[tactic(auto, using(crate::proofs::ReadingLemmas::header_read))]
-pub(crate) fn header_line(words: Words) -> Result<DirectLine, BadWord>
-    ensures { result ≡ row_line (start_row words.entry) (behind words.entry) }
-{
-    if words.again().is_header(b"direct") {
-        Ok(DirectLine::Header)
-    } else if words.is_header(b"world") {
-        Err(BadWord::NotBuilt)
-    } else {
-        Err(BadWord::Header)
-    }
-}
-
-/// The line word that a word is.
-pub(crate) fn line_word(word: &[u8]) -> Result<LineWord, BadWord>
-    ensures { result ≡ word_or_bad (line_word word.now) }
-{
-    if word == b"group".as_slice() {
-        Ok(LineWord::Group)
-    } else if word == b"member".as_slice() {
-        Ok(LineWord::Member)
-    } else if word == b"note".as_slice() {
-        Ok(LineWord::Note)
-    } else if word == b"accuse".as_slice() {
-        Ok(LineWord::Accuse)
-    } else if word == b"tick".as_slice() {
-        Ok(LineWord::Tick)
-    } else if word == b"view".as_slice() {
-        Ok(LineWord::View)
-    } else if word == b"monitor".as_slice() {
-        Ok(LineWord::Monitor)
-    } else if word == b"life".as_slice() {
-        Ok(LineWord::Life)
-    } else if word == b"end".as_slice() {
-        Ok(LineWord::End)
-    } else {
-        Err(BadWord::Word)
-    }
-}
 
 /// Takes the number of a member.
 pub(crate) fn take_member(words: &mut Words) -> Result<MemberId, BadWord>

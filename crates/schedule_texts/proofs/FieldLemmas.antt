@@ -1,14 +1,18 @@
 -- Words that are read in two steps: a number in a range, and then one of a few; bytes, and then a key.
-use Rattle.std.proofs.Common.{◌≡◌, ℕ, true, false, Bool, cond, eqb, length, refl, List, Option, Some, None, ap}
-use Rattle.std.specs.Prelude.{is_ok, is_some}
+use Rattle.std.proofs.Common.{◌≡◌, ℕ, true, false, Bool, cond, refl, List, Option, Some, None, ap}
+use Rattle.std.specs.Prelude.{is_some}
+use Rattle.ff_ids.specs.declared.Group.{Group}
 use Rattle.lms_ots.specs.declared.kind.OtsKind.{OtsKind}
 use Rattle.lms_tree.specs.declared.kind.TreeKind.{TreeKind}
 use Rattle.lms_tree.specs.Lms.{key_in}
+use Rattle.lms_tree.proofs.Keys.{key-long}
 use Rattle.line_text.specs.declared.bad_word.BadWord.{BadWord}
 use Rattle.line_text.specs.declared.bad_word.BadWord.TheVariants as bad
-use Rattle.line_text.specs.Fields.{bad_bytes, bad_number, hex, hex_of, is_within, number, number_in, number_that, or_zero}
+use Rattle.line_text.specs.Fields.{bad_number, hex, is_within, number, number_in, number_that, or_zero}
 use Rattle.line_text.specs.Numbers.{number_of}
-use Rattle.schedule_texts.specs.Shared.{height, key, ots_of_width, tree_of_height, width}
+use Rattle.line_text.specs.Shapes.{AllInRange}
+use Rattle.line_text.proofs.SpellingLemmas.{no_value}
+use Rattle.schedule_texts.specs.Shared.{IsGroup, group_shape, group_values, height, key, ots_of_width, tree_of_height, width}
 use Rattle.schedule_texts.specs.KindTables.{height_within, width_within}
 
 abbrev none_bad : Option BadWord
@@ -57,15 +61,22 @@ a_height word k e is = number_in_range 5 15 (λ n. is_some (tree_of_height n)) w
 
 -- ## A key
 
-length_or_key : (bytes : List ℕ) (w : BadWord) (b : Bool) → eqb (length bytes) 56 ≡ b → cond b none_bad (Some bad.Limit) ≡ Some w → cond (is_ok (key_in bytes)) none_bad (Some bad.Limit) ≡ Some w
-unfolding key_in
-length_or_key bytes w true is e = absurd cc
-length_or_key bytes w false is e = rw is e
-
-bytes_or_key : (o : Option (List ℕ)) (w : BadWord) → bad_bytes (λ bytes. eqb (length bytes) 56) o ≡ Some w → bad_bytes (λ bytes. is_ok (key_in bytes)) o ≡ Some w
-bytes_or_key None w e = e
-bytes_or_key (Some bytes) w e = length_or_key bytes w (eqb (length bytes) 56) refl e
-
 -- what are no 56 bytes are no key
 pub no_key : (word : List ℕ) (w : BadWord) → hex 56 word ≡ Some w → key word ≡ Some w
-no_key word w e = bytes_or_key (hex_of word) w e
+no_key word w e = no_value key_in 56 key-long word w e
+
+-- ## A group
+
+-- a group whose values are in range is one
+pub group-is : (g : Group) → AllInRange group_shape (group_values g) → IsGroup g
+group-is g h = record {
+  t_low = h.0.0;
+  t_high = h.0.1;
+  timeout_low = h.1.0.0;
+  timeout_high = h.1.0.1;
+  period_low = h.1.1.0.0;
+  period_high = h.1.1.0.1;
+  misses_low = h.1.1.1.0.0;
+  misses_high = h.1.1.1.0.1;
+  tag_long = h.1.1.1.1.0;
+}

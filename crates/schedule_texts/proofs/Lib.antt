@@ -1,6 +1,5 @@
 mod Rows
 pub mod FieldLemmas
 pub mod TableLemmas
-pub mod LineLemmas
 mod KitRows
 pub mod KitReadingLemmas

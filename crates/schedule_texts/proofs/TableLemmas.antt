@@ -1,17 +1,8 @@
--- Steps of reading by the table of a form.
-use Rattle.std.proofs.Common.{◌≡◌, ℕ, true, List, Option, Some, None, Result, Ok, Err, sym}
+-- Lines of a value.
+use Rattle.std.proofs.Common.{◌≡◌, ℕ, List, Option, Some, None, Result, Ok, Err}
 use Rattle.line_text.specs.declared.bad_word.BadWord.{BadWord}
 use Rattle.line_text.specs.Fields.{Test}
-use Rattle.line_text.specs.Frame.{behind, field_tests, fields_line, first_of, is_header, row_line, unless_bad}
-use Rattle.line_text.proofs.FrameLemmas.{header-line}
-use Rattle.schedule_texts.specs.Table.{start_row}
-
--- ## Reading
-
-pub header_read : {L : Type 0} (form : List ℕ) (words : List (List ℕ)) (line : L) → is_header form words ≡ true → Ok line ≡ row_line (start_row form line words) (behind words)
-header_read form words line h = rw h (sym (header-line form words line h))
-
--- ## Lines of a value
+use Rattle.line_text.specs.Frame.{field_tests, fields_line, first_of, unless_bad}
 
 abbrev given : {L : Type 0} → L → Result L BadWord
 given x = Ok x

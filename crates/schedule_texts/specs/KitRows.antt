@@ -1,21 +1,27 @@
--- The rows of the text of a member: each line word, where its line may stand, what the words behind it must be, what
--- line they are, and what refuses it as a whole.
-use Rattle.std.specs.Prelude.{ℕ, Bool, true, false, not, ◌&&◌, if◌then◌else◌, is_ok, List, [], ◌∷◌, length, Option, Some, None, Result, Ok, Err, codes, slice_index_or, bytes_eq}
+-- The table of the text of a member: each line word, where its line may stand, what the words behind it must be, what
+-- refuses them as a whole, and what line they are.
+use Rattle.std.specs.Prelude.{ℕ, Bool, true, false, not, ◌&&◌, is_ok, List, [], ◌∷◌, Option, Some, None, Result, Err, codes, slice_index_or, bytes_eq}
 use Rattle.ff_ids.specs.declared.TheConstants.{LAST_MEMBER}
 use Rattle.ff_ids.specs.declared.Group.{Group}
+use Rattle.lms_ots.specs.declared.kind.OtsKind.TheVariants.{W1}
+use Rattle.lms_tree.specs.declared.kind.TreeKind.TheVariants.{H5}
 use Rattle.lms_tree.specs.declared.key.PublicKey.{PublicKey}
+use Rattle.lms_tree.specs.declared.secret.Secret.{Secret}
 use Rattle.lms_tree.specs.Lms.{key_bytes, verdict_of}
+use Rattle.records.specs.declared.Body.{Body}
 use Rattle.records.specs.declared.Body.TheVariants.{Certificate}
 use Rattle.records.specs.declared.CertBody.{CertBody}
 use Rattle.records.specs.Signing.{CheckedRecord, signed_bytes}
 use Rattle.secrets.specs.Secrets.{key_from}
 use Rattle.line_text.specs.declared.bad_word.BadWord.{BadWord}
 use Rattle.line_text.specs.declared.bad_word.BadWord.TheVariants as bad
-use Rattle.line_text.specs.Fields.{Test, bad_where, hex, hex_that, is_within, number, number_in}
-use Rattle.line_text.specs.Frame.{Row, behind, first_word, fourth_word, row_line, second_word, third_word, word_among}
+use Rattle.line_text.specs.Fields.{Test, bad_where}
+use Rattle.line_text.specs.Frame.{Row, fields_line, whole_line, word_among}
+use Rattle.line_text.specs.Shapes.{◌and◌, Field, Fields, Makes, Values, bytes_from, bytes_of, line_from, no_more, number_from, test, tests, values}
+use Rattle.line_text.specs.Tables as table
+use Rattle.line_text.specs.Tables.{Header, Line, Parts, Table}
 use Rattle.schedule_texts.specs.declared.line.Kinds.{Kinds}
-use Rattle.schedule_texts.specs.Shared.{group_fields, group_in, hex_in, key, key_in_word, kinds_fields, kinds_in, port}
-use Rattle.schedule_texts.specs.Table.{start_row}
+use Rattle.schedule_texts.specs.Shared.{any_key, cert_of, group_fields, group_in, group_of, group_shape, group_values, key_field, kinds_fields, kinds_in, kinds_of, kinds_shape, kinds_values, port_field}
 use Rattle.schedule_texts.specs.declared.kit.KitText.{KitText}
 use Rattle.schedule_texts.specs.declared.kit.KitText.TheVariants as kit
 use Rattle.schedule_texts.specs.declared.kit_line.KitLine.{KitLine}
@@ -48,74 +54,27 @@ may_stand _ _ = false
 -- ## What the words must be
 
 -- the number of a member
+abbrev pub member_field : Field
+member_field = number_from 0 LAST_MEMBER
+
 abbrev pub member : Test
-member word = number 0 LAST_MEMBER word
-
--- M SECRET
-abbrev pub own_fields : List Test
-own_fields = member ∷ hex 32 ∷ []
-
--- KEY
-abbrev pub authority_fields : List Test
-authority_fields = key ∷ []
-
--- MILLIS
-abbrev pub tick_fields : List Test
-tick_fields = number 1 60000 ∷ []
+member word = test member_field word
 
 -- a signature has 1 to 9,004 bytes
+abbrev pub signature_field : Field
+signature_field = bytes_from 1 9004
+
 abbrev pub signature : Test
-signature word = hex_that (λ bytes. is_within 1 9004 (length bytes)) word
+signature word = test signature_field word
 
--- M PORT KEY SIGNATURE
-abbrev pub cert_fields : List Test
-cert_fields = member ∷ port ∷ key ∷ signature ∷ []
-
-abbrev pub fields_of : LineWord → List Test
-fields_of words.Group = group_fields
-fields_of words.Kinds = kinds_fields
-fields_of words.Own = own_fields
-fields_of words.Authority = authority_fields
-fields_of words.Tick = tick_fields
-fields_of words.Cert = cert_fields
-fields_of words.End = []
-
--- ## What line they are
-
--- the own number and secret, and the key of these kinds that the secret gives
-abbrev pub own_line : Kinds → List (List ℕ) → KitLine
-own_line kinds args =
-    lines.Own (number_in (first_word args)) (hex_in (second_word args)) (key_from kinds.ots kinds.tree (hex_in (second_word args)))
-
-abbrev pub authority_line : List (List ℕ) → KitLine
-authority_line args = lines.Authority (key_in_word (first_word args))
-
-abbrev pub tick_line : List (List ℕ) → KitLine
-tick_line args = lines.Tick (number_in (first_word args))
-
-abbrev pub cert_in : List (List ℕ) → CertBody
-cert_in args = record { member = number_in (first_word args); port = number_in (second_word args); key = key_in_word (third_word args) }
-
--- a certificate, as what was checked under the authority's key in the group
-abbrev pub checked_as : Group → PublicKey → CertBody → List ℕ → CheckedRecord
-checked_as g authority cert signed_by =
-    record { rec = record { body = Certificate cert; signature = signed_by }; key = authority; tag = g.tag; t = g.t }
-
-abbrev pub cert_line : Group → PublicKey → List (List ℕ) → KitLine
-cert_line g authority args = lines.Cert (checked_as g authority (cert_in args) (hex_in (fourth_word args)))
-
-abbrev pub end_line : List (List ℕ) → KitLine
-end_line args = lines.End
-
--- a secret above its kinds, and a certificate above the authority, don't stand
-abbrev pub line_of : KitText → LineWord → List (List ℕ) → KitLine
-line_of form words.Group args = lines.Group (group_in args)
-line_of form words.Kinds args = lines.Kinds (kinds_in args)
-line_of (kit.Kinded g kinds) words.Own args = own_line kinds args
-line_of form words.Authority args = authority_line args
-line_of form words.Tick args = tick_line args
-line_of (kit.Body owner authority named own) words.Cert args = cert_line owner.group authority args
-line_of form _ args = lines.End
+abbrev pub fields : LineWord → Fields
+fields words.Group = group_shape
+fields words.Kinds = kinds_shape
+fields words.Own = member_field and bytes_of 32 and no_more
+fields words.Authority = key_field and no_more
+fields words.Tick = number_from 1 60000 and no_more
+fields words.Cert = member_field and port_field and key_field and signature_field and no_more
+fields words.End = no_more
 
 -- ## What refuses a line as a whole
 
@@ -128,8 +87,10 @@ abbrev pub is_good : Group → PublicKey → List Bool → CertBody → List ℕ
 is_good g authority named cert signed_by =
     not (is_named named cert.member) && is_ok (verdict_of authority (signed_bytes g.tag g.t (Certificate cert)) signed_by)
 
-abbrev pub cert_fault : Group → PublicKey → List Bool → List (List ℕ) → Option BadWord
-cert_fault g authority named args = bad_where bad.Cert (not (is_good g authority named (cert_in args) (hex_in (fourth_word args))))
+-- M PORT KEY SIGNATURE
+abbrev pub cert_fault : Group → PublicKey → List Bool → Values (fields words.Cert) → Option BadWord
+cert_fault g authority named vs =
+    bad_where bad.Cert (not (is_good g authority named (cert_of vs.0 vs.1.0 vs.1.1.0) vs.1.1.1.0))
 
 -- The certificate of the own number has the own key.
 abbrev pub is_owned : PublicKey → Option PublicKey → Bool
@@ -140,27 +101,55 @@ abbrev pub end_fault : PublicKey → Option PublicKey → Option BadWord
 end_fault own_key own = bad_where bad.OwnKey (not (is_owned own_key own))
 
 -- A certificate with a fault is refused, and an end where the own certificate is missing.
-abbrev pub whole_fault : KitText → LineWord → List (List ℕ) → Option BadWord
-whole_fault (kit.Body owner authority named own) words.Cert args = cert_fault owner.group authority named args
-whole_fault (kit.Body owner authority named own) words.End args = end_fault owner.key own
-whole_fault form _ args = None
+abbrev pub whole_fault : KitText → (word : LineWord) → Values (fields word) → Option BadWord
+whole_fault (kit.Body owner authority named own) words.Cert vs = cert_fault owner.group authority named vs
+whole_fault (kit.Body owner authority named own) words.End vs = end_fault owner.key own
+whole_fault form _ vs = None
 
-abbrev pub refused_line : {L : Type 0} → Option BadWord → L → Result L BadWord
-refused_line None line = Ok line
-refused_line (Some word) line = Err word
+-- ## What line they are
 
--- what was judged word by word, where something refuses the line as a whole
-abbrev pub refused_whole : {L : Type 0} → Option BadWord → Result L BadWord → Result L BadWord
-refused_whole fault (Err word) = Err word
-refused_whole fault (Ok line) = refused_line fault line
+-- the key that the own secret gives; above the kinds, where no secret may stand, one of some kinds
+abbrev pub own_key : KitText → List ℕ → Secret
+own_key (kit.Kinded g kinds) secret = key_from kinds.ots kinds.tree secret
+own_key form secret = key_from W1 H5 secret
 
-abbrev pub refused_row : {L : Type 0} → Option BadWord → Row L → Result (Row L) BadWord
-refused_row None row = Ok row
-refused_row (Some word) row = Err word
+-- a certificate, as what was checked under the authority's key in the group
+abbrev pub checked_as : Group → PublicKey → CertBody → List ℕ → CheckedRecord
+checked_as g authority cert signed_by =
+    record { rec = record { body = Certificate cert; signature = signed_by }; key = authority; tag = g.tag; t = g.t }
 
--- The row for words that stand here and are good one by one, where something refuses them as a whole.
-abbrev pub whole_row : {L : Type 0} → Option BadWord → Row L → List (List ℕ) → Result (Row L) BadWord
-whole_row fault row args = if is_ok (row_line (Ok row) args) then refused_row fault row else Ok row
+-- the group and the authority of a certificate; above the certificates, where none may stand, some
+abbrev pub group_above : KitText → Group
+group_above (kit.Body owner authority named own) = owner.group
+group_above form = group_of 0 0 0 0 []
+
+abbrev pub authority_above : KitText → PublicKey
+authority_above (kit.Body owner authority named own) = authority
+authority_above form = any_key
+
+abbrev pub line : (form : KitText) (word : LineWord) → Makes (fields word) KitLine
+line form words.Group = λ t timeout period misses tag. lines.Group (group_of t timeout period misses tag)
+line form words.Kinds = λ wide high. lines.Kinds (kinds_of wide high)
+line form words.Own = λ m secret. lines.Own m secret (own_key form secret)
+line form words.Authority = λ key. lines.Authority key
+line form words.Tick = λ millis. lines.Tick millis
+line form words.Cert = λ m at key signed_by. lines.Cert (checked_as (group_above form) (authority_above form) (cert_of m at key) signed_by)
+line form words.End = lines.End
+
+-- A record of another body is no line: no header is one.
+abbrev pub cert_parts : Body → List ℕ → Parts LineWord fields
+cert_parts (Certificate c) signed_by = Line words.Cert (c.member, (c.port, (c.key, (signed_by, tt))))
+cert_parts _ signed_by = Header
+
+abbrev pub parts : KitLine → Parts LineWord fields
+parts lines.Header = Header
+parts (lines.Group g) = Line words.Group (group_values g)
+parts (lines.Kinds k) = Line words.Kinds (kinds_values k)
+parts (lines.Own m secret key) = Line words.Own (m, (secret, tt))
+parts (lines.Authority key) = Line words.Authority (key, tt)
+parts (lines.Tick millis) = Line words.Tick (millis, tt)
+parts (lines.Cert c) = cert_parts c.rec.body c.rec.signature
+parts lines.End = Line words.End tt
 
 -- ## The table
 
@@ -176,23 +165,63 @@ word_text words.End = codes "end"
 abbrev pub line_words : List LineWord
 line_words = words.Group ∷ words.Kinds ∷ words.Own ∷ words.Authority ∷ words.Tick ∷ words.Cert ∷ words.End ∷ []
 
+abbrev pub kit_table : Table KitText LineWord KitLine
+kit_table = record {
+  is_start = is_start;
+  form = codes "kit";
+  header = lines.Header;
+  no_header = λ ws. bad.Header;
+  words = line_words;
+  text = word_text;
+  may_stand = may_stand;
+  fields = λ form. fields;
+  whole_fault = whole_fault;
+  line = line;
+  parts = λ form. parts;
+}
+
+-- ## As it is read
+
 -- the line word that a word is
 abbrev pub line_word : List ℕ → Option LineWord
 line_word word = word_among word_text line_words word
 
+abbrev pub fields_of : LineWord → List Test
+fields_of word = tests (fields word)
+
+abbrev pub own_line : Kinds → List (List ℕ) → KitLine
+own_line kinds args = line_from (fields words.Own) (λ m secret. lines.Own m secret (key_from kinds.ots kinds.tree secret)) args
+
+abbrev pub authority_line : List (List ℕ) → KitLine
+authority_line args = line_from (fields words.Authority) (line kit.Start words.Authority) args
+
+abbrev pub tick_line : List (List ℕ) → KitLine
+tick_line args = line_from (fields words.Tick) (line kit.Start words.Tick) args
+
+abbrev pub cert_line : Group → PublicKey → List (List ℕ) → KitLine
+cert_line g authority args =
+    line_from (fields words.Cert) (λ m at key signed_by. lines.Cert (checked_as g authority (cert_of m at key) signed_by)) args
+
+abbrev pub cert_fault_in : Group → PublicKey → List Bool → List (List ℕ) → Option BadWord
+cert_fault_in g authority named args = cert_fault g authority named (values (fields words.Cert) args)
+
+-- What the words behind a line word are read as.
+abbrev pub reads : KitText → LineWord → List (List ℕ) → Result KitLine BadWord
+reads kit.Headed words.Group args = fields_line group_fields (λ ws. lines.Group (group_in ws)) args
+reads (kit.Grouped g) words.Kinds args = fields_line kinds_fields (λ ws. lines.Kinds (kinds_in ws)) args
+reads (kit.Kinded g kinds) words.Own args = fields_line (fields_of words.Own) (own_line kinds) args
+reads (kit.Owned owner) words.Authority args = fields_line (fields_of words.Authority) authority_line args
+reads (kit.Authorized owner authority) words.Tick args = fields_line (fields_of words.Tick) tick_line args
+reads (kit.Body owner authority named own) words.Cert args =
+    whole_line (fields_of words.Cert) (cert_fault_in owner.group authority named) (cert_line owner.group authority) args
+reads (kit.Body owner authority named own) words.End args = whole_line [] (λ ws. end_fault owner.key own) (λ ws. lines.End) args
+reads _ _ args = Err bad.Order
+
 abbrev pub row_of : KitText → LineWord → Row KitLine
-row_of form word = record { stands = may_stand form word; fields = fields_of word; line = line_of form word }
-
-abbrev pub row_in : KitText → LineWord → List (List ℕ) → Result (Row KitLine) BadWord
-row_in form word args = whole_row (whole_fault form word args) (row_of form word) args
-
-abbrev pub known_row : KitText → Option LineWord → List (List ℕ) → Result (Row KitLine) BadWord
-known_row form None args = Err bad.Word
-known_row form (Some word) args = row_in form word args
+row_of form word = table.row_of kit_table form word
 
 abbrev pub row_for : KitText → List (List ℕ) → Result (Row KitLine) BadWord
-row_for form ws =
-    if is_start form then start_row (codes "kit") lines.Header ws else known_row form (line_word (first_word ws)) (behind ws)
+row_for form ws = table.row_for kit_table form ws
 
 -- The own key and a signature take memory.
 abbrev pub TakesMemory : KitLine → Type 0

@@ -1,10 +1,5 @@
 pub mod KindTables
-pub mod Keys
 pub mod Shared
-pub mod Table
-pub mod Spelling
-pub mod SharedLaws
-pub mod TableLaws
 pub mod SecretRows
 pub mod SecretGrammar
 pub mod SecretLaws

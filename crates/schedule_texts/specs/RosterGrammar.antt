@@ -1,8 +1,8 @@
--- The grammar of the text that asks an authority for certificates, which its table gives; and the reader's progress.
-use Rattle.std.specs.Prelude.{◌≡◌, ℕ, false, true, List, length, replicate, Option, Result, slice_set}
+-- The grammar of the text that asks an authority for certificates, which its table gives.
+use Rattle.std.specs.Prelude.{◌≡◌, ℕ, false, true, List, length, replicate, Result, slice_set}
 use Rattle.ff_ids.specs.declared.TheConstants.{MEMBERS}
 use Rattle.line_text.specs.declared.bad_word.BadWord.{BadWord}
-use Rattle.line_text.specs.Answers.{Progress, moved, next_line}
+use Rattle.line_text.specs.Answers.{Progress, next_line}
 use Rattle.line_text.specs.Frame as frame
 use Rattle.line_text.specs.Tables.{Spells}
 use Rattle.schedule_texts.specs.declared.line.RosterLine.{RosterLine}
@@ -41,21 +41,6 @@ after form lines.End = roster.Ended
 
 -- ## A reader of the form
 
--- Nothing has been read.
-abbrev pub opening : Progress RosterText
-opening = record { number = 1; form = roster.Start }
-
 -- What the next line is, or its first bad word.
 abbrev pub judge : Progress RosterText → List ℕ → Result RosterLine BadWord
 judge p bytes = frame.judge (next_line is_ended row_for p) bytes
-
-abbrev pub first_bad : Progress RosterText → List ℕ → Option BadWord
-first_bad p bytes = frame.first_bad (next_line is_ended row_for p) bytes
-
--- These bytes are the next line, and it is l.
-abbrev pub IsLine : Progress RosterText → List ℕ → RosterLine → Type 0
-IsLine p bytes l = frame.IsLine (is_ended p.form) p.number (IsRoster p.form) bytes l
-
--- the progress behind a line
-abbrev pub behind : Progress RosterText → RosterLine → Progress RosterText
-behind p l = moved after p l

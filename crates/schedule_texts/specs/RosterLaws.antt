@@ -1,14 +1,15 @@
 -- What is taken as a line of a roster is one by its grammar, and what is one is taken.
-use Rattle.std.proofs.Common.{◌≡◌, ℕ, List, ◌∷◌, Some, Ok, refl}
-use Rattle.line_text.specs.Frame.{row_line}
-use Rattle.line_text.specs.Shapes.{Values, made_of}
-use Rattle.line_text.specs.Tables.{IsSound as IsSoundTable, Line}
+use Rattle.std.proofs.Common.{◌≡◌, ℕ, List, ◌∷◌, Some, Ok, Err, refl, ap, if◌then◌else◌}
+use Rattle.line_text.specs.declared.bad_word.BadWord.TheVariants as bad
+use Rattle.line_text.specs.Frame.{fields_line, row_line}
+use Rattle.line_text.specs.Shapes.{Values, line_from, made_of}
+use Rattle.line_text.specs.Tables.{IsSound as IsSoundTable, Line, row_of}
 use Rattle.line_text.proofs.TableLemmas.{table-spelled, table-taken}
 use Rattle.schedule_texts.specs.declared.line.RosterLine.{RosterLine}
 use Rattle.schedule_texts.specs.declared.roster.RosterText.{RosterText}
 use Rattle.schedule_texts.specs.declared.roster.LineWord.{LineWord}
 use Rattle.schedule_texts.specs.declared.roster.LineWord.TheVariants as words
-use Rattle.schedule_texts.specs.RosterRows.{fields, line, line_word, parts, row_for, roster_table, word_text}
+use Rattle.schedule_texts.specs.RosterRows.{fields, fields_of, line, line_of, line_word, may_stand, parts, reads, row_for, roster_table, word_text}
 use Rattle.schedule_texts.specs.RosterGrammar.{IsRoster, IsSound}
 
 named : (word : LineWord) → line_word (word_text word) ≡ Some word
@@ -29,3 +30,11 @@ roster-spelled form first args l e = table-spelled roster_table sound form first
 -- What is a line is taken, as that line.
 pub roster-taken : (form : RosterText) (first : List ℕ) (args : List (List ℕ)) (l : RosterLine) → IsSound form → IsRoster form (first ∷ args) l → row_line (row_for form (first ∷ args)) args ≡ Ok l
 roster-taken form first args l good h = table-taken roster_table sound form first args l h
+
+line_is : (form : RosterText) (word : LineWord) → line_of word ≡ line_from (fields form word) (line form word)
+line_is form words.End = refl
+line_is form _ = refl
+
+-- What is read is what the table says.
+pub roster-reads : (form : RosterText) (word : LineWord) (args : List (List ℕ)) → reads form word args ≡ row_line (Ok (row_of roster_table form word)) args
+roster-reads form word args = ap (λ (of : List (List ℕ) → RosterLine). if may_stand form word then fields_line (fields_of form word) of args else Err bad.Order) (line_is form word)

@@ -1,14 +1,13 @@
 -- The table of the text that asks an authority for certificates.
-use Rattle.std.specs.Prelude.{ℕ, Bool, true, false, not, ◌&&◌, List, [], ◌∷◌, Option, Result, codes, slice_index_or}
+use Rattle.std.specs.Prelude.{ℕ, Bool, true, false, not, ◌&&◌, List, [], ◌∷◌, Option, None, Result, Err, codes, slice_index_or, if◌then◌else◌}
 use Rattle.ff_ids.specs.declared.TheConstants.{LAST_MEMBER}
 use Rattle.line_text.specs.declared.bad_word.BadWord.{BadWord}
 use Rattle.line_text.specs.declared.bad_word.BadWord.TheVariants as bad
 use Rattle.line_text.specs.Fields.{Test, is_within}
-use Rattle.line_text.specs.Frame.{Row, word_among}
+use Rattle.line_text.specs.Frame.{Row, fields_line, word_among}
 use Rattle.line_text.specs.Shapes.{◌and◌, Field, Fields, Makes, line_from, no_more, number_where, test, tests}
 use Rattle.line_text.specs.Tables as table
 use Rattle.line_text.specs.Tables.{Header, Line, Parts, Table}
-use Rattle.lms_tree.specs.declared.key.PublicKey.{PublicKey}
 use Rattle.records.specs.declared.CertBody.{CertBody}
 use Rattle.schedule_texts.specs.declared.line.RosterLine.{RosterLine}
 use Rattle.schedule_texts.specs.declared.line.RosterLine.TheVariants as lines
@@ -16,7 +15,7 @@ use Rattle.schedule_texts.specs.declared.roster.RosterText.{RosterText}
 use Rattle.schedule_texts.specs.declared.roster.RosterText.TheVariants as roster
 use Rattle.schedule_texts.specs.declared.roster.LineWord.{LineWord}
 use Rattle.schedule_texts.specs.declared.roster.LineWord.TheVariants as words
-use Rattle.schedule_texts.specs.Shared.{group_of, group_shape, group_values, key_field, kinds_of, kinds_shape, kinds_values, port_field, secret_shape}
+use Rattle.schedule_texts.specs.Shared.{cert_of, group_of, group_shape, group_values, key_field, kinds_of, kinds_shape, kinds_values, port_field, secret_shape}
 
 abbrev pub is_start : RosterText → Bool
 is_start roster.Start = true
@@ -50,9 +49,6 @@ new_member form word = test (new_member_field form) word
 -- M PORT KEY
 abbrev pub cert_shape : RosterText → Fields
 cert_shape form = new_member_field form and port_field and key_field and no_more
-
-abbrev pub cert_of : ℕ → ℕ → PublicKey → CertBody
-cert_of m at own = record { member = m; port = at; key = own }
 
 abbrev pub cert_fields : RosterText → List Test
 cert_fields form = tests (cert_shape form)
@@ -102,6 +98,7 @@ roster_table = record {
   text = word_text;
   may_stand = may_stand;
   fields = fields;
+  whole_fault = λ form word values. None;
   line = line;
   parts = parts;
 }
@@ -119,6 +116,10 @@ fields_of form word = tests (fields form word)
 abbrev pub line_of : LineWord → List (List ℕ) → RosterLine
 line_of words.End args = lines.End
 line_of word args = line_from (fields roster.Start word) (line roster.Start word) args
+
+-- what the words behind a line word are read as
+abbrev pub reads : RosterText → LineWord → List (List ℕ) → Result RosterLine BadWord
+reads form word args = if may_stand form word then fields_line (fields_of form word) (line_of word) args else Err bad.Order
 
 abbrev pub row_for : RosterText → List (List ℕ) → Result (Row RosterLine) BadWord
 row_for form ws = table.row_for roster_table form ws

@@ -1,7 +1,7 @@
--- The grammar of the text that makes the store of an authority's key, which its table gives; and the reader's progress.
-use Rattle.std.specs.Prelude.{ℕ, List, Option, Result}
+-- The grammar of the text that makes the store of an authority's key, which its table gives.
+use Rattle.std.specs.Prelude.{ℕ, List, Result}
 use Rattle.line_text.specs.declared.bad_word.BadWord.{BadWord}
-use Rattle.line_text.specs.Answers.{Progress, moved, next_line}
+use Rattle.line_text.specs.Answers.{Progress, next_line}
 use Rattle.line_text.specs.Frame as frame
 use Rattle.line_text.specs.Tables.{Spells}
 use Rattle.schedule_texts.specs.declared.line.SecretLine.{SecretLine}
@@ -29,21 +29,6 @@ after form lines.End = secret.Ended
 
 -- ## A reader of the form
 
--- Nothing has been read.
-abbrev pub opening : Progress SecretText
-opening = record { number = 1; form = secret.Start }
-
 -- What the next line is, or its first bad word.
 abbrev pub judge : Progress SecretText → List ℕ → Result SecretLine BadWord
 judge p bytes = frame.judge (next_line is_ended row_for p) bytes
-
-abbrev pub first_bad : Progress SecretText → List ℕ → Option BadWord
-first_bad p bytes = frame.first_bad (next_line is_ended row_for p) bytes
-
--- These bytes are the next line, and it is l.
-abbrev pub IsLine : Progress SecretText → List ℕ → SecretLine → Type 0
-IsLine p bytes l = frame.IsLine (is_ended p.form) p.number (IsSecret p.form) bytes l
-
--- the progress behind a line
-abbrev pub behind : Progress SecretText → SecretLine → Progress SecretText
-behind p l = moved after p l

@@ -1,14 +1,15 @@
 -- What is taken as a line of a secret's text is one by its grammar, and what is one is taken.
-use Rattle.std.proofs.Common.{◌≡◌, ℕ, List, ◌∷◌, Some, Ok, refl}
-use Rattle.line_text.specs.Frame.{row_line}
-use Rattle.line_text.specs.Shapes.{Values, made_of}
-use Rattle.line_text.specs.Tables.{IsSound as IsSoundTable, Line}
+use Rattle.std.proofs.Common.{◌≡◌, ℕ, List, ◌∷◌, Some, Ok, Err, refl, ap, if◌then◌else◌}
+use Rattle.line_text.specs.declared.bad_word.BadWord.TheVariants as bad
+use Rattle.line_text.specs.Frame.{fields_line, row_line}
+use Rattle.line_text.specs.Shapes.{Values, line_from, made_of}
+use Rattle.line_text.specs.Tables.{IsSound as IsSoundTable, Line, row_of}
 use Rattle.line_text.proofs.TableLemmas.{table-spelled, table-taken}
 use Rattle.schedule_texts.specs.declared.line.SecretLine.{SecretLine}
 use Rattle.schedule_texts.specs.declared.secret.SecretText.{SecretText}
 use Rattle.schedule_texts.specs.declared.secret.LineWord.{LineWord}
 use Rattle.schedule_texts.specs.declared.secret.LineWord.TheVariants as words
-use Rattle.schedule_texts.specs.SecretRows.{fields, line, line_word, parts, row_for, secret_table, word_text}
+use Rattle.schedule_texts.specs.SecretRows.{fields, fields_of, line, line_of, line_word, may_stand, parts, reads, row_for, secret_table, word_text}
 use Rattle.schedule_texts.specs.SecretGrammar.{IsSecret, IsSound}
 
 named : (word : LineWord) → line_word (word_text word) ≡ Some word
@@ -29,3 +30,11 @@ secret-spelled form first args l e = table-spelled secret_table sound form first
 -- What is a line is taken, as that line.
 pub secret-taken : (form : SecretText) (first : List ℕ) (args : List (List ℕ)) (l : SecretLine) → IsSound form → IsSecret form (first ∷ args) l → row_line (row_for form (first ∷ args)) args ≡ Ok l
 secret-taken form first args l good h = table-taken secret_table sound form first args l h
+
+line_is : (word : LineWord) → line_of word ≡ line_from (fields word) (line word)
+line_is words.End = refl
+line_is _ = refl
+
+-- What is read is what the table says.
+pub secret-reads : (form : SecretText) (word : LineWord) (args : List (List ℕ)) → reads form word args ≡ row_line (Ok (row_of secret_table form word)) args
+secret-reads form word args = ap (λ (of : List (List ℕ) → SecretLine). if may_stand form word then fields_line (fields_of word) of args else Err bad.Order) (line_is word)

@@ -1,9 +1,9 @@
 -- The table of the text that makes the store of an authority's key.
-use Rattle.std.specs.Prelude.{ℕ, Bool, true, false, List, [], ◌∷◌, Option, Result, codes}
+use Rattle.std.specs.Prelude.{ℕ, Bool, true, false, List, [], ◌∷◌, Option, None, Result, Err, codes, if◌then◌else◌}
 use Rattle.line_text.specs.declared.bad_word.BadWord.{BadWord}
 use Rattle.line_text.specs.declared.bad_word.BadWord.TheVariants as bad
 use Rattle.line_text.specs.Fields.{Test}
-use Rattle.line_text.specs.Frame.{Row, word_among}
+use Rattle.line_text.specs.Frame.{Row, fields_line, word_among}
 use Rattle.line_text.specs.Shapes.{Fields, Makes, line_from, no_more, tests}
 use Rattle.line_text.specs.Tables as table
 use Rattle.line_text.specs.Tables.{Header, Line, Parts, Table}
@@ -69,6 +69,7 @@ secret_table = record {
   text = word_text;
   may_stand = may_stand;
   fields = λ form. fields;
+  whole_fault = λ form word values. None;
   line = λ form. line;
   parts = λ form. parts;
 }
@@ -85,6 +86,10 @@ fields_of word = tests (fields word)
 abbrev pub line_of : LineWord → List (List ℕ) → SecretLine
 line_of words.End args = lines.End
 line_of word args = line_from (fields word) (line word) args
+
+-- what the words behind a line word are read as
+abbrev pub reads : SecretText → LineWord → List (List ℕ) → Result SecretLine BadWord
+reads form word args = if may_stand form word then fields_line (fields_of word) (line_of word) args else Err bad.Order
 
 abbrev pub row_for : SecretText → List (List ℕ) → Result (Row SecretLine) BadWord
 row_for form ws = table.row_for secret_table form ws

@@ -1,5 +1,5 @@
 -- The fields that the lines of several texts have, and what their values make.
-use Rattle.std.specs.Prelude.{ℕ, List, []}
+use Rattle.std.specs.Prelude.{◌≡◌, ℕ, ◌≤◌, List, [], length}
 use Rattle.ff_ids.specs.declared.TheConstants.{MAX_TOLERANCE}
 use Rattle.ff_ids.specs.declared.Group.{Group}
 use Rattle.lms_ots.specs.Ots as ots
@@ -9,23 +9,29 @@ use Rattle.lms_tree.specs.Kinds as tree
 use Rattle.lms_tree.specs.declared.kind.TreeKind.{TreeKind}
 use Rattle.lms_tree.specs.declared.kind.TreeKind.TheVariants.{H5}
 use Rattle.lms_tree.specs.declared.key.PublicKey.{PublicKey}
+use Rattle.lms_tree.specs.Keys.{AreKey}
 use Rattle.lms_tree.specs.Lms.{key_in}
-use Rattle.line_text.specs.Fields.{Test, hex_of, or_nothing}
-use Rattle.line_text.specs.Frame.{behind, fourth_word}
+use Rattle.lms_tree.proofs.Keys.{key-again, key-are}
+use Rattle.records.specs.declared.CertBody.{CertBody}
+use Rattle.line_text.specs.Fields.{Test}
 use Rattle.line_text.specs.Shapes.{◌and◌, Field, Fields, Values, bytes_as, bytes_of, line_from, no_more, number_as, number_from, test, tests, value}
 use Rattle.schedule_texts.specs.declared.line.Kinds.{Kinds}
-use Rattle.schedule_texts.specs.Keys.{AreKey, key-again, key-are}
 use Rattle.schedule_texts.specs.KindTables.{ots_wide, tree_high}
 pub use Rattle.schedule_texts.specs.KindTables.{ots_of_width, tree_of_height}
 
 -- ## The group
 
-abbrev pub fifth_word : List (List ℕ) → List ℕ
-fifth_word words = fourth_word (behind words)
-
--- the bytes that a word spells, which has some
-abbrev pub hex_in : List ℕ → List ℕ
-hex_in word = or_nothing (hex_of word)
+-- The numbers of a group are within their limits, and its tag has 16 bytes.
+pub record IsGroup (g : Group) : Type 0 where
+  pub t_low : 1 ≤ g.t
+  pub t_high : g.t ≤ MAX_TOLERANCE
+  pub timeout_low : 1 ≤ g.timeout
+  pub timeout_high : g.timeout ≤ 10000
+  pub period_low : 1 ≤ g.period
+  pub period_high : g.period ≤ 1000
+  pub misses_low : 1 ≤ g.misses
+  pub misses_high : g.misses ≤ 16
+  pub tag_long : length g.tag ≡ 16
 
 -- T TIMEOUT PERIOD MISSES TAG
 abbrev pub group_shape : Fields
@@ -111,3 +117,6 @@ key word = test key_field word
 
 abbrev pub key_in_word : List ℕ → PublicKey
 key_in_word word = value key_field word
+
+abbrev pub cert_of : ℕ → ℕ → PublicKey → CertBody
+cert_of m at own = record { member = m; port = at; key = own }

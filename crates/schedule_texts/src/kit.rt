@@ -1,17 +1,17 @@
 //! The text of a member, line by line.
 
 ghost use Rattle.std.specs.Prelude.{◌≡◌, ◌==◌, if◌then◌else◌, [], Some};
-ghost use Rattle.line_text.specs.Answers.{AnswersBy};
-ghost use Rattle.line_text.specs.Frame.{fields_line, row_line};
-ghost use Rattle.schedule_texts.specs.KitRows.{TakesMemory, is_ended, is_owned, is_start, end_fault, end_line, refused_whole, row_for, row_in};
+ghost use Rattle.line_text.specs.Frame.{whole_line};
+ghost use Rattle.schedule_texts.specs.declared.kit_line.KitLine.TheVariants.{End};
+ghost use Rattle.schedule_texts.specs.KitRows.{TakesMemory, end_fault, is_ended, is_owned, kit_table, reads, row_for};
 ghost use Rattle.schedule_texts.specs.KitGrammar.{IsKit, IsSound, after, certified_by, certifying, nobody};
 
 use crate::kit_cert::cert_line;
 use crate::kit_line::{KitLine, LineWord};
-use crate::kit_read::{authority_line, header_line, line_word, own_line, tick_line};
+use crate::kit_read::{authority_line, line_word, own_line, tick_line};
 use crate::{Kinds, read_group, read_kinds};
 use ff_ids::{Group, MEMBERS, MemberId};
-use line_text::{BadWord, Form, LineFault, Words};
+use line_text::{BadWord, Form, LineFault, TableForm, Words, judge_by_table};
 use lms_tree::PublicKey;
 use records::{Body, CertBody};
 use std::alloc::Global;
@@ -62,12 +62,6 @@ pub enum KitText {
     Ended,
 }
 
-fn is_start(form: &KitText) -> bool
-    ensures { result ≡ is_start form.now }
-{
-    matches!(form, KitText::Start)
-}
-
 /// Whether the certificate of the own number has the own key.
 fn is_owned(owner: &Owner, own: &Option<PublicKey>) -> bool
     ensures { result ≡ is_owned owner.now.key own.now }
@@ -79,38 +73,13 @@ fn is_owned(owner: &Owner, own: &Option<PublicKey>) -> bool
 }
 
 fn end_line(owner: &Owner, own: &Option<PublicKey>, args: Words) -> Result<KitLine, BadWord>
-    ensures { result ≡ refused_whole (end_fault owner.now.key own.now)
-        (fields_line [] end_line args.entry) }
+    ensures { result ≡ whole_line [] (λ _. end_fault owner.now.key own.now) (λ _. End) args.entry }
 {
     args.exactly(0)?;
     if is_owned(owner, own) {
         Ok(KitLine::End)
     } else {
         Err(BadWord::OwnKey)
-    }
-}
-
-/// The line of this line word, where it may stand here.
-fn line_of(alloc: Global, form: &KitText, word: LineWord, args: Words) -> Result<KitLine, LineFault>
-    ensures { AnswersBy TakesMemory (row_line (row_in form.now word args.entry) args.entry) result }
-{
-    match (form, word) {
-        (KitText::Headed, LineWord::Group) => Ok(KitLine::Group(read_group(args)?)),
-        (KitText::Grouped { .. }, LineWord::Kinds) => Ok(KitLine::Kinds(read_kinds(args)?)),
-        (KitText::Kinded { kinds, .. }, LineWord::Own) => own_line(alloc, *kinds, args),
-        (KitText::Owned { .. }, LineWord::Authority) => Ok(authority_line(args)?),
-        (KitText::Authorized { .. }, LineWord::Tick) => Ok(tick_line(args)?),
-        (
-            KitText::Body {
-                owner,
-                authority,
-                named,
-                ..
-            },
-            LineWord::Cert,
-        ) => cert_line(alloc, &owner.group, authority, named, args),
-        (KitText::Body { owner, own, .. }, LineWord::End) => Ok(end_line(owner, own, args)?),
-        _ => Err(LineFault::Bad(BadWord::Order)),
     }
 }
 
@@ -174,6 +143,62 @@ impl KitText {
     }
 }
 
+impl TableForm for KitText {
+    ghost use Rattle.schedule_texts.specs.KitLaws.{kit-reads};
+
+    type Line = KitLine;
+
+    type Word = LineWord;
+
+    ghost table = { kit_table };
+
+    ghost is_sound = { IsSound };
+
+    ghost takes_memory = { TakesMemory };
+
+    ghost reads = { reads };
+
+    fn is_start(&self) -> bool {
+        matches!(self, KitText::Start)
+    }
+
+    #[tactic(auto, using(line_text::proofs::FrameLemmas::header_read))]
+    fn header_line(words: Words) -> Result<KitLine, BadWord> {
+        if words.is_header(b"kit") {
+            Ok(KitLine::Header)
+        } else {
+            Err(BadWord::Header)
+        }
+    }
+
+    fn line_word(word: &[u8]) -> Result<LineWord, BadWord> {
+        line_word(word)
+    }
+
+    fn line_of(&self, alloc: Global, word: LineWord, args: Words) -> Result<KitLine, LineFault> {
+        match (self, word) {
+            (KitText::Headed, LineWord::Group) => Ok(KitLine::Group(read_group(args)?)),
+            (KitText::Grouped { .. }, LineWord::Kinds) => Ok(KitLine::Kinds(read_kinds(args)?)),
+            (KitText::Kinded { kinds, .. }, LineWord::Own) => own_line(alloc, *kinds, args),
+            (KitText::Owned { .. }, LineWord::Authority) => Ok(authority_line(args)?),
+            (KitText::Authorized { .. }, LineWord::Tick) => Ok(tick_line(args)?),
+            (
+                KitText::Body {
+                    owner,
+                    authority,
+                    named,
+                    ..
+                },
+                LineWord::Cert,
+            ) => cert_line(alloc, &owner.group, authority, named, args),
+            (KitText::Body { owner, own, .. }, LineWord::End) => Ok(end_line(owner, own, args)?),
+            _ => Err(LineFault::Bad(BadWord::Order)),
+        }
+    }
+
+    ghost as_table = { kit-reads };
+}
+
 impl Form for KitText {
     ghost use Rattle.schedule_texts.specs.KitLaws.{kit-spelled, kit-taken};
 
@@ -196,12 +221,7 @@ impl Form for KitText {
     }
 
     fn judge(&self, alloc: Global, words: Words) -> Result<KitLine, LineFault> {
-        if is_start(self) {
-            return Ok(header_line(words)?);
-        }
-        let (first, args) = words.split();
-        let word = line_word(first)?;
-        line_of(alloc, self, word, args)
+        judge_by_table(self, alloc, words)
     }
 
     fn advance(&mut self, line: &KitLine) {

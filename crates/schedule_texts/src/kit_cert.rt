@@ -4,13 +4,13 @@ ghost use Rattle.std.specs.Prelude.{◌≡◌, ◌≤◌, take, true, is_ok, IfO
 ghost use Rattle.hex.specs.Hex.{decode_of};
 ghost use Rattle.line_text.specs.Answers.{AnswersBy, refusal};
 ghost use Rattle.line_text.specs.Fields.{hex_of};
-ghost use Rattle.line_text.specs.Frame.{behind, fields_line, first_word};
+ghost use Rattle.line_text.specs.Frame.{behind, first_word, whole_line};
 ghost use Rattle.records.specs.declared.Body.TheVariants.{Certificate};
 ghost use Rattle.records.specs.Signing.{signed_bytes};
 ghost use Rattle.lms_tree.specs.Lms.{Verifies};
-ghost use Rattle.schedule_texts.specs.KitRows.{TakesMemory, cert_fault, cert_fields, cert_line, is_good, refused_whole, signature};
+ghost use Rattle.schedule_texts.specs.KitRows.{TakesMemory, cert_fault_in, cert_line, fields_of, is_good, signature};
 
-use crate::kit_line::KitLine;
+use crate::kit_line::{KitLine, LineWord};
 use crate::kit_read::take_member;
 use crate::{take_key, take_port};
 use ff_ids::{Group, MEMBERS};
@@ -81,8 +81,8 @@ pub(crate) fn cert_line(
     args: Words,
 ) -> Result<KitLine, LineFault>
     ensures { AnswersBy TakesMemory
-        (refused_whole (cert_fault group.now authority.now named.now args.entry)
-        (fields_line cert_fields (cert_line group.now authority.now) args.entry)) result }
+        (whole_line (fields_of LineWord.Cert) (cert_fault_in group.now authority.now named.now)
+        (cert_line group.now authority.now) args.entry) result }
 {
     let mut args = args.exactly(4)?;
     let member = take_member(&mut args)?;

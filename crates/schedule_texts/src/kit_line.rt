@@ -37,7 +37,7 @@ pub enum KitLine {
 
 /// The first words of the lines below the header.
 #[derive(Clone, Copy, Debug, PartialEq, Eq)]
-pub(crate) enum LineWord {
+pub enum LineWord {
     Group,
     Kinds,
     Own,

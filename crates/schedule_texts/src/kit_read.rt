@@ -1,12 +1,10 @@
 //! The lines that no earlier line decides, read word by word.
 
-ghost use Rattle.std.specs.Prelude.{◌≡◌, codes, IfOk};
+ghost use Rattle.std.specs.Prelude.{◌≡◌, IfOk};
 ghost use Rattle.line_text.specs.Answers.{AnswersBy, refusal};
 ghost use Rattle.line_text.specs.Fields.{number_in};
-ghost use Rattle.line_text.specs.Frame.{behind, fields_line, first_word, row_line, word_or_bad};
-ghost use Rattle.schedule_texts.specs.Table.{start_row};
-ghost use Rattle.schedule_texts.specs.declared.kit_line.KitLine.TheVariants.{Header};
-ghost use Rattle.schedule_texts.specs.KitRows.{TakesMemory, authority_fields, authority_line, line_word, member, own_fields, own_line, tick_fields, tick_line};
+ghost use Rattle.line_text.specs.Frame.{behind, fields_line, first_word, word_or_bad};
+ghost use Rattle.schedule_texts.specs.KitRows.{TakesMemory, authority_line, fields_of, line_word, member, own_line, tick_line};
 
 use crate::kit_line::{KitLine, LineWord};
 use crate::{Kinds, take_key};
@@ -14,17 +12,6 @@ use ff_ids::{LAST_MEMBER, MemberId};
 use line_text::{BadWord, LineFault, Words};
 use secrets::make_key;
 use std::alloc::Global;
-
-#[tactic(auto, using(crate::proofs::TableLemmas::header_read))]
-pub(crate) fn header_line(words: Words) -> Result<KitLine, BadWord>
-    ensures { result ≡ row_line (start_row (codes "kit") Header words.entry) (behind words.entry) }
-{
-    if words.is_header(b"kit") {
-        Ok(KitLine::Header)
-    } else {
-        Err(BadWord::Header)
-    }
-}
 
 /// The line word that a word is.
 pub(crate) fn line_word(word: &[u8]) -> Result<LineWord, BadWord>
@@ -61,7 +48,7 @@ pub(crate) fn take_member(words: &mut Words) -> Result<MemberId, BadWord>
 
 /// The own number and secret, and the key that it gives. The words are judged before memory is asked for.
 pub(crate) fn own_line(alloc: Global, kinds: Kinds, args: Words) -> Result<KitLine, LineFault>
-    ensures { AnswersBy TakesMemory (fields_line own_fields (own_line kinds) args.entry) result }
+    ensures { AnswersBy TakesMemory (fields_line (fields_of LineWord.Own) (own_line kinds) args.entry) result }
 {
     let mut args = args.exactly(2)?;
     let member = take_member(&mut args)?;
@@ -77,7 +64,7 @@ pub(crate) fn own_line(alloc: Global, kinds: Kinds, args: Words) -> Result<KitLi
 }
 
 pub(crate) fn authority_line(args: Words) -> Result<KitLine, BadWord>
-    ensures { result ≡ fields_line authority_fields authority_line args.entry }
+    ensures { result ≡ fields_line (fields_of LineWord.Authority) authority_line args.entry }
 {
     let mut args = args.exactly(1)?;
     let key = take_key(&mut args)?;
@@ -85,7 +72,7 @@ pub(crate) fn authority_line(args: Words) -> Result<KitLine, BadWord>
 }
 
 pub(crate) fn tick_line(args: Words) -> Result<KitLine, BadWord>
-    ensures { result ≡ fields_line tick_fields tick_line args.entry }
+    ensures { result ≡ fields_line (fields_of LineWord.Tick) tick_line args.entry }
 {
     let mut args = args.exactly(1)?;
     let millis = args.number(1, 60_000)?;

@@ -1,19 +1,17 @@
 //! The text that asks an authority for certificates, line by line.
 
-ghost use Rattle.std.specs.Prelude.{◌≡◌, ◌≤◌, codes, length, slice_index_or, false, IfOk};
+ghost use Rattle.std.specs.Prelude.{◌≡◌, ◌≤◌, IfOk};
 ghost use Rattle.ff_ids.specs.declared.TheConstants.{LAST_MEMBER};
-ghost use Rattle.line_text.specs.Answers.{AnswersBy, refusal};
+ghost use Rattle.line_text.specs.Answers.{refusal};
 ghost use Rattle.line_text.specs.Fields.{number_in};
-ghost use Rattle.line_text.specs.Frame.{behind, fields_line, first_word, row_line, word_or_bad};
-ghost use Rattle.schedule_texts.specs.declared.line.RosterLine.TheVariants.{Header};
-ghost use Rattle.schedule_texts.specs.Table.{start_row};
-ghost use Rattle.schedule_texts.specs.RosterRows.{TakesMemory, cert_fields, cert_in, fields_of, is_ended, is_named, is_start, line_of, line_word, may_stand, new_member, row_for};
+ghost use Rattle.line_text.specs.Frame.{behind, fields_line, first_word};
+ghost use Rattle.schedule_texts.specs.RosterRows.{TakesMemory, cert_fields, cert_in, fields_of, is_ended, is_named, line_of, may_stand, new_member, reads, roster_table, row_for};
 ghost use Rattle.schedule_texts.specs.RosterGrammar.{IsRoster, IsSound, after, naming, nobody};
 
 use crate::line::RosterLine;
 use crate::shared::{read_group, read_kinds, read_secret, take_key, take_port};
 use ff_ids::{LAST_MEMBER, MEMBERS, MemberId};
-use line_text::{BadWord, Form, LineFault, Words};
+use line_text::{BadWord, Form, LineFault, TableForm, Words, judge_by_table};
 use records::CertBody;
 use std::alloc::Global;
 
@@ -37,49 +35,12 @@ pub enum RosterText {
 
 /// The first words of the lines below the header.
 #[derive(Clone, Copy, Debug, PartialEq, Eq)]
-pub(crate) enum LineWord {
+pub enum LineWord {
     Group,
     Kinds,
     Secret,
     Cert,
     End,
-}
-
-fn is_start(form: &RosterText) -> bool
-    ensures { result ≡ is_start form.now }
-{
-    matches!(form, RosterText::Start)
-}
-
-#[tactic(auto, using(crate::proofs::TableLemmas::header_read))]
-fn header_line(words: Words) -> Result<RosterLine, BadWord>
-    ensures { result ≡ row_line (start_row (codes "roster") Header words.entry)
-        (behind words.entry) }
-{
-    if words.is_header(b"roster") {
-        Ok(RosterLine::Header)
-    } else {
-        Err(BadWord::Header)
-    }
-}
-
-/// The line word that a word is.
-fn line_word(word: &[u8]) -> Result<LineWord, BadWord>
-    ensures { result ≡ word_or_bad (line_word word.now) }
-{
-    if word == b"group".as_slice() {
-        Ok(LineWord::Group)
-    } else if word == b"kinds".as_slice() {
-        Ok(LineWord::Kinds)
-    } else if word == b"secret".as_slice() {
-        Ok(LineWord::Secret)
-    } else if word == b"cert".as_slice() {
-        Ok(LineWord::Cert)
-    } else if word == b"end".as_slice() {
-        Ok(LineWord::End)
-    } else {
-        Err(BadWord::Word)
-    }
 }
 
 /// Whether a line with this word may stand here.
@@ -167,6 +128,66 @@ impl RosterText {
     }
 }
 
+impl TableForm for RosterText {
+    ghost use Rattle.schedule_texts.specs.RosterLaws.{roster-reads};
+
+    type Line = RosterLine;
+
+    type Word = LineWord;
+
+    ghost table = { roster_table };
+
+    ghost is_sound = { IsSound };
+
+    ghost takes_memory = { TakesMemory };
+
+    ghost reads = { reads };
+
+    fn is_start(&self) -> bool {
+        matches!(self, RosterText::Start)
+    }
+
+    #[tactic(auto, using(line_text::proofs::FrameLemmas::header_read))]
+    fn header_line(words: Words) -> Result<RosterLine, BadWord> {
+        if words.is_header(b"roster") {
+            Ok(RosterLine::Header)
+        } else {
+            Err(BadWord::Header)
+        }
+    }
+
+    fn line_word(word: &[u8]) -> Result<LineWord, BadWord> {
+        if word == b"group".as_slice() {
+            Ok(LineWord::Group)
+        } else if word == b"kinds".as_slice() {
+            Ok(LineWord::Kinds)
+        } else if word == b"secret".as_slice() {
+            Ok(LineWord::Secret)
+        } else if word == b"cert".as_slice() {
+            Ok(LineWord::Cert)
+        } else if word == b"end".as_slice() {
+            Ok(LineWord::End)
+        } else {
+            Err(BadWord::Word)
+        }
+    }
+
+    fn line_of(
+        &self,
+        _alloc: Global,
+        word: LineWord,
+        args: Words,
+    ) -> Result<RosterLine, LineFault> {
+        if may_stand(self, word) {
+            Ok(line_of(self, word, args)?)
+        } else {
+            Err(LineFault::Bad(BadWord::Order))
+        }
+    }
+
+    ghost as_table = { roster-reads };
+}
+
 impl Form for RosterText {
     ghost use Rattle.schedule_texts.specs.RosterLaws.{roster-spelled, roster-taken};
 
@@ -188,17 +209,8 @@ impl Form for RosterText {
         matches!(self, RosterText::Ended)
     }
 
-    fn judge(&self, _alloc: Global, words: Words) -> Result<RosterLine, LineFault> {
-        if is_start(self) {
-            return Ok(header_line(words)?);
-        }
-        let (first, args) = words.split();
-        let word = line_word(first)?;
-        if may_stand(self, word) {
-            Ok(line_of(self, word, args)?)
-        } else {
-            Err(LineFault::Bad(BadWord::Order))
-        }
+    fn judge(&self, alloc: Global, words: Words) -> Result<RosterLine, LineFault> {
+        judge_by_table(self, alloc, words)
     }
 
     fn advance(&mut self, line: &RosterLine) {

@@ -1,16 +1,13 @@
 //! The text that makes the store of an authority's key, line by line.
 
-ghost use Rattle.std.specs.Prelude.{◌≡◌, codes};
-ghost use Rattle.line_text.specs.Answers.{AnswersBy};
-ghost use Rattle.line_text.specs.Frame.{behind, fields_line, row_line, word_or_bad};
-ghost use Rattle.schedule_texts.specs.declared.line.SecretLine.TheVariants.{Header};
-ghost use Rattle.schedule_texts.specs.Table.{start_row};
-ghost use Rattle.schedule_texts.specs.SecretRows.{TakesMemory, fields_of, is_ended, is_start, line_of, line_word, may_stand, row_for};
+ghost use Rattle.std.specs.Prelude.{◌≡◌};
+ghost use Rattle.line_text.specs.Frame.{fields_line};
+ghost use Rattle.schedule_texts.specs.SecretRows.{TakesMemory, fields_of, is_ended, line_of, may_stand, reads, row_for, secret_table};
 ghost use Rattle.schedule_texts.specs.SecretGrammar.{IsSecret, IsSound, after};
 
 use crate::line::SecretLine;
 use crate::shared::{read_group, read_kinds, read_secret};
-use line_text::{BadWord, Form, LineFault, Words};
+use line_text::{BadWord, Form, LineFault, TableForm, Words, judge_by_table};
 use std::alloc::Global;
 
 /// What has been read of the text.
@@ -32,46 +29,11 @@ pub enum SecretText {
 
 /// The first words of the lines below the header.
 #[derive(Clone, Copy, Debug, PartialEq, Eq)]
-pub(crate) enum LineWord {
+pub enum LineWord {
     Group,
     Kinds,
     Secret,
     End,
-}
-
-fn is_start(form: SecretText) -> bool
-    ensures { result ≡ is_start form }
-{
-    matches!(form, SecretText::Start)
-}
-
-#[tactic(auto, using(crate::proofs::TableLemmas::header_read))]
-fn header_line(words: Words) -> Result<SecretLine, BadWord>
-    ensures { result ≡ row_line (start_row (codes "secret") Header words.entry)
-        (behind words.entry) }
-{
-    if words.is_header(b"secret") {
-        Ok(SecretLine::Header)
-    } else {
-        Err(BadWord::Header)
-    }
-}
-
-/// The line word that a word is.
-fn line_word(word: &[u8]) -> Result<LineWord, BadWord>
-    ensures { result ≡ word_or_bad (line_word word.now) }
-{
-    if word == b"group".as_slice() {
-        Ok(LineWord::Group)
-    } else if word == b"kinds".as_slice() {
-        Ok(LineWord::Kinds)
-    } else if word == b"secret".as_slice() {
-        Ok(LineWord::Secret)
-    } else if word == b"end".as_slice() {
-        Ok(LineWord::End)
-    } else {
-        Err(BadWord::Word)
-    }
 }
 
 /// Whether a line with this word may stand here.
@@ -102,6 +64,64 @@ fn line_of(word: LineWord, args: Words) -> Result<SecretLine, BadWord>
     }
 }
 
+impl TableForm for SecretText {
+    ghost use Rattle.schedule_texts.specs.SecretLaws.{secret-reads};
+
+    type Line = SecretLine;
+
+    type Word = LineWord;
+
+    ghost table = { secret_table };
+
+    ghost is_sound = { IsSound };
+
+    ghost takes_memory = { TakesMemory };
+
+    ghost reads = { reads };
+
+    fn is_start(&self) -> bool {
+        matches!(self, SecretText::Start)
+    }
+
+    #[tactic(auto, using(line_text::proofs::FrameLemmas::header_read))]
+    fn header_line(words: Words) -> Result<SecretLine, BadWord> {
+        if words.is_header(b"secret") {
+            Ok(SecretLine::Header)
+        } else {
+            Err(BadWord::Header)
+        }
+    }
+
+    fn line_word(word: &[u8]) -> Result<LineWord, BadWord> {
+        if word == b"group".as_slice() {
+            Ok(LineWord::Group)
+        } else if word == b"kinds".as_slice() {
+            Ok(LineWord::Kinds)
+        } else if word == b"secret".as_slice() {
+            Ok(LineWord::Secret)
+        } else if word == b"end".as_slice() {
+            Ok(LineWord::End)
+        } else {
+            Err(BadWord::Word)
+        }
+    }
+
+    fn line_of(
+        &self,
+        _alloc: Global,
+        word: LineWord,
+        args: Words,
+    ) -> Result<SecretLine, LineFault> {
+        if may_stand(*self, word) {
+            Ok(line_of(word, args)?)
+        } else {
+            Err(LineFault::Bad(BadWord::Order))
+        }
+    }
+
+    ghost as_table = { secret-reads };
+}
+
 impl Form for SecretText {
     ghost use Rattle.schedule_texts.specs.SecretLaws.{secret-spelled, secret-taken};
 
@@ -123,17 +143,8 @@ impl Form for SecretText {
         *self == SecretText::Ended
     }
 
-    fn judge(&self, _alloc: Global, words: Words) -> Result<SecretLine, LineFault> {
-        if is_start(*self) {
-            return Ok(header_line(words)?);
-        }
-        let (first, args) = words.split();
-        let word = line_word(first)?;
-        if may_stand(*self, word) {
-            Ok(line_of(word, args)?)
-        } else {
-            Err(LineFault::Bad(BadWord::Order))
-        }
+    fn judge(&self, alloc: Global, words: Words) -> Result<SecretLine, LineFault> {
+        judge_by_table(self, alloc, words)
     }
 
     fn advance(&mut self, line: &SecretLine) {

@@ -1,5 +1,5 @@
 -- What the grammar of the world form says of a line.
-use Rattle.std.proofs.Common.{◌≡◌, ℕ, ◌+◌, ◌-◌, ◌^◌, ◌<◌, ◌≤◌, Bool, true, false, leb, eqb, List, length, Option, Some, None, refl, subst, ◌∙◌, arith, codes, lt-ltb, ltb-true}
+use Rattle.std.proofs.Common.{◌≡◌, ℕ, ◌+◌, ◌^◌, ◌<◌, ◌≤◌, Bool, true, false, leb, eqb, List, length, Option, Some, None, refl, subst, ◌∙◌, arith, codes, lt-ltb, ltb-true}
 use Rattle.std.specs.Prelude.{nat_eq}
 use Rattle.std.specs.Fmt.{decimal}
 use Rattle.std.specs.List.{Contains, list_any}
@@ -75,7 +75,7 @@ HasWords w digits l = PartsHaveWords world_table w digits l (parts w l)
 -- The words of a line that may stand here are one.
 pub world-made : (w : WorldText) (digits : List ℕ) (l : WorldLine) → Stands w l → InRange w l → HasWords w digits l → IsWorld w (spelled_words digits l) l
 world-made w digits l stands range has =
-    subst (λ (ws : List (List ℕ)). IsWorld w ws l) (any_words w digits l) (table-made world_table w digits l (started w) (whole w digits l) stands range has)
+    subst (λ (ws : List (List ℕ)). IsWorld w ws l) (any_words w digits l) (table-made world_table w digits l (started w) (λ word vs. refl) (whole w digits l) stands range has)
 
 -- ## Members that are named
 

@@ -1,3 +1,2 @@
 mod Rows
-pub mod ReadingLemmas
 pub mod GrammarLemmas

@@ -1,13 +1,13 @@
 -- The kinds of keys that a world may have, by the numbers that a schedule gives them.
-use Rattle.std.proofs.Common.{◌≡◌, ℕ, Bool, true, false, cond, eqb, Option, Some, None, refl, sym, ap, ◌∙◌}
+use Rattle.std.proofs.Common.{◌≡◌, ℕ, eqb, Option, Some, None, refl}
 use Rattle.std.specs.Prelude.{◌==◌, if◌then◌else◌}
-use Rattle.std.proofs.lemmas.Bool.{eqb-true}
 use Rattle.lms_ots.specs.declared.kind.OtsKind.{OtsKind}
 use Rattle.lms_ots.specs.declared.kind.OtsKind.TheVariants.{W1, W2, W4, W8}
 use Rattle.lms_ots.specs.Ots as ots
 use Rattle.lms_tree.specs.declared.kind.TreeKind.{TreeKind}
 use Rattle.lms_tree.specs.declared.kind.TreeKind.TheVariants.{H5, H10}
 use Rattle.lms_tree.specs.Kinds as trees
+use Rattle.lms_tree.proofs.KindTables.{no_kind, picked}
 
 -- the kind of one-time signatures that has the width
 abbrev pub ots_of : ℕ → Option OtsKind
@@ -16,25 +16,6 @@ ots_of n = if n == 1 then Some W1 else (if n == 2 then Some W2 else (if n == 4 t
 -- the kind of trees that has the height, among those of a world
 abbrev pub tree_of : ℕ → Option TreeKind
 tree_of n = if n == 5 then Some H5 else (if n == 10 then Some H10 else None)
-
-abbrev there : {A : Type 0} → A → Option A
-there x = Some x
-
-abbrev nothing : {A : Type 0} → Option A
-nothing = None
-
-some_is : {A : Type 0} (x y : A) → there x ≡ there y → x ≡ y
-some_is x y e = cc
-
-no_kind : {K : Type 0} (number : K → ℕ) (n : ℕ) (t : K) → nothing ≡ there t → number t ≡ n
-no_kind number n t e = cc
-
--- the kind that a table of kinds has for a number has that number
-picked : {K : Type 0} (number : K → ℕ) (n m : ℕ) (k t : K) (more : Option K) (b : Bool) → eqb n m ≡ b → number k ≡ m → (more ≡ Some t → number t ≡ n) → cond b (Some k) more ≡ Some t → number t ≡ n
-picked number n m k t more true is same next e =
-    let here : k ≡ t = some_is k t e in
-    ap number (sym here) ∙ same ∙ sym (eqb-true n m is)
-picked number n m k t more false is same next e = next e
 
 -- The kind of a width has the width.
 pub ots_of-width : (n : ℕ) (k : OtsKind) → ots_of n ≡ Some k → ots.width k ≡ n

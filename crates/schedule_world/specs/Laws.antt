@@ -1,14 +1,16 @@
 -- What is taken as a line of the world form is one by its grammar, and what is one is taken.
-use Rattle.std.proofs.Common.{◌≡◌, ℕ, List, ◌∷◌, Some, Ok, refl}
-use Rattle.line_text.specs.Frame.{row_line}
-use Rattle.line_text.specs.Shapes.{Values, made_of}
-use Rattle.line_text.specs.Tables.{IsSound as IsSoundTable, Line}
+use Rattle.std.proofs.Common.{◌≡◌, ℕ, List, ◌∷◌, Some, Result, Ok, Err, refl, ap, if◌then◌else◌}
+use Rattle.line_text.specs.declared.bad_word.BadWord.{BadWord}
+use Rattle.line_text.specs.declared.bad_word.BadWord.TheVariants as bad
+use Rattle.line_text.specs.Frame.{fields_line, row_line}
+use Rattle.line_text.specs.Shapes.{Values, line_from, made_of, tests}
+use Rattle.line_text.specs.Tables.{IsSound as IsSoundTable, Line, row_of}
 use Rattle.line_text.proofs.TableLemmas.{table-spelled, table-taken}
 use Rattle.schedule_world.specs.declared.line.LineWord.{LineWord}
 use Rattle.schedule_world.specs.declared.line.LineWord.TheVariants as words
 use Rattle.schedule_world.specs.declared.line.WorldLine.{WorldLine}
 use Rattle.schedule_world.specs.declared.text.WorldText.{WorldText}
-use Rattle.schedule_world.specs.Rows.{fields, line, line_word, parts, row_for, word_text, world_table}
+use Rattle.schedule_world.specs.Rows.{fields, line, line_word, may_stand, parts, reads, row_for, word_text, words_line, world_table}
 use Rattle.schedule_world.specs.Grammar.{IsSound, IsWorld}
 
 found : (word : LineWord) → line_word (word_text word) ≡ Some word
@@ -29,3 +31,11 @@ world-spelled w first args l e = table-spelled world_table sound w first args l 
 -- What is a line is taken, as that line.
 pub world-taken : (w : WorldText) (first : List ℕ) (args : List (List ℕ)) (l : WorldLine) → IsSound w → IsWorld w (first ∷ args) l → row_line (row_for w (first ∷ args)) args ≡ Ok l
 world-taken w first args l good h = table-taken world_table sound w first args l h
+
+words_are : (w : WorldText) (word : LineWord) (args : List (List ℕ)) → words_line w word args ≡ fields_line (tests (fields w word)) (line_from (fields w word) (line w word)) args
+words_are w words.End args = refl
+words_are w _ args = refl
+
+-- What is read is what the table says.
+pub world-reads : (w : WorldText) (word : LineWord) (args : List (List ℕ)) → reads w word args ≡ row_line (Ok (row_of world_table w word)) args
+world-reads w word args = ap (λ (r : Result WorldLine BadWord). if may_stand w word then r else Err bad.Order) (words_are w word args)

@@ -1,6 +1,6 @@
 -- The table of the world form: each line word, where its line may stand, what the words behind it must be, and what
 -- line they are.
-use Rattle.std.specs.Prelude.{ℕ, ◌*◌, ◌-◌, ◌^◌, ◌&&◌, ◌==◌, nat_le, nat_lt, not, min, Bool, true, false, List, [], ◌∷◌, length, Option, Result, codes}
+use Rattle.std.specs.Prelude.{ℕ, ◌*◌, ◌-◌, ◌^◌, ◌&&◌, ◌==◌, nat_le, nat_lt, not, min, Bool, true, false, List, [], ◌∷◌, length, Option, None, Result, Err, codes, if◌then◌else◌}
 use Rattle.std.specs.List.{list_any}
 use Rattle.ff_ids.specs.declared.TheConstants.{LAST_MEMBER, MAX_TOLERANCE, ALL_BITS}
 use Rattle.lms_ots.specs.declared.kind.OtsKind.TheVariants.{W8}
@@ -231,6 +231,7 @@ world_table = record {
   text = word_text;
   may_stand = may_stand;
   fields = fields;
+  whole_fault = λ w word values. None;
   line = line;
   parts = parts;
 }
@@ -251,8 +252,9 @@ words_line w word args = fields_line (tests (fields w word)) (line_from (fields 
 abbrev pub any_line : LineWord → List (List ℕ) → Result WorldLine BadWord
 any_line word args = words_line world.Start word args
 
-abbrev pub start_row : List (List ℕ) → Result (Row WorldLine) BadWord
-start_row ws = table.start_row world_table ws
+-- what the words behind a line word are read as
+abbrev pub reads : WorldText → LineWord → List (List ℕ) → Result WorldLine BadWord
+reads w word args = if may_stand w word then words_line w word args else Err bad.Order
 
 -- The row of a line with these words, or the bad word where there is none.
 abbrev pub row_for : WorldText → List (List ℕ) → Result (Row WorldLine) BadWord

@@ -103,7 +103,7 @@ pub enum WorldLine {
 
 /// The first words of the lines below the header.
 #[derive(Clone, Copy, Debug, PartialEq, Eq)]
-pub(crate) enum LineWord {
+pub enum LineWord {
     Group,
     Kinds,
     Node,

@@ -2,61 +2,14 @@
 
 ghost use Rattle.std.specs.Prelude.{◌≡◌, ◌≤◌, []};
 ghost use Rattle.ff_ids.specs.declared.TheConstants.{MAX_TOLERANCE};
-ghost use Rattle.line_text.specs.Frame.{fields_line, word_or_bad};
-ghost use Rattle.schedule_world.specs.Rows.{any_line, line_word, tolerance, words_line};
+ghost use Rattle.line_text.specs.Frame.{fields_line};
+ghost use Rattle.schedule_world.specs.Rows.{any_line, tolerance, words_line};
 
 use crate::line::{LineWord, WorldLine};
 use crate::take::{take_member, take_outcome};
 use crate::text::WorldText;
 use ff_ids::RingNo;
 use line_text::{BadWord, Words};
-
-/// The line word that a word is.
-pub(crate) fn line_word(word: &[u8]) -> Result<LineWord, BadWord>
-    ensures { result ≡ word_or_bad (line_word word.now) }
-{
-    if word == b"group".as_slice() {
-        Ok(LineWord::Group)
-    } else if word == b"kinds".as_slice() {
-        Ok(LineWord::Kinds)
-    } else if word == b"node".as_slice() {
-        Ok(LineWord::Node)
-    } else if word == b"liar".as_slice() {
-        Ok(LineWord::Liar)
-    } else if word == b"begin".as_slice() {
-        Ok(LineWord::Begin)
-    } else if word == b"start".as_slice() {
-        Ok(LineWord::Start)
-    } else if word == b"stop".as_slice() {
-        Ok(LineWord::Stop)
-    } else if word == b"arm".as_slice() {
-        Ok(LineWord::Arm)
-    } else if word == b"tick".as_slice() {
-        Ok(LineWord::Tick)
-    } else if word == b"deliver".as_slice() {
-        Ok(LineWord::Deliver)
-    } else if word == b"flow".as_slice() {
-        Ok(LineWord::Flow)
-    } else if word == b"raw".as_slice() {
-        Ok(LineWord::Raw)
-    } else if word == b"sign-note".as_slice() {
-        Ok(LineWord::SignNote)
-    } else if word == b"sign-accusation".as_slice() {
-        Ok(LineWord::SignAccusation)
-    } else if word == b"give".as_slice() {
-        Ok(LineWord::Give)
-    } else if word == b"give-all".as_slice() {
-        Ok(LineWord::GiveAll)
-    } else if word == b"view".as_slice() {
-        Ok(LineWord::View)
-    } else if word == b"monitor".as_slice() {
-        Ok(LineWord::Monitor)
-    } else if word == b"end".as_slice() {
-        Ok(LineWord::End)
-    } else {
-        Err(BadWord::Word)
-    }
-}
 
 pub(crate) fn start_line(args: Words) -> Result<WorldLine, BadWord>
     ensures { result ≡ any_line LineWord.Start args.entry }

@@ -1,25 +1,13 @@
 //! The lines of the roster, which stand before `begin`.
 
 ghost use Rattle.std.specs.Prelude.{◌≡◌};
-ghost use Rattle.line_text.specs.Frame.{behind, row_line};
-ghost use Rattle.schedule_world.specs.Rows.{any_line, start_row, words_line};
+ghost use Rattle.schedule_world.specs.Rows.{any_line, words_line};
 
 use crate::line::{LineWord, WorldLine};
 use crate::take::{take_height, take_newcomer, take_width};
 use crate::text::WorldText;
 use ff_ids::{Group, MAX_TOLERANCE};
 use line_text::{BadWord, Words};
-
-#[tactic(auto, using(crate::proofs::ReadingLemmas::header_read))]
-pub(crate) fn header_line(words: Words) -> Result<WorldLine, BadWord>
-    ensures { result ≡ row_line (start_row words.entry) (behind words.entry) }
-{
-    if words.is_header(b"world") {
-        Ok(WorldLine::Header)
-    } else {
-        Err(BadWord::Header)
-    }
-}
 
 pub(crate) fn group_line(args: Words) -> Result<WorldLine, BadWord>
     ensures { result ≡ any_line LineWord.Group args.entry }

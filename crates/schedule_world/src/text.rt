@@ -3,19 +3,19 @@
 ghost use Rattle.std.specs.Prelude.{◌≡◌, ◌+◌, ◌<◌, ◌≤◌, length};
 ghost use Rattle.ff_ids.specs.declared.TheConstants.{MAX_TOLERANCE};
 ghost use Rattle.line_text.specs.Answers.{AnswersBy};
-ghost use Rattle.schedule_world.specs.Rows.{TakesMemory, is_ended, is_start, may_name, may_stand, row_for, ticks_left, tolerance, words_line};
+ghost use Rattle.schedule_world.specs.Rows.{TakesMemory, is_ended, may_name, may_stand, reads, row_for, ticks_left, tolerance, words_line, world_table};
 ghost use Rattle.schedule_world.specs.Grammar.{IsSound, IsWorld, after, named, ticks_of, ticked, with_member};
 
 use crate::line::{LineWord, WorldLine};
 use crate::named::Named;
 use crate::read::{
-    arm_line, deliver_line, flow_line, line_word, lone_line, monitor_line, start_line, stop_line,
-    tick_line, view_line,
+    arm_line, deliver_line, flow_line, lone_line, monitor_line, start_line, stop_line, tick_line,
+    view_line,
 };
-use crate::roster::{group_line, header_line, kinds_line, liar_line, node_line};
+use crate::roster::{group_line, kinds_line, liar_line, node_line};
 use crate::signing::{give_all_line, give_line, raw_line, sign_accusation_line, sign_note_line};
 use ff_ids::MemberId;
-use line_text::{BadWord, Form, LineFault, Words};
+use line_text::{BadWord, Form, LineFault, TableForm, Words, judge_by_table};
 use std::alloc::Global;
 
 /// How many ticks a schedule may have.
@@ -39,12 +39,6 @@ pub enum WorldText {
 }
 
 impl WorldText {
-    fn is_start(&self) -> bool
-        ensures { result ≡ is_start self.now }
-    {
-        matches!(self, WorldText::Start)
-    }
-
     /// Whether a line with this word may stand here.
     fn may_stand(&self, word: LineWord) -> bool
         ensures { result ≡ may_stand self.now word }
@@ -90,7 +84,7 @@ impl WorldText {
     }
 
     /// The line of this line word.
-    fn line_of(&self, alloc: Global, word: LineWord, args: Words) -> Result<WorldLine, LineFault>
+    fn words_line(&self, alloc: Global, word: LineWord, args: Words) -> Result<WorldLine, LineFault>
         requires { tolerance self.now ≤ MAX_TOLERANCE }
         ensures { AnswersBy TakesMemory (words_line self.now word args.entry) result }
     {
@@ -144,6 +138,89 @@ impl WorldText {
     }
 }
 
+impl TableForm for WorldText {
+    ghost use Rattle.schedule_world.specs.Laws.{world-reads};
+
+    type Line = WorldLine;
+
+    type Word = LineWord;
+
+    ghost table = { world_table };
+
+    ghost is_sound = { IsSound };
+
+    ghost takes_memory = { TakesMemory };
+
+    ghost reads = { reads };
+
+    fn is_start(&self) -> bool {
+        matches!(self, WorldText::Start)
+    }
+
+    #[tactic(auto, using(line_text::proofs::FrameLemmas::header_read))]
+    fn header_line(words: Words) -> Result<WorldLine, BadWord> {
+        if words.is_header(b"world") {
+            Ok(WorldLine::Header)
+        } else {
+            Err(BadWord::Header)
+        }
+    }
+
+    fn line_word(word: &[u8]) -> Result<LineWord, BadWord> {
+        if word == b"group".as_slice() {
+            Ok(LineWord::Group)
+        } else if word == b"kinds".as_slice() {
+            Ok(LineWord::Kinds)
+        } else if word == b"node".as_slice() {
+            Ok(LineWord::Node)
+        } else if word == b"liar".as_slice() {
+            Ok(LineWord::Liar)
+        } else if word == b"begin".as_slice() {
+            Ok(LineWord::Begin)
+        } else if word == b"start".as_slice() {
+            Ok(LineWord::Start)
+        } else if word == b"stop".as_slice() {
+            Ok(LineWord::Stop)
+        } else if word == b"arm".as_slice() {
+            Ok(LineWord::Arm)
+        } else if word == b"tick".as_slice() {
+            Ok(LineWord::Tick)
+        } else if word == b"deliver".as_slice() {
+            Ok(LineWord::Deliver)
+        } else if word == b"flow".as_slice() {
+            Ok(LineWord::Flow)
+        } else if word == b"raw".as_slice() {
+            Ok(LineWord::Raw)
+        } else if word == b"sign-note".as_slice() {
+            Ok(LineWord::SignNote)
+        } else if word == b"sign-accusation".as_slice() {
+            Ok(LineWord::SignAccusation)
+        } else if word == b"give".as_slice() {
+            Ok(LineWord::Give)
+        } else if word == b"give-all".as_slice() {
+            Ok(LineWord::GiveAll)
+        } else if word == b"view".as_slice() {
+            Ok(LineWord::View)
+        } else if word == b"monitor".as_slice() {
+            Ok(LineWord::Monitor)
+        } else if word == b"end".as_slice() {
+            Ok(LineWord::End)
+        } else {
+            Err(BadWord::Word)
+        }
+    }
+
+    fn line_of(&self, alloc: Global, word: LineWord, args: Words) -> Result<WorldLine, LineFault> {
+        if self.may_stand(word) {
+            self.words_line(alloc, word, args)
+        } else {
+            Err(LineFault::Bad(BadWord::Order))
+        }
+    }
+
+    ghost as_table = { world-reads };
+}
+
 impl Form for WorldText {
     ghost use Rattle.schedule_world.specs.Laws.{world-spelled, world-taken};
 
@@ -166,16 +243,7 @@ impl Form for WorldText {
     }
 
     fn judge(&self, alloc: Global, words: Words) -> Result<WorldLine, LineFault> {
-        if self.is_start() {
-            return Ok(header_line(words)?);
-        }
-        let (first, args) = words.split();
-        let word = line_word(first)?;
-        if self.may_stand(word) {
-            self.line_of(alloc, word, args)
-        } else {
-            Err(LineFault::Bad(BadWord::Order))
-        }
+        judge_by_table(self, alloc, words)
     }
 
     fn advance(&mut self, line: &WorldLine) {

@@ -1,14 +1,15 @@
 -- What is taken as a line is one by the grammar, and what is one is taken.
-use Rattle.std.proofs.Common.{◌≡◌, ℕ, List, ◌∷◌, Some, Ok, refl}
-use Rattle.line_text.specs.Frame.{row_line}
-use Rattle.line_text.specs.Shapes.{Values, made_of}
-use Rattle.line_text.specs.Tables.{IsSound as IsSoundTable, Line}
+use Rattle.std.proofs.Common.{◌≡◌, ℕ, List, ◌∷◌, Some, Ok, Err, refl, ap, if◌then◌else◌}
+use Rattle.line_text.specs.declared.bad_word.BadWord.TheVariants as bad
+use Rattle.line_text.specs.Frame.{fields_line, row_line}
+use Rattle.line_text.specs.Shapes.{Values, line_from, made_of}
+use Rattle.line_text.specs.Tables.{IsSound as IsSoundTable, Line, row_of}
 use Rattle.line_text.proofs.TableLemmas.{table-spelled, table-taken}
 use Rattle.verify_text.specs.declared.line.LineWord.{LineWord}
 use Rattle.verify_text.specs.declared.line.LineWord.TheVariants as words
 use Rattle.verify_text.specs.declared.line.VerifyLine.{VerifyLine}
 use Rattle.verify_text.specs.declared.verify.Verify.{Verify}
-use Rattle.verify_text.specs.Rows.{fields, line, line_word, parts, row_for, verify_table, word_text}
+use Rattle.verify_text.specs.Rows.{fields, fields_of, line, line_of, line_word, may_stand, parts, reads, row_for, verify_table, word_text}
 use Rattle.verify_text.specs.Grammar.{IsSound, IsVerify}
 
 named : (word : LineWord) → line_word (word_text word) ≡ Some word
@@ -29,3 +30,11 @@ verify-spelled v first args l e = table-spelled verify_table sound v first args 
 -- What is a line is taken, as that line.
 pub verify-taken : (v : Verify) (first : List ℕ) (args : List (List ℕ)) (l : VerifyLine) → IsSound v → IsVerify v (first ∷ args) l → row_line (row_for v (first ∷ args)) args ≡ Ok l
 verify-taken v first args l good h = table-taken verify_table sound v first args l h
+
+line_is : (word : LineWord) → line_of word ≡ line_from (fields word) (line word)
+line_is words.End = refl
+line_is _ = refl
+
+-- What is read is what the table says.
+pub verify-reads : (v : Verify) (word : LineWord) (args : List (List ℕ)) → reads v word args ≡ row_line (Ok (row_of verify_table v word)) args
+verify-reads v word args = ap (λ (of : List (List ℕ) → VerifyLine). if may_stand v word then fields_line (fields_of word) of args else Err bad.Order) (line_is word)

@@ -1,14 +1,16 @@
 -- The table of the text that asks whether a signature is good: each line word, where its line may stand, what the word
 -- behind it must be, and what line they are.
-use Rattle.std.specs.Prelude.{ℕ, Bool, true, false, List, [], ◌∷◌, Option, Result, codes}
+use Rattle.std.specs.Prelude.{ℕ, Bool, true, false, List, [], ◌∷◌, Option, None, Result, Err, codes, if◌then◌else◌}
 use Rattle.lms_ots.specs.declared.kind.OtsKind.TheVariants.{W1}
 use Rattle.lms_tree.specs.declared.key.PublicKey.{PublicKey}
 use Rattle.lms_tree.specs.declared.kind.TreeKind.TheVariants.{H5}
+use Rattle.lms_tree.specs.Keys.{AreKey}
 use Rattle.lms_tree.specs.Lms.{key_in}
+use Rattle.lms_tree.proofs.Keys.{key-again, key-are}
 use Rattle.line_text.specs.declared.bad_word.BadWord.{BadWord}
 use Rattle.line_text.specs.declared.bad_word.BadWord.TheVariants as bad
 use Rattle.line_text.specs.Fields.{Test}
-use Rattle.line_text.specs.Frame.{Row, word_among}
+use Rattle.line_text.specs.Frame.{Row, fields_line, word_among}
 use Rattle.line_text.specs.Shapes.{◌and◌, Field, Fields, Makes, bytes_as, bytes_up_to, line_from, no_more, tests}
 use Rattle.line_text.specs.Tables as table
 use Rattle.line_text.specs.Tables.{Header, Line, Parts, Table}
@@ -18,7 +20,6 @@ use Rattle.verify_text.specs.declared.line.VerifyLine.{VerifyLine}
 use Rattle.verify_text.specs.declared.line.VerifyLine.TheVariants as lines
 use Rattle.verify_text.specs.declared.verify.Verify.{Verify}
 use Rattle.verify_text.specs.declared.verify.Verify.TheVariants as verify
-use Rattle.verify_text.specs.Keys.{AreKey, key-again, key-are}
 
 abbrev pub is_start : Verify → Bool
 is_start verify.Start = true
@@ -89,6 +90,7 @@ verify_table = record {
   text = word_text;
   may_stand = may_stand;
   fields = λ v. fields;
+  whole_fault = λ v word values. None;
   line = λ v. line;
   parts = λ v. parts;
 }
@@ -106,8 +108,9 @@ abbrev pub line_of : LineWord → List (List ℕ) → VerifyLine
 line_of words.End args = lines.End
 line_of word args = line_from (fields word) (line word) args
 
-abbrev pub start_row : List (List ℕ) → Result (Row VerifyLine) BadWord
-start_row ws = table.start_row verify_table ws
+-- what the words behind a line word are read as
+abbrev pub reads : Verify → LineWord → List (List ℕ) → Result VerifyLine BadWord
+reads v word args = if may_stand v word then fields_line (fields_of word) (line_of word) args else Err bad.Order
 
 abbrev pub row_for : Verify → List (List ℕ) → Result (Row VerifyLine) BadWord
 row_for v ws = table.row_for verify_table v ws

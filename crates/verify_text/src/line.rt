@@ -20,7 +20,7 @@ pub enum VerifyLine {
 
 /// The first words of the lines below the header.
 #[derive(Clone, Copy, Debug, PartialEq, Eq)]
-pub(crate) enum LineWord {
+pub enum LineWord {
     Key,
     Message,
     Signature,

@@ -2,8 +2,8 @@
 
 ghost use Rattle.std.specs.Prelude.{◌≡◌};
 ghost use Rattle.line_text.specs.Answers.{AnswersBy};
-ghost use Rattle.line_text.specs.Frame.{behind, fields_line, row_line, word_or_bad};
-ghost use Rattle.verify_text.specs.Rows.{TakesMemory, fields_of, line_of, line_word, start_row};
+ghost use Rattle.line_text.specs.Frame.{fields_line};
+ghost use Rattle.verify_text.specs.Rows.{TakesMemory, fields_of, line_of};
 
 use crate::line::{LineWord, VerifyLine};
 use line_text::{BadWord, LineFault, Words};
@@ -15,34 +15,6 @@ const MESSAGE: usize = 16_384;
 
 /// How many bytes a signature may have.
 const SIGNATURE: usize = 10_000;
-
-#[tactic(auto, using(crate::proofs::ReadingLemmas::header_read))]
-pub(crate) fn header_line(words: Words) -> Result<VerifyLine, BadWord>
-    ensures { result ≡ row_line (start_row words.entry) (behind words.entry) }
-{
-    if words.is_header(b"verify") {
-        Ok(VerifyLine::Header)
-    } else {
-        Err(BadWord::Header)
-    }
-}
-
-/// The line word that a word is.
-pub(crate) fn line_word(word: &[u8]) -> Result<LineWord, BadWord>
-    ensures { result ≡ word_or_bad (line_word word.now) }
-{
-    if word == b"key".as_slice() {
-        Ok(LineWord::Key)
-    } else if word == b"message".as_slice() {
-        Ok(LineWord::Message)
-    } else if word == b"signature".as_slice() {
-        Ok(LineWord::Signature)
-    } else if word == b"end".as_slice() {
-        Ok(LineWord::End)
-    } else {
-        Err(BadWord::Word)
-    }
-}
 
 #[tactic(auto, using(crate::proofs::ReadingLemmas::key_tested))]
 pub(crate) fn key_line(args: Words) -> Result<VerifyLine, BadWord>

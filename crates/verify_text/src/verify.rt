@@ -2,13 +2,13 @@
 
 ghost use Rattle.std.specs.Prelude.{◌≡◌};
 ghost use Rattle.line_text.specs.Answers.{AnswersBy};
-ghost use Rattle.line_text.specs.Frame.{behind, fields_line, row_line};
-ghost use Rattle.verify_text.specs.Rows.{TakesMemory, fields_of, is_ended, is_start, line_of, may_stand, row_for};
+ghost use Rattle.line_text.specs.Frame.{fields_line};
+ghost use Rattle.verify_text.specs.Rows.{TakesMemory, fields_of, is_ended, line_of, may_stand, reads, row_for, verify_table};
 ghost use Rattle.verify_text.specs.Grammar.{IsSound, IsVerify, after};
 
 use crate::line::{LineWord, VerifyLine};
-use crate::read::{end_line, header_line, key_line, line_word, message_line, signature_line};
-use line_text::{BadWord, Form, LineFault, Words};
+use crate::read::{end_line, key_line, message_line, signature_line};
+use line_text::{BadWord, Form, LineFault, TableForm, Words, judge_by_table};
 use std::alloc::Global;
 
 /// What has been read of the text.
@@ -26,12 +26,6 @@ pub enum Verify {
     Signed,
     /// The line `end`.
     Ended,
-}
-
-fn is_start(verify: Verify) -> bool
-    ensures { result ≡ is_start verify }
-{
-    matches!(verify, Verify::Start)
 }
 
 /// Whether a line with this word may stand here.
@@ -60,6 +54,59 @@ fn line_of(alloc: Global, word: LineWord, args: Words) -> Result<VerifyLine, Lin
     }
 }
 
+impl TableForm for Verify {
+    ghost use Rattle.verify_text.specs.Laws.{verify-reads};
+
+    type Line = VerifyLine;
+
+    type Word = LineWord;
+
+    ghost table = { verify_table };
+
+    ghost is_sound = { IsSound };
+
+    ghost takes_memory = { TakesMemory };
+
+    ghost reads = { reads };
+
+    fn is_start(&self) -> bool {
+        matches!(self, Verify::Start)
+    }
+
+    #[tactic(auto, using(line_text::proofs::FrameLemmas::header_read))]
+    fn header_line(words: Words) -> Result<VerifyLine, BadWord> {
+        if words.is_header(b"verify") {
+            Ok(VerifyLine::Header)
+        } else {
+            Err(BadWord::Header)
+        }
+    }
+
+    fn line_word(word: &[u8]) -> Result<LineWord, BadWord> {
+        if word == b"key".as_slice() {
+            Ok(LineWord::Key)
+        } else if word == b"message".as_slice() {
+            Ok(LineWord::Message)
+        } else if word == b"signature".as_slice() {
+            Ok(LineWord::Signature)
+        } else if word == b"end".as_slice() {
+            Ok(LineWord::End)
+        } else {
+            Err(BadWord::Word)
+        }
+    }
+
+    fn line_of(&self, alloc: Global, word: LineWord, args: Words) -> Result<VerifyLine, LineFault> {
+        if may_stand(*self, word) {
+            line_of(alloc, word, args)
+        } else {
+            Err(LineFault::Bad(BadWord::Order))
+        }
+    }
+
+    ghost as_table = { verify-reads };
+}
+
 impl Form for Verify {
     ghost use Rattle.verify_text.specs.Laws.{verify-spelled, verify-taken};
 
@@ -82,16 +129,7 @@ impl Form for Verify {
     }
 
     fn judge(&self, alloc: Global, words: Words) -> Result<VerifyLine, LineFault> {
-        if is_start(*self) {
-            return Ok(header_line(words)?);
-        }
-        let (first, args) = words.split();
-        let word = line_word(first)?;
-        if may_stand(*self, word) {
-            line_of(alloc, word, args)
-        } else {
-            Err(LineFault::Bad(BadWord::Order))
-        }
+        judge_by_table(self, alloc, words)
     }
 
     fn advance(&mut self, line: &VerifyLine) {
