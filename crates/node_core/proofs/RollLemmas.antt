@@ -1,15 +1,16 @@
 -- Certificates are taken one after the other.
-use Rattle.std.proofs.Common.{◌≡◌, refl, ap, sym, subst, ◌∙◌, suc, arith, length, inl, inr, ◌⊎◌, List, [], ◌∷◌, ◌++◌, map}
+use Rattle.std.proofs.Common.{◌≡◌, refl, ap, sym, subst, ◌∙◌, suc, arith, length, List, [], ◌∷◌, ◌++◌, map}
 use Rattle.std.specs.Prelude.{All, unwrap_or}
-use Rattle.ff_ids.specs.declared.NoteBody.{NoteBody}
-use Rattle.ff_ids.specs.declared.AccBody.{AccBody}
 use Rattle.records.specs.declared.CertBody.{CertBody}
 use Rattle.records.specs.declared.Body.{Body}
-use Rattle.records.specs.declared.Body.TheVariants.{Certificate, Note, Accusation}
+use Rattle.records.specs.declared.Body.TheVariants.{Certificate}
 use Rattle.node_rules.specs.Nodes.{certificate_in}
 use Rattle.std.proofs.lemmas.List.{append_assoc}
 use Rattle.records.specs.declared.Record.{Record}
 use Rattle.records.specs.Signing.{CheckedRecord}
+use Rattle.std.specs.FinMap as fin
+use Rattle.std.proofs.lemmas.Cmp.{nat_cmp_total}
+use Rattle.validate.specs.Certified.{Certificates, certificate_of as kept_certificate}
 use Rattle.node_rules.specs.Nodes.{Setting, certificate_of}
 use Rattle.node_rules.specs.Calls.{Call, takes, lives}
 use Rattle.ff_ids.specs.Steps.{Joins}
@@ -57,24 +58,15 @@ pub zero-empty : {X : Type 0} (xs : List X) → length xs ≡ 0 → xs ≡ []
 zero-empty [] e = refl
 zero-empty (x ∷ xs) e = absurd (omega (arith, e))
 
-abbrev IsCertificate : Body → Type 0
-IsCertificate (Certificate c) = Unit {0}
-IsCertificate (Note n) = ⊥
-IsCertificate (Accusation a) = ⊥
-
-pub no-other : (b : Body) (x : CertBody) → b ≡ Certificate x → ((n : NoteBody) × (b ≡ Note n)) ⊎ ((a : AccBody) × (b ≡ Accusation a)) → ⊥
-no-other b x is (inl n) = subst IsCertificate (sym is ∙ n.1) tt
-no-other b x is (inr a) = subst IsCertificate (sym is ∙ a.1) tt
-
 -- ---- certificates of different numbers
+
+apart : (a b : ℕ) → nat_eq a b ≡ false → eq_by_cmp nat_cmp a b ≡ false
+apart a b e = grind (arith, nat_tests, e)
 
 other-number : (s : Setting) (r : Record) (x : CertBody) (c : Call) (m : ℕ) → r.body ≡ Certificate x → nat_eq m x.member ≡ false → certificate_of (takes s r c).node m ≡ certificate_of c.node m
 other-number s r x c m is other =
     ap (λ y. certificate_of y.node m) (takes-is s r (Certificate x) c is) ∙ certificate-held r (lives s (Joins x.member (s.places x.member)) c) x m is ∙ ap (λ b. cond b (Some x) (certificate_of (lives s (Joins x.member (s.places x.member)) c).node m)) (apart m x.member other)
     ∙ certificate-lives s (Joins x.member (s.places x.member)) c m
-  where
-    apart : (a b : ℕ) → nat_eq a b ≡ false → eq_by_cmp nat_cmp a b ≡ false
-    apart a b e = grind (arith, nat_tests, e)
 
 abbrev pub IsFree : Call → Record → Type 0
 IsFree c r = (x : CertBody) × (r.body ≡ Certificate x) × (certificate_of c.node x.member ≡ None)
@@ -96,3 +88,24 @@ new-apart s c (r ∷ records) apart free =
 pub all-free : (c : Call) (records : List Record) → ((m : ℕ) → certificate_of c.node m ≡ None) → AreApart records → AllByRecursion (IsFree c) records
 all-free c [] none apart = tt
 all-free c (r ∷ records) none apart = ((apart.0.cert, apart.0.body, none apart.0.cert.member), all-free c records none apart.1)
+
+-- ---- certificates that are kept
+
+-- If it is a certificate, its number has none.
+abbrev pub IsFresh : Certificates → Record → Type 0
+IsFresh kept r = (x : CertBody) → r.body ≡ Certificate x → kept_certificate kept x.member ≡ None
+
+pub fresh-at_first : (kept : Certificates) (records : List Record) → kept ≡ fin.empty → AllByRecursion (IsFresh kept) records
+fresh-at_first kept [] none = tt
+fresh-at_first kept (r ∷ records) none = ((λ x is. ap (λ (k : Certificates). kept_certificate k x.member) none ∙ fin.get-empty nat_cmp x.member), fresh-at_first kept records none)
+
+-- those of other numbers stay so
+pub fresh-behind : (kept later : Certificates) (x : CertBody) (behind : List Record) → later ≡ fin.insert kept x.member x → AllByRecursion (IsOfOther x.member) behind → AllByRecursion (IsFresh kept) behind → AllByRecursion (IsFresh later) behind
+fresh-behind kept later x [] is others fresh = tt
+fresh-behind kept later x (q ∷ behind) is others fresh =
+    let o = others.0 in (
+      (λ y at.
+          let off : eq_by_cmp nat_cmp y.member x.member ≡ false = apart y.member x.member (ap (λ (z : CertBody). nat_eq z.member x.member) (same-certificate q.body y o.cert at o.body) ∙ o.other) in
+          ap (λ (k : Certificates). kept_certificate k y.member) is ∙ fin.get-insert nat_cmp_total kept x.member x y.member ∙ ap (λ b. cond b (Some x) (kept_certificate kept y.member)) off ∙ fresh.0 y at),
+      fresh-behind kept later x behind is others.1 fresh.1,
+    )

@@ -1,7 +1,8 @@
 //! Pages as datagrams, and what the other side of an exchange lacks.
 
-ghost use Rattle.std.specs.Prelude.{◌≡◌, IfOk, is_some};
+ghost use Rattle.std.specs.Prelude.{◌≡◌, ◌<◌, IfOk, is_some};
 ghost use Rattle.std.specs.List.{list_all};
+ghost use Rattle.ff_ids.specs.declared.TheConstants.{PAGES};
 ghost use Rattle.datagram.specs.declared.Datagram.TheVariants as kinds;
 ghost use Rattle.datagram.specs.Spelling.{datagram_bytes};
 ghost use Rattle.record_set.specs.Pages.{summary_of};
@@ -9,7 +10,7 @@ ghost use Rattle.node_core.specs.Exchanging.{noted, IsLacking};
 
 use crate::hearing::bytes_of;
 use datagram::{Datagram, records_head};
-use ff_ids::{LAST_PAGE, MemberId, Summary, SummaryEntry};
+use ff_ids::{MemberId, Summary, SummaryEntry};
 use fields::NoMemory;
 use gossip::lacks;
 use record_set::RecordSet;
@@ -45,13 +46,14 @@ pub(crate) fn page_bytes(
     flag: bool,
     page: u8,
 ) -> Result<Vec<u8>, NoMemory>
+    requires { page < PAGES }
     ensures { IfOk result
         (λ bytes. bytes.items
         ≡ datagram_bytes (kinds.Summary from flag (summary_of records.now page))) }
 {
     let mut summary = Summary::new();
     records.page(page, &mut summary);
-    if page > LAST_PAGE || !are_noted(summary.entries()) {
+    if !are_noted(summary.entries()) {
         return Err(NoMemory);
     }
     bytes_of(

@@ -1,6 +1,7 @@
 //! What is heard: records, pings and pongs.
 
 ghost use Rattle.std.specs.Prelude.{◌≡◌, ℕ, ◌≤◌, ◌<◌, ◌++◌, ◌∷◌, List, IfOk, IfErr, is_err, All, OnOk, false, Some, fold};
+ghost use Rattle.ff_ids.specs.declared.TheConstants.{PAGES};
 ghost use Rattle.ports.specs.Count.{counted as counts_faults};
 ghost use Rattle.ports.specs.MemoryDisk.{DiskState};
 ghost use Rattle.journal.specs.declared.event.Event as journal;
@@ -140,6 +141,7 @@ impl Node {
         flag: bool,
         theirs: &Summary,
     )
+        requires { theirs.now.page < PAGES }
         ensures plays { (s : Setting) (es : List journal.Event) (os : List (ℕ × List ℕ)) (c : Call)
             → Plays s es os self.old c
             → Plays s es os self.new (exchanges s from flag theirs.now c) }
@@ -175,6 +177,7 @@ impl Node {
 
     /// The same page goes to the member, unless its summary was an answer.
     fn reply_page(&mut self, alloc: Global, to: MemberId, flag: bool, page: u8)
+        requires { page < PAGES }
         ensures plays { (s : Setting) (es : List journal.Event) (os : List (ℕ × List ℕ)) (c : Call)
             → Plays s es os self.old c
             → Plays s es os self.new (replies s to flag page c) }
@@ -188,6 +191,7 @@ impl Node {
 
     /// The node's summary of the page goes to the member.
     pub(crate) fn send_page(&mut self, alloc: Global, to: MemberId, flag: bool, page: u8)
+        requires { page < PAGES }
         ensures plays { (s : Setting) (es : List journal.Event) (os : List (ℕ × List ℕ)) (c : Call)
             → Plays s es os self.old c
             → Plays s es os self.new

@@ -1,7 +1,7 @@
 //! Who is certified as a life begins.
 
 ghost use Rattle.std.specs.Prelude.{◌≡◌, ◌≤◌, ℕ, true, false, List, [], None, IfOk, map, fold, All};
-ghost use Rattle.std.specs.FinMap.{empty};
+ghost use Rattle.std.specs.FinMap.{empty, insert};
 ghost use Rattle.ff_ids.specs.declared.TheConstants.{MAX_TOLERANCE};
 ghost use Rattle.ff_ids.specs.Lives.{opening};
 ghost use Rattle.membership.specs.Holds.{Holds};
@@ -10,7 +10,8 @@ ghost use Rattle.records.specs.declared.Body.TheVariants as bodies;
 ghost use Rattle.node_rules.specs.Nodes.{Setting, certificate_of};
 ghost use Rattle.node_rules.specs.Calls.{Call, takes};
 ghost use Rattle.node_core.specs.Playing.{Kept, IsAt};
-ghost use Rattle.node_core.specs.Rolls.{with_roll, IsCertificateFor, AreNew, takes_all};
+ghost use Rattle.node_core.specs.Rolls.{with_roll, IsCertificateFor, AreApart, AreNew, recs_of, takes_all};
+ghost use Rattle.validate.specs.Certified.{certificate_of as kept_certificate};
 
 use ff_ids::Group;
 use fields::NoMemory;
@@ -50,26 +51,27 @@ impl Roll {
         requires certificate { rec.rec.body ≡ bodies.Certificate cert }
         requires tolerance { rec.t ≡ self.old.membership.group.t }
         requires few { self.old.membership.group.t ≤ MAX_TOLERANCE }
+        requires fresh { kept_certificate self.old.roster cert.member ≡ None }
         ensures plays { (s : Setting) (es : List journal.Event) (os : List (ℕ × List ℕ)) (v : Kept)
             (c : Call) → IsAt s es os (with_roll v self.old) c
             → v.group ≡ self.old.membership.group → v.telling.failed ≡ false
             → certificate_of c.node cert.member ≡ None
             → IsAt s es os (with_roll v self.new) (takes s rec.rec c) }
         ensures group { self.new.membership.group ≡ self.old.membership.group }
+        ensures roster { self.new.roster ≡ insert self.old.roster cert.member cert }
     {
-        if self.roster.get(cert.member).is_some() {
-            return;
-        }
         let places = hash_places(self.membership.group(), cert.member);
         let _fault = self.membership.add_member(cert.member, places);
         self.roster.put(cert);
         self.records.put(rec);
     }
 
-    /// Takes the certificates, in order, of numbers that have none.
+    /// Takes the certificates, in order, each of another number, where there is none yet.
     pub fn take_all(&mut self, certificates: Vec<Checked>)
         requires all { All (IsCertificateFor self.old.membership.group.t) certificates.items }
         requires few { self.old.membership.group.t ≤ MAX_TOLERANCE }
+        requires none { self.old.roster ≡ empty }
+        requires apart { AreApart (recs_of certificates.items) }
         ensures plays { (s : Setting) (es : List journal.Event) (os : List (ℕ × List ℕ)) (v : Kept)
             (c : Call) → IsAt s es os (with_roll v self.old) c
             → v.group ≡ self.old.membership.group → v.telling.failed ≡ false
@@ -81,7 +83,7 @@ impl Roll {
         for rec in certificates {
             match rec.rec().body {
                 Body::Certificate(cert) => self.take(rec, cert),
-                Body::Note(_) | Body::Accusation(_) => {}
+                Body::Note(_) | Body::Accusation(_) => unreachable!(),
             }
         }
     }

@@ -141,7 +141,8 @@ impl Node {
             (addressees s (Some acc.now.accused)) c) self.old self.new (D.state disk.old).model
             (D.state disk.new).model result }
     {
-        if self.telling.has_failed() {
+        let refused = self.telling.has_failed();
+        if refused {
             return Ok(());
         }
         let index = self.signer.state().next;

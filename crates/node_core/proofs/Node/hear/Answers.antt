@@ -1,5 +1,6 @@
 use Rattle.std.proofs.Common.{◌≡◌, subst, sym, rules}
 use Rattle.datagram.specs.declared.Datagram.TheVariants as kinds
+use Rattle.datagram.specs.Spelling.{HasContent}
 use Rattle.node_rules.specs.Deliveries.{hears}
 use Rattle.node_core.specs.Playing.{Plays, Stops}
 use Rattle.std.specs.Prelude.{Ok}
@@ -15,6 +16,11 @@ use Rattle.node_rules.proofs.GoingOn.{on-hears}
 use Rattle.node_core.specs.OnDisks.{ComesTo, on_disk, storage}
 use Rattle.node_core.proofs.DiskLemmas.{comes-heard}
 use Rattle.node_core.proofs.Node.hear.Goals as goal
+
+pub hear_summary-requires : goal.hear_summary-requires
+hear_summary-requires g c =
+    let is : c.args.datagram ≡ kinds.Summary c.in-Summary.from c.in-Summary.flag c.in-Summary.summary = search rules in
+    (subst HasContent is c.requires.content).page
 
 pub returns-in-Ping-clause-plays : goal.returns-in-Ping-clause-plays
 returns-in-Ping-clause-plays g c = λ s es os call p.

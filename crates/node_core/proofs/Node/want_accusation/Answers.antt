@@ -55,19 +55,19 @@ returns-in-Ok-clause-spends g c =
     let v : Kept = the_view c.self.inside in
     let b : Body = bodies.Accusation c.args.acc.now in
     let lives = lives-signed c.self.inside.signer c.sign_accusation.new.self b (Ok c.in-Ok.rec) _ _ c.in-Ok.ensures in
-    signed-spends v c.args.self.now c.pass_on_accusation.new.self c.sign_accusation.new.self _ _ c.state-index.result.next (bodies.Accusation c.args.acc.now) b c.self.view_is (sym c.has_failed.ensures ∙ c.if-has_failed.false) (ap (λ x. x.next) c.state-index.ensures) refl lives c.pass_on_accusation.ensures.spent
+    signed-spends v c.args.self.now c.pass_on_accusation.new.self c.sign_accusation.new.self _ _ c.state-index.result.next (bodies.Accusation c.args.acc.now) b c.self.view_is (sym c.has_failed-refused.ensures ∙ c.if-refused.false) (ap (λ x. x.next) c.state-index.ensures) refl lives c.pass_on_accusation.ensures.spent
 
 pub returns-in-Err-StoreFault-clause-spends : goal.returns-in-Err-StoreFault-clause-spends
 returns-in-Err-StoreFault-clause-spends g c =
     let b : Body = bodies.Accusation c.args.acc.now in
     let lives = lives-signed c.self.inside.signer c.sign_accusation.new.self b (Err c.in-Err-StoreFault.field-0) _ _ c.in-Err-StoreFault.ensures in
-    unsigned-spends (the_view c.self.inside) c.args.self.now c.tell-in-Err-StoreFault.new.self c.sign_accusation.new.self _ _ c.self.view_is (sym c.has_failed.ensures ∙ c.if-has_failed.false) lives c.tell-in-Err-StoreFault.ensures.signs_nothing
+    unsigned-spends (the_view c.self.inside) c.args.self.now c.tell-in-Err-StoreFault.new.self c.sign_accusation.new.self _ _ c.self.view_is (sym c.has_failed-refused.ensures ∙ c.if-refused.false) lives c.tell-in-Err-StoreFault.ensures.signs_nothing
 
 pub returns-in-Err-Exhausted-clause-spends : goal.returns-in-Err-Exhausted-clause-spends
 returns-in-Err-Exhausted-clause-spends g c =
     let b : Body = bodies.Accusation c.args.acc.now in
     let lives = lives-signed c.self.inside.signer c.sign_accusation.new.self b (Err c.in-Err-Exhausted.field-0) _ _ c.in-Err-Exhausted.ensures in
-    unsigned-spends (the_view c.self.inside) c.args.self.now c.tell.new.self c.sign_accusation.new.self _ _ c.self.view_is (sym c.has_failed.ensures ∙ c.if-has_failed.false) lives c.tell.ensures.signs_nothing
+    unsigned-spends (the_view c.self.inside) c.args.self.now c.tell.new.self c.sign_accusation.new.self _ _ c.self.view_is (sym c.has_failed-refused.ensures ∙ c.if-refused.false) lives c.tell.ensures.signs_nothing
 
 pub returns-in-Err-OutOfMemory-clause-spends : goal.returns-in-Err-OutOfMemory-clause-spends
 returns-in-Err-OutOfMemory-clause-spends g c =
@@ -75,7 +75,7 @@ returns-in-Err-OutOfMemory-clause-spends g c =
     let b : Body = bodies.Accusation c.args.acc.now in
     let lives = lives-signed c.self.inside.signer c.sign_accusation.new.self b (Err c.in-Err-OutOfMemory.field-0) _ _ c.in-Err-OutOfMemory.ensures in
     let v1 : Kept = record v { signer = c.sign_accusation.new.self } in
-    unsigned-spends v c.args.self.now _ c.sign_accusation.new.self _ _ c.self.view_is (sym c.has_failed.ensures ∙ c.if-has_failed.false) lives (refused-none v1 v1 _ refl refl c.fail.ensures)
+    unsigned-spends v c.args.self.now _ c.sign_accusation.new.self _ _ c.self.view_is (sym c.has_failed-refused.ensures ∙ c.if-refused.false) lives (refused-none v1 v1 _ refl refl c.fail.ensures)
 
 pub returns-in-Err-OutOfMemory-clause-plays : goal.returns-in-Err-OutOfMemory-clause-plays
 returns-in-Err-OutOfMemory-clause-plays g c = λ s es os call p.
@@ -118,14 +118,14 @@ returns-in-Err-StoreFault-clause-fails g c = λ s es os call p fine.
     subst (λ (w : Kept). FailsToStore kept w.signer told.new.self.signer x y) c.self.view_is
     (fails-signed v.signer c.sign_accusation.new.self told.new.self.signer b kept x y after told.ensures.signs_nothing.signer (subst (λ (f : SignFault). MakesFrom {T = CheckedRecord} (Err f) (put_calls v.signer.seat (stored_after v.signer.state b)) x y) c.in-Err-StoreFault.field-0-is c.in-Err-StoreFault.ensures.follows) (wants-stored s b (Some c.args.acc.now.accused) call free ∙ ap (λ (k : Stored). stored_after k b) (sym h.is.stored)))
 
-pub returns-then-has_failed-clause-plays : goal.returns-then-has_failed-clause-plays
-returns-then-has_failed-clause-plays g c = λ s es os call p.
+pub returns-then-refused-clause-plays : goal.returns-then-refused-clause-plays
+returns-then-refused-clause-plays g c = λ s es os call p.
     let b : Body = bodies.Accusation c.args.acc.now in
-    let failed = ap (λ (v : Kept). v.telling.failed) (sym c.self.view_is) ∙ sym c.has_failed.ensures ∙ c.if-has_failed.true in
+    let failed = ap (λ (v : Kept). v.telling.failed) (sym c.self.view_is) ∙ sym c.has_failed-refused.ensures ∙ c.if-refused.true in
     plays-stuck s es os c.args.self.now call (wants true s b (addressees s (Some c.args.acc.now.accused)) call) failed p (extends-wants s b (addressees s (Some c.args.acc.now.accused)) call)
 
-pub returns-then-has_failed-clause-spends : goal.returns-then-has_failed-clause-spends
-returns-then-has_failed-clause-spends g c = spends-none c.args.self.now c.args.self.now _ (nothing-same c.args.self.now)
+pub returns-then-refused-clause-spends : goal.returns-then-refused-clause-spends
+returns-then-refused-clause-spends g c = spends-none c.args.self.now c.args.self.now _ (nothing-same c.args.self.now)
 
-pub returns-then-has_failed-clause-stores : goal.returns-then-has_failed-clause-stores
-returns-then-has_failed-clause-stores g c = stores-none c.args.self.now.signer c.args.self.now.signer (g.D.Disk.state c.args.disk.now).model refl
+pub returns-then-refused-clause-stores : goal.returns-then-refused-clause-stores
+returns-then-refused-clause-stores g c = stores-none c.args.self.now.signer c.args.self.now.signer (g.D.Disk.state c.args.disk.now).model refl

@@ -8,4 +8,4 @@ use Rattle.node_core.proofs.exchange.page_bytes.Goals as goal
 pub bytes_of-requires : goal.bytes_of-requires
 bytes_of-requires c =
     let notes : list_all noted c.page.new.out.listed ≡ true = ap (λ (es : List SummaryEntry). list_all noted es) (sym c.entries.ensures) ∙ sym c.are_noted.ensures ∙ c.if-not-are_noted.false in
-    page-writable c.args.from c.args.flag c.args.records.now c.args.page c.page.new.out c.page.ensures (omega (arith, c.if-page-gt-LAST_PAGE.false)) notes
+    page-writable c.args.from c.args.flag c.args.records.now c.args.page c.page.new.out c.page.ensures c.requires notes

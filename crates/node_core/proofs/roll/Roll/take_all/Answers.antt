@@ -6,29 +6,45 @@ use Rattle.records.specs.declared.Body.TheVariants as bodies
 use Rattle.records.specs.Signing.{CheckedRecord}
 use Rattle.node_rules.specs.Nodes.{certificate_of}
 use Rattle.node_core.specs.Playing.{IsAt}
-use Rattle.node_core.specs.Rolls.{with_roll, AreNew, takes_all, IsCertificateFor}
-use Rattle.node_core.proofs.RollLemmas.{recs, new-push, after-push, same-certificate, nil-end, at-behind, zero-empty, no-other}
+use Rattle.node_core.specs.Rolls.{with_roll, AreApart, AreNew, takes_all, IsCertificateFor, IsOfOther}
+use Rattle.node_core.proofs.RollLemmas.{recs, new-push, after-push, same-certificate, nil-end, at-behind, zero-empty, IsFresh, fresh-at_first, fresh-behind}
+use Rattle.std.specs.List.{AllByRecursion}
 use Rattle.node_core.proofs.roll.Roll.take_all.Goals as goal
 
 pub loop-rec-init : goal.loop-rec-init
-loop-rec-init c = record { parts = search rules; group = refl; plays = λ s es os v call later at g f new. (at, new) }
+loop-rec-init c =
+    let all : c.into_iter-rec-iterator.result.rest.items ≡ c.args.certificates.items = search rules in
+    record { parts = all; group = refl; apart = subst (λ (xs : List CheckedRecord). AreApart (recs xs)) (sym all) c.requires.apart; fresh = fresh-at_first c.args.self.now.roster _ c.requires.none; plays = λ s es os v call later at g f new. (at, new) }
 
 pub take-requires-clause-tolerance : goal.take-requires-clause-tolerance
 take-requires-clause-tolerance c =
     let parts : c.loop-rec.yielded ++ c.in-Some.rec ∷ c.next.new.self.rest.items ≡ c.args.certificates.items = search rules in
     (at-behind (IsCertificateFor c.args.self.now.membership.group.t) c.loop-rec.yielded c.in-Some.rec c.next.new.self.rest.items c.args.certificates.items parts c.requires.all).tolerance ∙ ap (λ g. g.t) (sym c.loop-rec.invariant.group)
 
+pub take-requires-clause-fresh : goal.take-requires-clause-fresh
+take-requires-clause-fresh c =
+    let x = c.in-Some.rec in
+    let body : x.rec.body ≡ bodies.Certificate c.in-Certificate.cert = sym (ap (λ r. r.body) c.rec.ensures.value) ∙ c.in-Certificate.is in
+    let next : c.loop-rec.rec-iterator.rest.items ≡ x ∷ c.next.new.self.rest.items = search rules in
+    (subst (λ (xs : List CheckedRecord). AllByRecursion (IsFresh c.loop-rec.self.roster) (recs xs)) next c.loop-rec.invariant.fresh).0 c.in-Certificate.cert body
+
 pub take-requires-clause-few : goal.take-requires-clause-few
 take-requires-clause-few c = subst (λ g. g.t ≤ MAX_TOLERANCE) (sym c.loop-rec.invariant.group) c.requires.few
 
-pub loop-rec-preserved-in-Certificate : goal.loop-rec-preserved-in-Certificate
-loop-rec-preserved-in-Certificate c =
+pub loop-rec-preserved : goal.loop-rec-preserved
+loop-rec-preserved c =
     let x = c.in-Some.rec in
-    let body : x.rec.body ≡ bodies.Certificate c.in-Certificate.cert = sym (ap (λ r. r.body) c.rec-in-loop-rec.ensures.value) ∙ c.in-Certificate.is in
+    let body : x.rec.body ≡ bodies.Certificate c.in-Certificate.cert = sym (ap (λ r. r.body) c.rec.ensures.value) ∙ c.in-Certificate.is in
     let parts : c.loop-rec.yielded ++ x ∷ c.next.new.self.rest.items ≡ c.args.certificates.items = search rules in
+    let next : c.loop-rec.rec-iterator.rest.items ≡ x ∷ c.next.new.self.rest.items = search rules in
+    let behind = subst (λ (xs : List CheckedRecord). AreApart (recs xs)) next c.loop-rec.invariant.apart in
+    let others = subst (λ (y : CertBody). AllByRecursion (IsOfOther y.member) (recs c.next.new.self.rest.items)) (same-certificate x.rec.body behind.0.cert c.in-Certificate.cert behind.0.body body) behind.0.others in
     record {
       parts = append_assoc c.loop-rec.yielded (x ∷ []) c.next.new.self.rest.items ∙ parts;
       group = c.take.ensures.group ∙ c.loop-rec.invariant.group;
+      apart = behind.1;
+      fresh = fresh-behind c.loop-rec.self.roster c.take.new.self.roster c.in-Certificate.cert (recs c.next.new.self.rest.items) c.take.ensures.roster others
+          (subst (λ (xs : List CheckedRecord). AllByRecursion (IsFresh c.loop-rec.self.roster) (recs xs)) next c.loop-rec.invariant.fresh).1;
       plays = λ s es os v call later at g f new.
           let before = c.loop-rec.invariant.plays s es os v call (x.rec ∷ later) at g f (new-push s c.loop-rec.yielded x later call new) in
           let first = before.1.0 in
@@ -36,14 +52,6 @@ loop-rec-preserved-in-Certificate c =
           let after = c.take.ensures.plays s es os v _ before.0 (g ∙ sym c.loop-rec.invariant.group) f free in
           (subst (IsAt s es os (with_roll v c.take.new.self)) (after-push s c.loop-rec.yielded x call) after, subst (λ y. AreNew s y later) (after-push s c.loop-rec.yielded x call) before.1.1);
     }
-
-pub loop-rec-preserved : goal.loop-rec-preserved
-loop-rec-preserved c =
-    let x = c.in-Some.rec in
-    let parts : c.loop-rec.yielded ++ x ∷ c.next.new.self.rest.items ≡ c.args.certificates.items = search rules in
-    let is = at-behind (IsCertificateFor c.args.self.now.membership.group.t) c.loop-rec.yielded x c.next.new.self.rest.items c.args.certificates.items parts c.requires.all in
-    let body : c.rec-in-loop-rec.result.now.body ≡ bodies.Certificate is.cert = ap (λ r. r.body) c.rec-in-loop-rec.ensures.value ∙ is.body in
-    absurd (no-other _ is.cert body c.in-Note.is)
 
 pub returns-clause-plays : goal.returns-clause-plays
 returns-clause-plays c = λ s es os v call at g f new.

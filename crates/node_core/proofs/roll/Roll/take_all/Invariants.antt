@@ -4,9 +4,10 @@ use Rattle.records.specs.declared.Record.{Record}
 use Rattle.node_rules.specs.Nodes.{Setting}
 use Rattle.node_rules.specs.Calls.{Call}
 use Rattle.node_core.specs.Playing.{Kept, IsAt}
-use Rattle.node_core.specs.Rolls.{with_roll, AreNew, takes_all}
+use Rattle.node_core.specs.Rolls.{with_roll, AreApart, AreNew, takes_all}
 use Rattle.node_core.specs.declared.roll.Roll.{Roll}
-use Rattle.node_core.proofs.RollLemmas.{recs}
+use Rattle.node_core.proofs.RollLemmas.{recs, IsFresh}
+use Rattle.std.specs.List.{AllByRecursion}
 use Rattle.records.specs.Signing.{CheckedRecord}
 use Rattle.node_core.proofs.roll.Roll.take_all.Given as goal
 
@@ -14,6 +15,8 @@ use Rattle.node_core.proofs.roll.Roll.take_all.Given as goal
 pub record Took (first now : Roll) (yielded rest all : List CheckedRecord) : Type 0 where
   pub parts : yielded ++ rest ≡ all
   pub group : now.membership.group ≡ first.membership.group
+  pub apart : AreApart (recs rest)
+  pub fresh : AllByRecursion (IsFresh now.roster) (recs rest)
   pub plays : (s : Setting) (es : List journal.Event) (os : List (ℕ × List ℕ)) (v : Kept) (c : Call) (later : List Record) → IsAt s es os (with_roll v first) c
       → v.group ≡ first.membership.group → v.telling.failed ≡ false → AreNew s c (recs yielded ++ later)
       → IsAt s es os (with_roll v now) (takes_all s (recs yielded) c) × AreNew s (takes_all s (recs yielded) c) later
