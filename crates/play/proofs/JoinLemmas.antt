@@ -85,6 +85,7 @@ refused-join C A B first next number room later cause was then now a b = record 
   read = read-join was.left then.left now.left a.bytes b.bytes (bytes_of b.last) a.read b.read;
   stands = b.stands;
   wrote = Appends-trans was.taken then.taken now.taken a.text b.text a.wrote b.wrote;
+  writes = steps-join C A B (Waits C) a.lines b.lines a.text b.text a.steps b.writes;
   refuses = refuses-join C A B a.lines b.lines b.last a.text b.text cause a.steps b.refuses;
   unfailed = unfailed-join was then now a.unfailed b.unfailed;
 }

@@ -54,6 +54,7 @@ runs-less C P A B room was now (Err (stop.Refused line cause)) less h = record {
   read = h.read;
   stands = h.stands;
   wrote = h.wrote;
+  writes = λ f b. h.writes f (less f b);
   refuses = refuses-less C A B h.lines h.last h.text cause less h.refuses;
   unfailed = h.unfailed;
 }

@@ -72,8 +72,8 @@ finished-here C A room was now line text by read none ends wrote unfailed = reco
 }
 
 -- the line was refused, before anything was written
-pub refused-line : (C : Type 0) (A : Continuation C → Type 0) (room first : ℕ) (cause : C) (was now : IoState) (line : List ℕ) (by : Ending) → Reads was.left now.left line by → 0 < length line → Refuses C A [] (Some line) [] cause → Appends was.taken now.taken [] → Unfailed was now → Refused C A room first first cause was now
-refused-line C A room first cause was now line by read some refuses same unfailed = record {
+pub refused-line : (C : Type 0) (A : Continuation C → Type 0) (room first : ℕ) (cause : C) (was now : IoState) (line : List ℕ) (by : Ending) → Reads was.left now.left line by → 0 < length line → Refuses C A [] (Some line) [] cause → ((f : Continuation C) → A f → Waits C f) → Appends was.taken now.taken [] → Unfailed was now → Refused C A room first first cause was now
+refused-line C A room first cause was now line by read some refuses waits same unfailed = record {
   lines = [];
   bytes = [];
   last = Some line;
@@ -83,13 +83,14 @@ refused-line C A room first cause was now line by read some refuses same unfaile
   read = read.front;
   stands = is-last by line now.left read.ends some;
   wrote = same;
+  writes = writes-none C A waits;
   refuses = refuses;
   unfailed = unfailed;
 }
 
 -- the end was refused, before anything was written
-pub refused-end : (C : Type 0) (A : Continuation C → Type 0) (room first : ℕ) (cause : C) (was now : IoState) (line : List ℕ) (by : Ending) → Reads was.left now.left line by → length line ≡ 0 → Refuses C A [] None [] cause → Appends was.taken now.taken [] → Unfailed was now → Refused C A room first first cause was now
-refused-end C A room first cause was now line by read none refuses same unfailed = record {
+pub refused-end : (C : Type 0) (A : Continuation C → Type 0) (room first : ℕ) (cause : C) (was now : IoState) (line : List ℕ) (by : Ending) → Reads was.left now.left line by → length line ≡ 0 → Refuses C A [] None [] cause → ((f : Continuation C) → A f → Waits C f) → Appends was.taken now.taken [] → Unfailed was now → Refused C A room first first cause was now
+refused-end C A room first cause was now line by read none refuses waits same unfailed = record {
   lines = [];
   bytes = [];
   last = None;
@@ -99,6 +100,7 @@ refused-end C A room first cause was now line by read none refuses same unfailed
   read = nothing-read was.left now.left line read.front none;
   stands = is-end by line now.left read.ends none;
   wrote = same;
+  writes = writes-none C A waits;
   refuses = refuses;
   unfailed = unfailed;
 }

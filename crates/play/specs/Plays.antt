@@ -82,8 +82,8 @@ abbrev pub IsLast : Option (List ℕ) → Option (List ℕ) → Type 0
 IsLast None left = IsUsedUp left
 IsLast (Some line) left = IsFed line ⊎ (IsCut line ⊎ IsUnended line left)
 
--- The line of this number was refused, or the end: whole lines and that line were taken, and all of the trace before
--- it was written.
+-- The line of this number was refused, or the end: whole lines and that line were taken, none of the lines before it is
+-- refused, and all of the trace before it was written.
 pub record Refused (C : Type 0) (A : Continuation C → Type 0) (room first number : ℕ) (cause : C) (was now : IoState) : Type 0 where
   pub lines : List (List ℕ)
   pub bytes : List ℕ
@@ -94,6 +94,7 @@ pub record Refused (C : Type 0) (A : Continuation C → Type 0) (room first numb
   pub read : Consumes was.left now.left (bytes ++ bytes_of last)
   pub stands : IsLast last now.left
   pub wrote : Appends was.taken now.taken text
+  pub writes : Writes C A lines text
   pub refuses : Refuses C A lines last text cause
   pub unfailed : Unfailed was now
 

@@ -174,6 +174,7 @@ unfinished-from j Spells spelled form was now (stop.Refused line cause) h = λ t
   read = h.read;
   stands = h.stands;
   wrote = h.wrote;
+  writes = writes-told j Spells spelled form tell h.lines h.text h.writes;
   refuses = refuses-told j form tell h.lines h.last h.text cause h.refuses;
   unfailed = h.unfailed;
 }

@@ -21,7 +21,7 @@ returns-in-Err-write_all-clause-turns g c =
 pub returns-in-Err-Refused-clause-turns : goal.returns-in-Err-Refused-clause-turns
 returns-in-Err-Refused-clause-turns g c =
     let refuses = rw c.in-Err-Refused.field-0-is at c.in-Err-Refused.ensures.end in
-    refused-end _ (g.P.Script.owes c.args.script.now) _ _ c.in-Err-Refused.cause _ _ c.read_line.new.line.items c.in-Ok.field-0 c.in-Ok.ensures.reads (search rules) refuses (Appends-nil (g.O.Sink.state c.args.out.now).taken) (record { reads = c.in-Ok.ensures.faults; writes = refl })
+    refused-end _ (g.P.Script.owes c.args.script.now) _ _ c.in-Err-Refused.cause _ _ c.read_line.new.line.items c.in-Ok.field-0 c.in-Ok.ensures.reads (search rules) refuses (g.met.P.Script.waits c.args.script.now) (Appends-nil (g.O.Sink.state c.args.out.now).taken) (record { reads = c.in-Ok.ensures.faults; writes = refl })
 
 pub returns-in-Err-OutOfMemory-clause-turns : goal.returns-in-Err-OutOfMemory-clause-turns
 returns-in-Err-OutOfMemory-clause-turns g c =
@@ -44,7 +44,7 @@ pub returns-in-Err-Refused-line-clause-turns : goal.returns-in-Err-Refused-line-
 returns-in-Err-Refused-line-clause-turns g c =
     let answered = rw c.in-Err-Refused-line.field-0-is at c.in-Err-Refused-line.ensures.line in
     let refuses = rw c.deref-2.ensures.value at answered in
-    refused-line _ (g.P.Script.owes c.args.script.now) _ _ c.in-Err-Refused-line.cause _ _ c.read_line.new.line.items c.in-Ok.field-0 c.in-Ok.ensures.reads (search rules) refuses (Appends-nil (g.O.Sink.state c.args.out.now).taken) (record { reads = c.in-Ok.ensures.faults; writes = refl })
+    refused-line _ (g.P.Script.owes c.args.script.now) _ _ c.in-Err-Refused-line.cause _ _ c.read_line.new.line.items c.in-Ok.field-0 c.in-Ok.ensures.reads (search rules) refuses (g.met.P.Script.waits c.args.script.now) (Appends-nil (g.O.Sink.state c.args.out.now).taken) (record { reads = c.in-Ok.ensures.faults; writes = refl })
 
 pub returns-in-Err-OutOfMemory-line-clause-turns : goal.returns-in-Err-OutOfMemory-line-clause-turns
 returns-in-Err-OutOfMemory-line-clause-turns g c =
