@@ -6,7 +6,7 @@ use Rattle.play.specs.declared.stop.Stop.TheVariants as stop
 use Rattle.text_trace.specs.Lines.{text_lines}
 use Rattle.text_trace.specs.Trace.{Continuation}
 use Rattle.authority.specs.declared.halt.Halt.{Halt}
-use Rattle.world_replay.specs.declared.cause.Cause.TheVariants as causes
+use Rattle.world_rules.specs.declared.cause.Cause.TheVariants as causes
 use Rattle.command_line.specs.Causes.{IsFront, RunEnd, Says, cause_line, for_cause, for_word, status_by, status_of_halt}
 use Rattle.command_line.specs.Ends.{Counts, EndsBy, HaltEnds, Is, Tells}
 use Rattle.command_line.specs.declared.status.Status.{Status}

@@ -1,5 +1,5 @@
 -- What a replay upholds, from how it ended.
-use Rattle.std.proofs.Common.{◌≡◌, ℕ, Bool, true, false, List, [], ◌++◌, Option, Some, None, Ok, Err, sym, subst, ◌∙◌, ap, append-nil}
+use Rattle.std.proofs.Common.{◌≡◌, ℕ, Bool, true, false, List, [], ◌++◌, Option, Some, None, Ok, Err, refl, sym, subst, ◌∙◌, ap, append-nil}
 use Rattle.std.specs.Option.{option_map}
 use Rattle.play.specs.Plays.{IoState}
 use Rattle.play.specs.declared.stop.Stop.TheVariants as stop
@@ -15,15 +15,14 @@ use Rattle.trace.proofs.UprightLemmas.{justified-walk}
 use Rattle.world_rules.specs.Walk as walk
 use Rattle.world_laws.specs.Texts.{IsForgedAt}
 use Rattle.world_laws.proofs.FlowWalks.{each-once}
-use Rattle.world_laws.proofs.ForgedLines.{texts-hand-over}
 use Rattle.world_laws.proofs.Walking.{texts-come, texts-lawful}
 use Rattle.world_text.specs.Lines.{line_text}
 use Rattle.command_line.specs.WorldWritten.{GivesAll, GivesTold, output, told_in, world_walk}
 use Rattle.command_line.proofs.WorldToldLemmas.{all-written, behind-told, front-told}
-use Rattle.world_replay.specs.declared.cause.Cause.{Cause}
-use Rattle.world_replay.specs.declared.cause.Cause.TheVariants as causes
+use Rattle.world_rules.specs.declared.cause.Cause.{Cause}
+use Rattle.world_rules.specs.declared.cause.Cause.TheVariants as causes
 use Rattle.world_replay.specs.Causes as world
-use Rattle.world_replay.specs.Causes.{IsJudged, cause_of}
+use Rattle.world_replay.specs.Causes.{IsJudged}
 use Rattle.command_line.specs.Replayed.{is_world, replayed, replayed_as}
 use Rattle.command_line.proofs.ReplayWaitLemmas.{unfed-adds-nothing}
 use Rattle.command_line.specs.Causes.{IsWritten, RunEnd, cause_line, for_cause, status_by}
@@ -32,6 +31,7 @@ use Rattle.command_line.specs.Headline.{DirectHeadline, Headline, HeadlineAs, On
 use Rattle.command_line.specs.Traced.{EndsSilently, IsCause, IsOwed}
 use Rattle.command_line.proofs.CauseLines.{IsOther, bad-line, begins-other, fault-line, forged-line, tail-of, unsigned-other}
 use Rattle.command_line.proofs.EndLemmas.{none_shorter}
+use Rattle.command_line.proofs.ForgedLemmas.{forged-at}
 use Rattle.command_line.proofs.TraceLemmas.{traced}
 use Rattle.command_line.specs.declared.status.Status.{Status}
 use Rattle.command_line.specs.declared.status.Status.TheVariants as status
@@ -114,29 +114,12 @@ told lines text rest line failed (Err stop.ReadFault) same none is = told-cause 
 told lines text rest line failed (Err stop.WriteFault) same none is = told-alone lines text rest line failed same is
 told lines text rest line failed (Err stop.OutOfMemory) same none is = told-alone lines text rest line failed same is
 
--- a cause that is a forged record is that of the walk
-found : (o : Option walk.Cause) (who : Option ℕ) (body : Body) → option_map cause_of o ≡ Some (causes.Forged who body) → o ≡ Some (walk.Forged (record { who = who; body = body }))
-found None who body e = cc
-found (Some (walk.Bad word)) who body e = cc
-found (Some (walk.Forged f)) who body e =
-    let owner : f.who ≡ who = cc in
-    let said : f.body ≡ body = cc in
-    ap (λ (x : Option ℕ). Some (walk.Forged (record { who = x; body = f.body }))) owner ∙ ap (λ (y : Body). Some (walk.Forged (record { who = who; body = y }))) said
-
-forged : (lines : List (List ℕ)) (r : RunEnd Cause) → IsCause (world.replayed lines).cause r → OnForged r (IsForgedAt (world_walk lines).stage)
-forged lines (Ok _) is = tt
-forged lines (Err (stop.Refused number (causes.Bad w))) is = tt
-forged lines (Err (stop.Refused number (causes.Forged who body))) is = texts-hand-over line_text lines (record { who = who; body = body }) (found (world_walk lines).cause who body is)
-forged lines (Err stop.ReadFault) is = tt
-forged lines (Err stop.WriteFault) is = tt
-forged lines (Err stop.OutOfMemory) is = tt
-
-world-headline : (lines : List (List ℕ)) (text rest line : List ℕ) (failed : Bool) (r : RunEnd Cause) → output lines ≡ text ++ rest → IsCause (world.replayed lines).cause r → OnWhole r (rest ≡ []) → IsWritten failed (cause_line (status_by for_cause r)) line → WorldHeadline lines text line r
-world-headline lines text rest line failed r same cause whole is = record {
+world-headline : (lines : List (List ℕ)) (text rest line : List ℕ) (failed : Bool) (r : RunEnd Cause) → output lines ≡ text ++ rest → OnWhole r (rest ≡ []) → IsWritten failed (cause_line (status_by for_cause r)) line → OnForged r (IsForgedAt world.grammar lines (world_walk lines)) → WorldHeadline lines text line r
+world-headline lines text rest line failed r same whole is named = record {
   played = texts-come line_text lines;
   lawful = texts-lawful line_text lines;
   flowed = each-once line_text lines;
-  forged = forged lines r cause;
+  forged = named;
   written = told lines text rest line failed r same whole is;
   told =
       on-whole r (rest ≡ []) (GivesAll (told_in lines) text)
@@ -145,12 +128,15 @@ world-headline lines text rest line failed r same cause whole is = record {
 
 -- ## Either
 
-headline-as : (of_world : Bool) (lines : List (List ℕ)) (text rest line : List ℕ) (failed : Bool) (r : RunEnd Cause) → (replayed_as of_world lines).output ≡ text ++ rest → IsCause (replayed_as of_world lines).cause r → OnWhole r (rest ≡ []) → IsWritten failed (cause_line (status_by for_cause r)) line → HeadlineAs of_world lines text line r
-headline-as true lines text rest line failed r same cause whole is = world-headline lines text rest line failed r same cause whole is
-headline-as false lines text rest line failed r same cause whole is = direct-headline lines text rest line failed r same whole is
+headline-as : (of_world : Bool) (lines : List (List ℕ)) (text rest line : List ℕ) (failed : Bool) (r : RunEnd Cause) → (replayed_as of_world lines).output ≡ text ++ rest → OnWhole r (rest ≡ []) → IsWritten failed (cause_line (status_by for_cause r)) line
+    → (of_world ≡ true → OnForged r (IsForgedAt world.grammar lines (world_walk lines))) → HeadlineAs of_world lines text line r
+headline-as true lines text rest line failed r same whole is named = world-headline lines text rest line failed r same whole is (named refl)
+headline-as false lines text rest line failed r same whole is named = direct-headline lines text rest line failed r same whole is
 
 pub headline : (was now : IoState) (s : Status) → EndsBy IsJudged for_cause replayed was now s → Headline was now s
 headline was now s ends =
     let t = traced IsJudged for_cause replayed was now s ends in
     let all = whole replayed t.rest t.result silently t.whole in
-    record { trace = t; whole = all; upheld = headline-as (is_world (seen t.bytes)) (seen t.bytes) t.text t.rest t.line t.failed t.result t.front t.refused all t.says.1 }
+    let named : is_world (seen t.bytes) ≡ true → OnForged t.result (IsForgedAt world.grammar (seen t.bytes) (world_walk (seen t.bytes))) =
+    λ head. forged-at t.bytes t.text now.left t.result head t.refused t.number t.first in
+    record { trace = t; whole = all; upheld = headline-as (is_world (seen t.bytes)) (seen t.bytes) t.text t.rest t.line t.failed t.result t.front all t.says.1 named }

@@ -16,3 +16,4 @@ pub mod ReplayWaitLemmas
 pub mod ReplayLineLemmas
 pub mod WorldLineLemmas
 pub mod WorldToldLemmas
+pub mod ForgedLemmas

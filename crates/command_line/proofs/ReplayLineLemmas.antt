@@ -11,8 +11,8 @@ use Rattle.text_trace.specs.Trace.{Every, Continuation, Trace}
 use Rattle.text_trace.proofs.TraceLemmas.{free-as}
 use Rattle.replay.specs.declared.player.Player.{Player}
 use Rattle.replay.specs.Playing.{OwedBy}
-use Rattle.world_replay.specs.declared.cause.Cause.{Cause}
-use Rattle.world_replay.specs.declared.cause.Cause.TheVariants as causes
+use Rattle.world_rules.specs.declared.cause.Cause.{Cause}
+use Rattle.world_rules.specs.declared.cause.Cause.TheVariants as causes
 use Rattle.world_replay.specs.Causes.{IsJudged}
 use Rattle.command_line.specs.declared.replay_form.FormPlayer.{FormPlayer}
 use Rattle.command_line.specs.ReplayAnswers.{for_either}

@@ -9,7 +9,9 @@ use Rattle.world_laws.specs.Texts.{IsForgedAt}
 use Rattle.world_laws.proofs.FlowWalks.{each-once}
 use Rattle.world_laws.proofs.ForgedLines.{texts-hand-over}
 use Rattle.world_laws.proofs.Walking.{texts-come, texts-lawful}
-use Rattle.world_rules.specs.Walk as walk
+use Rattle.world_rules.specs.declared.cause.Cause.TheVariants as causes
+use Rattle.world_rules.specs.Forgeries.{Forgery}
+use Rattle.world_replay.specs.Causes.{grammar}
 use Rattle.world_replay.specs.Soaking.{spelled_lines, workload_walk}
 use Rattle.soak_lines.specs.Workload.{workload}
 use Rattle.world_text.specs.Lines.{line_text}
@@ -93,7 +95,7 @@ soak-traced seed members rounds was now s e =
 whole-from : (seed members rounds : ℕ) (was mid now : IoState) (first s : Status) → Soaks seed members rounds was mid first → Counts was now s → (workload_walk seed members rounds).cause ≡ None → ¬ (Rose was.write_faults now.write_faults) → s ≡ first → IsComplete first
 whole-from seed members rounds was mid now status.Ok s h counts none written is = inl refl
 whole-from seed members rounds was mid now (status.Forged line who body) s h counts none written is =
-    absurd (let both : Some (walk.Forged (record { who = who; body = body })) ≡ None = sym h.0.cause ∙ none in cc)
+    absurd (let both : Some (causes.Forged who body) ≡ None = sym h.0.cause ∙ none in cc)
 whole-from seed members rounds was mid now status.WriteFault s h counts none written is =
     let cut : Counts was now status.WriteFault = subst (Counts was now) is counts in
     absurd (written (rose was.write_faults now.write_faults cut.1))
@@ -110,9 +112,11 @@ pub soak-completes : (seed members rounds : ℕ) (was now : IoState) (s : Status
 soak-completes seed members rounds was now s e =
     complete-from seed members rounds was e.between now e.tells.failed e.first e.tells.line s e.soaks e.tells.says (soak-counts seed members rounds was now s e)
 
-forged-from : (seed members rounds : ℕ) (text : List ℕ) (first : Status) → IsSoaked seed members rounds text first → OnForged first (IsForgedAt (workload_walk seed members rounds).stage)
+forged-from : (seed members rounds : ℕ) (text : List ℕ) (first : Status) → IsSoaked seed members rounds text first → OnForged first (IsForgedAt grammar (spelled_lines (workload seed members rounds)) (workload_walk seed members rounds))
 forged-from seed members rounds text (status.Forged line who body) h =
-    texts-hand-over line_text (spelled_lines (workload seed members rounds)) (record { who = who; body = body }) h.0.cause
+    let lines = spelled_lines (workload seed members rounds) in
+    let f : Forgery = record { who = who; body = body } in
+    subst (λ n. IsForgedAt grammar lines (workload_walk seed members rounds) n f) (sym h.0.line) (texts-hand-over line_text lines f h.0.cause)
 forged-from seed members rounds text _ h = tt
 
 pub soak-upheld : (seed members rounds : ℕ) (was now : IoState) (s : Status) → SoakEnds seed members rounds was now s → SoakUpheld seed members rounds was now s

@@ -14,7 +14,7 @@ use Rattle.text_trace.proofs.WholeLemmas.{whole-one, whole-join, rest-next, cut-
 use Rattle.text_trace.proofs.LineLemmas.{lines_of-rest}
 use Rattle.command_line.specs.Causes.{RunEnd}
 use Rattle.command_line.specs.Ends.{EndsBy, Is}
-use Rattle.command_line.specs.Traced.{AreUnrefused, EndsSilently, IsCause, IsEarly, IsFirst, IsNumber, IsOwed, IsTrace, IsUnread, IsUnrefusedText, SpeaksAtEnd, TracedBy}
+use Rattle.command_line.specs.Traced.{AreUnrefused, EndsSilently, IsCause, IsEarly, IsFirst, IsNumber, IsOwed, IsRefusedAt, IsTrace, IsUnread, IsUnrefusedText, SpeaksAtEnd, TracedBy}
 use Rattle.command_line.specs.declared.status.Status.{Status}
 
 none-shorter : {A : Type 0} (n : ℕ) → n < 0 → A
@@ -211,6 +211,20 @@ unread {C} owed lines bytes part text whole clear writes =
       writes = subst (λ (ls : List (List ℕ)). Writes C (Is owed) ls text) same writes;
     }
 
+-- whole lines, behind which a line or the end was refused
+refused-at : {C : Type 0} → (owed : Continuation C) (lines : List (List ℕ)) (bytes part text : List ℕ) (number : ℕ) → AreWhole lines bytes → number ≡ 1 + length lines → Writes C (Is owed) lines text → IsRefusedAt owed (bytes ++ part) text number
+refused-at {C} owed lines bytes part text number whole counted writes =
+    let same = sym (seen-whole lines bytes whole) in
+    let many = ap length same in
+    record {
+      front = bytes;
+      part = part;
+      parts = refl;
+      whole = subst (λ (ls : List (List ℕ)). AreWhole ls bytes) same whole;
+      counted = omega (arith, counted, many);
+      writes = subst (λ (ls : List (List ℕ)). Writes C (Is owed) ls text) same writes;
+    }
+
 -- nothing was taken or written
 unmoved : {C : Type 0} → (P : C → Type 0) (owed : Continuation C) (was now : IoState) → now ≡ was → Fronted P owed was now (Err stop.OutOfMemory)
 unmoved {C} P owed was now same = record {
@@ -299,7 +313,7 @@ fronted {C} P owed was now (Err (stop.Refused line refusal)) stood =
       refused = ap (λ (t : Trace C). t.cause) trace;
       exact = refused-told owed stood.lines stood.bytes stood.text refusal stood.last was.left now.left stood.read stood.taken.whole stood.stands stood.refuses;
       early = tt;
-      first = tt;
+      first = refused-at owed stood.lines stood.bytes (bytes_of stood.last) stood.text line stood.taken.whole stood.counted stood.writes;
     }
 fronted {C} P owed was now (Err stop.ReadFault) stood =
     let more = behind owed stood.lines stood.bytes stood.part stood.text stood.taken.whole stood.writes in

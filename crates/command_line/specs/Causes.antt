@@ -11,8 +11,8 @@ use Rattle.authority.specs.declared.halt.Halt.TheVariants as halt
 use Rattle.node_command.specs.declared.halt.NodeHalt.{NodeHalt}
 use Rattle.node_command.specs.declared.halt.NodeHalt.TheVariants as node
 use Rattle.world_rules.specs.Walk.{owner_text}
-use Rattle.world_replay.specs.declared.cause.Cause.{Cause}
-use Rattle.world_replay.specs.declared.cause.Cause.TheVariants as causes
+use Rattle.world_rules.specs.declared.cause.Cause.{Cause}
+use Rattle.world_rules.specs.declared.cause.Cause.TheVariants as causes
 use Rattle.command_line.specs.declared.status.Status.{Status}
 use Rattle.command_line.specs.declared.status.Status.TheVariants as status
 

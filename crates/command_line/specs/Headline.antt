@@ -13,9 +13,9 @@ use Rattle.world_rules.specs.Forgeries.{Forgery}
 use Rattle.world_laws.specs.Flows.{flowed_in}
 use Rattle.world_laws.specs.Texts.{IsComeTo, IsForgedAt, IsLawfulStage}
 use Rattle.command_line.specs.WorldWritten.{GivesAll, GivesTold, told_in, world_walk}
-use Rattle.world_replay.specs.declared.cause.Cause.{Cause}
-use Rattle.world_replay.specs.declared.cause.Cause.TheVariants as causes
-use Rattle.world_replay.specs.Causes.{IsJudged}
+use Rattle.world_rules.specs.declared.cause.Cause.{Cause}
+use Rattle.world_rules.specs.declared.cause.Cause.TheVariants as causes
+use Rattle.world_replay.specs.Causes.{IsJudged, grammar}
 use Rattle.command_line.specs.Replayed.{is_world, replayed}
 use Rattle.command_line.specs.Causes.{RunEnd, for_cause}
 use Rattle.command_line.specs.Traced.{TracedBy}
@@ -40,9 +40,9 @@ pub record DirectHeadline (lines : List (List ℕ)) (text line : List ℕ) (resu
   pub rule_out : NoteSupersedes (walk_over lines)
   pub ends_acceptance : NoteRevokes (walk_over lines)
 
--- P of what a line handed over that is forged, where that stopped the run.
-abbrev pub OnForged : RunEnd Cause → (Forgery → Type 0) → Type 0
-OnForged (Err (stop.Refused line (causes.Forged who body))) P = P (record { who = who; body = body })
+-- P of the number of a line and of what it handed over that is forged, where that stopped the run.
+abbrev pub OnForged : RunEnd Cause → (ℕ → Forgery → Type 0) → Type 0
+OnForged (Err (stop.Refused line (causes.Forged who body))) P = P line (record { who = who; body = body })
 OnForged (Err (stop.Refused line (causes.Bad bad))) P = Unit {0}
 OnForged (Err stop.ReadFault) P = Unit {0}
 OnForged (Err stop.WriteFault) P = Unit {0}
@@ -51,14 +51,14 @@ OnForged (Ok _) P = Unit {0}
 
 -- A schedule of a world. The lines that were taken lead to a world, none of them is forged, and what its nodes reported is as no
 -- liar can help: each removal rests on a verified accusation that stood for the timeout, and each key spends once. Flows hand
--- over each datagram at most once. What is named as forged is handed over by a line that ends so in this world, and verifies
--- under a key that never signed it. Each whole line that was written that gives an event gives one that was reported, and each
+-- over each datagram at most once. What is named as forged is handed over by the very line of the number that is named, which
+-- ends so in this world, and verifies under a key that never signed it. Each whole line that was written that gives an event gives one that was reported, and each
 -- event that was reported is written.
 pub record WorldHeadline (lines : List (List ℕ)) (text line : List ℕ) (result : RunEnd Cause) : Type 0 where
   pub played : IsComeTo (world_walk lines).stage (told_in lines)
   pub lawful : IsLawfulStage (world_walk lines).stage (told_in lines)
   pub flowed : IsRising (flowed_in (world_walk lines).taken)
-  pub forged : OnForged result (IsForgedAt (world_walk lines).stage)
+  pub forged : OnForged result (IsForgedAt grammar lines (world_walk lines))
   pub written : GivesTold (told_in lines) (text ++ line)
   pub told : OnWhole result (GivesAll (told_in lines) text)
 

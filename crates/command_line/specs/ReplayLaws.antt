@@ -18,8 +18,8 @@ use Rattle.trace.specs.Walk.{from_line, trace_in, walk}
 use Rattle.trace.proofs.UnfedLemmas as direct_form
 use Rattle.replay.specs.Playing as direct
 use Rattle.world_rules.specs.Walk.{Lists, no_roster}
-use Rattle.world_replay.specs.declared.cause.Cause.{Cause}
-use Rattle.world_replay.specs.declared.cause.Cause.TheVariants as causes
+use Rattle.world_rules.specs.declared.cause.Cause.{Cause}
+use Rattle.world_rules.specs.declared.cause.Cause.TheVariants as causes
 use Rattle.world_replay.specs.Owing as world
 use Rattle.world_replay.specs.Unfed as world_form
 use Rattle.command_line.specs.declared.replay_form.FormPlayer.{FormPlayer}

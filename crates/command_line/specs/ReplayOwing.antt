@@ -5,7 +5,7 @@ use Rattle.text_trace.specs.Lines.{text_lines}
 use Rattle.text_trace.specs.Trace.{Continuation}
 use Rattle.replay.specs.declared.player.Player as players
 use Rattle.replay.specs.Playing as direct
-use Rattle.world_replay.specs.declared.cause.Cause.{Cause}
+use Rattle.world_rules.specs.declared.cause.Cause.{Cause}
 use Rattle.world_replay.specs.Owing as world
 use Rattle.command_line.specs.declared.replay_form.FormPlayer.{FormPlayer}
 use Rattle.command_line.specs.declared.replay_form.FormPlayer.TheVariants as forms

@@ -5,8 +5,8 @@ use Rattle.std.specs.Str.{bytes_eq}
 use Rattle.line_text.specs.declared.bad_word.BadWord.{BadWord}
 use Rattle.text_trace.specs.Trace.{Continuation, Trace}
 use Rattle.trace.specs.Walk as direct
-use Rattle.world_replay.specs.declared.cause.Cause.{Cause}
-use Rattle.world_replay.specs.declared.cause.Cause.TheVariants as causes
+use Rattle.world_rules.specs.declared.cause.Cause.{Cause}
+use Rattle.world_rules.specs.declared.cause.Cause.TheVariants as causes
 use Rattle.world_replay.specs.Causes as world
 
 -- The line that heads a schedule of a world.

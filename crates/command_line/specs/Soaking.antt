@@ -11,7 +11,8 @@ use Rattle.world_rules.specs.Walk.{events_in}
 use Rattle.world_laws.specs.Flows.{flowed_in}
 use Rattle.world_laws.specs.Texts.{IsComeTo, IsForgedAt, IsLawfulStage}
 use Rattle.world_replay.specs.declared.summary.Summary.{Summary}
-use Rattle.world_replay.specs.Soaking.{IsFoundForged, IsSummary, workload_walk}
+use Rattle.world_replay.specs.Causes.{grammar}
+use Rattle.world_replay.specs.Soaking.{IsFoundForged, IsSummary, spelled_lines, workload_walk}
 use Rattle.world_replay.specs.Summaries.{summary_text}
 use Rattle.command_line.specs.Causes.{IsFront, Says}
 use Rattle.command_line.specs.Ends.{Tells}
@@ -66,16 +67,17 @@ pub record TracedSoak (seed members rounds : ℕ) (was now : IoState) (s : Statu
 abbrev pub SoakCompletes : ℕ → ℕ → ℕ → IoState → IoState → Status → Type 0
 SoakCompletes seed members rounds was now s = (workload_walk seed members rounds).cause ≡ None → ¬ (Rose was.write_faults now.write_faults) → IsComplete s
 
--- P of what a line handed over that is forged, where that stopped the run.
-abbrev pub OnForged : Status → (Forgery → Type 0) → Type 0
-OnForged (status.Forged line who body) P = P (record { who = who; body = body })
+-- P of the number of a line and of what it handed over that is forged, where that stopped the run.
+abbrev pub OnForged : Status → (ℕ → Forgery → Type 0) → Type 0
+OnForged (status.Forged line who body) P = P line (record { who = who; body = body })
 OnForged _ P = Unit {0}
 
 -- What the workload came to, of which the summary counts, is a world in which no line is forged, and what was reported of it is as
--- no liar can help. What is named as forged was handed over, and verifies under a key that never signed it.
+-- no liar can help. What is named as forged was handed over by the very line of the number that is named, and verifies under a key
+-- that never signed it.
 pub record SoakUpheld (seed members rounds : ℕ) (was now : IoState) (s : Status) : Type 0 where
   pub trace : TracedSoak seed members rounds was now s
   pub played : IsComeTo (workload_walk seed members rounds).stage (events_in (workload_walk seed members rounds))
   pub lawful : IsLawfulStage (workload_walk seed members rounds).stage (events_in (workload_walk seed members rounds))
   pub flowed : IsRising (flowed_in (workload_walk seed members rounds).taken)
-  pub forged : OnForged trace.first (IsForgedAt (workload_walk seed members rounds).stage)
+  pub forged : OnForged trace.first (IsForgedAt grammar (spelled_lines (workload seed members rounds)) (workload_walk seed members rounds))

@@ -72,6 +72,16 @@ pub record IsUnread {C : Type 0} (owed : Continuation C) (bytes text : List ℕ)
   pub clear : has_no_feed part ≡ true
   pub writes : Writes C (Is owed) (seen front) text
 
+-- The line of this number was refused, or the end: the whole lines before it were taken, none of which is refused, and the text
+-- is their trace.
+pub record IsRefusedAt {C : Type 0} (owed : Continuation C) (bytes text : List ℕ) (number : ℕ) : Type 0 where
+  pub front : List ℕ
+  pub part : List ℕ
+  pub parts : bytes ≡ front ++ part
+  pub whole : AreWhole (seen front) front
+  pub counted : number ≡ length (seen front) + 1
+  pub writes : Writes C (Is owed) (seen front) text
+
 -- Whole lines were taken, none of which is refused for a cause that P holds of.
 pub record AreUnrefused {C : Type 0} (P : C → Type 0) (owed : Continuation C) (bytes : List ℕ) : Type 0 where
   pub whole : AreWhole (seen bytes) bytes
@@ -82,11 +92,11 @@ pub record IsUnrefusedText {C : Type 0} (owed : Continuation C) (bytes : List �
   pub used_up : IsUsedUp left
   pub none : (owed (seen bytes)).cause ≡ None
 
--- A read fault stands for no line that is refused: none of those that were taken whole is. Nor does want of memory, for a
+-- The number of a line that is refused is that of the first: none before it is. A read fault stands for no line that is refused: none of those that were taken whole is. Nor does want of memory, for a
 -- cause that P holds of: neither those lines are refused for one, nor is the end of the text, where it was reached.
 abbrev pub IsFirst : {C : Type 0} → (C → Type 0) → Continuation C → List ℕ → List ℕ → Option (List ℕ) → RunEnd C → Type 0
 IsFirst P owed bytes text left (Ok _) = Unit {0}
-IsFirst P owed bytes text left (Err (stop.Refused line cause)) = Unit {0}
+IsFirst P owed bytes text left (Err (stop.Refused line cause)) = IsRefusedAt owed bytes text line
 IsFirst P owed bytes text left (Err stop.ReadFault) = IsUnread owed bytes text
 IsFirst P owed bytes text left (Err stop.WriteFault) = Unit {0}
 IsFirst P owed bytes text left (Err stop.OutOfMemory) = (bytes ≡ []) ⊎ (AreUnrefused P owed bytes ⊎ IsUnrefusedText owed bytes left)

@@ -5,7 +5,7 @@ ghost use Rattle.std.specs.Str.{bytes_eq};
 ghost use Rattle.play.specs.Answers.{AnswersEnd, AnswersLine};
 ghost use Rattle.text_trace.specs.Lines.{text_lines};
 ghost use Rattle.text_trace.specs.Trace.{Owing};
-ghost use Rattle.world_replay.specs.declared.cause.Cause.{Cause};
+ghost use Rattle.world_rules.specs.declared.cause.Cause.{Cause};
 ghost use Rattle.world_replay.specs.Causes.{IsJudged};
 ghost use Rattle.command_line.specs.ReplayAnswers.{for_either};
 ghost use Rattle.command_line.specs.ReplayOwing.{OwedByForm, left_in_form};
@@ -15,7 +15,8 @@ use line_text::BadWord;
 use play::{Refusal, Script};
 use replay::Player as DirectPlayer;
 use std::alloc::Global;
-use world_replay::{Cause, Player as WorldPlayer};
+use world_replay::Player as WorldPlayer;
+use world_rules::Cause;
 
 /// The line that heads a schedule of a world.
 const WORLD: &[u8] = b"fireflies 1 world\n";

@@ -3,7 +3,7 @@
 ghost use Rattle.std.specs.Prelude.{◌≡◌, true};
 ghost use Rattle.play.specs.Plays.{Runs, has_written, io};
 ghost use Rattle.text_trace.specs.Lines.{text_lines};
-ghost use Rattle.world_replay.specs.declared.cause.Cause.{Cause};
+ghost use Rattle.world_rules.specs.declared.cause.Cause.{Cause};
 ghost use Rattle.world_replay.specs.Causes.{IsJudged};
 ghost use Rattle.command_line.specs.Replayed.{replayed};
 
@@ -12,7 +12,7 @@ use line_text::BadWord;
 use play::{Refusal, Script, Stop, play};
 use ports::{Sink, Source};
 use std::alloc::Global;
-use world_replay::Cause;
+use world_rules::Cause;
 
 /// What a run has between two lines: nothing before the first line, which tells the form.
 #[derive(Drop)]

@@ -15,7 +15,7 @@ use line_text::BadWord;
 use node_command::NodeHalt;
 use play::Stop;
 use records::Body;
-use world_replay::Cause;
+use world_rules::Cause;
 
 /// How a run ended, and the number with which the program then exits. The first cause that comes in the run
 /// ends it.

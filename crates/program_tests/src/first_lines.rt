@@ -6,7 +6,7 @@ use line_text::BadWord;
 use play::Stop;
 use std::alloc::Global;
 use std::test::Fail;
-use world_replay::Cause;
+use world_rules::Cause;
 
 const DIRECT: &str = "fireflies 1 direct\ngroup 1 1\nend\n";
 

@@ -1,5 +1,5 @@
 -- Parts of a line, one after another: what each adds to what was reported, and how they go together.
-use Rattle.std.proofs.Common.{◌≡◌, ℕ, ◌+◌, List, [], ◌∷◌, ◌++◌, Option, None, refl, ap, sym, ◌∙◌, subst, append_assoc, length, take, drop, take-append-drop}
+use Rattle.std.proofs.Common.{◌≡◌, ℕ, List, [], ◌∷◌, ◌++◌, Option, None, refl, ap, sym, ◌∙◌, subst, append_assoc, length, take, drop, take-append-drop}
 use Rattle.std.specs.Prelude.{Result, Ok, Err}
 use Rattle.node_core.specs.Told.{IsPrefix}
 use Rattle.signer.proofs.OnwardLemmas.{front-trans}

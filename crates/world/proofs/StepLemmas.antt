@@ -11,7 +11,6 @@ use Rattle.world_rules.specs.Settings.{Setting, is_liar, is_node}
 use Rattle.world_rules.specs.Forgeries.{Forgery}
 use Rattle.world_rules.specs.declared.verdict.RefusalReason.{RefusalReason}
 use Rattle.world_rules.specs.declared.verdict.RefusalReason.TheVariants as whys
-use Rattle.world_rules.specs.declared.verdict.Verdict.{Verdict}
 use Rattle.world_rules.specs.declared.verdict.Verdict.TheVariants as verdicts
 use Rattle.world_rules.specs.Worlds.{World as ModelWorld, is_running}
 use Rattle.world_rules.specs.Refusals.{holds_of, key_named, node_named, why_not}
@@ -19,7 +18,11 @@ use Rattle.world_rules.specs.Steps.{Answer, NodeEvent, does, says, starts, start
 use Rattle.world_rules.specs.Walk.{behind_line}
 use Rattle.world.specs.declared.fault.WorldFault.{WorldFault}
 use Rattle.world.specs.declared.fault.WorldFault.TheVariants as faults
-use Rattle.world.specs.Answers.{PlaysLine, Steps}
+use Rattle.world_rules.specs.Laws.{goes}
+use Rattle.world_laws.specs.Texts.{IsPlayed}
+use Rattle.world_laws.proofs.ForgedLines.{lines-hand-over}
+use Rattle.world_laws.proofs.Walking.{played-lawful}
+use Rattle.world.specs.Answers.{PlaysLine, Steps, StepsLawfully}
 use Rattle.world.specs.Telling.{told_lines}
 use Rattle.world.specs.Holding.{Kept}
 use Rattle.world.specs.Courses.{CanStart, NamesLiar, Replies, before_opening, behind_text, does_or_opens, starts_if_left}
@@ -165,3 +168,13 @@ steps-cut s w told line v old new cut faults.OutOfMemory is h = is ∙ cut-front
 pub steps-kept : (s : Setting) (w : ModelWorld) (told : List NodeEvent) (line : WorldLine) (v : Kept) (old new : List ℕ) (done : Unit {0}) → PlaysLine s told line v old new (step s w line) (Ok done)
     → Steps s w told line v old new (Ok done)
 steps-kept s w told line v old new done h = (h.0, (h.1, h.2))
+
+-- ---- what a step is worth
+
+pub steps-lawful : (s : Setting) (w : ModelWorld) (told : List NodeEvent) (line : WorldLine) (v : Kept) (old new : List ℕ) (r : Result (Unit {0}) WorldFault) → Steps s w told line v old new r → IsPlayed s w told → StepsLawfully s w told line v r
+steps-lawful s w told line v old new (Ok done) h played =
+    let a : Answer = h.0 in
+    let on : IsPlayed s a.world (told ++ a.told) = record { fits = played.fits; verify = played.verify; reached = goes w told line a played.reached h.1.0 } in
+    (a, record { is = h.1.0; holds = h.1.1.holds; played = on; lawful = played-lawful s a.world (told ++ a.told) on })
+steps-lawful s w told line v old new (Err (faults.Forged who body)) h played = lines-hand-over s w line (record { who = who; body = body }) played.fits h.0
+steps-lawful s w told line v old new (Err faults.OutOfMemory) h played = tt

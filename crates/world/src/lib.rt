@@ -7,7 +7,8 @@ ghost use Rattle.world_rules.specs.Counts.{counts_of};
 ghost use Rattle.world_rules.specs.Settings.{Setting};
 ghost use Rattle.world_rules.specs.Steps.{NodeEvent};
 ghost use Rattle.world_rules.specs.Worlds.{World as ModelWorld};
-ghost use Rattle.world.specs.Answers.{Steps};
+ghost use Rattle.world_laws.specs.Texts.{IsPlayed};
+ghost use Rattle.world.specs.Answers.{Steps, StepsLawfully};
 ghost use Rattle.world.specs.Counting.{AreKept};
 ghost use Rattle.world.specs.Holding.{Holds};
 
@@ -82,8 +83,13 @@ impl World {
     /// `Forged` comes where the line hands over a record that is forged; the first one is given. After a fault `out` is as it
     /// was, and the world is over. A ring that the group lacks, which no schedule has, is answered by want of memory.
     pub fn step(&mut self, line: &WorldLine, out: &mut Vec<u8>) -> Result<(), WorldFault>
-        ensures { (s : Setting) (w : ModelWorld) (told : List NodeEvent) → Holds s w told self.old
+        ensures steps { (s : Setting) (w : ModelWorld) (told : List NodeEvent)
+            → Holds s w told self.old
             → Steps s w told line.now self.new out.old.items out.new.items result }
+        // Where lines lead to the world, with these events reported on the way, no liar brings about anything.
+        ensures lawful { (s : Setting) (w : ModelWorld) (told : List NodeEvent)
+            → Holds s w told self.old → IsPlayed s w told
+            → StepsLawfully s w told line.now self.new result }
     {
         let held = out.len();
         match self.play(line, out) {

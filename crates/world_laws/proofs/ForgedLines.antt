@@ -1,5 +1,5 @@
 -- A line ends as forged only where it hands over bytes in which something is.
-use Rattle.std.proofs.Common.{◌≡◌, ℕ, ◌+◌, ◌<◌, zero, suc, true, List, [], ◌∷◌, ◌++◌, Option, Some, None, refl, ap, sym, ◌∙◌, subst, arith}
+use Rattle.std.proofs.Common.{◌≡◌, ℕ, ◌+◌, ◌<◌, ◌≤◌, zero, suc, true, List, [], ◌∷◌, ◌++◌, length, Option, Some, None, refl, ap, sym, ◌∙◌, subst, arith}
 use Rattle.std.specs.Prelude.{Result, Ok, Err}
 use Rattle.std.specs.List.{slice_get}
 use Rattle.std.proofs.lemmas.Bool.{cond_both}
@@ -15,11 +15,13 @@ use Rattle.world_rules.specs.Forgeries.{Forgery, forgery}
 use Rattle.world_rules.specs.declared.verdict.RefusalReason.{RefusalReason}
 use Rattle.world_rules.specs.Refusals.{why_not}
 use Rattle.world_rules.specs.Steps.{Answer, Execution, NodeEvent, and_then, answered, begun, calls, calls_running, does, flows, flows_next, flows_one, given_bytes, gives, gives_each, hands, hands_sent, quiet, signed_in, step, step_by, tells_got, unless_forged}
-use Rattle.world_rules.specs.Walk.{Brought, Forged, Grammar, Lists, Plays, Stage, Walk, at_end, brought, events_in, from_answer, from_line, no_roster, setting_in, stepped, walk, walk_over}
+use Rattle.world_rules.specs.declared.cause.Cause.{Cause}
+use Rattle.world_rules.specs.declared.cause.Cause.TheVariants as causes
+use Rattle.world_rules.specs.Walk.{Brought, Grammar, Lists, Plays, Stage, Walk, at_end, brought, events_in, from_answer, from_line, no_roster, setting_in, stepped, walk, walk_over}
 use Rattle.world_rules.specs.Laws.{IsSetting}
 use Rattle.world_laws.specs.Flows.{FlowsOn}
 use Rattle.world_laws.specs.Forged.{FlowsNext, ForgedLinesHandItOver, HandsOver, IsForgedIn}
-use Rattle.world_laws.specs.Texts.{ForgedTextsHandItOver, IsComeTo, IsForgedAt, world_grammar}
+use Rattle.world_laws.specs.Texts.{ForgedTextsHandItOver, IsComeTo, behind_taken, world_grammar}
 use Rattle.world_laws.proofs.FirstForged.{forgeries-first}
 use Rattle.world_laws.proofs.Flowing.{flow-done, flows-go-on}
 use Rattle.world_laws.proofs.InWorlds.{nil-right}
@@ -250,32 +252,45 @@ lines-hand-over s w line f fits is = subst (FindsIn s w line) is (finds-step s w
 
 -- ---- texts
 
--- The line that ends the walk as forged.
-record EndsForged (w : Walk) (f : Forgery) : Type 0 where
+-- The line that ends the walk over this text as forged, behind as many lines as were taken.
+record EndsForged {P : Type 0} (g : Grammar P) (text : List (List ℕ)) (p : P) (w : Walk) (f : Forgery) : Type 0 where
+  bytes : List ℕ
   line : WorldLine
+  there : slice_get text (length w.taken) ≡ Some bytes
+  read : g.judge (behind_taken g p w.taken) bytes ≡ Ok line
   is : brought setting_in w.stage line ≡ Err f
 
-forged-at_end : (stage : Stage) (fault : Option BadWord) (f : Forgery) → (at_end stage fault).cause ≡ Some (Forged f) → EndsForged (at_end stage fault) f
-forged-at_end stage None f e = cc
-forged-at_end stage (Some bad) f e = cc
+forged-at_end : {P : Type 0} (g : Grammar P) (p : P) (stage : Stage) (fault : Option BadWord) (f : Forgery) → (at_end stage fault).cause ≡ Some (causes.Forged f.who f.body) → EndsForged g [] p (at_end stage fault) f
+forged-at_end g p stage None f e = cc
+forged-at_end g p stage (Some bad) f e = cc
 
-forged-answer : (stage : Stage) (line : WorldLine) (r : Result Brought Forgery) (rest : Stage → Walk) (f : Forgery) → brought setting_in stage line ≡ r → ((after : Stage) → (rest after).cause ≡ Some (Forged f) → EndsForged (rest after) f)
-    → (from_answer stage line r rest).cause ≡ Some (Forged f) → EndsForged (from_answer stage line r rest) f
-forged-answer stage line (Err found) rest f is h e = record { line = line; is = is ∙ ap (λ x. Err x) (same found f e) }
+-- The lines behind, where they end as forged.
+abbrev Behind : {P : Type 0} → Grammar P → List (List ℕ) → P → (Stage → Walk) → Forgery → Type 0
+Behind g rest p more f = (after : Stage) → (more after).cause ≡ Some (causes.Forged f.who f.body) → EndsForged g rest p (more after) f
+
+forged-answer : {P : Type 0} (g : Grammar P) (p : P) (bytes : List ℕ) (rest : List (List ℕ)) (stage : Stage) (line : WorldLine) (r : Result Brought Forgery) (more : Stage → Walk) (f : Forgery)
+    → g.judge p bytes ≡ Ok line → brought setting_in stage line ≡ r → Behind g rest (g.behind p line) more f
+    → (from_answer stage line r more).cause ≡ Some (causes.Forged f.who f.body) → EndsForged g (bytes ∷ rest) p (from_answer stage line r more) f
+forged-answer g p bytes rest stage line (Err found) more f read is h e = record { bytes = bytes; line = line; there = refl; read = read; is = is ∙ ap (λ x. Err x) (same found f e) }
   where
-    same : (x y : Forgery) → Some (Forged x) ≡ Some (Forged y) → x ≡ y
-    same x y e = cc
-forged-answer stage line (Ok b) rest f is h e = let x = h b.stage e in record { line = x.line; is = x.is }
+    same : (x y : Forgery) → Some (causes.Forged x.who x.body) ≡ Some (causes.Forged y.who y.body) → x ≡ y
+    same x y e =
+        let owner : x.who ≡ y.who = cc in
+        let said : x.body ≡ y.body = cc in
+        λ i. record { who = owner i; body = said i }
+forged-answer g p bytes rest stage line (Ok b) more f read is h e = let x = h b.stage e in record { bytes = x.bytes; line = x.line; there = x.there; read = x.read; is = x.is }
 
-forged-line : (stage : Stage) (r : Result WorldLine BadWord) (rest : WorldLine → Stage → Walk) (f : Forgery) → ((line : WorldLine) (after : Stage) → (rest line after).cause ≡ Some (Forged f) → EndsForged (rest line after) f)
-    → (from_line setting_in stage r rest).cause ≡ Some (Forged f) → EndsForged (from_line setting_in stage r rest) f
-forged-line stage (Err bad) rest f h e = cc
-forged-line stage (Ok line) rest f h e = forged-answer stage line (brought setting_in stage line) (rest line) f refl (h line) e
+forged-line : {P : Type 0} (g : Grammar P) (p : P) (bytes : List ℕ) (rest : List (List ℕ)) (stage : Stage) (r : Result WorldLine BadWord) (more : WorldLine → Stage → Walk) (f : Forgery)
+    → g.judge p bytes ≡ r → ((line : WorldLine) → Behind g rest (g.behind p line) (more line) f)
+    → (from_line setting_in stage r more).cause ≡ Some (causes.Forged f.who f.body) → EndsForged g (bytes ∷ rest) p (from_line setting_in stage r more) f
+forged-line g p bytes rest stage (Err bad) more f read h e = cc
+forged-line g p bytes rest stage (Ok line) more f read h e = forged-answer g p bytes rest stage line (brought setting_in stage line) (more line) f read refl (h line) e
 
-forged-walk : {P : Type 0} (g : Grammar P) (text : List (List ℕ)) (p : P) (stage : Stage) (f : Forgery) → (walk g setting_in text p stage).cause ≡ Some (Forged f) → EndsForged (walk g setting_in text p stage) f
-forged-walk g [] p stage f e = forged-at_end stage (g.end_fault p) f e
+forged-walk : {P : Type 0} (g : Grammar P) (text : List (List ℕ)) (p : P) (stage : Stage) (f : Forgery) → (walk g setting_in text p stage).cause ≡ Some (causes.Forged f.who f.body) → EndsForged g text p (walk g setting_in text p stage) f
+forged-walk g [] p stage f e = forged-at_end g p stage (g.end_fault p) f e
 forged-walk g (bytes ∷ rest) p stage f e =
-    forged-line stage (g.judge p bytes) (λ line after. walk g setting_in rest (g.behind p line) after) f (λ line after. forged-walk g rest (g.behind p line) after f) e
+    forged-line g p bytes rest stage (g.judge p bytes) (λ line after. walk g setting_in rest (g.behind p line) after) f refl
+    (λ line after. forged-walk g rest (g.behind p line) after f) e
 
 stepped-forged : (s : Setting) (w : World) (line : WorldLine) (r : Result Answer Forgery) (f : Forgery) → step s w line ≡ r → stepped s r ≡ Err f → step s w line ≡ Err f
 stepped-forged s w line (Err found) f is e = is ∙ ap (λ x. Err x) (same found f e)
@@ -284,12 +299,55 @@ stepped-forged s w line (Err found) f is e = is ∙ ap (λ x. Err x) (same found
     same x y e = cc
 stepped-forged s w line (Ok a) f is e = cc
 
-forged-stage : (stage : Stage) (told : List NodeEvent) (line : WorldLine) (f : Forgery) → IsComeTo stage told → brought setting_in stage line ≡ Err f → IsForgedAt stage f
+-- What the line ends in is a world, and it hands over what is forged there.
+record InWorld (stage : Stage) (line : WorldLine) (f : Forgery) : Type 0 where
+  setting : Setting
+  world : World
+  come : stage ≡ Plays setting world
+  ends : step setting world line ≡ Err f
+  handed : IsForgedIn setting world line f
+
+forged-stage : (stage : Stage) (told : List NodeEvent) (line : WorldLine) (f : Forgery) → IsComeTo stage told → brought setting_in stage line ≡ Err f → InWorld stage line f
 forged-stage (Lists r) told line f come e = cc
-forged-stage (Plays s w) told line f come e = let is : step s w line ≡ Err f = stepped-forged s w line (step s w line) f refl e in (line, is, lines-hand-over s w line f come.fits is)
+forged-stage (Plays s w) told line f come e =
+    let is : step s w line ≡ Err f = stepped-forged s w line (step s w line) f refl e in
+    record { setting = s; world = w; come = refl; ends = is; handed = lines-hand-over s w line f come.fits is }
 
 pub texts-hand-over : ForgedTextsHandItOver
 texts-hand-over spelled text f e =
-    let w : Walk = walk_over (world_grammar spelled) setting_in text in
-    let x : EndsForged w f = forged-walk (world_grammar spelled) text (world_grammar spelled).start (Lists no_roster) f e in
-    forged-stage w.stage (events_in w) x.line f (texts-come spelled text) x.is
+    let g = world_grammar spelled in
+    let w : Walk = walk_over g setting_in text in
+    let x = forged-walk g text g.start (Lists no_roster) f e in
+    let y : InWorld w.stage x.line f = forged-stage w.stage (events_in w) x.line f (texts-come spelled text) x.is in
+    record {
+      setting = y.setting;
+      world = y.world;
+      come = y.come;
+      line = x.line;
+      stops = record { bytes = x.bytes; behind = refl; there = x.there; read = x.read };
+      ends = y.ends;
+      handed = y.handed;
+    }
+
+-- ---- how many lines are taken
+
+-- There is no cause that ends all of these walks.
+abbrev NeverEnds : (List (List ℕ) → Walk) → Type 0
+NeverEnds walks = (c : Cause) → ((more : List (List ℕ)) → (walks more).cause ≡ Some c) → ⊥
+
+past-answer : (stage : Stage) (line : WorldLine) (r : Result Brought Forgery) (behind : List (List ℕ) → Stage → Walk) (rest : List (List ℕ)) (n : ℕ) → NeverEnds (λ more. from_answer stage line r (behind more))
+    → ((after : Stage) → NeverEnds (λ more. behind more after) → n ≤ length (behind rest after).taken) → suc n ≤ length (from_answer stage line r (behind rest)).taken
+past-answer stage line (Err found) behind rest n never later = absurd (never (causes.Forged found.who found.body) (λ more. refl))
+past-answer stage line (Ok b) behind rest n never later = let few : n ≤ length (behind rest b.stage).taken = later b.stage never in omega (arith, few)
+
+past-line : (stage : Stage) (r : Result WorldLine BadWord) (behind : List (List ℕ) → WorldLine → Stage → Walk) (rest : List (List ℕ)) (n : ℕ) → NeverEnds (λ more. from_line setting_in stage r (behind more))
+    → ((line : WorldLine) (after : Stage) → NeverEnds (λ more. behind more line after) → n ≤ length (behind rest line after).taken) → suc n ≤ length (from_line setting_in stage r (behind rest)).taken
+past-line stage (Err word) behind rest n never later = absurd (never (causes.Bad word) (λ more. refl))
+past-line stage (Ok line) behind rest n never later = past-answer stage line (brought setting_in stage line) (λ more. behind more line) rest n never (later line)
+
+-- Lines of which none ends all texts that they begin are taken.
+pub taken-past : {P : Type 0} (g : Grammar P) (front rest : List (List ℕ)) (p : P) (stage : Stage) → NeverEnds (λ more. walk g setting_in (front ++ more) p stage) → length front ≤ length (walk g setting_in (front ++ rest) p stage).taken
+taken-past g [] rest p stage never = omega arith
+taken-past g (bytes ∷ front) rest p stage never =
+    past-line stage (g.judge p bytes) (λ more line after. walk g setting_in (front ++ more) (g.behind p line) after) rest (length front) never
+    (λ line after ends. taken-past g front rest (g.behind p line) after ends)

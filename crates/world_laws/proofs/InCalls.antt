@@ -61,6 +61,7 @@ ComesSigned s m signed events event = Unit {0}
 
 abbrev pub AcceptsSigned : Setting → List Signed → whats.What → Type 0
 AcceptsSigned s signed (told.Took (Accusation a) None) = is_node s a.accuser ≡ true → SignedIn signed (Some a.accuser) (Accusation a)
+AcceptsSigned s signed (told.Took (Note n) None) = is_node s n.member ≡ true → SignedIn signed (Some n.member) (Note n)
 AcceptsSigned s signed what = Unit {0}
 
 -- What is reported of a record is right.
@@ -242,7 +243,8 @@ knows s w m c of h = record { fits = of.fits; is = of.is; only = of.only; roster
 
 accepts-told : (s : Setting) (w : World) (m : ℕ) (n : Node) (r : Record) (b : Body) (fault : Option Fault) → Knows s w m n → IsGenuine s w r → r.body ≡ b → refusal (setting_of s m) n r ≡ fault → AcceptsSigned s w.signed (told.Took b fault)
 accepts-told s w m n r (Certificate c) fault k free is e = tt
-accepts-told s w m n r (Note note) fault k free is e = tt
+accepts-told s w m n r (Note note) None k free is e = λ by. accepted-note s w m n r note k free e is by
+accepts-told s w m n r (Note note) (Some fault) k free is e = tt
 accepts-told s w m n r (Accusation a) None k free is e = λ by. accepted-accusation s w m n r a k free e is by
 accepts-told s w m n r (Accusation a) (Some fault) k free is e = tt
 

@@ -156,7 +156,8 @@ accepts-more : (s : Setting) (signed more : List Signed) (what : whats.What) →
 accepts-more s signed more (told.Took (Accusation a) None) h = λ is. signed-more signed more (Some a.accuser) (Accusation a) (h is)
 accepts-more s signed more (told.Took (Accusation a) (Some fault)) h = tt
 accepts-more s signed more (told.Took (Certificate c) fault) h = tt
-accepts-more s signed more (told.Took (Note n) fault) h = tt
+accepts-more s signed more (told.Took (Note n) None) h = λ is. signed-more signed more (Some n.member) (Note n) (h is)
+accepts-more s signed more (told.Took (Note n) (Some fault)) h = tt
 accepts-more s signed more what h = tt
 
 pub right-more : (s : Setting) (signed more : List Signed) (what : whats.What) → IsRight s signed what → IsRight s (signed ++ more) what

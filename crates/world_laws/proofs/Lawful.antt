@@ -13,7 +13,6 @@ use Rattle.ff_ids.specs.Lives.{opening, RestsOn, after, state_at}
 use Rattle.ff_ids.proofs.FaultLemmas.{passes}
 use Rattle.life_laws.proofs.Lists.{In, All-from_In, Contains-from_In, In-from_Contains}
 use Rattle.life_laws.proofs.NoteLemmas.{newest-fits}
-use Rattle.life_laws.proofs.JustifiedLemmas.{justified}
 use Rattle.records.specs.declared.Body.TheVariants.{Certificate, Note, Accusation}
 use Rattle.journal.specs.declared.event.What as whats
 use Rattle.journal.specs.declared.event.What.TheVariants as happened
@@ -21,7 +20,7 @@ use Rattle.world_rules.specs.Settings.{Setting, is_node}
 use Rattle.world_rules.specs.Worlds.{Life, World, lives_of}
 use Rattle.world_rules.specs.Steps.{NodeEvent}
 use Rattle.world_laws.specs.Signing.{SignedAtTick, WasSigned}
-use Rattle.world_laws.specs.Laws.{RostersAreKept, OwnAheadNeverComes, RestsOnOwnNote, RemovesRightly, TheRemovedHadSigned, NodesAccuseTheSilent, AccusesRightly, AcceptsRightly, AcceptedAccusationsWereSigned}
+use Rattle.world_laws.specs.Laws.{RostersAreKept, OwnAheadNeverComes, IsOnOwnNote, RemovesRightly, TheRemovedHadSigned, NodesAccuseTheSilent, AccusesRightly, AcceptsRightly, AcceptedAccusationsWereSigned}
 use Rattle.world_laws.proofs.Handing.{In-taken}
 use Rattle.world_laws.proofs.Signed.{SignedIn, spent-in, spent-from}
 use Rattle.world_laws.proofs.InCalls.{AcceptsSigned, ComesSigned}
@@ -79,7 +78,7 @@ signed-before : (m : ℕ) (s : Setting) (w : World) (n : NoteBody) → ComesSign
 signed-before m s w n h is = elim (h is) [ inl before ↦ before | inr now ↦ absurd now.1.among ]
 
 rests-on : (s : Setting) (w : World) (events : List Event) (j m who place : ℕ) (a : AccBody) → ((e : Event) → In events e → ComesSigned s who w.signed [] e) → is_node s m ≡ true → RestsOn s.group (opening []) events j m place a
-    → RestsOnOwnNote s w events j m
+    → IsOnOwnNote s w events place a
 rests-on s w events j m who place a lived is rests =
     let st : State = state_at s.group (opening []) events place in
     let p = passes s.group.t (facts_of st a) a rests.accepted.no_fault in
@@ -87,9 +86,6 @@ rests-on s w events j m who place a lived is rests =
     let answers = and_parts _ _ p.unanswered in
     let signed : SignedIn w.signed (Some p.note.member) (Note p.note) = signed-before who s w p.note (lived (Notes p.note) came.0) (ap (is_node s) (came.1 ∙ rests.against) ∙ is) in
     record {
-      place = place;
-      accusation = a;
-      rests = rests;
       had_signed = record {
         note = p.note;
         index = signed.index;
@@ -99,14 +95,11 @@ rests-on s w events j m who place a lived is rests =
         epoch = eqb-true _ _ answers.0;
         enabled = answers.1;
       };
-      is_newest = subst (λ z. newest st.notes z ≡ Some p.note) rests.against p.newest;
+      is_newest = p.newest;
     }
 
-removes : (s : Setting) (w : World) (told : List NodeEvent) (who : ℕ) → Holds s w told → (life : Life) → In (lives_of w who) life → RemovesRightly s w life
-removes s w told who h life i =
-    λ j m within removed is.
-    let rests = justified s.group [] life.node.lived j m within removed in
-    rests-on s w life.node.lived j m who rests.0 rests.1 ((h.hosts who).lived life i) is rests.2
+pub removes : (s : Setting) (w : World) (told : List NodeEvent) (who : ℕ) → Holds s w told → (life : Life) → In (lives_of w who) life → RemovesRightly s w life
+removes s w told who h life i = λ j m place a rests is. rests-on s w life.node.lived j m who place a ((h.hosts who).lived life i) is rests
 
 pub removed-signed : TheRemovedHadSigned
 removed-signed s w told who fits reached = All-from_In _ (lives_of w who) (removes s w told who (reached-holds s w told fits reached))

@@ -13,6 +13,7 @@ mod Origins
 mod Verified
 mod Removing
 mod Written
+mod SignedFirst
 mod Answered
 mod Living
 mod Flowing

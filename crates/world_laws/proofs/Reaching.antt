@@ -121,7 +121,7 @@ numbered-right : (s : Setting) (signed : List Signed) (before : ℕ) (what : wha
 numbered-right s signed before (happened.Sent number to bytes) h = record { fresh = refl; accepts = tt }
 numbered-right s signed before _ h = h
 
-told-right : (s : Setting) (signed more : List Signed) (m before : ℕ) (events : List journal.Event) → ((e : journal.Event) → In events e → IsRight s signed e.what) → (t : NodeEvent) → In (told_in m before events) t → IsRight s (signed ++ more) t.event.what
+pub told-right : (s : Setting) (signed more : List Signed) (m before : ℕ) (events : List journal.Event) → ((e : journal.Event) → In events e → IsRight s signed e.what) → (t : NodeEvent) → In (told_in m before events) t → IsRight s (signed ++ more) t.event.what
 told-right s signed more m before events right t i =
     let x = In-from_map (λ (e : journal.Event). let made : NodeEvent = record { who = m; event = record e { what = numbered_from before e.what } } in made) events t i in
     subst (λ (y : NodeEvent). IsRight s (signed ++ more) y.event.what) x.1.1 (numbered-right s (signed ++ more) before x.0.what (right-more s signed more x.0.what (right x.0 x.1.0)))

@@ -31,9 +31,10 @@ use Rattle.world_laws.specs.Texts.{IsComeTo, IsLawful, IsLawfulStage, IsPlayed, 
 use Rattle.world_rules.proofs.Once.{nodes-once}
 use Rattle.world_rules.proofs.Telling.{lives-justified}
 use Rattle.world_laws.proofs.Keyed.{keys-verify}
-use Rattle.world_laws.proofs.Lawful.{accepted-signed, accuse-silent, never-ahead, removed-signed, rosters}
+use Rattle.world_laws.proofs.Lawful.{accepted-signed, accuse-silent, never-ahead, rosters}
 use Rattle.world_laws.proofs.Removing.{removals-verified, told-removals-verified}
 use Rattle.world_laws.proofs.Written.{authority-once, sending-told, spending-told}
+use Rattle.world_laws.proofs.SignedFirst.{accepted-signed-first}
 use Rattle.world_laws.proofs.Living.{accepted-lived}
 use Rattle.world_laws.proofs.Flowing.{only-sent}
 use Rattle.world_laws.proofs.Answered.{answers-hold, expiries-lived}
@@ -212,7 +213,7 @@ texts-come spelled text = walk-come spelled text opening (Lists no_roster) [] (r
 
 -- ---- what holds of it
 
-played-lawful : (s : Setting) (w : World) (told : List NodeEvent) → IsPlayed s w told → IsLawful s w told
+pub played-lawful : (s : Setting) (w : World) (told : List NodeEvent) → IsPlayed s w told → IsLawful s w told
 played-lawful s w told h =
     let accepted = accepted-signed s w told h.fits h.reached in
     record {
@@ -229,10 +230,10 @@ played-lawful s w told h =
       none_ahead = never-ahead s w told h.fits h.reached;
       answers = λ who. answers-hold s w who;
       expiries = λ t a among is. expiries-lived s w told t a h.reached among is;
-      had_signed = λ who. removed-signed s w told who h.fits h.reached;
       signed = λ m index a is spent. accuse-silent s w told m index a h.fits h.reached is spent;
       lived = accepted.0;
       accepted = accepted.1;
+      signed_first = accepted-signed-first s w told h.fits h.reached;
     }
 
 come-lawful : (stage : Stage) (told : List NodeEvent) → IsComeTo stage told → IsLawfulStage stage told

@@ -62,7 +62,7 @@ liar-apart s m key fits is liar =
       | inr differ ↦ differ
     ]
 
-spending-kept : (s : Setting) (m : ℕ) → IsSetting s → is_node s m ≡ true → Keeps s (λ w told. IsSpentAsTold w told m)
+pub spending-kept : (s : Setting) (m : ℕ) → IsSetting s → is_node s m ≡ true → Keeps s (λ w told. IsSpentAsTold w told m)
 spending-kept s m fits is =
     record {
       called = λ k i life c running free h.
@@ -79,7 +79,7 @@ spending-kept s m fits is =
           h ∙ sym (filter_map-append (spent_if_by (Some m)) w.signed _ ∙ ap (λ o. spent_of w (Some m) ++ cons_option o []) (other (eqb key m) _ _ (liar-apart s m key fits is liar)) ∙ nil-right (spent_of w (Some m)));
     }
 
-spending-first : (s : Setting) (m : ℕ) → IsSpentAsTold (begun_world s) [] m
+pub spending-first : (s : Setting) (m : ℕ) → IsSpentAsTold (begun_world s) [] m
 unfolding begun_world
 spending-first s m = sym (authority-spent s m)
 

@@ -42,18 +42,16 @@ OwnAheadNeverComes = (s : Setting) (w : World) (told : List NodeEvent) → IsSet
 
 -- ---- removals
 
--- The removal of the member at place j of the life rests on an accusation. The note that was the member's newest there as
--- that was accepted, the member itself had signed, of that accusation's epoch and with that accusation's ring enabled.
-pub record RestsOnOwnNote (s : Setting) (w : World) (events : List Event) (j m : ℕ) : Type 0 where
-  pub place : ℕ
-  pub accusation : AccBody
-  pub rests : RestsOn s.group (opening []) events j m place accusation
-  pub had_signed : HasEnabled w accusation
-  pub is_newest : newest (state_at s.group (opening []) events place).notes m ≡ Some had_signed.note
+-- The accusation was accepted at this place of a life. The note that was the accused's newest there, the accused itself had
+-- signed, of this accusation's epoch and with this accusation's ring enabled.
+pub record IsOnOwnNote (s : Setting) (w : World) (events : List Event) (place : ℕ) (a : AccBody) : Type 0 where
+  pub had_signed : HasEnabled w a
+  pub is_newest : newest (state_at s.group (opening []) events place).notes a.accused ≡ Some had_signed.note
 
--- So does each removal of a node in the life.
+-- So was each accusation on which the removal of a node in the life rests.
 abbrev pub RemovesRightly : Setting → World → Life → Type 0
-RemovesRightly s w life = (j m : ℕ) → j < length life.node.lived → IsRemovedAt s.group (opening []) life.node.lived j m → is_node s m ≡ true → RestsOnOwnNote s w life.node.lived j m
+RemovesRightly s w life = (j m place : ℕ) (a : AccBody) → RestsOn s.group (opening []) life.node.lived j m place a → is_node s m ≡ true
+    → IsOnOwnNote s w life.node.lived place a
 
 -- Each node that is removed from a view had itself signed the note of the accusation's epoch, with its ring enabled.
 abbrev pub TheRemovedHadSigned : Type 0
@@ -95,14 +93,16 @@ SignaturesVerify s = (who : Owner) (index : ℕ) (body : Body) → index < s.ind
 abbrev pub KeysVerify : Type 0
 KeysVerify = (g : Group) (ots : OtsKind) (tree : TreeKind) (correct liars : List ℕ) → SignaturesVerify (setting_for g ots tree correct liars)
 
--- The removal of the member at this place of the life rests on an accusation. The record of which the accusation has come
--- verifies under the key of the accuser's certificate, as the node keeps it.
+-- The removal of the member at this place of the life rests on one accusation, of which all of this is said. The record of which
+-- it has come verifies under the key of the accuser's certificate, as the node keeps it. If the member is a node, it had itself
+-- signed the note that was its newest there as the accusation was accepted.
 pub record RestsOnVerified (s : Setting) (w : World) (who : ℕ) (life : Life) (place m : ℕ) : Type 0 where
   pub accepted : ℕ
   pub accusation : AccBody
   pub rests : RestsOn s.group (opening []) life.node.lived place m accepted accusation
   pub verified : IsVouchedFor (setting_of s who) (public_key_of life.node accusation.accuser) (Accusation accusation)
   pub came : HasComeOf s w who life accepted accusation verified.witness
+  pub own_note : is_node s m ≡ true → IsOnOwnNote s w life.node.lived accepted accusation
 
 -- So does each removal in the life.
 abbrev pub RemovesVerified : Setting → World → ℕ → Life → Type 0

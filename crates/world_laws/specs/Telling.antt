@@ -1,5 +1,5 @@
 -- What was reported of spending, sending and accepting is all that was spent, sent and accepted.
-use Rattle.std.specs.Prelude.{◌≡◌, ℕ, true, ◌==◌, if◌then◌else◌, List, Option, Some, None, filter, filter_map, flat_map, map}
+use Rattle.std.specs.Prelude.{◌≡◌, ℕ, true, ◌==◌, if◌then◌else◌, List, ◌∷◌, ◌++◌, Contains, Option, Some, None, filter, filter_map, flat_map, map}
 use Rattle.ff_ids.specs.Steps.{Event, Notes, Accuses}
 use Rattle.records.specs.declared.Body.{Body}
 use Rattle.records.specs.declared.Body.TheVariants.{Certificate, Note, Accusation}
@@ -65,6 +65,31 @@ IsLivedAsTold w told m = filter_map (took_if_told m) told ≡ flat_map (λ life.
 
 abbrev pub AcceptedIsLived : Type 0
 AcceptedIsLived = (s : Setting) (w : World) (told : List NodeEvent) (m : ℕ) → Reached s w told → IsLivedAsTold w told m
+
+-- ---- what was signed first
+
+-- The member's key spent this index on the body, at this moment.
+abbrev pub spending : ℕ → ℕ → ℕ → Body → NodeEvent
+spending who moment index body = record { who = who; event = record { moment = moment; what = happened.Spent index body } }
+
+-- It is reported that the member's key spent an index on the body.
+pub record IsToldSigned (told : List NodeEvent) (who : ℕ) (body : Body) : Type 0 where
+  pub moment : ℕ
+  pub index : ℕ
+  pub among : Contains told (spending who moment index body)
+
+-- A note or an accusation that is accepted, and is a node's, was reported as signed by it in the events before.
+abbrev pub WasSignedFirst : Setting → List NodeEvent → whats.What → Type 0
+WasSignedFirst s earlier (happened.Took (Note n) None) = is_node s n.member ≡ true → IsToldSigned earlier n.member (Note n)
+WasSignedFirst s earlier (happened.Took (Accusation a) None) = is_node s a.accuser ≡ true → IsToldSigned earlier a.accuser (Accusation a)
+WasSignedFirst s earlier what = Unit {0}
+
+-- So is each that is reported as accepted, of the events before that report.
+abbrev pub SignsFirst : Setting → List NodeEvent → Type 0
+SignsFirst s told = (earlier later : List NodeEvent) (t : NodeEvent) → told ≡ earlier ++ t ∷ later → WasSignedFirst s earlier t.event.what
+
+abbrev pub AcceptedWasSignedFirst : Type 0
+AcceptedWasSignedFirst = (s : Setting) (w : World) (told : List NodeEvent) → IsSetting s → Reached s w told → SignsFirst s told
 
 -- ---- what the authority has signed
 

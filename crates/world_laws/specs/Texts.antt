@@ -1,6 +1,6 @@
 -- Whole texts in the world form: what comes of one is a world to which its lines lead.
-use Rattle.std.specs.Prelude.{◌≡◌, ℕ, true, false, if◌then◌else◌, List, [], Contains, Option, Some, None, Err}
-use Rattle.std.specs.List.{AllByRecursion}
+use Rattle.std.specs.Prelude.{◌≡◌, ℕ, ◌+◌, true, false, if◌then◌else◌, List, [], ◌∷◌, length, Contains, Option, Some, None, Ok, Err}
+use Rattle.std.specs.List.{AllByRecursion, slice_get}
 use Rattle.ff_ids.specs.declared.AccBody.{AccBody}
 use Rattle.records.specs.declared.Body.TheVariants.{Accusation}
 use Rattle.signer.specs.Lives.{IsOnce, IsRising}
@@ -16,11 +16,12 @@ use Rattle.world_rules.specs.Settings.{Setting, is_node}
 use Rattle.world_rules.specs.Worlds.{World, lives_of, spent_of}
 use Rattle.world_rules.specs.Forgeries.{Forgery}
 use Rattle.world_rules.specs.Steps.{NodeEvent, step}
-use Rattle.world_rules.specs.Walk.{Forged, Grammar, Stage, Lists, Plays, events_in, setting_in, walk_over}
+use Rattle.world_rules.specs.declared.cause.Cause.TheVariants as causes
+use Rattle.world_rules.specs.Walk.{Grammar, Stage, Lists, Plays, Taken, Walk, events_in, last_line, setting_in, walk_over}
 use Rattle.world_rules.specs.Laws.{IsSetting, Reached, TellsLives}
 use Rattle.world_laws.specs.Signing.{HasSpentOn, KeepsRoster, SignedAtTick}
-use Rattle.world_laws.specs.Laws.{is_own_ahead, RemovesRightly, AccusesRightly, AcceptsRightly, IsVerifiedRemoval, RemovesVerified, SignaturesVerify}
-use Rattle.world_laws.specs.Telling.{IsIssued, IsLivedAsTold, IsSentAsTold, IsSpentAsTold}
+use Rattle.world_laws.specs.Laws.{is_own_ahead, AccusesRightly, AcceptsRightly, IsVerifiedRemoval, RemovesVerified, SignaturesVerify}
+use Rattle.world_laws.specs.Telling.{IsIssued, IsLivedAsTold, IsSentAsTold, IsSpentAsTold, SignsFirst}
 use Rattle.world_laws.specs.Flows.{HandsOverSent, flowed_in}
 use Rattle.world_laws.specs.Forged.{IsForgedIn}
 use Rattle.world_laws.specs.Replies.{AnswersHold, IsExpiryInLife}
@@ -57,15 +58,15 @@ TextsComeToWorlds = (spelled : WorldLine → List ℕ) (text : List (List ℕ)) 
 -- among these.
 --
 -- Each removal in a life rests on an accusation that stood for the timeout, and the record that the node accepted of it, or
--- made of it, verifies under the key of the accuser's certificate. The certificates that a node keeps are the authority's.
+-- made of it, verifies under the key of the accuser's certificate. Where a node was removed, it had itself signed the note of
+-- that accusation's epoch with that accusation's ring enabled. The certificates that a node keeps are the authority's.
 -- Each removal that was reported is one of these, at the reported moment. What each node's key spent, over all its lives, rises
 -- in index and, for notes, in epoch; and the authority's key has spent an index on each member's certificate alone. No
 -- verdict reported that a note was ahead of a node's own. Behind an accepted note nothing that it answers expires unless it
 -- is accepted again, nothing older is accepted, and each expiry that was reported is one in a life.
 --
--- Where a node was removed anywhere, it had itself signed the note of the accusation's epoch with the accusation's ring
--- enabled. And each accusation of a node's, signed by it or accepted by anyone, was signed by it at a tick at which the
--- accused was silent there.
+-- Each accusation of a node's, signed by it or accepted by anyone, was signed by it at a tick at which the accused was silent
+-- there. And what was reported as accepted of a node's was reported as signed by it before.
 pub record IsLawful (s : Setting) (w : World) (told : List NodeEvent) : Type 0 where
   pub lives : (m : ℕ) → TellsLives s w told m
   pub living : (m : ℕ) → IsLivedAsTold w told m
@@ -80,10 +81,10 @@ pub record IsLawful (s : Setting) (w : World) (told : List NodeEvent) : Type 0 w
   pub none_ahead : AllByRecursion (λ t. is_own_ahead t.event.what ≡ false) told
   pub answers : (who : ℕ) → AllByRecursion (AnswersHold s) (lives_of w who)
   pub expiries : (t : NodeEvent) (a : AccBody) → Contains told t → t.event.what ≡ happened.Expired a → IsExpiryInLife s w t a
-  pub had_signed : (who : ℕ) → AllByRecursion (RemovesRightly s w) (lives_of w who)
   pub signed : (m index : ℕ) (a : AccBody) → is_node s m ≡ true → HasSpentOn w (Some m) index (Accusation a) → (a.accuser ≡ m) × SignedAtTick s w index a
   pub lived : (who : ℕ) → AllByRecursion (λ life. AllByRecursion (AccusesRightly s w) life.node.lived) (lives_of w who)
   pub accepted : AllByRecursion (λ t. AcceptsRightly s w t.event.what) told
+  pub signed_first : SignsFirst s told
 
 abbrev pub IsLawfulStage : Stage → List NodeEvent → Type 0
 IsLawfulStage (Lists roster) told = told ≡ []
@@ -97,12 +98,34 @@ TextsAreLawful = (spelled : WorldLine → List ℕ) (text : List (List ℕ)) →
 abbrev pub FlowsTakeEachOnce : Type 0
 FlowsTakeEachOnce = (spelled : WorldLine → List ℕ) (text : List (List ℕ)) → IsRising (flowed_in (walk_over (world_grammar spelled) setting_in text).taken)
 
--- What ends a text as forged was found in bytes that a line hands over, which so ends in the world that the text has come
--- to.
-abbrev pub IsForgedAt : Stage → Forgery → Type 0
-IsForgedAt (Lists roster) f = ⊥
-IsForgedAt (Plays s w) f = (line : WorldLine) × (step s w line ≡ Err f) × IsForgedIn s w line f
+-- ---- the line that is forged
 
--- Where a text ends as forged, some line ends so in the world that the text has come to, and hands the forged record over.
+-- What a reader of the form keeps behind these lines.
+abbrev pub behind_taken : {P : Type 0} → Grammar P → P → List Taken → P
+behind_taken g p [] = p
+behind_taken g p (t ∷ taken) = behind_taken g (g.behind p t.line) taken
+
+-- The line of this number is the first of the text that isn't taken: those before it are taken, one after another, and behind
+-- them it is read as this line.
+pub record StopsAt {P : Type 0} (g : Grammar P) (text : List (List ℕ)) (taken : List Taken) (number : ℕ) (line : WorldLine) : Type 0 where
+  pub bytes : List ℕ
+  pub behind : number ≡ length taken + 1
+  pub there : slice_get text (length taken) ≡ Some bytes
+  pub read : g.judge (behind_taken g g.start taken) bytes ≡ Ok line
+
+-- The text has come to this world, and the line of this number, which is read behind the lines that led there, ends so in it:
+-- what is named was found in bytes that this very line hands over.
+pub record IsForgedAt {P : Type 0} (g : Grammar P) (text : List (List ℕ)) (w : Walk) (number : ℕ) (f : Forgery) : Type 0 where
+  pub setting : Setting
+  pub world : World
+  pub come : w.stage ≡ Plays setting world
+  pub line : WorldLine
+  pub stops : StopsAt g text w.taken number line
+  pub ends : step setting world line ≡ Err f
+  pub handed : IsForgedIn setting world line f
+
+-- Where a text ends as forged, the line behind those that were taken ends so in the world that the text has come to, and hands
+-- the forged record over.
 abbrev pub ForgedTextsHandItOver : Type 0
-ForgedTextsHandItOver = (spelled : WorldLine → List ℕ) (text : List (List ℕ)) (f : Forgery) → let w = walk_over (world_grammar spelled) setting_in text in w.cause ≡ Some (Forged f) → IsForgedAt w.stage f
+ForgedTextsHandItOver = (spelled : WorldLine → List ℕ) (text : List (List ℕ)) (f : Forgery) → let w = walk_over (world_grammar spelled) setting_in text in
+    w.cause ≡ Some (causes.Forged f.who f.body) → IsForgedAt (world_grammar spelled) text w (last_line w) f

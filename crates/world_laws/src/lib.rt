@@ -5,7 +5,7 @@
 #![tactic(auto)]
 
 ghost use Rattle.world_laws.specs.Laws.{RostersAreKept, OwnAheadNeverComes, TheRemovedHadSigned, NodesAccuseTheSilent, AcceptedAccusationsWereSigned, KeysVerify, RemovalsAreVerified, ToldRemovalsAreVerified};
-ghost use Rattle.world_laws.specs.Telling.{AcceptedIsLived, AuthoritySpendsOnce, SendingIsTold, SpendingIsTold};
+ghost use Rattle.world_laws.specs.Telling.{AcceptedIsLived, AcceptedWasSignedFirst, AuthoritySpendsOnce, SendingIsTold, SpendingIsTold};
 ghost use Rattle.world_laws.specs.Flows.{FlowsGoOn, OnlySentIsHandedOver, OthersTakeNone};
 ghost use Rattle.world_laws.specs.Forged.{ForgedLinesHandItOver, ForgeriesAreFirst};
 ghost use Rattle.world_laws.specs.Replies.{AnswersHoldInWorlds, ToldExpiriesAreLived};
@@ -21,7 +21,7 @@ pub fn own_ahead_never_comes()
     ensures { OwnAheadNeverComes }
 {}
 
-/// Each removal of a node from any node's view rests on an accusation; and the note of the removed that was the newest
+/// Whichever accusation a removal of a node from any node's view rests on: the note of the removed that was the newest
 /// there, as that was accepted, the removed had itself signed, of that accusation's epoch and with its ring enabled.
 pub fn the_removed_had_signed()
     ensures { TheRemovedHadSigned }
@@ -43,11 +43,18 @@ pub fn keys_verify()
 /// Each removal in a life of a node rests on an accusation that was accepted earlier in that life, by the node's monitor
 /// of the member, and stood so and unanswered for the timeout. The record of it verifies under the key of the accuser's
 /// certificate, as the node keeps it: the one of a delivered datagram that the node accepted there; or, where the node came
-/// to accuse there itself, at a tick, one with the signature of an index that its key spent on the accusation. And each
-/// removal that is reported of a node is one of these, at a place that has the reported moment behind it.
+/// to accuse there itself, at a tick, one with the signature of an index that its key spent on the accusation. If a node is
+/// removed, it had itself signed the note of that same accusation's epoch, with its ring enabled. And each removal that is
+/// reported of a node is one of these, at a place that has the reported moment behind it.
 pub fn removals_are_verified()
     ensures lived { RemovalsAreVerified }
     ensures told { ToldRemovalsAreVerified }
+{}
+
+/// A note or an accusation of a node's is reported as accepted only after it was reported that the node's key spent an index
+/// on it: nothing of a node's is accepted before the node has signed it.
+pub fn accepted_was_signed_first()
+    ensures { AcceptedWasSignedFirst }
 {}
 
 /// What is reported as spent by a node, in order over all its lives, is what its key has spent.

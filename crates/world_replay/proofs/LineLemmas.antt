@@ -16,9 +16,9 @@ use Rattle.world_rules.specs.Walk as walk
 use Rattle.world_rules.specs.Walk.{Brought, Lists, Plays, Stage, brought, from_answer, no_roster, setting_in, trace_in}
 use Rattle.world_replay.specs.declared.stage.Stage.{Stage as Kept}
 use Rattle.world_replay.specs.Stages.{HoldsStage, Takes, brought_text}
-use Rattle.world_replay.specs.declared.cause.Cause.{Cause}
-use Rattle.world_replay.specs.declared.cause.Cause.TheVariants as causes
-use Rattle.world_replay.specs.Causes.{IsJudged, as_told, grammar, played}
+use Rattle.world_rules.specs.declared.cause.Cause.{Cause}
+use Rattle.world_rules.specs.declared.cause.Cause.TheVariants as causes
+use Rattle.world_replay.specs.Causes.{IsJudged, grammar, played}
 use Rattle.world_replay.specs.Owing.{Owes}
 use Rattle.world_replay.proofs.RosterLemmas.{fits-behind}
 use Rattle.world_replay.specs.Unfed.{goes_on, judged-fed, played-unrefused}
@@ -28,11 +28,11 @@ at-lines f g text same = ap (λ (h : Continuation Cause). h text) same
 
 -- what the line brings, and what follows it
 abbrev brings_on : Progress WorldText → Stage → List (List ℕ) → WorldLine → Result Brought Forgery → Trace Cause
-brings_on p stage rest l r = as_told (trace_in grammar (from_answer stage l r (λ after. walk.walk grammar setting_in rest (behind p l) after)))
+brings_on p stage rest l r = trace_in grammar (from_answer stage l r (λ after. walk.walk grammar setting_in rest (behind p l) after))
 
 -- a line that is judged to be one brings what it brings
 judged-on : (p : Progress WorldText) (stage : Stage) (bytes : List ℕ) (l : WorldLine) (rest : List (List ℕ)) → judge p bytes ≡ Ok l → played p stage (bytes ∷ rest) ≡ brings_on p stage rest l (brought setting_in stage l)
-judged-on p stage bytes l rest judged = ap (λ (j : Result WorldLine BadWord). as_told (trace_in grammar (goes_on p stage rest j))) judged
+judged-on p stage bytes l rest judged = ap (λ (j : Result WorldLine BadWord). trace_in grammar (goes_on p stage rest j)) judged
 
 -- a line that is taken is reported, and then the rest
 played-taken : (p : Progress WorldText) (stage : Stage) (bytes : List ℕ) (l : WorldLine) (b : Brought) (rest : List (List ℕ)) → judge p bytes ≡ Ok l → brought setting_in stage l ≡ Ok b → played p stage (bytes ∷ rest) ≡ before (brought_text l b) (played (behind p l) b.stage rest)

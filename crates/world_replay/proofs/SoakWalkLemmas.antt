@@ -18,6 +18,7 @@ use Rattle.soak_lines.specs.Schedule.{IsSchedule}
 use Rattle.soak_lines.specs.Workload.{line_count}
 use Rattle.world_rules.specs.Forgeries.{Forgery}
 use Rattle.world_rules.specs.Steps.{NodeEvent}
+use Rattle.world_rules.specs.declared.cause.Cause.TheVariants as causes
 use Rattle.world_rules.specs.Walk as walk
 use Rattle.world_rules.specs.Walk.{Brought, Lists, Taken, Walk, at_end, brought, events_in, from_answer, from_line, no_roster, onto, setting_in, walk_over}
 use Rattle.world_text.specs.Lines.{line_text}
@@ -120,7 +121,7 @@ walk-taken p l rest meant b read is =
     walk-on p l rest meant read ∙ ap (λ (r : Result Brought Forgery). from_answer meant l r (λ later. walk_from rest (behind p l) later)) is
 
 walk-forged : (p : Progress WorldText) (l : WorldLine) (rest : List WorldLine) (meant : walk.Stage) (found : Forgery) → judge p (line_text l ++ 10 ∷ []) ≡ Ok l → brought setting_in meant l ≡ Err found
-    → walk_from (l ∷ rest) p meant ≡ walk.ends_with meant (walk.Forged found)
+    → walk_from (l ∷ rest) p meant ≡ walk.ends_with meant (causes.Forged found.who found.body)
 walk-forged p l rest meant found read is =
     walk-on p l rest meant read ∙ ap (λ (r : Result Brought Forgery). from_answer meant l r (λ later. walk_from rest (behind p l) later)) is
 

@@ -9,7 +9,7 @@ use Rattle.world_rules.specs.Steps.{NodeEvent}
 use Rattle.world_rules.specs.Walk as walk
 use Rattle.world_replay.specs.declared.stage.Stage.{Stage}
 use Rattle.world_replay.specs.Stages.{HoldsStage}
-use Rattle.world_replay.specs.declared.cause.Cause.{Cause}
+use Rattle.world_rules.specs.declared.cause.Cause.{Cause}
 use Rattle.world_replay.specs.declared.player.Player.{Player}
 use Rattle.world_replay.specs.Causes.{played}
 use Rattle.world_replay.specs.Rosters.{Fits}

@@ -5,7 +5,7 @@ use Rattle.soak_lines.specs.Workload.{workload}
 use Rattle.world_rules.specs.Forgeries.{Forgery}
 use Rattle.world_rules.specs.Counts.{Counts, counts_of, nothing_counted}
 use Rattle.world_rules.specs.Steps.{NodeEvent}
-use Rattle.world_rules.specs.Walk as walk
+use Rattle.world_rules.specs.declared.cause.Cause.TheVariants as causes
 use Rattle.world_rules.specs.Walk.{Lists, Plays, Stage, Walk, events_in, last_line, setting_in, walk_over}
 use Rattle.world_text.specs.Lines.{line_text}
 use Rattle.world.specs.Counting.{AreKept}
@@ -38,7 +38,7 @@ pub record IsSummary (all : List WorldLine) (w : Walk) (s : Summary) : Type 0 wh
 
 -- A line hands over what is forged: the first cause that ends the walk, at its line.
 pub record IsFoundForged (w : Walk) (number : ℕ) (found : Forgery) : Type 0 where
-  pub cause : w.cause ≡ Some (walk.Forged found)
+  pub cause : w.cause ≡ Some (causes.Forged found.who found.body)
   pub line : number ≡ last_line w
 
 -- The summary; or, where a line hands over what is forged, that; or memory was refused.

@@ -13,9 +13,9 @@ use Rattle.text_trace.specs.Lines.{has_line_feed, has_no_feed}
 use Rattle.text_trace.specs.Trace.{IsUnrefused, Waits}
 use Rattle.world_rules.specs.Walk as walk
 use Rattle.world_rules.specs.Walk.{Stage, at_end, from_line, setting_in, trace_in}
-use Rattle.world_replay.specs.declared.cause.Cause.{Cause}
-use Rattle.world_replay.specs.declared.cause.Cause.TheVariants as causes
-use Rattle.world_replay.specs.Causes.{as_told, grammar, played}
+use Rattle.world_rules.specs.declared.cause.Cause.{Cause}
+use Rattle.world_rules.specs.declared.cause.Cause.TheVariants as causes
+use Rattle.world_replay.specs.Causes.{grammar, played}
 
 -- a line that is judged to be one is one
 pub line-is : (p : Progress WorldText) (bytes : List ℕ) (l : WorldLine) → judge p bytes ≡ Ok l → IsLine p bytes l
@@ -31,7 +31,7 @@ goes_on p stage rest judged = from_line setting_in stage judged (λ l after. wal
 pub unfed-none : (p : Progress WorldText) (bytes : List ℕ) (l : WorldLine) → judge p bytes ≡ Ok l → has_no_feed bytes ≡ true → ⊥
 unfed-none p bytes l is clear = line-unfed (is_ended p.form) p.number (IsWorld p.form) bytes l (line-is p bytes l is) clear
 
-unfed_silent : (p : Progress WorldText) (stage : Stage) (bytes : List ℕ) (rest : List (List ℕ)) (r : Result WorldLine BadWord) → judge p bytes ≡ r → has_no_feed bytes ≡ true → (as_told (trace_in grammar (goes_on p stage rest r))).output ≡ []
+unfed_silent : (p : Progress WorldText) (stage : Stage) (bytes : List ℕ) (rest : List (List ℕ)) (r : Result WorldLine BadWord) → judge p bytes ≡ r → has_no_feed bytes ≡ true → (trace_in grammar (goes_on p stage rest r)).output ≡ []
 unfed_silent p stage bytes rest (Ok l) is clear = absurd (unfed-none p bytes l is clear)
 unfed_silent p stage bytes rest (Err w) is clear = refl
 
@@ -40,7 +40,7 @@ one c = Some c
 
 -- what ends a text behind these lines
 abbrev end_cause : Stage → Bool → Option Cause
-end_cause stage is_over = (as_told (trace_in grammar (at_end stage (if is_over then None else Some bad.End)))).cause
+end_cause stage is_over = (trace_in grammar (at_end stage (if is_over then None else Some bad.End))).cause
 
 -- the end of a text and a line of no bytes have no cause in common
 apart : (stage : Stage) (c : Cause) (is_over : Bool) → end_cause stage is_over ≡ one c → one (causes.Bad (empty_fault is_over)) ≡ one c → ⊥
@@ -51,7 +51,7 @@ apart stage c false e f = cc
 pub played-unrefused : (p : Progress WorldText) (stage : Stage) → IsUnrefused Cause (played p stage)
 played-unrefused p stage = λ c any all.
     let empty : (played p stage ([] ∷ [])).cause ≡ one (causes.Bad (empty_fault (is_ended p.form))) =
-    ap (λ (j : Result WorldLine BadWord). (as_told (trace_in grammar (goes_on p stage [] j))).cause) (judge-empty (next_line is_ended row_for p)) in
+    ap (λ (j : Result WorldLine BadWord). (trace_in grammar (goes_on p stage [] j)).cause) (judge-empty (next_line is_ended row_for p)) in
     apart stage c (is_ended p.form) (all []) (sym empty ∙ all ([] ∷ []))
 
 pub played-waits : (p : Progress WorldText) (stage : Stage) → Waits Cause (played p stage)

@@ -4,7 +4,6 @@
 #![tactic(auto)]
 
 mod attack;
-mod cause;
 mod fault;
 mod player;
 mod roster;
@@ -12,7 +11,6 @@ mod stage;
 mod summary;
 
 pub use attack::soak;
-pub use cause::Cause;
 pub use fault::SoakFault;
 pub use player::Player;
 pub use roster::Roster;

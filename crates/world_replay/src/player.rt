@@ -4,12 +4,13 @@ ghost use Rattle.std.specs.Prelude.{◌≡◌};
 ghost use Rattle.text_trace.specs.Lines.{text_lines};
 ghost use Rattle.world_replay.specs.Causes.{IsJudged, replayed};
 
-use crate::{Cause, Stage};
+use crate::Stage;
 use line_text::{LineFault, Reader};
 use play::{Refusal, Script};
 use schedule_world::WorldText;
 use std::alloc::Global;
 use world::WorldFault;
+use world_rules::Cause;
 
 /// What a run has between two lines: what was read of the text, and what has come of it.
 #[derive(Drop)]

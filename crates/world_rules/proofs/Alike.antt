@@ -4,7 +4,6 @@ use Rattle.std.specs.Prelude.{fold, Result, Ok, Err}
 use Rattle.std.proofs.lemmas.Bool.{cases_Bool, false≢true}
 use Rattle.std.proofs.lemmas.Bool.Decides.{nat_tests}
 use Rattle.records.specs.declared.Body.{Body}
-use Rattle.records.specs.declared.Body.TheVariants.{Certificate, Note, Accusation}
 use Rattle.records.specs.declared.Record.{Record}
 use Rattle.datagram.specs.declared.Datagram.{Datagram}
 use Rattle.datagram.specs.declared.Datagram.TheVariants as kinds
@@ -14,7 +13,7 @@ use Rattle.signer.specs.Signing.{stored_after}
 use Rattle.signer.proofs.StepLemmas.{next_index}
 use Rattle.ff_ids.specs.Views.{State}
 use Rattle.node_rules.specs.Nodes.{Setting, Node, state_of}
-use Rattle.node_rules.specs.Calls.{Call, begun, signs_and_sends, stops}
+use Rattle.node_rules.specs.Calls.{Call, begun, signs_and_sends}
 use Rattle.node_rules.specs.Deliveries.{handles, hears}
 use Rattle.node_rules.specs.Ticking.{accuses, gossips, is_due, passed, pings_all, pings_in, probed_at, round_of, silent_in}
 use Rattle.node_rules.specs.Lives.{Input, Delivers, Ticks}

@@ -16,6 +16,8 @@ use Rattle.world_rules.specs.Settings.{Owner, Setting}
 use Rattle.world_rules.specs.Keys.{setting_for}
 use Rattle.world_rules.specs.Worlds.{Life, World, begun_world, lives_of, spent_of}
 use Rattle.world_rules.specs.Forgeries.{Forgery}
+use Rattle.world_rules.specs.declared.cause.Cause.{Cause}
+use Rattle.world_rules.specs.declared.cause.Cause.TheVariants as causes
 use Rattle.world_rules.specs.declared.verdict.Verdict.{Verdict}
 use Rattle.world_rules.specs.Verdicts.{verdict_text}
 use Rattle.world_rules.specs.Steps.{Answer, NodeEvent, step}
@@ -108,11 +110,6 @@ pub record Taken : Type 0 where
   pub line : WorldLine
   pub brought : Brought
 
--- What ends a text early.
-pub data Cause : Type 0 where
-  Bad : (word : BadWord) → Cause
-  Forged : (found : Forgery) → Cause
-
 -- The lines that are taken, one after another; what has come of the text behind them; and what ends it early, if
 -- anything does.
 pub record Walk : Type 0 where
@@ -125,19 +122,19 @@ ends_with stage cause = record { taken = []; stage = stage; cause = Some cause }
 
 abbrev pub at_end : Stage → Option BadWord → Walk
 at_end stage None = record { taken = []; stage = stage; cause = None }
-at_end stage (Some word) = ends_with stage (Bad word)
+at_end stage (Some word) = ends_with stage (causes.Bad word)
 
 abbrev pub onto : Taken → Walk → Walk
 onto t w = record { taken = t ∷ w.taken; stage = w.stage; cause = w.cause }
 
 -- A forged line is not taken; after a taken one the walk goes on.
 abbrev pub from_answer : Stage → WorldLine → Result Brought Forgery → (Stage → Walk) → Walk
-from_answer stage line (Err found) rest = ends_with stage (Forged found)
+from_answer stage line (Err found) rest = ends_with stage (causes.Forged found.who found.body)
 from_answer stage line (Ok b) rest = onto (record { before = stage; line = line; brought = b }) (rest b.stage)
 
 -- A refused line is not taken.
 abbrev pub from_line : (Roster → Setting) → Stage → Result WorldLine BadWord → (WorldLine → Stage → Walk) → Walk
-from_line make stage (Err word) rest = ends_with stage (Bad word)
+from_line make stage (Err word) rest = ends_with stage (causes.Bad word)
 from_line make stage (Ok line) rest = from_answer stage line (brought make stage line) (rest line)
 
 -- The walk over the lines of which so much was read before.

@@ -1,13 +1,16 @@
 //! Floor: world. What a world of nodes does with each line of a schedule, as definitions and theorems: the disks and
 //! calls of its nodes, its lines with their verdicts and events, and the one walk over a text. Each theorem is the
-//! contract of a function that does nothing; of the code, only the type of verdicts stands here. The contracts of all
+//! contract of a function that does nothing; of the code, only the types of verdicts and of causes
+//! stand here. The contracts of all
 //! crates of worlds cite it.
 #![tactic(auto)]
 
 ghost use Rattle.world_rules.specs.Laws.{CallsComeSoFar, EachRemovalIsJustified, NodesSpendOnce};
 
+mod cause;
 mod verdict;
 
+pub use cause::Cause;
 pub use verdict::{MemberList, RefusalReason, Verdict};
 
 /// A call of a node over its disk is the node's call, whole; or, where an armed stop comes, the call up to the put in

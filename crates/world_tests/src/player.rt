@@ -7,7 +7,8 @@ use play::{Stop, play as play_lines};
 use ports::{MemorySink, MemorySource};
 use records::Body;
 use std::alloc::Global;
-use world_replay::{Cause, Player};
+use world_replay::Player;
+use world_rules::Cause;
 
 /// How many bytes a trace may have here.
 const ROOM: usize = 1 << 20;

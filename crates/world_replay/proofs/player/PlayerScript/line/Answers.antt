@@ -2,7 +2,7 @@ use Rattle.std.proofs.Common.{[], ◌∷◌, sym, subst}
 use Rattle.line_text.specs.Answers.{Progress}
 use Rattle.schedule_world.specs.declared.text.WorldText.{WorldText}
 use Rattle.text_trace.specs.Trace.{Steps}
-use Rattle.world_replay.specs.declared.cause.Cause.{Cause}
+use Rattle.world_rules.specs.declared.cause.Cause.{Cause}
 use Rattle.world_replay.specs.Owing.{Owes}
 use Rattle.world_replay.specs.Unfed.{judged-fed}
 use Rattle.world_replay.proofs.LineLemmas.{line-steps, read-starved, told-starved}

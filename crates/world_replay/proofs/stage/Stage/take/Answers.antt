@@ -4,7 +4,7 @@ use Rattle.world_replay.proofs.stage.Stage.take.Goals as goal
 
 pub returns-in-Plays : goal.returns-in-Plays
 returns-in-Plays c = λ stage told h.
-    takes-played stage told c.args.line.now c.in-Plays.world c.step.new.self c.args.out.now.items c.step.new.out.items c.step.result (λ s w holds. c.step.ensures s w told holds)
+    takes-played stage told c.args.line.now c.in-Plays.world c.step.new.self c.args.out.now.items c.step.new.out.items c.step.result (λ s w holds. c.step.ensures.steps s w told holds)
     (rw c.in-Plays.is at h)
 
 pub returns-in-Ok-None : goal.returns-in-Ok-None
