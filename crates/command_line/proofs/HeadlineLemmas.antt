@@ -1,9 +1,7 @@
 -- What a replay upholds, from how it ended.
-use Rattle.std.proofs.Common.{◌≡◌, ℕ, Bool, true, false, List, [], ◌++◌, Option, Some, None, Ok, Err, refl, sym, subst, ◌∙◌, ap, append-nil}
-use Rattle.std.specs.Option.{option_map}
+use Rattle.std.proofs.Common.{◌≡◌, ℕ, Bool, true, false, List, [], ◌++◌, Ok, Err, refl, sym, subst, ◌∙◌, ap, append-nil}
 use Rattle.play.specs.Plays.{IoState}
 use Rattle.play.specs.declared.stop.Stop.TheVariants as stop
-use Rattle.records.specs.declared.Body.{Body}
 use Rattle.text_trace.specs.Lines.{seen}
 use Rattle.text_trace.specs.Trace.{Continuation}
 use Rattle.trace.specs.Walk as direct
@@ -12,7 +10,6 @@ use Rattle.trace.proofs.AnswerLemmas.{rule-out}
 use Rattle.trace.proofs.JustifiedLemmas.{justified-behind, justified-written, told-written}
 use Rattle.trace.proofs.SinceLemmas.{ends-acceptance}
 use Rattle.trace.proofs.UprightLemmas.{justified-walk}
-use Rattle.world_rules.specs.Walk as walk
 use Rattle.world_laws.specs.Texts.{IsForgedAt}
 use Rattle.world_laws.proofs.FlowWalks.{each-once}
 use Rattle.world_laws.proofs.Walking.{texts-come, texts-lawful}
@@ -28,7 +25,7 @@ use Rattle.command_line.proofs.ReplayWaitLemmas.{unfed-adds-nothing}
 use Rattle.command_line.specs.Causes.{IsWritten, RunEnd, cause_line, for_cause, status_by}
 use Rattle.command_line.specs.Ends.{EndsBy}
 use Rattle.command_line.specs.Headline.{DirectHeadline, Headline, HeadlineAs, OnForged, OnWhole, WorldHeadline}
-use Rattle.command_line.specs.Traced.{EndsSilently, IsCause, IsOwed}
+use Rattle.command_line.specs.Traced.{EndsSilently, IsOwed}
 use Rattle.command_line.proofs.CauseLines.{IsOther, bad-line, begins-other, fault-line, forged-line, tail-of, unsigned-other}
 use Rattle.command_line.proofs.EndLemmas.{none_shorter}
 use Rattle.command_line.proofs.ForgedLemmas.{forged-at}
