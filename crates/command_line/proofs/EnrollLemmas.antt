@@ -78,7 +78,7 @@ silent was between mid now s lines first answer read same owing tells next =
     (subst (λ m. Appends between.taken m.taken []) (sym same) (Appends-nil between.taken)) (ap (λ m. m.left) same) (told-lines was between s lines next read) (owing rest) tells
 
 -- the lines of the first certificates, and then those of the others
-split-within : (s : Setting) (i : ℕ) (done rest : List CertBody) → i + length done ≤ index_count (key_of s) → lines_within s.group (key_of s) i (done ++ rest) ≡ signed_lines s.group (key_of s) i done ++ lines_within s.group (key_of s) (i + length done) rest
+pub split-within : (s : Setting) (i : ℕ) (done rest : List CertBody) → i + length done ≤ index_count (key_of s) → lines_within s.group (key_of s) i (done ++ rest) ≡ signed_lines s.group (key_of s) i done ++ lines_within s.group (key_of s) (i + length done) rest
 split-within s i [] rest few = ap (λ (k : ℕ). lines_within s.group (key_of s) k rest) (omega arith)
 split-within s i (c ∷ done) rest few =
     let has : ltb i (index_count (key_of s)) ≡ true = lt-ltb i (index_count (key_of s)) (omega arith) in
@@ -206,93 +206,6 @@ enroll-disk name was mid now old new (Err halt.OutOfMemory) s h t =
       | inr w ↦ elim w.rest [ inl opening ↦ opening.1.faults | inr e ↦ faults-either name w.setting e.done (e.done ++ e.one ∷ []) e.opened old new e.enrolled ]
     ] in
     or-cut t.failed status.OutOfMemory t.line s t.says (DiskCounts old new) same (inl same)
-
--- ## What it upholds
-
-record Rises (low : ℕ) (spent : List Spent) : Type 0 where
-  rising : IsRising (indexes spent)
-  above : AllByRecursion (λ i. low ≤ i) (indexes spent)
-
-all-above : (low high : ℕ) (xs : List ℕ) → high ≡ low + 1 → AllByRecursion (λ i. high ≤ i) xs → AllByRecursion (λ i. low < i) xs × AllByRecursion (λ i. low ≤ i) xs
-all-above low high [] step above = (tt, tt)
-all-above low high (x ∷ xs) step above =
-    let more = all-above low high xs step above.1 in ((omega (arith, step, above.0), more.0), (omega (arith, step, above.0), more.1))
-
--- the indexes of certificates that are signed from a state on
-rises : (o : Stored) (certs : List CertBody) → Rises o.next (spent_by o (map Certificate certs))
-rises o [] = record { rising = tt; above = tt }
-rises o (c ∷ certs) =
-    let rest = rises (record o { next = o.next + 1 }) certs in
-    let up = all-above o.next (o.next + 1) (indexes (spent_by (record o { next = o.next + 1 }) (map Certificate certs))) refl rest.above in
-    record { rising = (up.0, rest.rising); above = (omega arith, up.1) }
-
--- these certificates were signed
-spends-certs : (was between : IoState) (s : Setting) (lines : List RosterLine) (o : Stored) (seat : Seat) (certs others : List CertBody) (old new : OfDisk) → IsRoster was between s lines → HoldsStore (tag_of s) o seat old.moments → asked_in lines ≡ certs ++ others
-    → Spends s o certs old new → SpendsFronts s o certs old new → Enrolment was old new
-spends-certs was between s lines o seat certs others old new read found first spends fronts =
-    let up = rises o certs in
-    inr (record {
-      setting = s;
-      lines = lines;
-      between = between;
-      read = read;
-      opened = o;
-      seat = seat;
-      found = found;
-      certs = certs;
-      others = others;
-      first = first;
-      rising = up.rising;
-      above = up.above;
-      lives = spends;
-      any_moment = fronts;
-    })
-
-untouched : (was : IoState) (old new : OfDisk) → new ≡ old → Enrolment was old new
-untouched was old new same =
-    inl (λ tag before spent ends. (
-      subst (λ (d : OfDisk). Since (EndsLives tag before spent) old.moments d.moments) (sym same) (Since-same (EndsLives tag before spent) old.moments),
-      subst (λ (d : OfDisk). EndsNow tag before spent d.moments) (sym same) ends,
-    ))
-
-kept-over : (was : IoState) (old new : OfDisk) → Fails stays old.moments new.moments → Enrolment was old new
-kept-over was old new fails = inl (λ tag before spent ends. kept_by_opening tag before spent old.moments new.moments ends fails)
-
--- the first ones, or one more
-one-more : (certs done : List CertBody) (one : CertBody) (part : IsPart certs done one) → certs ≡ (done ++ one ∷ []) ++ part.rest
-one-more certs done one part = part.are ∙ sym (append_assoc done (one ∷ []) part.rest)
-
-spends-either : (name : List ℕ) (was between : IoState) (s : Setting) (lines : List RosterLine) (o : Stored) (done : List CertBody) (one : CertBody) (part : IsPart (asked_in lines) done one) (old new : OfDisk) → IsRoster was between s lines → AreEnrolled name s o done old new ⊎ AreEnrolled name s o (done ++ one ∷ []) old new → Enrolment was old new
-spends-either name was between s lines o done one part old new read (inl e) = spends-certs was between s lines o e.seat done (one ∷ part.rest) old new read e.found part.are e.spends e.any_moment
-spends-either name was between s lines o done one part old new read (inr e) = spends-certs was between s lines o e.seat (done ++ one ∷ []) part.rest old new read e.found (one-more (asked_in lines) done one part) e.spends e.any_moment
-
-pub enroll-upheld : (name : List ℕ) (was mid : IoState) (old new : OfDisk) (r : Answer) → Enrols name was mid old new r → Enrolment was old new
-enroll-upheld name was mid old new (Ok _) h =
-    let e = h.rest in
-    spends-certs was h.between h.setting h.lines e.opened e.enrolled.seat (asked_in h.lines) [] old new h.read e.enrolled.found (sym (append-nil (asked_in h.lines))) e.enrolled.spends e.enrolled.any_moment
-enroll-upheld name was mid old new (Err (halt.Refused line w)) h = untouched was old new h.1
-enroll-upheld name was mid old new (Err halt.ReadFault) h = untouched was old new h.1
-enroll-upheld name was mid old new (Err halt.WriteFault) h =
-    let e = h.rest in
-    spends-certs was h.between h.setting h.lines e.opened e.enrolled.seat (e.done ++ e.one ∷ []) e.part.rest old new h.read e.enrolled.found (one-more (asked_in h.lines) e.done e.one e.part) e.enrolled.spends e.enrolled.any_moment
-enroll-upheld name was mid old new (Err halt.StoreFault) h =
-    elim h.rest [
-      | inl opening ↦ kept-over was old new opening.1.moments
-      | inr e ↦ spends-certs was h.between h.setting h.lines e.opened e.seat e.done (e.one ∷ e.part.rest) old new h.read e.found e.part.are e.spends e.any_moment
-    ]
-enroll-upheld name was mid old new (Err (halt.StoreBroken place byte)) h = kept-over was old new h.rest.1.kept
-enroll-upheld name was mid old new (Err (halt.StoreTaken len)) h = absurd h.rest
-enroll-upheld name was mid old new (Err (halt.Exhausted next)) h =
-    let e = h.rest in
-    spends-certs was h.between h.setting h.lines e.opened e.enrolled.seat e.done (e.one ∷ e.part.rest) old new h.read e.enrolled.found e.part.are e.enrolled.spends e.enrolled.any_moment
-enroll-upheld name was mid old new (Err halt.OutOfMemory) h =
-    elim h [
-      | inl cut ↦ untouched was old new cut.1
-      | inr w ↦ elim w.rest [
-        | inl opening ↦ kept-over was old new opening.1.moments
-        | inr e ↦ spends-either name was w.between w.setting w.lines e.opened e.done e.one e.part old new w.read e.enrolled
-      ]
-    ]
 
 -- ## Where it is whole
 

@@ -9,8 +9,9 @@ use Rattle.node_command.specs.declared.halt.NodeHalt.{NodeHalt}
 use Rattle.node_command.specs.declared.halt.NodeHalt.TheVariants as halt
 use Rattle.node_command.specs.Removals.{AreWholeLines, IsReported, RemovalsRest, removal_line}
 use Rattle.node_command.specs.Running.{NetInputs, Takes}
+use Rattle.node_command.specs.Spendings.{Spends}
 use Rattle.command_line.specs.Causes.{IsWritten, cause_line, status_of_node}
-use Rattle.command_line.specs.Ends.{RestsFed, SpendsFed, Tells, NetState}
+use Rattle.command_line.specs.Ends.{RestsFed, Tells, NetState}
 use Rattle.command_line.specs.Journals.{JournalRests, NodeUpholds}
 use Rattle.command_line.proofs.EndLemmas.{none_shorter}
 use Rattle.command_line.proofs.CauseLines.{IsOther, bad-line, begins-other, broken-line, fault-line, link-line, store-line, tail-of, used-line}
@@ -56,10 +57,10 @@ journal-rests feed was between now old r s h t = record {
   rests = cause-behind (IsReported was old feed) feed was between old r t.line t.failed h h.rests t.says.1;
 }
 
-pub node-upholds : (turns : ℕ) (was between now : IoState) (old new : OfDisk) (before : NetState) (r : Result (Unit {0}) NodeHalt) (s : Status) → Takes was between old new r → RestsFed turns was between old before r → SpendsFed turns was old new before → Tells (status_of_node r) between now s
+pub node-upholds : (turns : ℕ) (was between now : IoState) (old new : OfDisk) (before : NetState) (r : Result (Unit {0}) NodeHalt) (s : Status) → Takes was between old new r → RestsFed turns was between old before r → Spends was between old new r → Tells (status_of_node r) between now s
     → NodeUpholds turns was now old new before s
 node-upholds turns was between now old new before r s takes rests spends t = record {
   untouched = node-upheld was between now old new r s takes t;
   removals = λ feed link readings reading turns_is. journal-rests feed was between now old r s (rests feed link readings reading turns_is) t;
-  spends = spends;
+  spends = record { result = r; between = between; spends = spends; tells = t };
 }

@@ -8,6 +8,7 @@ pub mod UpheldLemmas
 pub mod BehindLemmas
 pub mod StoreLemmas
 pub mod EnrollLemmas
+pub mod EnrolmentLemmas
 pub mod NodeLemmas
 pub mod JournalLemmas
 pub mod OpenedLemmas

@@ -18,9 +18,11 @@ use Rattle.ports.specs.Outside.{OfDisk}
 use Rattle.node_command.specs.declared.halt.NodeHalt.{NodeHalt}
 use Rattle.node_command.specs.declared.halt.NodeHalt.TheVariants as halt
 use Rattle.node_command.specs.Members.{kit_judging}
+use Rattle.node_command.specs.Opening.{OpensFile}
 use Rattle.node_command.specs.Running.{IsCaused, Takes, TookAlone, TookWhole}
+use Rattle.node_command.specs.Spendings.{Spends}
 use Rattle.command_line.specs.Causes.{RunEnd, Says, cause_line, for_word, status_of, status_of_node}
-use Rattle.command_line.specs.Ends.{Counts, Is, NodeCounts, NodeEnds, RestsFed, RunsFed, SpendsFed, Tells, NetState}
+use Rattle.command_line.specs.Ends.{Counts, Is, NodeCounts, NodeEnds, RestsFed, RunsFed, Tells, NetState}
 use Rattle.command_line.specs.Serving.{IsBehindText, IsNodeDone, IsUntouched, NodeTraced, NodeTraced.CutOff, NodeTraced.Whole, NodeUpheld, OnUnrefused, TakenWhole}
 use Rattle.command_line.specs.Traced.{Traced}
 use Rattle.command_line.specs.TracedAs.{NodeEndsWell, NoneFailed}
@@ -38,11 +40,11 @@ Answer = Result (Unit {0}) NodeHalt
 abbrev told_by : (List KitLine → List ℕ) → Continuation BadWord
 told_by tell = owed_whole kit_judging kit.Start tell
 
-pub node-ends : (turns : ℕ) (was mid now : IoState) (old new : OfDisk) (before after : NetState) (r : Answer) (first s : Status) → Takes was mid old new r → IsCaused was old new r → OnOk r (new.faults ≡ old.faults)
+pub node-ends : (name : List ℕ) (turns : ℕ) (was mid now : IoState) (old new : OfDisk) (before after : NetState) (r : Answer) (first s : Status) → Takes was mid old new r → IsCaused was old new r → OpensFile name old new r → OnOk r (new.faults ≡ old.faults)
     → IfErr r (λ h. h ≡ halt.StoreFault → Rose old.faults new.faults) → IfErr r (λ h. h ≡ halt.LinkFault → after.faults ≡ next_count before.faults) → RunsFed turns was mid old new before after r
-    → RestsFed turns was mid old before r → SpendsFed turns was old new before → first ≡ status_of_node r → Tells first mid now s → NodeEnds turns was now old new before after s
-node-ends turns was mid now old new before after r first s takes cause no_disk_fault store link runs rests spends is tells =
-    record { result = r; between = mid; takes = takes; cause = cause; no_disk_fault = no_disk_fault; store_fault = store; link_fault = link; runs = runs; removals = rests; spends = spends; tells = subst (λ f. Tells f mid now s) is tells }
+    → RestsFed turns was mid old before r → Spends was mid old new r → first ≡ status_of_node r → Tells first mid now s → NodeEnds name turns was now old new before after s
+node-ends name turns was mid now old new before after r first s takes cause opened no_disk_fault store link runs rests spends is tells =
+    record { result = r; between = mid; takes = takes; cause = cause; opened = opened; no_disk_fault = no_disk_fault; store_fault = store; link_fault = link; runs = runs; removals = rests; spends = spends; tells = subst (λ f. Tells f mid now s) is tells }
 
 -- ## What was taken
 

@@ -1,5 +1,6 @@
 -- What holds of each command, from how its run ended.
-use Rattle.std.proofs.Common.{◌≡◌, ◌≢◌, Bool, true, false, List, ℕ, sym, ◌∙◌, ap, inl, Result, Ok, Err}
+use Rattle.std.proofs.Common.{◌≡◌, ◌≢◌, Bool, true, false, List, ℕ, sym, ◌∙◌, ap, inl, Result, Ok, Err, Option, Some, subst}
+use Rattle.std.specs.Prelude.{IfSome}
 use Rattle.play.specs.Plays.{IoState}
 use Rattle.play.specs.declared.stop.Stop.TheVariants as stop
 use Rattle.text_trace.specs.Trace.{Every, Continuation}
@@ -10,7 +11,7 @@ use Rattle.authority.specs.declared.halt.Halt.{Halt}
 use Rattle.authority.specs.declared.halt.Halt.TheVariants as halt
 use Rattle.ports.specs.Outside.{OfDisk}
 use Rattle.command_line.specs.Causes.{RunEnd, Says, for_cause, for_word, status_by, status_of_halt}
-use Rattle.command_line.specs.Ends.{Counts, DiskCounts, DiskCountsAs, EndsBy, NetState}
+use Rattle.command_line.specs.Ends.{Counts, DiskCounts, DiskCountsAs, EndsBy, NetState, FaultsAs}
 use Rattle.command_line.specs.EndsAs.{EndsAs}
 use Rattle.command_line.specs.TracedAs.{CompletesAs, TracedAs}
 use Rattle.command_line.specs.Traced.{Completes, TracedBy}
@@ -18,7 +19,8 @@ use Rattle.command_line.specs.Upheld.{Upholds}
 use Rattle.command_line.proofs.BehindLemmas.{or-cut}
 use Rattle.command_line.proofs.CompleteLemmas.{completes}
 use Rattle.command_line.proofs.EndLemmas.{AreRefusals, IsRefusal, ends-counts, for-causes, for-words, not-usage}
-use Rattle.command_line.proofs.EnrollLemmas.{enroll-completes, enroll-counts, enroll-disk, enroll-traced, enroll-upheld}
+use Rattle.command_line.proofs.EnrollLemmas.{enroll-completes, enroll-counts, enroll-disk, enroll-traced}
+use Rattle.command_line.proofs.EnrolmentLemmas.{enroll-upheld}
 use Rattle.command_line.proofs.HeadlineLemmas.{headline}
 use Rattle.command_line.proofs.NodeLemmas.{node-command, node-counts, node-disk, node-traced}
 use Rattle.command_line.proofs.JournalLemmas.{node-upholds}
@@ -117,7 +119,7 @@ all-of Enroll name was now old new before after s h =
       command = halt-command h.tells.failed h.result h.tells.line s h.tells.says;
       traced = enroll-traced name was h.between now old new h.result s h.stands h.tells;
       complete = enroll-completes name was h.between now old new h.result s h.stands h.tells n;
-      upholds = enroll-upheld name was h.between old new h.result h.stands;
+      upholds = enroll-upheld name was h.between now old new h.result s h.stands h.tells;
       counts = n;
       faults = enroll-disk name was h.between now old new h.result s h.stands h.tells;
     }
@@ -139,3 +141,12 @@ all-of (Soak seed members rounds) name was now old new before after s h = record
   counts = soak-counts seed members rounds was now s h.0;
   faults = soak-disk seed members rounds was now old new s h.0 h.1;
 }
+
+-- ## The words
+
+-- what holds of the command that the words name
+pub on-command : (P : Command → Type 0) (named found : Option Command) (c : Command) → found ≡ named → found ≡ Some c → P c → IfSome named P
+on-command P named found c same is h = subst (λ (o : Option Command). IfSome o P) (sym (sym same ∙ is)) h
+
+pub faults-of : (named found : Option Command) (c : Command) (old new : OfDisk) (s : Status) → found ≡ named → found ≡ Some c → DiskCountsAs c old new s → FaultsAs named old new s
+faults-of named found c old new s same is h = subst (λ (o : Option Command). FaultsAs o old new s) (sym (sym same ∙ is)) h

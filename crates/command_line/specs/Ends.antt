@@ -15,6 +15,7 @@ use Rattle.authority.specs.Enrolling.{Enrols}
 use Rattle.node_command.specs.declared.halt.NodeHalt.{NodeHalt}
 use Rattle.node_command.specs.declared.halt.NodeHalt.TheVariants as node
 use Rattle.node_command.specs.Journal.{environment}
+use Rattle.node_command.specs.Opening.{OpensFile}
 use Rattle.node_command.specs.Removals.{RemovalsRest}
 use Rattle.node_command.specs.Running.{NetInputs, IsCaused, Runs, Takes}
 use Rattle.node_command.specs.Spendings.{Spends}
@@ -88,25 +89,21 @@ RestsFed turns was between old before result =
     (feed : NetInputs) → before.contents ≡ Some feed.link → before.readings ≡ Some feed.readings → before.reading ≡ feed.reading → turns ≡ feed.turns
     → RemovalsRest feed was between old result
 
--- What it has spent.
-abbrev pub SpendsFed : ℕ → IoState → OfDisk → OfDisk → NetState → Type 0
-SpendsFed turns was old new before =
-    (feed : NetInputs) → before.contents ≡ Some feed.link → before.readings ≡ Some feed.readings → before.reading ≡ feed.reading → turns ≡ feed.turns
-    → Spends was old new
-
 -- How the run of a member ends: it ended for some answer, and the line of its cause is the last that is written. What it took
--- of its text, and which side failed, is said whether or not link and clock are modelled.
-pub record NodeEnds (turns : ℕ) (was now : IoState) (old new : OfDisk) (before after : NetState) (s : Status) : Type 0 where
+-- of its text, which side failed, which file it opened, and what it spent of its key is said whether or not link and clock are
+-- modelled.
+pub record NodeEnds (name : List ℕ) (turns : ℕ) (was now : IoState) (old new : OfDisk) (before after : NetState) (s : Status) : Type 0 where
   pub result : Result (Unit {0}) NodeHalt
   pub between : IoState
   pub takes : Takes was between old new result
   pub cause : IsCaused was old new result
+  pub opened : OpensFile name old new result
   pub no_disk_fault : OnOk result (new.faults ≡ old.faults)
   pub store_fault : IfErr result (λ h. h ≡ node.StoreFault → Rose old.faults new.faults)
   pub link_fault : IfErr result (λ h. h ≡ node.LinkFault → after.faults ≡ next_count before.faults)
   pub runs : RunsFed turns was between old new before after result
   pub removals : RestsFed turns was between old before result
-  pub spends : SpendsFed turns was old new before
+  pub spends : Spends was between old new result
   pub tells : Tells (status_of_node result) between now s
 
 -- The count of faults of the disk: a fault of the store raises it by one, and also where the line that says so can't be

@@ -35,8 +35,10 @@ OnWhole (Err stop.OutOfMemory) P = Unit {0}
 -- life, and one that it answers expires only where it was accepted again, and stood for the timeout since.
 pub record DirectHeadline (lines : List (List ℕ)) (text line : List ℕ) (result : RunEnd Cause) : Type 0 where
   pub written : IsJustified lines (text ++ line)
+  -- A law of any input: `written` and `told` tie it to what was written.
   pub taken : IsJustifiedWalk (walk_over lines)
   pub told : OnWhole result (IsTold lines text)
+  -- Two laws of any input: of what was written `written` says on which accusation a removal rests.
   pub rule_out : NoteSupersedes (walk_over lines)
   pub ends_acceptance : NoteRevokes (walk_over lines)
 
@@ -55,6 +57,7 @@ OnForged (Ok _) P = Unit {0}
 -- ends so in this world, and verifies under a key that never signed it. Each whole line that was written that gives an event gives one that was reported, and each
 -- event that was reported is written.
 pub record WorldHeadline (lines : List (List ℕ)) (text line : List ℕ) (result : RunEnd Cause) : Type 0 where
+  -- Three laws of any input: `written` and `told` tie what they say of `told_in lines` to what was written.
   pub played : IsComeTo (world_walk lines).stage (told_in lines)
   pub lawful : IsLawfulStage (world_walk lines).stage (told_in lines)
   pub flowed : IsRising (flowed_in (world_walk lines).taken)

@@ -1,13 +1,15 @@
 -- What the run of a member upholds of the journal that it writes.
-use Rattle.std.specs.Prelude.{◌≡◌, ℕ, List, Some}
+use Rattle.std.specs.Prelude.{◌≡◌, ℕ, List, Some, Result}
 use Rattle.std.specs.Io.KnownBytes.{Appends}
 use Rattle.play.specs.Plays.{IoState}
 use Rattle.trace.specs.Written.{IsLineOf}
 use Rattle.ports.specs.Outside.{OfDisk}
+use Rattle.node_command.specs.declared.halt.NodeHalt.{NodeHalt}
 use Rattle.node_command.specs.Removals.{IsReported, removal_line}
 use Rattle.node_command.specs.Running.{NetInputs}
 use Rattle.node_command.specs.Spendings.{Spends}
-use Rattle.command_line.specs.Ends.{NetState}
+use Rattle.command_line.specs.Causes.{status_of_node}
+use Rattle.command_line.specs.Ends.{NetState, Tells}
 use Rattle.command_line.specs.Serving.{NodeUpheld}
 use Rattle.command_line.specs.declared.status.Status.{Status}
 
@@ -23,9 +25,17 @@ abbrev pub OnFeed : ℕ → NetState → (NetInputs → Type 0) → Type 0
 OnFeed turns before P =
     (feed : NetInputs) → before.contents ≡ Some feed.link → before.readings ≡ Some feed.readings → before.reading ≡ feed.reading → turns ≡ feed.turns → P feed
 
+-- What the run has spent of its key, which is what the lines of its journal give; and behind those just the line of its cause was
+-- written.
+pub record JournalSpends (was now : IoState) (old new : OfDisk) (s : Status) : Type 0 where
+  pub result : Result (Unit {0}) NodeHalt
+  pub between : IoState
+  pub spends : Spends was between old new result
+  pub tells : Tells (status_of_node result) between now s
+
 -- The headline for a member's run, under every status: what its removals rest on, and that it spends each index once, each epoch
 -- too, from those on that its store had.
 pub record NodeUpholds (turns : ℕ) (was now : IoState) (old new : OfDisk) (before : NetState) (s : Status) : Type 0 where
   pub untouched : NodeUpheld was now old new s
   pub removals : OnFeed turns before (λ feed. JournalRests feed was now old)
-  pub spends : OnFeed turns before (λ feed. Spends was old new)
+  pub spends : JournalSpends was now old new s

@@ -77,6 +77,7 @@ OnForged _ P = Unit {0}
 -- that never signed it.
 pub record SoakUpheld (seed members rounds : ℕ) (was now : IoState) (s : Status) : Type 0 where
   pub trace : TracedSoak seed members rounds was now s
+  -- Three laws of any workload: `trace` ties it to what was written, which are its counts.
   pub played : IsComeTo (workload_walk seed members rounds).stage (events_in (workload_walk seed members rounds))
   pub lawful : IsLawfulStage (workload_walk seed members rounds).stage (events_in (workload_walk seed members rounds))
   pub flowed : IsRising (flowed_in (workload_walk seed members rounds).taken)

@@ -35,6 +35,6 @@ abbrev pub Upholds : Command → IoState → IoState → OfDisk → OfDisk → N
 Upholds Replay was now old new before s = Headline was now s
 Upholds Verify was now old new before s = Verification was now s
 Upholds Store was now old new before s = OnMade s (IsStoreMade was old new)
-Upholds Enroll was now old new before s = Enrolment was old new
+Upholds Enroll was now old new before s = Enrolment was now old new s
 Upholds (Node turns) was now old new before s = NodeUpholds turns was now old new before s
 Upholds (Soak seed members rounds) was now old new before s = SoakUpheld seed members rounds was now s

@@ -1,13 +1,13 @@
 // The top call.
 
-ghost use Rattle.std.specs.Prelude.{◌≡◌, ◌≢◌, ◌↔◌, true, false, map, IfSome, string_bytes};
+ghost use Rattle.std.specs.Prelude.{◌≡◌, ◌↔◌, true, false, map, IfSome, string_bytes};
 ghost use Rattle.play.specs.Plays.{io};
 ghost use Rattle.world_replay.specs.Causes.{IsJudged};
 ghost use Rattle.command_line.specs.Replayed.{replayed};
 ghost use Rattle.verifier.specs.Answered.{verified};
 ghost use Rattle.command_line.specs.Causes.{for_cause};
 ghost use Rattle.command_line.specs.Commands.{FitsCommand, command_of, is_over_link, is_over_store, is_over_text, store_in, takes_link, takes_store, takes_text};
-ghost use Rattle.command_line.specs.Ends.{Counts, DiskCountsAs, EndsBy, Ends, EnrollEnds, FaultsAs, NodeEnds, StoreEnds, net_state};
+ghost use Rattle.command_line.specs.Ends.{Counts, EndsBy, Ends, EnrollEnds, FaultsAs, NodeEnds, StoreEnds, net_state};
 ghost use Rattle.command_line.specs.EndsAs.{EndsAs};
 ghost use Rattle.command_line.specs.TracedAs.{CompletesAs, TracedAs};
 ghost use Rattle.command_line.specs.Upheld.{Upholds};
@@ -98,7 +98,7 @@ fn run_member<S: Source, O: Sink, D: Disk, L: Link, C: Clock>(
 ) -> Status
     requires source { (S.state input.old).is_open ≡ true }
     requires sink { (O.state out.old).is_open ≡ true }
-    ensures ends { NodeEnds turns
+    ensures ends { NodeEnds name.now turns
         (io (S.state input.old) (O.state out.old))
         (io (S.state input.new) (O.state out.new))
         (D.state disk.old) (D.state disk.new)
@@ -146,53 +146,6 @@ fn run_command<S: Source, O: Sink, D: Disk, L: Link, C: Clock>(
             rounds,
         } => run_soak(alloc, seed, members, rounds, out),
     }
-}
-
-/// The same, and what follows from how the run ended.
-fn run_named<S: Source, O: Sink, D: Disk, L: Link, C: Clock>(
-    alloc: Global,
-    command: Command,
-    name: &str,
-    input: &mut S,
-    out: &mut O,
-    disk: &mut D,
-    link: &mut L,
-    clock: &mut C,
-) -> Status
-    requires fits { FitsCommand command }
-    requires source { (S.state input.old).is_open ≡ true }
-    requires sink { (O.state out.old).is_open ≡ true }
-    ensures command { result ≢ Status.Usage }
-    ensures ends { EndsAs command name.now
-        (io (S.state input.old) (O.state out.old))
-        (io (S.state input.new) (O.state out.new))
-        (D.state disk.old) (D.state disk.new)
-        (net_state (L.state link.old) (C.state clock.old))
-        (net_state (L.state link.new) (C.state clock.new)) result }
-    ensures traced { TracedAs command
-        (io (S.state input.old) (O.state out.old))
-        (io (S.state input.new) (O.state out.new))
-        (D.state disk.old) (D.state disk.new) result }
-    ensures complete { CompletesAs command
-        (io (S.state input.old) (O.state out.old))
-        (io (S.state input.new) (O.state out.new))
-        (D.state disk.old) (D.state disk.new) result }
-    ensures upholds { Upholds command
-        (io (S.state input.old) (O.state out.old))
-        (io (S.state input.new) (O.state out.new))
-        (D.state disk.old) (D.state disk.new)
-        (net_state (L.state link.old) (C.state clock.old)) result }
-    ensures counts { Counts
-        (io (S.state input.old) (O.state out.old))
-        (io (S.state input.new) (O.state out.new)) result }
-    ensures faults { DiskCountsAs command
-        (D.state disk.old) (D.state disk.new) result }
-    ensures input { takes_text command ≡ false → input.new ≡ input.old }
-    ensures disk { takes_store command ≡ false → disk.new ≡ disk.old }
-    ensures link { takes_link command ≡ false → link.new ≡ link.old }
-    ensures clock { takes_link command ≡ false → clock.new ≡ clock.old }
-{
-    run_command(alloc, command, name, input, out, disk, link, clock)
 }
 
 /// Runs the command that the words name, from the source to the sink. The first cause that comes in the run
@@ -266,14 +219,6 @@ pub fn run<S: Source, O: Sink, D: Disk, L: Link, C: Clock>(
     let Some(command) = Command::of(words) else {
         return Status::Usage;
     };
-    run_named(
-        alloc,
-        command,
-        store_in(words),
-        input,
-        out,
-        disk,
-        link,
-        clock,
-    )
+    let name = store_in(words);
+    run_command(alloc, command, name, input, out, disk, link, clock)
 }

@@ -12,35 +12,6 @@ use fields::NoMemory;
 use ports::{Clock, Disk, Link, Sink, Source};
 use std::alloc::Global;
 
-/// Runs the command of the words.
-fn run_words<S: Source, O: Sink, D: Disk, L: Link, C: Clock>(
-    alloc: Global,
-    words: &[String],
-    input: &mut S,
-    out: &mut O,
-    disk: &mut D,
-    link: &mut L,
-    clock: &mut C,
-) -> Status
-    requires source { (S.state input.old).is_open ≡ true }
-    requires sink { (O.state out.old).is_open ≡ true }
-    ensures untouched { result ≡ Status.Usage → (input.new ≡ input.old) × (out.new ≡ out.old) }
-    ensures ran { Ran (map string_bytes words.now)
-        (io (S.state input.old) (O.state out.old))
-        (io (S.state input.new) (O.state out.new))
-        (D.state disk.old) (D.state disk.new)
-        (net_state (L.state link.old) (C.state clock.old))
-        (net_state (L.state link.new) (C.state clock.new)) result }
-    ensures disk { is_over_store (command_of (map string_bytes words.now)) ≡ false
-        → disk.new ≡ disk.old }
-    ensures link { is_over_link (command_of (map string_bytes words.now)) ≡ false
-        → link.new ≡ link.old }
-    ensures clock { is_over_link (command_of (map string_bytes words.now)) ≡ false
-        → clock.new ≡ clock.old }
-{
-    run(alloc, words, input, out, disk, link, clock)
-}
-
 /// Runs the command of the words from the source to the sink. Where the words were not read, or there is no source,
 /// nothing is run, and nothing is read or written, nor disk, link or clock touched.
 pub fn start<S: Source, O: Sink, D: Disk, L: Link, C: Clock>(
@@ -58,7 +29,8 @@ pub fn start<S: Source, O: Sink, D: Disk, L: Link, C: Clock>(
     ensures unread_untouched { OnErr words ((input.new ≡ input.old) × (out.new ≡ out.old)) }
     ensures starved { OnOk words (OnErr input.old (result ≡ Status.OutOfMemory)) }
     ensures starved_untouched { OnErr input.old (out.new ≡ out.old) }
-    ensures untouched { OnOk words (result ≡ Status.Usage → out.new ≡ out.old) }
+    ensures untouched { OnOk words (result ≡ Status.Usage
+        → (input.new ≡ input.old) × (out.new ≡ out.old)) }
     ensures ran { IfOk words (λ all. OnBoth input.old input.new
         (λ was now. Ran (map string_bytes all.items)
         (io (S.state was) (O.state out.old))
@@ -83,6 +55,6 @@ pub fn start<S: Source, O: Sink, D: Disk, L: Link, C: Clock>(
     match (words, input) {
         (Err(status), _) => status,
         (Ok(_), Err(NoMemory)) => Status::OutOfMemory,
-        (Ok(words), Ok(input)) => run_words(alloc, &words, input, out, disk, link, clock),
+        (Ok(words), Ok(input)) => run(alloc, &words, input, out, disk, link, clock),
     }
 }

@@ -1,5 +1,5 @@
 -- What the store of a life keeps, by what the life has signed; and that its link stays bound.
-use Rattle.std.proofs.Common.{◌≡◌, ℕ, ◌+◌, Bool, true, false, cond, List, [], ◌∷◌, ◌++◌, length, Option, Some, None, refl, ap, sym, ◌∙◌, subst, append_assoc, append-nil, fold}
+use Rattle.std.proofs.Common.{◌≡◌, ℕ, true, List, [], ◌∷◌, ◌++◌, length, Option, Some, None, refl, ap, sym, ◌∙◌, subst, append-nil, fold}
 use Rattle.std.proofs.lemmas.Bool.{cond_both, false≢true}
 use Rattle.epoch_store.specs.declared.Stored.{Stored}
 use Rattle.ff_ids.specs.Steps.{Event, Stepped, Ticks as Passes, step}
@@ -21,7 +21,7 @@ use Rattle.node_rules.specs.Lives.{Input, Delivers, Ticks, call_of}
 use Rattle.node_rules.specs.Starting.{blank, first_note, opened, started}
 use Rattle.node_rules.proofs.Carrying.{Carries, carries-call, is_beside}
 use Rattle.node_rules.proofs.OwnNote.{stored-lives}
-use Rattle.node_rules.proofs.Small.{node-sends, stored-signs, stored-takes}
+use Rattle.node_rules.proofs.Small.{stored-signs, stored-takes}
 use Rattle.node_core.specs.Rolls.{recs_of}
 use Rattle.node_core.specs.Spending.{spent_by, spent_told}
 use Rattle.node_core.proofs.SpendLemmas.{report-none, told-append}

@@ -1,20 +1,27 @@
 -- How a member's store is opened and its life begun.
 use Rattle.std.proofs.Common.{◌≡◌, ℕ, ◌≤◌, true, false, List, [], ◌∷◌, Result, Ok, Err, refl, sym, ap, subst, ◌∙◌, inl, inr, append-nil, arith}
+use Rattle.std.specs.Prelude.{IfErr}
 use Rattle.epoch_store.specs.declared.seat.Seat.{Seat}
 use Rattle.epoch_store.specs.declared.StoreError.{StoreError}
 use Rattle.epoch_store.specs.declared.StoreError.TheVariants as store
 use Rattle.epoch_store.specs.declared.Stored.{Stored}
+use Rattle.epoch_store.specs.Asked.{ReadsGates, open_calls}
 use Rattle.epoch_store.specs.Calls.{HoldsStore, IsNotTaken, OnRead, OpensAs, SettlesAs, StoreState, is_fault, same}
 use Rattle.epoch_store.specs.Store.{IsSettled, StoreAt}
 use Rattle.journal.specs.declared.event.Event as journal
+use Rattle.line_text.specs.declared.bad_word.BadWord.{BadWord}
 use Rattle.lms_tree.specs.Leaves.{index_count}
 use Rattle.lms_tree.specs.Lms.{public_of}
+use Rattle.play.specs.declared.stop.Stop.{Stop}
+use Rattle.play.specs.declared.stop.Stop.TheVariants as stop
 use Rattle.ports.specs.Count.{counted}
 use Rattle.ports.specs.Disk.{Fails, Moment, stays}
+use Rattle.ports.proofs.SinceLemmas.{Since-trans, Since-weaken}
 use Rattle.secrets.specs.Secrets.{nonce_seed}
-use Rattle.signer.specs.Lives.{EndsNow, IsLiving, Spent}
+use Rattle.signer.specs.Lives.{EndsLives, EndsNow, EndsWithin, IsLiving, Spent}
 use Rattle.signer.specs.Signing.{SignerState}
 use Rattle.signer.proofs.LivingLemmas.{kept_by_opening, nothing_spent}
+use Rattle.signer.proofs.OnwardLemmas.{within-none}
 use Rattle.node_rules.specs.Nodes.{Setting}
 use Rattle.node_core.specs.Begins.{IsVouchable, Starts}
 use Rattle.node_core.specs.declared.NodeFault.{NodeFault}
@@ -23,11 +30,12 @@ use Rattle.node_core.specs.Begins.{MayRefuse, is_store_fault}
 use Rattle.node_core.specs.Playing.{Kept, setting_of}
 use Rattle.node_core.specs.Rolls.{recs_of}
 use Rattle.node_core.specs.Spending.{LivesOn, SpendsIn, SpendsUntold, spent_told}
+use Rattle.node_command.specs.declared.halt.NodeHalt.{NodeHalt}
 use Rattle.node_command.specs.declared.halt.NodeHalt.TheVariants as halt
 use Rattle.node_command.specs.declared.kit.Member.{Member}
-use Rattle.node_command.specs.Halts.{halt_by, halt_for}
+use Rattle.node_command.specs.Halts.{IsServed, halt_by, halt_for, halt_of}
 use Rattle.node_command.specs.Members.{tag_of}
-use Rattle.node_command.specs.Opening.{Begins, Ends, Fresh, IsFound, Tells, setting_for, start_of}
+use Rattle.node_command.specs.Opening.{Begins, Ends, EndsFronts, Fresh, IsFound, OpensFile, Tells, setting_for, start_of}
 use Rattle.ports.specs.Outside.{OfDisk}
 
 -- ## The store
@@ -69,8 +77,13 @@ ends-opened : (m : Member) (st : StoreState) (old mid : OfDisk) → Opened m st 
 ends-opened m st old mid h = λ before spent ends.
     subst (λ (xs : List Spent). EndsNow (tag_of m) before xs mid.moments) (sym (append-nil spent)) (kept_by_opening (tag_of m) before spent old.moments mid.moments ends h.moments).1
 
+fronts-opened : (m : Member) (st : StoreState) (old mid : OfDisk) (more : List Spent) → Opened m st old mid → EndsFronts m more old mid
+fronts-opened m st old mid more h = λ before spent ends.
+    Since-weaken (EndsLives (tag_of m) before spent) (EndsWithin (tag_of m) before spent more) old.moments mid.moments (within-none (tag_of m) before spent more)
+    (kept_by_opening (tag_of m) before spent old.moments mid.moments ends h.moments).0
+
 pub used-up : (m : Member) (st : StoreState) (old mid : OfDisk) (told : List journal.Event) (next : ℕ) → Opened m st old mid → next ≡ st.state.next → index_count m.own.key ≤ next → Begins m old mid told (Err (halt.Exhausted next))
-used-up m st old mid told next h is gone = record { faults = h.faults; stored = st.state; found = found m st old mid h; next_is = is; gone = gone; ends = ends-opened m st old mid h }
+used-up m st old mid told next h is gone = record { faults = h.faults; stored = st.state; found = found m st old mid h; next_is = is; gone = gone; ends = ends-opened m st old mid h; any_moment = fronts-opened m st old mid [] h }
 
 -- ## The life
 
@@ -91,6 +104,12 @@ fresh-at m st (was ∷ older) [] told settles is begun = absurd settles
 fresh-at m st (was ∷ older) (now ∷ past) told settles is begun =
     (now.image, (st.seat, is.1), begun (tag_of m) now.image [] (now ∷ past) is (nothing_spent (tag_of m) now past is.0))
 
+-- what is spent behind the opening
+fronts-so : (m : Member) (st : StoreState) (old mid new : OfDisk) (later : SignerState) (spent : List Spent) → Opened m st old mid → Begun m st mid.moments → LivesOn spent (signer_of m st) later mid.moments new.moments → EndsFronts m spent old new
+fronts-so m st old mid new later spent h begun key = λ before spent_before ends.
+    Since-trans (EndsWithin (tag_of m) before spent_before spent) old.moments mid.moments new.moments (fronts-opened m st old mid spent h before spent_before ends)
+    (key.any_moment (tag_of m) before spent_before (living m st old mid h begun before spent_before ends))
+
 pub started-so : (m : Member) (st : StoreState) (kept : Kept) (told : List journal.Event) (old mid new : OfDisk) → Opened m st old mid → Begun m st mid.moments → new.faults ≡ mid.faults
     → Starts (setting_for m) (nonce_seed m.own.secret st.state.next) (recs_of m.certificates.items) st.state kept [] told
     → IsVouchable (setting_for m) (public_of m.own.key) (recs_of m.certificates.items) st.state → kept.ended ≡ false → kept.signer.closed ≡ false
@@ -107,6 +126,7 @@ started-so m st kept told old mid new h begun faults starts vouchable going uncl
         vouchable = vouchable;
         going = going;
         unclosed = unclosed;
+        any_moment = rw spent_is (fronts-so m st old mid new kept.signer spends.spent h begun spends.key);
         lives = λ before spent ends. rw spent_is (spends.key.lives (tag_of m) before spent (living m st old mid h begun before spent ends));
         fresh = λ tells. let f = fresh-at m st old.moments mid.moments tells h.settles h.settled begun in
             (f.0, f.1, rw spent_is (spends.key.lives (tag_of m) f.0 [] f.2));
@@ -124,6 +144,7 @@ not-started m st told old mid new node.StoreFault h begun faults cause spends = 
   found = found m st old mid h;
   left = cause;
   ends = ends-so m st old mid new spends.later [] h begun (subst (λ (xs : List Spent). LivesOn xs (signer_of m st) spends.later mid.moments new.moments) (sym spends.tells) spends.key);
+  any_moment = fronts-so m st old mid new spends.later [] h begun (subst (λ (xs : List Spent). LivesOn xs (signer_of m st) spends.later mid.moments new.moments) (sym spends.tells) spends.key);
 })
 not-started m st told old mid new node.OutOfMemory h begun faults cause spends = inr (record {
   faults = faults ∙ h.faults;
@@ -131,6 +152,7 @@ not-started m st told old mid new node.OutOfMemory h begun faults cause spends =
   found = found m st old mid h;
   spent = spends.spent;
   ends = ends-so m st old mid new spends.later spends.spent h begun spends.key;
+  any_moment = fronts-so m st old mid new spends.later spends.spent h begun spends.key;
   signer = spends.later;
   fresh = λ tells. let f = fresh-at m st old.moments mid.moments tells h.settles h.settled begun in (f.0, f.1, spends.key.lives (tag_of m) f.0 [] f.2);
 })
@@ -142,6 +164,7 @@ not-started m st told old mid new (node.Exhausted next) h begun faults cause spe
       next_is = cause.0;
       gone = omega (arith, cause.1);
       ends = ends-so m st old mid new spends.later [] h begun (subst (λ (xs : List Spent). LivesOn xs (signer_of m st) spends.later mid.moments new.moments) (sym spends.tells) spends.key);
+      any_moment = fronts-so m st old mid new spends.later [] h begun (subst (λ (xs : List Spent). LivesOn xs (signer_of m st) spends.later mid.moments new.moments) (sym spends.tells) spends.key);
     }
 not-started m st told old mid new node.Ended h begun faults cause spends = absurd cause
 
@@ -172,3 +195,48 @@ pub not-started-from : (m : Member) (st : StoreState) (told : List journal.Event
     → new.faults ≡ counted (is_store_fault {T = Kept} (Err fault)) mid.faults → MayRefuse signer fault → SpendsUntold fault signer mid.moments new.moments → Begins m old new told (Err (halt_by fault))
 not-started-from m st told old mid new signer fault h is begins faults cause spends =
     not-started m st told old mid new fault h (begun-as m st mid.moments signer is begins) faults (subst (λ x. MayRefuse x fault) is cause) (subst (λ x. SpendsUntold fault x mid.moments new.moments) is spends)
+
+-- ## The file
+
+-- which was refused, or not opened
+pub file-read : (T : Type 0) (name : List ℕ) (old new : OfDisk) (e : StoreError) → ReadsGates (open_calls name) (failed e) old.calls new.calls → OpensFile {T = T} name old new (Err (halt_for e))
+file-read T name old new store.Fault calls = tt
+file-read T name old new (store.Taken len) calls = tt
+file-read T name old new (store.Broken place byte) calls = calls
+file-read T name old new (store.OtherKey place byte) calls = calls
+file-read T name old new store.OutOfMemory calls = tt
+
+pub file-started : (T : Type 0) (name : List ℕ) (old new : OfDisk) (fault : NodeFault) → OpensFile {T = T} name old new (Err (halt_by fault))
+file-started T name old new node.StoreFault = tt
+file-started T name old new node.OutOfMemory = tt
+file-started T name old new (node.Exhausted next) = tt
+file-started T name old new node.Ended = tt
+
+pub file-behind : (S T : Type 0) (name : List ℕ) (old new : OfDisk) (h : NodeHalt) → OpensFile {T = S} name old new (Err h) → OpensFile {T = T} name old new (Err h)
+file-behind S T name old new (halt.Refused line w) o = tt
+file-behind S T name old new halt.ReadFault o = tt
+file-behind S T name old new halt.WriteFault o = tt
+file-behind S T name old new halt.StoreFault o = tt
+file-behind S T name old new (halt.StoreBroken place byte) o = o
+file-behind S T name old new halt.LinkFault o = tt
+file-behind S T name old new (halt.Exhausted next) o = tt
+file-behind S T name old new halt.OutOfMemory o = tt
+
+-- the life had begun
+pub file-served : (name : List ℕ) (old new : OfDisk) (result : Result (Unit {0}) NodeHalt) → IfErr result IsServed → OpensFile name old new result
+file-served name old new (Ok x) h = tt
+file-served name old new (Err (halt.Refused line w)) h = tt
+file-served name old new (Err halt.ReadFault) h = tt
+file-served name old new (Err halt.WriteFault) h = tt
+file-served name old new (Err halt.StoreFault) h = tt
+file-served name old new (Err (halt.StoreBroken place byte)) h = absurd h
+file-served name old new (Err halt.LinkFault) h = tt
+file-served name old new (Err (halt.Exhausted next)) h = tt
+file-served name old new (Err halt.OutOfMemory) h = tt
+
+-- the text wasn't read
+pub file-unread : (name : List ℕ) (old new : OfDisk) (s : Stop BadWord) → OpensFile {T = Unit {0}} name old new (Err (halt_of s))
+file-unread name old new (stop.Refused line w) = tt
+file-unread name old new stop.ReadFault = tt
+file-unread name old new stop.WriteFault = tt
+file-unread name old new stop.OutOfMemory = tt

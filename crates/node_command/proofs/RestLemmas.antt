@@ -12,9 +12,9 @@ use Rattle.play.specs.declared.stop.Stop.{Stop}
 use Rattle.play.specs.declared.stop.Stop.TheVariants as stop
 use Rattle.schedule_texts.specs.declared.kit.KitText.TheVariants as kit
 use Rattle.secrets.specs.Secrets.{nonce_seed}
-use Rattle.text_trace.specs.Trace.{Continuation, Refuses, Trace, Writes}
+use Rattle.text_trace.specs.Trace.{Refuses, Trace, Writes}
 use Rattle.trace.specs.Written.{IsLineOf}
-use Rattle.whole_text.specs.Gathered.{IsUnfinished, lines_from, nothing, owed_whole, unread}
+use Rattle.whole_text.specs.Gathered.{IsUnfinished, Judging, lines_from, nothing, owed_whole, unread}
 use Rattle.whole_text.specs.Laws.{told-silent}
 use Rattle.whole_text.proofs.WholeLemmas.{never-unwritten}
 use Rattle.node_core.specs.Begins.{IsVouchable}
@@ -113,7 +113,7 @@ rests-life feed was between now old m stored result read found w =
       ended = w.ended;
     }
 
-same-taken : (was now : Option (List ℕ)) → now ≡ was → Appends was now []
+pub same-taken : (was now : Option (List ℕ)) → now ≡ was → Appends was now []
 same-taken was now same = subst (λ (x : Option (List ℕ)). Appends was x []) (sym same) (Appends-nil was)
 
 -- the text was read, and no life written
@@ -127,26 +127,26 @@ no-front : (front rest : List ℕ) → [] ≡ front ++ rest → front ≡ []
 no-front [] rest e = refl
 no-front (b ∷ front) rest e = absurd (omega (arith, ap length e))
 
-abbrev owed : Continuation BadWord
-owed = owed_whole kit_judging kit.Start nothing
+silent-refused : {F L : Type 0} (j : Judging F L) (form : F) (lines : List (List ℕ)) (last : Option (List ℕ)) (text : List ℕ) (w : BadWord) → Refuses BadWord (λ f. f ≡ owed_whole j form nothing) lines last text w → text ≡ []
+silent-refused j form lines (Some line) text w h =
+    sym (ap (λ (t : Trace BadWord). t.output) (h (owed_whole j form nothing) refl [])) ∙ told-silent (lines_from j (unread form) (lines ++ line ∷ []))
+silent-refused j form lines None text w h =
+    sym (ap (λ (t : Trace BadWord). t.output) (h (owed_whole j form nothing) refl)) ∙ told-silent (lines_from j (unread form) lines)
 
-silent-refused : (lines : List (List ℕ)) (last : Option (List ℕ)) (text : List ℕ) (w : BadWord) → Refuses BadWord (λ f. f ≡ owed) lines last text w → text ≡ []
-silent-refused lines (Some line) text w h = sym (ap (λ (t : Trace BadWord). t.output) (h owed refl [])) ∙ told-silent (lines_from kit_judging (unread kit.Start) (lines ++ line ∷ []))
-silent-refused lines None text w h = sym (ap (λ (t : Trace BadWord). t.output) (h owed refl)) ∙ told-silent (lines_from kit_judging (unread kit.Start) lines)
+silent-written : {F L : Type 0} (j : Judging F L) (form : F) (lines : List (List ℕ)) (text : List ℕ) → Writes BadWord (λ f. f ≡ owed_whole j form nothing) lines text → text ≡ []
+silent-written j form lines text h =
+    let goes = h (owed_whole j form nothing) refl in
+    no-front text (goes.later []).output (sym (told-silent (lines_from j (unread form) (lines ++ []))) ∙ ap (λ (t : Trace BadWord). t.output) (goes.same []))
 
-silent-written : (lines : List (List ℕ)) (text : List ℕ) → Writes BadWord (λ f. f ≡ owed) lines text → text ≡ []
-silent-written lines text h =
-    let goes = h owed refl in
-    no-front text (goes.later []).output (sym (told-silent (lines_from kit_judging (unread kit.Start) (lines ++ []))) ∙ ap (λ (t : Trace BadWord). t.output) (goes.same []))
-
-silent-unread : (was now : IoState) (s : Stop BadWord) → IsUnfinished kit_judging kit.Start was now s → Appends was.taken now.taken []
-silent-unread was now (stop.Refused line w) h = let x = h nothing in subst (Appends was.taken now.taken) (silent-refused x.lines x.last x.text w x.refuses) x.wrote
-silent-unread was now stop.ReadFault h = let x = h nothing in subst (Appends was.taken now.taken) (silent-written x.lines x.text x.writes) x.wrote
-silent-unread was now stop.WriteFault h = absurd (never-unwritten kit_judging kit.Start was now (h nothing))
-silent-unread was now stop.OutOfMemory h =
+-- where a text of which nothing is told before its end was cut off, nothing was written
+pub silent-unread : {F L : Type 0} (j : Judging F L) (form : F) (was now : IoState) (s : Stop BadWord) → IsUnfinished j form was now s → Appends was.taken now.taken []
+silent-unread j form was now (stop.Refused line w) h = let x = h nothing in subst (Appends was.taken now.taken) (silent-refused j form x.lines x.last x.text w x.refuses) x.wrote
+silent-unread j form was now stop.ReadFault h = let x = h nothing in subst (Appends was.taken now.taken) (silent-written j form x.lines x.text x.writes) x.wrote
+silent-unread j form was now stop.WriteFault h = absurd (never-unwritten j form was now (h nothing))
+silent-unread j form was now stop.OutOfMemory h =
     elim (h nothing) [
       | inl same ↦ same-taken was.taken now.taken (ap (λ (x : IoState). x.taken) same)
-      | inr x ↦ subst (Appends was.taken now.taken) (silent-written x.lines x.text x.writes) x.wrote
+      | inr x ↦ subst (Appends was.taken now.taken) (silent-written j form x.lines x.text x.writes) x.wrote
     ]
 
 -- ## The whole
@@ -205,8 +205,8 @@ behind-rests feed was between now old new m result read same h = by result h
 -- Whatever ended the run, what it wrote of removals rests on its life.
 pub run-rests : (feed : NetInputs) (was now : IoState) (old new : Environment) (result : Result (Unit {0}) NodeHalt) → new.taken ≡ now.taken → Runs feed was now old new result → RemovalsRest feed was now old.disk result
 run-rests feed was now old new (Ok done) same h = behind-rests feed was h.between now old new h.member (Ok done) h.read same h.rest
-run-rests feed was now old new (Err (halt.Refused line w)) same h = rests-none feed was now old.disk (Err (halt.Refused line w)) (silent-unread was now (stop.Refused line w) h.unfinished)
-run-rests feed was now old new (Err halt.ReadFault) same h = rests-none feed was now old.disk (Err halt.ReadFault) (silent-unread was now stop.ReadFault h.unfinished)
+run-rests feed was now old new (Err (halt.Refused line w)) same h = rests-none feed was now old.disk (Err (halt.Refused line w)) (silent-unread kit_judging kit.Start was now (stop.Refused line w) h.unfinished)
+run-rests feed was now old new (Err halt.ReadFault) same h = rests-none feed was now old.disk (Err halt.ReadFault) (silent-unread kit_judging kit.Start was now stop.ReadFault h.unfinished)
 run-rests feed was now old new (Err halt.WriteFault) same h = behind-rests feed was h.between now old new h.member (Err halt.WriteFault) h.read same h.rest
 run-rests feed was now old new (Err halt.StoreFault) same h = behind-rests feed was h.between now old new h.member (Err halt.StoreFault) h.read same h.rest
 run-rests feed was now old new (Err (halt.StoreBroken place byte)) same h = behind-rests feed was h.between now old new h.member (Err (halt.StoreBroken place byte)) h.read same h.rest
@@ -214,7 +214,7 @@ run-rests feed was now old new (Err halt.LinkFault) same h = behind-rests feed w
 run-rests feed was now old new (Err (halt.Exhausted next)) same h = behind-rests feed was h.between now old new h.member (Err (halt.Exhausted next)) h.read same h.rest
 run-rests feed was now old new (Err halt.OutOfMemory) same h =
     elim h [
-      | inl unread ↦ rests-none feed was now old.disk (Err halt.OutOfMemory) (silent-unread was now stop.OutOfMemory unread.unfinished)
+      | inl unread ↦ rests-none feed was now old.disk (Err halt.OutOfMemory) (silent-unread kit_judging kit.Start was now stop.OutOfMemory unread.unfinished)
       | inr (inl whole) ↦ rests-none feed was now old.disk (Err halt.OutOfMemory) whole.whole.wrote
       | inr (inr went) ↦ behind-rests feed was went.between now old new went.member (Err halt.OutOfMemory) went.read same went.rest
     ]

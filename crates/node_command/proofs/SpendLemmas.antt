@@ -1,70 +1,110 @@
 -- What the run of a member has spent of its key, whatever ended it.
-use Rattle.std.proofs.Common.{◌≡◌, ◌⊎◌, ℕ, List, [], ◌++◌, Option, Result, Ok, Err, inl, inr, refl, ap, sym, subst, append_assoc}
+use Rattle.std.proofs.Common.{◌≡◌, ℕ, List, [], ◌++◌, Option, Result, Ok, Err, inl, inr, refl, ap, sym, ◌∙◌, subst, append_assoc, append-nil, take, drop, take-append-drop}
+use Rattle.std.specs.Prelude.{IfErr}
+use Rattle.std.specs.Io.KnownBytes.{Appends}
+use Rattle.std.proofs.KnownBytes.{Appends-nil, Appends-trans}
 use Rattle.epoch_store.specs.declared.Stored.{Stored}
 use Rattle.journal.specs.declared.event.Event as journal
+use Rattle.line_text.specs.declared.bad_word.BadWord.{BadWord}
 use Rattle.play.specs.Plays.{IoState}
+use Rattle.play.specs.declared.stop.Stop.{Stop}
+use Rattle.ports.specs.Contents.{TookFront}
 use Rattle.ports.specs.Disk.{Fails, Moment, stays}
-use Rattle.signer.specs.Lives.{EndsNow, LivesOn, Spent}
+use Rattle.ports.specs.Outside.{OfDisk}
+use Rattle.ports.proofs.SinceLemmas.{Since-same, Since-trans, Since-weaken}
+use Rattle.schedule_texts.specs.declared.kit.KitText.TheVariants as kit
+use Rattle.schedule_texts.specs.declared.kit_line.KitLine.{KitLine}
+use Rattle.whole_text.specs.Gathered.{IsUnfinished, IsWhole}
+use Rattle.signer.specs.Lives.{EndsLives, EndsNow, EndsWithin, Spent}
 use Rattle.signer.specs.Signing.{SignerState}
 use Rattle.signer.proofs.LivingLemmas.{kept_by_opening}
-use Rattle.node_rules.specs.Nodes.{Setting}
+use Rattle.signer.proofs.OnwardLemmas.{front-after, front-trans}
 use Rattle.node_core.specs.Playing.{Kept}
 use Rattle.node_core.specs.Spending.{spent_told}
-use Rattle.node_loop.specs.Turns.{Act}
-use Rattle.node_loop.specs.Courses.{ServeState}
-use Rattle.node_loop.specs.Serving.{BreaksOff, IsStarved}
-use Rattle.node_loop.specs.Writing.{Standing as At}
 use Rattle.node_core.proofs.SpendLemmas.{lives-same}
+use Rattle.node_loop.specs.declared.fault.ServeFault.{ServeFault}
+use Rattle.node_loop.specs.declared.fault.ServeFault.TheVariants as serve
+use Rattle.node_loop.specs.Lines.{GoesOn, JournalLine, WritesLines, WritesSpent, WroteFront, bytes_of, spent_in}
+use Rattle.node_loop.proofs.LineLemmas.{bytes-append, front-behind, front-longer, spent-append, spent-unwritten}
 use Rattle.node_command.specs.declared.halt.NodeHalt.{NodeHalt}
 use Rattle.node_command.specs.declared.halt.NodeHalt.TheVariants as halt
 use Rattle.node_command.specs.declared.kit.Member.{Member}
-use Rattle.node_command.specs.Members.{IsMember, tag_of}
-use Rattle.node_command.specs.Opening.{Ends, IsFound, IsUnstarted, setting_for, start_of}
-use Rattle.ports.specs.Outside.{OfDisk}
-use Rattle.node_command.specs.Journal.{Environment, Lives}
-use Rattle.node_command.specs.Running.{NetInputs, LivesOut, Runs, RunsBehind, RunsOnce, life_in, once_bound}
-use Rattle.node_command.specs.Spendings.{HasSpent, IsSpentFrom, Spends, SpendsNothing}
+use Rattle.node_command.specs.Halts.{IsServed, halt_served}
+use Rattle.node_command.specs.Journal.{end_line}
+use Rattle.node_command.specs.Members.{IsMember, kit_judging, tag_of}
+use Rattle.node_command.specs.Opening.{Begins, Ends, EndsFronts, IsBegun, IsFound, IsUnstarted, start_of}
+use Rattle.node_command.specs.Spendings.{IsSpentFrom, LifeSpends, Spends, SpendsBehind, SpendsFrom, SpendsNothing, WritesJournal}
+use Rattle.node_command.proofs.RestLemmas.{silent-unread}
 use Rattle.node_command.proofs.RunLemmas.{spent-from}
+
+abbrev Answer : Type 0
+Answer = Result (Unit {0}) NodeHalt
+
+-- ## The lines
+
+lines-ended : (before after : Option (List ℕ)) (lines : List JournalLine) (e : ServeFault) → WritesLines before after lines (Err e) → WritesJournal before after lines (Err (halt_served e))
+lines-ended before after lines serve.StoreFault h = h
+lines-ended before after lines serve.WriteFault h = front-longer before after (bytes_of lines) end_line h
+lines-ended before after lines serve.OutOfMemory h = h
+
+took-front : (before after : Option (List ℕ)) (bytes : List ℕ) → TookFront before after bytes → WroteFront before after bytes
+took-front before after bytes h =
+    record { text = take h.count bytes; front = record { more = drop h.count bytes; is = sym (take-append-drop h.count bytes) }; written = h.gained }
+
+journal-trans : (before mid after : Option (List ℕ)) (xs ys : List JournalLine) (result : Answer) → IfErr result IsServed → Appends before mid (bytes_of xs) → WritesJournal mid after ys result → WritesJournal before after (xs ++ ys) result
+journal-trans before mid after xs ys result served first h = by result served h
+  where
+    all : (more : List ℕ) → bytes_of xs ++ (bytes_of ys ++ more) ≡ bytes_of (xs ++ ys) ++ more
+    all more = sym (append_assoc (bytes_of xs) (bytes_of ys) more) ∙ ap (λ t. t ++ more) (sym (bytes-append xs ys))
+
+    by : (result : Answer) → IfErr result IsServed → WritesJournal mid after ys result → WritesJournal before after (xs ++ ys) result
+    by (Ok x) s w = subst (Appends before after) (all end_line) (Appends-trans before mid after (bytes_of xs) (bytes_of ys ++ end_line) first w)
+    by (Err (halt.Refused line w1)) s w = absurd s
+    by (Err halt.ReadFault) s w = absurd s
+    by (Err halt.WriteFault) s w = subst (WroteFront before after) (all end_line) (front-behind before mid after (bytes_of xs) (bytes_of ys ++ end_line) first w)
+    by (Err halt.StoreFault) s w = subst (Appends before after) (sym (bytes-append xs ys)) (Appends-trans before mid after (bytes_of xs) (bytes_of ys) first w)
+    by (Err (halt.StoreBroken place byte)) s w = absurd s
+    by (Err halt.LinkFault) s w = absurd s
+    by (Err (halt.Exhausted next)) s w = absurd s
+    by (Err halt.OutOfMemory) s w = subst (WroteFront before after) (sym (bytes-append xs ys)) (front-behind before mid after (bytes_of xs) (bytes_of ys) first w)
 
 -- ## A life
 
--- The life went on with this.
-record HasKey (node : Kept) (mid now : OfDisk) : Type 0 where
-  spent : List Spent
-  later : SignerState
-  key : LivesOn spent node.signer later mid.moments now.moments
+-- it was served to the last line
+pub served-spends : (s later : SignerState) (older newer : List Moment) (before mid after : Option (List ℕ)) (x : Unit {0}) → GoesOn s later older newer before mid (Ok x) → Appends mid after end_line → LifeSpends [] s older newer before after (Ok x)
+served-spends s later older newer before mid after x h ended =
+    record { lines = h.lines; written = Appends-trans before mid after (bytes_of h.lines) end_line h.written ended; later = later; spent = spent_in h.lines; give = refl; key = h.key }
 
-broken-key : (s : Setting) (node : Kept) (mid : OfDisk) (taken : Option (List ℕ)) (acts : List Act) (start : ServeState) (w : At) (now : OfDisk) → w.moments ≡ now.moments
-    → BreaksOff s (record { taken = taken; signer = node.signer; moments = mid.moments }) acts start w ⊎ IsStarved s (record { taken = taken; signer = node.signer; moments = mid.moments }) acts start w → HasKey node mid now
-broken-key s node mid taken acts start w now same (inl h) =
-    record { spent = h.within.spent; later = w.node.signer; key = subst (λ (x : List Moment). LivesOn h.within.spent node.signer w.node.signer mid.moments x) same h.within.key }
-broken-key s node mid taken acts start w now same (inr h) =
-    record { spent = h.within.spent; later = w.node.signer; key = subst (λ (x : List Moment). LivesOn h.within.spent node.signer w.node.signer mid.moments x) same h.within.key }
+pub unended-spends : (s later : SignerState) (older newer : List Moment) (before mid after : Option (List ℕ)) (x : Unit {0}) → GoesOn s later older newer before mid (Ok x) → TookFront mid after end_line → LifeSpends [] s older newer before after (Err halt.WriteFault)
+unended-spends s later older newer before mid after x h cut = record {
+  lines = h.lines;
+  written = front-behind before mid after (bytes_of h.lines) end_line h.written (took-front mid after end_line cut);
+  later = later;
+  spent = spent_in h.lines;
+  give = refl;
+  key = h.key;
+}
 
-same-key : (node : Kept) (mid now : OfDisk) → now ≡ mid → HasKey node mid now
-same-key node mid now same =
-    let first : HasKey node mid mid = record { spent = []; later = node.signer; key = lives-same node.signer node.signer mid.moments refl } in
-    subst (λ (x : OfDisk). HasKey node mid x) (sym same) first
+pub unserved-spends : (s later : SignerState) (older newer : List Moment) (before after : Option (List ℕ)) (e : ServeFault) → GoesOn s later older newer before after (Err e) → LifeSpends [] s older newer before after (Err (halt_served e))
+unserved-spends s later older newer before after e h =
+    record { lines = h.lines; written = lines-ended before after h.lines e h.written; later = later; spent = spent_in h.lines; give = refl; key = h.key }
 
-lived-key : (s : Setting) (node : Kept) (events : List journal.Event) (acts : List Act) (start : ServeState) (was now : Environment) (result : Result (Unit {0}) NodeHalt) → Lives s node events acts start was now result → HasKey node was.disk now.disk
-lived-key s node events acts start was now (Ok done) h = record { spent = _; later = h.kept.signer; key = h.key }
-lived-key s node events acts start was now (Err (halt.Refused line w)) h = absurd h
-lived-key s node events acts start was now (Err halt.ReadFault) h = absurd h
-lived-key s node events acts start was now (Err halt.WriteFault) h =
-    elim h [
-      | inl part ↦ same-key node was.disk now.disk part.disk
-      | inr (inl broke) ↦ broken-key s node was.disk broke.mid acts start _ now.disk refl broke.broke
-      | inr (inr last) ↦ record { spent = _; later = last.lived.signer; key = last.key }
-    ]
-lived-key s node events acts start was now (Err halt.StoreFault) h = record { spent = h.whole.spent; later = h.kept.signer; key = h.key }
-lived-key s node events acts start was now (Err (halt.StoreBroken place byte)) h = absurd h
-lived-key s node events acts start was now (Err halt.LinkFault) h = absurd h
-lived-key s node events acts start was now (Err (halt.Exhausted next)) h = absurd h
-lived-key s node events acts start was now (Err halt.OutOfMemory) h =
-    elim h [
-      | inl part ↦ same-key node was.disk now.disk part.disk
-      | inr broke ↦ broken-key s node was.disk broke.mid acts start _ now.disk refl broke.broke
-    ]
+-- behind what the start reports
+pub told-spends : (told : List journal.Event) (s : SignerState) (older newer : List Moment) (before mid after : Option (List ℕ)) (x : Unit {0}) (result : Answer) → WritesSpent (spent_told told) before mid (Ok x) → IfErr result IsServed
+    → LifeSpends [] s older newer mid after result → LifeSpends told s older newer before after result
+told-spends told s older newer before mid after x result first served h = record {
+  lines = first.lines ++ h.lines;
+  written = journal-trans before mid after first.lines h.lines result served first.written h.written;
+  later = h.later;
+  spent = h.spent;
+  give = spent-append first.lines h.lines ∙ ap (λ xs. xs ++ spent_in h.lines) first.give ∙ ap (λ xs. spent_told told ++ xs) h.give;
+  key = h.key;
+}
+
+-- what the start reports broke off
+pub untold-spends : (told : List journal.Event) (s : SignerState) (moments : List Moment) (before after : Option (List ℕ)) (e : ServeFault) → WritesSpent (spent_told told) before after (Err e) → LifeSpends told s moments moments before after (Err (halt_served e))
+untold-spends told s moments before after e h =
+    record { lines = h.lines; written = lines-ended before after h.lines e h.written; later = s; spent = []; give = h.give ∙ sym (append-nil (spent_told told)); key = lives-same s s moments refl }
 
 -- ## A run
 
@@ -72,106 +112,121 @@ none-spent : (stored : Stored) → IsSpentFrom stored []
 none-spent stored = record { once = record { indexes_rise = tt; epochs_rise = tt }; above = tt; later = tt }
 
 -- a life that began and went on
-spent-out : (m : Member) (feed : NetInputs) (was : IoState) (between : IoState) (o new : Environment) (result : Result (Unit {0}) NodeHalt) → IsMember was between m → LivesOut m feed o new result → HasSpent was o.disk new.disk
-spent-out m feed was between o new result read l =
-    let stored = l.0 in
-    let b = l.3 in
-    let k = lived-key (setting_for m) l.1 (start_of m stored).told _ _ (record o { disk = l.2 }) new result l.4 in
+pub begun-spends : (m : Member) (stored : Stored) (node : Kept) (events : List journal.Event) (before after : Option (List ℕ)) (old mid new : OfDisk) (result : Answer) → IsBegun m stored node events old mid
+    → LifeSpends events node.signer mid.moments new.moments before after result → SpendsFrom m before after old new result
+begun-spends m stored node events before after old mid new result b l =
     let first = spent_told (start_of m stored).told in
+    let all : first ++ l.spent ≡ spent_in l.lines = ap (λ (es : List journal.Event). spent_told es ++ l.spent) (sym b.told_is) ∙ sym l.give in
     record {
-      member = m;
-      between = between;
-      read = read;
       stored = stored;
       found = b.found;
-      spent = first ++ k.spent;
-      from = λ tells. let f = b.fresh tells in spent-from m stored f.0 (first ++ k.spent) k.later new.disk.moments f.1 (k.key.lives (tag_of m) f.0 first f.2);
-      ends = λ before spent ends.
-          let living = k.key.lives (tag_of m) before (spent ++ first) (b.lives before spent ends) in
-          subst (λ (xs : List Spent). EndsNow (tag_of m) before xs new.disk.moments) (append_assoc spent first k.spent) living.ends;
+      lines = l.lines;
+      written = l.written;
+      from = λ tells. let f = b.fresh tells in
+          subst (IsSpentFrom stored) all (spent-from m stored f.0 (first ++ l.spent) l.later new.moments f.1 (l.key.lives (tag_of m) f.0 first f.2));
+      ends = subst (λ (xs : List Spent). Ends m xs old new) all
+          (λ image spent ends. subst (λ (xs : List Spent). EndsNow (tag_of m) image xs new.moments) (append_assoc spent first l.spent)
+          (l.key.lives (tag_of m) image (spent ++ first) (b.lives image spent ends)).ends);
+      any_moment = subst (λ (xs : List Spent). EndsFronts m xs old new) all
+          (λ image spent ends.
+          Since-trans (EndsWithin (tag_of m) image spent (first ++ l.spent)) old.moments mid.moments new.moments
+          (Since-weaken (EndsWithin (tag_of m) image spent first) (EndsWithin (tag_of m) image spent (first ++ l.spent)) old.moments mid.moments
+          (λ at h. record { done = h.done; front = front-trans h.done first (first ++ l.spent) h.front (record { more = l.spent; is = refl }); ends = h.ends }) (b.any_moment image spent ends))
+          (Since-weaken (EndsWithin (tag_of m) image (spent ++ first) l.spent) (EndsWithin (tag_of m) image spent (first ++ l.spent)) mid.moments new.moments
+          (λ at h. record {
+            done = first ++ h.done;
+            front = front-after first h.done l.spent h.front;
+            ends = subst (λ (xs : List Spent). EndsLives (tag_of m) image xs at) (append_assoc spent first h.done) h.ends;
+          }) (l.key.any_moment (tag_of m) image (spent ++ first) (b.lives image spent ends))));
     }
+
+pub same-spends : (taken : Option (List ℕ)) (disk : OfDisk) → SpendsNothing taken taken disk disk
+same-spends taken disk = record { unwritten = Appends-nil taken; any_moment = λ tag image spent ends. Since-same (EndsLives tag image spent) disk.moments; ends = λ tag image spent ends. ends }
+
+failed-spends : (taken : Option (List ℕ)) (old new : OfDisk) → Fails stays old.moments new.moments → SpendsNothing taken taken old new
+failed-spends taken old new fails = record {
+  unwritten = Appends-nil taken;
+  any_moment = λ tag image spent ends. (kept_by_opening tag image spent old.moments new.moments ends fails).0;
+  ends = λ tag image spent ends. (kept_by_opening tag image spent old.moments new.moments ends fails).1;
+}
 
 -- nothing was spent of a store that was found
-spent-none : (m : Member) (stored : Stored) (was between : IoState) (old new : OfDisk) → IsMember was between m → IsFound m stored old → Ends m [] old new → HasSpent was old new
-spent-none m stored was between old new read found ends =
-    record { member = m; between = between; read = read; stored = stored; found = found; spent = []; from = λ tells. none-spent stored; ends = ends }
+spent-none : (m : Member) (stored : Stored) (taken : Option (List ℕ)) (old new : OfDisk) (result : Answer) → IsFound m stored old → WritesJournal taken taken [] result → Ends m [] old new → EndsFronts m [] old new → SpendsFrom m taken taken old new result
+spent-none m stored taken old new result found written ends fronts =
+    record { stored = stored; found = found; lines = []; written = written; from = λ tells. none-spent stored; ends = ends; any_moment = fronts }
 
 -- memory was refused as the life began
-spent-unstarted : (m : Member) (was between : IoState) (old new : OfDisk) → IsMember was between m → IsUnstarted m old new → HasSpent was old new
-spent-unstarted m was between old new read start =
+spent-unstarted : (m : Member) (taken : Option (List ℕ)) (old new : OfDisk) → IsUnstarted m old new → SpendsFrom m taken taken old new (Err halt.OutOfMemory)
+spent-unstarted m taken old new start =
+    let lines = spent-unwritten start.spent taken in
+    let same : start.spent ≡ spent_in lines.lines = sym lines.give in
     record {
-      member = m;
-      between = between;
-      read = read;
       stored = start.stored;
       found = start.found;
-      spent = start.spent;
-      from = λ tells. let f = start.fresh tells in spent-from m start.stored f.0 start.spent start.signer new.moments f.1 f.2;
-      ends = start.ends;
+      lines = lines.lines;
+      written = lines.written;
+      from = λ tells. let f = start.fresh tells in subst (IsSpentFrom start.stored) same (spent-from m start.stored f.0 start.spent start.signer new.moments f.1 f.2);
+      ends = subst (λ (xs : List Spent). Ends m xs old new) same start.ends;
+      any_moment = subst (λ (xs : List Spent). EndsFronts m xs old new) same start.any_moment;
     }
 
-same-spends : (old new : OfDisk) → new ≡ old → SpendsNothing old new
-same-spends old new same tag before spent ends = subst (λ (x : OfDisk). EndsNow tag before spent x.moments) (sym same) ends
-
-failed-spends : (old new : OfDisk) → Fails stays old.moments new.moments → SpendsNothing old new
-failed-spends old new fails tag before spent ends = (kept_by_opening tag before spent old.moments new.moments ends fails).1
-
-once-spends : (m : Member) (feed : NetInputs) (was between : IoState) (o new : Environment) (result : Result (Unit {0}) NodeHalt) → IsMember was between m → RunsOnce m feed o new result → Spends was o.disk new.disk
-once-spends m feed was between o new (Ok done) read h =
-    inr (record { member = m; between = between; read = read; stored = h.stored; found = h.found; spent = spent_told (start_of m h.stored).told ++ (life_in m h.stored feed).spent; from = h.once; ends = h.ends })
-once-spends m feed was between o new (Err (halt.Refused line w)) read h = absurd h
-once-spends m feed was between o new (Err halt.ReadFault) read h = absurd h
-once-spends m feed was between o new (Err halt.WriteFault) read h = inr (spent-out m feed was between o new (Err halt.WriteFault) read h)
-once-spends m feed was between o new (Err halt.StoreFault) read h =
-    elim h [
-      | inl u ↦
-          (elim u.1 [
-            | inl opening ↦ inl (failed-spends o.disk new.disk opening.moments)
-            | inr start ↦ inr (spent-none m start.stored was between o.disk new.disk read start.found start.ends)
-          ])
-      | inr l ↦ inr (spent-out m feed was between o new (Err halt.StoreFault) read l)
+-- no life began
+pub unbegun-spends : (m : Member) (taken : Option (List ℕ)) (old new : OfDisk) (events : List journal.Event) (h : NodeHalt) → Begins m old new events (Err h) → SpendsBehind m taken taken old new (Err h)
+unbegun-spends m taken old new events (halt.Refused line w) b = absurd b
+unbegun-spends m taken old new events halt.ReadFault b = absurd b
+unbegun-spends m taken old new events halt.WriteFault b = absurd b
+unbegun-spends m taken old new events halt.StoreFault b =
+    elim b [
+      | inl opening ↦ inl (failed-spends taken old new opening.moments)
+      | inr start ↦ inr (spent-none m start.stored taken old new (Err halt.StoreFault) start.found (Appends-nil taken) start.ends start.any_moment)
     ]
-once-spends m feed was between o new (Err (halt.StoreBroken place byte)) read h = inl (failed-spends o.disk new.disk h.1.moments)
-once-spends m feed was between o new (Err halt.LinkFault) read h = absurd h
-once-spends m feed was between o new (Err (halt.Exhausted next)) read h = inr (spent-none m h.1.stored was between o.disk new.disk read h.1.found h.1.ends)
-once-spends m feed was between o new (Err halt.OutOfMemory) read h =
-    elim h [
-      | inl u ↦
-          (elim u.1 [
-            | inl opening ↦ inl (failed-spends o.disk new.disk opening.moments)
-            | inr start ↦ inr (spent-unstarted m was between o.disk new.disk read start)
-          ])
-      | inr l ↦ inr (spent-out m feed was between o new (Err halt.OutOfMemory) read l)
+unbegun-spends m taken old new events (halt.StoreBroken place byte) b = inl (failed-spends taken old new b.moments)
+unbegun-spends m taken old new events halt.LinkFault b = absurd b
+unbegun-spends m taken old new events (halt.Exhausted next) b = inr (spent-none m b.stored taken old new (Err (halt.Exhausted next)) b.found (refl, Appends-nil taken) b.ends b.any_moment)
+unbegun-spends m taken old new events halt.OutOfMemory b =
+    elim b [
+      | inl opening ↦ inl (failed-spends taken old new opening.moments)
+      | inr start ↦ inr (spent-unstarted m taken old new start)
     ]
 
-behind-spends : (m : Member) (feed : NetInputs) (was between : IoState) (o new : Environment) (result : Result (Unit {0}) NodeHalt) → IsMember was between m → RunsBehind m feed o new result → Spends was o.disk new.disk
-behind-spends m feed was between o new (Ok done) read h = once-spends m feed was between (once_bound m feed o) new (Ok done) read h
-behind-spends m feed was between o new (Err (halt.Refused line w)) read h = once-spends m feed was between (once_bound m feed o) new (Err (halt.Refused line w)) read h
-behind-spends m feed was between o new (Err halt.ReadFault) read h = once-spends m feed was between (once_bound m feed o) new (Err halt.ReadFault) read h
-behind-spends m feed was between o new (Err halt.WriteFault) read h = once-spends m feed was between (once_bound m feed o) new (Err halt.WriteFault) read h
-behind-spends m feed was between o new (Err halt.StoreFault) read h = once-spends m feed was between (once_bound m feed o) new (Err halt.StoreFault) read h
-behind-spends m feed was between o new (Err (halt.StoreBroken place byte)) read h = once-spends m feed was between (once_bound m feed o) new (Err (halt.StoreBroken place byte)) read h
-behind-spends m feed was between o new (Err halt.LinkFault) read h = inl (same-spends o.disk new.disk (ap (λ (x : Environment). x.disk) h))
-behind-spends m feed was between o new (Err (halt.Exhausted next)) read h = once-spends m feed was between (once_bound m feed o) new (Err (halt.Exhausted next)) read h
-behind-spends m feed was between o new (Err halt.OutOfMemory) read h =
-    elim h [
-      | inl same ↦ inl (same-spends o.disk new.disk (ap (λ (x : Environment). x.disk) same))
-      | inr run ↦ once-spends m feed was between (once_bound m feed o) new (Err halt.OutOfMemory) read run
-    ]
+-- ## The text
 
--- Whatever ended the run, what it spent rises from the store that was found.
-pub run-spends : (feed : NetInputs) (was now : IoState) (old new : Environment) (result : Result (Unit {0}) NodeHalt) → Runs feed was now old new result → Spends was old.disk new.disk
-run-spends feed was now old new (Ok done) h = behind-spends h.member feed was h.between (record old { taken = h.between.taken }) new (Ok done) h.read h.rest
-run-spends feed was now old new (Err (halt.Refused line w)) h = inl (same-spends old.disk new.disk h.disk)
-run-spends feed was now old new (Err halt.ReadFault) h = inl (same-spends old.disk new.disk h.disk)
-run-spends feed was now old new (Err halt.WriteFault) h = behind-spends h.member feed was h.between (record old { taken = h.between.taken }) new (Err halt.WriteFault) h.read h.rest
-run-spends feed was now old new (Err halt.StoreFault) h = behind-spends h.member feed was h.between (record old { taken = h.between.taken }) new (Err halt.StoreFault) h.read h.rest
-run-spends feed was now old new (Err (halt.StoreBroken place byte)) h = behind-spends h.member feed was h.between (record old { taken = h.between.taken }) new (Err (halt.StoreBroken place byte)) h.read h.rest
-run-spends feed was now old new (Err halt.LinkFault) h = behind-spends h.member feed was h.between (record old { taken = h.between.taken }) new (Err halt.LinkFault) h.read h.rest
-run-spends feed was now old new (Err (halt.Exhausted next)) h = behind-spends h.member feed was h.between (record old { taken = h.between.taken }) new (Err (halt.Exhausted next)) h.read h.rest
-run-spends feed was now old new (Err halt.OutOfMemory) h =
+behind-text : (was between : Option (List ℕ)) (now : Option (List ℕ)) (bytes : List ℕ) → Appends was between [] → Appends between now bytes → Appends was now bytes
+behind-text was between now bytes first h = Appends-trans was between now [] bytes first h
+
+front-text : (was between now : Option (List ℕ)) (bytes : List ℕ) → Appends was between [] → WroteFront between now bytes → WroteFront was now bytes
+front-text was between now bytes first h = record { text = h.text; front = h.front; written = behind-text was between now h.text first h.written }
+
+-- What was spent behind the text was spent in the run.
+pub read-spends : (was between now : IoState) (m : Member) (old new : OfDisk) (result : Answer) → IsMember was between m → SpendsBehind m between.taken now.taken old new result → Spends was now old new result
+read-spends was between now m old new result read h =
     elim h [
-      | inl unread ↦ inl (same-spends old.disk new.disk unread.disk)
-      | inr (inl whole) ↦ inl (same-spends old.disk new.disk whole.disk)
-      | inr (inr went) ↦ behind-spends went.member feed was went.between (record old { taken = went.between.taken }) new (Err halt.OutOfMemory) went.read went.rest
+      | inl none ↦ inl (record { unwritten = behind-text was.taken between.taken now.taken [] read.whole.wrote none.unwritten; any_moment = none.any_moment; ends = none.ends })
+      | inr some ↦ inr (record {
+        member = m;
+        between = between;
+        read = read;
+        spends = record { stored = some.stored; found = some.found; lines = some.lines; written = by result some.lines some.written; from = some.from; ends = some.ends; any_moment = some.any_moment };
+      })
     ]
+  where
+    by : (result : Answer) (lines : List JournalLine) → WritesJournal between.taken now.taken lines result → WritesJournal was.taken now.taken lines result
+    by (Ok x) lines w = behind-text was.taken between.taken now.taken (bytes_of lines ++ end_line) read.whole.wrote w
+    by (Err (halt.Refused line w1)) lines w = (w.0, behind-text was.taken between.taken now.taken [] read.whole.wrote w.1)
+    by (Err halt.ReadFault) lines w = (w.0, behind-text was.taken between.taken now.taken [] read.whole.wrote w.1)
+    by (Err halt.WriteFault) lines w = front-text was.taken between.taken now.taken (bytes_of lines ++ end_line) read.whole.wrote w
+    by (Err halt.StoreFault) lines w = behind-text was.taken between.taken now.taken (bytes_of lines) read.whole.wrote w
+    by (Err (halt.StoreBroken place byte)) lines w = (w.0, behind-text was.taken between.taken now.taken [] read.whole.wrote w.1)
+    by (Err halt.LinkFault) lines w = (w.0, behind-text was.taken between.taken now.taken [] read.whole.wrote w.1)
+    by (Err (halt.Exhausted next)) lines w = (w.0, behind-text was.taken between.taken now.taken [] read.whole.wrote w.1)
+    by (Err halt.OutOfMemory) lines w = front-text was.taken between.taken now.taken (bytes_of lines) read.whole.wrote w
+
+-- the text wasn't read to its end
+pub cut-spends : (was now : IoState) (disk : OfDisk) (s : Stop BadWord) (result : Answer) → IsUnfinished kit_judging kit.Start was now s → Spends was now disk disk result
+cut-spends was now disk s result h =
+    inl (record { unwritten = silent-unread kit_judging kit.Start was now s h; any_moment = λ tag image spent ends. Since-same (EndsLives tag image spent) disk.moments; ends = λ tag image spent ends. ends })
+
+-- memory was refused for what it sets up
+pub ungathered-spends : (was now : IoState) (lines : List KitLine) (disk : OfDisk) (result : Answer) → IsWhole kit_judging kit.Start was now lines → Spends was now disk disk result
+ungathered-spends was now lines disk result h =
+    inl (record { unwritten = h.wrote; any_moment = λ tag image spent ends. Since-same (EndsLives tag image spent) disk.moments; ends = λ tag image spent ends. ends })

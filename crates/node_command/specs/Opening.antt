@@ -3,16 +3,17 @@ use Rattle.std.specs.Prelude.{◌≡◌, ℕ, ◌<◌, ◌≤◌, ◌⊎◌, fal
 use Rattle.epoch_store.specs.declared.seat.Seat.{Seat}
 use Rattle.epoch_store.specs.declared.StoreError.{StoreError}
 use Rattle.epoch_store.specs.declared.Stored.{Stored}
+use Rattle.epoch_store.specs.Asked.{ReadsTo, open_calls}
 use Rattle.epoch_store.specs.Calls.{HoldsStore, OpensAs, SettlesAs, same}
 use Rattle.epoch_store.specs.Store.{StoreOf}
 use Rattle.journal.specs.declared.event.Event as journal
 use Rattle.lms_tree.specs.Leaves.{index_count}
 use Rattle.lms_tree.specs.Lms.{public_of}
 use Rattle.ports.specs.Count.{next_count}
-use Rattle.ports.specs.Disk.{Fails, Moment, stays}
+use Rattle.ports.specs.Disk.{Fails, Moment, Since, stays}
 use Rattle.ports.specs.Outside.{OfDisk}
 use Rattle.secrets.specs.Secrets.{nonce_seed}
-use Rattle.signer.specs.Lives.{EndsNow, IsLiving, Spent}
+use Rattle.signer.specs.Lives.{EndsNow, EndsWithin, IsLiving, Spent}
 use Rattle.signer.specs.Signing.{SignerState}
 use Rattle.node_rules.specs.Nodes.{Setting}
 use Rattle.node_rules.specs.Calls.{Call}
@@ -41,6 +42,14 @@ start_of m stored = started (setting_for m) (nonce_seed m.own.secret stored.next
 abbrev pub IsFound : Member → Stored → OfDisk → Type 0
 IsFound m stored old = (seat : Seat) × HoldsStore (tag_of m) stored seat old.moments
 
+-- Where a store is refused, the calls made were those that open the file of this name, and read its gates up to the place where it
+-- is refused.
+abbrev pub OpensFile : {T : Type 0} → List ℕ → OfDisk → OfDisk → Result T NodeHalt → Type 0
+OpensFile name old new (Ok value) = Unit {0}
+OpensFile name old new (Err (halt.StoreBroken place byte)) =
+    ReadsTo (open_calls name) place old.calls new.calls
+OpensFile name old new (Err other) = Unit {0}
+
 -- The disk failed as the store was opened: each crash leaves what it would have left before.
 pub record OpeningFails (old new : OfDisk) : Type 0 where
   pub faults : new.faults ≡ next_count old.faults
@@ -60,6 +69,12 @@ abbrev pub Ends : Member → List Spent → OfDisk → OfDisk → Type 0
 Ends m spent old new = (before : List ℕ) (spent_before : List Spent) → EndsNow (tag_of m) before spent_before old.moments
     → EndsNow (tag_of m) before (spent_before ++ spent) new.moments
 
+-- and at each moment between, each crash ends them with a front of these beside
+abbrev pub EndsFronts : Member → List Spent → OfDisk → OfDisk → Type 0
+EndsFronts m spent old new = (before : List ℕ) (spent_before : List Spent)
+    → EndsNow (tag_of m) before spent_before old.moments
+    → Since (EndsWithin (tag_of m) before spent_before spent) old.moments new.moments
+
 -- A store of the member's key is there, and the key has no index left: nothing is spent.
 pub record IsUsedUp (m : Member) (next : ℕ) (old new : OfDisk) : Type 0 where
   pub faults : new.faults ≡ old.faults
@@ -68,6 +83,7 @@ pub record IsUsedUp (m : Member) (next : ℕ) (old new : OfDisk) : Type 0 where
   pub next_is : next ≡ stored.next
   pub gone : index_count m.own.key ≤ next
   pub ends : Ends m [] old new
+  pub any_moment : EndsFronts m [] old new
 
 -- Memory was refused as the store was opened, or before.
 pub record IsUnopened (old new : OfDisk) : Type 0 where
@@ -81,6 +97,7 @@ pub record StartFails (m : Member) (old new : OfDisk) : Type 0 where
   pub found : IsFound m stored old
   pub left : stored.next < index_count m.own.key
   pub ends : Ends m [] old new
+  pub any_moment : EndsFronts m [] old new
 
 -- the disk's moments are modelled
 abbrev pub Tells : List Moment → Type 0
@@ -98,6 +115,7 @@ pub record IsUnstarted (m : Member) (old new : OfDisk) : Type 0 where
   pub found : IsFound m stored old
   pub spent : List Spent
   pub ends : Ends m spent old new
+  pub any_moment : EndsFronts m spent old new
   pub signer : SignerState
   pub fresh : Tells old.moments → Fresh m stored spent signer new.moments
 
@@ -113,6 +131,7 @@ pub record IsBegun (m : Member) (stored : Stored) (node : Kept) (told : List jou
   pub unclosed : node.signer.closed ≡ false
   pub lives : (before : List ℕ) (spent : List Spent) → EndsNow (tag_of m) before spent old.moments
       → IsLiving (tag_of m) before (spent ++ spent_told (start_of m stored).told) node.signer new.moments
+  pub any_moment : EndsFronts m (spent_told (start_of m stored).told) old new
   pub fresh : Tells old.moments → Fresh m stored (spent_told (start_of m stored).told) node.signer new.moments
 
 abbrev pub Begins : Member → OfDisk → OfDisk → List journal.Event → Result Kept NodeHalt → Type 0

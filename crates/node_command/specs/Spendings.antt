@@ -1,14 +1,23 @@
 -- What the run of a member has spent of its key.
-use Rattle.std.specs.Prelude.{ℕ, ◌+◌, ◌≤◌, ◌<◌, ◌⊎◌, List, fold}
+use Rattle.std.specs.Prelude.{◌≡◌, ℕ, ◌+◌, ◌≤◌, ◌<◌, ◌⊎◌, List, [], ◌++◌, fold, Option, Result, Ok, Err}
+use Rattle.std.specs.Io.KnownBytes.{Appends}
 use Rattle.std.specs.List.{AllByRecursion}
 use Rattle.epoch_store.specs.declared.Stored.{Stored}
+use Rattle.journal.specs.declared.event.Event as journal
 use Rattle.play.specs.Plays.{IoState}
 use Rattle.records.specs.declared.Body.{Body}
 use Rattle.records.specs.declared.Body.TheVariants.{Certificate, Note, Accusation}
-use Rattle.signer.specs.Lives.{EndsNow, IsOnce, Spent, indexes, note_epochs}
+use Rattle.ports.specs.Disk.{Moment, Since}
+use Rattle.signer.specs.Lives.{EndsLives, EndsNow, IsOnce, LivesOn, Spent, indexes, note_epochs}
+use Rattle.signer.specs.Signing.{SignerState}
+use Rattle.node_core.specs.Spending.{spent_told}
+use Rattle.node_loop.specs.Lines.{JournalLine, WroteFront, bytes_of, spent_in}
+use Rattle.node_command.specs.declared.halt.NodeHalt.{NodeHalt}
+use Rattle.node_command.specs.declared.halt.NodeHalt.TheVariants as halt
 use Rattle.node_command.specs.declared.kit.Member.{Member}
+use Rattle.node_command.specs.Journal.{end_line}
 use Rattle.node_command.specs.Members.{IsMember}
-use Rattle.node_command.specs.Opening.{Ends, IsFound, Tells}
+use Rattle.node_command.specs.Opening.{Ends, EndsFronts, IsFound, Tells}
 use Rattle.ports.specs.Outside.{OfDisk}
 
 -- The indexes rise, and so do the epochs of the notes; none of them is below the next index that was found, and no epoch is one
@@ -32,22 +41,69 @@ kept_with kept s = kept_for (record kept { next = s.index + 1 }) s.body
 abbrev pub kept_behind : Stored → List Spent → Stored
 kept_behind kept spent = fold kept_with kept spent
 
--- A member was read from the text, and a store of its key was found. Just this was spent from it on: wherever crashes ended lives
--- of the key so at first, each crash now ends them with this spent beside.
-pub record HasSpent (was : IoState) (old new : OfDisk) : Type 0 where
+-- ## The lines
+
+-- The lines were written, and behind them the line `end` where all was done; or a front of that, where a write failed or memory
+-- was refused. A run that ended otherwise wrote none.
+abbrev pub WritesJournal : Option (List ℕ) → Option (List ℕ) → List JournalLine
+    → Result (Unit {0}) NodeHalt → Type 0
+WritesJournal before after lines (Ok done) = Appends before after (bytes_of lines ++ end_line)
+WritesJournal before after lines (Err halt.StoreFault) = Appends before after (bytes_of lines)
+WritesJournal before after lines (Err halt.WriteFault) =
+    WroteFront before after (bytes_of lines ++ end_line)
+WritesJournal before after lines (Err halt.OutOfMemory) = WroteFront before after (bytes_of lines)
+WritesJournal before after lines (Err other) = (lines ≡ []) × Appends before after []
+
+-- A life that began by telling this went on: the lines give the signatures that it told, and behind them those that the lives of
+-- the key went on with.
+pub record LifeSpends (told : List journal.Event) (s : SignerState) (older newer : List Moment)
+    (before after : Option (List ℕ)) (result : Result (Unit {0}) NodeHalt) : Type 0 where
+  pub lines : List JournalLine
+  pub written : WritesJournal before after lines result
+  pub later : SignerState
+  pub spent : List Spent
+  pub give : spent_in lines ≡ spent_told told ++ spent
+  pub key : LivesOn spent s later older newer
+
+-- ## The run
+
+-- A store of the member's key was found. What was spent from it on is just what these lines of the journal give, in order, each
+-- index once and each epoch; they were written, or a front of them where it broke off. Wherever crashes ended lives of the key
+-- so at first, each crash now ends them with this spent beside, and at each moment between with a front of it.
+pub record SpendsFrom (m : Member) (before after : Option (List ℕ)) (old new : OfDisk)
+    (result : Result (Unit {0}) NodeHalt) : Type 0 where
+  pub stored : Stored
+  pub found : IsFound m stored old
+  pub lines : List JournalLine
+  pub written : WritesJournal before after lines result
+  pub from : Tells old.moments → IsSpentFrom stored (spent_in lines)
+  pub ends : Ends m (spent_in lines) old new
+  pub any_moment : EndsFronts m (spent_in lines) old new
+
+-- Nothing was written, and nothing of any key spent: each crash ends lives as before, now and at each moment between.
+pub record SpendsNothing (before after : Option (List ℕ)) (old new : OfDisk) : Type 0 where
+  pub unwritten : Appends before after []
+  pub any_moment : (tag image : List ℕ) (spent : List Spent) → EndsNow tag image spent old.moments
+      → Since (EndsLives tag image spent) old.moments new.moments
+  pub ends : (tag image : List ℕ) (spent : List Spent) → EndsNow tag image spent old.moments
+      → EndsNow tag image spent new.moments
+
+-- The same, of the member that was read.
+abbrev pub SpendsBehind : Member → Option (List ℕ) → Option (List ℕ) → OfDisk → OfDisk
+    → Result (Unit {0}) NodeHalt → Type 0
+SpendsBehind m before after old new result =
+    SpendsNothing before after old new ⊎ SpendsFrom m before after old new result
+
+-- A member was read from the text, and this was spent of its key.
+pub record HasSpent (was now : IoState) (old new : OfDisk) (result : Result (Unit {0}) NodeHalt)
+    : Type 0 where
   pub member : Member
   pub between : IoState
   pub read : IsMember was between member
-  pub stored : Stored
-  pub found : IsFound member stored old
-  pub spent : List Spent
-  pub from : Tells old.moments → IsSpentFrom stored spent
-  pub ends : Ends member spent old new
+  pub spends : SpendsFrom member was.taken now.taken old new result
 
--- Nothing of any key was spent.
-abbrev pub SpendsNothing : OfDisk → OfDisk → Type 0
-SpendsNothing old new = (tag before : List ℕ) (spent : List Spent) → EndsNow tag before spent old.moments → EndsNow tag before spent new.moments
-
--- What a run does to the lives of the key: it spends nothing, or what rises from the store that it found.
-abbrev pub Spends : IoState → OfDisk → OfDisk → Type 0
-Spends was old new = SpendsNothing old new ⊎ HasSpent was old new
+-- What a run does to the lives of the key, under every answer: it spends nothing, and writes nothing, or just what the lines that
+-- it wrote give.
+abbrev pub Spends : IoState → IoState → OfDisk → OfDisk → Result (Unit {0}) NodeHalt → Type 0
+Spends was now old new result =
+    SpendsNothing was.taken now.taken old new ⊎ HasSpent was now old new result

@@ -1,6 +1,6 @@
 //! A life from its first events to its last line.
 
-ghost use Rattle.std.specs.Prelude.{◌≡◌, ◌≢◌, ℕ, ◌≤◌, true, false, List, Option, Some, OnOk, IfErr};
+ghost use Rattle.std.specs.Prelude.{◌≡◌, ◌≢◌, ℕ, ◌≤◌, true, false, List, [], Option, Some, OnOk, IfErr};
 ghost use Rattle.std.specs.List.{AllByRecursion};
 ghost use Rattle.ports.specs.Count.{counted, Rose};
 ghost use Rattle.ports.specs.Link.{LinkState};
@@ -12,6 +12,7 @@ ghost use Rattle.node_command.specs.Halts.{IsBehind, IsServed, is_writable, is_w
 ghost use Rattle.std.specs.Io.KnownBytes.{Appends};
 ghost use Rattle.journal.specs.declared.event.Event as journal;
 ghost use Rattle.node_command.specs.Journal.{IsUnsent, Lives, environment, lines_of};
+ghost use Rattle.node_command.specs.Spendings.{LifeSpends};
 
 use crate::halt::NodeHalt;
 use node_core::{Events, Node};
@@ -49,6 +50,9 @@ fn serve_to_end<D: Disk, L: Link, C: Clock, O: Sink>(
     ensures bound { IfErr result (λ h. h ≢ NodeHalt.LinkFault) }
     ensures behind { IfErr result IsBehind }
     ensures served { IfErr result IsServed }
+    ensures spends { LifeSpends [] node.signer
+        (D.state disk.old).moments (D.state disk.new).moments
+        (O.state out.old).taken (O.state out.new).taken result }
     ensures lives { (s : Setting) (n : RulesNode) (link_told : LinkState) (readings : List ℕ)
         (told : List journal.Event) (was : Option LinkState) (taken : Option (List ℕ))
         → IsNode s node n → (L.state link.old).contents ≡ Some link_told
@@ -103,6 +107,9 @@ pub fn live<D: Disk, L: Link, C: Clock, O: Sink>(
     ensures bound { IfErr result (λ h. h ≢ NodeHalt.LinkFault) }
     ensures behind { IfErr result IsBehind }
     ensures served { IfErr result IsServed }
+    ensures spends { LifeSpends events.now node.signer
+        (D.state disk.old).moments (D.state disk.new).moments
+        (O.state out.old).taken (O.state out.new).taken result }
     ensures lives { (s : Setting) (n : RulesNode) (link_told : LinkState) (readings : List ℕ)
         → IsNode s node n → (L.state link.old).contents ≡ Some link_told
         → (C.state clock.old).coming ≡ Some readings

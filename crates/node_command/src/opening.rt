@@ -2,7 +2,7 @@
 
 ghost use Rattle.std.specs.Prelude.{◌≡◌, []};
 ghost use Rattle.node_command.specs.Members.{IsSoundMember};
-ghost use Rattle.node_command.specs.Opening.{Begins};
+ghost use Rattle.node_command.specs.Opening.{Begins, OpensFile};
 
 use crate::halt::NodeHalt;
 use crate::kit::{Member, Own};
@@ -25,6 +25,7 @@ pub fn begin<D: Disk>(
     requires untold { events.old ≡ [] }
     ensures begins { Begins member
         (D.state disk.old) (D.state disk.new) events.new result }
+    ensures opened { OpensFile name.now (D.state disk.old) (D.state disk.new) result }
 {
     let Member {
         group,

@@ -7,8 +7,9 @@ ghost use Rattle.ports.specs.Link.{LinkState};
 ghost use Rattle.node_command.specs.Halts.{IsBehind, is_writable, is_write_fault};
 ghost use Rattle.node_command.specs.Journal.{environment, bound_for};
 ghost use Rattle.node_command.specs.Members.{IsSoundMember};
+ghost use Rattle.node_command.specs.Opening.{OpensFile};
 ghost use Rattle.node_command.specs.Removals.{RemovalsRest};
-ghost use Rattle.node_command.specs.Spendings.{Spends};
+ghost use Rattle.node_command.specs.Spendings.{Spends, SpendsBehind};
 ghost use Rattle.node_command.specs.Running.{NetInputs, IsCaused, IsStoreCause, Runs, RunsBehind, RunsOnce, Takes};
 
 use crate::halt::NodeHalt;
@@ -44,6 +45,9 @@ fn begin_and_live<D: Disk, L: Link, C: Clock, O: Sink>(
     ensures bound { IfErr result (λ h. h ≢ NodeHalt.LinkFault) }
     ensures behind { IfErr result IsBehind }
     ensures cause { IsStoreCause member
+        (D.state disk.old) (D.state disk.new) result }
+    ensures opened { OpensFile name.now (D.state disk.old) (D.state disk.new) result }
+    ensures spends { SpendsBehind member (O.state out.old).taken (O.state out.new).taken
         (D.state disk.old) (D.state disk.new) result }
     ensures runs { (feed : NetInputs)
         → (L.state link.old).contents ≡ Some (bound_for member feed.link)
@@ -91,6 +95,9 @@ fn bind_and_live<D: Disk, L: Link, C: Clock, O: Sink>(
     ensures undone { IfErr result (λ h. h ≡ NodeHalt.LinkFault → disk.new ≡ disk.old) }
     ensures cause { IsStoreCause member
         (D.state disk.old) (D.state disk.new) result }
+    ensures opened { OpensFile name.now (D.state disk.old) (D.state disk.new) result }
+    ensures spends { SpendsBehind member (O.state out.old).taken (O.state out.new).taken
+        (D.state disk.old) (D.state disk.new) result }
     ensures runs { (feed : NetInputs) → (L.state link.old).contents ≡ Some feed.link
         → (C.state clock.old).coming ≡ Some feed.readings
         → (C.state clock.old).reading ≡ feed.reading → turns ≡ feed.turns
@@ -131,6 +138,11 @@ fn read_and_run<S: Source, O: Sink, D: Disk, L: Link, C: Clock>(
         (D.state disk.old) (D.state disk.new) result }
     ensures cause { IsCaused
         (io (S.state input.old) (O.state out.old))
+        (D.state disk.old) (D.state disk.new) result }
+    ensures opened { OpensFile name.now (D.state disk.old) (D.state disk.new) result }
+    ensures spends { Spends
+        (io (S.state input.old) (O.state out.old))
+        (io (S.state input.new) (O.state out.new))
         (D.state disk.old) (D.state disk.new) result }
     ensures runs { (feed : NetInputs) → (L.state link.old).contents ≡ Some feed.link
         → (C.state clock.old).coming ≡ Some feed.readings
@@ -180,6 +192,7 @@ pub fn run_node<S: Source, O: Sink, D: Disk, L: Link, C: Clock>(
     ensures cause { IsCaused
         (io (S.state input.old) (O.state out.old))
         (D.state disk.old) (D.state disk.new) result }
+    ensures opened { OpensFile name.now (D.state disk.old) (D.state disk.new) result }
     ensures runs { (feed : NetInputs) → (L.state link.old).contents ≡ Some feed.link
         → (C.state clock.old).coming ≡ Some feed.readings
         → (C.state clock.old).reading ≡ feed.reading → turns ≡ feed.turns
@@ -198,13 +211,12 @@ pub fn run_node<S: Source, O: Sink, D: Disk, L: Link, C: Clock>(
         (io (S.state input.old) (O.state out.old))
         (io (S.state input.new) (O.state out.new))
         (D.state disk.old) result }
-    // What was spent of the key rises from the store that was found, each index once, and each epoch.
-    ensures spends { (feed : NetInputs) → (L.state link.old).contents ≡ Some feed.link
-        → (C.state clock.old).coming ≡ Some feed.readings
-        → (C.state clock.old).reading ≡ feed.reading → turns ≡ feed.turns
-        → Spends
+    // What was spent of the key is what the lines of the journal give, in order. It rises from the store that was found, each index
+    // once, and each epoch.
+    ensures spends { Spends
         (io (S.state input.old) (O.state out.old))
-        (D.state disk.old) (D.state disk.new) }
+        (io (S.state input.new) (O.state out.new))
+        (D.state disk.old) (D.state disk.new) result }
 {
     read_and_run(alloc, name, turns, input, out, disk, link, clock)
 }

@@ -1,5 +1,5 @@
 -- How one call of the node is served.
-use Rattle.std.proofs.Common.{◌≡◌, ◌<◌, ◌≤◌, arith, ℕ, inl, inr, true, false, List, [], ◌∷◌, ◌++◌, Option, Some, None, Result, Ok, Err, refl, sym, ap, ◌∙◌, subst, cond}
+use Rattle.std.proofs.Common.{◌≡◌, ◌<◌, ◌≤◌, arith, ℕ, inl, inr, true, false, List, [], ◌∷◌, Option, Some, None, Result, Ok, Err, refl, sym, ap, ◌∙◌, subst, cond}
 use Rattle.std.proofs.lemmas.Bool.{false≢true}
 use Rattle.std.specs.Result.{is_err}
 use Rattle.std.specs.Prelude.{Bool, IfErr, OnOk, nat_lt}
@@ -10,7 +10,7 @@ use Rattle.ports.specs.Link.{LinkState}
 use Rattle.signer.specs.Lives.{Spent}
 use Rattle.signer.specs.Signing.{SignerState}
 use Rattle.node_core.specs.Spending.{LivesOn, SpendsIn, spent_told}
-use Rattle.node_core.proofs.SpendLemmas.{lives-same, lives-trans}
+use Rattle.node_core.proofs.SpendLemmas.{lives-trans}
 use Rattle.node_core.specs.declared.NodeFault.{NodeFault}
 use Rattle.node_core.specs.declared.NodeFault.TheVariants as node
 use Rattle.node_core.specs.Playing.{Kept, IsNode}
@@ -30,7 +30,7 @@ use Rattle.node_loop.specs.declared.fault.ServeFault.{ServeFault}
 use Rattle.node_loop.specs.declared.fault.ServeFault.TheVariants as faults
 use Rattle.node_loop.specs.Turns.{Act, Calls}
 use Rattle.node_loop.specs.Courses.{ServeState, acted, gives, may_tick, moves, served, tells_all}
-use Rattle.node_loop.specs.Writing.{Answers, Before, Extends, GoesOn, IsAt, IsBeyond, IsWithin, Settles, Standing, Stands, standing}
+use Rattle.node_loop.specs.Writing.{Answers, Before, Extends, IsAt, IsBeyond, IsWithin, Settles, Standing, Stands, standing}
 use Rattle.node_loop.specs.Serving.{IsStarved, IsStopped, Serves, starves}
 use Rattle.node_loop.proofs.CourseLemmas.{Grows, grows-refl, grows-tells_all, node-gives, served-cons, served-nil, tells_all-append}
 use Rattle.node_loop.proofs.TellLemmas.{at-within, beyond, within-grows}
@@ -43,17 +43,6 @@ below-lt m k lt = grind (arith, nat_tests)
 
 above-lt : (m k : ℕ) → k ≤ m → nat_lt m k ≡ false
 above-lt m k le = grind (arith, nat_tests)
-
--- ---- the key
-
-pub goes-same : (s : SignerState) (moments : List Moment) → GoesOn s s moments moments
-goes-same s moments = record { spent = []; key = lives-same s s moments refl }
-
-pub goes-trans : (a b c : SignerState) (x y z : List Moment) → GoesOn a b x y → GoesOn b c y z → GoesOn a c x z
-goes-trans a b c x y z p q = record { spent = p.spent ++ q.spent; key = lives-trans p.spent q.spent a b c x y z p.key q.key }
-
-pub goes-by : (done : Result (Unit {0}) NodeFault) (s later : SignerState) (older newer : List Moment) (events told : List journal.Event) → SpendsIn done s later older newer events told → GoesOn s later older newer
-goes-by done s later older newer events told h = record { spent = h.spent; key = h.key }
 
 -- ---- what is answered
 

@@ -3,6 +3,7 @@ pub mod LinkLemmas
 pub mod TellLemmas
 pub mod SendLemmas
 pub mod ServeLemmas
+pub mod LineLemmas
 pub mod CallLemmas
 pub mod TurnLemmas
 mod Rows

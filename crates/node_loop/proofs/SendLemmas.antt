@@ -7,7 +7,6 @@ use Rattle.ports.specs.Link.{LinkState}
 use Rattle.journal.specs.declared.event.Event as journal
 use Rattle.journal.specs.declared.event.What.TheVariants as kinds
 use Rattle.node_core.specs.Playing.{Kept}
-use Rattle.node_rules.specs.Nodes.{Setting}
 use Rattle.node_loop.specs.declared.fault.ServeFault.{ServeFault}
 use Rattle.node_loop.specs.Courses.{ServeState, datagram_in, fails_next, hands_over, line_of, sends_one, tells, tells_all, tells_what, writes, writes_event}
 use Rattle.node_loop.specs.Writing.{Before, Extends, IsAt, IsWithin, Standing, Tells, WritesLine, standing}

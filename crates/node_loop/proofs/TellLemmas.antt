@@ -9,7 +9,6 @@ use Rattle.node_core.specs.Playing.{Kept}
 use Rattle.node_core.specs.Spending.{LivesOn}
 use Rattle.node_core.proofs.SpendLemmas.{lives-trans}
 use Rattle.signer.specs.Lives.{Spent}
-use Rattle.node_rules.specs.Nodes.{Setting}
 use Rattle.node_loop.specs.declared.fault.ServeFault.{ServeFault}
 use Rattle.node_loop.specs.declared.fault.ServeFault.TheVariants as faults
 use Rattle.node_loop.specs.Courses.{ServeState, writes, fails_next}

@@ -1,4 +1,5 @@
 pub mod Turns
 pub mod Courses
 pub mod Writing
+pub mod Lines
 pub mod Serving

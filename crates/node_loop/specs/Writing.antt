@@ -89,11 +89,6 @@ before_all taken signer moments = record { taken = taken; signer = signer; momen
 abbrev pub HasSpent : Before → List Spent → Standing → Type 0
 HasSpent before spent w = LivesOn spent before.signer w.node.signer before.moments w.moments
 
--- Some signatures were made, and the lives of the key go on with them.
-pub record GoesOn (old new : SignerState) (older newer : List Moment) : Type 0 where
-  pub spent : List Spent
-  pub key : LivesOn spent old new older newer
-
 -- It stands where the course is, behind what there was before; of the node, its certificates are those of the course's.
 pub record IsAt (before : Before) (w : Standing) (r : ServeState) : Type 0 where
   pub knows : (m : ℕ) → kept_certificate w.node.roster m ≡ certificate_of r.node m

@@ -3,11 +3,13 @@
 ghost use Rattle.std.specs.Prelude.{◌≡◌, false, true, List, [], ◌∷◌, OnOk, IfErr};
 ghost use Rattle.ports.specs.Count.{counted, Rose};
 ghost use Rattle.ports.specs.Disk.{Moment};
+ghost use Rattle.node_core.specs.Spending.{spent_told};
 ghost use Rattle.node_rules.specs.Nodes.{Setting};
 ghost use Rattle.node_rules.specs.Lives as lives;
 ghost use Rattle.node_loop.specs.Turns.{Calls, ticks_of};
 ghost use Rattle.node_loop.specs.Courses.{ServeState, tells_all};
-ghost use Rattle.node_loop.specs.Writing.{Answers, Before, Extends, GoesOn, IsAt, Settles, Stands, is_open_after, is_write_fault, standing};
+ghost use Rattle.node_loop.specs.Lines.{GoesOn, WritesSpent};
+ghost use Rattle.node_loop.specs.Writing.{Answers, Before, Extends, IsAt, Settles, Stands, is_open_after, is_write_fault, standing};
 ghost use Rattle.node_loop.specs.Serving.{Serves};
 
 use crate::fault::{ServeFault, fault_of};
@@ -38,6 +40,8 @@ fn settle<L: Link, O: Sink>(
     ensures answers { Answers done result }
     ensures extends { Extends (O.state out.old).taken (O.state out.new).taken
         (L.state link.old).contents (L.state link.new).contents }
+    ensures spent { WritesSpent (spent_told events.now) (O.state out.old).taken
+        (O.state out.new).taken result }
 {
     tell_all(alloc, node, link, out, sent, events.as_slice())?;
     match done {
@@ -66,8 +70,9 @@ pub fn deliver<D: Disk, L: Link, O: Sink>(
     ensures store { IfErr result (λ e. e ≡ ServeFault.StoreFault
         → Rose (D.state disk.old).faults (D.state disk.new).faults) }
     ensures closed { OnOk result (node.new.signer.closed ≡ node.old.signer.closed) }
-    ensures spends { GoesOn node.old.signer node.new.signer (D.state disk.old).moments
-        (D.state disk.new).moments }
+    ensures spends { GoesOn node.old.signer node.new.signer
+        (D.state disk.old).moments (D.state disk.new).moments
+        (O.state out.old).taken (O.state out.new).taken result }
     ensures serves { (s : Setting) (before : Before) (r : ServeState)
         → Stands s before (standing node.old (L.state link.old).contents (O.state out.old).taken
         (D.state disk.old).moments sent.old) r
@@ -100,8 +105,9 @@ fn tick<D: Disk, L: Link, O: Sink>(
     ensures store { IfErr result (λ e. e ≡ ServeFault.StoreFault
         → Rose (D.state disk.old).faults (D.state disk.new).faults) }
     ensures closed { OnOk result (node.new.signer.closed ≡ node.old.signer.closed) }
-    ensures spends { GoesOn node.old.signer node.new.signer (D.state disk.old).moments
-        (D.state disk.new).moments }
+    ensures spends { GoesOn node.old.signer node.new.signer
+        (D.state disk.old).moments (D.state disk.new).moments
+        (O.state out.old).taken (O.state out.new).taken result }
     ensures serves { (s : Setting) (before : Before) (r : ServeState)
         → Stands s before (standing node.old (L.state link.old).contents (O.state out.old).taken
         (D.state disk.old).moments sent.old) r
@@ -138,8 +144,9 @@ pub fn tick_times<D: Disk, L: Link, O: Sink>(
     ensures store { IfErr result (λ e. e ≡ ServeFault.StoreFault
         → Rose (D.state disk.old).faults (D.state disk.new).faults) }
     ensures closed { OnOk result (node.new.signer.closed ≡ node.old.signer.closed) }
-    ensures spends { GoesOn node.old.signer node.new.signer (D.state disk.old).moments
-        (D.state disk.new).moments }
+    ensures spends { GoesOn node.old.signer node.new.signer
+        (D.state disk.old).moments (D.state disk.new).moments
+        (O.state out.old).taken (O.state out.new).taken result }
     ensures serves { (s : Setting) (before : Before) (r : ServeState)
         → Stands s before (standing node.old (L.state link.old).contents (O.state out.old).taken
         (D.state disk.old).moments sent.old) r

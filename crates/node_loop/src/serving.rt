@@ -7,7 +7,8 @@ ghost use Rattle.node_core.specs.Playing.{IsNode};
 ghost use Rattle.node_rules.specs.Nodes.{Setting, Node as RulesNode};
 ghost use Rattle.node_loop.specs.Turns.{life_acts};
 ghost use Rattle.node_loop.specs.Courses.{served_from};
-ghost use Rattle.node_loop.specs.Writing.{GoesOn, before_all, is_open_after, is_write_fault, standing};
+ghost use Rattle.node_loop.specs.Lines.{GoesOn};
+ghost use Rattle.node_loop.specs.Writing.{before_all, is_open_after, is_write_fault, standing};
 ghost use Rattle.node_loop.specs.Serving.{Serves};
 
 use crate::fault::ServeFault;
@@ -51,8 +52,9 @@ pub fn serve<D: Disk, L: Link, C: Clock, O: Sink>(
     ensures store_fault { IfErr result (λ e. e ≡ ServeFault.StoreFault
         → Rose (D.state disk.old).faults (D.state disk.new).faults) }
     ensures closed { OnOk result (node.new.signer.closed ≡ node.old.signer.closed) }
-    ensures spends { GoesOn node.old.signer node.new.signer (D.state disk.old).moments
-        (D.state disk.new).moments }
+    ensures spends { GoesOn node.old.signer node.new.signer
+        (D.state disk.old).moments (D.state disk.new).moments
+        (O.state out.old).taken (O.state out.new).taken result }
     ensures serves { (s : Setting) (n : RulesNode) (link_told : LinkState) (readings : List ℕ)
         → IsNode s node.old n → (L.state link.old).contents ≡ Some link_told
         → (C.state clock.old).coming ≡ Some readings

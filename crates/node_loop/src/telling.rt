@@ -1,12 +1,14 @@
 //! What a call reported is written, line by line, and each of its datagrams is sent behind its line.
 
-ghost use Rattle.std.specs.Prelude.{◌≡◌, ◌≢◌, true, List, Some, None, MatchOption, IfErr, unwrap_or};
+ghost use Rattle.std.specs.Prelude.{◌≡◌, ◌≢◌, true, List, [], Some, None, MatchOption, IfErr, unwrap_or};
 ghost use Rattle.std.specs.Option.{option_map};
 ghost use Rattle.ports.specs.Count.{counted};
 ghost use Rattle.ports.specs.Disk.{Moment};
+ghost use Rattle.node_core.specs.Spending.{spent_by, spent_told};
 ghost use Rattle.validate.specs.Certified.{certificate_of as kept_certificate};
 ghost use Rattle.journal.specs.declared.event.What.TheVariants as kinds;
 ghost use Rattle.node_loop.specs.Courses.{ServeState, datagram_in, line_of, sends_one, tells, tells_all};
+ghost use Rattle.node_loop.specs.Lines.{WritesSpent};
 ghost use Rattle.node_loop.specs.Writing.{Before, Extends, HandsOver, IsAt, Tells, WritesLine, is_lost, is_open_after, is_write_fault, standing};
 
 use crate::fault::ServeFault;
@@ -103,6 +105,8 @@ fn send_one<L: Link, O: Sink>(
         moments sent.new) (sends_one moment to bytes.now r) result }
     ensures extends { Extends (O.state out.old).taken (O.state out.new).taken
         (L.state link.old).contents (L.state link.new).contents }
+    ensures spent { WritesSpent [] (O.state out.old).taken
+        (O.state out.new).taken result }
 {
     let number = *sent;
     write_sent(alloc, out, moment, number, to, bytes)?;
@@ -140,6 +144,8 @@ fn tell<L: Link, O: Sink>(
         moments sent.new) (tells r event.now) result }
     ensures extends { Extends (O.state out.old).taken (O.state out.new).taken
         (L.state link.old).contents (L.state link.new).contents }
+    ensures spent { WritesSpent (spent_by event.now.what) (O.state out.old).taken
+        (O.state out.new).taken result }
 {
     match datagram_in(&event.what) {
         Some(datagram) => send_one(
@@ -177,6 +183,8 @@ pub fn tell_all<L: Link, O: Sink>(
         moments sent.new) (tells_all events.now r) result }
     ensures extends { Extends (O.state out.old).taken (O.state out.new).taken
         (L.state link.old).contents (L.state link.new).contents }
+    ensures spent { WritesSpent (spent_told events.now) (O.state out.old).taken
+        (O.state out.new).taken result }
 {
     for event in events {
         tell(alloc, node, link, out, sent, event)?;

@@ -6,7 +6,8 @@ ghost use Rattle.node_rules.specs.Nodes.{Setting};
 ghost use Rattle.journal.specs.Turns.{turn_text};
 ghost use Rattle.node_loop.specs.Turns.{Outlook, after_turn, delivery_of, room, ticks_owed, turn_acts, turn_in};
 ghost use Rattle.node_loop.specs.Courses.{ServeState, served, with_feed};
-ghost use Rattle.node_loop.specs.Writing.{Before, GoesOn, Hears, Stands, WritesLine, has_failed, is_open_after, is_write_fault, standing};
+ghost use Rattle.node_loop.specs.Lines.{GoesOn};
+ghost use Rattle.node_loop.specs.Writing.{Before, Hears, Stands, WritesLine, has_failed, is_open_after, is_write_fault, standing};
 ghost use Rattle.node_loop.specs.Serving.{Sees, Serves};
 
 use crate::calls::{deliver, tick_times};
@@ -102,8 +103,9 @@ fn deliver_heard<D: Disk, L: Link, O: Sink>(
     ensures store { IfErr result (λ e. e ≡ ServeFault.StoreFault
         → Rose (D.state disk.old).faults (D.state disk.new).faults) }
     ensures closed { OnOk result (node.new.signer.closed ≡ node.old.signer.closed) }
-    ensures spends { GoesOn node.old.signer node.new.signer (D.state disk.old).moments
-        (D.state disk.new).moments }
+    ensures spends { GoesOn node.old.signer node.new.signer
+        (D.state disk.old).moments (D.state disk.new).moments
+        (O.state out.old).taken (O.state out.new).taken result }
     ensures serves { (s : Setting) (before : Before) (r : ServeState)
         → Stands s before (standing node.old (L.state link.old).contents (O.state out.old).taken
         (D.state disk.old).moments sent.old) r
@@ -144,8 +146,9 @@ pub fn turn<D: Disk, L: Link, C: Clock, O: Sink>(
     ensures kept { (progress.new.base ≡ progress.old.base)
         × (progress.new.millis ≡ progress.old.millis) }
     ensures closed { OnOk result (node.new.signer.closed ≡ node.old.signer.closed) }
-    ensures spends { GoesOn node.old.signer node.new.signer (D.state disk.old).moments
-        (D.state disk.new).moments }
+    ensures spends { GoesOn node.old.signer node.new.signer
+        (D.state disk.old).moments (D.state disk.new).moments
+        (O.state out.old).taken (O.state out.new).taken result }
     ensures serves { (s : Setting) (before : Before) (r : ServeState) (o : Outlook)
         → Stands s before (standing node.old (L.state link.old).contents (O.state out.old).taken
         (D.state disk.old).moments progress.old.sent) r

@@ -1,6 +1,7 @@
 use Rattle.std.proofs.Common.{refl}
 use Rattle.node_command.specs.Journal.{environment}
 use Rattle.node_command.proofs.LiveLemmas.{behind-so, lived-whole, served-part, served-so, unended}
+use Rattle.node_command.proofs.SpendLemmas.{served-spends, unended-spends, unserved-spends}
 use Rattle.node_command.proofs.living.serve_to_end.Goals as goal
 
 pub returns-in-Ok-write_all-clause-lives : goal.returns-in-Ok-write_all-clause-lives
@@ -33,3 +34,12 @@ returns-clause-behind g c = rw c.from.ensures (behind-so c.in-Err.fault)
 
 pub returns-clause-served : goal.returns-clause-served
 returns-clause-served g c = rw c.from.ensures (served-so c.in-Err.fault)
+
+pub returns-in-Ok-write_all-clause-spends : goal.returns-in-Ok-write_all-clause-spends
+returns-in-Ok-write_all-clause-spends g c = served-spends _ _ _ _ _ _ _ _ c.in-Ok.ensures.spends c.in-Ok-write_all.ensures.wrote
+
+pub returns-in-Ok-clause-spends : goal.returns-in-Ok-clause-spends
+returns-in-Ok-clause-spends g c = unended-spends _ _ _ _ _ _ _ _ c.in-Ok.ensures.spends c.in-Err-write_all.ensures.wrote
+
+pub returns-clause-spends : goal.returns-clause-spends
+returns-clause-spends g c = rw c.from.ensures (unserved-spends _ _ _ _ _ _ c.in-Err.fault c.in-Err.ensures.spends)

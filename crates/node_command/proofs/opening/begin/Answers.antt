@@ -2,8 +2,9 @@ use Rattle.std.proofs.Common.{◌≡◌, ◌≤◌, ◌∙◌, [], ap, arith}
 use Rattle.lms_tree.specs.Leaves.{index_count}
 use Rattle.secrets.specs.Secrets.{nonce_seed, store_tag}
 use Rattle.epoch_store.specs.declared.Stored.{Stored}
+use Rattle.node_core.specs.Playing.{Kept}
 use Rattle.node_command.specs.Members.{tag_of}
-use Rattle.node_command.proofs.OpenLemmas.{opened, used-up, signer_of, started-from, not-started-from}
+use Rattle.node_command.proofs.OpenLemmas.{file-started, opened, used-up, signer_of, started-from, not-started-from}
 use Rattle.node_command.proofs.opening.begin.Goals as goal
 
 pub returns-then-next-index_count : goal.returns-then-next-index_count
@@ -16,7 +17,7 @@ returns-then-next-index_count g c =
     let next : c.state-next.result.next ≡ c.in-Ok.store.state.next = ap (λ (s : Stored). s.next) c.state-next.ensures.value in
     let count = ap index_count c.split-tree.ensures.tree in
     let gone : index_count m.own.key ≤ c.state-next.result.next = let a = c.if-next-index_count.true in let b = c.index_count.ensures.value in omega (arith, a, b, count) in
-    record { begins = used-up m c.in-Ok.store old mid [] c.state-next.result.next h next gone }
+    record { opened = tt; begins = used-up m c.in-Ok.store old mid [] c.state-next.result.next h next gone }
 
 pub open-signer-requires-clause-within : goal.open-signer-requires-clause-within
 open-signer-requires-clause-within g c =
@@ -38,6 +39,7 @@ returns-in-Ok-start g c =
     let seed : c.nonce_seed.result ≡ nonce_seed m.own.secret st.state.next = c.nonce_seed.ensures ∙ ap (nonce_seed m.own.secret) next in
     let e = c.in-Ok-start.ensures in
     record {
+      opened = tt;
       begins = started-from m st c.in-Ok-start.node c.start.new.events c.args.events.now old mid new c.open-signer.result c.nonce_seed.result h is seed c.requires.untold
           c.open-signer.ensures.begins e.faults e.starts e.vouchable e.going e.closed e.spends;
     }
@@ -54,6 +56,7 @@ returns-in-Err-start g c =
     let is : c.open-signer.result ≡ signer_of m st = c.open-signer.ensures.value ∙ ap (λ k. record (signer_of m st) { key = k }) c.split-tree.ensures.tree in
     let e = c.in-Err-start.ensures in
     record {
+      opened = rw c.from-in-Err-start.ensures (file-started Kept c.args.name.now old new c.in-Err-start.fault);
       begins = rw c.from-in-Err-start.ensures
           (not-started-from m st c.start.new.events old mid new c.open-signer.result c.in-Err-start.fault h is c.open-signer.ensures.begins e.faults e.cause e.spends);
     }

@@ -1,8 +1,11 @@
-use Rattle.std.proofs.Common.{◌∙◌, ap, sym}
+use Rattle.std.proofs.Common.{◌∙◌, ap, inr, sym}
 use Rattle.ports.specs.Count.{counted}
+use Rattle.node_core.specs.Playing.{Kept}
 use Rattle.node_command.specs.Journal.{environment, bound_for}
 use Rattle.node_command.specs.Opening.{setting_for, start_of}
+use Rattle.node_command.proofs.OpenLemmas.{file-behind, file-served}
 use Rattle.node_command.proofs.RunLemmas.{begins-behind, begins-bound, begins-cause, begins-rose, begins-writable, begun-unsent, calm-behind, lived-run, not-begun, rose-behind, served-cause}
+use Rattle.node_command.proofs.SpendLemmas.{begun-spends, unbegun-spends}
 use Rattle.node_command.proofs.running.begin_and_live.Goals as goal
 
 pub live-requires-clause-unsent : goal.live-requires-clause-unsent
@@ -21,6 +24,13 @@ returns-in-Ok-clause-runs g c = λ feed link_is coming_is reading_is turns_is.
     (environment (g.O.Sink.state c.live.new.out).taken (g.L.Link.state c.live.new.link).contents (g.D.Disk.state c.live.new.disk))
     (g.D.Disk.state c.begin.new.disk) c.live.result (g.C.Clock.state c.args.clock.now).reading c.args.turns reading_is turns_is c.in-Ok.ensures.begins.1
     (c.live.ensures.lives (setting_for c.args.member) (start_of c.args.member c.in-Ok.ensures.begins.0).node (bound_for c.args.member feed.link) feed.readings c.in-Ok.ensures.begins.1.is link_is coming_is)
+
+pub returns-in-Ok-clause-spends : goal.returns-in-Ok-clause-spends
+returns-in-Ok-clause-spends g c =
+    inr (begun-spends c.args.member c.in-Ok.ensures.begins.0 c.in-Ok.node c.begin.new.events _ _ _ (g.D.Disk.state c.begin.new.disk) _ c.live.result c.in-Ok.ensures.begins.1 c.live.ensures.spends)
+
+pub returns-clause-spends : goal.returns-clause-spends
+returns-clause-spends g c = unbegun-spends c.args.member _ _ _ c.begin.new.events c.in-Err.halt c.in-Err.ensures.begins
 
 pub returns-clause-sink : goal.returns-clause-sink
 returns-clause-sink g c = c.requires.sink ∙ sym (begins-writable c.args.member _ _ c.begin.new.events c.in-Err.halt c.in-Err.ensures.begins).0
@@ -49,3 +59,9 @@ returns-in-Ok-clause-cause g c =
 
 pub returns-clause-cause : goal.returns-clause-cause
 returns-clause-cause g c = begins-cause c.args.member _ _ c.begin.new.events c.in-Err.halt c.in-Err.ensures.begins
+
+pub returns-in-Ok-clause-opened : goal.returns-in-Ok-clause-opened
+returns-in-Ok-clause-opened g c = file-served c.args.name.now (g.D.Disk.state c.args.disk.now) (g.D.Disk.state c.live.new.disk) c.live.result c.live.ensures.served
+
+pub returns-clause-opened : goal.returns-clause-opened
+returns-clause-opened g c = file-behind Kept (Unit {0}) c.args.name.now (g.D.Disk.state c.args.disk.now) (g.D.Disk.state c.begin.new.disk) c.in-Err.halt c.in-Err.ensures.opened

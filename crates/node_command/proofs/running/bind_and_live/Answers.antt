@@ -1,5 +1,6 @@
 use Rattle.std.proofs.Common.{inl}
 use Rattle.node_command.proofs.RunLemmas.{bound, run-behind, unbound, unbound-starved}
+use Rattle.node_command.proofs.SpendLemmas.{same-spends}
 use Rattle.node_command.proofs.running.bind_and_live.Goals as goal
 
 pub returns-in-Done-clause-runs : goal.returns-in-Done-clause-runs
@@ -16,3 +17,9 @@ returns-in-Failed-clause-runs g c = λ feed link_is coming_is reading_is turns_i
 pub returns-in-OutOfMemory-clause-runs : goal.returns-in-OutOfMemory-clause-runs
 returns-in-OutOfMemory-clause-runs g c = λ feed link_is coming_is reading_is turns_is.
     inl (unbound-starved (g.O.Sink.state c.args.out.now).taken (g.L.Link.state c.args.link.now).contents (g.L.Link.state c.bind.new.self).contents (g.D.Disk.state c.args.disk.now) feed.link c.port.result link_is c.in-OutOfMemory.ensures.binds)
+
+pub returns-in-Failed-clause-spends : goal.returns-in-Failed-clause-spends
+returns-in-Failed-clause-spends g c = inl (same-spends (g.O.Sink.state c.args.out.now).taken (g.D.Disk.state c.args.disk.now))
+
+pub returns-in-OutOfMemory-clause-spends : goal.returns-in-OutOfMemory-clause-spends
+returns-in-OutOfMemory-clause-spends g c = inl (same-spends (g.O.Sink.state c.args.out.now).taken (g.D.Disk.state c.args.disk.now))

@@ -6,7 +6,9 @@ use Rattle.node_command.specs.declared.halt.NodeHalt.TheVariants as halt
 use Rattle.node_command.specs.Halts.{is_writable}
 use Rattle.node_command.specs.Journal.{environment}
 use Rattle.node_command.specs.Running.{IsCaused}
+use Rattle.node_command.proofs.OpenLemmas.{file-unread}
 use Rattle.node_command.proofs.RunLemmas.{cut-cause, cut-takes, read-cause, same-out, stop-unlinked, stop-unstored, unread, unread-writable, went, whole-takes}
+use Rattle.node_command.proofs.SpendLemmas.{cut-spends, read-spends, ungathered-spends}
 use Rattle.node_command.proofs.running.read_and_run.Goals as goal
 
 pub member_of-requires : goal.member_of-requires
@@ -70,3 +72,19 @@ pub returns-in-Ok-member_of-clause-cause : goal.returns-in-Ok-member_of-clause-c
 returns-in-Ok-member_of-clause-cause g c =
     read-cause _ _ c.in-Ok-member_of.member (g.D.Disk.state c.args.disk.now) (g.D.Disk.state c.bind_and_live.new.disk) c.bind_and_live.result
     (record { lines = c.in-Ok.lines.items; whole = c.in-Ok.ensures.whole; is = c.in-Ok-member_of.ensures.value; sound = c.in-Ok-member_of.ensures.sound }) c.bind_and_live.ensures.cause
+
+pub returns-in-Err-clause-spends : goal.returns-in-Err-clause-spends
+returns-in-Err-clause-spends g c = cut-spends _ _ (g.D.Disk.state c.args.disk.now) c.in-Err.stop _ c.in-Err.ensures.unfinished
+
+pub returns-in-Err-member_of-clause-spends : goal.returns-in-Err-member_of-clause-spends
+returns-in-Err-member_of-clause-spends g c = ungathered-spends _ _ c.in-Ok.lines.items (g.D.Disk.state c.args.disk.now) _ c.in-Ok.ensures.whole
+
+pub returns-in-Ok-member_of-clause-spends : goal.returns-in-Ok-member_of-clause-spends
+returns-in-Ok-member_of-clause-spends g c =
+    let between = io (g.S.Source.state c.read_whole.new.input) (g.O.Sink.state c.read_whole.new.out) in
+    let now = io (g.S.Source.state c.read_whole.new.input) (g.O.Sink.state c.bind_and_live.new.out) in
+    read-spends _ between now c.in-Ok-member_of.member (g.D.Disk.state c.args.disk.now) (g.D.Disk.state c.bind_and_live.new.disk) c.bind_and_live.result
+    (record { lines = c.in-Ok.lines.items; whole = c.in-Ok.ensures.whole; is = c.in-Ok-member_of.ensures.value; sound = c.in-Ok-member_of.ensures.sound }) c.bind_and_live.ensures.spends
+
+pub returns-in-Err-clause-opened : goal.returns-in-Err-clause-opened
+returns-in-Err-clause-opened g c = rw c.from.ensures (file-unread c.args.name.now (g.D.Disk.state c.args.disk.now) (g.D.Disk.state c.args.disk.now) c.in-Err.stop)

@@ -5,7 +5,18 @@ use Rattle.node_core.specs.Playing.{Kept}
 use Rattle.node_rules.specs.OnDisks.{Delivers}
 use Rattle.node_core.specs.Spending.{SpendsIn}
 use Rattle.node_loop.proofs.CallLemmas.{lent, lent-none, serves-call}
+use Rattle.node_loop.proofs.LineLemmas.{goes-by}
 use Rattle.node_loop.proofs.calls.deliver.Goals as goal
+
+pub returns-clause-spends : goal.returns-clause-spends
+returns-clause-spends g c =
+    let v : Kept = c.deliver-done.new.self in
+    let events : List journal.Event = c.deliver-done.new.events in
+    let done = c.deliver-done.result in
+    let older = (g.D.Disk.state c.args.disk.now).moments in
+    let newer = (g.D.Disk.state c.deliver-done.new.disk).moments in
+    let spends = subst (λ (es : List journal.Event). SpendsIn done c.args.node.now.signer v.signer older newer es events) c.new-events.ensures c.deliver-done.ensures.spends in
+    goes-by done c.args.node.now.signer v.signer older newer events (g.O.Sink.state c.args.out.now).taken (g.O.Sink.state c.settle.new.out).taken c.settle.result spends c.settle.ensures.answers c.settle.ensures.spent
 
 pub returns-clause-serves : goal.returns-clause-serves
 returns-clause-serves g c = λ s before r at.

@@ -1,19 +1,30 @@
-use Rattle.std.proofs.Common.{ℕ, List, subst, ap, arith}
+use Rattle.std.proofs.Common.{ℕ, List, Ok, subst, ap, arith}
 use Rattle.journal.specs.declared.event.Event as journal
 use Rattle.node_core.specs.Answers.{CallerBuffers, GivesCall}
 use Rattle.node_rules.specs.OnDisks.{Ticks}
 use Rattle.node_core.specs.Playing.{Kept}
 use Rattle.node_core.specs.Spending.{SpendsIn}
-use Rattle.node_loop.proofs.CallLemmas.{goes-same, lent, lent-none, may-count, may-not, no-tick, serves-call, tick-acted}
+use Rattle.node_loop.proofs.CallLemmas.{lent, lent-none, may-count, may-not, no-tick, serves-call, tick-acted}
+use Rattle.node_loop.proofs.LineLemmas.{goes-by, goes-same}
 use Rattle.node_loop.proofs.calls.tick.Goals as goal
 
 pub returns-then-now-eq18446744073709551615-clause-spends : goal.returns-then-now-eq18446744073709551615-clause-spends
-returns-then-now-eq18446744073709551615-clause-spends g c = goes-same c.args.node.now.signer (g.D.Disk.state c.args.disk.now).moments
+returns-then-now-eq18446744073709551615-clause-spends g c = goes-same c.args.node.now.signer (g.D.Disk.state c.args.disk.now).moments (g.O.Sink.state c.args.out.now).taken (Ok tt)
 
 pub returns-then-now-eq18446744073709551615-clause-serves : goal.returns-then-now-eq18446744073709551615-clause-serves
 returns-then-now-eq18446744073709551615-clause-serves g c = λ s before r at.
     let moment = ap (λ x. x.moment) c.membership.ensures in
     no-tick s before _ r (may-not s before _ r at (omega (arith, moment, c.now.ensures.moment, c.if-now-eq18446744073709551615.true))) at
+
+pub returns-clause-spends : goal.returns-clause-spends
+returns-clause-spends g c =
+    let v : Kept = c.tick-done.new.self in
+    let events : List journal.Event = c.tick-done.new.events in
+    let done = c.tick-done.result in
+    let older = (g.D.Disk.state c.args.disk.now).moments in
+    let newer = (g.D.Disk.state c.tick-done.new.disk).moments in
+    let spends = subst (λ (es : List journal.Event). SpendsIn done c.args.node.now.signer v.signer older newer es events) c.new-events.ensures c.tick-done.ensures.spends in
+    goes-by done c.args.node.now.signer v.signer older newer events (g.O.Sink.state c.args.out.now).taken (g.O.Sink.state c.settle.new.out).taken c.settle.result spends c.settle.ensures.answers c.settle.ensures.spent
 
 pub returns-clause-serves : goal.returns-clause-serves
 returns-clause-serves g c = λ s before r at.

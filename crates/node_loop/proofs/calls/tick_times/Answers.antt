@@ -1,4 +1,4 @@
-use Rattle.std.proofs.Common.{◌≡◌, ℕ, Err, subst, sym, ap, ◌∙◌, refl, arith}
+use Rattle.std.proofs.Common.{◌≡◌, ℕ, Ok, Err, subst, sym, ap, ◌∙◌, refl, arith}
 use Rattle.std.specs.Prelude.{IfErr}
 use Rattle.ports.specs.Count.{Rose, counted}
 use Rattle.node_loop.specs.declared.fault.ServeFault.{ServeFault}
@@ -7,7 +7,7 @@ use Rattle.node_loop.specs.Turns.{ticks_of}
 use Rattle.node_loop.specs.Courses.{served}
 use Rattle.node_loop.specs.Serving.{Serves}
 use Rattle.node_loop.specs.Writing.{Stands, Standing, is_write_fault, standing}
-use Rattle.node_loop.proofs.CallLemmas.{goes-same, goes-trans}
+use Rattle.node_loop.proofs.LineLemmas.{goes-as, goes-same, goes-trans}
 use Rattle.node_loop.proofs.SendLemmas.{thrown}
 use Rattle.node_loop.proofs.TurnLemmas.{tick-ended, ticked-none, ticked-on}
 use Rattle.node_loop.proofs.calls.tick_times.Goals as goal
@@ -19,7 +19,7 @@ loop-done-init g c = record {
   calm = refl;
   faults = refl;
   closed = refl;
-  goes = goes-same c.args.node.now.signer (g.D.Disk.state c.args.disk.now).moments;
+  goes = goes-same c.args.node.now.signer (g.D.Disk.state c.args.disk.now).moments (g.O.Sink.state c.args.out.now).taken (Ok tt);
   ticked = λ s before r at. ticked-none s before _ r at;
 }
 
@@ -32,7 +32,7 @@ loop-done-preserved g c =
       calm = c.in_ok-tick.ensures.no_disk_fault ∙ h.calm;
       faults = c.in_ok-tick.ensures.faults ∙ h.faults;
       closed = c.in_ok-tick.ensures.closed ∙ h.closed;
-      goes = goes-trans _ _ _ _ _ _ h.goes c.in_ok-tick.ensures.spends;
+      goes = goes-trans _ _ _ _ _ _ _ _ _ _ h.goes c.in_ok-tick.ensures.spends;
       ticked = λ s before r at. ticked-on s before _ r c.loop-done._done (c.in_ok-tick.ensures.serves s before (served s (ticks_of c.loop-done._done) r) (h.ticked s before r at));
     }
 
@@ -49,7 +49,10 @@ returns-in_err-tick-clause-store g c =
     subst (λ x. IfErr x (λ y. y ≡ faults.StoreFault → Rose (g.D.Disk.state c.args.disk.now).faults (g.D.Disk.state c.tick.new.disk).faults)) (sym (thrown c.from_residual.result e c.from_residual.ensures.1)) rose
 
 pub returns-in_err-tick-clause-spends : goal.returns-in_err-tick-clause-spends
-returns-in_err-tick-clause-spends g c = goes-trans _ _ _ _ _ _ c.loop-done.invariant.goes c.in_err-tick.ensures.spends
+returns-in_err-tick-clause-spends g c =
+    let e : ServeFault = c.in_err-tick.field-0.0 in
+    goes-as _ _ _ _ _ _ c.from_residual.result (Err e) (thrown c.from_residual.result e c.from_residual.ensures.1)
+    (goes-trans _ _ _ _ _ _ _ _ _ (Err e) c.loop-done.invariant.goes c.in_err-tick.ensures.spends)
 
 pub returns-in_err-tick-clause-serves : goal.returns-in_err-tick-clause-serves
 returns-in_err-tick-clause-serves g c = λ s before r at.

@@ -1,4 +1,4 @@
-use Rattle.std.proofs.Common.{◌≡◌, ◌+◌, ℕ, length, Err, subst, sym, ap, ◌∙◌, refl, arith}
+use Rattle.std.proofs.Common.{◌≡◌, ◌+◌, ℕ, length, Ok, Err, subst, sym, ap, ◌∙◌, refl, arith}
 use Rattle.std.specs.Prelude.{IfErr}
 use Rattle.ports.specs.Count.{Rose}
 use Rattle.node_loop.specs.declared.fault.ServeFault.{ServeFault}
@@ -7,14 +7,14 @@ use Rattle.node_loop.specs.Turns.{Outlook, room, after_turn, life_acts, turn_act
 use Rattle.node_loop.specs.Courses.{ServeState, served, served_from}
 use Rattle.node_loop.specs.Serving.{Sees, Serves}
 use Rattle.node_loop.specs.Writing.{Before, Stands, Standing, before_all, standing}
-use Rattle.node_loop.proofs.CallLemmas.{goes-same, goes-trans}
+use Rattle.node_loop.proofs.LineLemmas.{goes-as, goes-same, goes-trans}
 use Rattle.node_loop.proofs.SendLemmas.{thrown}
 use Rattle.node_loop.proofs.TellLemmas.{at-within}
 use Rattle.node_loop.proofs.TurnLemmas.{Turned, at-pace, base-read, begins-at, begins-seeing, first_outlook, length-kept, life-is, turned-ends, turned-first, turned-last, turned-next, unheard-turn}
 use Rattle.node_loop.proofs.serving.serve.Goals as goal
 
 pub returns-in_default-clause-spends : goal.returns-in_default-clause-spends
-returns-in_default-clause-spends g c = goes-same c.args.node.now.signer (g.D.Disk.state c.args.disk.now).moments
+returns-in_default-clause-spends g c = goes-same c.args.node.now.signer (g.D.Disk.state c.args.disk.now).moments (g.O.Sink.state c.args.out.now).taken _
 
 pub returns-in_default-clause-serves : goal.returns-in_default-clause-serves
 returns-in_default-clause-serves g c = λ s n link_told readings is link_is coming_is.
@@ -39,7 +39,7 @@ loop-done-init g c = record {
   base = refl;
   room = sym c.in-Ok.buf.ok.0 ∙ c.in-Ok.ensures.len;
   closed = refl;
-  goes = goes-same c.args.node.now.signer (g.D.Disk.state c.args.disk.now).moments;
+  goes = goes-same c.args.node.now.signer (g.D.Disk.state c.args.disk.now).moments (g.O.Sink.state c.args.out.now).taken (Ok tt);
   turned = λ s before o start at sees. turned-first s before c.args.millis c.now-base.result c.args.turns o start _ _ _ _ at sees;
 }
 
@@ -56,7 +56,7 @@ loop-done-preserved g c =
       base = c.in_ok-turn.ensures.kept.0 ∙ h.base;
       room = length-kept c.loop-done.buf.len room c.turn.new.buf c.loop-done.buf.items c.loop-done.buf.ok.0 (let a = c.turn.auto.buf in let b = c.deref_mut.ensures.len in let d = c.deref_mut.ensures.value in omega (arith, a, b, ap length d)) h.room;
       closed = c.in_ok-turn.ensures.closed ∙ h.closed;
-      goes = goes-trans _ _ _ _ _ _ h.goes c.in_ok-turn.ensures.spends;
+      goes = goes-trans _ _ _ _ _ _ _ _ _ _ h.goes c.in_ok-turn.ensures.spends;
       turned = λ s before o start at sees.
           let w : Standing = standing c.loop-done.node (g.L.Link.state c.loop-done.link).contents (g.O.Sink.state c.loop-done.out).taken (g.D.Disk.state c.loop-done.disk).moments c.loop-done.progress.sent in
           let w1 : Standing = standing c.turn.new.node (g.L.Link.state c.turn.new.link).contents (g.O.Sink.state c.turn.new.out).taken (g.D.Disk.state c.turn.new.disk).moments c.turn.new.progress.sent in
@@ -84,7 +84,10 @@ returns-in_err-turn-clause-store_fault g c =
     subst (λ x. IfErr x (λ y. y ≡ faults.StoreFault → Rose older newer)) (sym (thrown c.from_residual.result e c.from_residual.ensures.1)) rose
 
 pub returns-in_err-turn-clause-spends : goal.returns-in_err-turn-clause-spends
-returns-in_err-turn-clause-spends g c = goes-trans _ _ _ _ _ _ c.loop-done.invariant.goes c.in_err-turn.ensures.spends
+returns-in_err-turn-clause-spends g c =
+    let e : ServeFault = c.in_err-turn.field-0.0 in
+    goes-as _ _ _ _ _ _ c.from_residual.result (Err e) (thrown c.from_residual.result e c.from_residual.ensures.1)
+    (goes-trans _ _ _ _ _ _ _ _ _ (Err e) c.loop-done.invariant.goes c.in_err-turn.ensures.spends)
 
 pub returns-in_err-turn-clause-serves : goal.returns-in_err-turn-clause-serves
 returns-in_err-turn-clause-serves g c = λ s n link_told readings is link_is coming_is.

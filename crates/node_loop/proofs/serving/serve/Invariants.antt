@@ -1,9 +1,10 @@
-use Rattle.std.proofs.Common.{◌≡◌, true, false, length}
+use Rattle.std.proofs.Common.{◌≡◌, Ok, true, false, length}
 use Rattle.node_rules.specs.Nodes.{Setting}
 use Rattle.node_loop.specs.Turns.{Outlook, room}
 use Rattle.node_loop.specs.Courses.{ServeState}
 use Rattle.node_loop.specs.Serving.{Sees}
-use Rattle.node_loop.specs.Writing.{Before, GoesOn, Stands, standing}
+use Rattle.node_loop.specs.Lines.{GoesOn}
+use Rattle.node_loop.specs.Writing.{Before, Stands, standing}
 use Rattle.node_loop.proofs.TurnLemmas.{Turned}
 use Rattle.node_loop.proofs.serving.serve.Given as goal
 
@@ -17,7 +18,7 @@ invariant-loop-done g l = record {
   base : l.progress.base ≡ l.base;
   room : length l.buf.items ≡ room;
   closed : l.node.signer.closed ≡ l.initial.node.signer.closed;
-  goes : GoesOn l.initial.node.signer l.node.signer (g.D.Disk.state l.initial.disk).moments (g.D.Disk.state l.disk).moments;
+  goes : GoesOn l.initial.node.signer l.node.signer (g.D.Disk.state l.initial.disk).moments (g.D.Disk.state l.disk).moments (g.O.Sink.state l.initial.out).taken (g.O.Sink.state l.out).taken (Ok tt);
   turned : (s : Setting) (before : Before) (o : Outlook) (start : ServeState)
       → Stands s before (standing l.initial.node (g.L.Link.state l.initial.link).contents (g.O.Sink.state l.initial.out).taken (g.D.Disk.state l.initial.disk).moments 0) start
       → Sees o start (g.C.Clock.state l.initial.clock).reading (g.C.Clock.state l.initial.clock).coming 0

@@ -1,10 +1,12 @@
-use Rattle.std.proofs.Common.{◌≡◌, true, false, Ok, Err, subst, sym, ◌∙◌}
+use Rattle.std.proofs.Common.{◌≡◌, [], true, false, Ok, Err, subst, sym, ◌∙◌}
 use Rattle.journal.specs.declared.event.What.TheVariants as kinds
 use Rattle.node_loop.specs.declared.fault.ServeFault.{ServeFault}
 use Rattle.node_loop.specs.Courses.{ServeState, fails_next, hands_over, line_of, sends_one, writes_event}
+use Rattle.node_loop.specs.Lines.{WritesSpent}
 use Rattle.node_loop.specs.Writing.{IsAt, Standing, Tells, standing}
 use Rattle.node_loop.proofs.TellLemmas.{extends-handed, extends-line, extends-trans, handed, lost-is, not-handed}
 use Rattle.node_loop.proofs.SendLemmas.{got-lost, sent-line, thrown, unsent, went-out, within-sent}
+use Rattle.node_loop.proofs.LineLemmas.{spent-behind, spent-event, spent-trans}
 use Rattle.node_loop.proofs.telling.send_one.Goals as goal
 
 pub returns-in_err-write_sent-clause-tells : goal.returns-in_err-write_sent-clause-tells
@@ -67,3 +69,31 @@ returns-in-Err-clause-tells g c = λ before moments r at.
     let r1 : ServeState = writes_event c.args.moment (kinds.Sent r.sent c.args.to c.args.bytes.now) r in
     within-sent before (standing v l1 t1 moments c.args.sent.now) c.args.moment c.args.to c.args.bytes.now r
     (not-handed before v l0 l1 t1 moments c.args.sent.now _ c.args.bytes.now r1 c.in-Err.field-0 line c.in-Err.ensures.given)
+
+pub returns-in_err-write_sent-clause-spent : goal.returns-in_err-write_sent-clause-spent
+returns-in_err-write_sent-clause-spent g c =
+    let e : ServeFault = c.in_err-write_sent.field-0.0 in
+    let before = (g.O.Sink.state c.args.out.now).taken in
+    let after = (g.O.Sink.state c.write_sent.new.out).taken in
+    subst (λ x. WritesSpent [] before after x) (sym (thrown c.from_residual.result e c.from_residual.ensures.1))
+    (spent-event before after (record { moment = c.args.moment; what = kinds.Sent c.args.sent.now c.args.to c.args.bytes.now }) (Err e) c.in_err-write_sent.ensures.wrote)
+
+pub returns-then-lost-clause-spent : goal.returns-then-lost-clause-spent
+returns-then-lost-clause-spent g c =
+    let t0 = (g.O.Sink.state c.args.out.now).taken in
+    let t1 = (g.O.Sink.state c.write_sent.new.out).taken in
+    let t2 = (g.O.Sink.state c.write_told.new.out).taken in
+    spent-trans [] [] t0 t1 t2 c.write_told.result
+    (spent-event t0 t1 (record { moment = c.args.moment; what = kinds.Sent c.args.sent.now c.args.to c.args.bytes.now }) (Ok c.in_ok-write_sent.field-0) c.in_ok-write_sent.ensures.wrote)
+    (spent-event t1 t2 (record { moment = c.args.moment; what = kinds.Lost c.args.sent.now }) c.write_told.result c.write_told.ensures.wrote)
+
+pub returns-else-lost-clause-spent : goal.returns-else-lost-clause-spent
+returns-else-lost-clause-spent g c =
+    spent-event (g.O.Sink.state c.args.out.now).taken (g.O.Sink.state c.write_sent.new.out).taken
+    (record { moment = c.args.moment; what = kinds.Sent c.args.sent.now c.args.to c.args.bytes.now }) (Ok c.in_ok-write_sent.field-0) c.in_ok-write_sent.ensures.wrote
+
+pub returns-in-Err-clause-spent : goal.returns-in-Err-clause-spent
+returns-in-Err-clause-spent g c =
+    spent-behind [] (g.O.Sink.state c.args.out.now).taken (g.O.Sink.state c.write_sent.new.out).taken _
+    (spent-event (g.O.Sink.state c.args.out.now).taken (g.O.Sink.state c.write_sent.new.out).taken
+    (record { moment = c.args.moment; what = kinds.Sent c.args.sent.now c.args.to c.args.bytes.now }) (Ok c.in_ok-write_sent.field-0) c.in_ok-write_sent.ensures.wrote)

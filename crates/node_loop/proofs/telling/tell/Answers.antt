@@ -1,8 +1,10 @@
-use Rattle.std.proofs.Common.{◌≡◌, ℕ, List, Some, sym, ap, ◌∙◌}
+use Rattle.std.proofs.Common.{◌≡◌, ℕ, List, [], Some, sym, ap, ◌∙◌}
+use Rattle.node_core.specs.Spending.{spent_by}
 use Rattle.node_loop.specs.Courses.{datagram_in, line_of, sends_one, writes}
 use Rattle.node_loop.specs.Writing.{Standing, standing}
 use Rattle.node_loop.proofs.TellLemmas.{extends-line, written}
 use Rattle.node_loop.proofs.SendLemmas.{tells-sends, tells-writes, told-as}
+use Rattle.node_loop.proofs.LineLemmas.{sent-none, spent-event, spent-same}
 use Rattle.node_loop.proofs.telling.tell.Goals as goal
 
 pub returns-in-Some-clause-tells : goal.returns-in-Some-clause-tells
@@ -23,3 +25,11 @@ returns-in-None-clause-tells g c = λ before moments r at.
 pub returns-in-None-clause-extends : goal.returns-in-None-clause-extends
 returns-in-None-clause-extends g c =
     extends-line (g.O.Sink.state c.args.out.now).taken (g.O.Sink.state c.write_told.new.out).taken (g.L.Link.state c.args.link.now).contents (line_of c.args.event.now) c.write_told.result c.write_told.ensures.wrote
+
+pub returns-in-Some-clause-spent : goal.returns-in-Some-clause-spent
+returns-in-Some-clause-spent g c =
+    spent-same [] (spent_by c.args.event.now.what) _ _ c.send_one.result (sym (sent-none c.args.event.now.what _ c.in-Some.ensures)) c.send_one.ensures.spent
+
+pub returns-in-None-clause-spent : goal.returns-in-None-clause-spent
+returns-in-None-clause-spent g c =
+    spent-event (g.O.Sink.state c.args.out.now).taken (g.O.Sink.state c.write_told.new.out).taken c.args.event.now c.write_told.result c.write_told.ensures.wrote

@@ -6,14 +6,14 @@ use Rattle.node_loop.specs.Turns.{Receives, turn_acts, turn_in}
 use Rattle.node_loop.specs.Courses.{ServeState, acted, with_feed, writes}
 use Rattle.node_loop.specs.Writing.{Stands, Standing, standing}
 use Rattle.node_loop.specs.Serving.{Serves}
-use Rattle.node_loop.proofs.CallLemmas.{goes-same, goes-trans}
+use Rattle.node_loop.proofs.LineLemmas.{goes-as, goes-same, goes-trans, goes-turn}
 use Rattle.node_loop.proofs.SendLemmas.{thrown}
 use Rattle.node_loop.proofs.TellLemmas.{written}
 use Rattle.node_loop.proofs.TurnLemmas.{at-heard, heard-is, on-any, read-next, seen-turn, sees-after, ticked-turn, turn-due, undelivered-turn, unheard-turn, unwritten-turn, within-unheard}
 use Rattle.node_loop.proofs.turns.turn.Goals as goal
 
 pub returns-in_default-clause-spends : goal.returns-in_default-clause-spends
-returns-in_default-clause-spends g c = goes-same c.args.node.now.signer (g.D.Disk.state c.args.disk.now).moments
+returns-in_default-clause-spends g c = goes-same c.args.node.now.signer (g.D.Disk.state c.args.disk.now).moments (g.O.Sink.state c.args.out.now).taken _
 
 pub returns-in_default-clause-serves : goal.returns-in_default-clause-serves
 returns-in_default-clause-serves g c = λ s before r o at sees.
@@ -22,7 +22,11 @@ returns-in_default-clause-serves g c = λ s before r o at sees.
     (within-unheard s before c.args.node.now (g.L.Link.state c.args.link.now).contents (g.L.Link.state c.hear.new.link).contents (g.O.Sink.state c.args.out.now).taken (g.D.Disk.state c.args.disk.now).moments c.args.progress.now.sent r c.in_default.field-0 at c.in_default.ensures.hears)
 
 pub returns-in_err-write_turn_line-clause-spends : goal.returns-in_err-write_turn_line-clause-spends
-returns-in_err-write_turn_line-clause-spends g c = goes-same c.args.node.now.signer (g.D.Disk.state c.args.disk.now).moments
+returns-in_err-write_turn_line-clause-spends g c =
+    let made : Turn = record { number = c.args.number; heard = c.in-Ok.heard; ticks = c.next_ticks-ticks.result } in
+    let e : ServeFault = c.in_err-write_turn_line.field-0.0 in
+    goes-as _ _ _ _ _ _ c.from_residual.result (Err e) (thrown c.from_residual.result e c.from_residual.ensures.1)
+    (goes-turn c.args.node.now.signer (g.D.Disk.state c.args.disk.now).moments _ _ made (Err e) c.in_err-write_turn_line.ensures.wrote)
 
 pub returns-in_err-write_turn_line-clause-serves : goal.returns-in_err-write_turn_line-clause-serves
 returns-in_err-write_turn_line-clause-serves g c = λ s before r o at0 sees.
@@ -73,7 +77,18 @@ returns-in_err-deliver_heard-clause-serves g c = λ s before r o at0 sees.
     (turn-due s before r w made T (Err e) due (undelivered-turn s before w r made e (c.in_err-deliver_heard.ensures.serves s before r1 told)))
 
 pub returns-clause-spends : goal.returns-clause-spends
-returns-clause-spends g c = goes-trans _ _ _ _ _ _ c.deliver_heard.ensures.spends c.tick_times.ensures.spends
+returns-clause-spends g c =
+    let made : Turn = record { number = c.args.number; heard = c.in-Ok.heard; ticks = c.next_ticks-ticks.result } in
+    let line = goes-turn c.args.node.now.signer (g.D.Disk.state c.args.disk.now).moments _ _ made (Ok c.in_ok-write_turn_line.field-0) c.in_ok-write_turn_line.ensures.wrote in
+    goes-trans _ _ _ _ _ _ _ _ _ _ (goes-trans _ _ _ _ _ _ _ _ _ _ line c.in_ok-deliver_heard.ensures.spends) c.tick_times.ensures.spends
+
+pub returns-in_err-deliver_heard-clause-spends : goal.returns-in_err-deliver_heard-clause-spends
+returns-in_err-deliver_heard-clause-spends g c =
+    let made : Turn = record { number = c.args.number; heard = c.in-Ok.heard; ticks = c.next_ticks-ticks.result } in
+    let line = goes-turn c.args.node.now.signer (g.D.Disk.state c.args.disk.now).moments _ _ made (Ok c.in_ok-write_turn_line.field-0) c.in_ok-write_turn_line.ensures.wrote in
+    let e : ServeFault = c.in_err-deliver_heard.field-0.0 in
+    goes-as _ _ _ _ _ _ c.from_residual-in_err-deliver_heard.result (Err e) (thrown c.from_residual-in_err-deliver_heard.result e c.from_residual-in_err-deliver_heard.ensures.1)
+    (goes-trans _ _ _ _ _ _ _ _ _ (Err e) line c.in_err-deliver_heard.ensures.spends)
 
 pub returns-clause-serves : goal.returns-clause-serves
 returns-clause-serves g c = λ s before r o at0 sees.

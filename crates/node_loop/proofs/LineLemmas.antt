@@ -1,0 +1,257 @@
+-- Lines one behind the other, and the signatures that they give.
+use Rattle.std.proofs.Common.{◌≡◌, ℕ, List, [], ◌∷◌, ◌++◌, map, Option, Some, Result, Ok, Err, refl, sym, ap, ◌∙◌, subst, append_assoc, append-nil, take, drop, take-append-drop}
+use Rattle.std.specs.Io.KnownBytes.{Appends}
+use Rattle.std.proofs.KnownBytes.{Appends-nil, Appends-trans}
+use Rattle.std.proofs.lemmas.Bool.{false≢true}
+use Rattle.std.proofs.lemmas.Grind.{flat_map-append}
+use Rattle.journal.specs.declared.event.Event as journal
+use Rattle.journal.specs.declared.event.What as whats
+use Rattle.journal.specs.declared.event.What.TheVariants as told
+use Rattle.journal.specs.declared.turn.Turn.{Turn}
+use Rattle.ports.specs.Disk.{Moment}
+use Rattle.signer.specs.Lives.{Spent}
+use Rattle.signer.specs.Signing.{SignerState}
+use Rattle.node_core.specs.declared.NodeFault.{NodeFault}
+use Rattle.node_core.specs.declared.NodeFault.TheVariants as node
+use Rattle.node_core.specs.Spending.{LivesOn, SpendsIn, spent_by, spent_told}
+use Rattle.node_core.specs.Told.{IsPrefix}
+use Rattle.node_core.proofs.SpendLemmas.{lives-same, lives-trans, told-append}
+use Rattle.node_loop.specs.declared.fault.ServeFault.{ServeFault}
+use Rattle.node_loop.specs.declared.fault.ServeFault.TheVariants as faults
+use Rattle.node_loop.specs.Courses.{datagram_in, line_of}
+use Rattle.node_loop.specs.Lines.{GoesOn, JournalLine, OfEvent, OfTurn, WritesLines, WritesSpent, WroteFront, bytes_of, line_bytes, spent_in, spent_on}
+use Rattle.node_loop.specs.Writing.{Answers, WritesLine}
+
+abbrev Answer : Type 0
+Answer = Result (Unit {0}) ServeFault
+
+-- ---- lines
+
+pub bytes-append : (xs ys : List JournalLine) → bytes_of (xs ++ ys) ≡ bytes_of xs ++ bytes_of ys
+bytes-append xs ys = flat_map-append line_bytes xs ys
+
+pub spent-append : (xs ys : List JournalLine) → spent_in (xs ++ ys) ≡ spent_in xs ++ spent_in ys
+spent-append xs ys = flat_map-append spent_on xs ys
+
+-- the lines of events give what these report
+pub events-spent : (events : List journal.Event) → spent_in (map OfEvent events) ≡ spent_told events
+events-spent [] = refl
+events-spent (e ∷ events) = ap (λ xs. spent_by e.what ++ xs) (events-spent events)
+
+-- a line for each signature
+abbrev given : Spent → JournalLine
+given s = OfEvent (record { moment = 0; what = told.Spent s.index s.body })
+
+given-spent : (spent : List Spent) → spent_in (map given spent) ≡ spent
+given-spent [] = refl
+given-spent (s ∷ spent) = ap (λ xs. s ∷ xs) (given-spent spent)
+
+-- ---- fronts
+
+pub front-all : (before after : Option (List ℕ)) (bytes : List ℕ) → Appends before after bytes → WroteFront before after bytes
+front-all before after bytes h = record { text = bytes; front = record { more = []; is = sym (append-nil bytes) }; written = h }
+
+pub front-none : (taken : Option (List ℕ)) (bytes : List ℕ) → WroteFront taken taken bytes
+front-none taken bytes = record { text = []; front = record { more = bytes; is = refl }; written = Appends-nil taken }
+
+pub front-longer : (before after : Option (List ℕ)) (xs ys : List ℕ) → WroteFront before after xs → WroteFront before after (xs ++ ys)
+front-longer before after xs ys h =
+    record { text = h.text; front = record { more = h.front.more ++ ys; is = ap (λ t. t ++ ys) h.front.is ∙ append_assoc h.text h.front.more ys }; written = h.written }
+
+pub front-behind : (before mid after : Option (List ℕ)) (xs ys : List ℕ) → Appends before mid xs → WroteFront mid after ys → WroteFront before after (xs ++ ys)
+front-behind before mid after xs ys first h =
+    record {
+      text = xs ++ h.text;
+      front = record { more = h.front.more; is = ap (λ t. xs ++ t) h.front.is ∙ sym (append_assoc xs h.text h.front.more) };
+      written = Appends-trans before mid after xs h.text first h.written;
+    }
+
+-- ---- what was written
+
+-- where it broke off, or may have
+pub lines-front : (before after : Option (List ℕ)) (lines : List JournalLine) (answer : Answer) → WritesLines before after lines answer → WroteFront before after (bytes_of lines)
+lines-front before after lines (Ok x) h = front-all before after (bytes_of lines) h
+lines-front before after lines (Err faults.StoreFault) h = front-all before after (bytes_of lines) h
+lines-front before after lines (Err faults.WriteFault) h = h
+lines-front before after lines (Err faults.OutOfMemory) h = h
+
+pub all-lines : (before after : Option (List ℕ)) (lines : List JournalLine) (answer : Answer) → Appends before after (bytes_of lines) → WritesLines before after lines answer
+all-lines before after lines (Ok x) h = h
+all-lines before after lines (Err faults.StoreFault) h = h
+all-lines before after lines (Err faults.WriteFault) h = front-all before after (bytes_of lines) h
+all-lines before after lines (Err faults.OutOfMemory) h = front-all before after (bytes_of lines) h
+
+pub lines-trans : (before mid after : Option (List ℕ)) (xs ys : List JournalLine) (answer : Answer) → Appends before mid (bytes_of xs) → WritesLines mid after ys answer → WritesLines before after (xs ++ ys) answer
+lines-trans before mid after xs ys answer first h = by answer h
+  where
+    whole : Appends mid after (bytes_of ys) → Appends before after (bytes_of (xs ++ ys))
+    whole last = subst (Appends before after) (sym (bytes-append xs ys)) (Appends-trans before mid after (bytes_of xs) (bytes_of ys) first last)
+
+    part : WroteFront mid after (bytes_of ys) → WroteFront before after (bytes_of (xs ++ ys))
+    part last = subst (WroteFront before after) (sym (bytes-append xs ys)) (front-behind before mid after (bytes_of xs) (bytes_of ys) first last)
+
+    by : (answer : Answer) → WritesLines mid after ys answer → WritesLines before after (xs ++ ys) answer
+    by (Ok x) last = whole last
+    by (Err faults.StoreFault) last = whole last
+    by (Err faults.WriteFault) last = part last
+    by (Err faults.OutOfMemory) last = part last
+
+-- lines that were not come to
+pub lines-longer : (before after : Option (List ℕ)) (xs ys : List JournalLine) (e : ServeFault) → (e ≡ faults.StoreFault → ⊥) → WritesLines before after xs (Err e) → WritesLines before after (xs ++ ys) (Err e)
+lines-longer before after xs ys e other h = by e other h
+  where
+    part : WroteFront before after (bytes_of xs) → WroteFront before after (bytes_of (xs ++ ys))
+    part first = subst (WroteFront before after) (sym (bytes-append xs ys)) (front-longer before after (bytes_of xs) (bytes_of ys) first)
+
+    by : (e : ServeFault) → (e ≡ faults.StoreFault → ⊥) → WritesLines before after xs (Err e) → WritesLines before after (xs ++ ys) (Err e)
+    by faults.StoreFault other first = absurd (other refl)
+    by faults.WriteFault other first = part first
+    by faults.OutOfMemory other first = part first
+
+pub one-line : (before after : Option (List ℕ)) (line : JournalLine) (answer : Answer) → WritesLine before after (line_bytes line) answer → WritesLines before after (line ∷ []) answer
+one-line before after line answer h = by answer h
+  where
+    bytes : List ℕ
+    bytes = line_bytes line
+
+    same : bytes_of (line ∷ []) ≡ bytes
+    same = append-nil bytes
+
+    by : (answer : Answer) → WritesLine before after bytes answer → WritesLines before after (line ∷ []) answer
+    by (Ok x) wrote = subst (Appends before after) (sym same) wrote
+    by (Err faults.StoreFault) wrote = absurd wrote
+    by (Err faults.WriteFault) wrote =
+        subst (WroteFront before after) (sym same)
+        (record { text = take wrote.count bytes; front = record { more = drop wrote.count bytes; is = sym (take-append-drop wrote.count bytes) }; written = wrote.gained })
+    by (Err faults.OutOfMemory) is = subst (λ x. WroteFront before x (bytes_of (line ∷ []))) (sym is) (front-none before (bytes_of (line ∷ [])))
+
+-- ---- what events report
+
+pub spent-event : (before after : Option (List ℕ)) (e : journal.Event) (answer : Answer) → WritesLine before after (line_of e) answer → WritesSpent (spent_by e.what) before after answer
+spent-event before after e answer wrote = record { lines = OfEvent e ∷ []; give = append-nil (spent_by e.what); written = one-line before after (OfEvent e) answer wrote }
+
+-- an event that reports a datagram gives no signature
+pub sent-none : (what : whats.What) (d : ℕ × List ℕ) → datagram_in what ≡ Some d → spent_by what ≡ []
+sent-none (told.Sent number to bytes) d is = refl
+sent-none (told.Spent index body) d is = cc
+sent-none (told.Entered m) d is = refl
+sent-none (told.Expired a) d is = refl
+sent-none (told.Removed m) d is = refl
+sent-none (told.Fell a) d is = refl
+sent-none (told.Took body fault) d is = refl
+sent-none (told.BadForm place) d is = refl
+sent-none (told.Ping from_ nonce) d is = refl
+sent-none (told.Pong from_ nonce counted) d is = refl
+sent-none (told.Summary from_ page flag) d is = refl
+sent-none (told.Silent m) d is = refl
+sent-none (told.Exhausted next) d is = refl
+sent-none (told.Lost number) d is = refl
+sent-none (told.Got number) d is = refl
+sent-none told.Stopped d is = refl
+
+pub spent-same : (xs ys : List Spent) (before after : Option (List ℕ)) (answer : Answer) → xs ≡ ys → WritesSpent xs before after answer → WritesSpent ys before after answer
+spent-same xs ys before after answer is h = subst (λ (s : List Spent). WritesSpent s before after answer) is h
+
+pub spent-none : (taken : Option (List ℕ)) → WritesSpent [] taken taken (Ok tt)
+spent-none taken = record { lines = []; give = refl; written = Appends-nil taken }
+
+-- nothing came to be written
+pub spent-unwritten : (spent : List Spent) (taken : Option (List ℕ)) → WritesSpent spent taken taken (Err faults.OutOfMemory)
+spent-unwritten spent taken = record { lines = map given spent; give = given-spent spent; written = front-none taken (bytes_of (map given spent)) }
+
+pub spent-trans : (xs ys : List Spent) (before mid after : Option (List ℕ)) (answer : Answer) → WritesSpent xs before mid (Ok tt) → WritesSpent ys mid after answer → WritesSpent (xs ++ ys) before after answer
+spent-trans xs ys before mid after answer p q = record {
+  lines = p.lines ++ q.lines;
+  give = spent-append p.lines q.lines ∙ ap (λ s. s ++ spent_in q.lines) p.give ∙ ap (λ s. xs ++ s) q.give;
+  written = lines-trans before mid after p.lines q.lines answer p.written q.written;
+}
+
+-- those that were not come to
+pub spent-longer : (xs ys : List Spent) (before after : Option (List ℕ)) (e : ServeFault) → (e ≡ faults.StoreFault → ⊥) → WritesSpent xs before after (Err e) → WritesSpent (xs ++ ys) before after (Err e)
+spent-longer xs ys before after e other h = record {
+  lines = h.lines ++ map given ys;
+  give = spent-append h.lines (map given ys) ∙ ap (λ s. s ++ spent_in (map given ys)) h.give ∙ ap (λ s. xs ++ s) (given-spent ys);
+  written = lines-longer before after h.lines (map given ys) e other h.written;
+}
+
+-- one event more
+pub spent-next : (done all : List journal.Event) (e : journal.Event) (before mid after : Option (List ℕ)) → WritesSpent (spent_told done) before mid (Ok tt) → all ≡ done ++ e ∷ [] → WritesSpent (spent_by e.what) mid after (Ok tt) → WritesSpent (spent_told all) before after (Ok tt)
+spent-next done all e before mid after p is q =
+    spent-same (spent_told done ++ spent_by e.what) (spent_told all) before after (Ok tt)
+    (ap (λ s. spent_told done ++ s) (sym (append-nil (spent_by e.what))) ∙ sym (told-append done (e ∷ [])) ∙ ap spent_told (sym is))
+    (spent-trans (spent_told done) (spent_by e.what) before mid after (Ok tt) p q)
+
+-- one of them broke off
+pub spent-part : (done all rest : List journal.Event) (e : journal.Event) (before mid after : Option (List ℕ)) (fault : ServeFault) → (fault ≡ faults.StoreFault → ⊥) → all ≡ done ++ e ∷ rest
+    → WritesSpent (spent_told done) before mid (Ok tt) → WritesSpent (spent_by e.what) mid after (Err fault) → WritesSpent (spent_told all) before after (Err fault)
+spent-part done all rest e before mid after fault other is p q =
+    spent-same (spent_told done ++ (spent_by e.what ++ spent_told rest)) (spent_told all) before after (Err fault)
+    (sym (told-append done (e ∷ rest)) ∙ ap spent_told (sym is))
+    (spent-trans (spent_told done) (spent_by e.what ++ spent_told rest) before mid after (Err fault) p (spent-longer (spent_by e.what) (spent_told rest) mid after fault other q))
+
+-- whatever is answered behind it
+pub spent-behind : (spent : List Spent) (before after : Option (List ℕ)) (answer : Answer) → WritesSpent spent before after (Ok tt) → WritesSpent spent before after answer
+spent-behind spent before after answer h = record { lines = h.lines; give = h.give; written = all-lines before after h.lines answer h.written }
+
+-- ---- the key
+
+pub goes-same : (s : SignerState) (moments : List Moment) (taken : Option (List ℕ)) (answer : Answer) → GoesOn s s moments moments taken taken answer
+goes-same s moments taken answer = record { lines = []; written = all-lines taken taken [] answer (Appends-nil taken); key = lives-same s s moments refl }
+
+-- a line of a turn gives no signature
+pub goes-turn : (s : SignerState) (moments : List Moment) (before after : Option (List ℕ)) (turn : Turn) (answer : Answer) → WritesLine before after (line_bytes (OfTurn turn)) answer → GoesOn s s moments moments before after answer
+goes-turn s moments before after turn answer wrote = record { lines = OfTurn turn ∷ []; written = one-line before after (OfTurn turn) answer wrote; key = lives-same s s moments refl }
+
+pub goes-trans : (a b c : SignerState) (x y z : List Moment) (before mid after : Option (List ℕ)) (answer : Answer) → GoesOn a b x y before mid (Ok tt) → GoesOn b c y z mid after answer → GoesOn a c x z before after answer
+goes-trans a b c x y z before mid after answer p q = record {
+  lines = p.lines ++ q.lines;
+  written = lines-trans before mid after p.lines q.lines answer p.written q.written;
+  key = subst (λ (s : List Spent). LivesOn s a c x z) (sym (spent-append p.lines q.lines)) (lives-trans (spent_in p.lines) (spent_in q.lines) a b c x y z p.key q.key);
+}
+
+pub goes-as : (a b : SignerState) (x y : List Moment) (before after : Option (List ℕ)) (r answer : Answer) → r ≡ answer → GoesOn a b x y before after answer → GoesOn a b x y before after r
+goes-as a b x y before after r answer is h = subst (λ t. GoesOn a b x y before after t) (sym is) h
+
+goes-told : (s later : SignerState) (older newer : List Moment) (spent : List Spent) (before after : Option (List ℕ)) (answer : Answer) → LivesOn spent s later older newer → WritesSpent spent before after answer → GoesOn s later older newer before after answer
+goes-told s later older newer spent before after answer key h =
+    record { lines = h.lines; written = h.written; key = subst (λ (xs : List Spent). LivesOn xs s later older newer) (sym h.give) key }
+
+-- memory was refused in the call: what was reported is a front of what was spent
+starved-told : (s later : SignerState) (older newer : List Moment) (spent said : List Spent) (before after : Option (List ℕ)) (answer : Answer) → LivesOn spent s later older newer → IsPrefix said spent
+    → Answers (Err node.OutOfMemory) answer → WritesSpent said before after answer → GoesOn s later older newer before after answer
+starved-told s later older newer spent said before after answer key front answers h = by answer answers h
+  where
+    further : (e : ServeFault) → (e ≡ faults.StoreFault → ⊥) → WritesSpent said before after (Err e) → GoesOn s later older newer before after (Err e)
+    further e other w = goes-told s later older newer spent before after (Err e) key (spent-same (said ++ front.more) spent before after (Err e) (sym front.is) (spent-longer said front.more before after e other w))
+
+    refused-other : ◌≡◌ {A = Result (Unit {0}) NodeFault} (Err node.OutOfMemory) (Err node.StoreFault) → ⊥
+    refused-other is = cc
+
+    write-other : faults.WriteFault ≡ faults.StoreFault → ⊥
+    write-other is = cc
+
+    memory-other : faults.OutOfMemory ≡ faults.StoreFault → ⊥
+    memory-other is = cc
+
+    by : (answer : Answer) → Answers (Err node.OutOfMemory) answer → WritesSpent said before after answer → GoesOn s later older newer before after answer
+    by (Ok y) gave w = absurd (false≢true gave)
+    by (Err faults.StoreFault) gave w = absurd (refused-other gave)
+    by (Err faults.WriteFault) gave w = further faults.WriteFault write-other w
+    by (Err faults.OutOfMemory) gave w = further faults.OutOfMemory memory-other w
+
+-- What a call spent is what its events report, and those were written.
+pub goes-by : (done : Result (Unit {0}) NodeFault) (s later : SignerState) (older newer : List Moment) (events : List journal.Event) (before after : Option (List ℕ)) (answer : Answer) → SpendsIn done s later older newer [] events
+    → Answers done answer → WritesSpent (spent_told events) before after answer → GoesOn s later older newer before after answer
+goes-by done s later older newer events before after answer h answers w = by done h answers
+  where
+    whole : (spent : List Spent) → LivesOn spent s later older newer → spent_told events ≡ spent → GoesOn s later older newer before after answer
+    whole spent key is = goes-told s later older newer spent before after answer key (spent-same (spent_told events) spent before after answer is w)
+
+    by : (done : Result (Unit {0}) NodeFault) → SpendsIn done s later older newer [] events → Answers done answer → GoesOn s later older newer before after answer
+    by (Ok x) d a = whole d.spent d.key (ap spent_told d.after_is ∙ d.tells)
+    by (Err node.StoreFault) d a = whole d.spent d.key (ap spent_told d.after_is ∙ d.tells)
+    by (Err node.OutOfMemory) d a =
+        starved-told s later older newer d.spent (spent_told events) before after answer d.key
+        (subst (λ es. IsPrefix (spent_told es) d.spent) (sym d.after_is) (record { more = d.tells.last; is = d.tells.is })) a w
+    by (Err (node.Exhausted next)) d a = whole d.spent d.key (ap spent_told d.after_is ∙ d.tells)
+    by (Err node.Ended) d a = whole d.spent d.key (ap spent_told d.after_is ∙ d.tells)

@@ -1,0 +1,64 @@
+-- The lines that a life writes, whatever link and clock answer, and the signatures that they give.
+use Rattle.std.specs.Prelude.{◌≡◌, ℕ, List, [], flat_map, Option, Result, Ok, Err}
+use Rattle.std.specs.Io.KnownBytes.{Appends}
+use Rattle.journal.specs.declared.event.Event as journal
+use Rattle.journal.specs.declared.turn.Turn.{Turn}
+use Rattle.journal.specs.Turns.{turn_text}
+use Rattle.ports.specs.Disk.{Moment}
+use Rattle.signer.specs.Lives.{Spent}
+use Rattle.signer.specs.Signing.{SignerState}
+use Rattle.node_core.specs.Spending.{LivesOn, spent_by}
+use Rattle.node_core.specs.Told.{IsPrefix}
+use Rattle.node_loop.specs.declared.fault.ServeFault.{ServeFault}
+use Rattle.node_loop.specs.declared.fault.ServeFault.TheVariants as faults
+use Rattle.node_loop.specs.Courses.{line_of, with_feed}
+
+-- A line of the journal: that of a turn, or of an event.
+pub data JournalLine : Type 0 where
+  OfTurn : (turn : Turn) → JournalLine
+  OfEvent : (event : journal.Event) → JournalLine
+
+abbrev pub line_bytes : JournalLine → List ℕ
+line_bytes (OfTurn turn) = with_feed (turn_text turn)
+line_bytes (OfEvent event) = line_of event
+
+abbrev pub bytes_of : List JournalLine → List ℕ
+bytes_of lines = flat_map line_bytes lines
+
+-- The signature that the line gives, if any: a line `spent` gives one.
+abbrev pub spent_on : JournalLine → List Spent
+spent_on (OfTurn turn) = []
+spent_on (OfEvent event) = spent_by event.what
+
+-- The signatures that the lines give, in order.
+abbrev pub spent_in : List JournalLine → List Spent
+spent_in lines = flat_map spent_on lines
+
+-- A front of these bytes was written.
+pub record WroteFront (before after : Option (List ℕ)) (bytes : List ℕ) : Type 0 where
+  pub text : List ℕ
+  pub front : IsPrefix text bytes
+  pub written : Appends before after text
+
+-- All these lines were written; or a front of them, where a write failed or memory was refused.
+abbrev pub WritesLines : Option (List ℕ) → Option (List ℕ) → List JournalLine
+    → Result (Unit {0}) ServeFault → Type 0
+WritesLines before after lines (Ok done) = Appends before after (bytes_of lines)
+WritesLines before after lines (Err faults.StoreFault) = Appends before after (bytes_of lines)
+WritesLines before after lines (Err faults.WriteFault) = WroteFront before after (bytes_of lines)
+WritesLines before after lines (Err faults.OutOfMemory) = WroteFront before after (bytes_of lines)
+
+-- Lines were written that give just these signatures, or a front of such lines.
+pub record WritesSpent (spent : List Spent) (before after : Option (List ℕ))
+    (answer : Result (Unit {0}) ServeFault) : Type 0 where
+  pub lines : List JournalLine
+  pub give : spent_in lines ≡ spent
+  pub written : WritesLines before after lines answer
+
+-- The lives of the key go on with just the signatures that these lines give, in order; and the lines
+-- were written, or a front of them where it broke off.
+pub record GoesOn (old new : SignerState) (older newer : List Moment) (before after : Option (List ℕ))
+    (answer : Result (Unit {0}) ServeFault) : Type 0 where
+  pub lines : List JournalLine
+  pub written : WritesLines before after lines answer
+  pub key : LivesOn (spent_in lines) old new older newer
