@@ -102,7 +102,8 @@ end_fault own_key own = bad_where bad.OwnKey (not (is_owned own_key own))
 
 -- A certificate with a fault is refused, and an end where the own certificate is missing.
 abbrev pub whole_fault : KitText → (word : LineWord) → Values (fields word) → Option BadWord
-whole_fault (kit.Body owner authority named own) words.Cert vs = cert_fault owner.group authority named vs
+whole_fault (kit.Body owner authority named own) words.Cert vs =
+    cert_fault owner.group authority named vs
 whole_fault (kit.Body owner authority named own) words.End vs = end_fault owner.key own
 whole_fault form _ vs = None
 
@@ -128,17 +129,20 @@ authority_above (kit.Body owner authority named own) = authority
 authority_above form = any_key
 
 abbrev pub line : (form : KitText) (word : LineWord) → Makes (fields word) KitLine
-line form words.Group = λ t timeout period misses tag. lines.Group (group_of t timeout period misses tag)
+line form words.Group = λ t timeout period misses tag.
+    lines.Group (group_of t timeout period misses tag)
 line form words.Kinds = λ wide high. lines.Kinds (kinds_of wide high)
 line form words.Own = λ m secret. lines.Own m secret (own_key form secret)
 line form words.Authority = λ key. lines.Authority key
 line form words.Tick = λ millis. lines.Tick millis
-line form words.Cert = λ m at key signed_by. lines.Cert (checked_as (group_above form) (authority_above form) (cert_of m at key) signed_by)
+line form words.Cert = λ m at key signed_by.
+    lines.Cert (checked_as (group_above form) (authority_above form) (cert_of m at key) signed_by)
 line form words.End = lines.End
 
 -- A record of another body is no line: no header is one.
 abbrev pub cert_parts : Body → List ℕ → Parts LineWord fields
-cert_parts (Certificate c) signed_by = Line words.Cert (c.member, (c.port, (c.key, (signed_by, tt))))
+cert_parts (Certificate c) signed_by =
+    Line words.Cert (c.member, (c.port, (c.key, (signed_by, tt))))
 cert_parts _ signed_by = Header
 
 abbrev pub parts : KitLine → Parts LineWord fields
@@ -190,7 +194,8 @@ abbrev pub fields_of : LineWord → List Test
 fields_of word = tests (fields word)
 
 abbrev pub own_line : Kinds → List (List ℕ) → KitLine
-own_line kinds args = line_from (fields words.Own) (λ m secret. lines.Own m secret (key_from kinds.ots kinds.tree secret)) args
+own_line kinds args =
+    line_from (fields words.Own) (λ m secret. lines.Own m secret (key_from kinds.ots kinds.tree secret)) args
 
 abbrev pub authority_line : List (List ℕ) → KitLine
 authority_line args = line_from (fields words.Authority) (line kit.Start words.Authority) args
@@ -208,13 +213,17 @@ cert_fault_in g authority named args = cert_fault g authority named (values (fie
 -- What the words behind a line word are read as.
 abbrev pub reads : KitText → LineWord → List (List ℕ) → Result KitLine BadWord
 reads kit.Headed words.Group args = fields_line group_fields (λ ws. lines.Group (group_in ws)) args
-reads (kit.Grouped g) words.Kinds args = fields_line kinds_fields (λ ws. lines.Kinds (kinds_in ws)) args
+reads (kit.Grouped g) words.Kinds args =
+    fields_line kinds_fields (λ ws. lines.Kinds (kinds_in ws)) args
 reads (kit.Kinded g kinds) words.Own args = fields_line (fields_of words.Own) (own_line kinds) args
-reads (kit.Owned owner) words.Authority args = fields_line (fields_of words.Authority) authority_line args
-reads (kit.Authorized owner authority) words.Tick args = fields_line (fields_of words.Tick) tick_line args
+reads (kit.Owned owner) words.Authority args =
+    fields_line (fields_of words.Authority) authority_line args
+reads (kit.Authorized owner authority) words.Tick args =
+    fields_line (fields_of words.Tick) tick_line args
 reads (kit.Body owner authority named own) words.Cert args =
     whole_line (fields_of words.Cert) (cert_fault_in owner.group authority named) (cert_line owner.group authority) args
-reads (kit.Body owner authority named own) words.End args = whole_line [] (λ ws. end_fault owner.key own) (λ ws. lines.End) args
+reads (kit.Body owner authority named own) words.End args =
+    whole_line [] (λ ws. end_fault owner.key own) (λ ws. lines.End) args
 reads _ _ args = Err bad.Order
 
 abbrev pub row_of : KitText → LineWord → Row KitLine

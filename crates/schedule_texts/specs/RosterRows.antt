@@ -119,7 +119,8 @@ line_of word args = line_from (fields roster.Start word) (line roster.Start word
 
 -- what the words behind a line word are read as
 abbrev pub reads : RosterText → LineWord → List (List ℕ) → Result RosterLine BadWord
-reads form word args = if may_stand form word then fields_line (fields_of form word) (line_of word) args else Err bad.Order
+reads form word args =
+    if may_stand form word then fields_line (fields_of form word) (line_of word) args else Err bad.Order
 
 abbrev pub row_for : RosterText → List (List ℕ) → Result (Row RosterLine) BadWord
 row_for form ws = table.row_for roster_table form ws

@@ -89,7 +89,8 @@ line_of word args = line_from (fields word) (line word) args
 
 -- what the words behind a line word are read as
 abbrev pub reads : SecretText → LineWord → List (List ℕ) → Result SecretLine BadWord
-reads form word args = if may_stand form word then fields_line (fields_of word) (line_of word) args else Err bad.Order
+reads form word args =
+    if may_stand form word then fields_line (fields_of word) (line_of word) args else Err bad.Order
 
 abbrev pub row_for : SecretText → List (List ℕ) → Result (Row SecretLine) BadWord
 row_for form ws = table.row_for secret_table form ws

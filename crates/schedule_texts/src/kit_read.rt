@@ -48,7 +48,8 @@ pub(crate) fn take_member(words: &mut Words) -> Result<MemberId, BadWord>
 
 /// The own number and secret, and the key that it gives. The words are judged before memory is asked for.
 pub(crate) fn own_line(alloc: Global, kinds: Kinds, args: Words) -> Result<KitLine, LineFault>
-    ensures { AnswersBy TakesMemory (fields_line (fields_of LineWord.Own) (own_line kinds) args.entry) result }
+    ensures { AnswersBy TakesMemory
+        (fields_line (fields_of LineWord.Own) (own_line kinds) args.entry) result }
 {
     let mut args = args.exactly(2)?;
     let member = take_member(&mut args)?;
