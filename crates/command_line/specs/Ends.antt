@@ -90,8 +90,8 @@ RestsFed turns was between old before result =
     → RemovalsRest feed was between old result
 
 -- How the run of a member ends: it ended for some answer, and the line of its cause is the last that is written. What it took
--- of its text, which side failed, which file it opened, and what it spent of its key is said whether or not link and clock are
--- modelled.
+-- of its text, which side failed, which file it opened where its store is broken, and what the lines of its journal give of
+-- signatures is said whether or not link and clock are modelled.
 pub record NodeEnds (name : List ℕ) (turns : ℕ) (was now : IoState) (old new : OfDisk) (before after : NetState) (s : Status) : Type 0 where
   pub result : Result (Unit {0}) NodeHalt
   pub between : IoState

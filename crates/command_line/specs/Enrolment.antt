@@ -27,8 +27,8 @@ use Rattle.command_line.specs.declared.status.Status.{Status}
 abbrev pub cert_lines : Setting → ℕ → List CertBody → List ℕ
 cert_lines s next certs = signed_lines s.group (key_of s) next certs
 
--- Of these certificates, signed from this index on, the lines were written: of all of them; or of all but the last, and of that
--- one's a front, which may be empty.
+-- Of these certificates, signed from this index on, the lines were written: of all; or of all but the last, and of the last one's
+-- line a prefix, which may be empty.
 pub record WritesCerts (s : Setting) (next : ℕ) (certs : List CertBody)
     (before after : Option (List ℕ)) : Type 0 where
   pub told : List CertBody
@@ -65,7 +65,7 @@ pub record SpendsOnce (was now : IoState) (old new : OfDisk) : Type 0 where
 abbrev pub SpendsCerts : IoState → IoState → OfDisk → OfDisk → Type 0
 SpendsCerts was now old new = SpendsNothing was.taken now.taken old new ⊎ SpendsOnce was now old new
 
--- What `enroll` upholds, under every status: this was spent, and behind the lines of it just that of the cause was written.
+-- What `enroll` upholds, under every status: this was spent, and the line of the cause follows its lines.
 pub record Enrolment (was now : IoState) (old new : OfDisk) (s : Status) : Type 0 where
   pub result : Result (Unit {0}) Halt
   pub between : IoState

@@ -32,13 +32,13 @@ OnWhole (Err stop.OutOfMemory) P = Unit {0}
 -- A text of the direct form. Each whole line that was written, and each event of what was taken, that gives a removal is the
 -- report of a tick of a life, and rests on an accusation that was accepted in it and stood in each state between, for the
 -- timeout; and each removal of a life is reported. Behind an accepted note no older accusation is accepted or expires in that
--- life, and one that it answers expires only where it was accepted again, and stood for the timeout since.
+-- life, and one that it answers expires only where it was accepted again, and the timeout has passed since.
 pub record DirectHeadline (lines : List (List ℕ)) (text line : List ℕ) (result : RunEnd Cause) : Type 0 where
   pub written : IsJustified lines (text ++ line)
   -- A law of any input: `written` and `told` tie it to what was written.
   pub taken : IsJustifiedWalk (walk_over lines)
   pub told : OnWhole result (IsTold lines text)
-  -- Two laws of any input: of what was written `written` says on which accusation a removal rests.
+  -- Two laws of any input. `trace` ties the walk to what was written.
   pub rule_out : NoteSupersedes (walk_over lines)
   pub ends_acceptance : NoteRevokes (walk_over lines)
 
@@ -54,8 +54,8 @@ OnForged (Ok _) P = Unit {0}
 -- A schedule of a world. The lines that were taken lead to a world, none of them is forged, and what its nodes reported is as no
 -- liar can help: each removal rests on a verified accusation that stood for the timeout, and each key spends once. Flows hand
 -- over each datagram at most once. What is named as forged is handed over by the very line of the number that is named, which
--- ends so in this world, and verifies under a key that never signed it. Each whole line that was written that gives an event gives one that was reported, and each
--- event that was reported is written.
+-- ends so in this world, and verifies under a key that never signed it. Each whole line that was written and gives an event
+-- gives one that was reported, and each event that was reported is written.
 pub record WorldHeadline (lines : List (List ℕ)) (text line : List ℕ) (result : RunEnd Cause) : Type 0 where
   -- Three laws of any input: `written` and `told` tie what they say of `told_in lines` to what was written.
   pub played : IsComeTo (world_walk lines).stage (told_in lines)

@@ -33,8 +33,8 @@ pub record JournalSpends (was now : IoState) (old new : OfDisk) (s : Status) : T
   pub spends : Spends was between old new result
   pub tells : Tells (status_of_node result) between now s
 
--- The headline for a member's run, under every status: what its removals rest on, and that it spends each index once, each epoch
--- too, from those on that its store had.
+-- The headline for a member's run, under every status: what its removals rest on, and that it spends each index and each epoch
+-- once, all above what its store kept.
 pub record NodeUpholds (turns : ℕ) (was now : IoState) (old new : OfDisk) (before : NetState) (s : Status) : Type 0 where
   pub untouched : NodeUpheld was now old new s
   pub removals : OnFeed turns before (λ feed. JournalRests feed was now old)

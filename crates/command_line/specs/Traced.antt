@@ -92,8 +92,9 @@ pub record IsUnrefusedText {C : Type 0} (owed : Continuation C) (bytes : List �
   pub used_up : IsUsedUp left
   pub none : (owed (seen bytes)).cause ≡ None
 
--- The number of a line that is refused is that of the first: none before it is. A read fault stands for no line that is refused: none of those that were taken whole is. Nor does want of memory, for a
--- cause that P holds of: neither those lines are refused for one, nor is the end of the text, where it was reached.
+-- The number of a line that is refused is that of the first: none before it is. A read fault stands for no line that is
+-- refused: none of those that were taken whole is. Nor does want of memory, for a cause that P holds of: neither those lines
+-- are refused for one, nor is the end of the text, where it was reached.
 abbrev pub IsFirst : {C : Type 0} → (C → Type 0) → Continuation C → List ℕ → List ℕ → Option (List ℕ) → RunEnd C → Type 0
 IsFirst P owed bytes text left (Ok _) = Unit {0}
 IsFirst P owed bytes text left (Err (stop.Refused line cause)) = IsRefusedAt owed bytes text line

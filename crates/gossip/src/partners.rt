@@ -66,7 +66,8 @@ fn successor_or_other(
 }
 
 /// With whom the node `me` exchanges summaries in this round: its successor on the ring whose turn it is, or where
-/// the view has nobody else, the other certified member whose turn it is, in their order.
+/// the view has nobody else, the other certified member whose turn it is, in the order of `certified`; none where there
+/// is no other.
 pub fn partner(
     membership: &Membership,
     certified: &[MemberId],
@@ -81,7 +82,7 @@ pub fn partner(
     ensures none { (s : State) → Holds membership.now s → NotesOfMembers s
         → AreMembers membership.now certified.now
         → (result ≡ None) ↔ (others certified.now me ≡ []) }
-    // Where they are, it is another that is certified.
+    // Where `certified` are the members, the partner is another of them.
     ensures other { (s : State) → Holds membership.now s → NotesOfMembers s
         → AreMembers membership.now certified.now
         → IfSome result (λ p. is_listed (others certified.now me) p ≡ true) }

@@ -8,13 +8,15 @@ use Rattle.journal.specs.declared.event.Event as journal
 use Rattle.line_text.specs.declared.bad_word.BadWord.{BadWord}
 use Rattle.play.specs.Plays.{IoState}
 use Rattle.play.specs.declared.stop.Stop.{Stop}
+use Rattle.play.specs.declared.stop.Stop.TheVariants as stop
 use Rattle.ports.specs.Contents.{TookFront}
 use Rattle.ports.specs.Disk.{Fails, Moment, stays}
 use Rattle.ports.specs.Outside.{OfDisk}
 use Rattle.ports.proofs.SinceLemmas.{Since-same, Since-trans, Since-weaken}
 use Rattle.schedule_texts.specs.declared.kit.KitText.TheVariants as kit
 use Rattle.schedule_texts.specs.declared.kit_line.KitLine.{KitLine}
-use Rattle.whole_text.specs.Gathered.{IsUnfinished, IsWhole}
+use Rattle.whole_text.specs.Gathered.{IsUnfinished, IsWhole, nothing}
+use Rattle.whole_text.proofs.WholeLemmas.{never-unwritten}
 use Rattle.signer.specs.Lives.{EndsLives, EndsNow, EndsWithin, Spent}
 use Rattle.signer.specs.Signing.{SignerState}
 use Rattle.signer.proofs.LivingLemmas.{kept_by_opening}
@@ -29,11 +31,11 @@ use Rattle.node_loop.proofs.LineLemmas.{bytes-append, front-behind, front-longer
 use Rattle.node_command.specs.declared.halt.NodeHalt.{NodeHalt}
 use Rattle.node_command.specs.declared.halt.NodeHalt.TheVariants as halt
 use Rattle.node_command.specs.declared.kit.Member.{Member}
-use Rattle.node_command.specs.Halts.{IsServed, halt_served}
+use Rattle.node_command.specs.Halts.{IsServed, halt_of, halt_served}
 use Rattle.node_command.specs.Journal.{end_line}
 use Rattle.node_command.specs.Members.{IsMember, kit_judging, tag_of}
 use Rattle.node_command.specs.Opening.{Begins, Ends, EndsFronts, IsBegun, IsFound, IsUnstarted, start_of}
-use Rattle.node_command.specs.Spendings.{IsSpentFrom, LifeSpends, Spends, SpendsBehind, SpendsFrom, SpendsNothing, WritesJournal}
+use Rattle.node_command.specs.Spendings.{IsSpentFrom, LifeSpends, MayFindNone, Spends, SpendsBehind, SpendsFrom, SpendsNothing, WritesJournal}
 use Rattle.node_command.proofs.RestLemmas.{silent-unread}
 use Rattle.node_command.proofs.RunLemmas.{spent-from}
 
@@ -177,15 +179,15 @@ unbegun-spends m taken old new events halt.ReadFault b = absurd b
 unbegun-spends m taken old new events halt.WriteFault b = absurd b
 unbegun-spends m taken old new events halt.StoreFault b =
     elim b [
-      | inl opening ↦ inl (failed-spends taken old new opening.moments)
+      | inl opening ↦ inl (tt, failed-spends taken old new opening.moments)
       | inr start ↦ inr (spent-none m start.stored taken old new (Err halt.StoreFault) start.found (Appends-nil taken) start.ends start.any_moment)
     ]
-unbegun-spends m taken old new events (halt.StoreBroken place byte) b = inl (failed-spends taken old new b.moments)
+unbegun-spends m taken old new events (halt.StoreBroken place byte) b = inl (tt, failed-spends taken old new b.moments)
 unbegun-spends m taken old new events halt.LinkFault b = absurd b
 unbegun-spends m taken old new events (halt.Exhausted next) b = inr (spent-none m b.stored taken old new (Err (halt.Exhausted next)) b.found (refl, Appends-nil taken) b.ends b.any_moment)
 unbegun-spends m taken old new events halt.OutOfMemory b =
     elim b [
-      | inl opening ↦ inl (failed-spends taken old new opening.moments)
+      | inl opening ↦ inl (tt, failed-spends taken old new opening.moments)
       | inr start ↦ inr (spent-unstarted m taken old new start)
     ]
 
@@ -201,7 +203,9 @@ front-text was between now bytes first h = record { text = h.text; front = h.fro
 pub read-spends : (was between now : IoState) (m : Member) (old new : OfDisk) (result : Answer) → IsMember was between m → SpendsBehind m between.taken now.taken old new result → Spends was now old new result
 read-spends was between now m old new result read h =
     elim h [
-      | inl none ↦ inl (record { unwritten = behind-text was.taken between.taken now.taken [] read.whole.wrote none.unwritten; any_moment = none.any_moment; ends = none.ends })
+      | inl none ↦
+          let nothing = none.1 in
+          inl (none.0, record { unwritten = behind-text was.taken between.taken now.taken [] read.whole.wrote nothing.unwritten; any_moment = nothing.any_moment; ends = nothing.ends })
       | inr some ↦ inr (record {
         member = m;
         between = between;
@@ -222,11 +226,17 @@ read-spends was between now m old new result read h =
     by (Err halt.OutOfMemory) lines w = front-text was.taken between.taken now.taken (bytes_of lines) read.whole.wrote w
 
 -- the text wasn't read to its end
-pub cut-spends : (was now : IoState) (disk : OfDisk) (s : Stop BadWord) (result : Answer) → IsUnfinished kit_judging kit.Start was now s → Spends was now disk disk result
-cut-spends was now disk s result h =
-    inl (record { unwritten = silent-unread kit_judging kit.Start was now s h; any_moment = λ tag image spent ends. Since-same (EndsLives tag image spent) disk.moments; ends = λ tag image spent ends. ends })
+may-cut : (was now : IoState) (s : Stop BadWord) → IsUnfinished kit_judging kit.Start was now s → MayFindNone (Err (halt_of s))
+may-cut was now (stop.Refused line w) h = tt
+may-cut was now stop.ReadFault h = tt
+may-cut was now stop.WriteFault h = absurd (never-unwritten kit_judging kit.Start was now (h nothing))
+may-cut was now stop.OutOfMemory h = tt
+
+pub cut-spends : (was now : IoState) (disk : OfDisk) (s : Stop BadWord) → IsUnfinished kit_judging kit.Start was now s → Spends was now disk disk (Err (halt_of s))
+cut-spends was now disk s h =
+    inl (may-cut was now s h, record { unwritten = silent-unread kit_judging kit.Start was now s h; any_moment = λ tag image spent ends. Since-same (EndsLives tag image spent) disk.moments; ends = λ tag image spent ends. ends })
 
 -- memory was refused for what it sets up
-pub ungathered-spends : (was now : IoState) (lines : List KitLine) (disk : OfDisk) (result : Answer) → IsWhole kit_judging kit.Start was now lines → Spends was now disk disk result
-ungathered-spends was now lines disk result h =
-    inl (record { unwritten = h.wrote; any_moment = λ tag image spent ends. Since-same (EndsLives tag image spent) disk.moments; ends = λ tag image spent ends. ends })
+pub ungathered-spends : (was now : IoState) (lines : List KitLine) (disk : OfDisk) → IsWhole kit_judging kit.Start was now lines → Spends was now disk disk (Err halt.OutOfMemory)
+ungathered-spends was now lines disk h =
+    inl (tt, record { unwritten = h.wrote; any_moment = λ tag image spent ends. Since-same (EndsLives tag image spent) disk.moments; ends = λ tag image spent ends. ends })

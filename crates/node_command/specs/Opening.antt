@@ -69,7 +69,7 @@ abbrev pub Ends : Member → List Spent → OfDisk → OfDisk → Type 0
 Ends m spent old new = (before : List ℕ) (spent_before : List Spent) → EndsNow (tag_of m) before spent_before old.moments
     → EndsNow (tag_of m) before (spent_before ++ spent) new.moments
 
--- and at each moment between, each crash ends them with a front of these beside
+-- At each moment of the run each crash leaves the file as lives do that also spent a prefix of these.
 abbrev pub EndsFronts : Member → List Spent → OfDisk → OfDisk → Type 0
 EndsFronts m spent old new = (before : List ℕ) (spent_before : List Spent)
     → EndsNow (tag_of m) before spent_before old.moments

@@ -54,8 +54,8 @@ WritesJournal before after lines (Err halt.WriteFault) =
 WritesJournal before after lines (Err halt.OutOfMemory) = WroteFront before after (bytes_of lines)
 WritesJournal before after lines (Err other) = (lines ≡ []) × Appends before after []
 
--- A life that began by telling this went on: the lines give the signatures that it told, and behind them those that the lives of
--- the key went on with.
+-- The lines give the signatures that the start reported, and behind them those that the life made, with which the lives of the
+-- key go on.
 pub record LifeSpends (told : List journal.Event) (s : SignerState) (older newer : List Moment)
     (before after : Option (List ℕ)) (result : Result (Unit {0}) NodeHalt) : Type 0 where
   pub lines : List JournalLine
@@ -67,9 +67,10 @@ pub record LifeSpends (told : List journal.Event) (s : SignerState) (older newer
 
 -- ## The run
 
--- A store of the member's key was found. What was spent from it on is just what these lines of the journal give, in order, each
--- index once and each epoch; they were written, or a front of them where it broke off. Wherever crashes ended lives of the key
--- so at first, each crash now ends them with this spent beside, and at each moment between with a front of it.
+-- A store of the member's key was found. These lines of the journal were written, or a prefix of them where it broke off. What they
+-- give of signatures rises in index and in epoch from what the store kept. If a crash first left the file as lives of the key
+-- leave it that spent something, each crash now leaves it as lives do that spent that and then this, and at each moment between
+-- as lives do that spent a prefix of this.
 pub record SpendsFrom (m : Member) (before after : Option (List ℕ)) (old new : OfDisk)
     (result : Result (Unit {0}) NodeHalt) : Type 0 where
   pub stored : Stored
@@ -88,11 +89,19 @@ pub record SpendsNothing (before after : Option (List ℕ)) (old new : OfDisk) :
   pub ends : (tag image : List ℕ) (spent : List Spent) → EndsNow tag image spent old.moments
       → EndsNow tag image spent new.moments
 
--- The same, of the member that was read.
+-- A run may end so without a store of its key: the text was cut off, the port not bound, the store not opened or broken, or memory
+-- was refused.
+abbrev pub MayFindNone : Result (Unit {0}) NodeHalt → Type 0
+MayFindNone (Ok done) = ⊥
+MayFindNone (Err halt.WriteFault) = ⊥
+MayFindNone (Err (halt.Exhausted next)) = ⊥
+MayFindNone (Err other) = Unit {0}
+
+-- Nothing was written or spent, and the run ended so that this may be; or a store was found, of which this was spent.
 abbrev pub SpendsBehind : Member → Option (List ℕ) → Option (List ℕ) → OfDisk → OfDisk
     → Result (Unit {0}) NodeHalt → Type 0
 SpendsBehind m before after old new result =
-    SpendsNothing before after old new ⊎ SpendsFrom m before after old new result
+    (MayFindNone result × SpendsNothing before after old new) ⊎ SpendsFrom m before after old new result
 
 -- A member was read from the text, and this was spent of its key.
 pub record HasSpent (was now : IoState) (old new : OfDisk) (result : Result (Unit {0}) NodeHalt)
@@ -102,8 +111,8 @@ pub record HasSpent (was now : IoState) (old new : OfDisk) (result : Result (Uni
   pub read : IsMember was between member
   pub spends : SpendsFrom member was.taken now.taken old new result
 
--- What a run does to the lives of the key, under every answer: it spends nothing, and writes nothing, or just what the lines that
--- it wrote give.
+-- What a run does to the lives of the key, under every answer: either nothing was written and nothing put, and it ended so that
+-- no store may have been found; or the lines of the journal, of which a prefix may be written, give what was spent.
 abbrev pub Spends : IoState → IoState → OfDisk → OfDisk → Result (Unit {0}) NodeHalt → Type 0
 Spends was now old new result =
-    SpendsNothing was.taken now.taken old new ⊎ HasSpent was now old new result
+    (MayFindNone result × SpendsNothing was.taken now.taken old new) ⊎ HasSpent was now old new result

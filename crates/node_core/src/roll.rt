@@ -66,7 +66,7 @@ impl Roll {
         self.records.put(rec);
     }
 
-    /// Takes the certificates, in order, each of another number, where there is none yet.
+    /// Takes the certificates, in order. None was taken before, and no two have one number.
     pub fn take_all(&mut self, certificates: Vec<Checked>)
         requires all { All (IsCertificateFor self.old.membership.group.t) certificates.items }
         requires few { self.old.membership.group.t ≤ MAX_TOLERANCE }

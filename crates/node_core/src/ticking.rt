@@ -134,8 +134,7 @@ impl Node {
     /// call that the disk ended, in the accusation of a silent member; after `OutOfMemory` a front of those of the whole
     /// call. `Ended` comes exactly where an earlier call answered a fault, and nothing is added. After a fault what was
     /// given stands, and the node is over. Each index that the call spends is reported, in order; where memory was refused,
-    /// all but perhaps the last, since behind a refusal nothing is spent. The disk is the one on which the signer's store
-    /// was opened.
+    /// all but perhaps the last. The disk is the one on which the signer's store was opened.
     pub fn tick<D: Disk>(
         &mut self,
         alloc: Global,

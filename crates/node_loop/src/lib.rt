@@ -15,8 +15,8 @@ pub use fault::ServeFault;
 pub use serving::serve;
 pub use telling::tell_all;
 
-/// Behind a turn a life has made no more ticks than one for each `millis` milliseconds since its base; and as many, but
-/// behind a turn that made the most that one may.
+/// Behind a turn a life has made a tick for each `millis` milliseconds of its reading since the base, unless the turn made
+/// 64; and no more than those, if there were no more before the turn.
 pub fn ticks_follow_the_clock()
     ensures { TicksFollowTheClock }
 {}

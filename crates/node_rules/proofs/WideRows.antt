@@ -1,4 +1,4 @@
--- Worked rows away from the small numbers: a period of 2, members on two pages, and 31 rings. The bytes are written by hand.
+-- Worked rows away from the small numbers: a period of 2 and members on two pages, with bytes written by hand; and 31 rings.
 use Rattle.std.proofs.Common.{◌≡◌, ℕ, List, [], ◌∷◌, ◌++◌, None, refl, replicate}
 use Rattle.std.specs.Prelude.{fold}
 use Rattle.std.specs.List.{range_with_len}

@@ -82,6 +82,12 @@ certificates : (at (one_named None) (codes "cert 3 1 " ++ key_digits ++ codes " 
 unfolding judge_line key_in hex_on_literals verdict_of
 certificates = (refl, refl, refl, refl, refl, refl, refl, refl)
 
+-- A signature has at most 9,004 bytes: what is as long is read, and refused as a whole here.
+longest : (at (one_named None) (codes "cert 3 1 " ++ key_digits ++ codes " " ++ replicate 18008 48) ≡ Err bad.Cert)
+    × (at (one_named None) (codes "cert 3 1 " ++ key_digits ++ codes " " ++ replicate 18010 48) ≡ Err bad.Limit)
+unfolding judge_line key_in hex_on_literals verdict_of
+longest = (refl, refl)
+
 -- The end wants the certificate of the own number, with the own key.
 ends : (at (one_named (Some some_key)) (codes "end") ≡ Ok lines.End)
     × (at (one_named (Some other_key)) (codes "end") ≡ Err bad.OwnKey)

@@ -45,7 +45,7 @@ abbrev pub NoteSupersedes : Walk → Type 0
 NoteSupersedes w = (life moment : ℕ) → NotesRuleOut (λ i n. AcceptsNote w i life n) (λ j a. AcceptsAccusation w j life a) (λ j a. Expires w j life moment a)
 
 -- In the life as it stood before a line, the accusation was accepted at a place behind so many events, and at this moment
--- it had stood for the timeout since.
+-- the timeout had passed since.
 pub record AcceptedSince (r : Recorded) (behind moment : ℕ) (a : AccBody) : Type 0 where
   pub place : ℕ
   pub later : behind < place
@@ -53,7 +53,7 @@ pub record AcceptedSince (r : Recorded) (behind moment : ℕ) (a : AccBody) : Ty
   pub timeout : (state_at r.group (opening r.members) r.events (place + 1)).moment + r.group.timeout ≤ moment
 
 -- An accepted note ends the acceptance of each accusation against its member that it answers: that expires later in the
--- life only where it was accepted again behind the note, and stood for the timeout since.
+-- life only where it was accepted again behind the note, and the timeout has passed since.
 abbrev pub NoteRevokes : Walk → Type 0
 NoteRevokes w = (i j life moment : ℕ) (n : NoteBody) (a : AccBody) → i < j → (note : AcceptsNote w i life n) → a.accused ≡ n.member → is_unanswered_by a n ≡ false
     → (expired : Expires w j life moment a) → AcceptedSince expired.r (length note.r.events) moment a

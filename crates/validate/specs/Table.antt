@@ -79,7 +79,8 @@ IsUnrefused g certificates s (Certificate c) = certificate_of certificates c.mem
 IsUnrefused g certificates s (Note n) = note_fault g.t s n ≡ None
 IsUnrefused g certificates s (Accusation a) = accusation_fault g.t s a ≡ None
 
--- Nothing that stands before its signature refuses the record of this body, by the life and the certificates that are kept.
+-- Of the conditions that the table has before the signature none refuses a record of this body, by the life and the
+-- certificates that are kept.
 abbrev pub IsUnrefusedBy : Life → Certificates → Body → Type 0
 IsUnrefusedBy l certificates (Certificate c) = certificate_of certificates c.member ≡ None
 IsUnrefusedBy l certificates (Note n) = note_fault_in l n ≡ None

@@ -52,7 +52,7 @@ pub fn removals_are_verified()
 {}
 
 /// A note or an accusation of a node's is reported as accepted only after it was reported that the node's key spent an index
-/// on it: nothing of a node's is accepted before the node has signed it.
+/// on it.
 pub fn accepted_was_signed_first()
     ensures { AcceptedWasSignedFirst }
 {}

@@ -19,7 +19,7 @@ returns-in-OutOfMemory-clause-runs g c = λ feed link_is coming_is reading_is tu
     inl (unbound-starved (g.O.Sink.state c.args.out.now).taken (g.L.Link.state c.args.link.now).contents (g.L.Link.state c.bind.new.self).contents (g.D.Disk.state c.args.disk.now) feed.link c.port.result link_is c.in-OutOfMemory.ensures.binds)
 
 pub returns-in-Failed-clause-spends : goal.returns-in-Failed-clause-spends
-returns-in-Failed-clause-spends g c = inl (same-spends (g.O.Sink.state c.args.out.now).taken (g.D.Disk.state c.args.disk.now))
+returns-in-Failed-clause-spends g c = inl (tt, same-spends (g.O.Sink.state c.args.out.now).taken (g.D.Disk.state c.args.disk.now))
 
 pub returns-in-OutOfMemory-clause-spends : goal.returns-in-OutOfMemory-clause-spends
-returns-in-OutOfMemory-clause-spends g c = inl (same-spends (g.O.Sink.state c.args.out.now).taken (g.D.Disk.state c.args.disk.now))
+returns-in-OutOfMemory-clause-spends g c = inl (tt, same-spends (g.O.Sink.state c.args.out.now).taken (g.D.Disk.state c.args.disk.now))
