@@ -57,7 +57,8 @@ pub fn soak(alloc: Global, seed: u64, nodes: u16, rounds: u16) -> Result<Summary
     ensures answers { Answers (workload seed nodes rounds) (workload_walk seed nodes rounds)
         result }
     ensures many { IfOk result (λ s. s.lines ≡ line_count nodes rounds) }
-    // What its nodes removed, signed and accused, whatever its liars did.
+    // What its nodes removed, signed and accused, whatever its liars did: a law of any workload, which `answers` ties to
+    // the summary.
     ensures lawful { let w = workload_walk seed nodes rounds in IsLawfulStage w.stage
         (events_in w) }
 {
