@@ -129,7 +129,7 @@ all-of (Node turns) name was now old new before after s h =
       command = node-command h.tells.failed h.result h.tells.line s h.tells.says;
       traced = node-traced was h.between now old new h.result s h.takes h.tells;
       complete = node-completes was h.between now old new h.result s h.takes h.store_fault h.cause h.tells n;
-      upholds = node-upholds turns was h.between now old new before h.result s h.takes h.removals h.spends h.tells;
+      upholds = node-upholds turns was h.between now old new before h.result s h.takes h.rests h.spends h.tells;
       counts = n;
       faults = node-disk was h.between now old new h.result s h.takes h.no_disk_fault h.store_fault h.tells;
     }

@@ -16,9 +16,9 @@ use Rattle.node_command.specs.declared.halt.NodeHalt.{NodeHalt}
 use Rattle.node_command.specs.declared.halt.NodeHalt.TheVariants as node
 use Rattle.node_command.specs.Journal.{environment}
 use Rattle.node_command.specs.Opening.{OpensFile}
-use Rattle.node_command.specs.Removals.{RemovalsRest}
 use Rattle.node_command.specs.Running.{NetInputs, IsCaused, Runs, Takes}
 use Rattle.node_command.specs.Spendings.{Spends}
+use Rattle.node_command.specs.Written.{LinesRest}
 use Rattle.command_line.specs.Causes.{RunEnd, Says, for_word, status_by, status_of_halt, status_of_node}
 use Rattle.command_line.specs.declared.command.Command.{Command}
 use Rattle.command_line.specs.declared.command.Command.TheVariants.{Node}
@@ -83,11 +83,11 @@ RunsFed turns was between old new before after result =
     (feed : NetInputs) → before.contents ≡ Some feed.link → before.readings ≡ Some feed.readings → before.reading ≡ feed.reading → turns ≡ feed.turns
     → Runs feed was between (environment was.taken before.contents old) (environment between.taken after.contents new) result
 
--- What the removals rest on that the run of a member has written, where link and clock are modelled.
+-- What the lines rest on that the run of a member has written, where link and clock are modelled.
 abbrev pub RestsFed : ℕ → IoState → IoState → OfDisk → NetState → Result (Unit {0}) NodeHalt → Type 0
 RestsFed turns was between old before result =
     (feed : NetInputs) → before.contents ≡ Some feed.link → before.readings ≡ Some feed.readings → before.reading ≡ feed.reading → turns ≡ feed.turns
-    → RemovalsRest feed was between old result
+    → LinesRest feed was between old result
 
 -- How the run of a member ends: it ended for some answer, and the line of its cause is the last that is written. What it took
 -- of its text, which side failed, which file it opened where its store is broken, and what the lines of its journal give of
@@ -102,7 +102,7 @@ pub record NodeEnds (name : List ℕ) (turns : ℕ) (was now : IoState) (old new
   pub store_fault : IfErr result (λ h. h ≡ node.StoreFault → Rose old.faults new.faults)
   pub link_fault : IfErr result (λ h. h ≡ node.LinkFault → after.faults ≡ next_count before.faults)
   pub runs : RunsFed turns was between old new before after result
-  pub removals : RestsFed turns was between old before result
+  pub rests : RestsFed turns was between old before result
   pub spends : Spends was between old new result
   pub tells : Tells (status_of_node result) between now s
 

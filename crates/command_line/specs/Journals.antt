@@ -1,13 +1,19 @@
 -- What the run of a member upholds of the journal that it writes.
-use Rattle.std.specs.Prelude.{◌≡◌, ℕ, List, Some, Result}
+use Rattle.std.specs.Prelude.{◌≡◌, ℕ, List, Some, None, Result}
 use Rattle.std.specs.Io.KnownBytes.{Appends}
+use Rattle.ff_ids.specs.declared.AccBody.{AccBody}
+use Rattle.ff_ids.specs.declared.NoteBody.{NoteBody}
+use Rattle.journal.specs.declared.event.What.TheVariants as told
 use Rattle.play.specs.Plays.{IoState}
+use Rattle.records.specs.declared.Body.TheVariants.{Note, Accusation}
 use Rattle.trace.specs.Written.{IsLineOf}
 use Rattle.ports.specs.Outside.{OfDisk}
 use Rattle.node_command.specs.declared.halt.NodeHalt.{NodeHalt}
-use Rattle.node_command.specs.Removals.{IsReported, removal_line}
+use Rattle.node_command.specs.Removals.{removal_line}
+use Rattle.node_command.specs.Replies.{accepted_line, expiry_line}
 use Rattle.node_command.specs.Running.{NetInputs}
 use Rattle.node_command.specs.Spendings.{Spends}
+use Rattle.node_command.specs.Written.{IsGiven}
 use Rattle.command_line.specs.Causes.{status_of_node}
 use Rattle.command_line.specs.Ends.{NetState, Tells}
 use Rattle.command_line.specs.Serving.{NodeUpheld}
@@ -18,7 +24,22 @@ use Rattle.command_line.specs.declared.status.Status.{Status}
 pub record JournalRests (feed : NetInputs) (was now : IoState) (old : OfDisk) : Type 0 where
   pub bytes : List ℕ
   pub written : Appends was.taken now.taken bytes
-  pub rests : (moment m : ℕ) → IsLineOf (removal_line moment m) bytes → IsReported was old feed (removal_line moment m)
+  pub rests : (moment m : ℕ) → IsLineOf (removal_line moment m) bytes
+      → IsGiven was old feed moment (told.Removed m)
+
+-- Each whole line that was written and gives that a delivered note or accusation was accepted, or that an accusation expired: it
+-- was accepted, or expired, just then in the life that the run began. No note that the life had accepted by then is of a later
+-- epoch than the accusation against its member; and where one answers it otherwise, it expires only as it was accepted again.
+pub record JournalAnswers (feed : NetInputs) (was now : IoState) (old : OfDisk) : Type 0 where
+  pub bytes : List ℕ
+  pub written : Appends was.taken now.taken bytes
+  pub notes : (moment : ℕ) (n : NoteBody) → IsLineOf (accepted_line moment (Note n)) bytes
+      → IsGiven was old feed moment (told.Took (Note n) None)
+  pub accusations : (moment : ℕ) (a : AccBody)
+      → IsLineOf (accepted_line moment (Accusation a)) bytes
+      → IsGiven was old feed moment (told.Took (Accusation a) None)
+  pub expiries : (moment : ℕ) (a : AccBody) → IsLineOf (expiry_line moment a) bytes
+      → IsGiven was old feed moment (told.Expired a)
 
 -- P of what link and clock hold, and how many turns are run, where they are modelled.
 abbrev pub OnFeed : ℕ → NetState → (NetInputs → Type 0) → Type 0
@@ -33,9 +54,10 @@ pub record JournalSpends (was now : IoState) (old new : OfDisk) (s : Status) : T
   pub spends : Spends was between old new result
   pub tells : Tells (status_of_node result) between now s
 
--- The headline for a member's run, under every status: what its removals rest on, and that it spends each index and each epoch
--- once, all above what its store kept.
+-- The headline for a member's run, under every status: what its removals rest on, what its accepted notes rule out, and that it
+-- spends each index and each epoch once, all above what its store kept.
 pub record NodeUpholds (turns : ℕ) (was now : IoState) (old new : OfDisk) (before : NetState) (s : Status) : Type 0 where
   pub untouched : NodeUpheld was now old new s
   pub removals : OnFeed turns before (λ feed. JournalRests feed was now old)
+  pub answers : OnFeed turns before (λ feed. JournalAnswers feed was now old)
   pub spends : JournalSpends was now old new s

@@ -6,6 +6,7 @@ pub mod RunLemmas
 pub mod LineLemmas
 pub mod OriginLemmas
 pub mod RemovalLemmas
+pub mod ReplyLemmas
 pub mod WrittenLemmas
 pub mod RestLemmas
 pub mod SpendLemmas

@@ -4,7 +4,9 @@ use Rattle.std.specs.Prelude.{codes}
 use Rattle.std.specs.Fmt.{decimal}
 use Rattle.std.specs.List.{AllByRecursion, concat}
 use Rattle.std.proofs.lemmas.List.Folds.{concat-append}
+use Rattle.ff_ids.specs.declared.AccBody.{AccBody}
 use Rattle.ff_ids.specs.declared.Fault.{Fault}
+use Rattle.ff_ids.specs.declared.NoteBody.{NoteBody}
 use Rattle.ff_ids.specs.Texts.{accusation_text, fault_text}
 use Rattle.hex.specs.Hex.{encode_lower}
 use Rattle.life_events.specs.declared.event.What.TheVariants as in_life
@@ -28,6 +30,7 @@ use Rattle.trace.proofs.WrittenLemmas.{clear-accusation, clear-fault, clear-then
 use Rattle.trace.proofs.WrittenLemmas as written
 use Rattle.node_loop.specs.Courses.{line_of, with_feed}
 use Rattle.node_command.specs.Removals.{removal_line}
+use Rattle.node_command.specs.Replies.{accepted_line, expiry_line}
 
 -- ## No line has a line feed inside it
 
@@ -113,11 +116,11 @@ whole-event e = whole-fed (event_text e) (clear-event e)
 pub whole-turn : (t : Turn) → IsWholeLine (with_feed (turn_text t))
 whole-turn t = whole-fed (turn_text t) (clear-turn t)
 
--- ## Which line gives a removal
+-- ## Which line gives which event
 
 -- a line that begins as no event does
-pub other-line : (line : List ℕ) (moment m : ℕ) → (get_or line 0 0 ≡ 97 → ⊥) → line ≡ removal_line moment m → ⊥
-other-line line moment m other e = other (ap (λ (x : List ℕ). get_or x 0 0) e)
+pub other-line : (line : List ℕ) (x : journal.Event) → (get_or line 0 0 ≡ 97 → ⊥) → line ≡ line_of x → ⊥
+other-line line x other e = other (ap (λ (x : List ℕ). get_or x 0 0) e)
 
 pub turn-other : (t : Turn) → get_or (with_feed (turn_text t)) 0 0 ≡ 97 → ⊥
 turn-other t e = absurd (omega (arith, e))
@@ -151,13 +154,133 @@ behind-at e =
 drop-at : (x y : List ℕ) → codes "at " ++ x ≡ codes "at " ++ y → x ≡ y
 drop-at x y e = ap (λ (t : List ℕ). drop 3 t) e
 
+-- what events say whose lines are one
+same-what : (e x : journal.Event) → line_of e ≡ line_of x → what_text e.what ++ 10 ∷ [] ≡ what_text x.what ++ 10 ∷ []
+same-what e x same =
+    let behind = drop-at _ _ (sym (behind-at e) ∙ same ∙ behind-at x) in
+    let s = same-fronts 32 (decimal e.moment) (decimal x.moment) _ _ (unspaced-decimal e.moment) (unspaced-decimal x.moment) behind in
+    s.rests
+
 -- an event whose line gives a removal is one
 pub removal-event : (e : journal.Event) (moment m : ℕ) → line_of e ≡ removal_line moment m → (k : ℕ) × (e.what ≡ told.Removed k)
-removal-event e moment m same =
-    let other : journal.Event = record { moment = moment; what = told.Removed m } in
-    let behind = drop-at _ _ (sym (behind-at e) ∙ same ∙ behind-at other) in
-    let s = same-fronts 32 (decimal e.moment) (decimal moment) _ _ (unspaced-decimal e.moment) (unspaced-decimal moment) behind in
-    removed-word e.what m s.rests
+removal-event e moment m same = removed-word e.what m (same-what e (record { moment = moment; what = told.Removed m }) same)
+
+-- the text of what happened, where it is that of an expiry
+expired-word : (w : whats.What) (a : AccBody) → what_text w ++ 10 ∷ [] ≡ (codes "expired " ++ accusation_text a) ++ 10 ∷ [] → (b : AccBody) × (w ≡ told.Expired b)
+expired-word (told.Entered k) a e = absurd (omega (arith, ap (λ (x : List ℕ). get_or x 1 0) e))
+expired-word (told.Expired b) a e = (b, refl)
+expired-word (told.Removed k) a e = absurd (omega (arith, ap (λ (x : List ℕ). get_or x 0 0) e))
+expired-word (told.Fell b) a e = absurd (omega (arith, ap (λ (x : List ℕ). get_or x 0 0) e))
+expired-word (told.Spent index body) a e = absurd (omega (arith, ap (λ (x : List ℕ). get_or x 0 0) e))
+expired-word (told.Took body fault) a e = absurd (omega (arith, ap (λ (x : List ℕ). get_or x 0 0) e))
+expired-word (told.BadForm place) a e = absurd (omega (arith, ap (λ (x : List ℕ). get_or x 0 0) e))
+expired-word (told.Ping from nonce) a e = absurd (omega (arith, ap (λ (x : List ℕ). get_or x 0 0) e))
+expired-word (told.Pong from nonce counted) a e = absurd (omega (arith, ap (λ (x : List ℕ). get_or x 0 0) e))
+expired-word (told.Summary from page flag) a e = absurd (omega (arith, ap (λ (x : List ℕ). get_or x 0 0) e))
+expired-word (told.Silent k) a e = absurd (omega (arith, ap (λ (x : List ℕ). get_or x 0 0) e))
+expired-word (told.Exhausted next) a e = absurd (omega (arith, ap (λ (x : List ℕ). get_or x 2 0) e))
+expired-word (told.Sent number to bytes) a e = absurd (omega (arith, ap (λ (x : List ℕ). get_or x 0 0) e))
+expired-word (told.Lost number) a e = absurd (omega (arith, ap (λ (x : List ℕ). get_or x 0 0) e))
+expired-word (told.Got number) a e = absurd (omega (arith, ap (λ (x : List ℕ). get_or x 0 0) e))
+expired-word told.Stopped a e = absurd (omega (arith, ap (λ (x : List ℕ). get_or x 0 0) e))
+
+-- an event whose line gives an expiry is one
+pub expiry-event : (e : journal.Event) (moment : ℕ) (a : AccBody) → line_of e ≡ expiry_line moment a → (b : AccBody) × (e.what ≡ told.Expired b)
+expiry-event e moment a same = expired-word e.what a (same-what e (record { moment = moment; what = told.Expired a }) same)
+
+-- ## Which line gives what was accepted
+
+-- behind a number and a space
+behind-number : (m n : ℕ) (x y : List ℕ) → decimal m ++ 32 ∷ x ≡ decimal n ++ 32 ∷ y → x ≡ y
+behind-number m n x y e = (same-fronts 32 (decimal m) (decimal n) x y (unspaced-decimal m) (unspaced-decimal n) e).rests
+
+-- a number, a space and this
+abbrev numbered : ℕ → List ℕ → List ℕ
+numbered m x = decimal m ++ 32 ∷ x
+
+-- what stands behind the body in the text of a verdict
+abbrev judged : Option Fault → List ℕ
+judged f = 58 ∷ 32 ∷ (verdict_text f ++ 10 ∷ [])
+
+-- two texts with a space between them, and then this
+spaced : (a b x : List ℕ) → ((a ++ codes " ") ++ b) ++ x ≡ a ++ 32 ∷ (b ++ x)
+spaced a b x = append_assoc (a ++ codes " ") b x ∙ append_assoc a (codes " ") (b ++ x)
+
+judged-behind : (b : List ℕ) (f : Option Fault) → ((b ++ codes " : ") ++ verdict_text f) ++ 10 ∷ [] ≡ b ++ 32 ∷ judged f
+judged-behind b f = append_assoc (b ++ codes " : ") (verdict_text f) (10 ∷ []) ∙ append_assoc b (codes " : ") (verdict_text f ++ 10 ∷ [])
+
+took-note : (n : NoteBody) (f : Option Fault) → what_text (told.Took (Note n) f) ++ 10 ∷ [] ≡ codes "took note " ++ numbered n.member (numbered n.epoch (numbered n.mask.0 (judged f)))
+took-note n f =
+    let one = (decimal n.member ++ codes " ") ++ decimal n.epoch in
+    let two = (one ++ codes " ") ++ decimal n.mask.0 in
+    ap (λ (x : List ℕ). codes "took note " ++ x)
+    (judged-behind two f ∙ spaced one (decimal n.mask.0) (32 ∷ judged f) ∙ spaced (decimal n.member) (decimal n.epoch) (32 ∷ numbered n.mask.0 (judged f)))
+
+took-accusation : (a : AccBody) (f : Option Fault)
+    → what_text (told.Took (Accusation a) f) ++ 10 ∷ [] ≡ codes "took accuse " ++ numbered a.accuser (numbered a.accused (numbered a.epoch (numbered a.ring.0 (judged f))))
+took-accusation a f =
+    let one = (decimal a.accuser ++ codes " ") ++ decimal a.accused in
+    let two = (one ++ codes " ") ++ decimal a.epoch in
+    let three = (two ++ codes " ") ++ decimal a.ring.0 in
+    ap (λ (x : List ℕ). codes "took accuse " ++ x)
+    (judged-behind three f ∙ spaced two (decimal a.ring.0) (32 ∷ judged f) ∙ spaced one (decimal a.epoch) (32 ∷ numbered a.ring.0 (judged f))
+    ∙ spaced (decimal a.accuser) (decimal a.accused) (32 ∷ numbered a.epoch (numbered a.ring.0 (judged f))))
+
+judged-none : (f : Option Fault) → judged f ≡ judged None → f ≡ None
+judged-none None e = refl
+judged-none (Some fault) e = absurd (omega (arith, ap (λ (x : List ℕ). get_or x 2 0) e))
+
+-- a note or an accusation
+abbrev pub IsStatement : Body → Type 0
+IsStatement (Certificate c) = ⊥
+IsStatement other = Unit {0}
+
+note-accepted : (m n : NoteBody) (f : Option Fault) → what_text (told.Took (Note m) f) ++ 10 ∷ [] ≡ what_text (told.Took (Note n) None) ++ 10 ∷ [] → f ≡ None
+note-accepted m n f e =
+    let all = ap (λ (x : List ℕ). drop 10 x) (sym (took-note m f) ∙ e ∙ took-note n None) in
+    let epochs = behind-number m.member n.member _ _ all in
+    let masks = behind-number m.epoch n.epoch _ _ epochs in
+    judged-none f (behind-number m.mask.0 n.mask.0 _ _ masks)
+
+accusation-accepted : (a b : AccBody) (f : Option Fault) → what_text (told.Took (Accusation a) f) ++ 10 ∷ [] ≡ what_text (told.Took (Accusation b) None) ++ 10 ∷ [] → f ≡ None
+accusation-accepted a b f e =
+    let all = ap (λ (x : List ℕ). drop 12 x) (sym (took-accusation a f) ∙ e ∙ took-accusation b None) in
+    let accused = behind-number a.accuser b.accuser _ _ all in
+    let epochs = behind-number a.accused b.accused _ _ accused in
+    let rings = behind-number a.epoch b.epoch _ _ epochs in
+    judged-none f (behind-number a.ring.0 b.ring.0 _ _ rings)
+
+none-faulty : (b body : Body) (f : Option Fault) → IsStatement body → what_text (told.Took b f) ++ 10 ∷ [] ≡ what_text (told.Took body None) ++ 10 ∷ [] → f ≡ None
+none-faulty b (Certificate c) f of e = absurd of
+none-faulty (Certificate c) (Note n) f of e = absurd (omega (arith, ap (λ (x : List ℕ). get_or x 5 0) e))
+none-faulty (Note m) (Note n) f of e = note-accepted m n f e
+none-faulty (Accusation a) (Note n) f of e = absurd (omega (arith, ap (λ (x : List ℕ). get_or x 5 0) e))
+none-faulty (Certificate c) (Accusation b) f of e = absurd (omega (arith, ap (λ (x : List ℕ). get_or x 5 0) e))
+none-faulty (Note m) (Accusation b) f of e = absurd (omega (arith, ap (λ (x : List ℕ). get_or x 5 0) e))
+none-faulty (Accusation a) (Accusation b) f of e = accusation-accepted a b f e
+
+-- the text of what happened, where it is that of such an acceptance
+accepted-word : (w : whats.What) (body : Body) → IsStatement body → what_text w ++ 10 ∷ [] ≡ what_text (told.Took body None) ++ 10 ∷ [] → (b : Body) × (w ≡ told.Took b None)
+accepted-word (told.Entered k) body of e = absurd (omega (arith, ap (λ (x : List ℕ). get_or x 0 0) e))
+accepted-word (told.Expired b) body of e = absurd (omega (arith, ap (λ (x : List ℕ). get_or x 0 0) e))
+accepted-word (told.Removed k) body of e = absurd (omega (arith, ap (λ (x : List ℕ). get_or x 0 0) e))
+accepted-word (told.Fell b) body of e = absurd (omega (arith, ap (λ (x : List ℕ). get_or x 0 0) e))
+accepted-word (told.Spent index b) body of e = absurd (omega (arith, ap (λ (x : List ℕ). get_or x 0 0) e))
+accepted-word (told.Took b fault) body of e = (b, ap (λ (f : Option Fault). told.Took b f) (none-faulty b body fault of e))
+accepted-word (told.BadForm place) body of e = absurd (omega (arith, ap (λ (x : List ℕ). get_or x 0 0) e))
+accepted-word (told.Ping from nonce) body of e = absurd (omega (arith, ap (λ (x : List ℕ). get_or x 0 0) e))
+accepted-word (told.Pong from nonce counted) body of e = absurd (omega (arith, ap (λ (x : List ℕ). get_or x 0 0) e))
+accepted-word (told.Summary from page flag) body of e = absurd (omega (arith, ap (λ (x : List ℕ). get_or x 0 0) e))
+accepted-word (told.Silent k) body of e = absurd (omega (arith, ap (λ (x : List ℕ). get_or x 0 0) e))
+accepted-word (told.Exhausted next) body of e = absurd (omega (arith, ap (λ (x : List ℕ). get_or x 0 0) e))
+accepted-word (told.Sent number to bytes) body of e = absurd (omega (arith, ap (λ (x : List ℕ). get_or x 0 0) e))
+accepted-word (told.Lost number) body of e = absurd (omega (arith, ap (λ (x : List ℕ). get_or x 0 0) e))
+accepted-word (told.Got number) body of e = absurd (omega (arith, ap (λ (x : List ℕ). get_or x 0 0) e))
+accepted-word told.Stopped body of e = absurd (omega (arith, ap (λ (x : List ℕ). get_or x 0 0) e))
+
+-- an event whose line gives that a note or an accusation was accepted is one
+pub accepted-event : (e : journal.Event) (moment : ℕ) (body : Body) → IsStatement body → line_of e ≡ accepted_line moment body → (b : Body) × (e.what ≡ told.Took b None)
+accepted-event e moment body of same = accepted-word e.what body of (same-what e (record { moment = moment; what = told.Took body None }) same)
 
 -- ## Texts that are whole lines
 

@@ -9,7 +9,7 @@ use Rattle.ff_ids.specs.declared.Fault.{Fault}
 use Rattle.ff_ids.specs.declared.Group.{Group}
 use Rattle.ff_ids.specs.Faults.{accusation_fault}
 use Rattle.ff_ids.specs.Views.{State, in_view, is_member}
-use Rattle.ff_ids.specs.Steps.{Event, Joins, Notes, Accuses, Ticks as Passes, Report, Stepped, after_accusation, joined, step, unchanged, unless_fault}
+use Rattle.ff_ids.specs.Steps.{Event, Joins, Notes, Accuses, Ticks as Passes, Report, after_accusation, joined, step, unchanged, unless_fault}
 use Rattle.ff_ids.specs.Lives.{after, opening, state_at, IsRemovedAt, RestsOn}
 use Rattle.life_laws.proofs.Lists.{In, In-append_cases, In-filter, In-from_map}
 use Rattle.life_laws.proofs.LifeLemmas.{state_at-next}
@@ -55,7 +55,7 @@ after-append : (g : Group) (st : State) (xs ys : List Event) → after g st (xs 
 after-append g st [] ys = refl
 after-append g st (x ∷ xs) ys = after-append g (step g st x).state xs ys
 
-at-last : (events : List Event) (e : Event) → slice_get (events ++ e ∷ []) (length events) ≡ Some e
+pub at-last : (events : List Event) (e : Event) → slice_get (events ++ e ∷ []) (length events) ≡ Some e
 at-last [] e = refl
 at-last (x ∷ events) e = at-last events e
 
@@ -158,26 +158,36 @@ told-removed moment r at m i =
       brings = ap (λ (e : journal.Event). e.moment) x.1.1;
     }
 
--- one of these events removed the member
-record RemovedIn (g : Group) (st : State) (events : List Event) (at m : ℕ) : Type 0 where
+-- what a step of the life reports
+abbrev pub reported : Group → State → Event → List journal.Event
+reported g st e = told_of (step g st e).state.moment (step g st e).report
+
+-- one of these events reports it
+record ToldIn (g : Group) (st : State) (events : List Event) (e : journal.Event) : Type 0 where
   place : ℕ
   event : Event
   is : slice_get events place ≡ Some event
-  removed : In (step g (after g st (take place events)) event).report.removed m
-  brings : (step g (after g st (take place events)) event).state.moment ≡ at
+  told : In (reported g (after g st (take place events)) event) e
 
-removed-in : (g : Group) (st : State) (events : List Event) (at m : ℕ) → In (told_by g st events) (removal at m) → RemovedIn g st events at m
-removed-in g st [] at m i = absurd i
-removed-in g st (e ∷ events) at m i =
-    let made : Stepped = step g st e in
-    elim (In-append_cases (told_of made.state.moment made.report) (told_by g made.state events) (removal at m) i) [
-      | inl here ↦ let x = told-removed made.state.moment made.report at m here in record { place = zero; event = e; is = refl; removed = x.removed; brings = x.brings }
-      | inr later ↦ let x = removed-in g made.state events at m later in record { place = suc x.place; event = x.event; is = x.is; removed = x.removed; brings = x.brings }
+told-at : (g : Group) (st : State) (events : List Event) (e : journal.Event) → In (told_by g st events) e → ToldIn g st events e
+told-at g st [] e i = absurd i
+told-at g st (x ∷ events) e i =
+    elim (In-append_cases (reported g st x) (told_by g (step g st x).state events) e i) [
+      | inl here ↦ record { place = zero; event = x; is = refl; told = here }
+      | inr later ↦ let y = told-at g (step g st x).state events e later in record { place = suc y.place; event = y.event; is = y.is; told = y.told }
     ]
 
-told-in : (s : Setting) (n : Node) (c : Call) (h : TellsItsLife s n c) (at m : ℕ) → In c.told (removal at m) → RemovedIn s.group (state_of s n) h.more at m
-told-in s n c h at m i =
-    removed-in s.group (state_of s n) h.more at m (subst (λ (es : List journal.Event). In es (removal at m)) h.told_so (In-filter (λ e. is_of_life e.what) c.told (removal at m) i refl))
+told-in : (s : Setting) (n : Node) (c : Call) (h : TellsItsLife s n c) (e : journal.Event) → is_of_life e.what ≡ true → In c.told e → ToldIn s.group (state_of s n) h.more e
+told-in s n c h e of_life i =
+    told-at s.group (state_of s n) h.more e (subst (λ (es : List journal.Event). In es e) h.told_so (In-filter (λ e. is_of_life e.what) c.told e i of_life))
+
+-- No step of a life but a tick reports it.
+pub record IsOfTicks (e : journal.Event) : Type 0 where
+  pub of_life : is_of_life e.what ≡ true
+  pub only : (g : Group) (events : List Event) (x : Event) → In (reported g (after g (opening []) events) x) e → x ≡ Passes
+
+pub removal-of-ticks : (at m : ℕ) → IsOfTicks (removal at m)
+removal-of-ticks at m = record { of_life = refl; only = λ g events x i. only-ticks-remove g events x m (told-removed _ _ at m i).removed }
 
 -- ## Calls that count no tick
 
@@ -316,104 +326,114 @@ tickless-ticked_until s n silent m =
     let base = n.lived ++ Passes ∷ [] in
     tickless-accuses false s base (accuses_all s silent (probed_at s n)) m (tickless-accused s base silent (probed_at s n) (tickless-same base (probed_at s n).node (lived-probed s n)))
 
--- ## The removals of a call
+-- ## What the tick of a call reports
+
+-- The tick that the node makes next reports it.
+abbrev pub TicksTell : Setting → Node → journal.Event → Type 0
+TicksTell s n e = In (reported s.group (state_of s n) Passes) e
 
 -- The tick that the node makes next removes the member, and brings this moment.
 pub record TicksAway (s : Setting) (n : Node) (at m : ℕ) : Type 0 where
   pub removed : In (step s.group (state_of s n) Passes).report.removed m
   pub brings : (step s.group (state_of s n) Passes).state.moment ≡ at
 
+pub ticks-away : (s : Setting) (n : Node) (at m : ℕ) → TicksTell s n (removal at m) → TicksAway s n at m
+ticks-away s n at m i = let x = told-removed _ _ at m i in record { removed = x.removed; brings = x.brings }
+
 state-behind : (s : Setting) (n : Node) (events : List Event) → after s.group (state_of s n) events ≡ after s.group (opening []) (n.lived ++ events)
 unfolding state_of
 state-behind s n events = sym (after-append s.group (opening []) n.lived events)
 
-removed-is-tick : (s : Setting) (n : Node) (events : List Event) (at m : ℕ) → (x : RemovedIn s.group (state_of s n) events at m) → x.event ≡ Passes
-removed-is-tick s n events at m x =
-    only-ticks-remove s.group (n.lived ++ take x.place events) x.event m
-    (subst (λ (st : State). In (step s.group st x.event).report.removed m) (state-behind s n (take x.place events)) x.removed)
+told-is-tick : (s : Setting) (n : Node) (events : List Event) (e : journal.Event) → IsOfTicks e → (x : ToldIn s.group (state_of s n) events e) → x.event ≡ Passes
+told-is-tick s n events e of x =
+    of.only s.group (n.lived ++ take x.place events) x.event
+    (subst (λ (st : State). In (reported s.group st x.event) e) (state-behind s n (take x.place events)) x.told)
 
-none-removed : (s : Setting) (n : Node) (c : Call) (at m : ℕ) → TellsItsLife s n c → IsTickless n.lived c.node → In c.told (removal at m) → ⊥
-none-removed s n c at m h t i =
-    let x = told-in s n c h at m i in
+none-told : (s : Setting) (n : Node) (c : Call) (e : journal.Event) → IsOfTicks e → TellsItsLife s n c → IsTickless n.lived c.node → In c.told e → ⊥
+none-told s n c e of h t i =
+    let x = told-in s n c h e of.of_life i in
     let more : h.more ≡ t.more = append_cancel_left n.lived h.more t.more (sym h.grew ∙ t.grew) in
-    t.none x.place (ap (λ (xs : List Event). slice_get xs x.place) (sym more) ∙ x.is ∙ ap (λ (e : Event). Some e) (removed-is-tick s n h.more at m x))
+    t.none x.place (ap (λ (xs : List Event). slice_get xs x.place) (sym more) ∙ x.is ∙ ap (λ (y : Event). Some y) (told-is-tick s n h.more e of x))
 
-first-removed : (s : Setting) (n : Node) (rest : List Event) (at m : ℕ) → ((place : ℕ) → slice_get rest place ≡ Some Passes → ⊥) → RemovedIn s.group (state_of s n) (Passes ∷ rest) at m → TicksAway s n at m
-first-removed s n rest at m none x = by x.place x.is x.removed x.brings
+first-told : (s : Setting) (n : Node) (rest : List Event) (e : journal.Event) → IsOfTicks e → ((place : ℕ) → slice_get rest place ≡ Some Passes → ⊥) → ToldIn s.group (state_of s n) (Passes ∷ rest) e → TicksTell s n e
+first-told s n rest e of none x = by x.place x.is x.told
   where
     tick : x.event ≡ Passes
-    tick = removed-is-tick s n (Passes ∷ rest) at m x
+    tick = told-is-tick s n (Passes ∷ rest) e of x
 
-    by : (place : ℕ) → slice_get (Passes ∷ rest) place ≡ Some x.event → In (step s.group (after s.group (state_of s n) (take place (Passes ∷ rest))) x.event).report.removed m
-        → (step s.group (after s.group (state_of s n) (take place (Passes ∷ rest))) x.event).state.moment ≡ at → TicksAway s n at m
-    by zero is removed brings = record {
-      removed = subst (λ (e : Event). In (step s.group (state_of s n) e).report.removed m) tick removed;
-      brings = subst (λ (e : Event). (step s.group (state_of s n) e).state.moment ≡ at) tick brings;
-    }
-    by (suc place) is removed brings = absurd (none place (is ∙ ap (λ (e : Event). Some e) tick))
+    by : (place : ℕ) → slice_get (Passes ∷ rest) place ≡ Some x.event → In (reported s.group (after s.group (state_of s n) (take place (Passes ∷ rest))) x.event) e → TicksTell s n e
+    by zero is told = subst (λ (y : Event). In (reported s.group (state_of s n) y) e) tick told
+    by (suc place) is told = absurd (none place (is ∙ ap (λ (y : Event). Some y) tick))
 
-tick-removed : (s : Setting) (n : Node) (c : Call) (at m : ℕ) → TellsItsLife s n c → IsTickless (n.lived ++ Passes ∷ []) c.node → In c.told (removal at m) → TicksAway s n at m
-tick-removed s n c at m h t i =
+tick-told : (s : Setting) (n : Node) (c : Call) (e : journal.Event) → IsOfTicks e → TellsItsLife s n c → IsTickless (n.lived ++ Passes ∷ []) c.node → In c.told e → TicksTell s n e
+tick-told s n c e of h t i =
     let more : h.more ≡ Passes ∷ t.more = append_cancel_left n.lived h.more (Passes ∷ t.more) (sym h.grew ∙ t.grew ∙ append_assoc n.lived (Passes ∷ []) t.more) in
-    first-removed s n t.more at m t.none (subst (λ (xs : List Event). RemovedIn s.group (state_of s n) xs at m) more (told-in s n c h at m i))
+    first-told s n t.more e of t.none (subst (λ (xs : List Event). ToldIn s.group (state_of s n) xs e) more (told-in s n c h e of.of_life i))
 
--- The call is a tick, which removes the member.
-pub record RemovesNow (s : Setting) (n : Node) (i : Input) (at m : ℕ) : Type 0 where
+-- The call is a tick, which reports it.
+pub record TellsNow (s : Setting) (n : Node) (i : Input) (e : journal.Event) : Type 0 where
   pub tick : i ≡ Ticks
-  pub away : TicksAway s n at m
+  pub told : TicksTell s n e
 
-pub called-removed : (s : Setting) (n : Node) (i : Input) (at m : ℕ) → In (call_of s n i).told (removal at m) → RemovesNow s n i at m
-called-removed s n (Delivers bytes) at m i = absurd (none-removed s n (delivered s n bytes) at m (call-tells s n (Delivers bytes)) (tickless-delivered s n bytes (read_of bytes) refl) i)
-called-removed s n Ticks at m i = record { tick = refl; away = tick-removed s n (ticked s n) at m (call-tells s n Ticks) (tickless-ticked s n) i }
+pub called-told : (s : Setting) (n : Node) (i : Input) (e : journal.Event) → IsOfTicks e → In (call_of s n i).told e → TellsNow s n i e
+called-told s n (Delivers bytes) e of i = absurd (none-told s n (delivered s n bytes) e of (call-tells s n (Delivers bytes)) (tickless-delivered s n bytes (read_of bytes) refl) i)
+called-told s n Ticks e of i = record { tick = refl; told = tick-told s n (ticked s n) e of (call-tells s n Ticks) (tickless-ticked s n) i }
 
-pub cut-removed : (s : Setting) (n : Node) (i : Input) (c : Call) (at m : ℕ) → IsCut s n i c → In c.told (removal at m) → RemovesNow s n i at m
-cut-removed s n i c at m cut among =
-    holds-called s n (λ i x. In x.told (removal at m) → RemovesNow s n i at m) (λ i. called-removed s n i at m)
-    (λ bytes front r j. absurd (none-removed s n (delivered_until s n front r) at m (delivered_until-tells s n front r) (tickless-until s n front r) j))
-    (λ front who j. record { tick = refl; away = tick-removed s n (ticked_until s n front who) at m (ticked_until-tells s n front who) (tickless-ticked_until s n front who) j })
-    i (Some cut.put) (subst (λ (x : Call). In x.told (removal at m)) cut.is among)
+pub cut-told : (s : Setting) (n : Node) (i : Input) (c : Call) (e : journal.Event) → IsOfTicks e → IsCut s n i c → In c.told e → TellsNow s n i e
+cut-told s n i c e of cut among =
+    holds-called s n (λ i x. In x.told e → TellsNow s n i e) (λ i. called-told s n i e of)
+    (λ bytes front r j. absurd (none-told s n (delivered_until s n front r) e of (delivered_until-tells s n front r) (tickless-until s n front r) j))
+    (λ front who j. record { tick = refl; told = tick-told s n (ticked_until s n front who) e of (ticked_until-tells s n front who) (tickless-ticked_until s n front who) j })
+    i (Some cut.put) (subst (λ (x : Call). In x.told e) cut.is among)
 
 -- ## The start
 
-abbrev IsQuiet : Call → Type 0
-IsQuiet c = (at m : ℕ) → In c.told (removal at m) → ⊥
+-- It is reported neither by the step of a record nor of a signature.
+pub record IsOfNoStart (e : journal.Event) : Type 0 where
+  pub no_step : (g : Group) (events : List Event) (x : Event) → (x ≡ Passes → ⊥) → In (reported g (after g (opening []) events) x) e → ⊥
+  pub unspent : (index : ℕ) (body : Body) → told.Spent index body ≡ e.what → ⊥
 
-quiet-lives : (s : Setting) (e : Event) (c : Call) → (e ≡ Passes → ⊥) → IsQuiet c → IsQuiet (lives s e c)
-unfolding lives state_of
-quiet-lives s e c other h at m i =
-    let made : Stepped = step s.group (after s.group (opening []) c.node.lived) e in
-    elim (In-append_cases c.told (told_of made.state.moment made.report) (removal at m) i) [
-      | inl old ↦ h at m old
-      | inr new ↦ other (only-ticks-remove s.group c.node.lived e m (told-removed made.state.moment made.report at m new).removed)
+abbrev IsQuiet : journal.Event → Call → Type 0
+IsQuiet e c = In c.told e → ⊥
+
+quiet-takes : (s : Setting) (e : journal.Event) (r : Record) (c : Call) → IsOfNoStart e → IsQuiet e c → IsQuiet e (takes s r c)
+unfolding takes lives state_of
+quiet-takes s e r c of h i =
+    elim (In-append_cases c.told (reported s.group (after s.group (opening []) c.node.lived) (event_of s r.body)) e i) [
+      | inl old ↦ h old
+      | inr new ↦ of.no_step s.group c.node.lived (event_of s r.body) (event-not s r.body) new
     ]
 
-quiet-takes : (s : Setting) (r : Record) (c : Call) → IsQuiet c → IsQuiet (takes s r c)
-unfolding takes
-quiet-takes s r c h = quiet-lives s (event_of s r.body) c (event-not s r.body) h
-
-quiet-spends : (s : Setting) (body : Body) (c : Call) → IsQuiet c → IsQuiet (spends s body c)
-quiet-spends s body c h at m i =
+quiet-spends : (s : Setting) (e : journal.Event) (body : Body) (c : Call) → IsOfNoStart e → IsQuiet e c → IsQuiet e (spends s body c)
+quiet-spends s e body c of h i =
     let spent : journal.Event = record { moment = (state_of s c.node).moment; what = told.Spent c.node.stored.next body } in
-    elim (In-append_cases c.told (spent ∷ []) (removal at m) i) [
-      | inl old ↦ h at m old
-      | inr (inl is) ↦ spent-not c.node.stored.next body m (ap (λ (e : journal.Event). e.what) is)
+    elim (In-append_cases c.told (spent ∷ []) e i) [
+      | inl old ↦ h old
+      | inr (inl is) ↦ of.unspent c.node.stored.next body (ap (λ (x : journal.Event). x.what) is)
       | inr (inr none) ↦ none
     ]
-  where
-    spent-not : (index : ℕ) (body : Body) (m : ℕ) → told.Spent index body ≡ told.Removed m → ⊥
-    spent-not index body m e = cc
 
-quiet-opened : (s : Setting) (certificates : List Record) (c : Call) → IsQuiet c → IsQuiet (fold (λ x r. takes s r x) c certificates)
-quiet-opened s [] c h = h
-quiet-opened s (r ∷ rs) c h = quiet-opened s rs (takes s r c) (quiet-takes s r c h)
+quiet-opened : (s : Setting) (e : journal.Event) (certificates : List Record) (c : Call) → IsOfNoStart e → IsQuiet e c → IsQuiet e (fold (λ x r. takes s r x) c certificates)
+quiet-opened s e [] c of h = h
+quiet-opened s e (r ∷ rs) c of h = quiet-opened s e rs (takes s r c) of (quiet-takes s e r c of h)
 
--- As a life begins nobody is removed.
-pub start-quiet : (s : Setting) (seed : List ℕ) (certificates : List Record) (stored : Stored) (at m : ℕ) → In (started s seed certificates stored).told (removal at m) → ⊥
+-- A life begins without it.
+pub start-quiet : (s : Setting) (seed : List ℕ) (certificates : List Record) (stored : Stored) (e : journal.Event) → IsOfNoStart e → In (started s seed certificates stored).told e → ⊥
 unfolding started signs
-start-quiet s seed certificates stored =
+start-quiet s seed certificates stored e of =
     let c : Call = opened s seed certificates stored in
-    let h : IsQuiet c = quiet-opened s certificates (begun (blank s seed stored)) (λ at m none. none) in
-    quiet-takes s _ (spends s (first_note s stored) c) (quiet-spends s (first_note s stored) c h)
+    let h : IsQuiet e c = quiet-opened s e certificates (begun (blank s seed stored)) of (λ none. none) in
+    quiet-takes s e _ (spends s (first_note s stored) c) of (quiet-spends s e (first_note s stored) c of h)
+
+pub removal-no-start : (at m : ℕ) → IsOfNoStart (removal at m)
+removal-no-start at m =
+    record {
+      no_step = λ g events x other i. other (only-ticks-remove g events x m (told-removed _ _ at m i).removed);
+      unspent = λ index body e. spent-not index body e;
+    }
+  where
+    spent-not : (index : ℕ) (body : Body) → told.Spent index body ≡ told.Removed m → ⊥
+    spent-not index body e = cc
 
 abbrev IsUnaccused : Node → Type 0
 IsUnaccused n = (place : ℕ) (a : AccBody) → slice_get n.lived place ≡ Some (Accuses a) → ⊥
@@ -455,7 +475,7 @@ start-unaccused s seed certificates stored all =
 
 -- ## A removal of a course
 
-state-at_tick : (s : Setting) (n : Node) → state_of s (at_tick s n) ≡ (step s.group (state_of s n) Passes).state
+pub state-at_tick : (s : Setting) (n : Node) → state_of s (at_tick s n) ≡ (step s.group (state_of s n) Passes).state
 unfolding passed lives state_of
 state-at_tick s n = after-append s.group (opening []) n.lived (Passes ∷ [])
 

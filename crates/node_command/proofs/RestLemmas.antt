@@ -1,4 +1,4 @@
--- What the removals rest on that a run has written.
+-- What the lines rest on that a run has written.
 use Rattle.std.proofs.Common.{◌≡◌, ℕ, List, [], ◌∷◌, ◌++◌, length, Option, Some, None, Result, Ok, Err, inl, inr, refl, ap, sym, ◌∙◌, subst, arith}
 use Rattle.std.specs.List.{concat}
 use Rattle.std.specs.Io.KnownBytes.{Appends}
@@ -19,6 +19,7 @@ use Rattle.whole_text.specs.Laws.{told-silent}
 use Rattle.whole_text.proofs.WholeLemmas.{never-unwritten}
 use Rattle.node_core.specs.Begins.{IsVouchable}
 use Rattle.node_core.specs.Rolls.{recs_of}
+use Rattle.journal.specs.declared.event.What.TheVariants as happened
 use Rattle.node_rules.proofs.OwnKey.{key-started}
 use Rattle.node_command.specs.declared.halt.NodeHalt.{NodeHalt}
 use Rattle.node_command.specs.declared.halt.NodeHalt.TheVariants as halt
@@ -28,9 +29,10 @@ use Rattle.node_command.specs.Opening.{IsFound, setting_for, start_of}
 use Rattle.ports.specs.Outside.{OfDisk}
 use Rattle.node_command.specs.Journal.{Environment, end_line, lines_of}
 use Rattle.node_command.specs.Running.{NetInputs, HasRun, IsUnwritten, LivesOut, Runs, RunsBehind, RunsOnce, life_in, once_bound}
-use Rattle.node_command.specs.Removals.{AreWholeLines, RemovalsRest, UnlessCut, acts_of, first_of, removal_line}
+use Rattle.node_command.specs.Written.{AreWholeLines, LinesRest, UnlessCut, acts_of, event_line, first_of}
 use Rattle.node_command.proofs.LineLemmas.{in-front, lines-behind}
-use Rattle.node_command.proofs.RemovalLemmas.{start-quiet, start-unaccused}
+use Rattle.node_command.proofs.RemovalLemmas.{removal-no-start, start-quiet, start-unaccused}
+use Rattle.node_command.proofs.ReplyLemmas.{expiry-no-start, taken-no-start}
 use Rattle.node_command.proofs.WrittenLemmas.{Gives, IsFounded, TellsOf, WritesOf, end-lines, life-of, lines-all, lines-told, lives-written, writes-all}
 
 -- ## The life that began
@@ -46,7 +48,10 @@ founded m stored feed v =
     }
 
 tells-start : (m : Member) (stored : Stored) (feed : NetInputs) → TellsOf (setting_for m) (first_of m stored feed) (acts_of m feed) (start_of m stored).told
-tells-start m stored feed at who i = absurd (start-quiet (setting_for m) (nonce_seed m.own.secret stored.next) (recs_of m.certificates.items) stored at who i)
+tells-start m stored feed at (happened.Removed who) i = absurd (start-quiet (setting_for m) (nonce_seed m.own.secret stored.next) (recs_of m.certificates.items) stored _ (removal-no-start at who) i)
+tells-start m stored feed at (happened.Expired a) i = absurd (start-quiet (setting_for m) (nonce_seed m.own.secret stored.next) (recs_of m.certificates.items) stored _ (expiry-no-start at a) i)
+tells-start m stored feed at (happened.Took body None) i = absurd (start-quiet (setting_for m) (nonce_seed m.own.secret stored.next) (recs_of m.certificates.items) stored _ (taken-no-start at body) i)
+tells-start m stored feed at _ i = tt
 
 -- what was written of the life
 abbrev WritesIn : Member → Stored → NetInputs → Option (List ℕ) → Option (List ℕ) → Result (Unit {0}) NodeHalt → Type 0
@@ -70,7 +75,7 @@ out-written m feed was now result l =
     lives-written (setting_for m) (public_of m.own.key) l.1 (first_of m stored feed) (acts_of m feed) (start_of m stored).told (record was { disk = l.2 }) now result
     (founded m stored feed l.3.vouchable) refl (life-of m.millis feed.turns feed.link.coming feed.reading feed.readings) (tells-start m stored feed) l.4
 
--- ## The removals of a run
+-- ## The lines of a run
 
 unless-cut : (result : Result (Unit {0}) NodeHalt) (P : Type 0) → P → UnlessCut result P
 unless-cut (Ok x) P p = p
@@ -91,24 +96,24 @@ none-in line of =
     absurd (omega (arith, ap length of.parts, length-append (concat of.earlier) (line ++ of.after), length-append line of.after, ap length of.here.ended, length-append of.here.front (10 ∷ [])))
 
 -- nothing was written
-rests-none : (feed : NetInputs) (was now : IoState) (old : OfDisk) (result : Result (Unit {0}) NodeHalt) → Appends was.taken now.taken [] → RemovalsRest feed was now old result
+rests-none : (feed : NetInputs) (was now : IoState) (old : OfDisk) (result : Result (Unit {0}) NodeHalt) → Appends was.taken now.taken [] → LinesRest feed was now old result
 rests-none feed was now old result none =
-    record { bytes = []; written = none; rests = λ moment m of. absurd (none-in (removal_line moment m) of); ended = unless-cut result (AreWholeLines []) no-lines }
+    record { bytes = []; written = none; rests = λ moment w of. absurd (none-in (event_line moment w) of); ended = unless-cut result (AreWholeLines []) no-lines }
 
 -- a life was written
 rests-life : (feed : NetInputs) (was between now : IoState) (old : OfDisk) (m : Member) (stored : Stored) (result : Result (Unit {0}) NodeHalt) → IsMember was between m → IsFound m stored old → WritesIn m stored feed between.taken now.taken result
-    → RemovalsRest feed was now old result
+    → LinesRest feed was now old result
 rests-life feed was between now old m stored result read found w =
     record {
       bytes = w.bytes;
       written = Appends-trans was.taken between.taken now.taken [] w.bytes read.whole.wrote w.written;
-      rests = λ moment who of. record {
+      rests = λ moment what of. record {
         member = m;
         between = between;
         read = read;
         stored = stored;
         found = found;
-        gives = in-front (Gives (setting_for m) (first_of m stored feed) (acts_of m feed)) w.whole w.bytes w.front.more (removal_line moment who) w.lines w.front.is of moment who refl;
+        gives = in-front (Gives (setting_for m) (first_of m stored feed) (acts_of m feed)) w.whole w.bytes w.front.more (event_line moment what) w.lines w.front.is of moment what refl;
       };
       ended = w.ended;
     }
@@ -117,7 +122,7 @@ pub same-taken : (was now : Option (List ℕ)) → now ≡ was → Appends was n
 same-taken was now same = subst (λ (x : Option (List ℕ)). Appends was x []) (sym same) (Appends-nil was)
 
 -- the text was read, and no life written
-rests-read : (feed : NetInputs) (was between now : IoState) (old : OfDisk) (m : Member) (result : Result (Unit {0}) NodeHalt) → IsMember was between m → now.taken ≡ between.taken → RemovalsRest feed was now old result
+rests-read : (feed : NetInputs) (was between now : IoState) (old : OfDisk) (m : Member) (result : Result (Unit {0}) NodeHalt) → IsMember was between m → now.taken ≡ between.taken → LinesRest feed was now old result
 rests-read feed was between now old m result read same =
     rests-none feed was now old result (Appends-trans was.taken between.taken now.taken [] [] read.whole.wrote (same-taken between.taken now.taken same))
 
@@ -152,22 +157,22 @@ silent-unread j form was now stop.OutOfMemory h =
 -- ## The whole
 
 once-rests : (feed : NetInputs) (was between now : IoState) (old new : Environment) (m : Member) (result : Result (Unit {0}) NodeHalt) → IsMember was between m → new.taken ≡ now.taken
-    → RunsOnce m feed (once_bound m feed (record old { taken = between.taken })) new result → RemovalsRest feed was now old.disk result
+    → RunsOnce m feed (once_bound m feed (record old { taken = between.taken })) new result → LinesRest feed was now old.disk result
 once-rests feed was between now old new m result read same h = by result h
   where
     o : Environment
     o = once_bound m feed (record old { taken = between.taken })
 
-    life : (result : Result (Unit {0}) NodeHalt) (stored : Stored) → IsFound m stored old.disk → WritesIn m stored feed between.taken new.taken result → RemovalsRest feed was now old.disk result
+    life : (result : Result (Unit {0}) NodeHalt) (stored : Stored) → IsFound m stored old.disk → WritesIn m stored feed between.taken new.taken result → LinesRest feed was now old.disk result
     life result stored found w = rests-life feed was between now old.disk m stored result read found (subst (λ (x : Option (List ℕ)). WritesIn m stored feed between.taken x result) same w)
 
-    out : (result : Result (Unit {0}) NodeHalt) → LivesOut m feed o new result → RemovalsRest feed was now old.disk result
+    out : (result : Result (Unit {0}) NodeHalt) → LivesOut m feed o new result → LinesRest feed was now old.disk result
     out result l = life result l.0 l.3.found (out-written m feed o new result l)
 
-    none : (result : Result (Unit {0}) NodeHalt) → IsUnwritten o new → RemovalsRest feed was now old.disk result
+    none : (result : Result (Unit {0}) NodeHalt) → IsUnwritten o new → LinesRest feed was now old.disk result
     none result u = rests-read feed was between now old.disk m result read (sym same ∙ u.taken)
 
-    by : (result : Result (Unit {0}) NodeHalt) → RunsOnce m feed o new result → RemovalsRest feed was now old.disk result
+    by : (result : Result (Unit {0}) NodeHalt) → RunsOnce m feed o new result → LinesRest feed was now old.disk result
     by (Ok done) h = life (Ok done) h.stored h.found (run-written m feed o new done h)
     by (Err (halt.Refused line w)) h = absurd h
     by (Err halt.ReadFault) h = absurd h
@@ -179,19 +184,19 @@ once-rests feed was between now old new m result read same h = by result h
     by (Err halt.OutOfMemory) h = elim h [ inl u ↦ none (Err halt.OutOfMemory) u.0 | inr l ↦ out (Err halt.OutOfMemory) l ]
 
 behind-rests : (feed : NetInputs) (was between now : IoState) (old new : Environment) (m : Member) (result : Result (Unit {0}) NodeHalt) → IsMember was between m → new.taken ≡ now.taken
-    → RunsBehind m feed (record old { taken = between.taken }) new result → RemovalsRest feed was now old.disk result
+    → RunsBehind m feed (record old { taken = between.taken }) new result → LinesRest feed was now old.disk result
 behind-rests feed was between now old new m result read same h = by result h
   where
     o : Environment
     o = record old { taken = between.taken }
 
-    once : (result : Result (Unit {0}) NodeHalt) → RunsOnce m feed (once_bound m feed o) new result → RemovalsRest feed was now old.disk result
+    once : (result : Result (Unit {0}) NodeHalt) → RunsOnce m feed (once_bound m feed o) new result → LinesRest feed was now old.disk result
     once result h = once-rests feed was between now old new m result read same h
 
-    still : (result : Result (Unit {0}) NodeHalt) → new ≡ o → RemovalsRest feed was now old.disk result
+    still : (result : Result (Unit {0}) NodeHalt) → new ≡ o → LinesRest feed was now old.disk result
     still result is = rests-read feed was between now old.disk m result read (sym same ∙ ap (λ (x : Environment). x.taken) is)
 
-    by : (result : Result (Unit {0}) NodeHalt) → RunsBehind m feed o new result → RemovalsRest feed was now old.disk result
+    by : (result : Result (Unit {0}) NodeHalt) → RunsBehind m feed o new result → LinesRest feed was now old.disk result
     by (Ok done) h = once (Ok done) h
     by (Err (halt.Refused line w)) h = once (Err (halt.Refused line w)) h
     by (Err halt.ReadFault) h = once (Err halt.ReadFault) h
@@ -202,8 +207,8 @@ behind-rests feed was between now old new m result read same h = by result h
     by (Err (halt.Exhausted next)) h = once (Err (halt.Exhausted next)) h
     by (Err halt.OutOfMemory) h = elim h [ inl is ↦ still (Err halt.OutOfMemory) is | inr run ↦ once (Err halt.OutOfMemory) run ]
 
--- Whatever ended the run, what it wrote of removals rests on its life.
-pub run-rests : (feed : NetInputs) (was now : IoState) (old new : Environment) (result : Result (Unit {0}) NodeHalt) → new.taken ≡ now.taken → Runs feed was now old new result → RemovalsRest feed was now old.disk result
+-- Whatever ended the run, each line that it wrote rests on its life.
+pub run-rests : (feed : NetInputs) (was now : IoState) (old new : Environment) (result : Result (Unit {0}) NodeHalt) → new.taken ≡ now.taken → Runs feed was now old new result → LinesRest feed was now old.disk result
 run-rests feed was now old new (Ok done) same h = behind-rests feed was h.between now old new h.member (Ok done) h.read same h.rest
 run-rests feed was now old new (Err (halt.Refused line w)) same h = rests-none feed was now old.disk (Err (halt.Refused line w)) (silent-unread kit_judging kit.Start was now (stop.Refused line w) h.unfinished)
 run-rests feed was now old new (Err halt.ReadFault) same h = rests-none feed was now old.disk (Err halt.ReadFault) (silent-unread kit_judging kit.Start was now stop.ReadFault h.unfinished)

@@ -1,4 +1,4 @@
--- The whole lines that a life writes, and which of them give removals.
+-- The whole lines that a life writes, and what they give.
 use Rattle.std.proofs.Common.{◌≡◌, ◌⊎◌, ℕ, ◌+◌, zero, suc, List, [], ◌∷◌, ◌++◌, take, Option, Some, None, Result, Ok, Err, inl, inr, refl, ap, sym, ◌∙◌, subst, append_assoc, append-nil, arith}
 use Rattle.std.specs.Prelude.{codes, drop}
 use Rattle.std.specs.List.{AllByRecursion, slice_get}
@@ -13,6 +13,7 @@ use Rattle.lms_tree.specs.declared.key.PublicKey.{PublicKey}
 use Rattle.journal.specs.declared.event.Event as journal
 use Rattle.journal.specs.declared.event.What as whats
 use Rattle.journal.specs.declared.event.What.TheVariants as told
+use Rattle.records.specs.declared.Body.TheVariants.{Note, Accusation}
 use Rattle.journal.specs.declared.turn.Heard.{Heard}
 use Rattle.journal.specs.declared.turn.Heard.TheVariants as heard
 use Rattle.journal.specs.declared.turn.Turn.{Turn}
@@ -36,36 +37,47 @@ use Rattle.node_core.specs.Playing.{Kept}
 use Rattle.node_command.specs.declared.halt.NodeHalt.{NodeHalt}
 use Rattle.node_command.specs.declared.halt.NodeHalt.TheVariants as halt
 use Rattle.node_command.specs.Journal.{Environment, IsUnserved, IsUntold, Lives, end_line, lines_of}
-use Rattle.node_command.specs.Removals.{AreWholeLines, GivesRemoval, Removes, UnlessCut, node_behind, removal_line}
-use Rattle.node_command.proofs.LineLemmas.{AreLines, lines-behind, lines-none, lines-one, other-line, removal-event, turn-other, whole-event, whole-fed, whole-turn}
+use Rattle.node_command.specs.Removals.{Removes, node_behind}
+use Rattle.node_command.specs.Replies.{Accepts, Expires}
+use Rattle.node_command.specs.Written.{AreWholeLines, GivesOf, UnlessCut}
+use Rattle.node_command.proofs.LineLemmas.{AreLines, accepted-event, expiry-event, lines-behind, lines-none, lines-one, other-line, removal-event, turn-other, whole-event, whole-fed, whole-turn}
 use Rattle.node_command.proofs.OriginLemmas.{acts-behind}
-use Rattle.node_command.proofs.RemovalLemmas.{RemovesNow, called-removed, cut-removed, removal, removes}
+use Rattle.node_command.proofs.RemovalLemmas.{TellsNow, called-told, cut-told, removal, removal-of-ticks, removes, ticks-away}
+use Rattle.node_command.proofs.ReplyLemmas.{accepts, called-taken, cut-taken, expires, expiry, expiry-of-ticks}
 
 -- ## The lines of events
 
--- If the line gives a removal, it is one of these acts.
+abbrev event : ℕ → whats.What → journal.Event
+event moment what = record { moment = moment; what = what }
+
+-- What the line gives is of these acts.
 abbrev pub Gives : Setting → ServeState → List Act → List ℕ → Type 0
-Gives s start acts line = (moment m : ℕ) → line ≡ removal_line moment m → GivesRemoval s start acts line
+Gives s start acts line = (moment : ℕ) (what : whats.What) → line ≡ line_of (event moment what) → GivesOf s start acts moment what
 
--- what is told of removals is of these acts
+-- what is told of removals, of expiries and of what is accepted is of these acts
+abbrev pub IsOf : Setting → ServeState → List Act → ℕ → whats.What → Type 0
+IsOf s start acts at (told.Removed m) = Removes s start acts at m
+IsOf s start acts at (told.Expired a) = Expires s start acts at a
+IsOf s start acts at (told.Took body None) = Accepts s start acts at body
+IsOf s start acts at other = Unit {0}
+
 abbrev pub TellsOf : Setting → ServeState → List Act → List journal.Event → Type 0
-TellsOf s start acts events = (at m : ℕ) → In events (removal at m) → Removes s start acts at m
+TellsOf s start acts events = (at : ℕ) (what : whats.What) → In events (event at what) → IsOf s start acts at what
 
-gives-event : (s : Setting) (start : ServeState) (acts : List Act) (e : journal.Event) → ((at m : ℕ) → e ≡ removal at m → Removes s start acts at m) → Gives s start acts (line_of e)
-gives-event s start acts e h moment m same =
-    let k = removal-event e moment m same in
-    let is : e ≡ removal e.moment k.0 = ap (λ (w : whats.What). let made : journal.Event = record { moment = e.moment; what = w } in made) k.1 in
-    record { moment = e.moment; member = k.0; spelled = ap line_of is; removal = h e.moment k.0 is }
-
--- one that is no removal
-gives-other : (s : Setting) (start : ServeState) (acts : List Act) (e : journal.Event) → ((m : ℕ) → e.what ≡ told.Removed m → ⊥) → Gives s start acts (line_of e)
-gives-other s start acts e other = gives-event s start acts e (λ at m is. absurd (other m (ap (λ (x : journal.Event). x.what) is)))
-
-sent-not : (number to : ℕ) (bytes : List ℕ) (m : ℕ) → told.Sent number to bytes ≡ told.Removed m → ⊥
-sent-not number to bytes m e = cc
-
-lost-not : (number m : ℕ) → told.Lost number ≡ told.Removed m → ⊥
-lost-not number m e = cc
+gives-event : (s : Setting) (start : ServeState) (acts : List Act) (at : ℕ) (w : whats.What) → IsOf s start acts at w → Gives s start acts (line_of (event at w))
+gives-event s start acts at w h moment (told.Removed m) same =
+    let k = removal-event (event at w) moment m same in
+    record { moment = at; member = k.0; spelled = sym same ∙ ap (λ x. line_of (event at x)) k.1; removal = subst (IsOf s start acts at) k.1 h }
+gives-event s start acts at w h moment (told.Expired a) same =
+    let k = expiry-event (event at w) moment a same in
+    record { moment = at; accusation = k.0; spelled = sym same ∙ ap (λ x. line_of (event at x)) k.1; expiry = subst (IsOf s start acts at) k.1 h }
+gives-event s start acts at w h moment (told.Took (Note n) None) same =
+    let k = accepted-event (event at w) moment (Note n) tt same in
+    record { moment = at; body = k.0; spelled = sym same ∙ ap (λ x. line_of (event at x)) k.1; accepted = subst (IsOf s start acts at) k.1 h }
+gives-event s start acts at w h moment (told.Took (Accusation a) None) same =
+    let k = accepted-event (event at w) moment (Accusation a) tt same in
+    record { moment = at; body = k.0; spelled = sym same ∙ ap (λ x. line_of (event at x)) k.1; accepted = subst (IsOf s start acts at) k.1 h }
+gives-event s start acts at w h moment _ same = tt
 
 line-behind : (s : Setting) (start : ServeState) (acts : List Act) (e : journal.Event) (r : ServeState) → Gives s start acts (line_of e) → AreLines (Gives s start acts) r.text → AreLines (Gives s start acts) (r.text ++ line_of e)
 line-behind s start acts e r g h = lines-behind (Gives s start acts) r.text (line_of e) h (lines-one (Gives s start acts) (line_of e) (whole-event e) g)
@@ -76,9 +88,9 @@ lines-sends s start acts moment to bytes r h =
     let sent : journal.Event = record { moment = moment; what = told.Sent r.sent to bytes } in
     let lost : journal.Event = record { moment = moment; what = told.Lost r.sent } in
     let r1 : ServeState = hands_over to bytes (writes_event moment (told.Sent r.sent to bytes) r) in
-    let one : AreLines P r1.text = line-behind s start acts sent r (gives-other s start acts sent (sent-not r.sent to bytes)) h in
+    let one : AreLines P r1.text = line-behind s start acts sent r (gives-event s start acts moment (told.Sent r.sent to bytes) tt) h in
     cond_both {A = ServeState} (fails_next r.link) (writes_event moment (told.Lost r.sent) r1) r1 (λ x. AreLines P x.text)
-    (λ fails. line-behind s start acts lost r1 (gives-other s start acts lost (lost-not r.sent)) one) (λ works. one)
+    (λ fails. line-behind s start acts lost r1 (gives-event s start acts moment (told.Lost r.sent) tt) one) (λ works. one)
 
 lines-what : (s : Setting) (start : ServeState) (acts : List Act) (moment : ℕ) (what : whats.What) (d : Option (ℕ × List ℕ)) (r : ServeState) → Gives s start acts (line_of (record { moment = moment; what = what })) → AreLines (Gives s start acts) r.text
     → AreLines (Gives s start acts) (tells_what moment what d r).text
@@ -92,7 +104,7 @@ lines-tells s start acts r e g h = lines-what s start acts e.moment e.what (data
 lines-tells_all : (s : Setting) (start : ServeState) (acts : List Act) (events : List journal.Event) (r : ServeState) → TellsOf s start acts events → AreLines (Gives s start acts) r.text → AreLines (Gives s start acts) (tells_all events r).text
 lines-tells_all s start acts [] r of h = h
 lines-tells_all s start acts (e ∷ events) r of h =
-    lines-tells_all s start acts events (tells r e) (λ at m i. of at m (inr i)) (lines-tells s start acts r e (gives-event s start acts e (λ at m is. of at m (inl is))) h)
+    lines-tells_all s start acts events (tells r e) (λ at w i. of at w (inr i)) (lines-tells s start acts r e (gives-event s start acts e.moment e.what (of e.moment e.what (inl refl))) h)
 
 lines-gives : (s : Setting) (start : ServeState) (acts : List Act) (c : Call) (r : ServeState) → TellsOf s start acts c.told → AreLines (Gives s start acts) r.text → AreLines (Gives s start acts) (gives c r).text
 unfolding gives
@@ -103,8 +115,8 @@ pub lines-told : (s : Setting) (start : ServeState) (acts : List Act) (events : 
 lines-told s start acts [] of = lines-none (Gives s start acts)
 lines-told s start acts (e ∷ events) of =
     lines-behind (Gives s start acts) (line_of e) (lines_of events)
-    (lines-one (Gives s start acts) (line_of e) (whole-event e) (gives-event s start acts e (λ at m is. of at m (inl is))))
-    (lines-told s start acts events (λ at m i. of at m (inr i)))
+    (lines-one (Gives s start acts) (line_of e) (whole-event e) (gives-event s start acts e.moment e.what (of e.moment e.what (inl refl))))
+    (lines-told s start acts events (λ at w i. of at w (inr i)))
 
 -- ## The lines of acts
 
@@ -120,15 +132,24 @@ pub record IsFounded (s : Setting) (own : PublicKey) (start : ServeState) : Type
   pub vouched : KeepsKey s own start.node
   pub unaccused : (place : ℕ) (a : AccBody) → slice_get start.node.lived place ≡ Some (Accuses a) → ⊥
 
-removes-now : (s : Setting) (own : PublicKey) (start : ServeState) (acts done later : List Act) (i : Input) (at m : ℕ) → IsFounded s own start → acts ≡ done ++ Calls i ∷ later → RemovesNow s (node_behind s start done) i at m → Removes s start acts at m
+removes-now : (s : Setting) (own : PublicKey) (start : ServeState) (acts done later : List Act) (i : Input) (at m : ℕ) → IsFounded s own start → acts ≡ done ++ Calls i ∷ later → TellsNow s (node_behind s start done) i (removal at m) → Removes s start acts at m
 removes-now s own start acts done later i at m f split now =
-    removes s own start acts done later at m f.sign f.vouched f.unaccused (split ∙ ap (λ (x : Input). done ++ Calls x ∷ later) now.tick) now.away
+    removes s own start acts done later at m f.sign f.vouched f.unaccused (split ∙ ap (λ (x : Input). done ++ Calls x ∷ later) now.tick) (ticks-away s (node_behind s start done) at m now.told)
+
+expires-now : (s : Setting) (start : ServeState) (acts done later : List Act) (i : Input) (at : ℕ) (a : AccBody) → acts ≡ done ++ Calls i ∷ later → TellsNow s (node_behind s start done) i (expiry at a) → Expires s start acts at a
+expires-now s start acts done later i at a split now = expires s start acts done later at a (split ∙ ap (λ (x : Input). done ++ Calls x ∷ later) now.tick) now.told
 
 called-of : (s : Setting) (own : PublicKey) (start : ServeState) (acts done later : List Act) (i : Input) → IsFounded s own start → acts ≡ done ++ Calls i ∷ later → TellsOf s start acts (call_of s (node_behind s start done) i).told
-called-of s own start acts done later i f split at m among = removes-now s own start acts done later i at m f split (called-removed s (node_behind s start done) i at m among)
+called-of s own start acts done later i f split at (told.Removed m) among = removes-now s own start acts done later i at m f split (called-told s (node_behind s start done) i (removal at m) (removal-of-ticks at m) among)
+called-of s own start acts done later i f split at (told.Expired a) among = expires-now s start acts done later i at a split (called-told s (node_behind s start done) i (expiry at a) (expiry-of-ticks at a) among)
+called-of s own start acts done later i f split at (told.Took body None) among = accepts s start acts done later i at body split (called-taken s (node_behind s start done) i at body among)
+called-of s own start acts done later i f split at _ among = tt
 
 cut-of : (s : Setting) (own : PublicKey) (start : ServeState) (acts done later : List Act) (i : Input) (c : Call) → IsFounded s own start → acts ≡ done ++ Calls i ∷ later → IsCut s (node_behind s start done) i c → TellsOf s start acts c.told
-cut-of s own start acts done later i c f split cut at m among = removes-now s own start acts done later i at m f split (cut-removed s (node_behind s start done) i c at m cut among)
+cut-of s own start acts done later i c f split cut at (told.Removed m) among = removes-now s own start acts done later i at m f split (cut-told s (node_behind s start done) i c (removal at m) (removal-of-ticks at m) cut among)
+cut-of s own start acts done later i c f split cut at (told.Expired a) among = expires-now s start acts done later i at a split (cut-told s (node_behind s start done) i c (expiry at a) (expiry-of-ticks at a) cut among)
+cut-of s own start acts done later i c f split cut at (told.Took body None) among = accepts s start acts done later i at body split (cut-taken s (node_behind s start done) i c at body cut among)
+cut-of s own start acts done later i c f split cut at _ among = tt
 
 lines-act : (s : Setting) (own : PublicKey) (start : ServeState) (acts done later : List Act) (act : Act) → IsFounded s own start → acts ≡ done ++ act ∷ later → IsOfTurn act → AreLines (Gives s start acts) (served s done start).text
     → AreLines (Gives s start acts) (acted s (served s done start) act).text
@@ -136,7 +157,7 @@ lines-act s own start acts done later Receives f split of h = h
 lines-act s own start acts done later (Writes line) f split of h =
     let text = (served s done start).text in
     let P = Gives s start acts in
-    let other : Gives s start acts (with_feed (turn_text of.0)) = λ moment m is. absurd (other-line (with_feed (turn_text of.0)) moment m (turn-other of.0) is) in
+    let other : Gives s start acts (with_feed (turn_text of.0)) = λ moment w is. absurd (other-line (with_feed (turn_text of.0)) (event moment w) (turn-other of.0) is) in
     let one : AreLines P (with_feed line) = subst (λ (x : List ℕ). AreLines P (with_feed x)) (sym of.1) (lines-one P (with_feed (turn_text of.0)) (whole-turn of.0) other) in
     lines-behind P text (with_feed line) h one
 lines-act s own start acts done later (Calls (Delivers bytes)) f split of h =
@@ -213,7 +234,7 @@ life-of millis turns coming reading readings = turns-of millis _ turns 1 _
 
 -- ## What was written
 
--- What was written is a front of whole lines, of which each removal is of these acts; all of them, unless a write failed or memory
+-- What was written is a front of whole lines, of which what they give is of these acts; all of them, unless a write failed or memory
 -- was refused.
 pub record WritesOf (s : Setting) (start : ServeState) (acts : List Act) (was now : Option (List ℕ)) (result : Result (Unit {0}) NodeHalt) : Type 0 where
   pub bytes : List ℕ
@@ -253,7 +274,7 @@ writes-front s start acts was mid now first text whole result one two a b front 
 
 pub end-lines : (s : Setting) (start : ServeState) (acts : List Act) → AreLines (Gives s start acts) end_line
 end-lines s start acts =
-    lines-one (Gives s start acts) end_line (whole-fed (codes "end") refl) (λ moment m is. absurd (other-line end_line moment m (λ e. absurd (omega (arith, e))) is))
+    lines-one (Gives s start acts) end_line (whole-fed (codes "end") refl) (λ moment w is. absurd (other-line end_line (event moment w) (λ e. absurd (omega (arith, e))) is))
 
 -- What was served broke off.
 broke-off : (s : Setting) (own : PublicKey) (start : ServeState) (acts : List Act) (was mid : Option (List ℕ)) (first : List ℕ) (before : Before) (w : Standing) (result : Result (Unit {0}) NodeHalt) → IsFounded s own start → start.text ≡ []

@@ -5,3 +5,5 @@ pub mod Journal
 pub mod Spendings
 pub mod Running
 pub mod Removals
+pub mod Replies
+pub mod Written

@@ -1,19 +1,15 @@
 -- What the removals rest on that the journal of a life gives.
-use Rattle.std.specs.Prelude.{◌≡◌, ◌⊎◌, ℕ, ◌+◌, ◌<◌, true, List, [], ◌∷◌, ◌++◌, length, Contains, Option, Some, None, Result, Ok, Err}
-use Rattle.std.specs.List.{slice_get, AllByRecursion, concat}
-use Rattle.std.specs.Io.KnownBytes.{Appends}
+use Rattle.std.specs.Prelude.{◌≡◌, ◌⊎◌, ℕ, ◌+◌, ◌<◌, true, List, [], ◌∷◌, ◌++◌, length, Contains, Option, Some, None, Ok}
+use Rattle.std.specs.List.{slice_get}
 use Rattle.ff_ids.specs.declared.AccBody.{AccBody}
 use Rattle.ff_ids.specs.Steps.{Event, Accuses, Ticks as Passes}
 use Rattle.ff_ids.specs.Lives.{opening, IsRemovedAt, RestsOn}
 use Rattle.lms_tree.specs.declared.key.PublicKey.{PublicKey}
 use Rattle.records.specs.declared.Body.TheVariants.{Accusation}
 use Rattle.records.specs.declared.Record.{Record}
-use Rattle.epoch_store.specs.declared.Stored.{Stored}
 use Rattle.datagram.specs.declared.Datagram.TheVariants as kinds
 use Rattle.datagram.specs.Grammar.{read_of}
 use Rattle.journal.specs.declared.event.What.TheVariants as told
-use Rattle.play.specs.Plays.{IoState}
-use Rattle.trace.specs.Written.{IsLineOf, IsWholeLine}
 use Rattle.node_rules.specs.Nodes.{Setting, Node, public_key_of, state_of}
 use Rattle.node_rules.specs.Refusals.{refusal}
 use Rattle.node_rules.specs.Verdicts.{when_all_handled}
@@ -21,16 +17,8 @@ use Rattle.node_rules.specs.Gaining.{gained}
 use Rattle.node_rules.specs.Accusing.{AccusesTheSilent}
 use Rattle.node_rules.specs.Outgoing.{at_tick}
 use Rattle.node_rules.specs.Lives.{Delivers, Ticks, call_of}
-use Rattle.node_loop.specs.Turns.{Act, Calls, life_acts}
-use Rattle.node_loop.specs.Courses.{ServeState, line_of, may_tick, served, served_from}
-use Rattle.node_command.specs.declared.halt.NodeHalt.{NodeHalt}
-use Rattle.node_command.specs.declared.halt.NodeHalt.TheVariants as halt
-use Rattle.node_command.specs.declared.kit.Member.{Member}
-use Rattle.node_command.specs.Members.{IsMember}
-use Rattle.node_command.specs.Opening.{IsFound, setting_for, start_of}
-use Rattle.ports.specs.Outside.{OfDisk}
-use Rattle.node_command.specs.Journal.{bound_for}
-use Rattle.node_command.specs.Running.{NetInputs}
+use Rattle.node_loop.specs.Turns.{Act, Calls}
+use Rattle.node_loop.specs.Courses.{ServeState, line_of, may_tick, served}
 
 -- ## The life
 
@@ -107,42 +95,3 @@ pub record GivesRemoval (s : Setting) (start : ServeState) (acts : List Act) (li
   pub member : ℕ
   pub spelled : line ≡ removal_line moment member
   pub removal : Removes s start acts moment member
-
--- ## A run
-
--- as the life begins, and what its turns do
-abbrev pub first_of : Member → Stored → NetInputs → ServeState
-first_of m stored feed = served_from (start_of m stored).node (bound_for m feed.link)
-
-abbrev pub acts_of : Member → NetInputs → List Act
-acts_of m feed = life_acts m.millis feed.turns feed.link.coming feed.reading feed.readings
-
--- A member was read from the text, a store of its key was found, and the line gives a removal of the life that this began: at one of
--- its turns, which the answers of the link and the readings of the clock bring.
-pub record IsReported (was : IoState) (old : OfDisk) (feed : NetInputs) (line : List ℕ) : Type 0 where
-  pub member : Member
-  pub between : IoState
-  pub read : IsMember was between member
-  pub stored : Stored
-  pub found : IsFound member stored old
-  pub gives : GivesRemoval (setting_for member) (first_of member stored feed) (acts_of member feed) line
-
--- whole lines
-pub record AreWholeLines (text : List ℕ) : Type 0 where
-  pub lines : List (List ℕ)
-  pub joined : text ≡ concat lines
-  pub whole : AllByRecursion IsWholeLine lines
-
--- P holds, unless a write failed or memory was refused.
-abbrev pub UnlessCut : Result (Unit {0}) NodeHalt → Type 0 → Type 0
-UnlessCut (Err halt.WriteFault) P = Unit {0}
-UnlessCut (Err halt.OutOfMemory) P = Unit {0}
-UnlessCut other P = P
-
--- Each whole line that was written and gives a removal is reported by the life. The journal is whole lines, unless a write
--- failed or memory was refused.
-pub record RemovalsRest (feed : NetInputs) (was now : IoState) (old : OfDisk) (result : Result (Unit {0}) NodeHalt) : Type 0 where
-  pub bytes : List ℕ
-  pub written : Appends was.taken now.taken bytes
-  pub rests : (moment m : ℕ) → IsLineOf (removal_line moment m) bytes → IsReported was old feed (removal_line moment m)
-  pub ended : UnlessCut result (AreWholeLines bytes)

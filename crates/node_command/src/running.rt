@@ -8,8 +8,8 @@ ghost use Rattle.node_command.specs.Halts.{IsBehind, is_writable, is_write_fault
 ghost use Rattle.node_command.specs.Journal.{environment, bound_for};
 ghost use Rattle.node_command.specs.Members.{IsSoundMember};
 ghost use Rattle.node_command.specs.Opening.{OpensFile};
-ghost use Rattle.node_command.specs.Removals.{RemovalsRest};
 ghost use Rattle.node_command.specs.Spendings.{Spends, SpendsBehind};
+ghost use Rattle.node_command.specs.Written.{LinesRest};
 ghost use Rattle.node_command.specs.Running.{NetInputs, IsCaused, IsStoreCause, Runs, RunsBehind, RunsOnce, Takes};
 
 use crate::halt::NodeHalt;
@@ -203,11 +203,12 @@ pub fn run_node<S: Source, O: Sink, D: Disk, L: Link, C: Clock>(
         (environment (O.state out.new).taken (L.state link.new).contents (D.state disk.new))
         result }
     // Each whole line that was written and gives a removal is reported by a tick of the life, and rests on an accusation that was
-    // accepted in it, verified, and stood for the timeout.
-    ensures removals { (feed : NetInputs) → (L.state link.old).contents ≡ Some feed.link
+    // accepted in it, verified, and stood for the timeout. One that gives an expiry, or an accepted note or accusation, is so of the
+    // life, and nothing that a note which the life accepted before rules out.
+    ensures rests { (feed : NetInputs) → (L.state link.old).contents ≡ Some feed.link
         → (C.state clock.old).coming ≡ Some feed.readings
         → (C.state clock.old).reading ≡ feed.reading → turns ≡ feed.turns
-        → RemovalsRest feed
+        → LinesRest feed
         (io (S.state input.old) (O.state out.old))
         (io (S.state input.new) (O.state out.new))
         (D.state disk.old) result }

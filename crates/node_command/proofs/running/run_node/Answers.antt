@@ -4,8 +4,8 @@ use Rattle.node_command.specs.Journal.{environment}
 use Rattle.node_command.proofs.RestLemmas.{run-rests}
 use Rattle.node_command.proofs.running.run_node.Goals as goal
 
-pub returns-clause-removals : goal.returns-clause-removals
-returns-clause-removals g c = λ feed link_is coming_is reading_is turns_is.
+pub returns-clause-rests : goal.returns-clause-rests
+returns-clause-rests g c = λ feed link_is coming_is reading_is turns_is.
     run-rests feed
     (io (g.S.Source.state c.args.input.now) (g.O.Sink.state c.args.out.now))
     (io (g.S.Source.state c.read_and_run.new.input) (g.O.Sink.state c.read_and_run.new.out))
