@@ -12,6 +12,7 @@ use Rattle.trace.proofs.SinceLemmas.{ends-acceptance}
 use Rattle.trace.proofs.UprightLemmas.{justified-walk}
 use Rattle.world_laws.specs.Texts.{IsForgedAt}
 use Rattle.world_laws.proofs.FlowWalks.{each-once}
+use Rattle.world_laws.proofs.Viewed.{texts-answer}
 use Rattle.world_laws.proofs.Walking.{texts-come, texts-lawful}
 use Rattle.world_text.specs.Lines.{line_text}
 use Rattle.command_line.specs.WorldWritten.{GivesAll, GivesTold, output, told_in, world_walk}
@@ -116,6 +117,7 @@ world-headline lines text rest line failed r same whole is named = record {
   played = texts-come line_text lines;
   lawful = texts-lawful line_text lines;
   flowed = each-once line_text lines;
+  views = texts-answer line_text lines;
   forged = named;
   written = told lines text rest line failed r same whole is;
   told =

@@ -12,6 +12,7 @@ use Rattle.trace.specs.Written.{IsJustified, IsTold}
 use Rattle.world_rules.specs.Forgeries.{Forgery}
 use Rattle.world_laws.specs.Flows.{flowed_in}
 use Rattle.world_laws.specs.Texts.{IsComeTo, IsForgedAt, IsLawfulStage}
+use Rattle.world_laws.specs.Views.{AnswersViewsAt}
 use Rattle.command_line.specs.WorldWritten.{GivesAll, GivesTold, told_in, world_walk}
 use Rattle.world_rules.specs.declared.cause.Cause.{Cause}
 use Rattle.world_rules.specs.declared.cause.Cause.TheVariants as causes
@@ -53,14 +54,17 @@ OnForged (Ok _) P = Unit {0}
 
 -- A schedule of a world. The lines that were taken lead to a world, none of them is forged, and what its nodes reported is as no
 -- liar can help: each removal rests on a verified accusation that stood for the timeout, and each key spends once. Flows hand
--- over each datagram at most once. What is named as forged is handed over by the very line of the number that is named, which
--- ends so in this world, and verifies under a key that never signed it. Each whole line that was written and gives an event
--- gives one that was reported, and each event that was reported is written.
+-- over each datagram at most once. A line that is answered by members asks for the view of a node, and is answered by that of the
+-- life that runs then; where two such lives hold the same records, the answers are the same. What is named as forged is handed
+-- over by the very line of the number that is named, which ends so in this world, and verifies under a key that never signed it.
+-- Each whole line that was written and gives an event gives one that was reported, and each event that was reported is written.
 pub record WorldHeadline (lines : List (List ℕ)) (text line : List ℕ) (result : RunEnd Cause) : Type 0 where
   -- Three laws of any input: `written` and `told` tie what they say of `told_in lines` to what was written.
   pub played : IsComeTo (world_walk lines).stage (told_in lines)
   pub lawful : IsLawfulStage (world_walk lines).stage (told_in lines)
   pub flowed : IsRising (flowed_in (world_walk lines).taken)
+  -- One more: `trace` ties the verdicts on the lines that were taken to what was written.
+  pub views : AnswersViewsAt (world_walk lines).stage (world_walk lines).taken
   pub forged : OnForged result (IsForgedAt grammar lines (world_walk lines))
   pub written : GivesTold (told_in lines) (text ++ line)
   pub told : OnWhole result (GivesAll (told_in lines) text)

@@ -15,6 +15,7 @@ mod Removing
 mod Written
 mod SignedFirst
 mod Answered
+pub mod Viewed
 mod Living
 mod Flowing
 pub mod FlowWalks

@@ -38,6 +38,7 @@ use Rattle.world_laws.proofs.SignedFirst.{accepted-signed-first}
 use Rattle.world_laws.proofs.Living.{accepted-lived}
 use Rattle.world_laws.proofs.Flowing.{only-sent}
 use Rattle.world_laws.proofs.Answered.{answers-hold, expiries-lived}
+use Rattle.world_laws.proofs.Viewed.{equal-records}
 
 -- ---- rosters
 
@@ -230,6 +231,7 @@ played-lawful s w told h =
       none_ahead = never-ahead s w told h.fits h.reached;
       answers = λ who. answers-hold s w who;
       expiries = λ t a among is. expiries-lived s w told t a h.reached among is;
+      one_view = equal-records s w;
       signed = λ m index a is spent. accuse-silent s w told m index a h.fits h.reached is spent;
       lived = accepted.0;
       accepted = accepted.1;

@@ -3,6 +3,7 @@ pub mod Origins
 pub mod Laws
 pub mod Telling
 pub mod Replies
+pub mod Views
 pub mod Flows
 pub mod Forged
 pub mod Texts

@@ -25,6 +25,7 @@ use Rattle.world_laws.specs.Telling.{IsIssued, IsLivedAsTold, IsSentAsTold, IsSp
 use Rattle.world_laws.specs.Flows.{HandsOverSent, flowed_in}
 use Rattle.world_laws.specs.Forged.{IsForgedIn}
 use Rattle.world_laws.specs.Replies.{AnswersHold, IsExpiryInLife}
+use Rattle.world_laws.specs.Views.{AnswersViewsAt, HaveOneView}
 
 -- The text may end only behind its last line.
 abbrev pub end_fault : Progress WorldText → Option BadWord
@@ -63,7 +64,8 @@ TextsComeToWorlds = (spelled : WorldLine → List ℕ) (text : List (List ℕ)) 
 -- Each removal that was reported is one of these, at the reported moment. What each node's key spent, over all its lives, rises
 -- in index and, for notes, in epoch; and the authority's key has spent an index on each member's certificate alone. No
 -- verdict reported that a note was ahead of a node's own. Behind an accepted note nothing that it answers expires unless it
--- is accepted again, nothing older is accepted, and each expiry that was reported is one in a life.
+-- is accepted again, nothing older is accepted, and each expiry that was reported is one in a life. Two lives that accept the same
+-- notes, and in which the same accusations expire, have the same view.
 --
 -- Each accusation of a node's, signed by it or accepted by anyone, was signed by it at a tick at which the accused was silent
 -- there. And what was reported as accepted of a node's was reported as signed by it before.
@@ -81,6 +83,7 @@ pub record IsLawful (s : Setting) (w : World) (told : List NodeEvent) : Type 0 w
   pub none_ahead : AllByRecursion (λ t. is_own_ahead t.event.what ≡ false) told
   pub answers : (who : ℕ) → AllByRecursion (AnswersHold s) (lives_of w who)
   pub expiries : (t : NodeEvent) (a : AccBody) → Contains told t → t.event.what ≡ happened.Expired a → IsExpiryInLife s w t a
+  pub one_view : HaveOneView s w
   pub signed : (m index : ℕ) (a : AccBody) → is_node s m ≡ true → HasSpentOn w (Some m) index (Accusation a) → (a.accuser ≡ m) × SignedAtTick s w index a
   pub lived : (who : ℕ) → AllByRecursion (λ life. AllByRecursion (AccusesRightly s w) life.node.lived) (lives_of w who)
   pub accepted : AllByRecursion (λ t. AcceptsRightly s w t.event.what) told
@@ -97,6 +100,12 @@ TextsAreLawful = (spelled : WorldLine → List ℕ) (text : List (List ℕ)) →
 -- Over a whole text the numbers of the datagrams that its flows hand over rise: each is handed over once.
 abbrev pub FlowsTakeEachOnce : Type 0
 FlowsTakeEachOnce = (spelled : WorldLine → List ℕ) (text : List (List ℕ)) → IsRising (flowed_in (walk_over (world_grammar spelled) setting_in text).taken)
+
+-- In a text each line that is answered by members asks for a view, and is answered by that view. Lives with the same records
+-- answer alike.
+abbrev pub TextsAnswerViews : Type 0
+TextsAnswerViews = (spelled : WorldLine → List ℕ) (text : List (List ℕ))
+    → let w = walk_over (world_grammar spelled) setting_in text in AnswersViewsAt w.stage w.taken
 
 -- ---- the line that is forged
 

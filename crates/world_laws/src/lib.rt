@@ -9,7 +9,8 @@ ghost use Rattle.world_laws.specs.Telling.{AcceptedIsLived, AcceptedWasSignedFir
 ghost use Rattle.world_laws.specs.Flows.{FlowsGoOn, OnlySentIsHandedOver, OthersTakeNone};
 ghost use Rattle.world_laws.specs.Forged.{ForgedLinesHandItOver, ForgeriesAreFirst};
 ghost use Rattle.world_laws.specs.Replies.{AnswersHoldInWorlds, ToldExpiriesAreLived};
-ghost use Rattle.world_laws.specs.Texts.{FlowsTakeEachOnce, ForgedTextsHandItOver, TextsAreLawful, TextsComeToWorlds};
+ghost use Rattle.world_laws.specs.Texts.{FlowsTakeEachOnce, ForgedTextsHandItOver, TextsAnswerViews, TextsAreLawful, TextsComeToWorlds};
+ghost use Rattle.world_laws.specs.Views.{EqualRecordsGiveOneView};
 
 /// In every life a node keeps the authority's certificates of the members, and no others.
 pub fn rosters_are_kept()
@@ -98,6 +99,14 @@ pub fn the_authority_spends_once()
 pub fn answers_hold()
     ensures lived { AnswersHoldInWorlds }
     ensures told { ToldExpiriesAreLived }
+{}
+
+/// Two lives of nodes of a world have the same view where they accept the same notes and the same accusations expire in them,
+/// whatever their order and repeats. In a text a line that is answered by members asks for the view of a node, and is answered
+/// by the view of the life that the node lives then; so where two such lives hold the same records, the answers are the same.
+pub fn equal_records_give_one_view()
+    ensures lives { EqualRecordsGiveOneView }
+    ensures answers { TextsAnswerViews }
 {}
 
 /// What is found to be forged in the bytes of a datagram is the first of its records that verifies under a key of the
