@@ -76,6 +76,7 @@ journal-answers feed was now old w = record {
   written = w.written;
   notes = λ moment n of. w.rests moment (told.Took (Note n) None) of;
   accusations = λ moment a of. w.rests moment (told.Took (Accusation a) None) of;
+  own = λ moment index a of. w.rests moment (told.Spent index (Accusation a)) of;
   expiries = λ moment a of. w.rests moment (told.Expired a) of;
 }
 

@@ -10,7 +10,7 @@ use Rattle.trace.specs.Written.{IsLineOf}
 use Rattle.ports.specs.Outside.{OfDisk}
 use Rattle.node_command.specs.declared.halt.NodeHalt.{NodeHalt}
 use Rattle.node_command.specs.Removals.{removal_line}
-use Rattle.node_command.specs.Replies.{accepted_line, expiry_line}
+use Rattle.node_command.specs.Replies.{accepted_line, expiry_line, signed_line}
 use Rattle.node_command.specs.Running.{NetInputs}
 use Rattle.node_command.specs.Spendings.{Spends}
 use Rattle.node_command.specs.Written.{IsGiven}
@@ -27,9 +27,10 @@ pub record JournalRests (feed : NetInputs) (was now : IoState) (old : OfDisk) : 
   pub rests : (moment m : ℕ) → IsLineOf (removal_line moment m) bytes
       → IsGiven was old feed moment (told.Removed m)
 
--- Each whole line that was written and gives that a delivered note or accusation was accepted, or that an accusation expired: it
--- was accepted, or expired, just then in the life that the run began. No note that the life had accepted by then is of a later
--- epoch than the accusation against its member; and where one answers it otherwise, it expires only as it was accepted again.
+-- Each whole line that was written and gives that a delivered note or accusation was accepted, that the node signed an accusation,
+-- or that one expired: so it was, just then, in the life that the run began. No note that the life had accepted by then is of a
+-- later epoch than the accusation against its member; and where one answers it otherwise, it expires only where it was accepted
+-- again behind the note, and stood since, for the timeout.
 pub record JournalAnswers (feed : NetInputs) (was now : IoState) (old : OfDisk) : Type 0 where
   pub bytes : List ℕ
   pub written : Appends was.taken now.taken bytes
@@ -38,6 +39,8 @@ pub record JournalAnswers (feed : NetInputs) (was now : IoState) (old : OfDisk) 
   pub accusations : (moment : ℕ) (a : AccBody)
       → IsLineOf (accepted_line moment (Accusation a)) bytes
       → IsGiven was old feed moment (told.Took (Accusation a) None)
+  pub own : (moment index : ℕ) (a : AccBody) → IsLineOf (signed_line moment index a) bytes
+      → IsGiven was old feed moment (told.Spent index (Accusation a))
   pub expiries : (moment : ℕ) (a : AccBody) → IsLineOf (expiry_line moment a) bytes
       → IsGiven was old feed moment (told.Expired a)
 

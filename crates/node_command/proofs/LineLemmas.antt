@@ -30,7 +30,7 @@ use Rattle.trace.proofs.WrittenLemmas.{clear-accusation, clear-fault, clear-then
 use Rattle.trace.proofs.WrittenLemmas as written
 use Rattle.node_loop.specs.Courses.{line_of, with_feed}
 use Rattle.node_command.specs.Removals.{removal_line}
-use Rattle.node_command.specs.Replies.{accepted_line, expiry_line}
+use Rattle.node_command.specs.Replies.{accepted_line, expiry_line, signed_line}
 
 -- ## No line has a line feed inside it
 
@@ -281,6 +281,48 @@ accepted-word told.Stopped body of e = absurd (omega (arith, ap (λ (x : List �
 -- an event whose line gives that a note or an accusation was accepted is one
 pub accepted-event : (e : journal.Event) (moment : ℕ) (body : Body) → IsStatement body → line_of e ≡ accepted_line moment body → (b : Body) × (e.what ≡ told.Took b None)
 accepted-event e moment body of same = accepted-word e.what body of (same-what e (record { moment = moment; what = told.Took body None }) same)
+
+-- ## Which line gives an accusation that is signed
+
+-- What an event spends on an accusation.
+pub record IsSigned (w : whats.What) : Type 0 where
+  pub index : ℕ
+  pub accusation : AccBody
+  pub is : w ≡ told.Spent index (Accusation accusation)
+
+signed-body : (k : ℕ) (b : Body) (a : AccBody) → body_text b ++ 10 ∷ [] ≡ body_text (Accusation a) ++ 10 ∷ [] → IsSigned (told.Spent k b)
+signed-body k (Certificate c) a e = absurd (omega (arith, ap (λ (x : List ℕ). get_or x 0 0) e))
+signed-body k (Note n) a e = absurd (omega (arith, ap (λ (x : List ℕ). get_or x 0 0) e))
+signed-body k (Accusation b) a e = record { index = k; accusation = b; is = refl }
+
+spent-word : (k index : ℕ) (b : Body) (a : AccBody) → what_text (told.Spent k b) ++ 10 ∷ [] ≡ what_text (told.Spent index (Accusation a)) ++ 10 ∷ [] → IsSigned (told.Spent k b)
+spent-word k index b a e =
+    let all = ap (λ (x : List ℕ). drop 6 x) e in
+    signed-body k b a
+    (behind-number k index (body_text b ++ 10 ∷ []) (body_text (Accusation a) ++ 10 ∷ [])
+    (sym (spaced (decimal k) (body_text b) (10 ∷ [])) ∙ all ∙ spaced (decimal index) (body_text (Accusation a)) (10 ∷ [])))
+
+signed-word : (w : whats.What) (index : ℕ) (a : AccBody) → what_text w ++ 10 ∷ [] ≡ what_text (told.Spent index (Accusation a)) ++ 10 ∷ [] → IsSigned w
+signed-word (told.Entered k) index a e = absurd (omega (arith, ap (λ (x : List ℕ). get_or x 0 0) e))
+signed-word (told.Expired b) index a e = absurd (omega (arith, ap (λ (x : List ℕ). get_or x 0 0) e))
+signed-word (told.Removed k) index a e = absurd (omega (arith, ap (λ (x : List ℕ). get_or x 0 0) e))
+signed-word (told.Fell b) index a e = absurd (omega (arith, ap (λ (x : List ℕ). get_or x 0 0) e))
+signed-word (told.Spent k b) index a e = spent-word k index b a e
+signed-word (told.Took b fault) index a e = absurd (omega (arith, ap (λ (x : List ℕ). get_or x 0 0) e))
+signed-word (told.BadForm place) index a e = absurd (omega (arith, ap (λ (x : List ℕ). get_or x 0 0) e))
+signed-word (told.Ping from nonce) index a e = absurd (omega (arith, ap (λ (x : List ℕ). get_or x 0 0) e))
+signed-word (told.Pong from nonce counted) index a e = absurd (omega (arith, ap (λ (x : List ℕ). get_or x 0 0) e))
+signed-word (told.Summary from page flag) index a e = absurd (omega (arith, ap (λ (x : List ℕ). get_or x 1 0) e))
+signed-word (told.Silent k) index a e = absurd (omega (arith, ap (λ (x : List ℕ). get_or x 1 0) e))
+signed-word (told.Exhausted next) index a e = absurd (omega (arith, ap (λ (x : List ℕ). get_or x 0 0) e))
+signed-word (told.Sent number to bytes) index a e = absurd (omega (arith, ap (λ (x : List ℕ). get_or x 1 0) e))
+signed-word (told.Lost number) index a e = absurd (omega (arith, ap (λ (x : List ℕ). get_or x 0 0) e))
+signed-word (told.Got number) index a e = absurd (omega (arith, ap (λ (x : List ℕ). get_or x 0 0) e))
+signed-word told.Stopped index a e = absurd (omega (arith, ap (λ (x : List ℕ). get_or x 1 0) e))
+
+-- an event whose line gives an accusation that is signed is one
+pub signed-event : (e : journal.Event) (moment index : ℕ) (a : AccBody) → line_of e ≡ signed_line moment index a → IsSigned e.what
+signed-event e moment index a same = signed-word e.what index a (same-what e (record { moment = moment; what = told.Spent index (Accusation a) }) same)
 
 -- ## Texts that are whole lines
 

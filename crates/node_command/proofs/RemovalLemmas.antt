@@ -7,6 +7,7 @@ use Rattle.std.proofs.lemmas.List.{append_cancel_left, length-append, take_at}
 use Rattle.ff_ids.specs.declared.AccBody.{AccBody}
 use Rattle.ff_ids.specs.declared.Fault.{Fault}
 use Rattle.ff_ids.specs.declared.Group.{Group}
+use Rattle.ff_ids.specs.declared.NoteBody.{NoteBody}
 use Rattle.ff_ids.specs.Faults.{accusation_fault}
 use Rattle.ff_ids.specs.Views.{State, in_view, is_member}
 use Rattle.ff_ids.specs.Steps.{Event, Joins, Notes, Accuses, Ticks as Passes, Report, after_accusation, joined, step, unchanged, unless_fault}
@@ -38,9 +39,10 @@ use Rattle.node_rules.proofs.Called.{delivered_until, holds-called, ticked_until
 use Rattle.node_rules.specs.Lives.{AreCertificates, Input, Delivers, Ticks, TellsItsLife, call_of, is_of_life, told_by}
 use Rattle.node_rules.specs.Gaining.{accusation_events}
 use Rattle.node_rules.specs.Outgoing.{accusation_of, at_tick, to_accuse}
+use Rattle.node_rules.specs.Verdicts.{when_all_handled}
 use Rattle.node_rules.specs.Vouching.{OwnSignaturesVerify}
 use Rattle.node_rules.proofs.Gains.{lived-ticked}
-use Rattle.node_rules.proofs.Handling.{node-wants, unread}
+use Rattle.node_rules.proofs.Handling.{node-all, node-wants, unread}
 use Rattle.node_rules.proofs.Sendings.{ping-brings, pong-brings, summary-brings}
 use Rattle.node_rules.proofs.Telling.{call-tells, delivered_until-tells, ticked_until-tells}
 use Rattle.node_rules.proofs.OwnKey.{KeepsKey}
@@ -192,10 +194,10 @@ removal-of-ticks at m = record { of_life = refl; only = λ g events x i. only-ti
 -- ## Calls that count no tick
 
 -- Behind these events nothing is a tick.
-record IsTickless (base : List Event) (n : Node) : Type 0 where
-  more : List Event
-  grew : n.lived ≡ base ++ more
-  none : (place : ℕ) → slice_get more place ≡ Some Passes → ⊥
+pub record IsTickless (base : List Event) (n : Node) : Type 0 where
+  pub more : List Event
+  pub grew : n.lived ≡ base ++ more
+  pub none : (place : ℕ) → slice_get more place ≡ Some Passes → ⊥
 
 none-at : (place : ℕ) → slice_get [] place ≡ Some Passes → ⊥
 none-at place e = cc
@@ -262,6 +264,30 @@ tickless-records : (s : Setting) (n : Node) (bytes : List ℕ) (from : ℕ) (rec
 unfolding delivered
 tickless-records s n bytes from records read =
     subst (λ (came : Result Datagram ℕ). IsTickless n.lived (hears s came (begun n)).node) (sym read) (tickless-all s n.lived records (begun n) (tickless-same n.lived n refl))
+
+tickless-accepted : (s : Setting) (c : Call) (r : Record) (f : Option Fault) → f ≡ None → IsTickless (c.node.lived ++ event_of s r.body ∷ []) (judged true s f r c).node
+tickless-accepted s c r (Some fault) none = absurd cc
+tickless-accepted s c r None none =
+    let c0 : Call = tells s (told.Took r.body None) c in
+    let base : List Event = c.node.lived ++ event_of s r.body ∷ [] in
+    tickless-answers true s base r.body (takes s r c0) (tickless-same base (takes s r c0).node (lived-takes s r c0))
+
+all-append : (s : Setting) (xs ys : List Record) (c : Call) → handles_all s (xs ++ ys) c ≡ handles_all s ys (handles_all s xs c)
+all-append s [] ys c = refl
+all-append s (x ∷ xs) ys c = all-append s xs ys (handles true s c x)
+
+-- The life goes on with a record that a delivery accepts.
+pub tickless-behind : (s : Setting) (n : Node) (bytes : List ℕ) (from : ℕ) (earlier : List Record) (taken : Record) (later : List Record) → read_of bytes ≡ Ok (kinds.Records from (earlier ++ taken ∷ later))
+    → refusal s (when_all_handled s n earlier) taken ≡ None → IsTickless ((when_all_handled s n earlier).lived ++ event_of s taken.body ∷ []) (delivered s n bytes).node
+unfolding delivered handles
+tickless-behind s n bytes from earlier taken later read fine =
+    let c : Call = handles_all s earlier (begun n) in
+    let here : c.node ≡ when_all_handled s n earlier = node-all s earlier (begun n) in
+    let base : List Event = (when_all_handled s n earlier).lived ++ event_of s taken.body ∷ [] in
+    let one : IsTickless base (handles true s c taken).node =
+    subst (λ (x : Node). IsTickless (x.lived ++ event_of s taken.body ∷ []) (handles true s c taken).node) here (tickless-accepted s c taken (refusal s c.node taken) (ap (λ (x : Node). refusal s x taken) here ∙ fine)) in
+    subst (λ (came : Result Datagram ℕ). IsTickless base (hears s came (begun n)).node) (sym read)
+    (subst (λ (x : Call). IsTickless base x.node) (sym (all-append s earlier (taken ∷ later) (begun n))) (tickless-all s base later (handles true s c taken) one))
 
 tickless-delivered : (s : Setting) (n : Node) (bytes : List ℕ) (came : Result Datagram ℕ) → read_of bytes ≡ came → IsTickless n.lived (delivered s n bytes).node
 tickless-delivered s n bytes (Err at) read = tickless-same n.lived (delivered s n bytes).node (ap (λ (x : Node). x.lived) (unread s n bytes at read).node)
@@ -388,10 +414,10 @@ cut-told s n i c e of cut among =
 
 -- ## The start
 
--- It is reported neither by the step of a record nor of a signature.
+-- It is reported neither by the step of a record nor of a note that is signed.
 pub record IsOfNoStart (e : journal.Event) : Type 0 where
   pub no_step : (g : Group) (events : List Event) (x : Event) → (x ≡ Passes → ⊥) → In (reported g (after g (opening []) events) x) e → ⊥
-  pub unspent : (index : ℕ) (body : Body) → told.Spent index body ≡ e.what → ⊥
+  pub unspent : (index : ℕ) (n : NoteBody) → told.Spent index (Note n) ≡ e.what → ⊥
 
 abbrev IsQuiet : journal.Event → Call → Type 0
 IsQuiet e c = In c.told e → ⊥
@@ -404,12 +430,12 @@ quiet-takes s e r c of h i =
       | inr new ↦ of.no_step s.group c.node.lived (event_of s r.body) (event-not s r.body) new
     ]
 
-quiet-spends : (s : Setting) (e : journal.Event) (body : Body) (c : Call) → IsOfNoStart e → IsQuiet e c → IsQuiet e (spends s body c)
-quiet-spends s e body c of h i =
-    let spent : journal.Event = record { moment = (state_of s c.node).moment; what = told.Spent c.node.stored.next body } in
+quiet-spends : (s : Setting) (e : journal.Event) (n : NoteBody) (c : Call) → IsOfNoStart e → IsQuiet e c → IsQuiet e (spends s (Note n) c)
+quiet-spends s e n c of h i =
+    let spent : journal.Event = record { moment = (state_of s c.node).moment; what = told.Spent c.node.stored.next (Note n) } in
     elim (In-append_cases c.told (spent ∷ []) e i) [
       | inl old ↦ h old
-      | inr (inl is) ↦ of.unspent c.node.stored.next body (ap (λ (x : journal.Event). x.what) is)
+      | inr (inl is) ↦ of.unspent c.node.stored.next n (ap (λ (x : journal.Event). x.what) is)
       | inr (inr none) ↦ none
     ]
 
@@ -423,13 +449,13 @@ unfolding started signs
 start-quiet s seed certificates stored e of =
     let c : Call = opened s seed certificates stored in
     let h : IsQuiet e c = quiet-opened s e certificates (begun (blank s seed stored)) of (λ none. none) in
-    quiet-takes s e _ (spends s (first_note s stored) c) of (quiet-spends s e (first_note s stored) c of h)
+    quiet-takes s e _ (spends s (first_note s stored) c) of (quiet-spends s e _ c of h)
 
 pub removal-no-start : (at m : ℕ) → IsOfNoStart (removal at m)
 removal-no-start at m =
     record {
       no_step = λ g events x other i. other (only-ticks-remove g events x m (told-removed _ _ at m i).removed);
-      unspent = λ index body e. spent-not index body e;
+      unspent = λ index n e. spent-not index (Note n) e;
     }
   where
     spent-not : (index : ℕ) (body : Body) → told.Spent index body ≡ told.Removed m → ⊥

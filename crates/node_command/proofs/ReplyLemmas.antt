@@ -25,7 +25,7 @@ use Rattle.datagram.specs.Grammar.{read_of}
 use Rattle.journal.specs.declared.event.Event as journal
 use Rattle.journal.specs.declared.event.What as whats
 use Rattle.journal.specs.declared.event.What.TheVariants as told
-use Rattle.node_rules.specs.Nodes.{Setting, Node, state_of}
+use Rattle.node_rules.specs.Nodes.{Setting, Node, event_of, state_of}
 use Rattle.node_rules.specs.Refusals.{refusal, refusal_of}
 use Rattle.node_rules.specs.Calls.{Call, told_of, whats_of}
 use Rattle.node_rules.specs.Deliveries.{delivered}
@@ -40,10 +40,12 @@ use Rattle.node_rules.proofs.OwnNote.{option_or-none}
 use Rattle.node_rules.proofs.Stopping.{only-signatures, tick-stops, verdicts-stop}
 use Rattle.node_rules.proofs.Ticks.{tick-tells}
 use Rattle.node_loop.specs.Turns.{Act, Calls}
-use Rattle.node_loop.specs.Courses.{ServeState}
-use Rattle.node_command.specs.Removals.{node_behind}
+use Rattle.node_loop.specs.Courses.{ServeState, served}
+use Rattle.node_loop.proofs.CourseLemmas.{node-gives}
+use Rattle.node_command.specs.Removals.{life_behind, node_behind}
 use Rattle.node_command.specs.Replies.{Accepts, AcceptsNext, Expires}
-use Rattle.node_command.proofs.RemovalLemmas.{IsOfNoStart, IsOfTicks, TicksTell, at-last, state-at_tick}
+use Rattle.node_command.proofs.OriginLemmas.{acts-behind}
+use Rattle.node_command.proofs.RemovalLemmas.{IsOfNoStart, IsOfTicks, TicksTell, at-last, state-at_tick, tickless-behind}
 
 abbrev pub expiry : ℕ → AccBody → journal.Event
 expiry moment a = record { moment = moment; what = told.Expired a }
@@ -122,7 +124,7 @@ pub expiry-no-start : (at : ℕ) (a : AccBody) → IsOfNoStart (expiry at a)
 expiry-no-start at a =
     record {
       no_step = λ g events x other i. other (only-ticks-expire g (after g (opening []) events) x a (told-expired _ _ at a i).expired);
-      unspent = λ index body e. spent-not index body e;
+      unspent = λ index n e. spent-not index (Note n) e;
     }
   where
     spent-not : (index : ℕ) (body : Body) → told.Spent index body ≡ told.Expired a → ⊥
@@ -196,9 +198,9 @@ abbrev taken_event : ℕ → Body → journal.Event
 taken_event moment body = record { moment = moment; what = told.Took body None }
 
 -- what is told at this moment is among what is told, and at this moment
-record IsAt (moment : ℕ) (ws : List whats.What) (at : ℕ) (w : whats.What) : Type 0 where
-  among : In ws w
-  same : moment ≡ at
+pub record IsAt (moment : ℕ) (ws : List whats.What) (at : ℕ) (w : whats.What) : Type 0 where
+  pub among : In ws w
+  pub same : moment ≡ at
 
 in-all_at : (moment : ℕ) (ws : List whats.What) (at : ℕ) (w : whats.What) → In (all_at moment ws) (record { moment = at; what = w }) → IsAt moment ws at w
 in-all_at moment ws at w i =
@@ -206,7 +208,7 @@ in-all_at moment ws at w i =
     record { among = subst (In ws) (ap (λ (e : journal.Event). e.what) x.1.1) x.1.0; same = ap (λ (e : journal.Event). e.moment) x.1.1 }
 
 -- what a call tells that passes a test is among these
-in-told_that : (test : whats.What → Bool) (c : Call) (moment : ℕ) (ws : List whats.What) (at : ℕ) (w : whats.What) → told_that test c ≡ all_at moment ws → test w ≡ true → In c.told (record { moment = at; what = w }) → IsAt moment ws at w
+pub in-told_that : (test : whats.What → Bool) (c : Call) (moment : ℕ) (ws : List whats.What) (at : ℕ) (w : whats.What) → told_that test c ≡ all_at moment ws → test w ≡ true → In c.told (record { moment = at; what = w }) → IsAt moment ws at w
 in-told_that test c moment ws at w same passes i =
     in-all_at moment ws at w (subst (λ (es : List journal.Event). In es (record { moment = at; what = w })) same (In-filter (λ (e : journal.Event). test e.what) c.told (record { moment = at; what = w }) i passes))
 
@@ -339,17 +341,18 @@ reported-of-life r w i =
       | inr j ↦ of-life told.Fell r.fell w (λ x. refl) j
     ]
 
-none-in-report : (moment : ℕ) (r : Report) (at : ℕ) (body : Body) → In (told_of moment r) (taken_event at body) → ⊥
-none-in-report moment r at body i =
-    let x = In-from_map (λ what. let made : journal.Event = record { moment = moment; what = what } in made) (whats_of r) (taken_event at body) i in
-    false≢true (sym (ap (λ (e : journal.Event). is_of_life e.what) x.1.1) ∙ reported-of-life r x.0 x.1.0)
+-- no step of a life reports anything else
+pub none-in-report : (moment : ℕ) (r : Report) (e : journal.Event) → is_of_life e.what ≡ false → In (told_of moment r) e → ⊥
+none-in-report moment r e other i =
+    let x = In-from_map (λ what. let made : journal.Event = record { moment = moment; what = what } in made) (whats_of r) e i in
+    false≢true (sym other ∙ sym (ap (λ (y : journal.Event). is_of_life y.what) x.1.1) ∙ reported-of-life r x.0 x.1.0)
 
 pub taken-no-start : (at : ℕ) (body : Body) → IsOfNoStart (taken_event at body)
-taken-no-start at body = record { no_step = λ g events x other i. none-in-report _ _ at body i; unspent = λ index b e. spent-not index b body e }
+taken-no-start at body = record { no_step = λ g events x other i. none-in-report _ _ (taken_event at body) refl i; unspent = λ index n e. spent-not index (Note n) body e }
 
 -- ## What a course accepts
 
-state-last : (g : Group) (events : List Event) (e : Event) → state_at g (opening []) (events ++ e ∷ []) (length events) ≡ after g (opening []) events
+pub state-last : (g : Group) (events : List Event) (e : Event) → state_at g (opening []) (events ++ e ∷ []) (length events) ≡ after g (opening []) events
 state-last g events e = ap (after g (opening [])) (take_at events (e ∷ []) (length events) refl)
 
 note-next : (s : Setting) (n : Node) (r : Record) (note : NoteBody) → r.body ≡ Note note → refusal s n r ≡ None → AcceptsNext s.group n.lived (Note note)
@@ -376,9 +379,16 @@ accepts-next s n r (Certificate c) is fine = tt
 accepts-next s n r (Note note) is fine = note-next s n r note is fine
 accepts-next s n r (Accusation a) is fine = accusation-next s n r a is fine
 
+life-called : (s : Setting) (start : ServeState) (before : List Act) (bytes : List ℕ) → life_behind s start (before ++ Calls (Delivers bytes) ∷ []) ≡ (delivered s (node_behind s start before) bytes).node.lived
+life-called s start before bytes =
+    let r : ServeState = served s before start in
+    ap (λ (x : ServeState). x.node.lived) (acts-behind s start before (Calls (Delivers bytes))) ∙ ap (λ (x : Node). x.lived) (node-gives (delivered s r.node bytes) r)
+
 -- What a delivery among the acts accepts no note rules out.
 pub accepts : (s : Setting) (start : ServeState) (acts before behind : List Act) (i : Input) (at : ℕ) (body : Body) → acts ≡ before ++ Calls i ∷ behind → TakesNow s (node_behind s start before) i at body → Accepts s start acts at body
 accepts s start acts before behind i at body split x =
+    let n : Node = node_behind s start before in
+    let on = tickless-behind s n x.bytes x.from x.earlier x.taken x.later x.read x.no_fault in
     record {
       before = before;
       bytes = x.bytes;
@@ -391,5 +401,9 @@ accepts s start acts before behind i at body split x =
       later = x.later;
       read = x.read;
       says = x.says;
-      accepted = accepts-next s (when_all_handled s (node_behind s start before) x.earlier) x.taken body x.says x.no_fault;
+      accepted = accepts-next s (when_all_handled s n x.earlier) x.taken body x.says x.no_fault;
+      more = on.more;
+      goes_on =
+          life-called s start before x.bytes ∙ on.grew
+          ∙ ap (λ (b : Body). ((when_all_handled s n x.earlier).lived ++ event_of s b ∷ []) ++ on.more) x.says;
     }

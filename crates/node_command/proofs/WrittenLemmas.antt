@@ -38,12 +38,13 @@ use Rattle.node_command.specs.declared.halt.NodeHalt.{NodeHalt}
 use Rattle.node_command.specs.declared.halt.NodeHalt.TheVariants as halt
 use Rattle.node_command.specs.Journal.{Environment, IsUnserved, IsUntold, Lives, end_line, lines_of}
 use Rattle.node_command.specs.Removals.{Removes, node_behind}
-use Rattle.node_command.specs.Replies.{Accepts, Expires}
+use Rattle.node_command.specs.Replies.{Accepts, Expires, Signs}
 use Rattle.node_command.specs.Written.{AreWholeLines, GivesOf, UnlessCut}
-use Rattle.node_command.proofs.LineLemmas.{AreLines, accepted-event, expiry-event, lines-behind, lines-none, lines-one, other-line, removal-event, turn-other, whole-event, whole-fed, whole-turn}
+use Rattle.node_command.proofs.LineLemmas.{AreLines, accepted-event, expiry-event, lines-behind, lines-none, lines-one, other-line, removal-event, signed-event, turn-other, whole-event, whole-fed, whole-turn}
 use Rattle.node_command.proofs.OriginLemmas.{acts-behind}
 use Rattle.node_command.proofs.RemovalLemmas.{TellsNow, called-told, cut-told, removal, removal-of-ticks, removes, ticks-away}
 use Rattle.node_command.proofs.ReplyLemmas.{accepts, called-taken, cut-taken, expires, expiry, expiry-of-ticks}
+use Rattle.node_command.proofs.SignedLemmas.{called-signed, cut-signed, signs}
 
 -- ## The lines of events
 
@@ -59,6 +60,7 @@ abbrev pub IsOf : Setting → ServeState → List Act → ℕ → whats.What →
 IsOf s start acts at (told.Removed m) = Removes s start acts at m
 IsOf s start acts at (told.Expired a) = Expires s start acts at a
 IsOf s start acts at (told.Took body None) = Accepts s start acts at body
+IsOf s start acts at (told.Spent index (Accusation a)) = Signs s start acts at a
 IsOf s start acts at other = Unit {0}
 
 abbrev pub TellsOf : Setting → ServeState → List Act → List journal.Event → Type 0
@@ -77,6 +79,9 @@ gives-event s start acts at w h moment (told.Took (Note n) None) same =
 gives-event s start acts at w h moment (told.Took (Accusation a) None) same =
     let k = accepted-event (event at w) moment (Accusation a) tt same in
     record { moment = at; body = k.0; spelled = sym same ∙ ap (λ x. line_of (event at x)) k.1; accepted = subst (IsOf s start acts at) k.1 h }
+gives-event s start acts at w h moment (told.Spent index (Accusation a)) same =
+    let k = signed-event (event at w) moment index a same in
+    record { moment = at; index = k.index; accusation = k.accusation; spelled = sym same ∙ ap (λ x. line_of (event at x)) k.is; signs = subst (IsOf s start acts at) k.is h }
 gives-event s start acts at w h moment _ same = tt
 
 line-behind : (s : Setting) (start : ServeState) (acts : List Act) (e : journal.Event) (r : ServeState) → Gives s start acts (line_of e) → AreLines (Gives s start acts) r.text → AreLines (Gives s start acts) (r.text ++ line_of e)
@@ -143,12 +148,14 @@ called-of : (s : Setting) (own : PublicKey) (start : ServeState) (acts done late
 called-of s own start acts done later i f split at (told.Removed m) among = removes-now s own start acts done later i at m f split (called-told s (node_behind s start done) i (removal at m) (removal-of-ticks at m) among)
 called-of s own start acts done later i f split at (told.Expired a) among = expires-now s start acts done later i at a split (called-told s (node_behind s start done) i (expiry at a) (expiry-of-ticks at a) among)
 called-of s own start acts done later i f split at (told.Took body None) among = accepts s start acts done later i at body split (called-taken s (node_behind s start done) i at body among)
+called-of s own start acts done later i f split at (told.Spent index (Accusation a)) among = signs s start acts done later i at a split (called-signed s (node_behind s start done) i at index a among)
 called-of s own start acts done later i f split at _ among = tt
 
 cut-of : (s : Setting) (own : PublicKey) (start : ServeState) (acts done later : List Act) (i : Input) (c : Call) → IsFounded s own start → acts ≡ done ++ Calls i ∷ later → IsCut s (node_behind s start done) i c → TellsOf s start acts c.told
 cut-of s own start acts done later i c f split cut at (told.Removed m) among = removes-now s own start acts done later i at m f split (cut-told s (node_behind s start done) i c (removal at m) (removal-of-ticks at m) cut among)
 cut-of s own start acts done later i c f split cut at (told.Expired a) among = expires-now s start acts done later i at a split (cut-told s (node_behind s start done) i c (expiry at a) (expiry-of-ticks at a) cut among)
 cut-of s own start acts done later i c f split cut at (told.Took body None) among = accepts s start acts done later i at body split (cut-taken s (node_behind s start done) i c at body cut among)
+cut-of s own start acts done later i c f split cut at (told.Spent index (Accusation a)) among = signs s start acts done later i at a split (cut-signed s (node_behind s start done) i c at index a cut among)
 cut-of s own start acts done later i c f split cut at _ among = tt
 
 lines-act : (s : Setting) (own : PublicKey) (start : ServeState) (acts done later : List Act) (act : Act) → IsFounded s own start → acts ≡ done ++ act ∷ later → IsOfTurn act → AreLines (Gives s start acts) (served s done start).text

@@ -1,5 +1,5 @@
 -- What an accepted note rules out of what the journal of a life gives.
-use Rattle.std.specs.Prelude.{◌≡◌, ℕ, ◌<◌, false, List, [], ◌∷◌, ◌++◌, length, None, Ok}
+use Rattle.std.specs.Prelude.{◌≡◌, ℕ, ◌+◌, ◌<◌, false, List, [], ◌∷◌, ◌++◌, length, None, Ok}
 use Rattle.ff_ids.specs.declared.AccBody.{AccBody}
 use Rattle.ff_ids.specs.declared.Group.{Group}
 use Rattle.ff_ids.specs.declared.NoteBody.{NoteBody}
@@ -13,7 +13,7 @@ use Rattle.records.specs.declared.Record.{Record}
 use Rattle.datagram.specs.declared.Datagram.TheVariants as kinds
 use Rattle.datagram.specs.Grammar.{read_of}
 use Rattle.journal.specs.declared.event.What.TheVariants as told
-use Rattle.node_rules.specs.Nodes.{Setting, state_of}
+use Rattle.node_rules.specs.Nodes.{Setting, event_of, state_of}
 use Rattle.node_rules.specs.Verdicts.{when_all_handled}
 use Rattle.node_rules.specs.Outgoing.{at_tick}
 use Rattle.node_rules.specs.Lives.{Delivers, Ticks}
@@ -76,7 +76,7 @@ AcceptsNext g events (Accusation a) =
     × NoneOutdates g (events ++ Accuses a ∷ []) (length events) a
 
 -- A record of this body is one of a datagram that one of these acts delivers, at this moment of the life, and as the acts and
--- the records before it have left the life, that accepts it.
+-- the records before it have left the life, that accepts it, and goes on with it.
 pub record Accepts (s : Setting) (start : ServeState) (acts : List Act) (moment : ℕ) (body : Body)
     : Type 0 where
   pub before : List Act
@@ -92,6 +92,10 @@ pub record Accepts (s : Setting) (start : ServeState) (acts : List Act) (moment 
   pub says : taken.body ≡ body
   pub accepted : AcceptsNext s.group
       (when_all_handled s (node_behind s start before) earlier).lived body
+  pub more : List Event
+  pub goes_on : life_behind s start (before ++ Calls (Delivers bytes) ∷ [])
+      ≡ ((when_all_handled s (node_behind s start before) earlier).lived
+      ++ event_of s body ∷ []) ++ more
 
 -- The line that gives the acceptance of a record of this body.
 abbrev pub accepted_line : ℕ → Body → List ℕ
@@ -104,3 +108,30 @@ pub record GivesAccepted (s : Setting) (start : ServeState) (acts : List Act) (l
   pub body : Body
   pub spelled : line ≡ accepted_line moment body
   pub accepted : Accepts s start acts moment body
+
+-- ## What the node signs
+
+-- At a tick among these acts, which brings the moment, the node accuses. No note that the life accepted before outdates the
+-- accusation.
+pub record Signs (s : Setting) (start : ServeState) (acts : List Act) (moment : ℕ) (a : AccBody)
+    : Type 0 where
+  pub before : List Act
+  pub behind : List Act
+  pub ticks : acts ≡ before ++ Calls Ticks ∷ behind
+  pub at : (state_of s (at_tick s (node_behind s start before))).moment ≡ moment
+  pub none_outdates : NoneOutdates s.group (life_behind s start before ++ Passes ∷ [])
+      (length (life_behind s start before) + 1) a
+
+-- The line that gives the index that is spent on an accusation.
+abbrev pub signed_line : ℕ → ℕ → AccBody → List ℕ
+signed_line moment index a =
+    line_of (record { moment = moment; what = told.Spent index (Accusation a) })
+
+-- The line gives such an accusation at one of these acts.
+pub record GivesSigned (s : Setting) (start : ServeState) (acts : List Act) (line : List ℕ)
+    : Type 0 where
+  pub moment : ℕ
+  pub index : ℕ
+  pub accusation : AccBody
+  pub spelled : line ≡ signed_line moment index accusation
+  pub signs : Signs s start acts moment accusation

@@ -20,7 +20,7 @@ use Rattle.ports.specs.Outside.{OfDisk}
 use Rattle.node_command.specs.Journal.{bound_for}
 use Rattle.node_command.specs.Running.{NetInputs}
 use Rattle.node_command.specs.Removals.{GivesRemoval, removal_line}
-use Rattle.node_command.specs.Replies.{GivesAccepted, GivesExpiry, accepted_line, expiry_line}
+use Rattle.node_command.specs.Replies.{GivesAccepted, GivesExpiry, GivesSigned, accepted_line, expiry_line, signed_line}
 
 -- ## The life of a run
 
@@ -42,7 +42,8 @@ pub record IsOfLife (was : IoState) (old : OfDisk) (feed : NetInputs)
   pub found : IsFound member stored old
   pub gives : P (setting_for member) (first_of member stored feed) (acts_of member feed)
 
--- What the line says of the life at these acts that gives a removal, an expiry, or an accepted note or accusation.
+-- What the line says of the life at these acts that gives a removal, an expiry, an accepted note or accusation, or an accusation
+-- that the node signs.
 abbrev pub GivesOf : Setting → ServeState → List Act → ℕ → whats.What → Type 0
 GivesOf s start acts moment (told.Removed m) =
     GivesRemoval s start acts (removal_line moment m)
@@ -51,6 +52,8 @@ GivesOf s start acts moment (told.Took (Note n) None) =
     GivesAccepted s start acts (accepted_line moment (Note n))
 GivesOf s start acts moment (told.Took (Accusation a) None) =
     GivesAccepted s start acts (accepted_line moment (Accusation a))
+GivesOf s start acts moment (told.Spent index (Accusation a)) =
+    GivesSigned s start acts (signed_line moment index a)
 GivesOf s start acts moment other = Unit {0}
 
 -- The same of the life that a run began.
