@@ -33,7 +33,7 @@ use Rattle.node_core.specs.Spending.{LivesOn, SpendsIn, SpendsUntold, spent_told
 use Rattle.node_command.specs.declared.halt.NodeHalt.{NodeHalt}
 use Rattle.node_command.specs.declared.halt.NodeHalt.TheVariants as halt
 use Rattle.node_command.specs.declared.kit.Member.{Member}
-use Rattle.node_command.specs.Halts.{IsServed, halt_by, halt_for, halt_of}
+use Rattle.node_command.specs.Halts.{IsOfOpening, IsOfStart, IsServed, halt_by, halt_for, halt_of}
 use Rattle.node_command.specs.Members.{tag_of}
 use Rattle.node_command.specs.Opening.{Begins, Ends, EndsFronts, Fresh, IsFound, OpensFile, Tells, setting_for, start_of}
 use Rattle.ports.specs.Outside.{OfDisk}
@@ -52,6 +52,19 @@ not-opened m tag old new told (store.Broken place byte) tag_is faults reads take
 not-opened m tag old new told (store.OtherKey place byte) tag_is faults reads taken settles moments =
     record { faults = faults; error = store.OtherKey place byte; is = refl; reads = subst (λ t. OpensAs t old.moments (failed (store.OtherKey place byte))) tag_is reads; settles = settles; moments = moments }
 not-opened m tag old new told store.OutOfMemory tag_is faults reads taken settles moments = inl (record { faults = faults; moments = moments })
+
+pub of-opening : (T : Type 0) (e : StoreError) → IsNotTaken {T = T} (Err e) → IsOfOpening e
+of-opening T store.Fault taken = tt
+of-opening T (store.Taken len) taken = absurd taken
+of-opening T (store.Broken place byte) taken = tt
+of-opening T (store.OtherKey place byte) taken = tt
+of-opening T store.OutOfMemory taken = tt
+
+pub of-start : (s : SignerState) (fault : NodeFault) → MayRefuse s fault → IsOfStart fault
+of-start s node.StoreFault cause = tt
+of-start s node.OutOfMemory cause = tt
+of-start s (node.Exhausted next) cause = tt
+of-start s node.Ended cause = absurd cause
 
 held : (tag : List ℕ) (st : Stored) (seat : Seat) (old new : List Moment) → SettlesAs same old new → IsSettled tag st seat new → HoldsStore tag st seat old
 held tag st seat [] new settles is = tt

@@ -19,7 +19,17 @@ halt_of stop.ReadFault = halt.ReadFault
 halt_of stop.WriteFault = halt.WriteFault
 halt_of stop.OutOfMemory = halt.OutOfMemory
 
--- where the store wasn't opened: a store of another key is no store of this one; a store is opened whatever its length is
+-- a store is opened, or not, whatever its length is
+abbrev pub IsOfOpening : StoreError → Type 0
+IsOfOpening (store.Taken len) = ⊥
+IsOfOpening other = Unit {0}
+
+-- no life has ended that is to start
+abbrev pub IsOfStart : NodeFault → Type 0
+IsOfStart node.Ended = ⊥
+IsOfStart other = Unit {0}
+
+-- where the store wasn't opened: a store of another key is no store of this one
 abbrev pub halt_for : StoreError → NodeHalt
 halt_for store.Fault = halt.StoreFault
 halt_for (store.Taken len) = halt.OutOfMemory
@@ -27,7 +37,7 @@ halt_for (store.Broken place byte) = halt.StoreBroken place byte
 halt_for (store.OtherKey place byte) = halt.StoreBroken place (Some byte)
 halt_for store.OutOfMemory = halt.OutOfMemory
 
--- where the life didn't start: none ended before
+-- where the life didn't start
 abbrev pub halt_by : NodeFault → NodeHalt
 halt_by node.StoreFault = halt.StoreFault
 halt_by node.OutOfMemory = halt.OutOfMemory

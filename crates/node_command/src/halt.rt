@@ -1,7 +1,7 @@
 //! Why the run of a member stopped.
 
 ghost use Rattle.std.specs.Prelude.{◌≡◌};
-ghost use Rattle.node_command.specs.Halts.{halt_by, halt_for, halt_of, halt_served};
+ghost use Rattle.node_command.specs.Halts.{IsOfOpening, IsOfStart, halt_by, halt_for, halt_of, halt_served};
 
 use epoch_store::StoreError;
 use line_text::BadWord;
@@ -43,30 +43,34 @@ impl From<Stop<BadWord>> for NodeHalt {
     }
 }
 
-impl From<StoreError> for NodeHalt {
-    ghost from_gives = { λ error halt. halt ≡ halt_for error };
-
-    fn from(error: StoreError) -> NodeHalt {
+impl NodeHalt {
+    /// Why a store was not opened.
+    pub(crate) fn unopened(error: StoreError) -> NodeHalt
+        requires { IsOfOpening error }
+        ensures { result ≡ halt_for error }
+    {
         match error {
             StoreError::Fault => NodeHalt::StoreFault,
+            StoreError::Taken { .. } => unreachable!(),
             StoreError::Broken { place, byte } => NodeHalt::StoreBroken { place, byte },
             StoreError::OtherKey { place, byte } => NodeHalt::StoreBroken {
                 place,
                 byte: Some(byte),
             },
-            StoreError::Taken { .. } | StoreError::OutOfMemory => NodeHalt::OutOfMemory,
+            StoreError::OutOfMemory => NodeHalt::OutOfMemory,
         }
     }
-}
 
-impl From<NodeFault> for NodeHalt {
-    ghost from_gives = { λ fault halt. halt ≡ halt_by fault };
-
-    fn from(fault: NodeFault) -> NodeHalt {
+    /// Why a life did not start.
+    pub(crate) fn unstarted(fault: NodeFault) -> NodeHalt
+        requires { IsOfStart fault }
+        ensures { result ≡ halt_by fault }
+    {
         match fault {
             NodeFault::StoreFault => NodeHalt::StoreFault,
+            NodeFault::OutOfMemory => NodeHalt::OutOfMemory,
             NodeFault::Exhausted { next } => NodeHalt::Exhausted { next },
-            NodeFault::OutOfMemory | NodeFault::Ended => NodeHalt::OutOfMemory,
+            NodeFault::Ended => unreachable!(),
         }
     }
 }

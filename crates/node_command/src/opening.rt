@@ -43,7 +43,7 @@ pub fn begin<D: Disk>(
     let (tree, leaves) = key.split();
     let store = match Store::open(disk, name, &store_tag(&group, &public)) {
         Ok(store) => store,
-        Err(error) => return Err(NodeHalt::from(error)),
+        Err(error) => return Err(NodeHalt::unopened(error)),
     };
     let next = store.state().next;
     if next > tree.index_count() {
@@ -59,6 +59,6 @@ pub fn begin<D: Disk>(
     let signer = Signer::open(group, tree, leaves, store);
     match Node::start(alloc, kit, signer, disk, events) {
         Ok(node) => Ok(node),
-        Err(fault) => Err(NodeHalt::from(fault)),
+        Err(fault) => Err(NodeHalt::unstarted(fault)),
     }
 }

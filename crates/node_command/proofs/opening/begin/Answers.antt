@@ -1,10 +1,11 @@
 use Rattle.std.proofs.Common.{◌≡◌, ◌≤◌, ◌∙◌, [], ap, arith}
 use Rattle.lms_tree.specs.Leaves.{index_count}
 use Rattle.secrets.specs.Secrets.{nonce_seed, store_tag}
+use Rattle.epoch_store.specs.Calls.{StoreState}
 use Rattle.epoch_store.specs.declared.Stored.{Stored}
 use Rattle.node_core.specs.Playing.{Kept}
 use Rattle.node_command.specs.Members.{tag_of}
-use Rattle.node_command.proofs.OpenLemmas.{file-started, opened, used-up, signer_of, started-from, not-started-from}
+use Rattle.node_command.proofs.OpenLemmas.{file-started, opened, used-up, of-opening, of-start, signer_of, started-from, not-started-from}
 use Rattle.node_command.proofs.opening.begin.Goals as goal
 
 pub returns-then-next-index_count : goal.returns-then-next-index_count
@@ -18,6 +19,12 @@ returns-then-next-index_count g c =
     let count = ap index_count c.split-tree.ensures.tree in
     let gone : index_count m.own.key ≤ c.state-next.result.next = let a = c.if-next-index_count.true in let b = c.index_count.ensures.value in omega (arith, a, b, count) in
     record { opened = tt; begins = used-up m c.in-Ok.store old mid [] c.state-next.result.next h next gone }
+
+pub unopened-requires : goal.unopened-requires
+unopened-requires g c = of-opening StoreState c.in-Err.error c.in-Err.ensures.not_taken
+
+pub unstarted-requires : goal.unstarted-requires
+unstarted-requires g c = of-start c.open-signer.result c.in-Err-start.fault c.in-Err-start.ensures.cause
 
 pub open-signer-requires-clause-within : goal.open-signer-requires-clause-within
 open-signer-requires-clause-within g c =
@@ -56,7 +63,7 @@ returns-in-Err-start g c =
     let is : c.open-signer.result ≡ signer_of m st = c.open-signer.ensures.value ∙ ap (λ k. record (signer_of m st) { key = k }) c.split-tree.ensures.tree in
     let e = c.in-Err-start.ensures in
     record {
-      opened = rw c.from-in-Err-start.ensures (file-started Kept c.args.name.now old new c.in-Err-start.fault);
-      begins = rw c.from-in-Err-start.ensures
+      opened = rw c.unstarted.ensures (file-started Kept c.args.name.now old new c.in-Err-start.fault);
+      begins = rw c.unstarted.ensures
           (not-started-from m st c.start.new.events old mid new c.open-signer.result c.in-Err-start.fault h is c.open-signer.ensures.begins e.faults e.cause e.spends);
     }
