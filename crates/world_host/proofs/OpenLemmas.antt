@@ -1,13 +1,14 @@
 -- A store that is made or opened on a node's disk.
-use Rattle.std.proofs.Common.{◌≡◌, ℕ, ◌^◌, ◌<◌, false, List, length, Some, Result, Ok, Err, sym, subst}
+use Rattle.std.proofs.Common.{◌≡◌, ℕ, ◌^◌, ◌<◌, true, false, List, [], length, Some, Result, Ok, Err, refl, ap, sym, ◌∙◌, subst}
 use Rattle.std.specs.Prelude.{is_err}
 use Rattle.ff_ids.specs.declared.TheConstants.{MAX_RINGS}
 use Rattle.ff_ids.specs.declared.Mask.{Mask}
 use Rattle.ports.specs.DiskSteps.{Came, runs}
-use Rattle.ports.specs.MemoryDisk.{DiskState}
+use Rattle.ports.specs.MemoryDisk.{DiskState, moments_of}
 use Rattle.epoch_store.specs.declared.StoreError.{StoreError}
 use Rattle.epoch_store.specs.declared.StoreError.TheVariants.{Fault, Taken, Broken, OtherKey, OutOfMemory}
 use Rattle.epoch_store.specs.Asked.{make_calls}
+use Rattle.epoch_store.specs.Calls.{HasLength, MakesWhereEmpty}
 use Rattle.epoch_store.specs.Followed.{MakesFrom}
 use Rattle.epoch_store.specs.Store.{first_entry}
 use Rattle.world_host.specs.Held.{HoldsDisk, crashed}
@@ -26,6 +27,23 @@ made-so tag name indexes d r mask (Ok done) new long small going makes =
   where
     some-same : (x y : Came) → Some x ≡ Some y → x ≡ y
     some-same x y is = cc
+
+-- A store is made on a new disk.
+pub always-made : (tag name : List ℕ) (indexes : ℕ) (d r : DiskState) (mask : Mask) (result : Result (Unit {0}) StoreError) → IsNew indexes d → length tag ≡ 32 → mask.0 < 2 ^ MAX_RINGS → MakesWhereEmpty (moments_of d.start d.log) result
+    → MakesFrom name tag (first_entry mask) result (Some d) (Some r) → is_err result ≡ false
+always-made tag name indexes d r mask (Ok done) new long small empty makes = refl
+always-made tag name indexes d r mask (Err Fault) new long small empty makes =
+    let came : record { disk = r; failed = true } ≡ runs (make_calls name tag (first_entry mask)) d = some-same _ _ makes in
+    sym (ap (λ (x : Came). x.failed) (sym came)) ∙ (make_as_told tag name indexes d mask new long small).0
+  where
+    some-same : (x y : Came) → Some x ≡ Some y → x ≡ y
+    some-same x y is = cc
+always-made tag name indexes d r mask (Err (Taken len)) new long small empty makes =
+    let long_so : HasLength (moments_of [] []) len = subst (λ (xs : List ℕ). HasLength (moments_of xs []) len) new.start (subst (λ xs. HasLength (moments_of d.start xs) len) new.log empty.0) in
+    absurd (empty.1 (sym long_so))
+always-made tag name indexes d r mask (Err (Broken place byte)) new long small empty makes = absurd empty
+always-made tag name indexes d r mask (Err (OtherKey place byte)) new long small empty makes = absurd empty
+always-made tag name indexes d r mask (Err OutOfMemory) new long small empty makes = cc
 
 -- The store was not opened: the stop came.
 pub unopened : (tag : List ℕ) (indexes : ℕ) (e : Disk) (d : DiskState) (error : StoreError) → OpensTo tag indexes e (Err error) d → (lets_pass e.armed (opening_calls e) ≡ false) × HoldsDisk tag indexes (crashed 0 d) (stopped e)

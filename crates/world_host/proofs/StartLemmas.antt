@@ -38,7 +38,7 @@ use Rattle.world_rules.specs.Steps.{first_call, first_life, with_disk}
 use Rattle.world_rules.proofs.Once.{one-started}
 use Rattle.world_host.specs.declared.starting.Started.{Started}
 use Rattle.world_host.specs.declared.starting.Started.TheVariants as starts
-use Rattle.world_host.specs.Answers.{Begins, BeginsAt, BeginsLife, BeginsNode, FailsToBegin, StartsNode, StopsAt, bodies_in, opened_place}
+use Rattle.world_host.specs.Answers.{Begins, BeginsAt, BeginsLife, BeginsNode, FailsToBegin, IsOfStart, IsStart, StartsNode, StopsAt, bodies_in, opened_place}
 use Rattle.world_host.specs.Holding.{HoldsCurrent, HoldsHost, IsWorld, tag_of}
 use Rattle.world_host.specs.Hosts.{HostState}
 use Rattle.world_host.proofs.SpentLemmas.{signed-behind}
@@ -98,11 +98,16 @@ fails-so s g ots tree m seat tag e d r w h at left came =
     let came_so = comes_failed tag s.indexes _ r (put_passes e) (after_put kept e) (stopped_in_put kept e) (calls-are s g ots tree m seat tag e d (record { disk = r; failed = true }) w at came) (put-first s g ots tree m tag e d w h left) in
     record { left = test-left e.state.next s.indexes left; stops = came_so.0; disk = came_so.1 }
 
--- Whatever is answered.
+-- What the start of a node comes to, where memory isn't refused and the key isn't used up.
+abbrev pub ComesTo : Setting → List ℕ → ℕ → Disk → DiskState → List journal.Event → Result Kept NodeFault → Type 0
+ComesTo s tag m e d events (Ok v) = Begins s tag m e d events v
+ComesTo s tag m e d events (Err faults.StoreFault) = FailsToBegin s tag m e d
+ComesTo s tag m e d events (Err other) = Unit {0}
+
 pub begins-by : (s : Setting) (g other : Group) (ots : OtsKind) (tree : TreeKind) (m me : ℕ) (tag seed : List ℕ) (own : PublicKey) (records : List Record) (e : Disk) (d r : DiskState) (signer : SignerState) (x : node.Setting) (before after : List journal.Event) (result : Result Kept NodeFault)
     → IsWorld s g ots tree → HoldsDisk tag s.indexes d e → seed ≡ s.nonces m e.state.next → records ≡ certificates s → before ≡ [] → other ≡ g → me ≡ m → signer.state ≡ e.state → signer.seat ≡ seat_of tag e → index_count signer.key ≡ s.indexes → setting_of s m ≡ x
     → IfOk result (λ v. (t : node.Setting) → t ≡ x → Starts t seed records signer.state v before after) → IfOk result (λ v. (t : node.Setting) → t ≡ x → IsVouchable t own records signer.state) → IfOk result (λ v. v.ended ≡ false) → IfOk result (λ v. v.signer.closed ≡ false)
-    → IfOk result (λ v. v.signer.seat ≡ next_seat signer.seat (kept_first other.t me signer.state)) → tag ≡ tag_of s m → IfErr result (λ fault. MayRefuse signer fault) → PutsFirst (kept_first other.t me signer.state) signer.seat (Some d) (Some r) result → BeginsNode s tag m e r after result
+    → IfOk result (λ v. v.signer.seat ≡ next_seat signer.seat (kept_first other.t me signer.state)) → tag ≡ tag_of s m → IfErr result (λ fault. MayRefuse signer fault) → PutsFirst (kept_first other.t me signer.state) signer.seat (Some d) (Some r) result → ComesTo s tag m e r after result
 begins-by s g other ots tree m me tag seed own records e d r signer x before after (Ok v) w h seeded certified none group_is me_is state seat leaves is starts vouched going free behind mark cause puts =
     let started : Starts (setting_of s m) seed records e.state v [] after =
     subst (λ (es : List journal.Event). Starts (setting_of s m) seed records e.state v es after) none (subst (λ (k : Stored). Starts (setting_of s m) seed records k v before after) state (starts (setting_of s m) is)) in
@@ -120,6 +125,22 @@ begins-by s g other ots tree m me tag seed own records e d r signer x before aft
 begins-by s g other ots tree m me tag seed own records e d r signer x before after (Err faults.OutOfMemory) w h seeded certified none group_is me_is state seat leaves is starts vouched going free behind mark cause puts = tt
 begins-by s g other ots tree m me tag seed own records e d r signer x before after (Err (faults.Exhausted next)) w h seeded certified none group_is me_is state seat leaves is starts vouched going free behind mark cause puts = tt
 begins-by s g other ots tree m me tag seed own records e d r signer x before after (Err faults.Ended) w h seeded certified none group_is me_is state seat leaves is starts vouched going free behind mark cause puts = tt
+
+-- What is answered then.
+pub answer-is : (s : Setting) (tag : List ℕ) (m : ℕ) (e : Disk) (d : DiskState) (events : List journal.Event) (started : Result Kept NodeFault) (answer : Result (Option Kept) NoMemory) → ComesTo s tag m e d events started → IsStart started answer → BeginsNode s tag m e d events answer
+answer-is s tag m e d events (Ok v) answer h is = subst (BeginsNode s tag m e d events) (sym is) h
+answer-is s tag m e d events (Err faults.StoreFault) answer h is = subst (BeginsNode s tag m e d events) (sym is) h
+answer-is s tag m e d events (Err faults.OutOfMemory) (Ok o) h is = cc
+answer-is s tag m e d events (Err faults.OutOfMemory) (Err refused) h is = tt
+answer-is s tag m e d events (Err (faults.Exhausted next)) answer h is = absurd is
+answer-is s tag m e d events (Err faults.Ended) answer h is = absurd is
+
+-- A key with an index left isn't used up.
+pub of-start : (s : SignerState) (fault : NodeFault) → s.state.next < index_count s.key → MayRefuse s fault → IsOfStart fault
+of-start s faults.StoreFault left cause = tt
+of-start s faults.OutOfMemory left cause = tt
+of-start s (faults.Exhausted next) left cause = let a = cause.0 in let b = cause.1 in absurd (omega (arith, a, b, left))
+of-start s faults.Ended left cause = absurd cause
 
 -- ---- the place
 

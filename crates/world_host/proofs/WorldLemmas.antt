@@ -9,6 +9,7 @@ use Rattle.lms_tree.specs.declared.TreeKind.{TreeKind}
 use Rattle.lms_tree.specs.declared.key.PublicKey.{PublicKey}
 use Rattle.lms_tree.specs.declared.secret.Secret.{Secret}
 use Rattle.lms_tree.specs.Kinds.{leaf_count}
+use Rattle.lms_tree.specs.Leaves.{index_count}
 use Rattle.lms_tree.specs.Lms.{public_of}
 use Rattle.secrets.specs.Secrets.{key_from, store_tag, world_secret}
 use Rattle.signer.specs.Lives.{Spent}
@@ -80,6 +81,12 @@ kept-key s g ots tree place spent x k w h is =
     some-so : (o : Option Secret) → IfSome o (λ y. y ≡ owner_key s.group ots tree (Some x.member)) → o ≡ Some k → k ≡ owner_key s.group ots tree (Some x.member)
     some-so None h is = cc
     some-so (Some y) h is = let same : y ≡ k = cc in sym same ∙ h
+
+-- It has as many indexes as its public half says.
+pub kept-indexes : (o : Option Secret) (public : PublicKey) (k : Secret) → IfSome o (λ y. public_of y ≡ public) → o ≡ Some k → index_count k ≡ leaf_count public.tree
+unfolding public_of
+kept-indexes None public k h is = cc
+kept-indexes (Some y) public k h is = let same : y ≡ k = cc in ap (λ (p : PublicKey). leaf_count p.tree) (subst (λ (z : Secret). public_of z ≡ public) same h)
 
 -- The key that is made again is the member's.
 pub made-key : (s : Setting) (g : Group) (ots : OtsKind) (tree : TreeKind) (place : Host) (spent : List Spent) (x : HostState) (r : Result Secret NoMemory) → IsWorld s g ots tree → HoldsHost s ots tree place spent x

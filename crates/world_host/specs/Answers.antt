@@ -95,12 +95,25 @@ pub record FailsToBegin (s : Setting) (tag : List ℕ) (m : ℕ) (e : Disk) (d :
   pub stops : put_passes e ≡ false
   pub disk : HoldsDisk tag s.indexes (crashed 0 d) (stopped_in_put (first_call s m e.state).node.stored e)
 
-abbrev pub BeginsNode : Setting → List ℕ → ℕ → Disk → DiskState → List journal.Event → Result Kept NodeFault → Type 0
-BeginsNode s tag m e d events (Ok v) = Begins s tag m e d events v
-BeginsNode s tag m e d events (Err faults.StoreFault) = FailsToBegin s tag m e d
-BeginsNode s tag m e d events (Err faults.OutOfMemory) = Unit {0}
-BeginsNode s tag m e d events (Err (faults.Exhausted next)) = Unit {0}
-BeginsNode s tag m e d events (Err faults.Ended) = Unit {0}
+-- What may stop the start of a node whose key isn't used up: none has ended that is to start.
+abbrev pub IsOfStart : NodeFault → Type 0
+IsOfStart faults.StoreFault = Unit {0}
+IsOfStart faults.OutOfMemory = Unit {0}
+IsOfStart (faults.Exhausted next) = ⊥
+IsOfStart faults.Ended = ⊥
+
+-- The node that started; none where the disk stopped.
+abbrev pub IsStart : Result Kept NodeFault → Result (Option Kept) NoMemory → Type 0
+IsStart (Ok v) answer = answer ≡ Ok (Some v)
+IsStart (Err faults.StoreFault) answer = answer ≡ Ok None
+IsStart (Err faults.OutOfMemory) answer = is_err answer ≡ true
+IsStart (Err (faults.Exhausted next)) answer = ⊥
+IsStart (Err faults.Ended) answer = ⊥
+
+abbrev pub BeginsNode : Setting → List ℕ → ℕ → Disk → DiskState → List journal.Event → Result (Option Kept) NoMemory → Type 0
+BeginsNode s tag m e d events (Ok (Some v)) = Begins s tag m e d events v
+BeginsNode s tag m e d events (Ok None) = FailsToBegin s tag m e d
+BeginsNode s tag m e d events (Err refused) = Unit {0}
 
 -- The place behind the calls that open its store.
 abbrev pub opened_place : Host → Host

@@ -52,8 +52,10 @@ pub struct Host {
 }
 
 impl Model for Host {
+    ghost use Rattle.std.specs.Prelude.{◌≡◌, IfSome};
     ghost use Rattle.std.specs.Coded.{codes};
     ghost use Rattle.std.specs.FinMap.{code};
+    ghost use Rattle.lms_tree.specs.Lms.{public_of};
     ghost use Rattle.world_host.specs.Hosts.{HostState};
 
     ghost Value = { HostState };
@@ -70,6 +72,8 @@ impl Model for Host {
       node = x.node;
       signed = x.signed.items;
     } };
+
+    ghost invariant = { λ x. IfSome x.key (λ key. public_of key ≡ x.public) };
 }
 
 /// A disk with room for each entry that a key with so many indexes allows, and for each change: a new store is a write and a
@@ -108,7 +112,7 @@ impl Host {
         let tag = store_tag(group, &public);
         let mut disk = open_disk(alloc, public.tree.leaf_count())?;
         if make(&mut disk, FILE, &tag, all_rings(group.t)).is_err() {
-            return Err(NoMemory);
+            unreachable!();
         }
         Ok(Host {
             member,

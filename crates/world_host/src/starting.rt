@@ -1,15 +1,17 @@
 //! Lives that begin.
 
-ghost use Rattle.std.specs.Prelude.{◌≡◌, ℕ, List, [], None, Some, IfOk, IfSome, false};
+ghost use Rattle.std.specs.Prelude.{◌≡◌, ◌<◌, ◌≤◌, ℕ, List, [], None, Some, IfErr, IfOk, IfSome, false};
 ghost use Rattle.lms_ots.specs.declared.OtsKind.{OtsKind};
 ghost use Rattle.lms_tree.specs.declared.TreeKind.{TreeKind};
+ghost use Rattle.lms_tree.specs.Kinds.{leaf_count};
+ghost use Rattle.lms_tree.specs.Leaves.{index_count};
 ghost use Rattle.signer.specs.Lives.{Spent};
 ghost use Rattle.world_rules.specs.Disks.{Disk, seat_of};
 ghost use Rattle.world_rules.specs.Keys.{owner_key};
 ghost use Rattle.world_rules.specs.Settings.{Setting};
 ghost use Rattle.world_rules.specs.Worlds.{Host as Place};
 ghost use Rattle.world_host.specs.Held.{HoldsDisk};
-ghost use Rattle.world_host.specs.Answers.{BeginsLife, BeginsNode, OpensStore, StartsNode};
+ghost use Rattle.world_host.specs.Answers.{BeginsLife, BeginsNode, IsOfStart, IsStart, OpensStore, StartsNode};
 ghost use Rattle.world_host.specs.Holding.{Certifies, HoldsHost, IsWorld, tag_of};
 
 use crate::host::{FILE, Host};
@@ -32,23 +34,21 @@ pub enum Started {
     UsedUp { next: u32 },
 }
 
-/// A signer with the key over its store. The store's next index is one of the key's, or the number of all of them.
-fn open_signer(group: Group, key: SecretKey, store: Store) -> Result<Signer, NoMemory>
-    requires { store.failed ≡ false }
-    ensures { IfOk result (λ signer. signer ≡ record {
+/// A signer with the key over its store.
+fn open_signer(group: Group, key: SecretKey, store: Store) -> Signer
+    requires runs { store.failed ≡ false }
+    requires within { store.state.next ≤ index_count key }
+    ensures { result ≡ record {
       group = group;
       key = key;
       leaf = store.state.next;
       state = store.state;
       seat = store.seat;
       closed = false;
-    }) }
+    } }
 {
     let (tree, leaves) = key.split();
-    if store.state().next > tree.index_count() {
-        return Err(NoMemory);
-    }
-    Ok(Signer::open(group, tree, leaves, store))
+    Signer::open(group, tree, leaves, store)
 }
 
 impl Host {
@@ -75,6 +75,7 @@ impl Host {
             (spent : List Spent) → IsWorld s group.now ots tree
             → HoldsHost s ots tree place spent self.old
             → IfOk result (λ key. key ≡ owner_key group.now ots tree (Some self.old.member)) }
+        ensures indexes { IfOk result (λ key. index_count key ≡ leaf_count self.old.public.tree) }
         ensures frame { self.new ≡ record self.old { key = None } }
     {
         if let Some(key) = self.key.take() {
@@ -88,8 +89,21 @@ impl Host {
     }
 }
 
-/// The life of a member's node begins over its store, which is open: its first note is signed. Where the key is used up, or
-/// the kit is not sound, the answer is that memory was refused.
+/// How the start of a node went whose key is not used up: none where the disk stopped.
+fn start_of(started: Result<Node, NodeFault>) -> Result<Option<Node>, NoMemory>
+    requires { IfErr started IsOfStart }
+    ensures { IsStart started result }
+{
+    match started {
+        Ok(node) => Ok(Some(node)),
+        Err(NodeFault::StoreFault) => Ok(None),
+        Err(NodeFault::OutOfMemory) => Err(NoMemory),
+        Err(NodeFault::Exhausted { .. } | NodeFault::Ended) => unreachable!(),
+    }
+}
+
+/// The life of a member's node begins over its store, which is open: its first note is signed; none where the disk stops in
+/// that. Where the kit is not sound, the answer is that memory was refused.
 fn begin_node(
     alloc: Global,
     authority: &Authority,
@@ -98,8 +112,9 @@ fn begin_node(
     store: Store,
     disk: &mut MemoryDisk,
     events: &mut Events,
-) -> Result<Node, NodeFault>
-    requires { store.failed ≡ false }
+) -> Result<Option<Node>, NoMemory>
+    requires runs { store.failed ≡ false }
+    requires left { store.state.next < index_count key }
     ensures { (s : Setting) (ots : OtsKind) (tree : TreeKind) (tag : List ℕ) (e : Disk)
         → IsWorld s authority.now.group ots tree → Certifies s authority.now
         → key ≡ owner_key authority.now.group ots tree (Some member)
@@ -107,16 +122,12 @@ fn begin_node(
         → tag ≡ tag_of s member → HoldsDisk tag s.indexes disk.old e → events.old ≡ []
         → BeginsNode s tag member e disk.new events.new result }
 {
-    let Ok(kit) = authority.kit(alloc, member, store.state().next) else {
-        return Err(NodeFault::OutOfMemory);
-    };
+    let kit = authority.kit(alloc, member, store.state().next)?;
     if !kit.is_sound(&key.public()) {
-        return Err(NodeFault::OutOfMemory);
+        return Err(NoMemory);
     }
-    let Ok(signer) = open_signer(*authority.group(), key, store) else {
-        return Err(NodeFault::OutOfMemory);
-    };
-    Node::start(alloc, kit, signer, disk, events)
+    let signer = open_signer(*authority.group(), key, store);
+    start_of(Node::start(alloc, kit, signer, disk, events))
 }
 
 impl Host {
@@ -127,7 +138,8 @@ impl Host {
         authority: &Authority,
         store: Store,
     ) -> Result<Started, NoMemory>
-        requires { store.failed ≡ false }
+        requires runs { store.failed ≡ false }
+        requires left { store.state.next < leaf_count self.old.public.tree }
         ensures member { self.new.member ≡ self.old.member }
         ensures begins { (s : Setting) (ots : OtsKind) (tree : TreeKind) (place : Place)
             (spent : List Spent) → IsWorld s authority.now.group ots tree
@@ -140,7 +152,7 @@ impl Host {
         let life = self.lives.checked_add(1).ok_or(NoMemory)?;
         let key = self.take_key(alloc, authority.group())?;
         let mut events = Events::new(alloc);
-        match begin_node(
+        let begun = begin_node(
             alloc,
             authority,
             self.member,
@@ -148,20 +160,18 @@ impl Host {
             store,
             &mut self.disk,
             &mut events,
-        ) {
-            Ok(node) => {
+        )?;
+        match begun {
+            Some(node) => {
                 self.node = Some(node);
                 self.lives = life;
                 self.keep_bodies(events.as_slice())?;
                 Ok(Started::Began { life, events })
             }
-            Err(NodeFault::StoreFault) => {
+            None => {
                 self.stop(0);
                 Ok(Started::DiskStopped)
             }
-            Err(NodeFault::OutOfMemory | NodeFault::Exhausted { .. } | NodeFault::Ended) => Err(
-                NoMemory,
-            ),
         }
     }
 
@@ -179,7 +189,7 @@ impl Host {
             return Ok(Started::DiskStopped);
         };
         let next = store.state().next;
-        if next == self.public.tree.leaf_count() {
+        if next >= self.public.tree.leaf_count() {
             return Ok(Started::UsedUp { next });
         }
         self.begin_life(alloc, authority, store)

@@ -11,7 +11,7 @@ use Rattle.node_core.specs.Playing as node
 use Rattle.node_core.specs.Rolls.{recs_of}
 use Rattle.world_rules.specs.Disks.{seat_of}
 use Rattle.world_rules.specs.Keys.{owner_key}
-use Rattle.world_host.proofs.StartLemmas.{begins-by, nonces-are}
+use Rattle.world_host.proofs.StartLemmas.{answer-is, begins-by, nonces-are}
 use Rattle.world_host.proofs.WorldLemmas.{indexes-are, own-kit}
 use Rattle.world_host.proofs.starting.begin_node.Goals as goal
 
@@ -19,17 +19,19 @@ pub returns : goal.returns
 returns c = λ s ots tree tag e w certified key_is store_is mark h none.
     let g : Group = c.args.authority.now.group in
     let m = c.args.member in
-    let kit : Kit = c.in-Ok.kit in
-    let signer : SignerState = c.in-Ok-open_signer.signer in
-    let kit_is = c.in-Ok.ensures in
-    let opened = c.in-Ok-open_signer.ensures in
+    let kit : Kit = c.in_ok-kit.kit in
+    let signer : SignerState = c.open_signer-signer.result in
+    let kit_is = c.in_ok-kit.ensures in
+    let opened = c.open_signer-signer.ensures in
     let stored : c.state.result ≡ e.state = c.state.ensures.value ∙ ap (λ (x : StoreState). x.state) store_is in
     let state : signer.state ≡ e.state = ap (λ (x : SignerState). x.state) opened ∙ ap (λ (x : StoreState). x.state) store_is in
     let seat : signer.seat ≡ seat_of tag e = ap (λ (x : SignerState). x.seat) opened ∙ ap (λ (x : StoreState). x.seat) store_is in
     let key : signer.key ≡ owner_key g ots tree (Some m) = ap (λ (x : SignerState). x.key) opened ∙ key_is in
     let leaves : index_count signer.key ≡ s.indexes = ap index_count key ∙ sym (indexes-are s g ots tree w) in
     let seeded : kit.nonce_seed ≡ s.nonces m e.state.next = kit_is.seed ∙ ap (λ (k : Stored). nonce_seed (world_secret g.tag m) k.next) stored ∙ sym (nonces-are s g ots tree m e.state.next w) in
-    begins-by s g kit.group ots tree m kit.me tag kit.nonce_seed (public_of signer.key) (recs_of kit.certificates.items) e c.args.disk.now c.start.new.disk signer (node.setting_of kit.group kit.me kit.authority signer.key)
+    answer-is s tag m e c.start.new.disk c.start.new.events c.start.result c.start_of.result
+    (begins-by s g kit.group ots tree m kit.me tag kit.nonce_seed (public_of signer.key) (recs_of kit.certificates.items) e c.args.disk.now c.start.new.disk signer (node.setting_of kit.group kit.me kit.authority signer.key)
     c.args.events.now c.start.new.events c.start.result w h seeded (ap recs_of kit_is.certificates ∙ certified.certified) none kit_is.group kit_is.me state seat leaves
     (own-kit s g kit.group ots tree m kit.me kit.authority signer.key w (kit_is.authority ∙ certified.key) kit_is.group kit_is.me key)
-    c.start.ensures.starts c.start.ensures.vouchable c.start.ensures.going c.start.ensures.closed c.start.ensures.seat mark c.start.ensures.cause c.start.ensures.puts
+    c.start.ensures.starts c.start.ensures.vouchable c.start.ensures.going c.start.ensures.closed c.start.ensures.seat mark c.start.ensures.cause c.start.ensures.puts)
+    c.start_of.ensures

@@ -1,7 +1,7 @@
-use Rattle.std.proofs.Common.{rules, ◌≡◌, ℕ, ◌+◌, List, ◌++◌, None, Some, Err, subst, sym, ap, ◌∙◌}
+use Rattle.std.proofs.Common.{rules, ◌≡◌, ℕ, ◌+◌, List, ◌++◌, Option, None, Some, Ok, subst, sym, ap, ◌∙◌}
 use Rattle.ff_ids.specs.declared.Group.{Group}
 use Rattle.journal.specs.declared.event.Event as journal
-use Rattle.node_core.specs.declared.NodeFault.{NodeFault}
+use Rattle.node_core.specs.Playing.{Kept}
 use Rattle.world_host.specs.Held.{HoldsDisk, crashed}
 use Rattle.world_rules.specs.Keys.{owner_key}
 use Rattle.world_host.specs.Answers.{Begins, BeginsAt, BeginsNode, FailsToBegin, StopsAt, bodies_in}
@@ -11,8 +11,8 @@ use Rattle.world_host.proofs.StartLemmas.{begun-at, stopped-at}
 use Rattle.world_host.proofs.WorldLemmas.{tag-is}
 use Rattle.world_host.proofs.host.Host.begin_life.Goals as goal
 
-pub returns-in-Ok-clause-begins : goal.returns-in-Ok-clause-begins
-returns-in-Ok-clause-begins c = λ s ots tree place spent w certified h idle store_is.
+pub returns-in_ok-keep_bodies-in-Some-clause-begins : goal.returns-in_ok-keep_bodies-in-Some-clause-begins
+returns-in_ok-keep_bodies-in-Some-clause-begins c = λ s ots tree place spent w certified h idle store_is.
     let x : HostState = c.args.self.now in
     let g : Group = c.args.authority.now.group in
     let d = c.begin_node.new.disk in
@@ -24,18 +24,19 @@ returns-in-Ok-clause-begins c = λ s ots tree place spent w certified h idle sto
     let held = subst (λ (y : HostState). HoldsDisk x.tag s.indexes y.disk place.disk) (sym seen) h.disk in
     let mark = subst (λ (y : HostState). x.tag ≡ tag_of s y.member) (sym seen) (tag-is s ots tree place spent x h) in
     let own = subst (λ (y : HostState). c.in_ok-key.key ≡ owner_key g ots tree (Some y.member)) (sym seen) key in
-    let began = c.in-Ok.ensures s ots tree x.tag place.disk w certified own store_is mark held c.new-events.ensures in
-    let begins : Begins s x.tag x.member place.disk d events c.in-Ok.node = subst (λ (y : HostState). Begins s x.tag y.member place.disk d events c.in-Ok.node) seen began in
+    let began = c.in_ok-begun.ensures s ots tree x.tag place.disk w certified own store_is mark held c.new-events.ensures in
+    let so = subst (λ (o : Option Kept). BeginsNode s x.tag c.self-2.inside.member place.disk d events (Ok o)) c.in-Some.is began in
+    let begins : Begins s x.tag x.member place.disk d events c.in-Some.node = subst (λ (y : HostState). Begins s x.tag y.member place.disk d events c.in-Some.node) seen so in
     let life : c.in_ok-life.life ≡ x.lives + 1 = search rules in
-    let put : HostState → ℕ → List journal.Event → HostState = λ y n es. record y { disk = d; lives = n; node = Some c.in-Ok.node; signed = y.signed ++ bodies_in es } in
+    let put : HostState → ℕ → List journal.Event → HostState = λ y n es. record y { disk = d; lives = n; node = Some c.in-Some.node; signed = y.signed ++ bodies_in es } in
     let now : c.keep_bodies.new.self ≡ put (record x { key = None }) (x.lives + 1) events =
-    c.in_ok-keep_bodies-in-Ok.ensures.kept ∙ ap (λ (y : HostState). put y c.in_ok-life.life c.as_slice.result.now) seen ∙ ap (λ (n : ℕ). put (record x { key = None }) n c.as_slice.result.now) life
+    c.in_ok-keep_bodies-in-Some.ensures.kept ∙ ap (λ (y : HostState). put y c.in_ok-life.life c.as_slice.result.now) seen ∙ ap (λ (n : ℕ). put (record x { key = None }) n c.as_slice.result.now) life
     ∙ ap (λ (es : List journal.Event). put (record x { key = None }) (x.lives + 1) es) c.as_slice.ensures in
     subst (λ (y : HostState). BeginsAt s ots tree place spent y c.in_ok-life.life events) (sym now)
-    (subst (λ (n : ℕ). BeginsAt s ots tree place spent (put (record x { key = None }) (x.lives + 1) events) n events) (sym life) (begun-at s ots tree place spent x d c.in-Ok.node events h idle begins))
+    (subst (λ (n : ℕ). BeginsAt s ots tree place spent (put (record x { key = None }) (x.lives + 1) events) n events) (sym life) (begun-at s ots tree place spent x d c.in-Some.node events h idle begins))
 
-pub returns-in-Err-StoreFault-clause-begins : goal.returns-in-Err-StoreFault-clause-begins
-returns-in-Err-StoreFault-clause-begins c = λ s ots tree place spent w certified h idle store_is.
+pub returns-in-None-clause-begins : goal.returns-in-None-clause-begins
+returns-in-None-clause-begins c = λ s ots tree place spent w certified h idle store_is.
     let x : HostState = c.args.self.now in
     let g : Group = c.args.authority.now.group in
     let d = c.begin_node.new.disk in
@@ -47,8 +48,8 @@ returns-in-Err-StoreFault-clause-begins c = λ s ots tree place spent w certifie
     let held = subst (λ (y : HostState). HoldsDisk x.tag s.indexes y.disk place.disk) (sym seen) h.disk in
     let mark = subst (λ (y : HostState). x.tag ≡ tag_of s y.member) (sym seen) (tag-is s ots tree place spent x h) in
     let own = subst (λ (y : HostState). c.in_ok-key.key ≡ owner_key g ots tree (Some y.member)) (sym seen) key in
-    let began = c.in-Err-StoreFault.ensures s ots tree x.tag place.disk w certified own store_is mark held c.new-events.ensures in
-    let failed = subst (λ (f : NodeFault). BeginsNode s x.tag c.self-2.inside.member place.disk d events (Err f)) c.in-Err-StoreFault.field-0-is began in
+    let began = c.in_ok-begun.ensures s ots tree x.tag place.disk w certified own store_is mark held c.new-events.ensures in
+    let failed = subst (λ (o : Option Kept). BeginsNode s x.tag c.self-2.inside.member place.disk d events (Ok o)) c.in-None.is began in
     let fails : FailsToBegin s x.tag x.member place.disk d = subst (λ (y : HostState). FailsToBegin s x.tag y.member place.disk d) seen failed in
     let now : c.stop.new.self ≡ record x { key = None; node = None; disk = crashed 0 d } = c.stop.ensures ∙ ap (λ (y : HostState). record y { node = None; disk = crashed 0 d }) seen in
     subst (StopsAt s ots tree place spent) (sym now) (stopped-at s ots tree place spent x d h idle fails)

@@ -1,5 +1,6 @@
 use Rattle.std.proofs.Common.{◌≡◌, ℕ, Some, length, refl, subst, sym, ap, ◌∙◌, arith}
 use Rattle.std.specs.Prelude.{codes}
+use Rattle.std.proofs.lemmas.Bool.{false≢true}
 use Rattle.ff_ids.specs.Masks.{all_rings}
 use Rattle.ff_ids.specs.declared.Group.{Group}
 use Rattle.ff_ids.specs.declared.Mask.{Mask}
@@ -11,9 +12,15 @@ use Rattle.secrets.specs.Secrets.{store_tag}
 use Rattle.world_host.specs.Held.{HoldsDisk}
 use Rattle.world_rules.specs.Disks.{made_disk}
 use Rattle.world_rules.specs.Keys.{owner_key}
-use Rattle.world_host.proofs.OpenLemmas.{made-so}
+use Rattle.world_host.proofs.OpenLemmas.{always-made, made-so}
 use Rattle.world_host.proofs.WorldLemmas.{group-is, indexes-are, own-public, own-tree}
 use Rattle.world_host.proofs.host.Host.open.Goals as goal
+
+pub unreachable-requires : goal.unreachable-requires
+unreachable-requires c =
+    let long : length c.store_tag-tag.result ≡ 32 = omega arith in
+    false≢true (sym (c.if-is_err.ensures.value
+    ∙ always-made c.store_tag-tag.result (codes "store") c.leaf_count.result c.in_ok-disk.disk c.make.new.disk c.all_rings.result c.make.result c.in_ok-disk.ensures long c.all_rings.ensures.small c.make.ensures.taken c.make.ensures.follows))
 
 pub returns-clause-holds : goal.returns-clause-holds
 returns-clause-holds c = λ s ots tree w key_is.

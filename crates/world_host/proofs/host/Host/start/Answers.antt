@@ -1,4 +1,4 @@
-use Rattle.std.proofs.Common.{◌≡◌, ℕ, false, List, Option, Ok, eq-eqb, inl, subst, sym, ap, ◌∙◌}
+use Rattle.std.proofs.Common.{◌≡◌, ℕ, ◌≤◌, false, List, Option, Ok, eq-eqb, inl, subst, sym, ap, ◌∙◌, arith}
 use Rattle.lms_tree.specs.Kinds.{leaf_count}
 use Rattle.epoch_store.specs.declared.Stored.{Stored}
 use Rattle.epoch_store.specs.Calls.{StoreState}
@@ -10,6 +10,9 @@ use Rattle.world_host.specs.Hosts.{HostState}
 use Rattle.world_host.proofs.StartLemmas.{starts-behind, with-disk}
 use Rattle.world_host.proofs.WorldLemmas.{indexes-are, tree-is}
 use Rattle.world_host.proofs.host.Host.start.Goals as goal
+
+at-most : (next first leaves indexes : ℕ) → next ≡ first → leaves ≡ indexes → first ≤ indexes → leaves ≤ next → first ≡ indexes
+at-most next first leaves indexes is count within above = omega (arith, is, count, within, above)
 
 pub returns-in_default-clause-starts : goal.returns-in_default-clause-starts
 returns-in_default-clause-starts c = λ s ots tree place spent w certified h idle.
@@ -34,7 +37,7 @@ returns-then-next-leaf_count-clause-starts c = λ s ots tree place spent w certi
       came.0,
       record {
         first = first;
-        none_left = eq-eqb _ _ (sym first ∙ c.if-next-leaf_count.true ∙ count);
+        none_left = eq-eqb _ _ (at-most _ _ _ _ first count held.disk.within c.if-next-leaf_count.true);
         holds = held;
       },
     )

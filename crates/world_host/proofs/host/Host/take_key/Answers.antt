@@ -1,14 +1,20 @@
-use Rattle.std.proofs.Common.{rules, ◌≡◌, ℕ, Some, subst}
+use Rattle.std.proofs.Common.{rules, ◌≡◌, ℕ, Some, ap, ◌∙◌, subst}
 use Rattle.std.specs.Prelude.{IfOk}
+use Rattle.lms_tree.specs.Kinds.{leaf_count}
 use Rattle.secrets.specs.Secrets.{key_from, world_secret}
 use Rattle.world_host.specs.Hosts.{HostState}
-use Rattle.world_host.proofs.WorldLemmas.{kept-key, made-key}
+use Rattle.world_host.proofs.WorldLemmas.{kept-indexes, kept-key, made-key}
 use Rattle.world_host.proofs.host.Host.take_key.Goals as goal
 
 pub returns-in-Some-clause-key : goal.returns-in-Some-clause-key
 returns-in-Some-clause-key c = λ s ots tree place spent w h.
     let is : c.args.self.now.key ≡ Some c.in-Some.key = search rules in
     kept-key s c.args.group.now ots tree place spent c.args.self.now c.in-Some.key w h is
+
+pub returns-in-Some-clause-indexes : goal.returns-in-Some-clause-indexes
+returns-in-Some-clause-indexes c =
+    let is : c.self.inside.key ≡ Some c.in-Some.key = search rules in
+    kept-indexes c.self.inside.key c.self.inside.public c.in-Some.key c.self.invariant is ∙ ap (λ (x : HostState). leaf_count x.public.tree) c.self.view_is
 
 pub returns-clause-key : goal.returns-clause-key
 returns-clause-key c = λ s ots tree place spent w h.
