@@ -19,3 +19,4 @@ pub mod NameLemmas
 pub mod SignerLemmas
 pub mod StartLemmas
 pub mod BeginLemmas
+pub mod LeafLemmas

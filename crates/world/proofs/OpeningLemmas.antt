@@ -60,7 +60,7 @@ kept-next p n =
 pub listed-next : (listed : List ℕ) (n : ℕ) → listed_below listed (n + 1) ≡ listed_below listed n ++ cond (list_any (λ x. eqb x n) listed) (n ∷ []) []
 listed-next listed n = kept-next (λ m. list_any (λ x. eqb x m) listed) n
 
-any-either : (p : ℕ → Bool) (xs ys : List ℕ) → list_any p (xs ++ ys) ≡ (list_any p xs || list_any p ys)
+pub any-either : (p : ℕ → Bool) (xs ys : List ℕ) → list_any p (xs ++ ys) ≡ (list_any p xs || list_any p ys)
 any-either p [] ys = refl
 any-either p (x ∷ xs) ys = elim (cases_Bool (p x)) [ inl holds ↦ rw holds refl | inr fails ↦ rw fails (any-either p xs ys) ]
 
@@ -121,10 +121,10 @@ both-listed s m is =
     listed-next (s.correct ++ s.liars) m
     ∙ ap (λ (b : Bool). listed_below (s.correct ++ s.liars) m ++ cond b (m ∷ []) []) (any-either (λ x. eqb x m) s.correct s.liars ∙ is)
 
-none-listed : (listed : List ℕ) (m : ℕ) → list_any (λ x. eqb x m) listed ≡ false → listed_below listed (m + 1) ≡ listed_below listed m
+pub none-listed : (listed : List ℕ) (m : ℕ) → list_any (λ x. eqb x m) listed ≡ false → listed_below listed (m + 1) ≡ listed_below listed m
 none-listed listed m not = listed-next listed m ∙ ap (λ (b : Bool). listed_below listed m ++ cond b (m ∷ []) []) not ∙ append-nil (listed_below listed m)
 
-one-listed : (listed : List ℕ) (m : ℕ) → list_any (λ x. eqb x m) listed ≡ true → listed_below listed (m + 1) ≡ listed_below listed m ++ m ∷ []
+pub one-listed : (listed : List ℕ) (m : ℕ) → list_any (λ x. eqb x m) listed ≡ true → listed_below listed (m + 1) ≡ listed_below listed m ++ m ∷ []
 one-listed listed m is = listed-next listed m ∙ ap (λ (b : Bool). listed_below listed m ++ cond b (m ∷ []) []) is
 
 certified-more : (s : Setting) (ots : OtsKind) (tree : TreeKind) (m : ℕ) (signing : LeavesOf) (v : Kept) (secret : Secret) → s ≡ setting_for v.authority.group ots tree s.correct s.liars → secret ≡ owner_key v.authority.group ots tree (Some m)

@@ -1,7 +1,8 @@
 -- A line of a world so far: what is kept and what is written of it.
 use Rattle.std.specs.Prelude.{◌≡◌, ℕ, Bool, true, false, not, ◌==◌, if◌then◌else◌, List, [], ◌∷◌, ◌++◌, Option, Some, None, is_some, Result, Ok, Err, IfSome, map}
-use Rattle.std.specs.List.{slice_get}
+use Rattle.std.specs.List.{position, slice_get}
 use Rattle.std.specs.Option.{option_map, option_map_or}
+use Rattle.lms_tree.specs.Leaves.{index_count}
 use Rattle.records.specs.declared.Body.{Body}
 use Rattle.records.specs.declared.Body.TheVariants.{Note, Accusation}
 use Rattle.fields.specs.declared.NoMemory.{NoMemory}
@@ -174,3 +175,18 @@ body_in w line = None
 abbrev pub signs : Setting → ℕ → List ℕ → ModelWorld → Option Body → Answer
 signs s key name w None = quiet (begun w)
 signs s key name w (Some body) = lies s key body name w
+
+-- ---- liars that are to sign
+
+-- Where the liar is.
+abbrev pub liar_place_of : Kept → ℕ → Option ℕ
+liar_place_of v m = position (λ x. x.member == m) v.liars
+
+-- The liar there, if there is one, has a leaf left.
+abbrev pub HasLeafAt : Kept → Option ℕ → Type 0
+HasLeafAt v None = Unit {0}
+HasLeafAt v (Some at) = IfSome (slice_get v.liars at) (λ x. (x.key.next == index_count x.key.key) ≡ false)
+
+-- The liar whose key is to sign has a leaf left.
+abbrev pub CanSign : Kept → WorldLine → Type 0
+CanSign v line = IfSome (key_named line) (λ key. HasLeafAt v (liar_place_of v key))

@@ -1,11 +1,11 @@
 -- A world that is being opened.
-use Rattle.std.specs.Prelude.{◌≡◌, ℕ, ◌+◌, ◌==◌, ◌++◌, ◌∷◌, true, false, List, [], Some, None, filter, length, map}
+use Rattle.std.specs.Prelude.{◌≡◌, ℕ, ◌+◌, ◌<◌, ◌==◌, ◌++◌, ◌∷◌, true, false, List, [], Some, None, filter, length, map}
 use Rattle.std.specs.List.{AllByRecursion, list_any, range_with_len}
 use Rattle.lms_ots.specs.declared.OtsKind.{OtsKind}
 use Rattle.lms_tree.specs.declared.TreeKind.{TreeKind}
 use Rattle.lms_tree.specs.declared.key.PublicKey.{PublicKey}
 use Rattle.lms_tree.specs.declared.secret.Secret.{Secret}
-use Rattle.lms_tree.specs.Leaves.{LeavesOf}
+use Rattle.lms_tree.specs.Leaves.{LeavesOf, index_count}
 use Rattle.lms_tree.specs.Lms.{public_of}
 use Rattle.records.specs.declared.Body.TheVariants.{Certificate}
 use Rattle.records.specs.Signing.{CheckedRecord}
@@ -48,6 +48,10 @@ pub record Builds (s : Setting) (ots : OtsKind) (tree : TreeKind) (n : ℕ) (sig
   pub counts : AreKept v.counts nothing_counted
 
 -- ---- members, one after another
+
+-- If the member is listed, a leaf is left for its certificate.
+abbrev pub HasLeafFor : List ℕ → LeavesOf → ℕ → Type 0
+HasLeafFor listed signing m = list_any (λ x. x == m) listed ≡ true → signing.next < index_count signing.key
 
 -- The certificate of the member with this key, by the next leaf.
 abbrev pub new_certificate : Certifying → LeavesOf → ℕ → PublicKey → CheckedRecord

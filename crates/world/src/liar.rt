@@ -1,8 +1,9 @@
 //! A liar: a member whose key the schedule uses.
 
-ghost use Rattle.std.specs.Prelude.{◌≡◌, ◌∷◌, [], IfOk, IfSome};
+ghost use Rattle.std.specs.Prelude.{◌≡◌, ◌∷◌, [], IfNone, IfOk, IfSome};
 ghost use Rattle.datagram.specs.declared.Datagram.TheVariants as kinds;
 ghost use Rattle.datagram.specs.Spelling.{datagram_bytes};
+ghost use Rattle.lms_tree.specs.Leaves.{index_count};
 ghost use Rattle.records.specs.Spelling.{HasPort};
 ghost use Rattle.signer.specs.Signing.{signed_by};
 ghost use Rattle.world.specs.Lying.{Lied};
@@ -71,6 +72,8 @@ impl Liar {
         ensures signed { IfOk result
             (λ checked. IfSome checked
             (λ c. c ≡ signed_by group.now self.old.key.key self.old.key.next body)) }
+        ensures used_up { IfOk result
+            (λ checked. IfNone checked (self.old.key.next ≡ index_count self.old.key.key)) }
         ensures lied { IfOk result (λ checked. IfSome checked (λ _c. Lied self.old self.new body)) }
     {
         let signed = self.key.sign(alloc, group, body)?;

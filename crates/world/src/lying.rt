@@ -8,7 +8,7 @@ ghost use Rattle.world_rules.specs.Refusals.{newest_signed as newest_in};
 ghost use Rattle.world_rules.specs.Settings.{Setting};
 ghost use Rattle.world_rules.specs.Steps.{NodeEvent, epoch_meant as epoch_in, lies};
 ghost use Rattle.world_rules.specs.Worlds.{World as ModelWorld, next_of_liar};
-ghost use Rattle.world.specs.Courses.{body_in};
+ghost use Rattle.world.specs.Courses.{HasLeafAt, body_in};
 ghost use Rattle.world.specs.Holding.{Holds, numbers};
 
 use crate::liar::Given;
@@ -32,9 +32,11 @@ impl World {
         newest_of(member, &self.liars[at].signed)
     }
 
-    /// The liar signs the body, and its record is kept under the name. Gives the index that was spent.
+    /// The liar, whose key isn't used up, signs the body, and its record is kept under the name. Gives the index that was
+    /// spent.
     pub(crate) fn lie(&mut self, at: usize, body: Body, name: &Name) -> Result<u32, NoMemory>
         requires liar { at < length self.old.liars }
+        requires left { HasLeafAt self.old (Some at) }
         requires port { HasPort body }
         ensures numbers { numbers self.new ≡ numbers self.old }
         ensures lies { (s : Setting) (w : ModelWorld) (told : List NodeEvent) (key : ℕ)
@@ -46,7 +48,7 @@ impl World {
         let liar = &mut self.liars[at];
         let index = liar.key.next();
         let Some(checked) = liar.sign(self.alloc, self.authority.group(), body)? else {
-            return Err(NoMemory);
+            unreachable!();
         };
         let given = Given::of(self.alloc, liar.member, &checked)?;
         let name = name.as_slice().to_vec(self.alloc)?;

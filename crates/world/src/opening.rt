@@ -1,8 +1,9 @@
 //! How a world begins: keys are made, the authority certifies all members in order of number, and each node has a new store.
 
-ghost use Rattle.std.specs.Prelude.{◌≡◌, ◌<◌, ◌≤◌, ◌+◌, [], IfOk, OnOk, length};
+ghost use Rattle.std.specs.Prelude.{◌≡◌, ◌<◌, ◌≤◌, ◌+◌, ◌++◌, [], IfOk, OnOk, length};
 ghost use Rattle.ff_ids.specs.declared.TheConstants.{MAX_TOLERANCE};
 ghost use Rattle.lms_tree.specs.Kinds.{height};
+ghost use Rattle.lms_tree.specs.Leaves.{index_count};
 ghost use Rattle.lms_tree.specs.Lms.{public_of};
 ghost use Rattle.node_core.specs.Begins.{IsGroup};
 ghost use Rattle.records.specs.declared.Body.TheVariants as bodies;
@@ -12,7 +13,7 @@ ghost use Rattle.world_rules.specs.Settings.{Setting};
 ghost use Rattle.world_rules.specs.Keys.{setting_for};
 ghost use Rattle.world_rules.specs.Worlds.{begun_world};
 ghost use Rattle.world.specs.Holding.{Holds};
-ghost use Rattle.world.specs.Opening.{AddsLiar, AddsNode, Builds, IsApart, with_certificate};
+ghost use Rattle.world.specs.Opening.{AddsLiar, AddsNode, Builds, HasLeafFor, IsApart, with_certificate};
 
 use crate::World;
 use crate::counts::Counts;
@@ -28,7 +29,8 @@ use records::{Body, CertBody, Checked};
 use std::alloc::Global;
 use world_host::{AUTHORITY, Authority, Host, Kinds, SigningKey, key_of};
 
-/// The member's certificate with this key, whose port is 20,000 and the member's number, by the authority's key.
+/// The member's certificate with this key, whose port is 20,000 and the member's number, by the authority's key, which has a
+/// leaf left.
 fn certify(
     alloc: Global,
     group: &Group,
@@ -36,6 +38,7 @@ fn certify(
     member: MemberId,
     key: PublicKey,
 ) -> Result<Checked, NoMemory>
+    requires { authority.old.next < index_count authority.old.key }
     ensures signed { IfOk result
         (λ c. c ≡ signed_by group.now authority.old.key authority.old.next
         (bodies.Certificate (record { member = member; port = 20000 + member; key = key }))) }
@@ -49,7 +52,7 @@ fn certify(
     });
     match authority.sign(alloc, group, body)? {
         Some(checked) => Ok(checked),
-        None => Err(NoMemory),
+        None => unreachable!(),
     }
 }
 
@@ -99,7 +102,8 @@ impl World {
         key: PublicKey,
         signing: &mut SigningKey,
     ) -> Result<(), NoMemory>
-        requires { self.old.authority.key ≡ public_of signing.old.key }
+        requires key { self.old.authority.key ≡ public_of signing.old.key }
+        requires left { signing.old.next < index_count signing.old.key }
         ensures ok { OnOk result (self.new ≡ with_certificate self.old signing.old member key) }
         ensures next { OnOk result
             (signing.new ≡ record signing.old { next = signing.old.next + 1 }) }
@@ -116,6 +120,7 @@ impl World {
         signing: &mut SigningKey,
     ) -> Result<(), NoMemory>
         requires key { self.old.authority.key ≡ public_of signing.old.key }
+        requires left { signing.old.next < index_count signing.old.key }
         requires few { self.old.authority.group.t ≤ MAX_TOLERANCE }
         ensures ok { OnOk result
             (AddsNode self.old self.new signing.old member
@@ -137,7 +142,8 @@ impl World {
         member: MemberId,
         signing: &mut SigningKey,
     ) -> Result<(), NoMemory>
-        requires { self.old.authority.key ≡ public_of signing.old.key }
+        requires key { self.old.authority.key ≡ public_of signing.old.key }
+        requires left { signing.old.next < index_count signing.old.key }
         ensures ok { OnOk result
             (AddsLiar self.old self.new signing.old member
             (key_from kinds.ots kinds.tree
@@ -161,6 +167,7 @@ impl World {
         signing: &mut SigningKey,
     ) -> Result<(), NoMemory>
         requires key { self.old.authority.key ≡ public_of signing.old.key }
+        requires left { HasLeafFor (nodes.now ++ liars.now) signing.old member }
         requires few { self.old.authority.group.t ≤ MAX_TOLERANCE }
         ensures builds { (s : Setting)
             → s ≡ setting_for self.old.authority.group kinds.ots kinds.tree nodes.now liars.now

@@ -1,7 +1,10 @@
 //! A line that is played.
 
 ghost use Rattle.std.specs.Prelude.{◌≡◌, ◌<◌, ◌++◌, ◌∷◌, [], ℕ, List, true, Ok, Some, None, IfOk, IfErr, IfSome, OnOk, OnErr, length};
+ghost use Rattle.std.specs.Result.{is_ok};
+ghost use Rattle.ff_ids.specs.Masks.{ring_count};
 ghost use Rattle.ff_ids.specs.Views.{State, monitor as monitor_in, view};
+ghost use Rattle.membership.specs.Life.{has_joined};
 ghost use Rattle.membership.specs.Holds.{Holds as Stands};
 ghost use Rattle.world_rules.specs.Refusals.{node_named as node_in, why_not as refusal};
 ghost use Rattle.world_rules.specs.Settings.{Setting, is_liar};
@@ -11,7 +14,7 @@ ghost use Rattle.world_rules.specs.Worlds.{World as ModelWorld, named_so, runnin
 ghost use Rattle.world_text.specs.Lines.{Began};
 ghost use Rattle.world.specs.declared.fault.WorldFault.TheVariants as faults;
 ghost use Rattle.world.specs.Answers.{PlaysLine};
-ghost use Rattle.world.specs.Courses.{At, CanStart, Goes, IsPlace, NamesLiar, Replies, before_opening, body_in, course_of, does_or_opens, signs};
+ghost use Rattle.world.specs.Courses.{At, CanSign, CanStart, Goes, HasLeafAt, IsPlace, NamesLiar, Replies, before_opening, body_in, course_of, does_or_opens, liar_place_of, signs};
 ghost use Rattle.world.specs.Holding.{Holds, numbers};
 
 use crate::refusing::node_named;
@@ -25,15 +28,17 @@ use world_rules::{MemberList, Verdict};
 use world_text::{write_line, write_verdict};
 
 /// The monitor of the member on the ring. Whoever has a certificate has joined, and lines have no other ring than the
-/// group's.
+/// group's: else the answer is that memory was refused.
 fn monitor_of(
     membership: &Membership,
     ring: RingNo,
     member: MemberId,
 ) -> Result<Option<MemberId>, NoMemory>
-    ensures { IfOk result
+    ensures value { IfOk result
         (λ monitor. (st : State) → Stands membership.now st
         → monitor ≡ monitor_in st ring.0 member) }
+    ensures refused { has_joined membership.now member ≡ true
+        → ring.0 < ring_count membership.now.group.t → is_ok result ≡ true }
 {
     let rings = 2 * u16::from(membership.group().t) + 1;
     if membership.is_member(member) && u16::from(ring.0) < rings {
@@ -199,7 +204,7 @@ impl World {
         }
     }
 
-    /// The liar with this key signs the body that the line has it sign, which is kept under the name.
+    /// The liar with this key, which isn't used up, signs the body that the line has it sign, which is kept under the name.
     fn sign(
         &mut self,
         key: MemberId,
@@ -207,6 +212,7 @@ impl World {
         line: &WorldLine,
         out: &mut Vec<u8>,
     ) -> Result<(), WorldFault>
+        requires { HasLeafAt self.old (liar_place_of self.old key) }
         ensures numbers { numbers self.new ≡ numbers self.old }
         ensures signs { (s : Setting) (w : ModelWorld) (before : List NodeEvent)
             → Holds s w before self.old → is_liar s key ≡ true
@@ -253,6 +259,7 @@ impl World {
 
     /// What a line does that names no node.
     fn do_other(&mut self, line: &WorldLine, out: &mut Vec<u8>) -> Result<(), WorldFault>
+        requires { CanSign self.old line.now }
         ensures numbers { numbers self.new ≡ numbers self.old }
         ensures does { (s : Setting) (w : ModelWorld) (before : List NodeEvent)
             → Holds s w before self.old → node_in line.now ≡ None → NamesLiar s line.now
@@ -269,6 +276,7 @@ impl World {
 
     /// What a line does that can be done.
     fn do_line(&mut self, line: &WorldLine, out: &mut Vec<u8>) -> Result<(), WorldFault>
+        requires { CanSign self.old line.now }
         ensures numbers { numbers self.new ≡ numbers self.old }
         ensures does { (s : Setting) (w : ModelWorld) (before : List NodeEvent)
             → Holds s w before self.old → before_opening line.now (refusal s w line.now) ≡ None

@@ -1,12 +1,12 @@
 //! Why a line can't be done: the first row of a table that holds.
 
-ghost use Rattle.std.specs.Prelude.{◌≡◌, ℕ, List, not, nat_lt, is_some, true, false, length};
+ghost use Rattle.std.specs.Prelude.{◌≡◌, ℕ, List, not, nat_lt, is_some, true, false, length, IfNone};
 ghost use Rattle.std.specs.Option.{option_and_then, option_map};
 ghost use Rattle.world_rules.specs.Refusals.{asks_for_unknown as asks_in, datagram_named, first_row, holds_of, key_named as key_in, name_named as name_in, newest_signed as newest_in, node_named as node_in, noted_named, runner_named as runner_in, starter_named as starter_in, why_not as refusal};
 ghost use Rattle.world_rules.specs.Settings.{Setting, is_liar, is_node};
 ghost use Rattle.world_rules.specs.Steps.{NodeEvent};
 ghost use Rattle.world_rules.specs.Worlds.{World as ModelWorld, is_running as runs, named_so};
-ghost use Rattle.world.specs.Courses.{before_opening, key_used_up, last_rows};
+ghost use Rattle.world.specs.Courses.{CanSign, HasLeafAt, before_opening, key_used_up, last_rows, liar_place_of};
 ghost use Rattle.world.specs.Holding.{Holds};
 
 use crate::World;
@@ -169,8 +169,10 @@ impl World {
 
     /// The next index of the liar's key, if it is used up.
     fn used_up(&self, key: MemberId) -> Option<u32>
-        ensures { (s : Setting) (w : ModelWorld) (told : List NodeEvent) → Holds s w told self.now
+        ensures value { (s : Setting) (w : ModelWorld) (told : List NodeEvent)
+            → Holds s w told self.now
             → is_liar s key ≡ true → result ≡ key_used_up s w key }
+        ensures left { IfNone result (HasLeafAt self.now (liar_place_of self.now key)) }
     {
         let at = self.liar_of(key)?;
         let liar = &self.liars[at];
@@ -183,7 +185,9 @@ impl World {
 
     /// Of a liar's key that is to sign, the next index, if it is used up.
     fn signer_used_up(&self, line: &WorldLine) -> Option<u32>
-        ensures { (s : Setting) (w : ModelWorld) (told : List NodeEvent) → Holds s w told self.now
+        ensures left { IfNone result (CanSign self.now line.now) }
+        ensures value { (s : Setting) (w : ModelWorld) (told : List NodeEvent)
+            → Holds s w told self.now
             → holds_of (λ key. not (is_liar s key)) (key_in line.now) ≡ false
             → result ≡ option_and_then (key_used_up s w) (key_in line.now) }
     {
@@ -211,7 +215,9 @@ impl World {
 
     /// Why the line can't be done, as far as the last rows of the table say.
     fn why_not_signed(&self, line: &WorldLine) -> Option<RefusalReason>
-        ensures { (s : Setting) (w : ModelWorld) (told : List NodeEvent) → Holds s w told self.now
+        ensures left { IfNone result (CanSign self.now line.now) }
+        ensures value { (s : Setting) (w : ModelWorld) (told : List NodeEvent)
+            → Holds s w told self.now
             → holds_of (λ key. not (is_liar s key)) (key_in line.now) ≡ false
             → result ≡ first_row (last_rows s w line.now) }
     {
@@ -229,7 +235,9 @@ impl World {
 
     /// Why the line can't be done, if it can't. Whether a node's key is used up shows once its store is open.
     pub(crate) fn why_not(&self, line: &WorldLine) -> Option<RefusalReason>
-        ensures { (s : Setting) (w : ModelWorld) (told : List NodeEvent) → Holds s w told self.now
+        ensures left { IfNone result (CanSign self.now line.now) }
+        ensures value { (s : Setting) (w : ModelWorld) (told : List NodeEvent)
+            → Holds s w told self.now
             → result ≡ before_opening line.now (refusal s w line.now) }
     {
         if self.names_no_node(line) {

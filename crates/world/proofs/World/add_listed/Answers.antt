@@ -7,8 +7,15 @@ use Rattle.world_rules.specs.Settings.{is_liar, is_node}
 use Rattle.world_host.specs.Holding.{IsWorld}
 use Rattle.world.specs.Holding.{Kept}
 use Rattle.world.specs.Opening.{AddsLiar, AddsNode, Builds}
+use Rattle.world.proofs.LeafLemmas.{listed-liar, listed-node}
 use Rattle.world.proofs.OpeningLemmas.{both-ok, builds-liar, builds-node, builds-none, is-apart, is-liar-made, is-node-made, is-world}
 use Rattle.world.proofs.World.add_listed.Goals as goal
+
+pub add_node-requires-clause-left : goal.add_node-requires-clause-left
+add_node-requires-clause-left c = c.requires.left (listed-node c.args.nodes.now c.args.liars.now c.args.member (sym c.contains.ensures.value ∙ c.if-contains.true))
+
+pub add_liar-requires-clause-left : goal.add_liar-requires-clause-left
+add_liar-requires-clause-left c = c.requires.left (listed-liar c.args.nodes.now c.args.liars.now c.args.member (sym c.contains-2.ensures.value ∙ c.if-contains-2.true))
 
 pub returns-then-contains-clause-builds : goal.returns-then-contains-clause-builds
 returns-then-contains-clause-builds c = λ s is apart h.

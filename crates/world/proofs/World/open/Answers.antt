@@ -8,6 +8,7 @@ use Rattle.world_rules.specs.Settings.{Setting}
 use Rattle.world_host.specs.Holding.{IsWorld}
 use Rattle.world.specs.Holding.{Kept}
 use Rattle.world.specs.Opening.{Builds}
+use Rattle.world.proofs.LeafLemmas.{has-leaf}
 use Rattle.world.proofs.OpeningLemmas.{builds-first, holds-built, is-apart, is-world, mapped-none, new_authority}
 use Rattle.world.proofs.World.open.Goals as goal
 
@@ -27,6 +28,15 @@ loop-number-init c = (
       c.new-6.ensures
       c.new-7.ensures,
 )
+
+pub add_listed-requires-clause-left : goal.add_listed-requires-clause-left
+add_listed-requires-clause-left c =
+    let g : Group = c.args.group in
+    let correct : List ℕ = c.args.nodes.now in
+    let liars : List ℕ = c.args.liars.now in
+    let s : Setting = setting_for g c.args.ots c.args.tree correct liars in
+    has-leaf g c.args.ots c.args.tree correct liars c.new-member.result c.loop-number.signing c.loop-number.world c.requires.few
+    (subst (λ (n : ℕ). Builds s c.args.ots c.args.tree n c.loop-number.signing c.loop-number.world) (sym c.new-member.ensures) c.loop-number.invariant.2)
 
 pub loop-number-preserved : goal.loop-number-preserved
 loop-number-preserved c =

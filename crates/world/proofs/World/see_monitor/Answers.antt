@@ -32,7 +32,7 @@ returns-in_ok-monitor-in-Some c = λ s w before m h place.
     let runs : HoldsCurrent s (w.hosts m).disk m (Some n) (w.hosts m).current = subst (λ (o : Option node.Kept). HoldsCurrent s (w.hosts m).disk m o (w.hosts m).current) (sym c.in-Some.ensures) now in
     let said : Verdict = verdicts.MonitoredBy c.in_ok-monitor-in-Some.monitor in
     replies-same s before c.args.self.now c.args.out.now.items c.answer.new.out.items (Ok (asks s m (monitored c.args.ring.0 c.args.of) w)) (Ok (says said w)) c.answer.result
-    (ap (λ (a : Answer). ok_answer a) (asks-some s (w.hosts m).disk m n (w.hosts m).current (monitored c.args.ring.0 c.args.of) said w runs (λ one is. ap (λ (o : Option ℕ). verdicts.MonitoredBy o) (sym (c.in_ok-monitor-in-Some.ensures (state_of (setting_of s m) one.node) (subst (λ (z : life.Life). Stands z (state_of (setting_of s m) one.node)) (sym c.membership.ensures) is.is.holds))))))
+    (ap (λ (a : Answer). ok_answer a) (asks-some s (w.hosts m).disk m n (w.hosts m).current (monitored c.args.ring.0 c.args.of) said w runs (λ one is. ap (λ (o : Option ℕ). verdicts.MonitoredBy o) (sym (c.in_ok-monitor-in-Some.ensures.value (state_of (setting_of s m) one.node) (subst (λ (z : life.Life). Stands z (state_of (setting_of s m) one.node)) (sym c.membership.ensures) is.is.holds))))))
     (says-replies s w before c.args.self.now c.args.out.now.items c.answer.new.out.items said c.answer.result h c.answer.ensures.ok c.answer.ensures.refused c.answer.ensures.cause)
 
 pub returns-in-None : goal.returns-in-None

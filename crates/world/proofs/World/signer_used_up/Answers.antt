@@ -13,6 +13,6 @@ liar-so s key o is h = not-not (is_liar s key) (ap (holds_of (λ k. not (is_liar
     not-not true e = refl
     not-not false e = absurd (false≢true (sym e))
 
-pub returns-in-Some : goal.returns-in-Some
-returns-in-Some c = λ s w told h fine.
-    c.used_up.ensures s w told h (liar-so s c.in-Some.key _ c.in-Some.ensures fine) ∙ ap (option_and_then (key_used_up s w)) c.in-Some.ensures
+pub returns-in-Some-clause-value : goal.returns-in-Some-clause-value
+returns-in-Some-clause-value c = λ s w told h fine.
+    c.used_up.ensures.value s w told h (liar-so s c.in-Some.key _ c.in-Some.ensures fine) ∙ ap (option_and_then (key_used_up s w)) c.in-Some.ensures

@@ -9,11 +9,11 @@ use Rattle.lms_tree.specs.Kinds.{leaf_count}
 use Rattle.world.proofs.SignerLemmas.{liar-leaves, liar-next, used-false, used-true}
 use Rattle.world.proofs.World.used_up.Goals as goal
 
-pub returns-in_err-at : goal.returns-in_err-at
-returns-in_err-at c = λ s w told h liar. absurd (false≢true (sym (c.in_err-at.ensures.place s h.lying) ∙ liar))
+pub returns-in_err-at-clause-value : goal.returns-in_err-at-clause-value
+returns-in_err-at-clause-value c = λ s w told h liar. absurd (false≢true (sym (c.in_err-at.ensures.place s h.lying) ∙ liar))
 
-pub returns-then-is_used_up : goal.returns-then-is_used_up
-returns-then-is_used_up c = λ s w told h liar.
+pub returns-then-is_used_up-clause-value : goal.returns-then-is_used_up-clause-value
+returns-then-is_used_up-clause-value c = λ s w told h liar.
     let v : Kept = the_view c.self.inside in
     let at : ℕ = c.in_ok-at.at in
     let x : Liar = c.index-liar.result.now in
@@ -25,8 +25,8 @@ returns-then-is_used_up c = λ s w told h liar.
     let used : c.is_used_up.result ≡ true = search rules in
     used-true s w c.args.key x.key.next c.next.result (leaf_count x.key.key.tree) (liar-next s w told v c.args.key at x held there found) (liar-leaves s w told v c.args.key at x held there found) c.next.ensures (sym c.is_used_up.ensures ∙ used)
 
-pub returns-else-is_used_up : goal.returns-else-is_used_up
-returns-else-is_used_up c = λ s w told h liar.
+pub returns-else-is_used_up-clause-value : goal.returns-else-is_used_up-clause-value
+returns-else-is_used_up-clause-value c = λ s w told h liar.
     let v : Kept = the_view c.self.inside in
     let at : ℕ = c.in_ok-at.at in
     let x : Liar = c.index-liar.result.now in
