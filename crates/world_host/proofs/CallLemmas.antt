@@ -1,6 +1,6 @@
 -- A node's call over its disk, and how it leaves its place.
 use Rattle.std.proofs.Common.{◌≡◌, ℕ, true, false, List, [], ◌∷◌, ◌++◌, length, Option, Some, None, Result, Ok, Err, refl, sym, ap, ◌∙◌, subst, arith, length-append}
-use Rattle.std.specs.Prelude.{OnOk, is_err, option_to_list}
+use Rattle.std.specs.Prelude.{IfErr, IfSome, OnOk, is_err, option_to_list}
 use Rattle.std.proofs.lemmas.Bool.{false≢true}
 use Rattle.fields.specs.declared.NoMemory.{NoMemory}
 use Rattle.ff_ids.specs.declared.Group.{Group}
@@ -11,12 +11,13 @@ use Rattle.epoch_store.specs.Placed.{PlacedStore}
 use Rattle.signer.specs.Lives.{Spent}
 use Rattle.journal.specs.declared.event.Event as journal
 use Rattle.node_rules.specs.Nodes.{Node}
+use Rattle.node_rules.specs.Nodes as rules
 use Rattle.node_rules.specs.Calls.{Call}
-use Rattle.node_rules.specs.Lives.{Input}
+use Rattle.node_rules.specs.Lives.{Input, call_of}
 use Rattle.node_rules.specs.OnDisks as over
 use Rattle.node_core.specs.declared.NodeFault.{NodeFault}
 use Rattle.node_core.specs.declared.NodeFault.TheVariants as faults
-use Rattle.node_core.specs.Answers.{CallerBuffers}
+use Rattle.node_core.specs.Answers.{CallerBuffers, GivesCall}
 use Rattle.node_core.specs.OnDisks.{FollowsDisk, GivesOn, storage}
 use Rattle.node_core.specs.Playing.{IsNode, Kept}
 use Rattle.world_host.specs.Held.{HoldsDisk, crashed}
@@ -27,9 +28,9 @@ use Rattle.world_rules.specs.Settings.{Setting, setting_of}
 use Rattle.world_rules.specs.Disks.{Disk, seat_of}
 use Rattle.world_rules.specs.Worlds.{Life, Host}
 use Rattle.world_rules.specs.Steps.{host_after, with_input}
-use Rattle.world_host.specs.Answers.{Calls, CallsRunning, Ends, bodies_in, call_on, spent_in}
+use Rattle.world_host.specs.Answers.{Calls, CallsRunning, Ends, MayStop, bodies_in, call_on, spent_in}
 use Rattle.world_host.specs.Holding.{HoldsCurrent, HoldsLife, HoldsHost, IsWorld}
-use Rattle.world_host.specs.Hosts.{HostState}
+use Rattle.world_host.specs.Hosts.{HostState, IsGoing}
 use Rattle.world_host.proofs.SpentLemmas.{signed-behind}
 use Rattle.world_host.proofs.WorldLemmas.{few-indexes, few-rings, tag-is}
 
@@ -163,7 +164,7 @@ Follows s i x v now d old new called =
 
 answered : (s : Setting) (g : Group) (ots : OtsKind) (tree : TreeKind) (i : Input) (place : Host) (spent : List Spent) (life : Life) (x after : HostState) (v now : Kept) (d : DiskState) (old new : CallerBuffers) (called : Result (Unit {0}) NodeFault) (answer : Result (Unit {0}) NoMemory)
     → IsWorld s g ots tree → HoldsHost s ots tree place spent x → place.current ≡ Some life → HoldsLife s place.disk x.member v life → old.events ≡ [] → Follows s i x v now d old new called
-    → now.ended ≡ is_err called → OnOk called (now.signer.closed ≡ v.signer.closed) → Ends (record x { node = Some now; disk = d }) after called answer → is_err answer ≡ false
+    → now.ended ≡ is_err called → OnOk called (now.signer.closed ≡ v.signer.closed) → Ends (record x { node = None; disk = d }) now after called answer → is_err answer ≡ false
     → Calls s ots tree i place spent life (record after { signed = after.signed ++ bodies_in new.events }) old.sent new.sent new.events
 answered s g ots tree i place spent life x after v now d old new (Ok done) answer w h runs l none follows over free ends fine =
     let put : HostState → HostState = λ y. record y { signed = y.signed ++ bodies_in new.events } in
@@ -174,16 +175,38 @@ answered s g ots tree i place spent life x after v now d old new (Err faults.Sto
     subst (λ (y : HostState). Calls s ots tree i place spent life (put y) old.sent new.sent new.events) (sym ends.1)
     (halted s g ots tree i place spent life x v now d old new w h runs l none (follows life.node l.is l.going))
 answered s g ots tree i place spent life x after v now d old new (Err faults.OutOfMemory) answer w h runs l none follows over free ends fine = absurd (false≢true (sym fine ∙ ends.0))
-answered s g ots tree i place spent life x after v now d old new (Err (faults.Exhausted next)) answer w h runs l none follows over free ends fine = absurd (false≢true (sym fine ∙ ends.0))
-answered s g ots tree i place spent life x after v now d old new (Err faults.Ended) answer w h runs l none follows over free ends fine = absurd (false≢true (sym fine ∙ ends.0))
+answered s g ots tree i place spent life x after v now d old new (Err (faults.Exhausted next)) answer w h runs l none follows over free ends fine = absurd ends
+answered s g ots tree i place spent life x after v now d old new (Err faults.Ended) answer w h runs l none follows over free ends fine = absurd ends
 
 -- A node was called, and the bodies that it signed are kept.
 pub called-so : (s : Setting) (g : Group) (ots : OtsKind) (tree : TreeKind) (i : Input) (place : Host) (spent : List Spent) (x after last : HostState) (v now : Kept) (d : DiskState) (old new : CallerBuffers) (called : Result (Unit {0}) NodeFault) (answer : Result (Unit {0}) NoMemory)
     → IsWorld s g ots tree → HoldsHost s ots tree place spent x → x.node ≡ Some v → old.events ≡ [] → Follows s i x v now d old new called
-    → now.ended ≡ is_err called → OnOk called (now.signer.closed ≡ v.signer.closed) → Ends (record x { node = Some now; disk = d }) after called answer → is_err answer ≡ false
+    → now.ended ≡ is_err called → OnOk called (now.signer.closed ≡ v.signer.closed) → Ends (record x { node = None; disk = d }) now after called answer → is_err answer ≡ false
     → last ≡ record after { signed = after.signed ++ bodies_in new.events } → CallsRunning s ots tree i place spent place.current x last old.sent new.sent new.events
 called-so s g ots tree i place spent x after last v now d old new called answer w h node none follows over free ends fine kept =
     let r = runs-so s place.disk x.member v x.node place.current node h.current in
     running-call s ots tree i place spent r.life place.current x last old.sent new.sent new.events r.is
     (subst (λ (y : HostState). Calls s ots tree i place spent r.life y old.sent new.sent new.events) (sym kept)
     (answered s g ots tree i place spent r.life x after v now d old new called answer w h r.is r.holds none follows over free ends fine))
+
+-- ---- what a call may answer
+
+-- A node that is going ends in no other way.
+of-call : (s : rules.Setting) (n : Node) (i : Input) (v : Kept) (old new : CallerBuffers) (fault : NodeFault) → GivesCall s n i v old new (Err fault) → MayStop fault
+of-call s n i v old new faults.StoreFault gives = tt
+of-call s n i v old new faults.OutOfMemory gives = tt
+of-call s n i v old new (faults.Exhausted next) gives = absurd gives
+of-call s n i v old new faults.Ended gives = absurd gives
+
+pub err-of-call : (s : rules.Setting) (n : Node) (i : Input) (v : Kept) (old new : CallerBuffers) (called : Result (Unit {0}) NodeFault) → GivesCall s n i v old new called → IfErr called MayStop
+err-of-call s n i v old new (Ok done) gives = tt
+err-of-call s n i v old new (Err fault) gives = of-call s n i v old new fault gives
+
+-- It stands for a node again.
+pub going-on : (s : rules.Setting) (n : Node) (i : Input) (v : Kept) (old new : CallerBuffers) (called : Result (Unit {0}) NodeFault) → GivesCall s n i v old new called → v.ended ≡ is_err called → OnOk called (IsGoing v)
+going-on s n i v old new (Ok done) gives over = record { setting = s; node = (call_of s n i).node; is = gives.is; going = over }
+going-on s n i v old new (Err fault) gives over = tt
+
+pub some-going : (o : Option Kept) (v : Kept) → IfSome o IsGoing → o ≡ Some v → IsGoing v
+some-going None v h is = cc
+some-going (Some k) v h is = subst IsGoing (some-same k v is) h

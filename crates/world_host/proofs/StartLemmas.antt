@@ -1,6 +1,6 @@
 -- The first note of a life, over a disk whose store is open.
 use Rattle.std.proofs.Common.{◌≡◌, ℕ, ◌+◌, ◌<◌, true, false, eqb, not, List, [], ◌∷◌, ◌++◌, length, Option, Some, None, Result, Ok, Err, inr, refl, sym, ap, ◌∙◌, subst, arith, length-append}
-use Rattle.std.specs.Prelude.{IfErr, IfOk, option_to_list}
+use Rattle.std.specs.Prelude.{IfErr, IfOk, IfSome, option_to_list}
 use Rattle.std.proofs.lemmas.Bool.Decides.{nat_tests}
 use Rattle.fields.specs.declared.NoMemory.{NoMemory}
 use Rattle.ff_ids.specs.declared.Group.{Group}
@@ -22,6 +22,7 @@ use Rattle.node_rules.specs.Replies.{first_mask}
 use Rattle.lms_tree.specs.declared.key.PublicKey.{PublicKey}
 use Rattle.lms_tree.specs.Leaves.{index_count}
 use Rattle.node_rules.specs.Nodes as node
+use Rattle.node_rules.specs.Starting.{started}
 use Rattle.node_core.specs.declared.NodeFault.{NodeFault}
 use Rattle.node_core.specs.declared.NodeFault.TheVariants as faults
 use Rattle.node_core.specs.Begins.{IsVouchable, MayRefuse, Starts}
@@ -38,9 +39,9 @@ use Rattle.world_rules.specs.Steps.{first_call, first_life, with_disk}
 use Rattle.world_rules.proofs.Once.{one-started}
 use Rattle.world_host.specs.declared.starting.Started.{Started}
 use Rattle.world_host.specs.declared.starting.Started.TheVariants as starts
-use Rattle.world_host.specs.Answers.{Begins, BeginsAt, BeginsLife, BeginsNode, FailsToBegin, IsOfStart, IsStart, StartsNode, StopsAt, bodies_in, opened_place}
+use Rattle.world_host.specs.Answers.{Begins, BeginsAt, BeginsLife, BeginsNode, FailsToBegin, IsStart, MayStop, StartsNode, StopsAt, bodies_in, opened_place}
 use Rattle.world_host.specs.Holding.{HoldsCurrent, HoldsHost, IsWorld, tag_of}
-use Rattle.world_host.specs.Hosts.{HostState}
+use Rattle.world_host.specs.Hosts.{HostState, IsGoing}
 use Rattle.world_host.proofs.SpentLemmas.{signed-behind}
 use Rattle.world_host.proofs.WorldLemmas.{few-indexes, few-rings, group-is}
 
@@ -135,8 +136,19 @@ answer-is s tag m e d events (Err faults.OutOfMemory) (Err refused) h is = tt
 answer-is s tag m e d events (Err (faults.Exhausted next)) answer h is = absurd is
 answer-is s tag m e d events (Err faults.Ended) answer h is = absurd is
 
+-- What starts is going.
+pub start-going : (x : node.Setting) (seed : List ℕ) (records : List Record) (stored : Stored) (before after : List journal.Event) (came : Result Kept NodeFault) (answer : Result (Option Kept) NoMemory) → IfOk came (λ v. (t : node.Setting) → t ≡ x → Starts t seed records stored v before after)
+    → IfOk came (λ v. v.ended ≡ false) → IsStart came answer → IfOk answer (λ o. IfSome o IsGoing)
+start-going x seed records stored before after (Ok v) answer starts going is =
+    subst (λ (a : Result (Option Kept) NoMemory). IfOk a (λ o. IfSome o IsGoing)) (sym is) (record { setting = x; node = (started x seed records stored).node; is = (starts x refl).is; going = going })
+start-going x seed records stored before after (Err faults.StoreFault) answer starts going is = subst (λ (a : Result (Option Kept) NoMemory). IfOk a (λ o. IfSome o IsGoing)) (sym is) tt
+start-going x seed records stored before after (Err faults.OutOfMemory) (Ok o) starts going is = cc
+start-going x seed records stored before after (Err faults.OutOfMemory) (Err refused) starts going is = tt
+start-going x seed records stored before after (Err (faults.Exhausted next)) answer starts going is = absurd is
+start-going x seed records stored before after (Err faults.Ended) answer starts going is = absurd is
+
 -- A key with an index left isn't used up.
-pub of-start : (s : SignerState) (fault : NodeFault) → s.state.next < index_count s.key → MayRefuse s fault → IsOfStart fault
+pub of-start : (s : SignerState) (fault : NodeFault) → s.state.next < index_count s.key → MayRefuse s fault → MayStop fault
 of-start s faults.StoreFault left cause = tt
 of-start s faults.OutOfMemory left cause = tt
 of-start s (faults.Exhausted next) left cause = let a = cause.0 in let b = cause.1 in absurd (omega (arith, a, b, left))

@@ -61,13 +61,20 @@ abbrev pub CallsNode : Setting → OtsKind → TreeKind → Input → Host → L
 CallsNode s ots tree i place spent old new before after (Ok events) = CallsRunning s ots tree i place spent place.current old new before after events
 CallsNode s ots tree i place spent old new before after (Err refused) = Unit {0}
 
+-- What may stop a call of a node that is going, or the start of one whose key isn't used up.
+abbrev pub MayStop : NodeFault → Type 0
+MayStop faults.StoreFault = Unit {0}
+MayStop faults.OutOfMemory = Unit {0}
+MayStop (faults.Exhausted next) = ⊥
+MayStop faults.Ended = ⊥
+
 -- How the place is left, by the answer of its node.
-abbrev pub Ends : HostState → HostState → Result (Unit {0}) NodeFault → Result (Unit {0}) NoMemory → Type 0
-Ends old new (Ok done) answer = (answer ≡ Ok tt) × (new ≡ old)
-Ends old new (Err faults.StoreFault) answer = (answer ≡ Ok tt) × (new ≡ record old { node = None; disk = crashed 0 old.disk })
-Ends old new (Err faults.OutOfMemory) answer = (is_err answer ≡ true) × (new ≡ old)
-Ends old new (Err (faults.Exhausted next)) answer = (is_err answer ≡ true) × (new ≡ old)
-Ends old new (Err faults.Ended) answer = (is_err answer ≡ true) × (new ≡ old)
+abbrev pub Ends : HostState → Kept → HostState → Result (Unit {0}) NodeFault → Result (Unit {0}) NoMemory → Type 0
+Ends old v new (Ok done) answer = (answer ≡ Ok tt) × (new ≡ record old { node = Some v })
+Ends old v new (Err faults.StoreFault) answer = (answer ≡ Ok tt) × (new ≡ record old { node = None; disk = crashed 0 old.disk })
+Ends old v new (Err faults.OutOfMemory) answer = (is_err answer ≡ true) × (new ≡ old)
+Ends old v new (Err (faults.Exhausted next)) answer = ⊥
+Ends old v new (Err faults.Ended) answer = ⊥
 
 -- ---- starts
 
@@ -94,13 +101,6 @@ pub record FailsToBegin (s : Setting) (tag : List ℕ) (m : ℕ) (e : Disk) (d :
   pub left : (e.state.next == s.indexes) ≡ false
   pub stops : put_passes e ≡ false
   pub disk : HoldsDisk tag s.indexes (crashed 0 d) (stopped_in_put (first_call s m e.state).node.stored e)
-
--- What may stop the start of a node whose key isn't used up: none has ended that is to start.
-abbrev pub IsOfStart : NodeFault → Type 0
-IsOfStart faults.StoreFault = Unit {0}
-IsOfStart faults.OutOfMemory = Unit {0}
-IsOfStart (faults.Exhausted next) = ⊥
-IsOfStart faults.Ended = ⊥
 
 -- The node that started; none where the disk stopped.
 abbrev pub IsStart : Result Kept NodeFault → Result (Option Kept) NoMemory → Type 0

@@ -1,6 +1,6 @@
 //! Calls of the node that runs.
 
-ghost use Rattle.std.specs.Prelude.{◌≡◌, ◌++◌, OnOk};
+ghost use Rattle.std.specs.Prelude.{◌≡◌, ◌++◌, IfErr, OnOk};
 ghost use Rattle.lms_ots.specs.declared.OtsKind.{OtsKind};
 ghost use Rattle.lms_tree.specs.declared.TreeKind.{TreeKind};
 ghost use Rattle.ff_ids.specs.declared.Group.{Group};
@@ -9,29 +9,34 @@ ghost use Rattle.world_rules.specs.Settings.{Setting};
 ghost use Rattle.world_rules.specs.Worlds.{Host as Place};
 ghost use Rattle.signer.specs.Lives.{Spent};
 ghost use Rattle.std.specs.Prelude.{List};
-ghost use Rattle.world_host.specs.Answers.{CallsNode, Ends, bodies_in, body_in};
+ghost use Rattle.world_host.specs.Answers.{CallsNode, Ends, MayStop, bodies_in, body_in};
+ghost use Rattle.world_host.specs.Hosts.{IsGoing};
 ghost use Rattle.world_host.specs.Holding.{HoldsHost, IsWorld};
 
 use crate::host::Host;
 use fields::NoMemory;
 use journal::{Event, What};
-use node_core::{Events, NodeFault, Outbox};
+use node_core::{Events, Node, NodeFault, Outbox};
 use std::alloc::Global;
 
 impl Host {
-    /// How a call of the node went: where the disk stopped in it, the life is over.
-    fn end_call(&mut self, called: Result<(), NodeFault>) -> Result<(), NoMemory>
-        ensures { Ends self.old self.new called result }
+    /// How a call of the node went, which is put back; but where the disk stopped in it, the life is over.
+    fn end_call(&mut self, node: Node, called: Result<(), NodeFault>) -> Result<(), NoMemory>
+        requires going { OnOk called (IsGoing node) }
+        requires cause { IfErr called MayStop }
+        ensures { Ends self.old node self.new called result }
     {
         match called {
-            Ok(()) => Ok(()),
+            Ok(()) => {
+                self.node = Some(node);
+                Ok(())
+            }
             Err(NodeFault::StoreFault) => {
                 self.stop(0);
                 Ok(())
             }
-            Err(NodeFault::OutOfMemory | NodeFault::Exhausted { .. } | NodeFault::Ended) => Err(
-                NoMemory,
-            ),
+            Err(NodeFault::OutOfMemory) => Err(NoMemory),
+            Err(NodeFault::Exhausted { .. } | NodeFault::Ended) => unreachable!(),
         }
     }
 
@@ -75,11 +80,11 @@ impl Host {
             out.new result }
     {
         let mut events = Events::new(alloc);
-        let Some(node) = &mut self.node else {
+        let Some(mut node) = self.node.take() else {
             return Ok(events);
         };
         let called = node.deliver(alloc, &mut self.disk, bytes, out, &mut events);
-        self.end_call(called)?;
+        self.end_call(node, called)?;
         self.keep_bodies(events.as_slice())?;
         Ok(events)
     }
@@ -95,14 +100,14 @@ impl Host {
             result }
     {
         let mut events = Events::new(alloc);
-        let Some(node) = &mut self.node else {
+        let Some(mut node) = self.node.take() else {
             return Ok(events);
         };
         if node.membership().now() == u64::MAX {
             return Err(NoMemory);
         }
         let called = node.tick(alloc, &mut self.disk, out, &mut events);
-        self.end_call(called)?;
+        self.end_call(node, called)?;
         self.keep_bodies(events.as_slice())?;
         Ok(events)
     }

@@ -56,7 +56,7 @@ impl Model for Host {
     ghost use Rattle.std.specs.Coded.{codes};
     ghost use Rattle.std.specs.FinMap.{code};
     ghost use Rattle.lms_tree.specs.Lms.{public_of};
-    ghost use Rattle.world_host.specs.Hosts.{HostState};
+    ghost use Rattle.world_host.specs.Hosts.{HostState, IsGoing};
 
     ghost Value = { HostState };
 
@@ -73,7 +73,8 @@ impl Model for Host {
       signed = x.signed.items;
     } };
 
-    ghost invariant = { λ x. IfSome x.key (λ key. public_of key ≡ x.public) };
+    ghost invariant = { λ x. IfSome x.key (λ key. public_of key ≡ x.public)
+        × IfSome x.node IsGoing };
 }
 
 /// A disk with room for each entry that a key with so many indexes allows, and for each change: a new store is a write and a

@@ -11,7 +11,8 @@ ghost use Rattle.world_rules.specs.Keys.{owner_key};
 ghost use Rattle.world_rules.specs.Settings.{Setting};
 ghost use Rattle.world_rules.specs.Worlds.{Host as Place};
 ghost use Rattle.world_host.specs.Held.{HoldsDisk};
-ghost use Rattle.world_host.specs.Answers.{BeginsLife, BeginsNode, IsOfStart, IsStart, OpensStore, StartsNode};
+ghost use Rattle.world_host.specs.Answers.{BeginsLife, BeginsNode, IsStart, MayStop, OpensStore, StartsNode};
+ghost use Rattle.world_host.specs.Hosts.{IsGoing};
 ghost use Rattle.world_host.specs.Holding.{Certifies, HoldsHost, IsWorld, tag_of};
 
 use crate::host::{FILE, Host};
@@ -91,7 +92,7 @@ impl Host {
 
 /// How the start of a node went whose key is not used up: none where the disk stopped.
 fn start_of(started: Result<Node, NodeFault>) -> Result<Option<Node>, NoMemory>
-    requires { IfErr started IsOfStart }
+    requires { IfErr started MayStop }
     ensures { IsStart started result }
 {
     match started {
@@ -115,7 +116,8 @@ fn begin_node(
 ) -> Result<Option<Node>, NoMemory>
     requires runs { store.failed ≡ false }
     requires left { store.state.next < index_count key }
-    ensures { (s : Setting) (ots : OtsKind) (tree : TreeKind) (tag : List ℕ) (e : Disk)
+    ensures going { IfOk result (λ node. IfSome node IsGoing) }
+    ensures begins { (s : Setting) (ots : OtsKind) (tree : TreeKind) (tag : List ℕ) (e : Disk)
         → IsWorld s authority.now.group ots tree → Certifies s authority.now
         → key ≡ owner_key authority.now.group ots tree (Some member)
         → store ≡ record { state = e.state; seat = seat_of tag e; failed = false }

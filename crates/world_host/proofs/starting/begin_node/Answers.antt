@@ -11,12 +11,19 @@ use Rattle.node_core.specs.Playing as node
 use Rattle.node_core.specs.Rolls.{recs_of}
 use Rattle.world_rules.specs.Disks.{seat_of}
 use Rattle.world_rules.specs.Keys.{owner_key}
-use Rattle.world_host.proofs.StartLemmas.{answer-is, begins-by, nonces-are}
+use Rattle.world_host.proofs.StartLemmas.{answer-is, begins-by, nonces-are, start-going}
 use Rattle.world_host.proofs.WorldLemmas.{indexes-are, own-kit}
 use Rattle.world_host.proofs.starting.begin_node.Goals as goal
 
-pub returns : goal.returns
-returns c = λ s ots tree tag e w certified key_is store_is mark h none.
+pub returns-clause-going : goal.returns-clause-going
+returns-clause-going c =
+    let kit : Kit = c.in_ok-kit.kit in
+    let signer : SignerState = c.open_signer-signer.result in
+    start-going (node.setting_of kit.group kit.me kit.authority signer.key) kit.nonce_seed (recs_of kit.certificates.items) signer.state c.args.events.now c.start.new.events c.start.result c.start_of.result
+    c.start.ensures.starts c.start.ensures.going c.start_of.ensures
+
+pub returns-clause-begins : goal.returns-clause-begins
+returns-clause-begins c = λ s ots tree tag e w certified key_is store_is mark h none.
     let g : Group = c.args.authority.now.group in
     let m = c.args.member in
     let kit : Kit = c.in_ok-kit.kit in

@@ -24,7 +24,7 @@ returns-in_ok-keep_bodies-in-Some-clause-begins c = λ s ots tree place spent w 
     let held = subst (λ (y : HostState). HoldsDisk x.tag s.indexes y.disk place.disk) (sym seen) h.disk in
     let mark = subst (λ (y : HostState). x.tag ≡ tag_of s y.member) (sym seen) (tag-is s ots tree place spent x h) in
     let own = subst (λ (y : HostState). c.in_ok-key.key ≡ owner_key g ots tree (Some y.member)) (sym seen) key in
-    let began = c.in_ok-begun.ensures s ots tree x.tag place.disk w certified own store_is mark held c.new-events.ensures in
+    let began = c.in_ok-begun.ensures.begins s ots tree x.tag place.disk w certified own store_is mark held c.new-events.ensures in
     let so = subst (λ (o : Option Kept). BeginsNode s x.tag c.self-2.inside.member place.disk d events (Ok o)) c.in-Some.is began in
     let begins : Begins s x.tag x.member place.disk d events c.in-Some.node = subst (λ (y : HostState). Begins s x.tag y.member place.disk d events c.in-Some.node) seen so in
     let life : c.in_ok-life.life ≡ x.lives + 1 = search rules in
@@ -48,7 +48,7 @@ returns-in-None-clause-begins c = λ s ots tree place spent w certified h idle s
     let held = subst (λ (y : HostState). HoldsDisk x.tag s.indexes y.disk place.disk) (sym seen) h.disk in
     let mark = subst (λ (y : HostState). x.tag ≡ tag_of s y.member) (sym seen) (tag-is s ots tree place spent x h) in
     let own = subst (λ (y : HostState). c.in_ok-key.key ≡ owner_key g ots tree (Some y.member)) (sym seen) key in
-    let began = c.in_ok-begun.ensures s ots tree x.tag place.disk w certified own store_is mark held c.new-events.ensures in
+    let began = c.in_ok-begun.ensures.begins s ots tree x.tag place.disk w certified own store_is mark held c.new-events.ensures in
     let failed = subst (λ (o : Option Kept). BeginsNode s x.tag c.self-2.inside.member place.disk d events (Ok o)) c.in-None.is began in
     let fails : FailsToBegin s x.tag x.member place.disk d = subst (λ (y : HostState). FailsToBegin s x.tag y.member place.disk d) seen failed in
     let now : c.stop.new.self ≡ record x { key = None; node = None; disk = crashed 0 d } = c.stop.ensures ∙ ap (λ (y : HostState). record y { node = None; disk = crashed 0 d }) seen in

@@ -14,7 +14,7 @@ returns-in-Some-clause-key c = λ s ots tree place spent w h.
 pub returns-in-Some-clause-indexes : goal.returns-in-Some-clause-indexes
 returns-in-Some-clause-indexes c =
     let is : c.self.inside.key ≡ Some c.in-Some.key = search rules in
-    kept-indexes c.self.inside.key c.self.inside.public c.in-Some.key c.self.invariant is ∙ ap (λ (x : HostState). leaf_count x.public.tree) c.self.view_is
+    kept-indexes c.self.inside.key c.self.inside.public c.in-Some.key c.self.invariant.0 is ∙ ap (λ (x : HostState). leaf_count x.public.tree) c.self.view_is
 
 pub returns-clause-key : goal.returns-clause-key
 returns-clause-key c = λ s ots tree place spent w h.
