@@ -11,3 +11,4 @@ pub mod DiskPuts
 pub mod DiskMaking
 pub mod DiskReading
 pub mod DiskCalling
+pub mod KitLemmas

@@ -19,7 +19,7 @@ pub record HostState : Type 0 where
   pub node : Option Kept
   pub signed : List Body
 
--- It stands for some node of the rules, and no call of it has failed.
+-- What is kept stands for some node of the rules, and no call of it has failed.
 pub record IsGoing (v : Kept) : Type 0 where
   pub setting : Setting
   pub node : Node

@@ -2,6 +2,7 @@
 
 ghost use Rattle.std.specs.Prelude.{◌≡◌, ◌++◌, ◌∷◌, [], All, map, IfOk, OnOk};
 ghost use Rattle.node_core.specs.Begins.{IsCheckedIn};
+ghost use Rattle.records.specs.Signing.{IsChecked};
 ghost use Rattle.secrets.specs.Secrets.{nonce_seed as seed_of_life, world_secret as secret_in_world};
 ghost use Rattle.world_host.specs.Bodies.{is_among as is_one_of};
 
@@ -26,6 +27,7 @@ pub struct Authority {
 impl Model for Authority {
     ghost use Rattle.std.specs.Prelude.{All};
     ghost use Rattle.node_core.specs.Begins.{IsCheckedIn};
+    ghost use Rattle.records.specs.Signing.{IsChecked};
     ghost use Rattle.world_host.specs.Certifying.{Certifying};
 
     ghost Value = { Certifying };
@@ -33,7 +35,8 @@ impl Model for Authority {
     ghost view = { λ a. record
         { group = a.group; key = a.key; certificates = a.certificates.items } };
 
-    ghost invariant = { λ a. All (IsCheckedIn a.group a.key) a.certificates.items };
+    ghost invariant = { λ a. All (IsCheckedIn a.group a.key) a.certificates.items
+        × All IsChecked a.certificates.items };
 }
 
 /// A copy of the certificate.
@@ -123,6 +126,7 @@ impl Authority {
         ensures certificates { IfOk result (λ kit. kit.certificates.items ≡ self.now.certificates) }
         ensures checked { IfOk result
             (λ kit. All (IsCheckedIn kit.group kit.authority) kit.certificates.items) }
+        ensures verify { IfOk result (λ kit. All IsChecked kit.certificates.items) }
         ensures seed { IfOk result
             (λ kit. kit.nonce_seed
             ≡ seed_of_life (secret_in_world self.now.group.tag me) next) }

@@ -1,17 +1,20 @@
 //! Lives that begin.
 
-ghost use Rattle.std.specs.Prelude.{◌≡◌, ◌<◌, ◌≤◌, ℕ, List, [], None, Some, IfErr, IfOk, IfSome, false};
+ghost use Rattle.std.specs.Prelude.{◌≡◌, ◌<◌, ◌≤◌, ℕ, List, [], None, Some, IfErr, IfOk, IfSome, false, is_some, true};
 ghost use Rattle.lms_ots.specs.declared.OtsKind.{OtsKind};
 ghost use Rattle.lms_tree.specs.declared.TreeKind.{TreeKind};
 ghost use Rattle.lms_tree.specs.Kinds.{leaf_count};
 ghost use Rattle.lms_tree.specs.Leaves.{index_count};
+ghost use Rattle.lms_tree.specs.Lms.{public_of};
 ghost use Rattle.signer.specs.Lives.{Spent};
+ghost use Rattle.node_core.specs.Begins.{IsGroup, IsKit};
 ghost use Rattle.world_rules.specs.Disks.{Disk, seat_of};
 ghost use Rattle.world_rules.specs.Keys.{owner_key};
-ghost use Rattle.world_rules.specs.Settings.{Setting};
+ghost use Rattle.world_rules.specs.Settings.{Setting, is_node};
 ghost use Rattle.world_rules.specs.Worlds.{Host as Place};
 ghost use Rattle.world_host.specs.Held.{HoldsDisk};
 ghost use Rattle.world_host.specs.Answers.{BeginsLife, BeginsNode, IsStart, MayStop, OpensStore, StartsNode};
+ghost use Rattle.world_host.specs.Certifying.{IsKitOf};
 ghost use Rattle.world_host.specs.Hosts.{IsGoing};
 ghost use Rattle.world_host.specs.Holding.{Certifies, HoldsHost, IsWorld, tag_of};
 
@@ -21,7 +24,7 @@ use epoch_store::{Store, StoreError};
 use ff_ids::{Group, MemberId};
 use fields::NoMemory;
 use lms_tree::SecretKey;
-use node_core::{Events, Node, NodeFault};
+use node_core::{Events, Kit, Node, NodeFault};
 use ports::MemoryDisk;
 use signer::Signer;
 use std::alloc::Global;
@@ -103,6 +106,31 @@ fn start_of(started: Result<Node, NodeFault>) -> Result<Option<Node>, NoMemory>
     }
 }
 
+/// What a life of the member's node with this key begins with, its store's next index being `next`; none where that is not
+/// sound, which it is for each node of a world.
+fn kit_for(
+    alloc: Global,
+    authority: &Authority,
+    member: MemberId,
+    key: &SecretKey,
+    next: u32,
+) -> Result<Option<Kit>, NoMemory>
+    ensures kit { IfOk result (λ kit. IfSome kit (IsKitOf authority.now member next)) }
+    ensures own { IfOk result (λ kit. IfSome kit (λ k. IsKit k (public_of key.now))) }
+    ensures sound { (s : Setting) (ots : OtsKind) (tree : TreeKind)
+        → IsWorld s authority.now.group ots tree → Certifies s authority.now
+        → IsGroup authority.now.group → is_node s member ≡ true
+        → key.now ≡ owner_key authority.now.group ots tree (Some member)
+        → IfOk result (λ kit. is_some kit ≡ true) }
+{
+    let kit = authority.kit(alloc, member, next)?;
+    if kit.is_sound(&key.public()) {
+        Ok(Some(kit))
+    } else {
+        Ok(None)
+    }
+}
+
 /// The life of a member's node begins over its store, which is open: its first note is signed; none where the disk stops in
 /// that. Where the kit is not sound, the answer is that memory was refused.
 fn begin_node(
@@ -124,10 +152,9 @@ fn begin_node(
         → tag ≡ tag_of s member → HoldsDisk tag s.indexes disk.old e → events.old ≡ []
         → BeginsNode s tag member e disk.new events.new result }
 {
-    let kit = authority.kit(alloc, member, store.state().next)?;
-    if !kit.is_sound(&key.public()) {
+    let Some(kit) = kit_for(alloc, authority, member, &key, store.state().next)? else {
         return Err(NoMemory);
-    }
+    };
     let signer = open_signer(*authority.group(), key, store);
     start_of(Node::start(alloc, kit, signer, disk, events))
 }

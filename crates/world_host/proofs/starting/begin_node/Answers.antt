@@ -1,4 +1,5 @@
-use Rattle.std.proofs.Common.{◌≡◌, Some, sym, ap, ◌∙◌}
+use Rattle.std.proofs.Common.{◌≡◌, Option, Some, sym, ap, ◌∙◌, subst}
+use Rattle.std.specs.Prelude.{IfSome}
 use Rattle.ff_ids.specs.declared.Group.{Group}
 use Rattle.lms_tree.specs.Leaves.{index_count}
 use Rattle.lms_tree.specs.Lms.{public_of}
@@ -9,6 +10,7 @@ use Rattle.signer.specs.Signing.{SignerState}
 use Rattle.node_core.specs.declared.kit.Kit.{Kit}
 use Rattle.node_core.specs.Playing as node
 use Rattle.node_core.specs.Rolls.{recs_of}
+use Rattle.world_host.specs.Certifying.{IsKitOf}
 use Rattle.world_rules.specs.Disks.{seat_of}
 use Rattle.world_rules.specs.Keys.{owner_key}
 use Rattle.world_host.proofs.StartLemmas.{answer-is, begins-by, nonces-are, start-going}
@@ -17,7 +19,7 @@ use Rattle.world_host.proofs.starting.begin_node.Goals as goal
 
 pub returns-clause-going : goal.returns-clause-going
 returns-clause-going c =
-    let kit : Kit = c.in_ok-kit.kit in
+    let kit : Kit = c.in-Some.kit in
     let signer : SignerState = c.open_signer-signer.result in
     start-going (node.setting_of kit.group kit.me kit.authority signer.key) kit.nonce_seed (recs_of kit.certificates.items) signer.state c.args.events.now c.start.new.events c.start.result c.start_of.result
     c.start.ensures.starts c.start.ensures.going c.start_of.ensures
@@ -26,9 +28,9 @@ pub returns-clause-begins : goal.returns-clause-begins
 returns-clause-begins c = λ s ots tree tag e w certified key_is store_is mark h none.
     let g : Group = c.args.authority.now.group in
     let m = c.args.member in
-    let kit : Kit = c.in_ok-kit.kit in
+    let kit : Kit = c.in-Some.kit in
     let signer : SignerState = c.open_signer-signer.result in
-    let kit_is = c.in_ok-kit.ensures in
+    let kit_is : IsKitOf c.args.authority.now m c.state.result.next kit = subst (λ (o : Option Kit). IfSome o (IsKitOf c.args.authority.now m c.state.result.next)) c.in-Some.is c.in_ok-kit.ensures.kit in
     let opened = c.open_signer-signer.ensures in
     let stored : c.state.result ≡ e.state = c.state.ensures.value ∙ ap (λ (x : StoreState). x.state) store_is in
     let state : signer.state ≡ e.state = ap (λ (x : SignerState). x.state) opened ∙ ap (λ (x : StoreState). x.state) store_is in
