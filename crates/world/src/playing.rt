@@ -1,7 +1,6 @@
 //! A line that is played.
 
-ghost use Rattle.std.specs.Prelude.{◌≡◌, ◌<◌, ◌++◌, ◌∷◌, [], ℕ, List, true, Ok, Some, None, IfOk, IfErr, IfSome, OnOk, OnErr, length};
-ghost use Rattle.std.specs.Result.{is_ok};
+ghost use Rattle.std.specs.Prelude.{◌≡◌, ◌<◌, ◌≤◌, ◌++◌, ◌∷◌, [], ℕ, List, true, Ok, Some, None, IfOk, IfErr, IfSome, OnOk, OnErr, length};
 ghost use Rattle.ff_ids.specs.Masks.{ring_count};
 ghost use Rattle.ff_ids.specs.Views.{State, monitor as monitor_in, view};
 ghost use Rattle.membership.specs.Life.{has_joined};
@@ -37,8 +36,8 @@ fn monitor_of(
     ensures value { IfOk result
         (λ monitor. (st : State) → Stands membership.now st
         → monitor ≡ monitor_in st ring.0 member) }
-    ensures refused { has_joined membership.now member ≡ true
-        → ring.0 < ring_count membership.now.group.t → is_ok result ≡ true }
+    ensures refused { OnErr result (has_joined membership.now member ≡ true
+        → ring_count membership.now.group.t ≤ ring.0) }
 {
     let rings = 2 * u16::from(membership.group().t) + 1;
     if membership.is_member(member) && u16::from(ring.0) < rings {
