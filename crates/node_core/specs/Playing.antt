@@ -1,5 +1,5 @@
 -- What a node keeps, and how it stands where a call so far does.
-use Rattle.std.specs.Prelude.{◌≡◌, ℕ, ◌≤◌, ◌<◌, Bool, false, true, List, ◌++◌, length}
+use Rattle.std.specs.Prelude.{◌≡◌, ℕ, ◌≤◌, ◌<◌, Bool, false, true, not, ◌&&◌, List, ◌++◌, length}
 use Rattle.std.specs.Option.{option_map}
 use Rattle.std.specs.Result.{is_ok}
 use Rattle.ff_ids.specs.declared.TheConstants.{MAX_TOLERANCE}
@@ -92,7 +92,7 @@ pub record Extends (c d : Call) : Type 0 where
   pub sent : IsPrefix c.sent d.sent
 
 -- What holds between calls of the parts.
-pub record IsReady (group : Group) (me : ℕ) (membership : Life) (detector : Probing) (signer : SignerState) : Type 0 where
+pub record IsReady (group : Group) (me : ℕ) (membership : Life) (detector : Probing) (signer : SignerState) (ended : Bool) : Type 0 where
   pub some : 1 ≤ group.t
   pub few : group.t ≤ MAX_TOLERANCE
   pub period : 0 < group.period
@@ -101,6 +101,12 @@ pub record IsReady (group : Group) (me : ℕ) (membership : Life) (detector : Pr
   pub signer_group : signer.group ≡ group
   pub joined : has_joined membership me ≡ true
   pub good : good_mask group.t signer.state.mask.0 ≡ true
+  pub is_open : (not ended && signer.closed) ≡ false
+
+-- A call of it runs, in which no put has failed. Until the call has ended well the node counts as over.
+pub record IsInCall (v : Kept) : Type 0 where
+  pub within : v.ended ≡ true
+  pub is_open : v.signer.closed ≡ false
 
 -- The events and datagrams of the first are a front of those of the second, and the node is the same one. Where memory was
 -- refused before, nothing is added.

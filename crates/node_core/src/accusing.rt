@@ -16,7 +16,7 @@ ghost use Rattle.node_rules.specs.Nodes.{Setting};
 ghost use Rattle.node_rules.specs.Calls.{Call};
 ghost use Rattle.node_rules.specs.Ticking.{accuses, is_by as is_accused_by};
 ghost use Rattle.node_core.specs.declared.NodeFault.TheVariants as faults;
-ghost use Rattle.node_core.specs.Playing.{Plays, Stops, Grows};
+ghost use Rattle.node_core.specs.Playing.{Plays, Stops, Grows, IsInCall};
 ghost use Rattle.node_core.specs.Spending.{Spends};
 ghost use Rattle.node_rules.specs.OnDisks.{accuses_on};
 ghost use Rattle.node_core.specs.OnDisks.{ComesTo, FailsIn, Stores, on_disk, storage};
@@ -105,6 +105,7 @@ impl Node {
         disk: &mut D,
         member: MemberId,
     ) -> Result<(), NodeFault>
+        requires open { IsInCall self.old }
         ensures plays { (s : Setting) (es : List journal.Event) (os : List (ℕ × List ℕ)) (c : Call)
             → Plays s es os self.old c
             → Runs (Plays s es os self.new) (Stops s es os self.new)
@@ -150,6 +151,7 @@ impl Node {
         disk: &mut D,
         silent: Vec<MemberId>,
     ) -> Result<(), NodeFault>
+        requires open { IsInCall self.old }
         ensures plays { (s : Setting) (es : List journal.Event) (os : List (ℕ × List ℕ)) (c : Call)
             → Plays s es os self.old c
             → RunsAccusing (Plays s es os self.new) (Stops s es os self.new) s silent.items c

@@ -11,7 +11,7 @@ ghost use Rattle.node_rules.specs.Calls.{Call, tells};
 ghost use Rattle.journal.specs.declared.event.What.TheVariants as told;
 ghost use Rattle.records.specs.declared.fault.FormFault.TheVariants as forms;
 ghost use Rattle.node_core.specs.declared.NodeFault.TheVariants as faults;
-ghost use Rattle.node_core.specs.Playing.{Plays, Stops, Grows, IsNode};
+ghost use Rattle.node_core.specs.Playing.{Plays, Stops, Grows, IsInCall, IsNode};
 ghost use Rattle.node_core.specs.Spending.{SignsNothing, Spends, SpendsIn};
 ghost use Rattle.node_core.specs.Hears.{RunsHearing};
 ghost use Rattle.node_rules.specs.OnDisks.{Delivers, delivered_on, hears_on};
@@ -35,7 +35,8 @@ impl Node {
         disk: &mut D,
         datagram: Datagram,
     ) -> Result<(), NodeFault>
-        requires { IsWritable datagram }
+        requires writable { IsWritable datagram }
+        requires open { IsInCall self.old }
         ensures plays { (s : Setting) (es : List journal.Event) (os : List (ℕ × List ℕ)) (c : Call)
             → Plays s es os self.old c
             → RunsHearing (Plays s es os self.new) (Stops s es os self.new) s (Ok datagram) c
@@ -92,6 +93,7 @@ impl Node {
         disk: &mut D,
         bytes: &[u8],
     ) -> Result<(), NodeFault>
+        requires open { IsInCall self.old }
         ensures plays { (s : Setting) (es : List journal.Event) (os : List (ℕ × List ℕ)) (c : Call)
             → Plays s es os self.old c
             → RunsHearing (Plays s es os self.new) (Stops s es os self.new) s (read_of bytes.now) c
@@ -125,6 +127,7 @@ impl Node {
         out: &mut Outbox,
         events: &mut Events,
     ) -> Result<(), NodeFault>
+        requires open { OnOk done (self.old.signer.closed ≡ false) }
         ensures events { events.new ≡ self.old.telling.events }
         ensures sent { out.new ≡ self.old.telling.sent }
         ensures failed { self.old.telling.failed ≡ true → result ≡ Err faults.OutOfMemory }
@@ -185,6 +188,8 @@ impl Node {
         if self.ended {
             return Err(NodeFault::Ended);
         }
+        // Until the call is known to have ended well.
+        self.ended = true;
         self.telling = CallOutput::over(alloc, events, out);
         let heard = self.hear_bytes(alloc, disk, bytes);
         self.finish(heard, out, events)

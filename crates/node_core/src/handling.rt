@@ -13,7 +13,7 @@ ghost use Rattle.node_rules.specs.Refusals.{refusal};
 ghost use Rattle.node_rules.specs.Calls.{Call, takes};
 ghost use Rattle.node_rules.specs.Deliveries.{answers, handles};
 ghost use Rattle.node_core.specs.declared.NodeFault.TheVariants as faults;
-ghost use Rattle.node_core.specs.Playing.{Plays, Stops, Grows};
+ghost use Rattle.node_core.specs.Playing.{Plays, Stops, Grows, IsInCall};
 ghost use Rattle.node_core.specs.Spending.{Spends};
 ghost use Rattle.node_core.specs.OnDisks.{FailsIn, Stores};
 ghost use Rattle.node_core.specs.Signatures.{Runs};
@@ -35,7 +35,8 @@ impl Node {
         disk: &mut D,
         acc: &AccBody,
     ) -> Result<(), NodeFault>
-        requires { acc.now.ring.0 < ring_count self.old.group.t }
+        requires ring { acc.now.ring.0 < ring_count self.old.group.t }
+        requires open { IsInCall self.old }
         ensures plays { (s : Setting) (es : List journal.Event) (os : List (ℕ × List ℕ)) (c : Call)
             → Plays s es os self.old c
             → Runs (Plays s es os self.new) (Stops s es os self.new)
@@ -78,6 +79,7 @@ impl Node {
         requires tolerance { rec.t ≡ self.old.group.t }
         requires group { self.old.membership.group ≡ self.old.group }
         requires unrefused { IsUnrefusedBy self.old.membership self.old.roster body.now }
+        requires open { IsInCall self.old }
         ensures plays { (s : Setting) (es : List journal.Event) (os : List (ℕ × List ℕ)) (c : Call)
             → Plays s es os self.old c
             → refusal s c.node rec.rec ≡ None
@@ -116,7 +118,8 @@ impl Node {
         disk: &mut D,
         rec: Record,
     ) -> Result<(), NodeFault>
-        requires { HasPort rec.body }
+        requires port { HasPort rec.body }
+        requires open { IsInCall self.old }
         ensures plays { (s : Setting) (es : List journal.Event) (os : List (ℕ × List ℕ)) (c : Call)
             → Plays s es os self.old c
             → Runs (Plays s es os self.new) (Stops s es os self.new)

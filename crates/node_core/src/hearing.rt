@@ -13,7 +13,7 @@ ghost use Rattle.datagram.specs.declared.Datagram.TheVariants as kinds;
 ghost use Rattle.node_rules.specs.Deliveries.{is_other, pinged, ponged_by, exchanges, gives, replies};
 ghost use Rattle.node_rules.specs.Pages.{page as page_of, lacking};
 ghost use Rattle.node_core.specs.declared.NodeFault.TheVariants as faults;
-ghost use Rattle.node_core.specs.Playing.{Plays, Stops, Grows, IsNode};
+ghost use Rattle.node_core.specs.Playing.{Plays, Stops, Grows, IsInCall, IsNode};
 ghost use Rattle.node_core.specs.Spending.{SignsNothing, Spends};
 ghost use Rattle.node_core.specs.Signatures.{RunsAll};
 ghost use Rattle.node_rules.specs.OnDisks.{handles_on};
@@ -47,7 +47,8 @@ impl Node {
         disk: &mut D,
         records: Vec<Record>,
     ) -> Result<(), NodeFault>
-        requires { All (λ r. HasPort r.body) records.items }
+        requires ports { All (λ r. HasPort r.body) records.items }
+        requires open { IsInCall self.old }
         ensures plays { (s : Setting) (es : List journal.Event) (os : List (ℕ × List ℕ)) (c : Call)
             → Plays s es os self.old c
             → RunsAll (Plays s es os self.new) (Stops s es os self.new) s records.items c result }

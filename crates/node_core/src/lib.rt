@@ -93,7 +93,7 @@ impl Model for Node {
       ended = n.ended;
     } };
 
-    ghost invariant = { λ n. IsReady n.group n.me n.membership n.detector n.signer };
+    ghost invariant = { λ n. IsReady n.group n.me n.membership n.detector n.signer n.ended };
 }
 
 impl Node {

@@ -8,7 +8,7 @@ ghost use Rattle.records.specs.declared.Body.TheVariants as bodies;
 ghost use Rattle.node_rules.specs.Nodes.{Setting};
 ghost use Rattle.node_rules.specs.Calls.{Call, own_record, signs_and_sends, wants};
 ghost use Rattle.node_core.specs.declared.NodeFault.TheVariants as faults;
-ghost use Rattle.node_core.specs.Playing.{Plays, Stops, Grows};
+ghost use Rattle.node_core.specs.Playing.{Plays, Stops, Grows, IsInCall};
 ghost use Rattle.node_core.specs.Spending.{Spends, TellsSpent};
 ghost use Rattle.node_core.specs.Neighbours.{addressees};
 ghost use Rattle.node_core.specs.OnDisks.{FailsIn, Stores};
@@ -75,7 +75,8 @@ impl Node {
         disk: &mut D,
         mask: Mask,
     ) -> Result<(), NodeFault>
-        requires { good_mask self.old.group.t mask.0 ≡ true }
+        requires good { good_mask self.old.group.t mask.0 ≡ true }
+        requires open { IsInCall self.old }
         ensures plays { (s : Setting) (es : List journal.Event) (os : List (ℕ × List ℕ)) (c : Call)
             → Plays s es os self.old c
             → Runs (Plays s es os self.new) (Stops s es os self.new)
@@ -104,7 +105,8 @@ impl Node {
                 Body::Certificate(_) | Body::Accusation(_) => unreachable!(),
             },
             Err(SignFault::Exhausted { .. }) => self.tell(What::Exhausted { next: index }),
-            Err(SignFault::OutOfMemory | SignFault::Closed) => self.telling.fail(),
+            Err(SignFault::OutOfMemory) => self.telling.fail(),
+            Err(SignFault::Closed) => unreachable!(),
             Err(SignFault::StoreFault) => {
                 self.tell(What::Stopped);
                 return Err(NodeFault::StoreFault);
@@ -120,7 +122,8 @@ impl Node {
         disk: &mut D,
         acc: &AccBody,
     ) -> Result<(), NodeFault>
-        requires { acc.now.ring.0 < ring_count self.old.group.t }
+        requires ring { acc.now.ring.0 < ring_count self.old.group.t }
+        requires open { IsInCall self.old }
         ensures plays { (s : Setting) (es : List journal.Event) (os : List (ℕ × List ℕ)) (c : Call)
             → Plays s es os self.old c
             → Runs (Plays s es os self.new) (Stops s es os self.new)
@@ -149,7 +152,8 @@ impl Node {
         match self.signer.sign_accusation(alloc, disk, *acc) {
             Ok(rec) => self.pass_on_accusation(alloc, index, rec, acc),
             Err(SignFault::Exhausted { .. }) => self.tell(What::Exhausted { next: index }),
-            Err(SignFault::OutOfMemory | SignFault::Closed) => self.telling.fail(),
+            Err(SignFault::OutOfMemory) => self.telling.fail(),
+            Err(SignFault::Closed) => unreachable!(),
             Err(SignFault::StoreFault) => {
                 self.tell(What::Stopped);
                 return Err(NodeFault::StoreFault);

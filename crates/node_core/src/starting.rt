@@ -165,7 +165,8 @@ fn make_ready<D: Disk>(
     requires open { signer.closed ≡ false }
     ensures faults { (D.state disk.new).faults
         ≡ counted (is_store_fault result) (D.state disk.old).faults }
-    ensures ready { IfOk result (λ r. IsReady r.group r.me r.roll.membership r.detector r.signer) }
+    ensures ready { IfOk result
+        (λ r. IsReady r.group r.me r.roll.membership r.detector r.signer false) }
     ensures body { IfOk result (λ r. r.rec.rec.body ≡ bodies.Note r.note) }
     ensures tolerance { IfOk result (λ r. r.rec.t ≡ r.group.t) }
     ensures begins { IfOk result
@@ -239,7 +240,8 @@ impl Node {
 impl Ready {
     /// The life begins: what it reports goes behind what was reported.
     pub fn begin(self, telling: CallOutput) -> Node
-        requires ready { IsReady self.group self.me self.roll.membership self.detector self.signer }
+        requires ready { IsReady self.group self.me self.roll.membership self.detector self.signer
+            false }
         requires body { self.rec.rec.body ≡ bodies.Note self.note }
         requires tolerance { self.rec.t ≡ self.group.t }
         requires before { telling.before ≡ length telling.sent }

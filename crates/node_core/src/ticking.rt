@@ -16,7 +16,7 @@ ghost use Rattle.journal.specs.declared.event.Event as journal;
 ghost use Rattle.node_rules.specs.Nodes.{Setting};
 ghost use Rattle.node_rules.specs.Calls.{Call};
 ghost use Rattle.node_rules.specs.Ticking.{pings_all};
-ghost use Rattle.node_core.specs.Playing.{Plays, Stops, Grows};
+ghost use Rattle.node_core.specs.Playing.{Plays, Stops, Grows, IsInCall};
 
 use crate::telling::CallOutput;
 use crate::{Events, Node, NodeFault, Outbox};
@@ -67,6 +67,7 @@ impl Node {
         round: u64,
         due: Due,
     ) -> Result<(), NodeFault>
+        requires open { IsInCall self.old }
         ensures plays { (s : Setting) (es : List journal.Event) (os : List (ℕ × List ℕ)) (c : Call)
             → Plays s es os self.old c
             → RunsDue (Plays s es os self.new) (Stops s es os self.new) s due.silent.items
@@ -94,7 +95,8 @@ impl Node {
 
     /// One tick.
     fn pass<D: Disk>(&mut self, alloc: Global, disk: &mut D) -> Result<(), NodeFault>
-        requires { self.old.membership.moment < 2 ^ 64 - 1 }
+        requires more { self.old.membership.moment < 2 ^ 64 - 1 }
+        requires open { IsInCall self.old }
         ensures plays { (s : Setting) (es : List journal.Event) (os : List (ℕ × List ℕ))
             (n : RulesNode) → Plays s es os self.old (begun n)
             → RunsTick (self.new.telling.failed ≡ false) (Plays s es os self.new)
@@ -169,6 +171,8 @@ impl Node {
         if self.ended {
             return Err(NodeFault::Ended);
         }
+        // Until the call is known to have ended well.
+        self.ended = true;
         self.telling = CallOutput::over(alloc, events, out);
         let passed = self.pass(alloc, disk);
         self.finish(passed, out, events)

@@ -7,13 +7,10 @@ use Rattle.records.specs.declared.Body.{Body}
 use Rattle.records.specs.declared.Body.TheVariants as bodies
 use Rattle.node_rules.specs.Calls.{Call, takes}
 use Rattle.node_rules.specs.Deliveries.{answers}
-use Rattle.node_core.specs.Playing.{Kept, Plays}
-use Rattle.node_core.proofs.DueLemmas.{Ran, plays-refused}
+use Rattle.node_core.specs.Playing.{Plays}
+use Rattle.node_core.proofs.DueLemmas.{Ran}
 use Rattle.node_core.proofs.HandleLemmas.{free-of, ring-in}
-use Rattle.node_core.proofs.SpendLemmas.{open-further, still-failed, refused-none, spends-none, spends-after}
-use Rattle.std.proofs.Common.{refl}
-use Rattle.node_core.specs.contracts.Node.{the_view}
-use Rattle.node_core.proofs.ExtendLemmas.{extends-trans, extends-takes, extends-answers}
+use Rattle.node_core.proofs.SpendLemmas.{open-further, still-failed, spends-none, spends-after}
 use Rattle.signer.specs.Signing.{SignerState}
 use Rattle.std.proofs.Common.{ap}
 use Rattle.node_core.specs.OnDisks.{FailsIn}
@@ -26,8 +23,8 @@ take_accusation-requires-clause-ring g c =
     let v = c.args.self.now in
     ring-in v.membership v.group c.in-Accusation.acc c.requires.group (subst (λ (b : Body). IsUnrefusedBy v.membership v.roster b) is c.requires.unrefused)
 
-pub answer-requires : goal.answer-requires
-answer-requires g c =
+pub answer-requires-clause-ring : goal.answer-requires-clause-ring
+answer-requires-clause-ring g c =
     let is : c.args.body.now ≡ bodies.Accusation c.in-Accusation.acc = search rules in
     let v = c.args.self.now in
     let low = ring-in v.membership v.group c.in-Accusation.acc c.requires.group (subst (λ (b : Body). IsUnrefusedBy v.membership v.roster b) is c.requires.unrefused) in

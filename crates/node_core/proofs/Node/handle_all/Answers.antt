@@ -9,8 +9,7 @@ use Rattle.node_core.proofs.HandleLemmas.{fold-push, IsFound, found-at, all-tail
 use Rattle.node_core.proofs.DueLemmas.{behind-extends}
 use Rattle.node_core.proofs.TellingLemmas.{nil-right}
 use Rattle.node_core.proofs.SpendLemmas.{nothing-same, spends-none, spends-trans}
-use Rattle.std.specs.Prelude.{fold, is_err, Bool}
-use Rattle.ports.specs.MemoryDisk.{DiskState}
+use Rattle.std.specs.Prelude.{fold, Bool}
 use Rattle.epoch_store.specs.Placed.{PlacedStore}
 use Rattle.node_rules.specs.OnDisks.{OnDisk, handles_on}
 use Rattle.node_rules.proofs.GoingOn.{on-handles}
@@ -24,7 +23,7 @@ use Rattle.node_core.proofs.Node.handle_all.Goals as goal
 pub loop-rec-init : goal.loop-rec-init
 loop-rec-init g c =
     let same : c.into_iter-rec-iterator.result.rest.items ≡ c.args.records.items = c.into_iter-rec-iterator.ensures.into_iter_gives.0 in
-    (record { done = []; split = sym same; plays = λ s es os call p. p; comes = λ s es os call d p on is fine. starts-there s es os c.args.self.now (g.D.Disk.state c.args.disk.now).model call d (p.at fine) on is; grows = grows-refl c.args.self.now; spends = spends-none c.args.self.now c.args.self.now _ (nothing-same c.args.self.now); closed = refl }, refl, subst (λ (xs : List Record). All (λ r. HasPort r.body) xs) (sym same) c.requires)
+    (record { done = []; split = sym same; plays = λ s es os call p. p; comes = λ s es os call d p on is fine. starts-there s es os c.args.self.now (g.D.Disk.state c.args.disk.now).model call d (p.at fine) on is; grows = grows-refl c.args.self.now; spends = spends-none c.args.self.now c.args.self.now _ (nothing-same c.args.self.now); closed = refl }, refl, subst (λ (xs : List Record). All (λ r. HasPort r.body) xs) (sym same) c.requires.ports)
 
 pub loop-rec-preserved : goal.loop-rec-preserved
 loop-rec-preserved g c =

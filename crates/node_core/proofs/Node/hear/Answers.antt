@@ -20,7 +20,7 @@ use Rattle.node_core.proofs.Node.hear.Goals as goal
 pub hear_summary-requires : goal.hear_summary-requires
 hear_summary-requires g c =
     let is : c.args.datagram ≡ kinds.Summary c.in-Summary.from c.in-Summary.flag c.in-Summary.summary = search rules in
-    (subst HasContent is c.requires.content).page
+    (subst HasContent is c.requires.writable.content).page
 
 pub returns-in-Ping-clause-plays : goal.returns-in-Ping-clause-plays
 returns-in-Ping-clause-plays g c = λ s es os call p.

@@ -4,11 +4,6 @@ use Rattle.node_core.specs.Playing.{Kept, Plays, IsAt}
 use Rattle.node_core.specs.contracts.Node.{the_view}
 use Rattle.node_core.proofs.PlayLemmas.{certified-at, takes-quietly, quiet-at, join-steps, places-of, still-joined}
 use Rattle.ff_ids.specs.Steps.{Joins}
-use Rattle.std.proofs.Common.{◌≡◌, false, ap}
-use Rattle.std.specs.Prelude.{is_some}
-use Rattle.std.proofs.lemmas.Bool.{false≢true}
-use Rattle.node_core.specs.Playing.{IsNode}
-use Rattle.node_core.proofs.HearLemmas.{some-copied}
 use Rattle.node_core.proofs.Node.take_certificate.Goals as goal
 
 pub invariant_of-self : goal.invariant_of-self
@@ -23,6 +18,7 @@ invariant_of-self c =
       signer_group = i.signer_group;
       joined = still-joined c.self.inside.membership c.add_member-fault.new.self c.self.inside.me c.args.cert.member c.hash_places-places.result c.add_member-fault.result i.joined c.add_member-fault.ensures.members c.add_member-fault.ensures.same;
       good = i.good;
+      is_open = i.is_open;
     }
 
 pub returns-clause-plays : goal.returns-clause-plays

@@ -15,7 +15,7 @@ use Rattle.node_core.proofs.DeliverLemmas.{calm-by, gives-by}
 use Rattle.std.proofs.Common.{true, rules}
 use Rattle.std.proofs.lemmas.Bool.{false≢true}
 use Rattle.std.specs.Prelude.{is_err}
-use Rattle.node_core.specs.OnDisks.{ComesTo, on_disk, storage}
+use Rattle.node_core.specs.OnDisks.{ComesTo, storage}
 use Rattle.node_rules.specs.OnDisks.{Ticks, ticked_on}
 use Rattle.node_core.proofs.DiskLemmas.{follows-by}
 use Rattle.node_core.proofs.Node.tick.Goals as goal
@@ -28,7 +28,7 @@ returns-clause-step g c = λ s n is0 going.
     let os : List (ℕ × List ℕ) = c.args.out.now in
     let is = subst (λ v. IsNode s v n) (sym c.self.view_is) is0 in
     let over : c.over.result ≡ record { events = es; sent = os; before = length os; failed = false } = c.over.ensures in
-    let p : Plays s es os (record v { telling = c.over.result }) (begun n) = plays-at s es os (record v { telling = c.over.result }) (begun n) (record {
+    let p : Plays s es os (record v { telling = c.over.result; ended = true }) (begun n) = plays-at s es os (record v { telling = c.over.result; ended = true }) (begun n) (record {
       is = record { setting = is.setting; holds = is.holds; stored = is.stored; records = is.records; roster = is.roster; probes = is.probes };
       told = ap (λ (t : Tellings). t.events) over ∙ sym (nil-right es);
       sent = ap (λ (t : Tellings). t.sent) over ∙ sym (nil-right os);
@@ -46,7 +46,7 @@ returns-clause-step g c = λ s n is0 going.
 
 pub returns-clause-spends : goal.returns-clause-spends
 returns-clause-spends g c =
-    let v0 : Kept = record (the_view c.self.inside) { telling = c.over.result } in
+    let v0 : Kept = record (the_view c.self.inside) { telling = c.over.result; ended = true } in
     let from = ap (λ (t : Tellings). t.events) c.over.ensures in
     let h = c.pass-passed.ensures in
     call-spends c.args.self.now v0 c.pass-passed.new.self c.finish.new.self _ _ c.pass-passed.result c.finish.result c.args.events.now c.finish.new.events (ap (λ (w : Kept). w.signer) c.self.view_is) from h.spends h.grows h.cause c.finish.ensures.failed c.finish.ensures.going c.finish.ensures.frame c.finish.ensures.events
@@ -70,7 +70,7 @@ returns-clause-follows g c = λ s n d is0 going told.
     let os : List (ℕ × List ℕ) = c.args.out.now in
     let is = subst (λ v. IsNode s v n) (sym c.self.view_is) is0 in
     let over : c.over.result ≡ record { events = es; sent = os; before = length os; failed = false } = c.over.ensures in
-    let p : Plays s es os (record v { telling = c.over.result }) (begun n) = plays-at s es os (record v { telling = c.over.result }) (begun n) (record {
+    let p : Plays s es os (record v { telling = c.over.result; ended = true }) (begun n) = plays-at s es os (record v { telling = c.over.result; ended = true }) (begun n) (record {
       is = record { setting = is.setting; holds = is.holds; stored = is.stored; records = is.records; roster = is.roster; probes = is.probes };
       told = ap (λ (t : Tellings). t.events) over ∙ sym (nil-right es);
       sent = ap (λ (t : Tellings). t.sent) over ∙ sym (nil-right os);
