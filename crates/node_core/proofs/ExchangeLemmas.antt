@@ -1,16 +1,11 @@
 -- Pages and what the other side lacks, by what is held.
-use Rattle.std.proofs.Common.{◌≡◌, ◌≢◌, ℕ, zero, suc, ◌+◌, ◌-◌, ◌*◌, ◌/◌, ◌<◌, ◌≤◌, Bool, true, false, not, eqb, inl, inr, List, [], ◌∷◌, ◌++◌, length, take, get_or, map, Option, Some, None, is_some, refl, ap, sym, ◌∙◌, subst, arith, All}
-use Rattle.std.specs.Prelude.{filter, filter_map, flat_map, IsSome, nat_le, ◌&&◌, ◌||◌}
-use Rattle.std.specs.List.{list_all, range_with_len}
-use Rattle.std.specs.List.Sorted.{IsStrictlyIncreasing}
+use Rattle.std.proofs.Common.{◌≡◌, ◌≢◌, ℕ, zero, suc, ◌+◌, ◌-◌, ◌*◌, ◌<◌, ◌≤◌, Bool, inl, inr, List, [], ◌∷◌, ◌++◌, length, take, map, Option, Some, None, is_some, refl, ap, sym, ◌∙◌, subst, arith, All}
+use Rattle.std.specs.Prelude.{filter, filter_map, flat_map, IsSome, nat_le}
+use Rattle.std.specs.List.{range_with_len}
 use Rattle.std.specs.Option.{option_map, option_and_then}
 use Rattle.std.specs.FinMap.{contains_key}
-use Rattle.std.proofs.lemmas.Bool.{cond_both, and_parts, cases_Bool, eqb-true}
-use Rattle.std.proofs.lemmas.Bool.Decides.{nat_tests}
-use Rattle.std.proofs.lemmas.List.FromFn.{get_or-range_with_len, length-range_with_len}
-use Rattle.std.proofs.lemmas.List.Kept.{IsStrictlyIncreasing-filter}
+use Rattle.std.proofs.lemmas.Bool.{cases_Bool}
 use Rattle.ff_ids.specs.declared.TheConstants.{MAX_RINGS, PAGES, PAGE_MEMBERS}
-use Rattle.ff_ids.specs.Summaries.{IsSummary, members_of, page_of_member}
 use Rattle.ff_ids.specs.declared.summary.SummaryEntry.{SummaryEntry}
 use Rattle.ff_ids.specs.declared.summary.Summary.{Summary}
 use Rattle.ff_ids.specs.declared.summary.RecordKey.{RecordKey}
@@ -21,10 +16,10 @@ use Rattle.records.specs.Spelling.{record_bytes}
 use Rattle.gossip.specs.Differ.{differ}
 use Rattle.gossip.proofs.Within.{All-differ}
 use Rattle.record_set.specs.Held.{Held, held_under}
-use Rattle.record_set.specs.Pages.{note_of_body, note_in, entry_with, rings_of, entry_of, certified_of, summary_of}
+use Rattle.record_set.specs.Pages.{note_of_body, note_in, entry_with, rings_of, entry_of, certified_of, summary_of, AreNoted}
 use Rattle.record_set.specs.Picks.{held_all, spelled, fitting as count_fitting}
 use Rattle.ff_ids.proofs.BitLemmas.{bits_same}
-use Rattle.record_set.proofs.ListedLemmas.{All-listed_held}
+use Rattle.record_set.proofs.ListedLemmas.{All-listed_held, IsSummary-of}
 use Rattle.node_rules.specs.Nodes.{Node, Holding}
 use Rattle.node_rules.specs.Pages.{note_held, rings_held, entry_held, has_certificate, page, fitting, lacking}
 use Rattle.std.specs.Int.{w16, to_be_bytes}
@@ -38,7 +33,7 @@ use Rattle.node_rules.specs.Nodes.{Setting}
 use Rattle.node_rules.specs.Calls.{Call, sends}
 use Rattle.node_rules.specs.Deliveries.{gives}
 use Rattle.node_core.specs.Playing.{Kept, Plays, Grows, HoldsRecords}
-use Rattle.node_core.specs.Exchanging.{noted, wanted, lacking_in, IsGiven}
+use Rattle.node_core.specs.Exchanging.{wanted, lacking_in, IsGiven}
 use Rattle.node_core.proofs.PlayLemmas.{filter-same, setting-me, grows-refl}
 use Rattle.node_core.proofs.ExtendLemmas.{extends-gives, extends-sends}
 use Rattle.node_core.proofs.DueLemmas.{from-fine}
@@ -122,67 +117,11 @@ length-front zero xs h = refl
 length-front (suc n) [] h = absurd (omega (arith, h))
 length-front (suc n) (x ∷ xs) h = ap suc (length-front n xs (omega (arith, h)))
 
--- ---- a page is a summary
-
-made-in : (set : Held) (number a n : ℕ) (q : ℕ → Bool) → ((m : ℕ) → a ≤ m → m < a + n → m / PAGE_MEMBERS ≡ number) → All (λ (e : SummaryEntry). page_of_member e.member ≡ number) (map (entry_of set) (filter q (range_with_len a n)))
-made-in set number a zero q each = λ k d h. absurd (omega arith)
-made-in set number a (suc n) q each =
-    let rest = made-in set number (a + 1) n q (λ m low high. each m (omega (arith, low)) (omega (arith, high))) in
-    cond_both (q a) (a ∷ filter q (range_with_len (a + 1) n)) (filter q (range_with_len (a + 1) n)) (λ xs. All (λ (e : SummaryEntry). page_of_member e.member ≡ number) (map (entry_of set) xs))
-    (λ it. first-all (λ (e : SummaryEntry). page_of_member e.member ≡ number) (entry_of set a) (map (entry_of set) (filter q (range_with_len (a + 1) n))) (each a (omega arith) (omega arith)) rest)
-    (λ off. rest)
-  where
-    first-all : {A : Type 0} (P : A → Type 0) (x : A) (xs : List A) → P x → All P xs → All P (x ∷ xs)
-    first-all P x xs here rest zero d h = here
-    first-all P x xs here rest (suc k) d h = rest k d (omega arith)
-
-noted-all : (es : List SummaryEntry) → list_all noted es ≡ true → All (λ (e : SummaryEntry). noted e ≡ true) es
-noted-all [] h = λ k d lt. absurd (omega arith)
-noted-all (e ∷ es) h = both (and_parts (noted e) (list_all noted es) h).0 (noted-all es (and_parts (noted e) (list_all noted es) h).1)
-  where
-    both : noted e ≡ true → All (λ (x : SummaryEntry). noted x ≡ true) es → All (λ (x : SummaryEntry). noted x ≡ true) (e ∷ es)
-    both here rest zero d h = here
-    both here rest (suc k) d h = rest k d (omega arith)
-
-bare : (e : SummaryEntry) → noted e ≡ true → e.epoch ≡ 0 → (e.mask.0 ≡ 0) × (e.rings ≡ 0)
-bare e h none =
-    let two : (eqb e.mask.0 0 && eqb e.rings 0) ≡ true = second (eqb e.epoch 0) (eqb e.mask.0 0 && eqb e.rings 0) h (eqb-from e.epoch none) in
-    let parts = and_parts (eqb e.mask.0 0) (eqb e.rings 0) two in
-    (eqb-true _ _ parts.0, eqb-true _ _ parts.1)
-  where
-    second : (x y : Bool) → (not x || y) ≡ true → x ≡ true → y ≡ true
-    second true y h e = h
-    second false y h e = cc
-
-    eqb-from : (x : ℕ) → x ≡ 0 → eqb x 0 ≡ true
-    eqb-from x e = grind (arith, nat_tests, e)
-
-range_rises : (a n : ℕ) → IsStrictlyIncreasing (range_with_len a n)
-range_rises a n k h =
-    let long = length-range_with_len a n in
-    omega (arith, get_or-range_with_len a n k 0 (omega (arith, h, long)), get_or-range_with_len a n (k + 1) 0 (omega (arith, h, long)))
-
-members_made : (held : Held) (ms : List ℕ) → members_of (map (entry_of held) ms) ≡ ms
-members_made held [] = refl
-members_made held (m ∷ ms) = ap (λ (t : List ℕ). m ∷ t) (members_made held ms)
-
-pub page-keeps : (set : Held) (number : ℕ) → number < PAGES → list_all noted (summary_of set number).listed ≡ true → IsSummary (summary_of set number)
-unfolding certified_of
-page-keeps set number below notes =
-    let q : ℕ → Bool = λ m. contains_key set (keys.Certificate m) in
-    let in_page = made-in set number (PAGE_MEMBERS * number) PAGE_MEMBERS q (λ m low high. omega (arith, low, high)) in
-    let noted_all = noted-all (summary_of set number).listed notes in
-    record {
-      page = below;
-      listed = λ k d lt. record { in_page = in_page k d lt; unnoted = bare (get_or (summary_of set number).listed k d) (noted_all k d lt) };
-      rising = subst IsStrictlyIncreasing (sym (members_made set (filter q (range_with_len (PAGE_MEMBERS * number) PAGE_MEMBERS)))) (IsStrictlyIncreasing-filter q (range_with_len (PAGE_MEMBERS * number) PAGE_MEMBERS) (range_rises (PAGE_MEMBERS * number) PAGE_MEMBERS));
-    }
-
 -- ---- the code's steps
 
-pub page-writable : (from : ℕ) (flag : Bool) (set : Held) (number : ℕ) (s : Summary) → s ≡ summary_of set number → number < PAGES → list_all noted s.listed ≡ true → IsWritable (kinds.Summary from flag s)
-page-writable from flag set number s is below notes =
-    subst (λ x. IsWritable (kinds.Summary from flag x)) (sym is) (summary_writable from flag (summary_of set number) (page-keeps set number below (ap (λ x. list_all noted x.listed) (sym is) ∙ notes)))
+pub page-writable : (from : ℕ) (flag : Bool) (set : Held) (number : ℕ) (s : Summary) → s ≡ summary_of set number → number < PAGES → AreNoted set → IsWritable (kinds.Summary from flag s)
+page-writable from flag set number s is below noted =
+    subst (λ x. IsWritable (kinds.Summary from flag x)) (sym is) (summary_writable from flag (summary_of set number) (IsSummary-of set number noted below))
 
 pub given-is : (from : ℕ) (set : Held) (theirs : Summary) (count : ℕ) (head picked bytes : List ℕ) → count ≡ count_fitting 32760 (wanted set theirs) → count ≢ 0 → count ≤ length (wanted set theirs)
     → head ≡ head_bytes 4 from ++ to_be_bytes w16 count → picked ≡ spelled (take count (wanted set theirs)) → bytes ≡ head ++ picked → IsGiven from set theirs bytes

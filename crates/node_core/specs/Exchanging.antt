@@ -1,7 +1,6 @@
 -- What the other side of an exchange lacks, as bytes.
-use Rattle.std.specs.Prelude.{◌≡◌, ◌≢◌, ℕ, Bool, ◌&&◌, ◌||◌, not, ◌==◌, List, [], Option, Some, None, map, take, Vec}
+use Rattle.std.specs.Prelude.{◌≡◌, ◌≢◌, ℕ, List, [], Option, Some, None, map, take, Vec}
 use Rattle.std.specs.Global.{Global}
-use Rattle.ff_ids.specs.declared.summary.SummaryEntry.{SummaryEntry}
 use Rattle.ff_ids.specs.declared.summary.Summary.{Summary}
 use Rattle.records.specs.declared.Record.{Record}
 use Rattle.records.specs.Signing.{CheckedRecord}
@@ -11,10 +10,6 @@ use Rattle.gossip.specs.Differ.{differ}
 use Rattle.record_set.specs.Held.{Held}
 use Rattle.record_set.specs.Pages.{summary_of}
 use Rattle.record_set.specs.Picks.{held_all, fitting}
-
--- Without a note there is no mask and no ring.
-abbrev pub noted : SummaryEntry → Bool
-noted e = not (e.epoch == 0) || ((e.mask.0 == 0) && (e.rings == 0))
 
 -- The records that the other side lacks, in order, as they were checked.
 abbrev pub wanted : Held → Summary → List CheckedRecord

@@ -1,5 +1,6 @@
 pub mod Told
 pub mod Records
+pub mod Noted
 pub mod Playing
 pub mod Neighbours
 pub mod Spending

@@ -22,6 +22,7 @@ use Rattle.journal.specs.declared.event.Event as journal
 use Rattle.node_rules.specs.Nodes.{Setting, Node, Holding, state_of, certificate_of}
 use Rattle.node_rules.specs.Calls.{Call}
 use Rattle.node_core.specs.Told.{Tellings, IsPrefix}
+use Rattle.node_core.specs.Noted.{HoldsNotes}
 
 -- What a node keeps.
 pub record Kept : Type 0 where
@@ -92,7 +93,7 @@ pub record Extends (c d : Call) : Type 0 where
   pub sent : IsPrefix c.sent d.sent
 
 -- What holds between calls of the parts.
-pub record IsReady (group : Group) (me : ℕ) (membership : Life) (detector : Probing) (signer : SignerState) (ended : Bool) : Type 0 where
+pub record IsReady (group : Group) (me : ℕ) (membership : Life) (records : Held) (detector : Probing) (signer : SignerState) (ended : Bool) : Type 0 where
   pub some : 1 ≤ group.t
   pub few : group.t ≤ MAX_TOLERANCE
   pub period : 0 < group.period
@@ -101,6 +102,7 @@ pub record IsReady (group : Group) (me : ℕ) (membership : Life) (detector : Pr
   pub signer_group : signer.group ≡ group
   pub joined : has_joined membership me ≡ true
   pub good : good_mask group.t signer.state.mask.0 ≡ true
+  pub notes : HoldsNotes membership records
   pub is_open : (not ended && signer.closed) ≡ false
 
 -- A call of it runs, in which no put has failed. Until the call has ended well the node counts as over.

@@ -1,16 +1,15 @@
 //! Pages as datagrams, and what the other side of an exchange lacks.
 
-ghost use Rattle.std.specs.Prelude.{◌≡◌, ◌<◌, IfOk, is_some};
-ghost use Rattle.std.specs.List.{list_all};
+ghost use Rattle.std.specs.Prelude.{◌≡◌, ◌<◌, IfOk};
 ghost use Rattle.ff_ids.specs.declared.TheConstants.{PAGES};
 ghost use Rattle.datagram.specs.declared.Datagram.TheVariants as kinds;
 ghost use Rattle.datagram.specs.Spelling.{datagram_bytes};
-ghost use Rattle.record_set.specs.Pages.{summary_of};
-ghost use Rattle.node_core.specs.Exchanging.{noted, IsLacking};
+ghost use Rattle.record_set.specs.Pages.{summary_of, AreNoted};
+ghost use Rattle.node_core.specs.Exchanging.{IsLacking};
 
 use crate::hearing::bytes_of;
 use datagram::{Datagram, records_head};
-use ff_ids::{MemberId, Summary, SummaryEntry};
+use ff_ids::{MemberId, Summary};
 use fields::NoMemory;
 use gossip::lacks;
 use record_set::RecordSet;
@@ -18,25 +17,6 @@ use std::alloc::Global;
 
 /// How many bytes the records of a datagram have at most.
 const ROOM: usize = 32760;
-
-/// Without a note there is no mask and no ring.
-fn is_noted(entry: &SummaryEntry) -> bool
-    ensures { result ≡ noted entry.now }
-{
-    entry.epoch != 0 || (entry.mask.0 == 0 && entry.rings == 0)
-}
-
-/// The same of all entries.
-fn are_noted(entries: &[SummaryEntry]) -> bool
-    ensures { result ≡ list_all noted entries.now }
-{
-    for entry in entries {
-        if !is_noted(entry) {
-            return false;
-        }
-    }
-    true
-}
 
 /// The bytes of the summary of the page.
 pub(crate) fn page_bytes(
@@ -46,16 +26,14 @@ pub(crate) fn page_bytes(
     flag: bool,
     page: u8,
 ) -> Result<Vec<u8>, NoMemory>
-    requires { page < PAGES }
+    requires page { page < PAGES }
+    requires noted { AreNoted records.now }
     ensures { IfOk result
         (λ bytes. bytes.items
         ≡ datagram_bytes (kinds.Summary from flag (summary_of records.now page))) }
 {
     let mut summary = Summary::new();
     records.page(page, &mut summary);
-    if !are_noted(summary.entries()) {
-        return Err(NoMemory);
-    }
     bytes_of(
         alloc,
         &Datagram::Summary {

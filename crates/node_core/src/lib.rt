@@ -93,7 +93,8 @@ impl Model for Node {
       ended = n.ended;
     } };
 
-    ghost invariant = { λ n. IsReady n.group n.me n.membership n.detector n.signer n.ended };
+    ghost invariant = { λ n. IsReady n.group n.me n.membership n.records n.detector n.signer
+        n.ended };
 }
 
 impl Node {

@@ -10,6 +10,7 @@ ghost use Rattle.records.specs.declared.Body.TheVariants as bodies;
 ghost use Rattle.node_rules.specs.Nodes.{Setting, certificate_of};
 ghost use Rattle.node_rules.specs.Calls.{Call, takes};
 ghost use Rattle.node_core.specs.Playing.{Kept, IsAt};
+ghost use Rattle.node_core.specs.Noted.{HoldsNotes};
 ghost use Rattle.node_core.specs.Rolls.{with_roll, IsCertificateFor, AreApart, AreNew, recs_of, takes_all};
 ghost use Rattle.validate.specs.Certified.{certificate_of as kept_certificate};
 
@@ -38,6 +39,7 @@ impl Roll {
         ensures holds { IfOk result (λ r. Holds r.membership (opening [])) }
         ensures roster { IfOk result (λ r. r.roster ≡ empty) }
         ensures records { IfOk result (λ r. r.records ≡ empty) }
+        ensures notes { IfOk result (λ r. HoldsNotes r.membership r.records) }
     {
         Ok(Roll {
             membership: Membership::open(alloc, group)?,
@@ -52,6 +54,7 @@ impl Roll {
         requires tolerance { rec.t ≡ self.old.membership.group.t }
         requires few { self.old.membership.group.t ≤ MAX_TOLERANCE }
         requires fresh { kept_certificate self.old.roster cert.member ≡ None }
+        requires notes { HoldsNotes self.old.membership self.old.records }
         ensures plays { (s : Setting) (es : List journal.Event) (os : List (ℕ × List ℕ)) (v : Kept)
             (c : Call) → IsAt s es os (with_roll v self.old) c
             → v.group ≡ self.old.membership.group → v.telling.failed ≡ false
@@ -59,6 +62,7 @@ impl Roll {
             → IsAt s es os (with_roll v self.new) (takes s rec.rec c) }
         ensures group { self.new.membership.group ≡ self.old.membership.group }
         ensures roster { self.new.roster ≡ insert self.old.roster cert.member cert }
+        ensures notes { HoldsNotes self.new.membership self.new.records }
     {
         let places = hash_places(self.membership.group(), cert.member);
         let _fault = self.membership.add_member(cert.member, places);
@@ -72,6 +76,7 @@ impl Roll {
         requires few { self.old.membership.group.t ≤ MAX_TOLERANCE }
         requires none { self.old.roster ≡ empty }
         requires apart { AreApart (recs_of certificates.items) }
+        requires notes { HoldsNotes self.old.membership self.old.records }
         ensures plays { (s : Setting) (es : List journal.Event) (os : List (ℕ × List ℕ)) (v : Kept)
             (c : Call) → IsAt s es os (with_roll v self.old) c
             → v.group ≡ self.old.membership.group → v.telling.failed ≡ false
@@ -79,6 +84,7 @@ impl Roll {
             → IsAt s es os (with_roll v self.new)
             (takes_all s (map (λ x. x.rec) certificates.items) c) }
         ensures group { self.new.membership.group ≡ self.old.membership.group }
+        ensures notes { HoldsNotes self.new.membership self.new.records }
     {
         for rec in certificates {
             match rec.rec().body {

@@ -1,6 +1,7 @@
 //! Own signatures: each is reported, accepted and sent, or it isn't made.
 
-ghost use Rattle.std.specs.Prelude.{◌≡◌, ℕ, ◌≤◌, ◌<◌, List, true, None, Some, IfErr, is_err, OnOk};
+ghost use Rattle.std.specs.Prelude.{◌≡◌, ℕ, ◌≤◌, ◌<◌, List, true, None, Some, IfErr, is_err, is_some, OnOk};
+ghost use Rattle.std.specs.FinMap.{get};
 ghost use Rattle.ff_ids.specs.Masks.{ring_count, good_mask};
 ghost use Rattle.ports.specs.Count.{counted};
 ghost use Rattle.journal.specs.declared.event.Event as journal;
@@ -50,6 +51,7 @@ impl Node {
         requires body { rec.rec.body ≡ bodies.Accusation acc.now }
         requires tolerance { rec.t ≡ self.old.group.t }
         requires ring { acc.now.ring.0 < ring_count self.old.group.t }
+        requires noted { is_some (get self.old.membership.notes acc.now.accused) ≡ true }
         ensures plays { (s : Setting) (es : List journal.Event) (os : List (ℕ × List ℕ)) (c : Call)
             → Plays s es os self.old (with_stored (bodies.Accusation acc.now) c)
             → index ≡ c.node.stored.next → rec.rec ≡ own_record s c.node (bodies.Accusation acc.now)
@@ -123,6 +125,7 @@ impl Node {
         acc: &AccBody,
     ) -> Result<(), NodeFault>
         requires ring { acc.now.ring.0 < ring_count self.old.group.t }
+        requires noted { is_some (get self.old.membership.notes acc.now.accused) ≡ true }
         requires open { IsInCall self.old }
         ensures plays { (s : Setting) (es : List journal.Event) (os : List (ℕ × List ℕ)) (c : Call)
             → Plays s es os self.old c

@@ -20,6 +20,7 @@ ghost use Rattle.node_core.specs.Playing.{Plays, Grows, IsReady, setting_of};
 ghost use Rattle.node_core.specs.Signatures.{with_stored};
 ghost use Rattle.node_core.specs.Spending.{LivesOn, TellsOf, TellsSpent, SpendsUntold, StartSpends};
 ghost use Rattle.node_core.specs.Told.{IsPrefix};
+ghost use Rattle.node_core.specs.Noted.{HoldsNotes};
 ghost use Rattle.node_core.specs.OnDisks.{PutsFirst, kept_first};
 ghost use Rattle.node_core.specs.Rolls.{IsCertificateFor, AreApart, recs_of};
 ghost use Rattle.node_core.specs.Begins.{AreOf, HasOpened, MayBegin, IsFirst, IsKit, IsVouchable, MayRefuse, Starts, is_store_fault, spent_first};
@@ -73,6 +74,7 @@ fn open_parts(
     requires apart { AreApart (recs_of certificates.items) }
     ensures opened { IfOk result (λ p. HasOpened group.now seed (recs_of certificates.items) p) }
     ensures groups { IfOk result (λ p. AreOf group.now p) }
+    ensures notes { IfOk result (λ p. HoldsNotes p.roll.membership p.roll.records) }
 {
     let mut roll = Roll::open(alloc, *group)?;
     let detector = Detector::open(alloc, group, seed)?;
@@ -166,7 +168,7 @@ fn make_ready<D: Disk>(
     ensures faults { (D.state disk.new).faults
         ≡ counted (is_store_fault result) (D.state disk.old).faults }
     ensures ready { IfOk result
-        (λ r. IsReady r.group r.me r.roll.membership r.detector r.signer false) }
+        (λ r. IsReady r.group r.me r.roll.membership r.roll.records r.detector r.signer false) }
     ensures body { IfOk result (λ r. r.rec.rec.body ≡ bodies.Note r.note) }
     ensures tolerance { IfOk result (λ r. r.rec.t ≡ r.group.t) }
     ensures begins { IfOk result
@@ -240,8 +242,8 @@ impl Node {
 impl Ready {
     /// The life begins: what it reports goes behind what was reported.
     pub fn begin(self, telling: CallOutput) -> Node
-        requires ready { IsReady self.group self.me self.roll.membership self.detector self.signer
-            false }
+        requires ready { IsReady self.group self.me self.roll.membership self.roll.records
+            self.detector self.signer false }
         requires body { self.rec.rec.body ≡ bodies.Note self.note }
         requires tolerance { self.rec.t ≡ self.group.t }
         requires before { telling.before ≡ length telling.sent }

@@ -1,8 +1,9 @@
 //! The small steps of a node: one event of its life, one accepted record.
 
-ghost use Rattle.std.specs.Prelude.{◌≡◌, ℕ, ◌≤◌, ◌<◌, ◌^◌, ◌-◌, true, List, [], None};
+ghost use Rattle.std.specs.Prelude.{◌≡◌, ℕ, ◌≤◌, ◌<◌, ◌^◌, ◌-◌, true, List, [], None, is_some};
+ghost use Rattle.std.specs.FinMap.{get};
 ghost use Rattle.ff_ids.specs.Masks.{ring_count};
-ghost use Rattle.ff_ids.specs.Steps.{Notes, Accuses, Ticks, Joins};
+ghost use Rattle.ff_ids.specs.Steps.{Ticks};
 ghost use Rattle.journal.specs.declared.event.Event as journal;
 ghost use Rattle.journal.specs.declared.event.What.TheVariants as told;
 ghost use Rattle.records.specs.declared.Body.TheVariants as bodies;
@@ -42,26 +43,10 @@ impl Node {
             → Plays s es os self.new (tells s (told.Spent index body) c) }
         ensures grows { Grows self.old self.new }
         ensures spent { TellsSpent index body self.old self.new }
+        ensures frame { self.new ≡ record self.old { telling = self.new.telling } }
     {
         self.telling
             .tell(self.membership.now(), What::Spent { index, body });
-    }
-
-    /// One event of the life: the note, if it has no fault.
-    fn live_note(&mut self, note: NoteBody)
-        ensures plays { (s : Setting) (es : List journal.Event) (os : List (ℕ × List ℕ)) (c : Call)
-            → Plays s es os self.old c
-            → Plays s es os self.new (lives s (Notes note) c) }
-        ensures grows { Grows self.old self.new }
-        ensures signs_nothing { SignsNothing self.old self.new }
-    {
-        let _fault = self.membership.put_note(note, &mut self.changes);
-        report(
-            &mut self.records,
-            &mut self.telling,
-            self.membership.now(),
-            &self.changes,
-        );
     }
 
     /// One event of the life: a tick.
@@ -92,7 +77,13 @@ impl Node {
         ensures grows { Grows self.old self.new }
         ensures signs_nothing { SignsNothing self.old self.new }
     {
-        self.live_note(note);
+        let _fault = self.membership.put_note(note, &mut self.changes);
+        report(
+            &mut self.records,
+            &mut self.telling,
+            self.membership.now(),
+            &self.changes,
+        );
         self.records.put(rec);
     }
 
@@ -101,6 +92,7 @@ impl Node {
         requires accusation { rec.rec.body ≡ bodies.Accusation acc }
         requires tolerance { rec.t ≡ self.old.group.t }
         requires ring { acc.ring.0 < ring_count self.old.group.t }
+        requires noted { is_some (get self.old.membership.notes acc.accused) ≡ true }
         ensures plays { (s : Setting) (es : List journal.Event) (os : List (ℕ × List ℕ)) (c : Call)
             → Plays s es os self.old c
             → Plays s es os self.new (takes s rec.rec c) }

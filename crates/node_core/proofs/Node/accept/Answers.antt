@@ -15,6 +15,7 @@ use Rattle.signer.specs.Signing.{SignerState}
 use Rattle.std.proofs.Common.{ap}
 use Rattle.node_core.specs.OnDisks.{FailsIn}
 use Rattle.node_core.proofs.DiskLemmas.{stores-none, stored-behind, fails-behind}
+use Rattle.node_core.proofs.NotedLemmas.{accused-noted}
 use Rattle.node_core.proofs.Node.accept.Goals as goal
 
 pub take_accusation-requires-clause-ring : goal.take_accusation-requires-clause-ring
@@ -77,3 +78,9 @@ returns-in-Accusation-clause-fails g c = λ s es os call p accepted.
     subst (λ (b : Body). FailsIn (answers true s b c1) c.args.self.now c.answer.new.self x y c.answer.result) (sym is)
     (fails-behind (answers true s (bodies.Accusation c.in-Accusation.acc) c1) c.args.self.now c.take_accusation.new.self c.answer.new.self x y c.answer.result c.take_accusation.ensures.signs_nothing
     (c.answer.ensures.fails s es os c1 (c.take_accusation.ensures.plays s es os call p)))
+
+pub take_accusation-requires-clause-noted : goal.take_accusation-requires-clause-noted
+take_accusation-requires-clause-noted g c =
+    let is : c.args.body.now ≡ bodies.Accusation c.in-Accusation.acc = search rules in
+    let v = c.args.self.now in
+    accused-noted v.membership c.in-Accusation.acc (subst (λ (b : Body). IsUnrefusedBy v.membership v.roster b) is c.requires.unrefused)

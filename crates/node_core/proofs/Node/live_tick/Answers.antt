@@ -8,6 +8,7 @@ use Rattle.std.proofs.Common.{ap, ◌∙◌}
 use Rattle.node_core.specs.Playing.{Kept}
 use Rattle.node_core.specs.Spending.{spent_told}
 use Rattle.node_core.proofs.SpendLemmas.{changes-none}
+use Rattle.node_core.proofs.NotedLemmas.{still, notes-ended}
 use Rattle.node_core.proofs.Node.live_tick.Goals as goal
 
 pub returns-clause-plays : goal.returns-clause-plays
@@ -21,3 +22,20 @@ returns-clause-signs_nothing c = record {
   signer = ap (λ (v : Kept). v.signer) c.self.view_is;
   told_none = changes-none c.now.result c.tick.new.out c.self.inside.telling c.report.new.telling c.report.ensures.told ∙ ap (λ (v : Kept). spent_told v.telling.events) c.self.view_is;
 }
+
+pub invariant_of-self : goal.invariant_of-self
+invariant_of-self c =
+    let i = c.self.invariant in
+    let steps = tick-steps c.self.inside.group c.self.inside.membership c.tick.new.self c.tick.new.out i.membership_group c.tick.ensures.step c.tick.ensures.changes in
+    record {
+      some = i.some;
+      few = i.few;
+      period = i.period;
+      membership_group = c.tick.ensures.group ∙ i.membership_group;
+      detector_group = i.detector_group;
+      signer_group = i.signer_group;
+      joined = still c.self.inside.membership c.tick.new.self c.self.inside.me c.tick.ensures.members i.joined;
+      good = i.good;
+      notes = notes-ended c.self.inside.group Ticks c.self.inside.membership c.tick.new.self c.tick.new.out c.self.inside.records c.report.new.records steps (λ m. tt) c.report.ensures.records i.notes;
+      is_open = i.is_open;
+    }

@@ -21,3 +21,6 @@ pub returns-in-Err-clause-plays : goal.returns-in-Err-clause-plays
 returns-in-Err-clause-plays c = λ s es os call p.
     let d : Datagram = kinds.Summary s.me c.args.flag (page call.node c.args.page) in
     plays-refused s es os (the_view c.self.inside) _ call (sends s d call c.args.to) c.fail.ensures (subst (λ v. Plays s es os v call) (sym c.self.view_is) p) (extends-sends s d call c.args.to)
+
+pub page_bytes-requires-clause-noted : goal.page_bytes-requires-clause-noted
+page_bytes-requires-clause-noted c = c.self.invariant.notes.noted

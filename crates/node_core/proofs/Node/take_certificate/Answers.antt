@@ -3,7 +3,10 @@ use Rattle.node_rules.specs.Calls.{lives}
 use Rattle.node_core.specs.Playing.{Kept, Plays, IsAt}
 use Rattle.node_core.specs.contracts.Node.{the_view}
 use Rattle.node_core.proofs.PlayLemmas.{certified-at, takes-quietly, quiet-at, join-steps, places-of, still-joined}
-use Rattle.ff_ids.specs.Steps.{Joins}
+use Rattle.std.proofs.Common.{ap}
+use Rattle.ff_ids.specs.Steps.{Joins, nothing}
+use Rattle.record_set.specs.Held.{key_of}
+use Rattle.node_core.proofs.NotedLemmas.{notes-certificate}
 use Rattle.node_core.proofs.Node.take_certificate.Goals as goal
 
 pub invariant_of-self : goal.invariant_of-self
@@ -18,6 +21,9 @@ invariant_of-self c =
       signer_group = i.signer_group;
       joined = still-joined c.self.inside.membership c.add_member-fault.new.self c.self.inside.me c.args.cert.member c.hash_places-places.result c.add_member-fault.result i.joined c.add_member-fault.ensures.members c.add_member-fault.ensures.same;
       good = i.good;
+      notes = notes-certificate c.self.inside.group (Joins c.args.cert.member c.hash_places-places.result) c.self.inside.membership c.add_member-fault.new.self nothing c.self.inside.records c.put-2.new.self c.args.rec c.args.cert.member
+          (join-steps c.self.inside.group c.self.inside.membership c.add_member-fault.new.self c.args.cert.member c.hash_places-places.result c.add_member-fault.result c.add_member-fault.ensures.fault c.add_member-fault.ensures.step c.add_member-fault.ensures.same)
+          (λ m. tt) (ap key_of c.requires.certificate) c.put-2.ensures.held i.notes;
       is_open = i.is_open;
     }
 

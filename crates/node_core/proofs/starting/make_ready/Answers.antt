@@ -20,6 +20,7 @@ returns-clause-ready g c =
       signer_group = first.group ∙ c.requires.signer;
       joined = own-joined c.args.kit.group c.args.kit.me c.args.kit.authority c.args.signer c.args.kit.nonce_seed (recs_of c.args.kit.certificates.items) c.in-Ok.parts c.in-Ok.ensures.opened k.certificates.apart k.certificates.among;
       good = first.good;
+      notes = c.in-Ok.ensures.notes;
       is_open = first.closed ∙ c.requires.open;
     }
 

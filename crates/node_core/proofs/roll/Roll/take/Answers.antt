@@ -2,7 +2,9 @@ use Rattle.std.proofs.Common.{subst, sym, ap, ◌∙◌}
 use Rattle.std.proofs.Common.{◌≡◌, ℕ, List}
 use Rattle.ff_ids.specs.declared.Group.{Group}
 use Rattle.ring_order.specs.Hashed.{hashed_places}
-use Rattle.ff_ids.specs.Steps.{Joins}
+use Rattle.ff_ids.specs.Steps.{Joins, nothing}
+use Rattle.record_set.specs.Held.{key_of}
+use Rattle.node_core.proofs.NotedLemmas.{notes-certificate}
 use Rattle.node_rules.specs.Calls.{lives}
 use Rattle.node_core.specs.Playing.{IsAt}
 use Rattle.node_core.specs.Rolls.{with_roll}
@@ -19,3 +21,9 @@ returns-clause-plays c = λ s es os kept call at group fine free.
     let now = quiet-at s es os v call (Joins c.args.cert.member c.hash_places-places.result) c.add_member-fault.new.self (λ f. at) steps fine in
     certified-at s es os (record v { membership = c.add_member-fault.new.self }) call c.args.rec c.args.cert c.put-2.new.self c.put.new.self c.requires.certificate c.put-2.ensures.held c.put.ensures
     (subst (λ x. IsAt s es os (record v { membership = c.add_member-fault.new.self }) (lives s (Joins c.args.cert.member x) call)) (sym places1) now)
+
+pub returns-clause-notes : goal.returns-clause-notes
+returns-clause-notes c =
+    let old = c.args.self.now in
+    let steps = join-steps old.membership.group old.membership c.add_member-fault.new.self c.args.cert.member c.hash_places-places.result c.add_member-fault.result c.add_member-fault.ensures.fault c.add_member-fault.ensures.step c.add_member-fault.ensures.same in
+    notes-certificate old.membership.group (Joins c.args.cert.member c.hash_places-places.result) old.membership c.add_member-fault.new.self nothing old.records c.put-2.new.self c.args.rec c.args.cert.member steps (λ m. tt) (ap key_of c.requires.certificate) c.put-2.ensures.held c.requires.notes

@@ -14,7 +14,7 @@ use Rattle.node_core.proofs.roll.Roll.take_all.Goals as goal
 pub loop-rec-init : goal.loop-rec-init
 loop-rec-init c =
     let all : c.into_iter-rec-iterator.result.rest.items ≡ c.args.certificates.items = search rules in
-    record { parts = all; group = refl; apart = subst (λ (xs : List CheckedRecord). AreApart (recs xs)) (sym all) c.requires.apart; fresh = fresh-at_first c.args.self.now.roster _ c.requires.none; plays = λ s es os v call later at g f new. (at, new) }
+    record { parts = all; group = refl; notes = c.requires.notes; apart = subst (λ (xs : List CheckedRecord). AreApart (recs xs)) (sym all) c.requires.apart; fresh = fresh-at_first c.args.self.now.roster _ c.requires.none; plays = λ s es os v call later at g f new. (at, new) }
 
 pub take-requires-clause-tolerance : goal.take-requires-clause-tolerance
 take-requires-clause-tolerance c =
@@ -42,6 +42,7 @@ loop-rec-preserved c =
     record {
       parts = append_assoc c.loop-rec.yielded (x ∷ []) c.next.new.self.rest.items ∙ parts;
       group = c.take.ensures.group ∙ c.loop-rec.invariant.group;
+      notes = c.take.ensures.notes;
       apart = behind.1;
       fresh = fresh-behind c.loop-rec.self.roster c.take.new.self.roster c.in-Certificate.cert (recs c.next.new.self.rest.items) c.take.ensures.roster others
           (subst (λ (xs : List CheckedRecord). AllByRecursion (IsFresh c.loop-rec.self.roster) (recs xs)) next c.loop-rec.invariant.fresh).1;
@@ -63,3 +64,9 @@ returns-clause-plays c = λ s es os v call at g f new.
 
 pub returns-clause-group : goal.returns-clause-group
 returns-clause-group c = c.loop-rec.invariant.group
+
+pub returns-clause-notes : goal.returns-clause-notes
+returns-clause-notes c = c.loop-rec.invariant.notes
+
+pub take-requires-clause-notes : goal.take-requires-clause-notes
+take-requires-clause-notes c = c.loop-rec.invariant.notes

@@ -4,6 +4,7 @@ use Rattle.records.specs.declared.Record.{Record}
 use Rattle.node_rules.specs.Nodes.{Setting}
 use Rattle.node_rules.specs.Calls.{Call}
 use Rattle.node_core.specs.Playing.{Kept, IsAt}
+use Rattle.node_core.specs.Noted.{HoldsNotes}
 use Rattle.node_core.specs.Rolls.{with_roll, AreApart, AreNew, takes_all}
 use Rattle.node_core.specs.declared.roll.Roll.{Roll}
 use Rattle.node_core.proofs.RollLemmas.{recs, IsFresh}
@@ -15,6 +16,7 @@ use Rattle.node_core.proofs.roll.Roll.take_all.Given as goal
 pub record Took (first now : Roll) (yielded rest all : List CheckedRecord) : Type 0 where
   pub parts : yielded ++ rest ≡ all
   pub group : now.membership.group ≡ first.membership.group
+  pub notes : HoldsNotes now.membership now.records
   pub apart : AreApart (recs rest)
   pub fresh : AllByRecursion (IsFresh now.roster) (recs rest)
   pub plays : (s : Setting) (es : List journal.Event) (os : List (ℕ × List ℕ)) (v : Kept) (c : Call) (later : List Record) → IsAt s es os (with_roll v first) c

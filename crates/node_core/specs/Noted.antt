@@ -1,0 +1,20 @@
+-- Who is accused has a note.
+use Rattle.std.specs.Prelude.{◌≡◌, ℕ, true, Bool, is_some}
+use Rattle.ff_ids.specs.declared.summary.RecordKey.TheVariants as keys
+use Rattle.ff_ids.specs.Notes.{newest}
+use Rattle.ff_ids.specs.Views.{State}
+use Rattle.membership.specs.Life.{Life}
+use Rattle.membership.specs.Holds.{Holds}
+use Rattle.record_set.specs.Held.{Held, held_under}
+use Rattle.record_set.specs.Pages.{note_in, AreNoted}
+
+-- The member's note is held.
+abbrev pub has_note : Held → ℕ → Bool
+has_note held m = is_some (note_in (held_under held (keys.Note m)))
+
+-- The life is one of a state; who has a note in it has one in what is held, and so has who is accused there.
+pub record HoldsNotes (life : Life) (held : Held) : Type 0 where
+  pub state : State
+  pub holds : Holds life state
+  pub newest_held : (m : ℕ) → is_some (newest state.notes m) ≡ true → has_note held m ≡ true
+  pub noted : AreNoted held
