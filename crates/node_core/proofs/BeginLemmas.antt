@@ -3,7 +3,7 @@ use Rattle.std.proofs.Common.{◌≡◌, ℕ, refl, ap, sym, ◌∙◌, List, []
 use Rattle.records.specs.declared.Record.{Record}
 use Rattle.records.specs.declared.Body.{Body}
 use Rattle.epoch_store.specs.declared.Stored.{Stored}
-use Rattle.node_rules.specs.Nodes.{Setting, Node, state_of, certificate_of}
+use Rattle.node_rules.specs.Nodes.{Setting, Node, state_of, event_of, certificate_of}
 use Rattle.ff_ids.specs.declared.Group.{Group}
 use Rattle.ff_ids.specs.Lives.{opening as life_opening}
 use Rattle.membership.specs.Holds.{Holds}
@@ -15,11 +15,15 @@ use Rattle.validate.specs.Certified.{Certificates, certificate_of as kept_certif
 use Rattle.std.specs.FinMap as fin
 use Rattle.std.specs.Option.{option_map}
 use Rattle.node_core.proofs.PlayLemmas.{setting-group, setting-me, own-signed}
-use Rattle.node_rules.proofs.OwnNote.{becomes_member}
+use Rattle.node_rules.proofs.OwnNote.{becomes_member, step-same}
 use Rattle.node_rules.specs.Lives.{is_certificate_for}
 use Rattle.node_rules.specs.Replies.{first_mask}
 use Rattle.membership.specs.Life.{has_joined}
-use Rattle.ff_ids.specs.Views.{is_member}
+use Rattle.ff_ids.specs.Views.{State, is_member}
+use Rattle.ff_ids.specs.Notes.{newest}
+use Rattle.ff_ids.specs.Steps.{Joins, step}
+use Rattle.node_rules.proofs.Small.{state-takes}
+use Rattle.node_core.specs.Noted.{own_note}
 use Rattle.ff_ids.specs.declared.NoteBody.{NoteBody}
 use Rattle.std.specs.List.{list_any, AllByRecursion}
 use Rattle.lms_tree.specs.declared.key.PublicKey.{PublicKey}
@@ -34,6 +38,7 @@ use Rattle.node_core.specs.declared.starting.Ready.{Ready}
 use Rattle.node_core.specs.declared.starting.Parts.{Parts}
 use Rattle.node_core.specs.declared.starting.First.{First}
 use Rattle.node_core.specs.Begins.{HasOpened, IsFirst, MayBegin, kept_in, kept_by}
+use Rattle.std.specs.Prelude.{fold}
 use Rattle.std.proofs.Common.{◌∷◌, true}
 use Rattle.std.proofs.Common.{false, Option, None, subst}
 use Rattle.records.specs.Signing.{CheckedRecord}
@@ -144,6 +149,33 @@ own-joined group me authority signer seed certificates p has apart own =
     let who : s.me ≡ me = setting-me s group me authority signer.key refl in
     let member = becomes_member s certificates (begun (blank s seed signer.state)) (certificates-all certificates apart) (subst (λ (m : ℕ). list_any (λ r. is_certificate_for m r.body) certificates ≡ true) (sym who) own) in
     sym ((o.is nothing_told).holds.at_number me).member ∙ subst (λ (m : ℕ). is_member (state_of s (opened s seed certificates signer.state).node) m ≡ true) who member
+
+no-notes : (s : Setting) (me : ℕ) (records : List Record) (c : Call) → AllByRecursion (λ r. (x : CertBody) × (r.body ≡ Certificate x)) records → newest (state_of s c.node).notes me ≡ None
+    → newest (state_of s (fold (λ (c : Call) r. takes s r c) c records).node).notes me ≡ None
+no-notes s me [] c all h = h
+no-notes s me (r ∷ records) c all h =
+    let x : CertBody = all.0.0 in
+    let st : State = state_of s c.node in
+    let at = state-takes s r c ∙ ap (λ b. (step s.group st (event_of s b)).state) all.0.1 in
+    no-notes s me records (takes s r c) all.1 (ap (λ (y : State). newest y.notes me) at ∙ (step-same s.group me st (Joins x.member (s.places x.member)) tt).note ∙ h)
+
+-- and has no note in it yet
+pub own-unnoted : (group : Group) (me : ℕ) (authority : PublicKey) (signer : SignerState) (seed : List ℕ) (certificates : List Record) (p : Parts)
+    → HasOpened group seed certificates p → AreApart certificates → fin.get p.roll.membership.notes me ≡ None
+own-unnoted group me authority signer seed certificates p has apart =
+    let s : Setting = setting_of group me authority signer.key in
+    let o = has s me authority signer refl in
+    sym ((o.is nothing_told).holds.at_number me).newest_note
+    ∙ no-notes s me certificates (begun (blank s seed signer.state)) (certificates-all certificates apart) (ap (λ (y : State). newest y.notes me) (state-blank s seed signer.state))
+
+note_is : (x y : NoteBody) → Note x ≡ Note y → x ≡ y
+note_is x y e = cc
+
+-- the first note is the one that the store keeps then
+pub first-own : (old new : SignerState) (t me : ℕ) (f : First) → IsFirst old new t me f → f.note ≡ own_note me new.state
+first-own old new t me f h =
+    let mine : f.note.member ≡ me = ap (λ (n : NoteBody). n.member) (note_is _ _ h.note) in
+    ap (λ (m : ℕ). let n : NoteBody = record { member = m; epoch = f.note.epoch; mask = f.note.mask } in n) mine ∙ sym (ap (own_note me) h.state)
 
 -- a signature sends nothing
 sent-signs : (s : Setting) (b : Body) (c : Call) → (signs s b c).sent ≡ c.sent

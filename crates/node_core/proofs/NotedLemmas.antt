@@ -1,31 +1,44 @@
--- Who is accused has a note, in what is held, whatever is accepted.
+-- Who is accused has a note, in what is held, whatever is accepted, and the node's own is the one that its store keeps.
 use Rattle.std.proofs.Common.{◌≡◌, ℕ, ◌<◌, Bool, true, false, cond, inl, inr, List, [], ◌∷◌, Option, Some, None, is_some, refl, ap, sym, ◌∙◌, subst}
 use Rattle.std.specs.Prelude.{IfSome}
 use Rattle.std.specs.FinMap as fin
 use Rattle.std.specs.FinMap.{contains_key}
 use Rattle.std.specs.Ordering.{eq_by_cmp}
-use Rattle.std.proofs.lemmas.Bool.{cond_both, cases_Bool, eqb-true}
-use Rattle.std.proofs.Common.{eqb}
+use Rattle.std.proofs.lemmas.Bool.{and_parts, cond_both, cases_Bool, eqb-true}
+use Rattle.std.proofs.Common.{eqb, eq-eqb}
+use Rattle.std.specs.Prelude.{nat_eq, not}
 use Rattle.ff_ids.specs.declared.AccBody.{AccBody}
 use Rattle.ff_ids.specs.declared.NoteBody.{NoteBody}
 use Rattle.ff_ids.specs.declared.Group.{Group}
 use Rattle.ff_ids.specs.declared.summary.RecordKey.{RecordKey}
 use Rattle.ff_ids.specs.declared.summary.RecordKey.TheVariants as keys
 use Rattle.ff_ids.specs.Lives.{opening}
-use Rattle.ff_ids.specs.Steps.{Event, Notes, Report, step}
-use Rattle.ff_ids.proofs.FaultLemmas.{passes}
+use Rattle.ff_ids.specs.Steps.{Event, Notes, Report, Stepped, after_note, step, unless_fault}
+use Rattle.ff_ids.specs.Masks.{enables, good_mask}
+use Rattle.ff_ids.specs.Notes.{greater_note, newest, note_cmp}
+use Rattle.ff_ids.specs.Views.{State, is_member}
+use Rattle.ff_ids.specs.declared.Fault.{Fault}
+use Rattle.ff_ids.specs.declared.Fault.TheVariants as faults
+use Rattle.ff_ids.specs.Faults.{fault_after, fault_beside, note_fault, note_fault_by}
+use Rattle.std.specs.declared.cmp.Ordering.{Ordering}
+use Rattle.std.specs.declared.cmp.Ordering.TheVariants.{Less, Equal, Greater}
+use Rattle.epoch_store.specs.declared.Stored.{Stored}
+use Rattle.records.specs.declared.Record.{Record}
+use Rattle.validate.specs.Table.{Knowledge, first_fault_of, own_ahead}
+use Rattle.ff_ids.proofs.FaultLemmas.{passed, passes}
 use Rattle.membership.specs.Kept.{ByNumber}
-use Rattle.membership.specs.Life.{Life, has_joined, facts_in, accusation_fault_in}
+use Rattle.membership.specs.Life.{Life, has_joined, facts_in, accusation_fault_in, note_fault_in}
 use Rattle.membership.specs.Holds.{Holds}
-use Rattle.records.specs.declared.Body.TheVariants.{Note, Accusation}
+use Rattle.records.specs.declared.Body.{Body}
+use Rattle.records.specs.declared.Body.TheVariants.{Certificate, Note, Accusation}
 use Rattle.records.specs.Signing.{CheckedRecord}
 use Rattle.record_set.specs.Held.{Held, key_cmp, key_of, held_under}
 use Rattle.record_set.specs.Pages.{note_of_body, note_in, AreNoted}
 use Rattle.record_set.proofs.KeyLemmas.{key_cmp_total, is_key-true, is_key-same}
 use Rattle.node_rules.specs.Nodes.{key_of_accusation}
-use Rattle.node_rules.proofs.OwnNote.{IsNotOwn, step-same}
+use Rattle.node_rules.proofs.OwnNote.{IsNotOwn, option_or-none, step-same}
 use Rattle.node_core.specs.Records.{without_all}
-use Rattle.node_core.specs.Noted.{HoldsNotes, has_note}
+use Rattle.node_core.specs.Noted.{HoldsNotes, IsOthers, has_note, own_note}
 use Rattle.node_core.proofs.PlayLemmas.{Steps}
 
 abbrev accused_on : ℕ → ℕ → RecordKey
@@ -188,3 +201,62 @@ notes-none life held holds none = record {
 -- who is accused without a fault has a note
 pub accused-noted : (life : Life) (a : AccBody) → accusation_fault_in life a ≡ None → is_some (fin.get life.notes a.accused) ≡ true
 accused-noted life a fine = ap is_some (passes life.group.t (facts_in life a) a fine).newest
+
+-- ---- the newest notes
+
+-- an event that is no note of the member leaves its newest
+pub newest-same : (g : Group) (e : Event) (life next : Life) (r : Report) (held : Held) (m : ℕ) → Steps g e life next r → HoldsNotes life held → IsNotOwn m e → fin.get next.notes m ≡ fin.get life.notes m
+newest-same g e life next r held m steps h other =
+    sym ((steps.holds h.state h.holds).at_number m).newest_note ∙ (step-same g m h.state e other).note ∙ (h.holds.at_number m).newest_note
+
+greater-beside : (n kept : NoteBody) (o : Ordering) → note_cmp n kept ≡ o → fault_beside kept o ≡ None → greater_note n (Some kept) ≡ n
+greater-beside n kept Less e h = cc
+greater-beside n kept Equal e h = cc
+greater-beside n kept Greater e h = rw e refl
+
+greater-after : (n : NoteBody) (o : Option NoteBody) → fault_after o n ≡ None → greater_note n o ≡ n
+greater-after n None h = refl
+greater-after n (Some kept) h = greater-beside n kept (note_cmp n kept) refl h
+
+one-more : (st : State) (n : NoteBody) → fault_after (newest st.notes n.member) n ≡ None → newest (n ∷ st.notes) n.member ≡ Some n
+one-more st n after = rw (eq-eqb n.member n.member refl) (ap (λ (x : NoteBody). Some x) (greater-after n (newest st.notes n.member) after))
+
+after-fine : (t : ℕ) (joined : Bool) (kept : Option NoteBody) (n : NoteBody) → note_fault_by t joined kept n ≡ None → fault_after kept n ≡ None
+after-fine t joined kept n fine = (passed (not (good_mask t n.mask.0)) faults.BadMask _ (passed (not joined) faults.UnknownMember _ fine).1).1
+
+unless-none : (fault : Option Fault) (st : State) (next : Stepped) → fault ≡ None → unless_fault fault st next ≡ next
+unless-none fault st next h = rw h refl
+
+-- a note without a fault is its member's newest
+pub newest-more : (g : Group) (n : NoteBody) (life next : Life) (r : Report) (held : Held) → life.group ≡ g → Steps g (Notes n) life next r → HoldsNotes life held → note_fault_in life n ≡ None → fin.get next.notes n.member ≡ Some n
+newest-more g n life next r held group steps h fine =
+    let st : State = h.state in
+    let at = h.holds.at_number n.member in
+    let fine2 : note_fault g.t st n ≡ None =
+    ap (λ (x : Group). note_fault x.t st n) (sym group) ∙ ap (λ (b : Bool). note_fault_by life.group.t b (newest st.notes n.member) n) at.member ∙ ap (λ (o : Option NoteBody). note_fault_by life.group.t (has_joined life n.member) o n) at.newest_note ∙ fine in
+    sym ((steps.holds st h.holds).at_number n.member).newest_note
+    ∙ ap (λ (x : Stepped). newest x.state.notes n.member) (unless-none (note_fault g.t st n) st (after_note st n) fine2) ∙ one-more st n (after-fine g.t (is_member st n.member) (newest st.notes n.member) n fine2)
+
+some_is : (x y : NoteBody) → Some x ≡ Some y → x ≡ y
+some_is x y e = cc
+
+-- an accusation against the node without a fault is on a ring that the stored mask enables
+pub asked-by : (life : Life) (me : ℕ) (kept : Stored) (a : AccBody) → accusation_fault_in life a ≡ None → fin.get life.notes me ≡ Some (own_note me kept) → a.accused ≡ me → enables kept.mask.0 a.ring.0 ≡ true
+asked-by life me kept a fine own who =
+    let p = passes life.group.t (facts_in life a) a fine in
+    let is : p.note ≡ own_note me kept = some_is _ _ (sym p.newest ∙ ap (fin.get life.notes) who ∙ own) in
+    sym (ap (λ (x : NoteBody). enables x.mask.0 a.ring.0) is) ∙ (and_parts _ _ p.unanswered).1
+
+ahead : (me : ℕ) (kept : Option NoteBody) (n stored : NoteBody) → kept ≡ Some stored → nat_eq n.member me ≡ true → own_ahead me kept n ≡ None → ⊥
+ahead me kept n stored k e h = cc
+
+-- a note that is accepted is another member's
+pub others-of : (k : Knowledge) (r : Record) (b : Body) (stored : NoteBody) → newest k.state.notes k.own ≡ Some stored → first_fault_of k r b ≡ None → IsOthers k.own b
+others-of k r (Certificate c) stored own fine = tt
+others-of k r (Note n) stored own fine =
+    let last = (option_or-none _ _ (option_or-none _ _ fine).1).1 in
+    elim (cases_Bool (nat_eq n.member k.own)) [
+      | inl same ↦ absurd (ahead k.own (newest k.state.notes k.own) n stored own same last)
+      | inr apart ↦ apart
+    ]
+others-of k r (Accusation a) stored own fine = tt

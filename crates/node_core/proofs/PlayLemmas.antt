@@ -63,8 +63,8 @@ use Rattle.node_rules.proofs.Small.{state_of-lives}
 use Rattle.node_rules.proofs.OwnKey.{ended-certificate}
 use Rattle.node_core.specs.Told.{Tellings, Adds, with_event, with_report, with_sent}
 use Rattle.node_core.specs.Records.{without_all}
-use Rattle.node_core.specs.Playing.{Kept, HoldsRecords, setting_of, IsNode, IsAt, IsBehind, Plays, Stops, Extends, Grows}
-use Rattle.node_core.proofs.ExtendLemmas.{extends-tells, extends-lives, extends-takes, extends-sends, extends-sends_to_all, extends-signs_and_sends, extends-wants}
+use Rattle.node_core.specs.Playing.{Kept, HoldsRecords, setting_of, IsNode, IsAt, IsBehind, Plays, Stops, Extends, Grows, with_known}
+use Rattle.node_core.proofs.ExtendLemmas.{extends-tells, extends-lives, extends-takes, extends-sends, extends-signs_and_sends, extends-wants}
 use Rattle.node_core.proofs.DueLemmas.{behind-extends, behind-same, behind-due, from-fine, plays-refused}
 
 -- ---- what is held
@@ -550,6 +550,10 @@ grows-trans a b c p q =
 pub grows-signer : (a b : Kept) (signer : SignerState) → Grows (record a { signer = signer }) b → Grows a b
 grows-signer a b signer h = record { going = h.going; stuck = h.stuck; events = h.events; sent = h.sent; before = h.before; ended = h.ended; group = h.group; me = h.me }
 
+-- what adds to what is reported grows it
+pub grows-adds : (v : Kept) (life next : Life) (held later : Held) (f : Tellings → Tellings) (a b : Tellings) → Adds f a b → Grows (with_known v life held a) (with_known v next later b)
+grows-adds v life next held later f a b h = record { going = λ fine. (h.going fine).0; stuck = h.stuck; events = h.events; sent = h.sent; before = h.before; ended = refl; group = refl; me = refl }
+
 pub grows-refl : (a : Kept) → Grows a a
 grows-refl a = record { going = λ ok. ok; stuck = λ failed. refl; events = front-refl a.telling.events; sent = front-refl a.telling.sent; before = refl; ended = refl; group = refl; me = refl }
 
@@ -591,27 +595,18 @@ kept-plays s es os c b v1 v2 index r at own p taken =
     let p1 : Plays s es os v1 (spends s b c) = subst (λ x. Plays s es os v1 x) (ap (λ k. tells s (told.Spent k b) (with_stored b c)) at ∙ sym (spends-is s b c)) p in
     subst (λ x. Plays s es os v2 x) (ap (λ x. takes s x (spends s b c)) own ∙ sym (signs-is s b c)) (taken (spends s b c) p1)
 
--- and sent
-pub passed-on : (s : Setting) (es : List journal.Event) (os : List (ℕ × List ℕ)) (c : Call) (b : Body) (also : Option ℕ) (v0 v2 v3 : Kept) (r : Record) (bytes : List ℕ)
+-- and sent, if memory sufficed for its bytes
+pub passed-on : (s : Setting) (es : List journal.Event) (os : List (ℕ × List ℕ)) (c : Call) (b : Body) (also : Option ℕ) (v0 v2 v3 : Kept) (r : Record) (Spelled : List ℕ → Type 0)
     → Plays s es os v0 (with_stored b c) → Grows v0 v3 → r ≡ own_record s c.node b → Plays s es os v2 (signs s b c)
-    → ((x : Call) (d : Datagram) → Plays s es os v2 x → bytes ≡ datagram_bytes d → Plays s es os v3 (sends_to_all s (addressees s also (state_of s x.node)) d x))
-    → bytes ≡ datagram_bytes (kinds.Records v0.me (r ∷ [])) → Plays s es os v3 (signs_and_sends s b (addressees s also) c)
-passed-on s es os c b also v0 v2 v3 r bytes p grows own p2 sent spelled =
+    → ((x : Call) (d : Datagram) → Plays s es os v2 x → Spelled (datagram_bytes d) → Plays s es os v3 (sends_to_all s (addressees s also (state_of s x.node)) d x))
+    → Spelled (datagram_bytes (kinds.Records v0.me (r ∷ []))) → Plays s es os v3 (signs_and_sends s b (addressees s also) c)
+passed-on s es os c b also v0 v2 v3 r Spelled p grows own p2 sent spelled =
     from-fine s es os v0 v3 (with_stored b c) (signs_and_sends s b (addressees s also) c) p grows (with-stored b c (signs_and_sends s b (addressees s also) c) (extends-signs_and_sends s b (addressees s also) c)) (λ h.
     let n = h.is in
     let me : v0.me ≡ s.me = sym (setting-me s v0.group v0.me v0.authority v0.signer.key n.setting) in
     let d : Datagram = kinds.Records s.me (own_record s c.node b ∷ []) in
-    let spelled2 : bytes ≡ datagram_bytes d = spelled ∙ ap (λ m. datagram_bytes (kinds.Records m (r ∷ []))) me ∙ ap (λ x. datagram_bytes (kinds.Records s.me (x ∷ []))) own in
+    let spelled2 : Spelled (datagram_bytes d) = subst Spelled (ap (λ m. datagram_bytes (kinds.Records m (r ∷ []))) me ∙ ap (λ x. datagram_bytes (kinds.Records s.me (x ∷ []))) own) spelled in
     subst (λ x. Plays s es os v3 x) (sym (sends-own s b also c)) (sent (signs s b c) d p2 spelled2))
-
--- its bytes were refused memory
-pub passed-on-refused : (s : Setting) (es : List journal.Event) (os : List (ℕ × List ℕ)) (c : Call) (b : Body) (also : Option ℕ) (v2 v3 : Kept)
-    → Plays s es os v2 (signs s b c) → v3.telling ≡ record v2.telling { failed = true } → Plays s es os v3 (signs_and_sends s b (addressees s also) c)
-passed-on-refused s es os c b also v2 v3 p same =
-    let c1 : Call = signs s b c in
-    let to : List ℕ = addressees s also (state_of s c1.node) in
-    let d : Datagram = kinds.Records s.me (own_record s c.node b ∷ []) in
-    subst (λ x. Plays s es os v3 x) (sym (sends-own s b also c)) (plays-refused s es os v2 v3 c1 (sends_to_all s to d c1) same p (extends-sends_to_all s to d c1))
 
 -- the signer has spent an index on the body
 pub stored-at : (s : Setting) (es : List journal.Event) (os : List (ℕ × List ℕ)) (v : Kept) (c : Call) (b : Body) (signer : SignerState)

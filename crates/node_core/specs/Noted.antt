@@ -1,10 +1,14 @@
--- Who is accused has a note.
-use Rattle.std.specs.Prelude.{◌≡◌, ℕ, true, Bool, is_some}
+-- Who is accused has a note, and the node's own is the one that its store keeps.
+use Rattle.std.specs.Prelude.{◌≡◌, ℕ, true, false, Bool, is_some, nat_eq}
 use Rattle.ff_ids.specs.declared.summary.RecordKey.TheVariants as keys
 use Rattle.ff_ids.specs.Notes.{newest}
 use Rattle.ff_ids.specs.Views.{State}
+use Rattle.ff_ids.specs.declared.NoteBody.{NoteBody}
+use Rattle.epoch_store.specs.declared.Stored.{Stored}
 use Rattle.membership.specs.Life.{Life}
 use Rattle.membership.specs.Holds.{Holds}
+use Rattle.records.specs.declared.Body.{Body}
+use Rattle.records.specs.declared.Body.TheVariants.{Certificate, Note, Accusation}
 use Rattle.record_set.specs.Held.{Held, held_under}
 use Rattle.record_set.specs.Pages.{note_in, AreNoted}
 
@@ -18,3 +22,13 @@ pub record HoldsNotes (life : Life) (held : Held) : Type 0 where
   pub holds : Holds life state
   pub newest_held : (m : ℕ) → is_some (newest state.notes m) ≡ true → has_note held m ≡ true
   pub noted : AreNoted held
+
+-- The note of the member that the store keeps.
+abbrev pub own_note : ℕ → Stored → NoteBody
+own_note me kept = record { member = me; epoch = kept.epoch; mask = kept.mask }
+
+-- It is no note of the member.
+abbrev pub IsOthers : ℕ → Body → Type 0
+IsOthers me (Certificate c) = Unit {0}
+IsOthers me (Note n) = nat_eq n.member me ≡ false
+IsOthers me (Accusation a) = Unit {0}

@@ -1,9 +1,11 @@
 -- What a node keeps, and how it stands where a call so far does.
-use Rattle.std.specs.Prelude.{◌≡◌, ℕ, ◌≤◌, ◌<◌, Bool, false, true, not, ◌&&◌, List, ◌++◌, length}
+use Rattle.std.specs.Prelude.{◌≡◌, ℕ, ◌≤◌, ◌<◌, Bool, false, true, not, ◌&&◌, Option, List, ◌++◌, length}
 use Rattle.std.specs.Option.{option_map}
 use Rattle.std.specs.Result.{is_ok}
 use Rattle.ff_ids.specs.declared.TheConstants.{MAX_TOLERANCE}
+use Rattle.std.specs.FinMap.{get}
 use Rattle.ff_ids.specs.declared.Group.{Group}
+use Rattle.ff_ids.specs.declared.NoteBody.{NoteBody}
 use Rattle.ff_ids.specs.declared.summary.RecordKey.{RecordKey}
 use Rattle.ff_ids.specs.Masks.{good_mask}
 use Rattle.lms_tree.specs.declared.key.PublicKey.{PublicKey}
@@ -63,6 +65,10 @@ pub record IsNode (s : Setting) (v : Kept) (n : Node) : Type 0 where
   pub roster : (m : ℕ) → kept_certificate v.roster m ≡ certificate_of n m
   pub probes : StandsFor v.detector n.probes
 
+-- the same, but for what it knows of the members, and what was reported
+abbrev pub with_known : Kept → Life → Held → Tellings → Kept
+with_known v life held told = record v { membership = life; records = held; telling = told }
+
 -- It is where the call so far is, after these events and datagrams of earlier calls.
 pub record IsAt (s : Setting) (es : List journal.Event) (os : List (ℕ × List ℕ)) (v : Kept) (c : Call) : Type 0 where
   pub is : IsNode s v c.node
@@ -93,7 +99,7 @@ pub record Extends (c d : Call) : Type 0 where
   pub sent : IsPrefix c.sent d.sent
 
 -- What holds between calls of the parts.
-pub record IsReady (group : Group) (me : ℕ) (membership : Life) (records : Held) (detector : Probing) (signer : SignerState) (ended : Bool) : Type 0 where
+pub record IsReady (group : Group) (me : ℕ) (membership : Life) (records : Held) (detector : Probing) (signer : SignerState) (own : Option NoteBody) (ended : Bool) : Type 0 where
   pub some : 1 ≤ group.t
   pub few : group.t ≤ MAX_TOLERANCE
   pub period : 0 < group.period
@@ -103,6 +109,7 @@ pub record IsReady (group : Group) (me : ℕ) (membership : Life) (records : Hel
   pub joined : has_joined membership me ≡ true
   pub good : good_mask group.t signer.state.mask.0 ≡ true
   pub notes : HoldsNotes membership records
+  pub newest_own : get membership.notes me ≡ own
   pub is_open : (not ended && signer.closed) ≡ false
 
 -- A call of it runs, in which no put has failed. Until the call has ended well the node counts as over.

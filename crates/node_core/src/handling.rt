@@ -2,7 +2,8 @@
 //! is answered at once.
 
 ghost use Rattle.std.specs.Prelude.{◌≡◌, ℕ, ◌≤◌, ◌<◌, List, true, None, Some, IfErr, is_err, length, All, OnOk};
-ghost use Rattle.ff_ids.specs.Masks.{ring_count};
+ghost use Rattle.std.specs.FinMap.{get};
+ghost use Rattle.ff_ids.specs.Masks.{enables};
 ghost use Rattle.ports.specs.Count.{counted};
 ghost use Rattle.journal.specs.declared.event.Event as journal;
 ghost use Rattle.records.specs.declared.Body.TheVariants as bodies;
@@ -13,6 +14,7 @@ ghost use Rattle.node_rules.specs.Refusals.{refusal};
 ghost use Rattle.node_rules.specs.Calls.{Call, takes};
 ghost use Rattle.node_rules.specs.Deliveries.{answers, handles};
 ghost use Rattle.node_core.specs.declared.NodeFault.TheVariants as faults;
+ghost use Rattle.node_core.specs.Noted.{IsOthers, own_note};
 ghost use Rattle.node_core.specs.Playing.{Plays, Stops, Grows, IsInCall};
 ghost use Rattle.node_core.specs.Spending.{Spends};
 ghost use Rattle.node_core.specs.OnDisks.{FailsIn, Stores};
@@ -35,7 +37,8 @@ impl Node {
         disk: &mut D,
         acc: &AccBody,
     ) -> Result<(), NodeFault>
-        requires ring { acc.now.ring.0 < ring_count self.old.group.t }
+        requires asked { acc.now.accused ≡ self.old.me
+            → enables self.old.signer.state.mask.0 acc.now.ring.0 ≡ true }
         requires open { IsInCall self.old }
         ensures plays { (s : Setting) (es : List journal.Event) (os : List (ℕ × List ℕ)) (c : Call)
             → Plays s es os self.old c
@@ -59,10 +62,6 @@ impl Node {
             return Ok(());
         }
         let mask = self.signer.state().mask;
-        if !mask.enables(acc.ring) {
-            self.telling.fail();
-            return Ok(());
-        }
         let tolerance = self.group.t;
         self.want_note(alloc, disk, answer_mask(tolerance, mask, acc.ring))
     }
@@ -79,6 +78,9 @@ impl Node {
         requires tolerance { rec.t ≡ self.old.group.t }
         requires group { self.old.membership.group ≡ self.old.group }
         requires unrefused { IsUnrefusedBy self.old.membership self.old.roster body.now }
+        requires other { IsOthers self.old.me body.now }
+        requires own { get self.old.membership.notes self.old.me
+            ≡ Some (own_note self.old.me self.old.signer.state) }
         requires open { IsInCall self.old }
         ensures plays { (s : Setting) (es : List journal.Event) (os : List (ℕ × List ℕ)) (c : Call)
             → Plays s es os self.old c

@@ -74,6 +74,8 @@ pub struct Node {
 impl Model for Node {
     ghost use Rattle.std.specs.Coded.{codes};
     ghost use Rattle.std.specs.FinMap.{code};
+    ghost use Rattle.std.specs.Prelude.{Some};
+    ghost use Rattle.node_core.specs.Noted.{own_note};
     ghost use Rattle.node_core.specs.Playing.{Kept, IsReady};
 
     ghost Value = { Kept };
@@ -94,7 +96,7 @@ impl Model for Node {
     } };
 
     ghost invariant = { λ n. IsReady n.group n.me n.membership n.records n.detector n.signer
-        n.ended };
+        (Some (own_note n.me n.signer.state)) n.ended };
 }
 
 impl Node {

@@ -1,23 +1,27 @@
 //! Own signatures: each is reported, accepted and sent, or it isn't made.
 
-ghost use Rattle.std.specs.Prelude.{◌≡◌, ℕ, ◌≤◌, ◌<◌, List, true, None, Some, IfErr, is_err, is_some, OnOk};
+ghost use Rattle.std.specs.Prelude.{◌≡◌, ℕ, ◌≤◌, ◌<◌, List, true, None, Some, IfOk, IfErr, is_err, is_some, OnOk};
 ghost use Rattle.std.specs.FinMap.{get};
 ghost use Rattle.ff_ids.specs.Masks.{ring_count, good_mask};
 ghost use Rattle.ports.specs.Count.{counted};
 ghost use Rattle.journal.specs.declared.event.Event as journal;
 ghost use Rattle.records.specs.declared.Body.TheVariants as bodies;
-ghost use Rattle.node_rules.specs.Nodes.{Setting};
-ghost use Rattle.node_rules.specs.Calls.{Call, own_record, signs_and_sends, wants};
+ghost use Rattle.datagram.specs.declared.Datagram.{Datagram as Sending};
+ghost use Rattle.datagram.specs.Spelling.{datagram_bytes};
+ghost use Rattle.node_rules.specs.Nodes.{Setting, state_of};
+ghost use Rattle.node_rules.specs.Calls.{Call, own_record, sends_to_all, signs_and_sends, wants};
 ghost use Rattle.node_core.specs.declared.NodeFault.TheVariants as faults;
 ghost use Rattle.node_core.specs.Playing.{Plays, Stops, Grows, IsInCall};
-ghost use Rattle.node_core.specs.Spending.{Spends, TellsSpent};
+ghost use Rattle.node_core.specs.Spending.{SignsNothing, Spends, TellsSpent};
 ghost use Rattle.node_core.specs.Neighbours.{addressees};
 ghost use Rattle.node_core.specs.OnDisks.{FailsIn, Stores};
 ghost use Rattle.node_core.specs.Signatures.{with_stored, next_own, Runs};
 
+use crate::parts::keep_own;
 use crate::sending::datagram_of;
 use crate::{Node, NodeFault};
-use ff_ids::{AccBody, Mask, NoteBody};
+use ff_ids::{AccBody, Mask, MemberId};
+use fields::NoMemory;
 use journal::What;
 use ports::Disk;
 use records::{Body, Checked};
@@ -25,23 +29,17 @@ use signer::SignFault;
 use std::alloc::Global;
 
 impl Node {
-    /// The own note is reported, accepted, and sent to the neighbours. The signer has spent this index on it.
-    fn pass_on_note(&mut self, alloc: Global, index: u32, rec: Checked, note: &NoteBody)
-        requires body { rec.rec.body ≡ bodies.Note note.now }
-        requires tolerance { rec.t ≡ self.old.group.t }
+    /// The datagram of an own record goes to the neighbours and one more, if memory sufficed for it.
+    fn send_own(&mut self, alloc: Global, bytes: Result<Vec<u8>, NoMemory>, also: Option<MemberId>)
         ensures plays { (s : Setting) (es : List journal.Event) (os : List (ℕ × List ℕ)) (c : Call)
-            → Plays s es os self.old (with_stored (bodies.Note note.now) c)
-            → index ≡ c.node.stored.next → rec.rec ≡ own_record s c.node (bodies.Note note.now)
-            → Plays s es os self.new
-            (signs_and_sends s (bodies.Note note.now) (addressees s None) c) }
+            (d : Sending) → Plays s es os self.old c
+            → IfOk bytes (λ b. b.items ≡ datagram_bytes d)
+            → Plays s es os self.new (sends_to_all s (addressees s also (state_of s c.node)) d c) }
         ensures grows { Grows self.old self.new }
-        ensures spent { TellsSpent index (bodies.Note note.now) self.old self.new }
+        ensures signs_nothing { SignsNothing self.old self.new }
     {
-        let bytes = datagram_of(alloc, self.me, rec.rec());
-        self.tell_spent(index, Body::Note(*note));
-        self.take_note(rec, *note);
         match bytes {
-            Ok(bytes) => self.send_to_neighbours(alloc, &bytes, None),
+            Ok(bytes) => self.send_to_neighbours(alloc, &bytes, also),
             Err(_) => self.telling.fail(),
         }
     }
@@ -64,10 +62,7 @@ impl Node {
         let bytes = datagram_of(alloc, self.me, rec.rec());
         self.tell_spent(index, Body::Accusation(*acc));
         self.take_accusation(rec, *acc);
-        match bytes {
-            Ok(bytes) => self.send_to_neighbours(alloc, &bytes, Some(acc.accused)),
-            Err(_) => self.telling.fail(),
-        }
+        self.send_own(alloc, bytes, Some(acc.accused));
     }
 
     /// A note of the next epoch with this mask is wanted; behind a refusal of memory none is signed.
@@ -103,7 +98,19 @@ impl Node {
         let index = self.signer.state().next;
         match self.signer.sign_note(alloc, disk, self.me, mask) {
             Ok(rec) => match rec.rec().body {
-                Body::Note(note) => self.pass_on_note(alloc, index, rec, &note),
+                Body::Note(note) => {
+                    let bytes = datagram_of(alloc, self.me, rec.rec());
+                    keep_own(
+                        &mut self.membership,
+                        &mut self.records,
+                        &mut self.changes,
+                        &mut self.telling,
+                        index,
+                        rec,
+                        &note,
+                    );
+                    self.send_own(alloc, bytes, None);
+                }
                 Body::Certificate(_) | Body::Accusation(_) => unreachable!(),
             },
             Err(SignFault::Exhausted { .. }) => self.tell(What::Exhausted { next: index }),

@@ -1,6 +1,6 @@
 //! How a life begins: certificates are taken, and a first note is signed and accepted. Nothing is sent.
 
-ghost use Rattle.std.specs.Prelude.{◌≡◌, ◌≤◌, ◌<◌, ◌^◌, ◌+◌, ℕ, true, false, List, [], ◌∷◌, length, IfOk, IfErr, OnErr, All, is_err};
+ghost use Rattle.std.specs.Prelude.{◌≡◌, ◌≤◌, ◌<◌, ◌^◌, ◌+◌, ℕ, true, false, List, [], ◌∷◌, length, None, IfOk, IfErr, OnErr, All, is_err};
 ghost use Rattle.std.specs.List.{list_any};
 ghost use Rattle.ff_ids.specs.declared.TheConstants.{MAX_TOLERANCE};
 ghost use Rattle.ff_ids.specs.Masks.{good_mask};
@@ -12,20 +12,19 @@ ghost use Rattle.records.specs.declared.Body.TheVariants as bodies;
 ghost use Rattle.epoch_store.specs.declared.Stored.{Stored};
 ghost use Rattle.epoch_store.specs.Seat.{next_seat};
 ghost use Rattle.node_rules.specs.Nodes.{Setting};
-ghost use Rattle.node_rules.specs.Calls.{Call, own_record, signs};
 ghost use Rattle.node_rules.specs.Replies.{first_mask as mask_at_first};
 ghost use Rattle.node_rules.specs.Starting.{started};
 ghost use Rattle.journal.specs.declared.event.Event as journal;
-ghost use Rattle.node_core.specs.Playing.{Plays, Grows, IsReady, setting_of};
-ghost use Rattle.node_core.specs.Signatures.{with_stored};
-ghost use Rattle.node_core.specs.Spending.{LivesOn, TellsOf, TellsSpent, SpendsUntold, StartSpends};
+ghost use Rattle.node_core.specs.Playing.{Plays, IsReady, setting_of};
+ghost use Rattle.node_core.specs.Spending.{LivesOn, TellsOf, SpendsUntold, StartSpends};
 ghost use Rattle.node_core.specs.Told.{IsPrefix};
-ghost use Rattle.node_core.specs.Noted.{HoldsNotes};
+ghost use Rattle.node_core.specs.Noted.{HoldsNotes, own_note};
 ghost use Rattle.node_core.specs.OnDisks.{PutsFirst, kept_first};
 ghost use Rattle.node_core.specs.Rolls.{IsCertificateFor, AreApart, recs_of};
 ghost use Rattle.node_core.specs.Begins.{AreOf, HasOpened, MayBegin, IsFirst, IsKit, IsVouchable, MayRefuse, Starts, is_store_fault, spent_first};
 
 use crate::kit::{Events, Kit, Outbox};
+use crate::parts::keep_own;
 use crate::roll::Roll;
 use crate::telling::CallOutput;
 use crate::{Node, NodeFault};
@@ -35,7 +34,7 @@ use fields::NoMemory;
 use lms_tree::PublicKey;
 use membership::Changes;
 use ports::Disk;
-use records::{Body, Checked};
+use records::Checked;
 use signer::{SignFault, Signer};
 use std::alloc::Global;
 
@@ -168,7 +167,9 @@ fn make_ready<D: Disk>(
     ensures faults { (D.state disk.new).faults
         ≡ counted (is_store_fault result) (D.state disk.old).faults }
     ensures ready { IfOk result
-        (λ r. IsReady r.group r.me r.roll.membership r.roll.records r.detector r.signer false) }
+        (λ r. IsReady r.group r.me r.roll.membership r.roll.records r.detector r.signer None
+        false) }
+    ensures own { IfOk result (λ r. r.note ≡ own_note r.me r.signer.state) }
     ensures body { IfOk result (λ r. r.rec.rec.body ≡ bodies.Note r.note) }
     ensures tolerance { IfOk result (λ r. r.rec.t ≡ r.group.t) }
     ensures begins { IfOk result
@@ -222,28 +223,12 @@ fn make_ready<D: Disk>(
     })
 }
 
-impl Node {
-    /// The first note is reported and accepted. The signer has spent this index on it.
-    fn keep_first(&mut self, index: u32, rec: Checked, note: &NoteBody)
-        requires body { rec.rec.body ≡ bodies.Note note.now }
-        requires tolerance { rec.t ≡ self.old.group.t }
-        ensures plays { (s : Setting) (es : List journal.Event) (os : List (ℕ × List ℕ)) (c : Call)
-            → Plays s es os self.old (with_stored (bodies.Note note.now) c)
-            → index ≡ c.node.stored.next → rec.rec ≡ own_record s c.node (bodies.Note note.now)
-            → Plays s es os self.new (signs s (bodies.Note note.now) c) }
-        ensures grows { Grows self.old self.new }
-        ensures spent { TellsSpent index (bodies.Note note.now) self.old self.new }
-    {
-        self.tell_spent(index, Body::Note(*note));
-        self.take_note(rec, *note);
-    }
-}
-
 impl Ready {
     /// The life begins: what it reports goes behind what was reported.
     pub fn begin(self, telling: CallOutput) -> Node
         requires ready { IsReady self.group self.me self.roll.membership self.roll.records
-            self.detector self.signer false }
+            self.detector self.signer None false }
+        requires own { self.note ≡ own_note self.me self.signer.state }
         requires body { self.rec.rec.body ≡ bodies.Note self.note }
         requires tolerance { self.rec.t ≡ self.group.t }
         requires before { telling.before ≡ length telling.sent }
@@ -270,11 +255,22 @@ impl Ready {
             rec,
         } = self;
         let Roll {
-            membership,
+            mut membership,
             roster,
-            records,
+            mut records,
         } = roll;
-        let mut node = Node {
+        let mut changes = changes;
+        let mut telling = telling;
+        keep_own(
+            &mut membership,
+            &mut records,
+            &mut changes,
+            &mut telling,
+            index,
+            rec,
+            &note,
+        );
+        Node {
             group,
             me,
             authority,
@@ -287,9 +283,7 @@ impl Ready {
             found,
             telling,
             ended: false,
-        };
-        node.keep_first(index, rec, &note);
-        node
+        }
     }
 }
 

@@ -1,6 +1,6 @@
 //! The small steps of a node: one event of its life, one accepted record.
 
-ghost use Rattle.std.specs.Prelude.{◌≡◌, ℕ, ◌≤◌, ◌<◌, ◌^◌, ◌-◌, true, List, [], None, is_some};
+ghost use Rattle.std.specs.Prelude.{◌≡◌, ℕ, ◌≤◌, ◌<◌, ◌^◌, ◌-◌, true, List, [], None, is_some, nat_eq, false};
 ghost use Rattle.std.specs.FinMap.{get};
 ghost use Rattle.ff_ids.specs.Masks.{ring_count};
 ghost use Rattle.ff_ids.specs.Steps.{Ticks};
@@ -14,7 +14,7 @@ ghost use Rattle.node_core.specs.Playing.{Kept, Plays, Grows};
 ghost use Rattle.node_core.specs.Spending.{spent_by, SignsNothing, TellsSpent};
 
 use crate::Node;
-use crate::parts::report;
+use crate::parts::{accept_note, report};
 use ff_ids::{AccBody, NoteBody};
 use journal::What;
 use records::{Body, CertBody, Checked};
@@ -45,8 +45,7 @@ impl Node {
         ensures spent { TellsSpent index body self.old self.new }
         ensures frame { self.new ≡ record self.old { telling = self.new.telling } }
     {
-        self.telling
-            .tell(self.membership.now(), What::Spent { index, body });
+        self.telling.tell_spent(self.membership.now(), index, body);
     }
 
     /// One event of the life: a tick.
@@ -67,24 +66,25 @@ impl Node {
         );
     }
 
-    /// Accepts the note of this record.
+    /// Accepts the note of this record, which is another member's.
     pub(crate) fn take_note(&mut self, rec: Checked, note: NoteBody)
         requires note { rec.rec.body ≡ bodies.Note note }
         requires tolerance { rec.t ≡ self.old.group.t }
+        requires other { nat_eq note.member self.old.me ≡ false }
         ensures plays { (s : Setting) (es : List journal.Event) (os : List (ℕ × List ℕ)) (c : Call)
             → Plays s es os self.old c
             → Plays s es os self.new (takes s rec.rec c) }
         ensures grows { Grows self.old self.new }
         ensures signs_nothing { SignsNothing self.old self.new }
     {
-        let _fault = self.membership.put_note(note, &mut self.changes);
-        report(
+        accept_note(
+            &mut self.membership,
             &mut self.records,
+            &mut self.changes,
             &mut self.telling,
-            self.membership.now(),
-            &self.changes,
+            rec,
+            note,
         );
-        self.records.put(rec);
     }
 
     /// Accepts the accusation of this record.

@@ -9,6 +9,7 @@ use ff_ids::{AccBody, MemberId};
 use fields::{Bytes, NoMemory};
 use journal::{Event, What};
 use membership::Changes;
+use records::Body;
 use std::alloc::Global;
 use std::marker::Model;
 use std::mem::{replace, swap};
@@ -79,6 +80,13 @@ impl CallOutput {
             Ok(()) => {}
             Err(_) => self.failed = true,
         }
+    }
+
+    /// Adds that the index was spent on the body.
+    pub fn tell_spent(&mut self, moment: u64, index: u32, body: Body)
+        ensures { Adds (with_event moment (kinds.Spent index body)) self.old self.new }
+    {
+        self.tell(moment, What::Spent { index, body });
     }
 
     fn tell_expired(&mut self, moment: u64, list: &[AccBody])

@@ -1,7 +1,6 @@
 use Rattle.std.proofs.Common.{◌≡◌, true, ap, subst, sym, ◌∙◌, rules}
-use Rattle.std.specs.Prelude.{◌<◌}
-use Rattle.ff_ids.specs.declared.Group.{Group}
-use Rattle.ff_ids.specs.Masks.{ring_count}
+use Rattle.ff_ids.specs.Masks.{enables}
+use Rattle.node_core.specs.Noted.{IsOthers}
 use Rattle.validate.specs.Table.{IsUnrefusedBy}
 use Rattle.records.specs.declared.Body.{Body}
 use Rattle.records.specs.declared.Body.TheVariants as bodies
@@ -15,7 +14,7 @@ use Rattle.signer.specs.Signing.{SignerState}
 use Rattle.std.proofs.Common.{ap}
 use Rattle.node_core.specs.OnDisks.{FailsIn}
 use Rattle.node_core.proofs.DiskLemmas.{stores-none, stored-behind, fails-behind}
-use Rattle.node_core.proofs.NotedLemmas.{accused-noted}
+use Rattle.node_core.proofs.NotedLemmas.{accused-noted, asked-by}
 use Rattle.node_core.proofs.Node.accept.Goals as goal
 
 pub take_accusation-requires-clause-ring : goal.take_accusation-requires-clause-ring
@@ -23,13 +22,6 @@ take_accusation-requires-clause-ring g c =
     let is : c.args.body.now ≡ bodies.Accusation c.in-Accusation.acc = search rules in
     let v = c.args.self.now in
     ring-in v.membership v.group c.in-Accusation.acc c.requires.group (subst (λ (b : Body). IsUnrefusedBy v.membership v.roster b) is c.requires.unrefused)
-
-pub answer-requires-clause-ring : goal.answer-requires-clause-ring
-answer-requires-clause-ring g c =
-    let is : c.args.body.now ≡ bodies.Accusation c.in-Accusation.acc = search rules in
-    let v = c.args.self.now in
-    let low = ring-in v.membership v.group c.in-Accusation.acc c.requires.group (subst (λ (b : Body). IsUnrefusedBy v.membership v.roster b) is c.requires.unrefused) in
-    subst (λ (x : Group). c.in-Accusation.acc.ring.0 < ring_count x.t) (sym c.take_accusation.ensures.grows.group) low
 
 pub returns-in-Certificate-clause-plays : goal.returns-in-Certificate-clause-plays
 returns-in-Certificate-clause-plays g c = λ s es os call p accepted.
@@ -84,3 +76,17 @@ take_accusation-requires-clause-noted g c =
     let is : c.args.body.now ≡ bodies.Accusation c.in-Accusation.acc = search rules in
     let v = c.args.self.now in
     accused-noted v.membership c.in-Accusation.acc (subst (λ (b : Body). IsUnrefusedBy v.membership v.roster b) is c.requires.unrefused)
+
+pub take_note-requires-clause-other : goal.take_note-requires-clause-other
+take_note-requires-clause-other g c =
+    let is : c.args.body.now ≡ bodies.Note c.in-Note.note = search rules in
+    subst (IsOthers c.args.self.now.me) is c.requires.other
+
+pub answer-requires-clause-asked : goal.answer-requires-clause-asked
+answer-requires-clause-asked g c = λ who.
+    let is : c.args.body.now ≡ bodies.Accusation c.in-Accusation.acc = search rules in
+    let v = c.args.self.now in
+    let a = c.in-Accusation.acc in
+    let fine = subst (λ (b : Body). IsUnrefusedBy v.membership v.roster b) is c.requires.unrefused in
+    let asked = asked-by v.membership v.me v.signer.state a fine c.requires.own (who ∙ c.take_accusation.ensures.grows.me) in
+    subst (λ (k : SignerState). enables k.state.mask.0 a.ring.0 ≡ true) (sym c.take_accusation.ensures.signs_nothing.signer) asked

@@ -1,4 +1,4 @@
-use Rattle.std.proofs.Common.{◌≡◌, ◌≢◌, ℕ, Bool, true, cond, None, ap, subst, sym}
+use Rattle.std.proofs.Common.{◌≡◌, ◌≢◌, Bool, true, cond, None, subst, sym}
 use Rattle.records.specs.declared.Body.TheVariants as bodies
 use Rattle.node_rules.specs.Nodes.{neighbours}
 use Rattle.node_rules.specs.Calls.{Call, wants}
@@ -10,16 +10,15 @@ use Rattle.node_core.specs.contracts.Node.{the_view}
 use Rattle.node_core.proofs.HandleLemmas.{not-against, answers-is}
 use Rattle.node_core.proofs.PlayLemmas.{grows-refl}
 use Rattle.node_core.proofs.ExtendLemmas.{extends-answers}
-use Rattle.node_core.proofs.DueLemmas.{from-fine, runs-from-fine, runs-same, plays-refused}
+use Rattle.node_core.proofs.DueLemmas.{from-fine, runs-from-fine, runs-same}
 use Rattle.std.proofs.Common.{arith}
 use Rattle.std.proofs.lemmas.Bool.Decides.{nat_tests}
 use Rattle.epoch_store.specs.declared.Stored.{Stored}
 use Rattle.rebuttal.specs.Rebuttals.{answering_mask}
 use Rattle.std.proofs.Common.{refl}
-use Rattle.node_core.proofs.SpendLemmas.{nothing-same, refused-none, spends-none}
-use Rattle.records.specs.declared.Body.{Body}
+use Rattle.node_core.proofs.SpendLemmas.{nothing-same, spends-none}
 use Rattle.node_core.proofs.DiskLemmas.{stores-none, fails-same}
-use Rattle.ports.specs.MemoryDisk.{DiskState}
+use Rattle.ff_ids.specs.Masks.{enables}
 use Rattle.node_core.proofs.Node.answer.Goals as goal
 
 pub returns-then-ne-clause-plays : goal.returns-then-ne-clause-plays
@@ -46,20 +45,8 @@ returns-clause-plays g c = λ s es os call p.
 pub returns-then-ne-clause-spends : goal.returns-then-ne-clause-spends
 returns-then-ne-clause-spends g c = spends-none c.args.self.now c.args.self.now _ (nothing-same c.args.self.now)
 
-pub returns-then-not-enables-clause-spends : goal.returns-then-not-enables-clause-spends
-returns-then-not-enables-clause-spends g c = spends-none c.args.self.now _ _ (refused-none (the_view c.self.inside) c.args.self.now _ c.self.view_is refl c.fail.ensures)
-
-pub returns-then-not-enables-clause-plays : goal.returns-then-not-enables-clause-plays
-returns-then-not-enables-clause-plays g c = λ s es os call p.
-    let v : Kept = the_view c.self.inside in
-    let b : Body = bodies.Accusation c.args.acc.now in
-    plays-refused s es os v _ call (answers true s b call) c.fail.ensures (subst (λ v. Plays s es os v call) (sym c.self.view_is) p) (extends-answers s b call)
-
 pub returns-then-ne-clause-stores : goal.returns-then-ne-clause-stores
 returns-then-ne-clause-stores g c = stores-none c.args.self.now.signer c.args.self.now.signer (g.D.Disk.state c.args.disk.now).model refl
-
-pub returns-then-not-enables-clause-stores : goal.returns-then-not-enables-clause-stores
-returns-then-not-enables-clause-stores g c = stores-none c.args.self.now.signer c.self.inside.signer (g.D.Disk.state c.args.disk.now).model (ap (λ (v : Kept). v.signer) c.self.view_is)
 
 pub returns-clause-fails : goal.returns-clause-fails
 returns-clause-fails g c = λ s es os call p.
@@ -72,3 +59,10 @@ returns-clause-fails g c = λ s es os call p.
     let h = p.at (c.want_note.ensures.grows.going fine) in
     let n = subst (λ v. IsNode s v call.node) (sym c.self.view_is) h.is in
     answers-is s v call a c.answer_mask.result true n who exact) (c.want_note.ensures.fails s es os call p)
+
+pub answer_mask-requires-clause-enabled : goal.answer_mask-requires-clause-enabled
+answer_mask-requires-clause-enabled g c =
+    let a = c.args.acc.now in
+    let who : a.accused ≡ c.self.inside.me = grind (arith, nat_tests, c.ne.ensures, c.if-ne.false) in
+    let asked = subst (λ (v : Kept). a.accused ≡ v.me → enables v.signer.state.mask.0 a.ring.0 ≡ true) (sym c.self.view_is) c.requires.asked in
+    subst (λ (k : Stored). enables k.mask.0 a.ring.0 ≡ true) (sym c.state.ensures) (asked who)

@@ -15,6 +15,12 @@ use Rattle.node_core.proofs.RefusalLemmas.{refusal-is}
 use Rattle.node_core.proofs.SpendLemmas.{open-further, still-failed, spends-none, spends-after}
 use Rattle.signer.specs.Signing.{SignerState}
 use Rattle.node_core.proofs.DiskLemmas.{stores-none, stored-behind, fails-behind, fails-given, fails-same}
+use Rattle.std.proofs.Common.{ℕ}
+use Rattle.std.specs.FinMap.{get}
+use Rattle.ff_ids.specs.Notes.{newest}
+use Rattle.validate.specs.Table.{known_by}
+use Rattle.node_core.specs.Noted.{IsOthers, own_note}
+use Rattle.node_core.proofs.NotedLemmas.{others-of}
 use Rattle.node_core.proofs.Node.handle.Goals as goal
 
 pub returns-in-Err-clause-plays : goal.returns-in-Err-clause-plays
@@ -72,3 +78,16 @@ returns-in-Ok-clause-fails g c = λ s es os call p.
     fails-same accepted (handles true s call c.args.rec) c.args.self.now c.accept.new.self x y c.accept.result
     (λ again. ap (λ (r : Record). answers true s c.args.rec.body (takes s r after)) same ∙ sym (handles-accepts true s call c.args.rec none))
     (fails-behind accepted c.args.self.now c.tell.new.self c.accept.new.self x y c.accept.result c.tell.ensures.signs_nothing ran))
+
+pub accept-requires-clause-other : goal.accept-requires-clause-other
+accept-requires-clause-other g c =
+    let v : Kept = the_view c.self.inside in
+    let i = c.self.invariant in
+    let newest_is : newest i.notes.state.notes v.me ≡ Some (own_note v.me v.signer.state) = (i.notes.holds.at_number v.me).newest_note ∙ i.newest_own in
+    let others = others-of (known_by v.group v.authority v.roster i.notes.state v.me) c.args.rec c.args.rec.body (own_note v.me v.signer.state) newest_is (sym (c.in-Ok.ensures.fault i.notes.state i.notes.holds)) in
+    subst (λ (m : ℕ). IsOthers m c.args.rec.body) (ap (λ (w : Kept). w.me) c.self.view_is ∙ sym c.tell.ensures.grows.me) others
+
+pub accept-requires-clause-own : goal.accept-requires-clause-own
+accept-requires-clause-own g c =
+    let P : Kept → Type 0 = λ v. get v.membership.notes v.me ≡ Some (own_note v.me v.signer.state) in
+    subst P (sym c.tell.ensures.frame) (subst P c.self.view_is c.self.invariant.newest_own)

@@ -8,7 +8,7 @@ use Rattle.std.proofs.Common.{ap, ◌∙◌}
 use Rattle.node_core.specs.Playing.{Kept}
 use Rattle.node_core.specs.Spending.{spent_told}
 use Rattle.node_core.proofs.SpendLemmas.{changes-none}
-use Rattle.node_core.proofs.NotedLemmas.{still, notes-ended}
+use Rattle.node_core.proofs.NotedLemmas.{still, newest-same, notes-ended}
 use Rattle.node_core.proofs.Node.live_tick.Goals as goal
 
 pub returns-clause-plays : goal.returns-clause-plays
@@ -37,5 +37,6 @@ invariant_of-self c =
       joined = still c.self.inside.membership c.tick.new.self c.self.inside.me c.tick.ensures.members i.joined;
       good = i.good;
       notes = notes-ended c.self.inside.group Ticks c.self.inside.membership c.tick.new.self c.tick.new.out c.self.inside.records c.report.new.records steps (λ m. tt) c.report.ensures.records i.notes;
+      newest_own = newest-same c.self.inside.group Ticks c.self.inside.membership c.tick.new.self c.tick.new.out c.self.inside.records c.self.inside.me steps i.notes tt ∙ i.newest_own;
       is_open = i.is_open;
     }

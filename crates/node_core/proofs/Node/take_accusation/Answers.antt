@@ -4,7 +4,7 @@ use Rattle.node_core.specs.Playing.{Kept, Plays}
 use Rattle.node_core.specs.contracts.Node.{the_view}
 use Rattle.node_core.proofs.PlayLemmas.{takes-at, takes-quietly, quiet-at, accusation-steps}
 use Rattle.ff_ids.specs.Steps.{Accuses, nothing}
-use Rattle.node_core.proofs.NotedLemmas.{still, notes-accusation}
+use Rattle.node_core.proofs.NotedLemmas.{still, newest-same, notes-accusation}
 use Rattle.std.proofs.Common.{◌≡◌, true, is_some}
 use Rattle.std.specs.FinMap.{get}
 use Rattle.node_core.proofs.Node.take_accusation.Goals as goal
@@ -35,5 +35,6 @@ invariant_of-self c =
       good = i.good;
       notes = notes-accusation c.self.inside.group (Accuses c.args.acc) c.self.inside.membership c.put_accusation-fault.new.self nothing c.self.inside.records c.put.new.self c.args.rec c.args.acc steps (λ m. tt) c.requires.accusation
           (subst (λ (v : Kept). is_some (get v.membership.notes c.args.acc.accused) ≡ true) (sym c.self.view_is) c.requires.noted) c.put.ensures.held i.notes;
+      newest_own = newest-same c.self.inside.group (Accuses c.args.acc) c.self.inside.membership c.put_accusation-fault.new.self nothing c.self.inside.records c.self.inside.me steps i.notes tt ∙ i.newest_own;
       is_open = i.is_open;
     }

@@ -6,12 +6,14 @@ use Rattle.node_core.proofs.PlayLemmas.{certified-at, takes-quietly, quiet-at, j
 use Rattle.std.proofs.Common.{ap}
 use Rattle.ff_ids.specs.Steps.{Joins, nothing}
 use Rattle.record_set.specs.Held.{key_of}
-use Rattle.node_core.proofs.NotedLemmas.{notes-certificate}
+use Rattle.node_core.proofs.NotedLemmas.{newest-same, notes-certificate}
 use Rattle.node_core.proofs.Node.take_certificate.Goals as goal
 
 pub invariant_of-self : goal.invariant_of-self
 invariant_of-self c =
     let i = c.self.invariant in
+    let steps = join-steps c.self.inside.group c.self.inside.membership c.add_member-fault.new.self c.args.cert.member c.hash_places-places.result c.add_member-fault.result
+    c.add_member-fault.ensures.fault c.add_member-fault.ensures.step c.add_member-fault.ensures.same in
     record {
       some = i.some;
       few = i.few;
@@ -21,9 +23,8 @@ invariant_of-self c =
       signer_group = i.signer_group;
       joined = still-joined c.self.inside.membership c.add_member-fault.new.self c.self.inside.me c.args.cert.member c.hash_places-places.result c.add_member-fault.result i.joined c.add_member-fault.ensures.members c.add_member-fault.ensures.same;
       good = i.good;
-      notes = notes-certificate c.self.inside.group (Joins c.args.cert.member c.hash_places-places.result) c.self.inside.membership c.add_member-fault.new.self nothing c.self.inside.records c.put-2.new.self c.args.rec c.args.cert.member
-          (join-steps c.self.inside.group c.self.inside.membership c.add_member-fault.new.self c.args.cert.member c.hash_places-places.result c.add_member-fault.result c.add_member-fault.ensures.fault c.add_member-fault.ensures.step c.add_member-fault.ensures.same)
-          (λ m. tt) (ap key_of c.requires.certificate) c.put-2.ensures.held i.notes;
+      notes = notes-certificate c.self.inside.group (Joins c.args.cert.member c.hash_places-places.result) c.self.inside.membership c.add_member-fault.new.self nothing c.self.inside.records c.put-2.new.self c.args.rec c.args.cert.member steps (λ m. tt) (ap key_of c.requires.certificate) c.put-2.ensures.held i.notes;
+      newest_own = newest-same c.self.inside.group (Joins c.args.cert.member c.hash_places-places.result) c.self.inside.membership c.add_member-fault.new.self nothing c.self.inside.records c.self.inside.me steps i.notes tt ∙ i.newest_own;
       is_open = i.is_open;
     }
 

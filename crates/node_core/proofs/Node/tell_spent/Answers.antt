@@ -11,10 +11,10 @@ use Rattle.node_core.proofs.Node.tell_spent.Goals as goal
 pub returns-clause-spent : goal.returns-clause-spent
 returns-clause-spent c = record {
   signer = ap (λ (v : Kept). v.signer) c.self.view_is;
-  tells = subst (λ (v : Kept). TellsOf (record { index = c.args.index; body = c.args.body } ∷ []) v.telling.events c.tell.new.self.events c.tell.new.self.failed) c.self.view_is
-      (event-spent c.now.result c.args.index c.args.body c.self.inside.telling c.tell.new.self c.tell.ensures.adds);
+  tells = subst (λ (v : Kept). TellsOf (record { index = c.args.index; body = c.args.body } ∷ []) v.telling.events c.tell_spent.new.self.events c.tell_spent.new.self.failed) c.self.view_is
+      (event-spent c.now.result c.args.index c.args.body c.self.inside.telling c.tell_spent.new.self c.tell_spent.ensures);
 }
 
 pub returns-clause-plays : goal.returns-clause-plays
 returns-clause-plays c = λ s es os call p.
-    tells-plays s es os (the_view c.self.inside) call (told.Spent c.args.index c.args.body) c.now.result c.tell.new.self (subst (λ v. Plays s es os v call) (sym c.self.view_is) p) c.now.ensures.moment c.tell.ensures.adds
+    tells-plays s es os (the_view c.self.inside) call (told.Spent c.args.index c.args.body) c.now.result c.tell_spent.new.self (subst (λ v. Plays s es os v call) (sym c.self.view_is) p) c.now.ensures.moment c.tell_spent.ensures

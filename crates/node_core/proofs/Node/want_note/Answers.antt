@@ -9,22 +9,30 @@ use Rattle.records.specs.declared.Body.{Body}
 use Rattle.records.specs.declared.Body.TheVariants as bodies
 use Rattle.signer.specs.Signing.{next_note}
 use Rattle.node_core.specs.Signatures.{with_stored}
-use Rattle.node_core.specs.Playing.{Plays, Kept}
+use Rattle.node_core.specs.Playing.{Plays, Kept, Grows}
 use Rattle.node_core.specs.contracts.Node.{the_view}
 use Rattle.node_core.proofs.PlayLemmas.{signer-at, stopped-at, used_up-at, signed-at, grows-signer, wants-refused, next-own-is, refused-keeps}
 use Rattle.node_core.specs.Signatures.{next_own}
 use Rattle.node_core.proofs.SpendLemmas.{lives-signed, signed-spends, unsigned-spends, spends-none, nothing-same, refused-none}
 use Rattle.node_rules.specs.Calls.{wants}
 use Rattle.epoch_store.specs.Asked.{put_calls}
-use Rattle.std.proofs.Common.{true, false}
+use Rattle.std.proofs.Common.{true}
 use Rattle.epoch_store.specs.declared.Stored.{Stored}
 use Rattle.signer.specs.Signing.{after_signing, stored_after}
 use Rattle.signer.specs.Signs.{MakesFrom}
 use Rattle.node_core.proofs.PlayLemmas.{free-below}
-use Rattle.node_core.proofs.DiskLemmas.{stores-idle, stores-none, stores-signed, fails-signed, wants-stored}
+use Rattle.node_core.proofs.DiskLemmas.{stores-none, stores-signed, fails-signed, wants-stored}
 use Rattle.node_core.specs.OnDisks.{Stores, FailsToStore}
 use Rattle.node_core.proofs.DueLemmas.{plays-stuck}
 use Rattle.node_core.proofs.ExtendLemmas.{extends-wants}
+use Rattle.std.proofs.Common.{ℕ, List, [], ◌∷◌}
+use Rattle.std.specs.Prelude.{IfOk}
+use Rattle.records.specs.declared.Record.{Record}
+use Rattle.datagram.specs.declared.Datagram.TheVariants as kinds
+use Rattle.datagram.specs.Spelling.{datagram_bytes}
+use Rattle.node_core.specs.Playing.{with_known}
+use Rattle.node_core.proofs.PlayLemmas.{grows-trans, passed-on}
+use Rattle.node_core.proofs.SpendLemmas.{spent-then}
 use Rattle.node_core.proofs.Node.want_note.Goals as goal
 
 pub returns-in-Err-StoreFault-clause-plays : goal.returns-in-Err-StoreFault-clause-plays
@@ -40,13 +48,21 @@ pub returns-in-Note-clause-plays : goal.returns-in-Note-clause-plays
 returns-in-Note-clause-plays g c = λ s es os call p.
     let v : Kept = the_view c.self.inside in
     let b : Body = next_note c.self.inside.signer.state c.self.inside.me c.args.mask in
+    let signed : Kept = record v { signer = c.sign_note.new.self } in
+    let kept : Kept = with_known signed c.keep_own.new.membership c.keep_own.new.records c.keep_own.new.telling in
     let p0 = subst (λ v. Plays s es os v call) (sym c.self.view_is) p in
-    signed-at s es os v c.pass_on_note.new.self call b (next_own s call.node c.args.mask) None c.sign_note.new.self c.in-Ok.rec c.state-index.result.next p0 c.self.invariant.signer_group c.in-Ok.ensures.answers.1 (ap (λ x. x.next) c.state-index.ensures) (λ n. next-own-is s v call.node c.args.mask n)
-    (ap (λ x. x.key) c.in-Ok.ensures.after) (ap (λ x. x.state) c.in-Ok.ensures.after) c.in-Ok.ensures.signed c.pass_on_note.ensures.grows
+    let grows = grows-trans signed kept c.send_own.new.self (c.keep_own.ensures.grows signed) c.send_own.ensures.grows in
+    signed-at s es os v c.send_own.new.self call b (next_own s call.node c.args.mask) None c.sign_note.new.self c.in-Ok.rec c.state-index.result.next p0 c.self.invariant.signer_group c.in-Ok.ensures.answers.1 (ap (λ x. x.next) c.state-index.ensures) (λ n. next-own-is s v call.node c.args.mask n)
+    (ap (λ x. x.key) c.in-Ok.ensures.after) (ap (λ x. x.state) c.in-Ok.ensures.after) c.in-Ok.ensures.signed grows
     (λ q e own.
     let note-is : bodies.Note c.in-Note.note ≡ b = search rules in
-    subst (λ (x : Body). Plays s es os c.pass_on_note.new.self (signs_and_sends s x (addressees s None) call)) note-is
-    (c.pass_on_note.ensures.plays s es os call (subst (λ (x : Body). Plays s es os (record v { signer = c.sign_note.new.self }) (with_stored x call)) (sym note-is) q) e (own ∙ ap (λ (x : Body). own_record s call.node x) (sym note-is))))
+    let q1 = subst (λ (x : Body). Plays s es os signed (with_stored x call)) (sym note-is) q in
+    let own1 = own ∙ ap (λ (x : Body). own_record s call.node x) (sym note-is) in
+    let done = c.keep_own.ensures.plays s es os signed call c.self.invariant.membership_group q1 e own1 in
+    let Spelled : List ℕ → Type 0 = λ x. IfOk c.datagram_of-bytes.result (λ bytes. bytes.items ≡ x) in
+    let spelled = subst (λ (r : Record). Spelled (datagram_bytes (kinds.Records c.self.inside.me (r ∷ [])))) c.rec-in-Note.ensures.value c.datagram_of-bytes.ensures in
+    subst (λ (x : Body). Plays s es os c.send_own.new.self (signs_and_sends s x (addressees s None) call)) note-is
+    (passed-on s es os call (bodies.Note c.in-Note.note) None signed kept c.send_own.new.self c.in-Ok.rec.rec Spelled q1 grows own1 done (λ x d q2 e2. c.send_own.ensures.plays s es os x d q2 e2) spelled))
 
 pub returns-in-Err-Exhausted-clause-plays : goal.returns-in-Err-Exhausted-clause-plays
 returns-in-Err-Exhausted-clause-plays g c = λ s es os call p.
@@ -60,10 +76,11 @@ returns-in-Err-Exhausted-clause-plays g c = λ s es os call p.
 pub returns-in-Note-clause-spends : goal.returns-in-Note-clause-spends
 returns-in-Note-clause-spends g c =
     let v : Kept = the_view c.self.inside in
+    let signed : Kept = record v { signer = c.sign_note.new.self } in
     let b : Body = next_note c.self.inside.signer.state c.self.inside.me c.args.mask in
     let note-is : bodies.Note c.in-Note.note ≡ b = search rules in
     let lives = lives-signed c.self.inside.signer c.sign_note.new.self b (Ok c.in-Ok.rec) _ _ c.in-Ok.ensures in
-    signed-spends v c.args.self.now c.pass_on_note.new.self c.sign_note.new.self _ _ c.state-index.result.next (bodies.Note c.in-Note.note) b c.self.view_is (sym c.has_failed.ensures ∙ c.if-has_failed.false) (ap (λ x. x.next) c.state-index.ensures) note-is lives c.pass_on_note.ensures.spent
+    signed-spends v c.args.self.now c.send_own.new.self c.sign_note.new.self _ _ c.state-index.result.next (bodies.Note c.in-Note.note) b c.self.view_is (sym c.has_failed.ensures ∙ c.if-has_failed.false) (ap (λ x. x.next) c.state-index.ensures) note-is lives (spent-then c.state-index.result.next (bodies.Note c.in-Note.note) signed (with_known signed c.keep_own.new.membership c.keep_own.new.records c.keep_own.new.telling) c.send_own.new.self (c.keep_own.ensures.spent signed) c.send_own.ensures.signs_nothing c.send_own.ensures.grows.going)
 
 pub returns-in-Err-StoreFault-clause-spends : goal.returns-in-Err-StoreFault-clause-spends
 returns-in-Err-StoreFault-clause-spends g c =
@@ -93,7 +110,7 @@ returns-in-Err-OutOfMemory-clause-plays g c = λ s es os call p.
 pub returns-in-Note-clause-closed : goal.returns-in-Note-clause-closed
 returns-in-Note-clause-closed g c =
     let closed : SignerState → Bool = λ s. s.closed in
-    ap closed c.pass_on_note.ensures.spent.signer ∙ ap closed c.in-Ok.ensures.after ∙ ap (λ (v : Kept). v.signer.closed) c.self.view_is
+    ap closed c.send_own.ensures.signs_nothing.signer ∙ ap closed c.in-Ok.ensures.after ∙ ap (λ (v : Kept). v.signer.closed) c.self.view_is
 
 pub returns-in-Err-Exhausted-clause-closed : goal.returns-in-Err-Exhausted-clause-closed
 returns-in-Err-Exhausted-clause-closed g c =
@@ -107,8 +124,8 @@ returns-in-Note-clause-stores g c =
     let b : Body = next_note c.self.inside.signer.state c.self.inside.me c.args.mask in
     let x = (g.D.Disk.state c.args.disk.now).model in
     let y = (g.D.Disk.state c.sign_note.new.disk).model in
-    subst (λ (w : Kept). Stores w.signer c.pass_on_note.new.self.signer x y) c.self.view_is
-    (stores-signed v.signer c.sign_note.new.self c.pass_on_note.new.self.signer b c.in-Ok.rec x y c.in-Ok.ensures.after c.pass_on_note.ensures.spent.signer c.in-Ok.ensures.follows)
+    subst (λ (w : Kept). Stores w.signer c.send_own.new.self.signer x y) c.self.view_is
+    (stores-signed v.signer c.sign_note.new.self c.send_own.new.self.signer b c.in-Ok.rec x y c.in-Ok.ensures.after c.send_own.ensures.signs_nothing.signer c.in-Ok.ensures.follows)
 
 pub returns-in-Err-StoreFault-clause-fails : goal.returns-in-Err-StoreFault-clause-fails
 returns-in-Err-StoreFault-clause-fails g c = λ s es os call p fine.
@@ -137,3 +154,10 @@ returns-then-has_failed-clause-spends g c = spends-none c.args.self.now c.args.s
 
 pub returns-then-has_failed-clause-stores : goal.returns-then-has_failed-clause-stores
 returns-then-has_failed-clause-stores g c = stores-none c.args.self.now.signer c.args.self.now.signer (g.D.Disk.state c.args.disk.now).model refl
+
+pub returns-in-Note-clause-grows : goal.returns-in-Note-clause-grows
+returns-in-Note-clause-grows g c =
+    let v : Kept = the_view c.self.inside in
+    let signed : Kept = record v { signer = c.sign_note.new.self } in
+    let kept : Kept = with_known signed c.keep_own.new.membership c.keep_own.new.records c.keep_own.new.telling in
+    subst (λ (w : Kept). Grows w c.send_own.new.self) c.self.view_is (grows-signer v c.send_own.new.self c.sign_note.new.self (grows-trans signed kept c.send_own.new.self (c.keep_own.ensures.grows signed) c.send_own.ensures.grows))

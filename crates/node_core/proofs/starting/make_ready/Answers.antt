@@ -1,7 +1,7 @@
 use Rattle.std.proofs.Common.{refl, ◌∙◌}
 use Rattle.node_core.specs.Rolls.{recs_of}
 use Rattle.node_core.specs.declared.starting.Ready.{Ready}
-use Rattle.node_core.proofs.BeginLemmas.{may-begin, own-joined}
+use Rattle.node_core.proofs.BeginLemmas.{may-begin, first-own, own-joined, own-unnoted}
 use Rattle.node_core.specs.declared.NodeFault.TheVariants as faults
 use Rattle.node_core.proofs.SpendLemmas.{lives-same, unsigned-untold}
 use Rattle.node_core.proofs.CertificateLemmas.{for-tolerance}
@@ -21,6 +21,7 @@ returns-clause-ready g c =
       joined = own-joined c.args.kit.group c.args.kit.me c.args.kit.authority c.args.signer c.args.kit.nonce_seed (recs_of c.args.kit.certificates.items) c.in-Ok.parts c.in-Ok.ensures.opened k.certificates.apart k.certificates.among;
       good = first.good;
       notes = c.in-Ok.ensures.notes;
+      newest_own = own-unnoted c.args.kit.group c.args.kit.me c.args.kit.authority c.args.signer c.args.kit.nonce_seed (recs_of c.args.kit.certificates.items) c.in-Ok.parts c.in-Ok.ensures.opened k.certificates.apart;
       is_open = first.closed ∙ c.requires.open;
     }
 
@@ -48,3 +49,6 @@ returns-in_default-clause-untold g c = unsigned-untold faults.OutOfMemory c.args
 pub open_parts-requires-clause-certificates : goal.open_parts-requires-clause-certificates
 open_parts-requires-clause-certificates g c =
     let kit = c.requires.kit in for-tolerance c.args.kit.group c.args.kit.authority c.args.kit.certificates.items kit.checked kit.certificates.apart
+
+pub returns-clause-own : goal.returns-clause-own
+returns-clause-own g c = first-own c.args.signer c.sign_first.new.signer c.args.kit.group.t c.args.kit.me c.in_ok-first.first c.in_ok-first.ensures.signed
