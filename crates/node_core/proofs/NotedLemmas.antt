@@ -32,6 +32,7 @@ use Rattle.membership.specs.Holds.{Holds}
 use Rattle.records.specs.declared.Body.{Body}
 use Rattle.records.specs.declared.Body.TheVariants.{Certificate, Note, Accusation}
 use Rattle.records.specs.Signing.{CheckedRecord}
+use Rattle.rebuttal.specs.Rebuttals.{IsAgainst}
 use Rattle.record_set.specs.Held.{Held, key_cmp, key_of, held_under}
 use Rattle.record_set.specs.Pages.{note_of_body, note_in, AreNoted}
 use Rattle.record_set.proofs.KeyLemmas.{key_cmp_total, is_key-true, is_key-same}
@@ -237,15 +238,16 @@ newest-more g n life next r held group steps h fine =
     sym ((steps.holds st h.holds).at_number n.member).newest_note
     ∙ ap (λ (x : Stepped). newest x.state.notes n.member) (unless-none (note_fault g.t st n) st (after_note st n) fine2) ∙ one-more st n (after-fine g.t (is_member st n.member) (newest st.notes n.member) n fine2)
 
-some_is : (x y : NoteBody) → Some x ≡ Some y → x ≡ y
+pub some_is : (x y : NoteBody) → Some x ≡ Some y → x ≡ y
 some_is x y e = cc
 
--- an accusation against the node without a fault is on a ring that the stored mask enables
-pub asked-by : (life : Life) (me : ℕ) (kept : Stored) (a : AccBody) → accusation_fault_in life a ≡ None → fin.get life.notes me ≡ Some (own_note me kept) → a.accused ≡ me → enables kept.mask.0 a.ring.0 ≡ true
+-- an accusation against the node without a fault is against the note that the store keeps
+pub asked-by : (life : Life) (me : ℕ) (kept : Stored) (a : AccBody) → accusation_fault_in life a ≡ None → fin.get life.notes me ≡ Some (own_note me kept) → a.accused ≡ me → IsAgainst (own_note me kept) a
 asked-by life me kept a fine own who =
     let p = passes life.group.t (facts_in life a) a fine in
     let is : p.note ≡ own_note me kept = some_is _ _ (sym p.newest ∙ ap (fin.get life.notes) who ∙ own) in
-    sym (ap (λ (x : NoteBody). enables x.mask.0 a.ring.0) is) ∙ (and_parts _ _ p.unanswered).1
+    let parts = and_parts _ _ p.unanswered in
+    record { member = who; epoch = sym (eqb-true p.note.epoch a.epoch parts.0) ∙ ap (λ (x : NoteBody). x.epoch) is; ring = sym (ap (λ (x : NoteBody). enables x.mask.0 a.ring.0) is) ∙ parts.1 }
 
 ahead : (me : ℕ) (kept : Option NoteBody) (n stored : NoteBody) → kept ≡ Some stored → nat_eq n.member me ≡ true → own_ahead me kept n ≡ None → ⊥
 ahead me kept n stored k e h = cc

@@ -3,7 +3,6 @@
 
 ghost use Rattle.std.specs.Prelude.{◌≡◌, ℕ, ◌≤◌, ◌<◌, List, true, None, Some, IfErr, is_err, length, All, OnOk};
 ghost use Rattle.std.specs.FinMap.{get};
-ghost use Rattle.ff_ids.specs.Masks.{enables};
 ghost use Rattle.ports.specs.Count.{counted};
 ghost use Rattle.journal.specs.declared.event.Event as journal;
 ghost use Rattle.records.specs.declared.Body.TheVariants as bodies;
@@ -13,6 +12,7 @@ ghost use Rattle.node_rules.specs.Nodes.{Setting};
 ghost use Rattle.node_rules.specs.Refusals.{refusal};
 ghost use Rattle.node_rules.specs.Calls.{Call, takes};
 ghost use Rattle.node_rules.specs.Deliveries.{answers, handles};
+ghost use Rattle.rebuttal.specs.Rebuttals.{IsAgainst};
 ghost use Rattle.node_core.specs.declared.NodeFault.TheVariants as faults;
 ghost use Rattle.node_core.specs.Noted.{IsOthers, own_note};
 ghost use Rattle.node_core.specs.Playing.{Plays, Stops, Grows, IsInCall};
@@ -24,7 +24,7 @@ use crate::{Node, NodeFault};
 use ff_ids::AccBody;
 use journal::What;
 use ports::Disk;
-use rebuttal::answer_mask;
+use rebuttal::{answer_mask, must_answer};
 use records::{Body, Checked, Record};
 use std::alloc::Global;
 use validate::check;
@@ -38,7 +38,7 @@ impl Node {
         acc: &AccBody,
     ) -> Result<(), NodeFault>
         requires asked { acc.now.accused ≡ self.old.me
-            → enables self.old.signer.state.mask.0 acc.now.ring.0 ≡ true }
+            → IsAgainst (own_note self.old.me self.old.signer.state) acc.now }
         requires open { IsInCall self.old }
         ensures plays { (s : Setting) (es : List journal.Event) (os : List (ℕ × List ℕ)) (c : Call)
             → Plays s es os self.old c
@@ -58,12 +58,14 @@ impl Node {
             → FailsIn (answers true s (bodies.Accusation acc.now) c) self.old self.new
             (D.state disk.old).model (D.state disk.new).model result }
     {
-        if acc.accused != self.me {
+        let Some(own) = self.membership.note_of(self.me) else {
+            unreachable!()
+        };
+        if !must_answer(&own, acc) {
             return Ok(());
         }
-        let mask = self.signer.state().mask;
         let tolerance = self.group.t;
-        self.want_note(alloc, disk, answer_mask(tolerance, mask, acc.ring))
+        self.want_note(alloc, disk, answer_mask(tolerance, own.mask, acc.ring))
     }
 
     /// Accepts a record that has no fault.

@@ -1,6 +1,7 @@
 use Rattle.std.proofs.Common.{◌≡◌, true, ap, subst, sym, ◌∙◌, rules}
-use Rattle.ff_ids.specs.Masks.{enables}
-use Rattle.node_core.specs.Noted.{IsOthers}
+use Rattle.std.proofs.Common.{ℕ}
+use Rattle.rebuttal.specs.Rebuttals.{IsAgainst}
+use Rattle.node_core.specs.Noted.{IsOthers, own_note}
 use Rattle.validate.specs.Table.{IsUnrefusedBy}
 use Rattle.records.specs.declared.Body.{Body}
 use Rattle.records.specs.declared.Body.TheVariants as bodies
@@ -89,4 +90,5 @@ answer-requires-clause-asked g c = λ who.
     let a = c.in-Accusation.acc in
     let fine = subst (λ (b : Body). IsUnrefusedBy v.membership v.roster b) is c.requires.unrefused in
     let asked = asked-by v.membership v.me v.signer.state a fine c.requires.own (who ∙ c.take_accusation.ensures.grows.me) in
-    subst (λ (k : SignerState). enables k.state.mask.0 a.ring.0 ≡ true) (sym c.take_accusation.ensures.signs_nothing.signer) asked
+    subst (λ (m : ℕ). IsAgainst (own_note m c.take_accusation.new.self.signer.state) a) (sym c.take_accusation.ensures.grows.me)
+    (subst (λ (k : SignerState). IsAgainst (own_note v.me k.state) a) (sym c.take_accusation.ensures.signs_nothing.signer) asked)

@@ -11,30 +11,38 @@ use Rattle.node_core.proofs.HandleLemmas.{not-against, answers-is}
 use Rattle.node_core.proofs.PlayLemmas.{grows-refl}
 use Rattle.node_core.proofs.ExtendLemmas.{extends-answers}
 use Rattle.node_core.proofs.DueLemmas.{from-fine, runs-from-fine, runs-same}
-use Rattle.std.proofs.Common.{arith}
-use Rattle.std.proofs.lemmas.Bool.Decides.{nat_tests}
-use Rattle.epoch_store.specs.declared.Stored.{Stored}
 use Rattle.rebuttal.specs.Rebuttals.{answering_mask}
 use Rattle.std.proofs.Common.{refl}
 use Rattle.node_core.proofs.SpendLemmas.{nothing-same, spends-none}
 use Rattle.node_core.proofs.DiskLemmas.{stores-none, fails-same}
-use Rattle.ff_ids.specs.Masks.{enables}
+use Rattle.std.proofs.Common.{rules, Some, ap, ◌∙◌}
+use Rattle.std.proofs.lemmas.Bool.{false≢true}
+use Rattle.ff_ids.specs.Masks.{good_mask}
+use Rattle.ff_ids.specs.declared.NoteBody.{NoteBody}
+use Rattle.rebuttal.specs.Rebuttals.{IsAgainst}
+use Rattle.node_core.specs.Noted.{own_note}
+use Rattle.node_core.proofs.NotedLemmas.{some_is}
 use Rattle.node_core.proofs.Node.answer.Goals as goal
 
-pub returns-then-ne-clause-plays : goal.returns-then-ne-clause-plays
-returns-then-ne-clause-plays g c = λ s es os call p.
+pub returns-then-not-must_answer-clause-plays : goal.returns-then-not-must_answer-clause-plays
+returns-then-not-must_answer-clause-plays g c = λ s es os call p.
     let v : Kept = the_view c.self.inside in
     let a = c.args.acc.now in
     from-fine s es os c.args.self.now c.args.self.now call (answers true s (bodies.Accusation a) call) p (grows-refl c.args.self.now) (extends-answers s (bodies.Accusation a) call) (λ h.
     let n = subst (λ v. IsNode s v call.node) (sym c.self.view_is) h.is in
-    let apart : a.accused ≢ c.self.inside.me = λ e. absurd (grind (arith, nat_tests, c.ne.ensures, c.if-ne.true, e)) in
+    let some : c.note_of.result ≡ Some c.in-Some.own = search rules in
+    let own : c.in-Some.own ≡ own_note c.self.inside.me c.self.inside.signer.state = some_is _ _ (sym some ∙ c.note_of.ensures.kept ∙ c.self.invariant.newest_own) in
+    let asked = subst (λ (w : Kept). a.accused ≡ w.me → IsAgainst (own_note w.me w.signer.state) a) (sym c.self.view_is) c.requires.asked in
+    let apart : a.accused ≢ c.self.inside.me = λ e. false≢true (sym c.if-not-must_answer.true ∙ c.must_answer.ensures.1 (subst (λ (n : NoteBody). IsAgainst n a) (sym own) (asked e))) in
     subst (λ b. Plays s es os c.args.self.now (cond b (wants true s (answer_to s call.node.stored a) (neighbours s) call) call)) (sym (not-against s v call.node a n apart)) p)
 
 pub returns-clause-plays : goal.returns-clause-plays
 returns-clause-plays g c = λ s es os call p.
     let v : Kept = the_view c.self.inside in
-    let who : c.args.acc.now.accused ≡ c.self.inside.me = grind (arith, nat_tests, c.ne.ensures, c.if-ne.false) in
-    let exact = subst (λ (x : Stored). c.answer_mask.result.0 ≡ answering_mask c.self.inside.group.t x.mask.0 c.args.acc.now.ring.0) c.state.ensures c.answer_mask.ensures.exact in
+    let some : c.note_of.result ≡ Some c.in-Some.own = search rules in
+    let own : c.in-Some.own ≡ own_note c.self.inside.me c.self.inside.signer.state = some_is _ _ (sym some ∙ c.note_of.ensures.kept ∙ c.self.invariant.newest_own) in
+    let who : c.args.acc.now.accused ≡ c.self.inside.me = (c.must_answer.ensures.0 c.if-not-must_answer.false).member ∙ ap (λ (n : NoteBody). n.member) own in
+    let exact = subst (λ (n : NoteBody). c.answer_mask.result.0 ≡ answering_mask c.self.inside.group.t n.mask.0 c.args.acc.now.ring.0) own c.answer_mask.ensures.exact in
     let a = c.args.acc.now in
     let answered : Bool → Call = λ works. answers works s (bodies.Accusation a) call in
     runs-from-fine s es os c.args.self.now c.want_note.new.self call answered c.want_note.result p c.want_note.ensures.grows (extends-answers s (bodies.Accusation a) call) (λ h.
@@ -42,17 +50,19 @@ returns-clause-plays g c = λ s es os call p.
     runs-same s es os c.want_note.new.self (λ works. wants works s (next_own s call.node c.answer_mask.result) (addressees s None) call) answered c.want_note.result
     (λ works. answers-is s v call a c.answer_mask.result works n who exact) (c.want_note.ensures.plays s es os call p))
 
-pub returns-then-ne-clause-spends : goal.returns-then-ne-clause-spends
-returns-then-ne-clause-spends g c = spends-none c.args.self.now c.args.self.now _ (nothing-same c.args.self.now)
+pub returns-then-not-must_answer-clause-spends : goal.returns-then-not-must_answer-clause-spends
+returns-then-not-must_answer-clause-spends g c = spends-none c.args.self.now c.args.self.now _ (nothing-same c.args.self.now)
 
-pub returns-then-ne-clause-stores : goal.returns-then-ne-clause-stores
-returns-then-ne-clause-stores g c = stores-none c.args.self.now.signer c.args.self.now.signer (g.D.Disk.state c.args.disk.now).model refl
+pub returns-then-not-must_answer-clause-stores : goal.returns-then-not-must_answer-clause-stores
+returns-then-not-must_answer-clause-stores g c = stores-none c.args.self.now.signer c.args.self.now.signer (g.D.Disk.state c.args.disk.now).model refl
 
 pub returns-clause-fails : goal.returns-clause-fails
 returns-clause-fails g c = λ s es os call p.
     let v : Kept = the_view c.self.inside in
-    let who : c.args.acc.now.accused ≡ c.self.inside.me = grind (arith, nat_tests, c.ne.ensures, c.if-ne.false) in
-    let exact = subst (λ (x : Stored). c.answer_mask.result.0 ≡ answering_mask c.self.inside.group.t x.mask.0 c.args.acc.now.ring.0) c.state.ensures c.answer_mask.ensures.exact in
+    let some : c.note_of.result ≡ Some c.in-Some.own = search rules in
+    let own : c.in-Some.own ≡ own_note c.self.inside.me c.self.inside.signer.state = some_is _ _ (sym some ∙ c.note_of.ensures.kept ∙ c.self.invariant.newest_own) in
+    let who : c.args.acc.now.accused ≡ c.self.inside.me = (c.must_answer.ensures.0 c.if-not-must_answer.false).member ∙ ap (λ (n : NoteBody). n.member) own in
+    let exact = subst (λ (n : NoteBody). c.answer_mask.result.0 ≡ answering_mask c.self.inside.group.t n.mask.0 c.args.acc.now.ring.0) own c.answer_mask.ensures.exact in
     let a = c.args.acc.now in
     let wanted : Call = wants true s (next_own s call.node c.answer_mask.result) (addressees s None) call in
     fails-same wanted (answers true s (bodies.Accusation a) call) c.args.self.now c.want_note.new.self (g.D.Disk.state c.args.disk.now).model (g.D.Disk.state c.want_note.new.disk).model c.want_note.result (λ fine.
@@ -61,8 +71,10 @@ returns-clause-fails g c = λ s es os call p.
     answers-is s v call a c.answer_mask.result true n who exact) (c.want_note.ensures.fails s es os call p)
 
 pub answer_mask-requires-clause-enabled : goal.answer_mask-requires-clause-enabled
-answer_mask-requires-clause-enabled g c =
-    let a = c.args.acc.now in
-    let who : a.accused ≡ c.self.inside.me = grind (arith, nat_tests, c.ne.ensures, c.if-ne.false) in
-    let asked = subst (λ (v : Kept). a.accused ≡ v.me → enables v.signer.state.mask.0 a.ring.0 ≡ true) (sym c.self.view_is) c.requires.asked in
-    subst (λ (k : Stored). enables k.mask.0 a.ring.0 ≡ true) (sym c.state.ensures) (asked who)
+answer_mask-requires-clause-enabled g c = (c.must_answer.ensures.0 c.if-not-must_answer.false).ring
+
+pub answer_mask-requires-clause-good : goal.answer_mask-requires-clause-good
+answer_mask-requires-clause-good g c =
+    let some : c.note_of.result ≡ Some c.in-Some.own = search rules in
+    let own : c.in-Some.own ≡ own_note c.self.inside.me c.self.inside.signer.state = some_is _ _ (sym some ∙ c.note_of.ensures.kept ∙ c.self.invariant.newest_own) in
+    subst (λ (n : NoteBody). good_mask c.self.inside.group.t n.mask.0 ≡ true) (sym own) c.self.invariant.good
