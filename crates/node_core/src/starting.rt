@@ -225,7 +225,7 @@ fn make_ready<D: Disk>(
 
 impl Ready {
     /// The life begins: what it reports goes behind what was reported.
-    pub fn begin(self, telling: CallOutput) -> Node
+    pub fn begin(self, mut telling: CallOutput) -> Node
         requires ready { IsReady self.group self.me self.roll.membership self.roll.records
             self.detector self.signer None false }
         requires own { self.note ≡ own_note self.me self.signer.state }
@@ -246,24 +246,17 @@ impl Ready {
             me,
             authority,
             signer,
-            roll,
+            mut roll,
             detector,
-            changes,
+            mut changes,
             found,
             index,
             note,
             rec,
         } = self;
-        let Roll {
-            mut membership,
-            roster,
-            mut records,
-        } = roll;
-        let mut changes = changes;
-        let mut telling = telling;
         keep_own(
-            &mut membership,
-            &mut records,
+            &mut roll.membership,
+            &mut roll.records,
             &mut changes,
             &mut telling,
             index,
@@ -275,9 +268,9 @@ impl Ready {
             me,
             authority,
             signer,
-            membership,
-            roster,
-            records,
+            membership: roll.membership,
+            roster: roll.roster,
+            records: roll.records,
             detector,
             changes,
             found,
