@@ -31,14 +31,14 @@ pub struct Pace {
 /// Serves the node, and writes the line `end`.
 fn serve_to_end<D: Disk, L: Link, C: Clock, O: Sink>(
     alloc: Global,
-    node: Node,
+    node: &mut Node,
     pace: Pace,
     out: &mut O,
     disk: &mut D,
     link: &mut L,
     clock: &mut C,
 ) -> Result<(), NodeHalt>
-    requires going { node.ended ≡ false }
+    requires going { node.old.ended ≡ false }
     requires open { (O.state out.old).is_open ≡ true }
     requires some { 1 ≤ pace.millis }
     ensures sink { (O.state out.new).is_open ≡ is_writable result }
@@ -50,24 +50,23 @@ fn serve_to_end<D: Disk, L: Link, C: Clock, O: Sink>(
     ensures bound { IfErr result (λ h. h ≢ NodeHalt.LinkFault) }
     ensures behind { IfErr result IsBehind }
     ensures served { IfErr result IsServed }
-    ensures spends { LifeSpends [] node.signer
+    ensures spends { LifeSpends [] node.old.signer
         (D.state disk.old).moments (D.state disk.new).moments
         (O.state out.old).taken (O.state out.new).taken result }
     ensures lives { (s : Setting) (n : RulesNode) (link_told : LinkState) (readings : List ℕ)
         (told : List journal.Event) (was : Option LinkState) (taken : Option (List ℕ))
-        → IsNode s node n → (L.state link.old).contents ≡ Some link_told
+        → IsNode s node.old n → (L.state link.old).contents ≡ Some link_told
         → (C.state clock.old).coming ≡ Some readings
         → Appends taken (O.state out.old).taken (lines_of told)
-        → Lives s node told (life_acts pace.millis pace.turns link_told.coming
+        → Lives s node.old told (life_acts pace.millis pace.turns link_told.coming
         (C.state clock.old).reading readings) (served_from n link_told)
         (environment taken was (D.state disk.old))
         (environment (O.state out.new).taken (L.state link.new).contents (D.state disk.new))
         result }
 {
-    let mut node = node;
     match serve(
         alloc,
-        &mut node,
+        node,
         link,
         clock,
         disk,
@@ -86,7 +85,7 @@ fn serve_to_end<D: Disk, L: Link, C: Clock, O: Sink>(
 /// Writes what the start has reported, serves the node, and writes the line `end`.
 pub fn live<D: Disk, L: Link, C: Clock, O: Sink>(
     alloc: Global,
-    node: Node,
+    node: &mut Node,
     pace: Pace,
     events: &Events,
     out: &mut O,
@@ -94,7 +93,7 @@ pub fn live<D: Disk, L: Link, C: Clock, O: Sink>(
     link: &mut L,
     clock: &mut C,
 ) -> Result<(), NodeHalt>
-    requires going { node.ended ≡ false }
+    requires going { node.old.ended ≡ false }
     requires open { (O.state out.old).is_open ≡ true }
     requires some { 1 ≤ pace.millis }
     requires unsent { AllByRecursion IsUnsent events.now }
@@ -107,20 +106,20 @@ pub fn live<D: Disk, L: Link, C: Clock, O: Sink>(
     ensures bound { IfErr result (λ h. h ≢ NodeHalt.LinkFault) }
     ensures behind { IfErr result IsBehind }
     ensures served { IfErr result IsServed }
-    ensures spends { LifeSpends events.now node.signer
+    ensures spends { LifeSpends events.now node.old.signer
         (D.state disk.old).moments (D.state disk.new).moments
         (O.state out.old).taken (O.state out.new).taken result }
     ensures lives { (s : Setting) (n : RulesNode) (link_told : LinkState) (readings : List ℕ)
-        → IsNode s node n → (L.state link.old).contents ≡ Some link_told
+        → IsNode s node.old n → (L.state link.old).contents ≡ Some link_told
         → (C.state clock.old).coming ≡ Some readings
-        → Lives s node events.now (life_acts pace.millis pace.turns link_told.coming
+        → Lives s node.old events.now (life_acts pace.millis pace.turns link_told.coming
         (C.state clock.old).reading readings) (served_from n link_told)
         (environment (O.state out.old).taken (L.state link.old).contents (D.state disk.old))
         (environment (O.state out.new).taken (L.state link.new).contents (D.state disk.new))
         result }
 {
     let mut sent = 0;
-    match tell_all(alloc, &node, link, out, &mut sent, events.as_slice()) {
+    match tell_all(alloc, node, link, out, &mut sent, events.as_slice()) {
         Ok(()) => serve_to_end(alloc, node, pace, out, disk, link, clock),
         Err(fault) => Err(NodeHalt::from(fault)),
     }

@@ -64,7 +64,11 @@ fn begin_and_live<D: Disk, L: Link, C: Clock, O: Sink>(
     };
     let mut events = Events::new(alloc);
     match begin(alloc, name, member, disk, &mut events) {
-        Ok(node) => live(alloc, node, pace, &events, out, disk, link, clock),
+        Ok(mut node) => {
+            let ended = live(alloc, &mut node, pace, &events, out, disk, link, clock);
+            drop(node);
+            ended
+        }
         Err(halt) => Err(halt),
     }
 }

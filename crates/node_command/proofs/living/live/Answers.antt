@@ -8,7 +8,7 @@ use Rattle.node_command.proofs.living.live.Goals as goal
 
 pub returns-in-Ok-clause-lives : goal.returns-in-Ok-clause-lives
 returns-in-Ok-clause-lives g c = λ s n link_told readings is link_is coming_is.
-    let t = told-whole s n c.args.node c.as_slice.result.now c.args.events.now link_told (g.L.Link.state c.args.link.now).contents (g.O.Sink.state c.args.out.now).taken (g.O.Sink.state c.tell_all.new.out).taken (g.L.Link.state c.tell_all.new.link).contents
+    let t = told-whole s n c.args.node.now c.as_slice.result.now c.args.events.now link_told (g.L.Link.state c.args.link.now).contents (g.O.Sink.state c.args.out.now).taken (g.O.Sink.state c.tell_all.new.out).taken (g.L.Link.state c.tell_all.new.link).contents
     (g.D.Disk.state c.args.disk.now).moments 0 _ c.as_slice.ensures c.requires.unsent is link_is refl c.in-Ok.ensures.tells in
     c.serve_to_end.ensures.lives s n link_told readings c.args.events.now (g.L.Link.state c.args.link.now).contents (g.O.Sink.state c.args.out.now).taken is t.given coming_is t.written
 
@@ -17,7 +17,7 @@ returns-in-Ok-clause-spends g c =
     let before = (g.O.Sink.state c.args.out.now).taken in
     let mid = (g.O.Sink.state c.tell_all.new.out).taken in
     let told = subst (λ (es : List journal.Event). WritesSpent (spent_told es) before mid (Ok tt)) c.as_slice.ensures c.in-Ok.ensures.spent in
-    told-spends c.args.events.now c.args.node.signer (g.D.Disk.state c.args.disk.now).moments (g.D.Disk.state c.serve_to_end.new.disk).moments before mid (g.O.Sink.state c.serve_to_end.new.out).taken
+    told-spends c.args.events.now c.args.node.now.signer (g.D.Disk.state c.args.disk.now).moments (g.D.Disk.state c.serve_to_end.new.disk).moments before mid (g.O.Sink.state c.serve_to_end.new.out).taken
     tt c.serve_to_end.result told c.serve_to_end.ensures.served c.serve_to_end.ensures.spends
 
 pub returns-in-Err-clause-spends : goal.returns-in-Err-clause-spends
@@ -25,12 +25,12 @@ returns-in-Err-clause-spends g c =
     let before = (g.O.Sink.state c.args.out.now).taken in
     let after = (g.O.Sink.state c.tell_all.new.out).taken in
     let told = subst (λ (es : List journal.Event). WritesSpent (spent_told es) before after (Err c.in-Err.fault)) c.as_slice.ensures c.in-Err.ensures.spent in
-    rw c.from.ensures (untold-spends c.args.events.now c.args.node.signer (g.D.Disk.state c.args.disk.now).moments before after c.in-Err.fault told)
+    rw c.from.ensures (untold-spends c.args.events.now c.args.node.now.signer (g.D.Disk.state c.args.disk.now).moments before after c.in-Err.fault told)
 
 pub returns-in-Err-clause-lives : goal.returns-in-Err-clause-lives
 returns-in-Err-clause-lives g c = λ s n link_told readings is link_is coming_is.
     rw c.from.ensures
-    (told-part s n c.args.node c.as_slice.result.now c.args.events.now _ link_told (g.L.Link.state c.args.link.now).contents (g.L.Link.state c.tell_all.new.link).contents (g.O.Sink.state c.args.out.now).taken (g.O.Sink.state c.tell_all.new.out).taken
+    (told-part s n c.args.node.now c.as_slice.result.now c.args.events.now _ link_told (g.L.Link.state c.args.link.now).contents (g.L.Link.state c.tell_all.new.link).contents (g.O.Sink.state c.args.out.now).taken (g.O.Sink.state c.tell_all.new.out).taken
     (g.D.Disk.state c.args.disk.now) 0 _ c.in-Err.fault c.as_slice.ensures c.requires.unsent is link_is refl c.in-Err.ensures.tells)
 
 pub returns-in-Err-clause-behind : goal.returns-in-Err-clause-behind
