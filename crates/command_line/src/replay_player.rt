@@ -45,7 +45,7 @@ impl Script for AnyPlayer {
             None => {
                 let mut player = FormPlayer::new(alloc, bytes);
                 let answer = player.line(alloc, bytes, text);
-                self.form = Some(player);
+                drop(self.form.replace(player));
                 answer
             }
         }
@@ -80,5 +80,8 @@ pub fn replay<S: Source, O: Sink>(
         (io (S.state input.old) (O.state out.old))
         (io (S.state input.new) (O.state out.new)) result }
 {
-    play(alloc, &mut AnyPlayer { form: None }, input, out)
+    let mut player = AnyPlayer { form: None };
+    let ended = play(alloc, &mut player, input, out);
+    drop(player);
+    ended
 }

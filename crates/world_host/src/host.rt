@@ -182,7 +182,7 @@ impl Host {
     pub fn stop(&mut self, outcome: u16)
         ensures { self.new ≡ record self.old { node = None; disk = crashed outcome self.old.disk } }
     {
-        self.node = None;
+        drop(self.node.take());
         self.disk.crash(outcome);
     }
 
