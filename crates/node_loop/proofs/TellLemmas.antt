@@ -182,6 +182,10 @@ keeps-handed port bytes (Some link) after (Err e) told = (link, (told, front-ref
 pub extends-handed : (taken : Option (List ℕ)) (port : ℕ) (bytes : List ℕ) (link after : Option LinkState) (answer : Result Bool NoMemory) → HandsOver port bytes link after answer → Extends taken taken link after
 extends-handed taken port bytes link after answer h = record { text = []; written = Appends-nil taken; given = keeps-handed port bytes link after answer h }
 
+pub not-given : (port : ℕ) (bytes : List ℕ) (link after : Option LinkState) (refused : NoMemory) → HandsOver port bytes link after (Err refused) → after ≡ link
+not-given port bytes None after refused h = h
+not-given port bytes (Some link) after refused h = h
+
 -- a course that the link and the sink stood at is a front of what stands
 pub beyond : (before : Before) (v v1 : Kept) (link later : Option LinkState) (taken after : Option (List ℕ)) (older newer : List Moment) (sent sent1 : ℕ) (r : ServeState) (spent : List Spent)
     → IsAt before (standing v link taken older sent) r → Extends taken after link later → LivesOn spent v.signer v1.signer older newer → IsBeyond before (standing v1 later after newer sent1) r

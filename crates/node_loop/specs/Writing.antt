@@ -1,5 +1,5 @@
 -- How a line of the journal, and the events of a call, are written and sent.
-use Rattle.std.specs.Prelude.{◌≡◌, ℕ, Bool, true, false, List, Option, Some, None, Result, Ok, Err, IsOk}
+use Rattle.std.specs.Prelude.{◌≡◌, ℕ, ◌⊎◌, ◌++◌, Bool, true, false, List, Option, Some, None, Result, Ok, Err, IsOk}
 use Rattle.std.specs.Io.KnownBytes.{Appends}
 use Rattle.ports.specs.Contents.{TookFront}
 use Rattle.fields.specs.declared.NoMemory.{NoMemory}
@@ -132,6 +132,12 @@ pub record IsBeyond (before : Before) (w : Standing) (r : ServeState) : Type 0 w
 abbrev pub KeepsGiven : Option LinkState → Option LinkState → Type 0
 KeepsGiven None after = Unit {0}
 KeepsGiven (Some link) after = (later : LinkState) × ((after ≡ Some later) × IsPrefix link.given later.given)
+
+-- A datagram with this line was given to the link behind its whole line; or none was.
+abbrev pub IsBehindLine : List ℕ → Option (List ℕ) → Option (List ℕ) → Option LinkState
+    → Option LinkState → Type 0
+IsBehindLine line taken after link later =
+    (later ≡ link) ⊎ ((rest : List ℕ) × Appends taken after (line ++ rest))
 
 -- Some bytes were written, perhaps none, and datagrams were given to the link.
 pub record Extends (taken after : Option (List ℕ)) (link later : Option LinkState) : Type 0 where

@@ -9,7 +9,7 @@ ghost use Rattle.validate.specs.Certified.{certificate_of as kept_certificate};
 ghost use Rattle.journal.specs.declared.event.What.TheVariants as kinds;
 ghost use Rattle.node_loop.specs.Courses.{ServeState, datagram_in, line_of, sends_one, tells, tells_all};
 ghost use Rattle.node_loop.specs.Lines.{WritesSpent};
-ghost use Rattle.node_loop.specs.Writing.{Before, Extends, HandsOver, IsAt, Tells, WritesLine, is_lost, is_open_after, is_write_fault, standing};
+ghost use Rattle.node_loop.specs.Writing.{Before, Extends, HandsOver, IsAt, IsBehindLine, Tells, WritesLine, is_lost, is_open_after, is_write_fault, standing};
 
 use crate::fault::ServeFault;
 use crate::writing::write_told;
@@ -103,6 +103,10 @@ fn send_one<L: Link, O: Sink>(
         sent.old) r
         → Tells before (standing node.now (L.state link.new).contents (O.state out.new).taken
         moments sent.new) (sends_one moment to bytes.now r) result }
+    ensures behind { IsBehindLine
+        (line_of (record { moment = moment; what = kinds.Sent sent.old to bytes.now }))
+        (O.state out.old).taken (O.state out.new).taken
+        (L.state link.old).contents (L.state link.new).contents }
     ensures extends { Extends (O.state out.old).taken (O.state out.new).taken
         (L.state link.old).contents (L.state link.new).contents }
     ensures spent { WritesSpent [] (O.state out.old).taken

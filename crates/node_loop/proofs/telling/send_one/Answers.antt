@@ -1,10 +1,11 @@
-use Rattle.std.proofs.Common.{◌≡◌, [], true, false, Ok, Err, subst, sym, ◌∙◌}
+use Rattle.std.proofs.Common.{◌≡◌, [], true, false, Ok, Err, inl, inr, refl, subst, sym, ◌∙◌}
+use Rattle.std.proofs.KnownBytes.{Appends-nil, Appends-trans}
 use Rattle.journal.specs.declared.event.What.TheVariants as kinds
 use Rattle.node_loop.specs.declared.fault.ServeFault.{ServeFault}
 use Rattle.node_loop.specs.Courses.{ServeState, fails_next, hands_over, line_of, sends_one, writes_event}
 use Rattle.node_loop.specs.Lines.{WritesSpent}
 use Rattle.node_loop.specs.Writing.{IsAt, Standing, Tells, standing}
-use Rattle.node_loop.proofs.TellLemmas.{extends-handed, extends-line, extends-trans, handed, lost-is, not-handed}
+use Rattle.node_loop.proofs.TellLemmas.{extends-handed, extends-line, extends-trans, handed, lost-is, not-given, not-handed}
 use Rattle.node_loop.proofs.SendLemmas.{got-lost, sent-line, thrown, unsent, went-out, within-sent}
 use Rattle.node_loop.proofs.LineLemmas.{spent-behind, spent-event, spent-trans}
 use Rattle.node_loop.proofs.telling.send_one.Goals as goal
@@ -97,3 +98,26 @@ returns-in-Err-clause-spent g c =
     spent-behind [] (g.O.Sink.state c.args.out.now).taken (g.O.Sink.state c.write_sent.new.out).taken _
     (spent-event (g.O.Sink.state c.args.out.now).taken (g.O.Sink.state c.write_sent.new.out).taken
     (record { moment = c.args.moment; what = kinds.Sent c.args.sent.now c.args.to c.args.bytes.now }) (Ok c.in_ok-write_sent.field-0) c.in_ok-write_sent.ensures.wrote)
+
+pub returns-in_err-write_sent-clause-behind : goal.returns-in_err-write_sent-clause-behind
+returns-in_err-write_sent-clause-behind g c = inl refl
+
+pub returns-then-lost-clause-behind : goal.returns-then-lost-clause-behind
+returns-then-lost-clause-behind g c =
+    let t0 = (g.O.Sink.state c.args.out.now).taken in
+    let t1 = (g.O.Sink.state c.write_sent.new.out).taken in
+    let t2 = (g.O.Sink.state c.write_told.new.out).taken in
+    let line = line_of (record { moment = c.args.moment; what = kinds.Sent c.args.sent.now c.args.to c.args.bytes.now }) in
+    let last = extends-line t1 t2 (g.L.Link.state c.hand_over.new.link).contents (line_of (record { moment = c.args.moment; what = kinds.Lost c.args.sent.now })) c.write_told.result c.write_told.ensures.wrote in
+    inr (last.text, Appends-trans t0 t1 t2 line last.text c.in_ok-write_sent.ensures.wrote last.written)
+
+pub returns-else-lost-clause-behind : goal.returns-else-lost-clause-behind
+returns-else-lost-clause-behind g c =
+    let t0 = (g.O.Sink.state c.args.out.now).taken in
+    let t1 = (g.O.Sink.state c.write_sent.new.out).taken in
+    let line = line_of (record { moment = c.args.moment; what = kinds.Sent c.args.sent.now c.args.to c.args.bytes.now }) in
+    inr ([], Appends-trans t0 t1 t1 line [] c.in_ok-write_sent.ensures.wrote (Appends-nil t1))
+
+pub returns-in-Err-clause-behind : goal.returns-in-Err-clause-behind
+returns-in-Err-clause-behind g c =
+    inl (not-given _ c.args.bytes.now (g.L.Link.state c.args.link.now).contents (g.L.Link.state c.hand_over.new.link).contents c.in-Err.field-0 c.in-Err.ensures.given)
