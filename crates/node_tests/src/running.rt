@@ -6,7 +6,7 @@ ghost use Rattle.ports.specs.MemoryClock.{NeverFalls};
 use epoch_store::make;
 use ff_ids::{Group, Mask, MemberId};
 use fixtures::{AUTHORITY, Key, Kinds, failing_source, sink};
-use journal::{EventFault, read_event, read_turn, write_event, write_turn};
+use journal::{Event, EventFault, Turn, read_event, read_turn, write_event, write_turn};
 use line_text::BadWord;
 use lms_ots::OtsKind;
 use lms_tree::{PublicKey, TreeKind};
@@ -15,6 +15,7 @@ use ports::{LinkAnswer, MemoryClock, MemoryDisk, MemoryLink, MemorySink};
 use records::{Body, CertBody};
 use secrets::{store_tag, world_secret};
 use std::alloc::Global;
+use std::process::Abort;
 use std::test::Fail;
 
 const NAME: &str = "n.st";
@@ -55,18 +56,35 @@ fn cert_line(alloc: Global, authority: &mut Key, number: u16) -> Result<String, 
     Ok(format!(in alloc; "cert {number} {port} {digits} {signature}\n")?)
 }
 
+/// The lines of the text of member 1 before those of the certificates, which this key signs.
+fn own_lines(alloc: Global, authority: &PublicKey) -> Result<String, Fail> {
+    let secret = hex::encode(alloc, world_secret(&GROUP.tag, 1).as_slice())?;
+    let key = hex::encode(alloc, authority.write().as_slice())?;
+    Ok(format!(in alloc; "{HEAD}self 1 {secret}\nauthority {key}\ntick 100\n")?)
+}
+
+/// Appends the certificates of member 1 and of so many others, and the end.
+fn push_certs(
+    alloc: Global,
+    authority: &mut Key,
+    others: u16,
+    text: &mut String,
+) -> Result<(), Fail>
+    requires { others < 1000 }
+{
+    for other in 0..others + 1 {
+        text.push_str(&cert_line(alloc, authority, other + 1)?)?;
+    }
+    Ok(text.push_str("end\n")?)
+}
+
 /// The text of member 1, with the certificates of it and of so many others.
 fn kit(alloc: Global, others: u16) -> Result<String, Fail>
     requires { others < 1000 }
 {
     let mut authority = Key::of(alloc, &GROUP.tag, AUTHORITY, KINDS)?;
-    let secret = hex::encode(alloc, world_secret(&GROUP.tag, 1).as_slice())?;
-    let key = hex::encode(alloc, authority.public().write().as_slice())?;
-    let mut text = format!(in alloc; "{HEAD}self 1 {secret}\nauthority {key}\ntick 100\n")?;
-    for other in 0..others + 1 {
-        text.push_str(&cert_line(alloc, &mut authority, other + 1)?)?;
-    }
-    text.push_str("end\n")?;
+    let mut text = own_lines(alloc, &authority.public())?;
+    push_certs(alloc, &mut authority, others, &mut text)?;
     Ok(text)
 }
 
@@ -75,11 +93,42 @@ fn key_of_1(alloc: Global) -> Result<PublicKey, Fail> {
     Ok(Key::of(alloc, &GROUP.tag, 1, KINDS)?.public())
 }
 
-/// A disk on which the store of member 1 was made, and that fails at the calls with these numbers behind that.
-fn disk(alloc: Global, key: &PublicKey, fail: &[u64]) -> Result<MemoryDisk, Fail> {
-    let mut disk = fixtures::disk(alloc, fail)?;
-    make(&mut disk, NAME, &store_tag(&GROUP, key), Mask(7)).or(Err("no store"))?;
-    Ok(disk)
+/// The disk and the link over which member 1 is run.
+#[derive(Drop)]
+struct Host {
+    disk: MemoryDisk,
+    link: MemoryLink,
+}
+
+/// A disk and a link whose calls with these numbers fail. On the link nothing comes.
+fn bare_host(
+    alloc: Global,
+    fail: &[u64],
+    fail_sends: &[u64],
+    fail_bind: bool,
+) -> Result<Host, Fail> {
+    let answers: Vec<LinkAnswer> = Vec::new(alloc);
+    let link = MemoryLink::new(alloc, answers, fail_sends.to_vec(alloc)?, fail_bind);
+    let disk = fixtures::disk(alloc, fail)?;
+    Ok(Host { disk, link })
+}
+
+/// Makes the store of the member with this key.
+fn make_store(disk: &mut MemoryDisk, key: &PublicKey) -> Result<(), Fail> {
+    Ok(make(disk, NAME, &store_tag(&GROUP, key), Mask(7)).or(Err("no store"))?)
+}
+
+/// The same where the store of the member with this key was made, by the first calls of the disk.
+fn host_of(
+    alloc: Global,
+    key: &PublicKey,
+    fail: &[u64],
+    fail_sends: &[u64],
+    fail_bind: bool,
+) -> Result<Host, Fail> {
+    let mut host = bare_host(alloc, fail, fail_sends, fail_bind)?;
+    make_store(&mut host.disk, key)?;
+    Ok(host)
 }
 
 /// What a run came to: how it ended, and what was written.
@@ -90,36 +139,45 @@ struct Ran {
 }
 
 /// Runs member 1 for two turns. The clock reads 0, 50 and 250.
-fn run(
-    alloc: Global,
-    text: &str,
-    disk: &mut MemoryDisk,
-    link: &mut MemoryLink,
-) -> Result<Ran, Fail> {
+fn run(alloc: Global, text: &str, host: &mut Host) -> Result<Ran, Fail> {
+    let mut clock = MemoryClock::new([0u64, 50, 250].to_vec(alloc)?);
     let mut input = failing_source(alloc, text, 4096, &[])?;
     let mut out = sink(alloc, 4000)?;
-    let mut clock = MemoryClock::new([0u64, 50, 250].to_vec(alloc)?);
-    let done = run_node(alloc, NAME, 2, &mut input, &mut out, disk, link, &mut clock);
+    let done = run_node(
+        alloc,
+        NAME,
+        2,
+        &mut input,
+        &mut out,
+        &mut host.disk,
+        &mut host.link,
+        &mut clock,
+    );
     Ok(Ran { done, out })
 }
 
-/// A link on which nothing comes, and whose sends of these numbers fail.
-fn link(alloc: Global, fail_sends: &[u64], fail_bind: bool) -> Result<MemoryLink, Fail> {
-    let answers: Vec<LinkAnswer> = Vec::new(alloc);
-    Ok(MemoryLink::new(alloc, answers, fail_sends.to_vec(alloc)?, fail_bind))
+/// Runs member 1 for two turns, with the certificates of so many others.
+fn run_among(alloc: Global, others: u16, host: &mut Host) -> Result<Ran, Fail>
+    requires { others < 1000 }
+{
+    run(alloc, &kit(alloc, others)?, host)
+}
+
+fn is_alone(rt: &impl Abort, alloc: Global, host: &mut Host) -> Result<(), Fail> {
+    let ran = run_among(alloc, 0, host)?;
+    assert_eq!(rt; ran.done, Ok(()));
+    assert!(rt; ran.out.bytes().starts_with(ALONE));
+    assert_eq!(rt; &ran.out.bytes()[ALONE.len()..], b"end\n".as_slice());
+    assert_eq!(rt; host.link.sent().len(), 0);
+    Ok(())
 }
 
 #[test]
 fn a_member_alone_writes_its_journal(rt: HostRuntime) -> Result<(), Fail> {
-    let alloc = rt.alloc();
-    let mut disk = disk(alloc, &key_of_1(alloc)?, &[])?;
-    let mut link = link(alloc, &[], false)?;
-    let ran = run(alloc, &kit(alloc, 0)?, &mut disk, &mut link)?;
-    assert_eq!(rt; ran.done, Ok(()));
-    assert!(rt; ran.out.bytes().starts_with(ALONE));
-    assert_eq!(rt; &ran.out.bytes()[ALONE.len()..], b"end\n".as_slice());
-    assert_eq!(rt; link.sent().len(), 0);
-    Ok(())
+    let mut host = host_of(rt.alloc(), &key_of_1(rt.alloc())?, &[], &[], false)?;
+    let done = is_alone(&rt, rt.alloc(), &mut host);
+    drop(host);
+    done
 }
 
 /// What a line of a journal says.
@@ -132,27 +190,45 @@ enum Said {
     Other,
 }
 
-/// What the line says, if it is the one text of that.
-fn said_by(alloc: Global, line: &str) -> Result<Said, Fail> {
-    let mut text = Vec::new(alloc);
-    let said = match read_event(alloc, line.as_bytes()) {
-        Ok(event) => {
-            write_event(&event, &mut text)?;
-            Said::Event
-        }
-        Err(EventFault::OutOfMemory) => return Err("no memory".into()),
-        Err(EventFault::BadEvent { .. }) => {
-            let Ok(turn) = read_turn(alloc, line.as_bytes()) else {
-                return Ok(Said::Other);
-            };
-            write_turn(&turn, &mut text)?;
-            Said::Turn(turn.number, turn.ticks)
-        }
-    };
-    if text.as_slice() != line.as_bytes() {
+/// The text that was written of what the line says is the line.
+fn is_line(text: &[u8], line: &[u8]) -> Result<(), Fail> {
+    if text != line {
         return Err("another text".into());
     }
-    Ok(said)
+    Ok(())
+}
+
+fn is_text_of_event(alloc: Global, event: &Event, line: &[u8]) -> Result<(), Fail> {
+    let mut text = Vec::new(alloc);
+    write_event(event, &mut text)?;
+    is_line(text.as_slice(), line)
+}
+
+fn is_text_of_turn(alloc: Global, turn: &Turn, line: &[u8]) -> Result<(), Fail> {
+    let mut text = Vec::new(alloc);
+    write_turn(turn, &mut text)?;
+    is_line(text.as_slice(), line)
+}
+
+/// What a line that is no event says, if it is the one text of that.
+fn said_by_turn(alloc: Global, line: &[u8]) -> Result<Said, Fail> {
+    let Ok(turn) = read_turn(alloc, line) else {
+        return Ok(Said::Other);
+    };
+    is_text_of_turn(alloc, &turn, line)?;
+    Ok(Said::Turn(turn.number, turn.ticks))
+}
+
+/// What the line says, if it is the one text of that.
+fn said_by(alloc: Global, line: &str) -> Result<Said, Fail> {
+    match read_event(alloc, line.as_bytes()) {
+        Ok(event) => {
+            is_text_of_event(alloc, &event, line.as_bytes())?;
+            Ok(Said::Event)
+        }
+        Err(EventFault::OutOfMemory) => Err("no memory".into()),
+        Err(EventFault::BadEvent { .. }) => said_by_turn(alloc, line.as_bytes()),
+    }
 }
 
 /// What each line of the journal says.
@@ -165,58 +241,118 @@ fn said_in(alloc: Global, journal: &[u8]) -> Result<Vec<Said>, Fail> {
     Ok(said)
 }
 
-/// What the journal of member 1 says, of whom so many others are certified and whose first send fails.
-fn life_of_1(alloc: Global, others: u16) -> Result<Vec<Said>, Fail>
+/// The journal of member 1, of whom so many others are certified, says this.
+fn says(
+    rt: &impl Abort,
+    alloc: Global,
+    others: u16,
+    host: &mut Host,
+    wanted: &[Said],
+) -> Result<(), Fail>
     requires { others < 1000 }
 {
-    let mut disk = disk(alloc, &key_of_1(alloc)?, &[])?;
-    let mut link = link(alloc, &[0], false)?;
-    let ran = run(alloc, &kit(alloc, others)?, &mut disk, &mut link)?;
-    said_in(alloc, ran.out.bytes())
+    let ran = run_among(alloc, others, host)?;
+    let said = said_in(alloc, ran.out.bytes())?;
+    assert_eq!(rt; said.as_slice(), wanted);
+    Ok(())
 }
+
+/// The same of a life whose first send fails.
+fn life_says(rt: &impl Abort, alloc: Global, others: u16, wanted: &[Said]) -> Result<(), Fail>
+    requires { others < 1000 }
+{
+    let mut host = host_of(alloc, &key_of_1(alloc)?, &[], &[0], false)?;
+    let done = says(rt, alloc, others, &mut host, wanted);
+    drop(host);
+    done
+}
+
+const SAID_ALONE: [Said; 5] = [
+    Said::Event,
+    Said::Event,
+    Said::Turn(1, 0),
+    Said::Turn(2, 2),
+    Said::Other,
+];
+
+const SAID_OF_TWO: [Said; 8] = [
+    Said::Event,
+    Said::Event,
+    Said::Turn(1, 0),
+    Said::Turn(2, 2),
+    Said::Event,
+    Said::Event,
+    Said::Event,
+    Said::Other,
+];
 
 #[test]
 fn each_line_of_a_journal_is_read_back(rt: HostRuntime) -> Result<(), Fail> {
-    let alone = life_of_1(rt.alloc(), 0)?;
-    assert_eq!(rt;
-        alone.as_slice(),
-        [
-            Said::Event,
-            Said::Event,
-            Said::Turn(1, 0),
-            Said::Turn(2, 2),
-            Said::Other
-        ]
-        .as_slice()
-    );
-    let of_two = life_of_1(rt.alloc(), 1)?;
-    assert_eq!(rt;
-        of_two.as_slice(),
-        [
-            Said::Event,
-            Said::Event,
-            Said::Turn(1, 0),
-            Said::Turn(2, 2),
-            Said::Event,
-            Said::Event,
-            Said::Event,
-            Said::Other
-        ]
-        .as_slice()
-    );
+    life_says(&rt, rt.alloc(), 0, &SAID_ALONE)?;
+    life_says(&rt, rt.alloc(), 1, &SAID_OF_TWO)
+}
+
+/// The run ends so, and writes nothing.
+fn halts(
+    rt: &impl Abort,
+    alloc: Global,
+    text: &str,
+    host: &mut Host,
+    wanted: NodeHalt,
+) -> Result<(), Fail> {
+    let ran = run(alloc, text, host)?;
+    assert_eq!(rt; ran.done, Err(wanted));
+    assert_eq!(rt; ran.out.bytes(), b"".as_slice());
+    Ok(())
+}
+
+fn leaves_all(rt: &impl Abort, alloc: Global, host: &mut Host) -> Result<(), Fail> {
+    halts(rt, alloc, &kit(alloc, 0)?, host, NodeHalt::LinkFault)?;
+    assert_eq!(rt; host.disk.image().len(), 58);
     Ok(())
 }
 
 #[test]
 fn a_port_that_is_taken_leaves_all(rt: HostRuntime) -> Result<(), Fail> {
-    let alloc = rt.alloc();
-    let mut disk = disk(alloc, &key_of_1(alloc)?, &[4])?;
-    let mut link = link(alloc, &[], true)?;
-    let ran = run(alloc, &kit(alloc, 0)?, &mut disk, &mut link)?;
-    assert_eq!(rt; ran.done, Err(NodeHalt::LinkFault));
-    assert_eq!(rt; ran.out.bytes(), b"".as_slice());
-    assert_eq!(rt; disk.image().len(), 58);
+    let mut host = host_of(rt.alloc(), &key_of_1(rt.alloc())?, &[4], &[], true)?;
+    let done = leaves_all(&rt, rt.alloc(), &mut host);
+    drop(host);
+    done
+}
+
+/// The life does not begin where the disk fails at this call.
+fn halts_at(
+    rt: &impl Abort,
+    alloc: Global,
+    key: &PublicKey,
+    text: &str,
+    call: u64,
+) -> Result<(), Fail> {
+    let mut host = host_of(alloc, key, &[call], &[], false)?;
+    let done = halts(rt, alloc, text, &mut host, NodeHalt::StoreFault);
+    drop(host);
+    done
+}
+
+/// The run ends well.
+fn ends(rt: &impl Abort, alloc: Global, text: &str, host: &mut Host) -> Result<(), Fail> {
+    let ran = run(alloc, text, host)?;
+    assert_eq!(rt; ran.done, Ok(()));
     Ok(())
+}
+
+/// The run ends well where the disk fails at this call.
+fn ends_at(
+    rt: &impl Abort,
+    alloc: Global,
+    key: &PublicKey,
+    text: &str,
+    call: u64,
+) -> Result<(), Fail> {
+    let mut host = host_of(alloc, key, &[call], &[], false)?;
+    let done = ends(rt, alloc, text, &mut host);
+    drop(host);
+    done
 }
 
 #[test]
@@ -225,47 +361,52 @@ fn a_disk_that_fails_ends_the_life_before_it_begins(rt: HostRuntime) -> Result<(
     let key = key_of_1(alloc)?;
     let text = kit(alloc, 0)?;
     for call in [4u64, 12] {
-        let mut disk = disk(alloc, &key, &[call])?;
-        let mut link = link(alloc, &[], false)?;
-        let ran = run(alloc, &text, &mut disk, &mut link)?;
-        assert_eq!(rt; ran.done, Err(NodeHalt::StoreFault));
-        assert_eq!(rt; ran.out.bytes(), b"".as_slice());
+        halts_at(&rt, alloc, &key, text.as_str(), call)?;
     }
-    let mut disk = disk(alloc, &key, &[13])?;
-    let mut link = link(alloc, &[], false)?;
-    let ran = run(alloc, &text, &mut disk, &mut link)?;
-    assert_eq!(rt; ran.done, Ok(()));
-    Ok(())
+    ends_at(&rt, alloc, &key, text.as_str(), 13)
 }
 
-#[test]
-fn a_send_that_fails_is_lost(rt: HostRuntime) -> Result<(), Fail> {
-    let alloc = rt.alloc();
-    let mut disk = disk(alloc, &key_of_1(alloc)?, &[])?;
-    let mut link = link(alloc, &[0], false)?;
-    let ran = run(alloc, &kit(alloc, 1)?, &mut disk, &mut link)?;
+/// The link was given two datagrams, each for the port of 2.
+fn gave_two(rt: &impl Abort, link: &MemoryLink) {
+    assert_eq!(rt; link.sent().len(), 2);
+    for (port, _) in link.sent() {
+        assert_eq!(rt; *port, 20_002);
+    }
+}
+
+fn loses(rt: &impl Abort, alloc: Global, host: &mut Host) -> Result<(), Fail> {
+    let ran = run_among(alloc, 1, host)?;
     assert_eq!(rt; ran.done, Ok(()));
     assert!(rt; ran.out.bytes().starts_with(ALONE));
     let rest = &ran.out.bytes()[ALONE.len()..];
     assert!(rt; rest.starts_with(b"at 1 sent 0 2 4646"));
     assert!(rt; rest.ends_with(b"\nend\n"));
-    assert_eq!(rt; link.sent().len(), 2);
-    for (port, _) in link.sent() {
-        assert_eq!(rt; *port, 20_002);
-    }
+    gave_two(rt, &host.link);
     Ok(())
 }
 
 #[test]
-fn a_text_without_its_end_starts_nothing(rt: HostRuntime) -> Result<(), Fail> {
-    let alloc = rt.alloc();
-    let mut disk = disk(alloc, &key_of_1(alloc)?, &[4])?;
-    let mut link = link(alloc, &[], true)?;
-    let ran = run(alloc, HEAD, &mut disk, &mut link)?;
+fn a_send_that_fails_is_lost(rt: HostRuntime) -> Result<(), Fail> {
+    let mut host = host_of(rt.alloc(), &key_of_1(rt.alloc())?, &[], &[0], false)?;
+    let done = loses(&rt, rt.alloc(), &mut host);
+    drop(host);
+    done
+}
+
+fn refuses(rt: &impl Abort, alloc: Global, host: &mut Host) -> Result<(), Fail> {
+    let ran = run(alloc, HEAD, host)?;
     let refused = NodeHalt::Refused {
         line: 4,
         word: BadWord::End,
     };
     assert_eq!(rt; ran.done, Err(refused));
     Ok(())
+}
+
+#[test]
+fn a_text_without_its_end_starts_nothing(rt: HostRuntime) -> Result<(), Fail> {
+    let mut host = host_of(rt.alloc(), &key_of_1(rt.alloc())?, &[4], &[], true)?;
+    let done = refuses(&rt, rt.alloc(), &mut host);
+    drop(host);
+    done
 }
