@@ -37,18 +37,35 @@ pub fn key_of(alloc: Global, number: u16) -> Result<Key, Fail> {
     Ok(Key::of(alloc, &GROUP.tag, number, KINDS)?)
 }
 
-/// Member 1, whose port is 20,001, begins its first life. Member 2 has the port 20,002.
-fn begin(alloc: Global, disk: &mut MemoryDisk) -> Result<Node, Fail>
-    ensures { IfOk result (λ node. node.ended ≡ false) }
-{
+/// Members 1 and 2, whose ports are 20,001 and 20,002.
+fn crew_of_two(alloc: Global) -> Result<Crew, Fail> {
     let mut crew = Crew::open(alloc, GROUP, KINDS)?;
     for number in 1..=2 {
         let public = key_of(alloc, number)?.public();
         crew.certify(alloc, MemberId::new(number), public)?;
     }
+    Ok(crew)
+}
+
+/// Member 1 of this crew begins its first life.
+fn begin_in(
+    alloc: Global,
+    crew: &Crew,
+    disk: &mut MemoryDisk,
+    events: &mut Events,
+) -> Result<Node, Fail>
+    ensures { IfOk result (λ node. node.ended ≡ false) }
+{
     let key = key_of(alloc, 1)?;
-    let mut events = Events::new(alloc);
-    Ok(crew.begin(alloc, MemberId::new(1), key, disk, &mut events)?)
+    Ok(crew.begin(alloc, MemberId::new(1), key, disk, events)?)
+}
+
+/// Member 1 begins its first life.
+fn begin(alloc: Global, disk: &mut MemoryDisk) -> Result<Node, Fail>
+    ensures { IfOk result (λ node. node.ended ≡ false) }
+{
+    let crew = crew_of_two(alloc)?;
+    begin_in(alloc, &crew, disk, &mut Events::new(alloc))
 }
 
 /// What a node is served with: what comes on its link, which sends fail, what the clock reads, and whether its disk stops
@@ -146,14 +163,24 @@ fn serve_node(
     })
 }
 
+/// The first life of member 1, whose disk this is, served so.
+fn serve_on(alloc: Global, disk: &mut MemoryDisk, with: Turns) -> Result<Served, Fail>
+    requires times { NeverFalls 0 with.times.items }
+{
+    let mut node = begin(alloc, disk)?;
+    let served = serve_node(alloc, &mut node, disk, with);
+    drop(node);
+    Ok(served?)
+}
+
 /// The first life of member 1, served so.
 pub fn serve_first_life(alloc: Global, with: Turns) -> Result<Served, Fail>
     requires times { NeverFalls 0 with.times.items }
 {
     let mut disk = MemoryDisk::new(alloc, 700, 200, Vec::new(alloc))?;
-    let mut node = begin(alloc, &mut disk)?;
-    let served = serve_node(alloc, &mut node, &mut disk, with);
-    Ok(served?)
+    let served = serve_on(alloc, &mut disk, with);
+    drop(disk);
+    served
 }
 
 /// This datagram comes.
