@@ -72,18 +72,48 @@ fn learns_of_2(alloc: Global, node: &mut Player, key: &mut Key) -> Result<(), Fa
     Ok(node.deliver(alloc, &first_note(alloc, key)?)?)
 }
 
+/// The key of 1, of which so many leaves are spent.
+fn own_key(alloc: Global, spent: u8) -> Result<Key, Fail> {
+    let mut own = key_of(alloc, 1)?;
+    spend(alloc, &mut own, spent)?;
+    Ok(own)
+}
+
+/// So many leaves of the key sign.
+fn spend(alloc: Global, key: &mut Key, count: u8) -> Result<(), Fail> {
+    for _ in 0..count {
+        key.sign(alloc, &GROUP, note(1, 1, 7))?;
+    }
+    Ok(())
+}
+
+/// Appends the note that stands in these bytes, and the signature of the key's next leaf.
+fn push_signed(
+    alloc: Global,
+    key: &mut Key,
+    note_bytes: &[u8],
+    body: Body,
+    bytes: &mut Vec<u8>,
+) -> Result<(), Fail>
+    requires { HasPort body }
+{
+    let record = key.sign(alloc, &GROUP, body)?;
+    bytes.extend_from_slice(note_bytes)?;
+    Ok(bytes.extend_from_slice(record.rec().signature.as_slice())?)
+}
+
 /// A records datagram of 1 with the note that stands in these bytes, signed by its leaf of this index.
 fn answer(alloc: Global, index: u8, note_bytes: &[u8], body: Body) -> Result<Vec<u8>, Fail>
     requires { HasPort body }
 {
-    let mut own = key_of(alloc, 1)?;
-    for _ in 0..index {
-        own.sign(alloc, &GROUP, note(1, 1, 7))?;
-    }
-    let record = own.sign(alloc, &GROUP, body)?;
     let mut bytes = Vec::from_slice(alloc, &HEAD)?;
-    bytes.extend_from_slice(note_bytes)?;
-    bytes.extend_from_slice(record.rec().signature.as_slice())?;
+    push_signed(
+        alloc,
+        &mut own_key(alloc, index)?,
+        note_bytes,
+        body,
+        &mut bytes,
+    )?;
     Ok(bytes)
 }
 

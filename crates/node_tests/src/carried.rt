@@ -1,8 +1,8 @@
 //! Nodes between which datagrams are carried by hand.
 
-use crate::scene::{crew_of, key_of, member, note, single, start};
+use crate::scene::{crew_of, member, start, teach};
 use ff_ids::{MemberId, NoteBody};
-use fixtures::{Player, Players};
+use fixtures::{Crew, Player, Players};
 use std::alloc::Global;
 use std::process::Abort;
 use std::test::Fail;
@@ -57,11 +57,16 @@ fn turn(alloc: Global, nodes: &mut Players, place: usize) -> Result<(), Fail> {
     flow(alloc, nodes, &mut under_way)
 }
 
+/// The member of this number starts, and is the last of the nodes.
+fn join(alloc: Global, crew: &Crew, nodes: &mut Players, number: u8) -> Result<(), Fail> {
+    Ok(nodes.push(start(alloc, crew, number)?)?)
+}
+
 /// Members 1, 2 and 3 start.
 fn start_three(alloc: Global, nodes: &mut Players) -> Result<(), Fail> {
     let crew = crew_of(alloc, 3)?;
     for number in 1..=3 {
-        nodes.push(start(alloc, &crew, number)?)?;
+        join(alloc, &crew, nodes, number)?;
     }
     Ok(())
 }
@@ -122,18 +127,11 @@ fn notes(alloc: Global, node: &Player) -> Result<String, Fail> {
     Ok(text)
 }
 
-/// The node takes this note, which its member's key signs.
-fn teach(alloc: Global, node: &mut Player, of: u8, epoch: u8) -> Result<(), Fail> {
-    let mut key = key_of(alloc, of)?;
-    let bytes = single(alloc, of, &mut key, note(of, epoch, 7))?;
-    Ok(node.deliver(alloc, &bytes)?)
-}
-
 /// Members 1 and 2 of four start.
 fn start_two(alloc: Global, nodes: &mut Players) -> Result<(), Fail> {
     let crew = crew_of(alloc, 4)?;
-    nodes.push(start(alloc, &crew, 1)?)?;
-    Ok(nodes.push(start(alloc, &crew, 2)?)?)
+    join(alloc, &crew, nodes, 1)?;
+    join(alloc, &crew, nodes, 2)
 }
 
 /// 1 has the second note of 3, and 2 has the first, and the one of 4.
@@ -148,27 +146,43 @@ fn teach_two(alloc: Global, nodes: &mut Players) -> Result<(), Fail> {
     Ok(())
 }
 
-/// The summary that the first node sends at its next tick, as if it went to member 2.
-fn summary_to_2(alloc: Global, nodes: &mut Players) -> Result<UnderWay, Fail> {
-    let mut under_way = Vec::new(alloc);
+/// The last datagram that the node's last call sent.
+fn last_sent(alloc: Global, node: &Player) -> Result<Vec<u8>, Fail> {
+    let Some((_, bytes)) = node.sent().last() else {
+        return Err("no summary".into());
+    };
+    Ok(bytes.as_slice().to_vec(alloc)?)
+}
+
+/// The summary that the first node sends at its next tick is on its way, as if it went to member 2.
+fn push_summary(alloc: Global, nodes: &mut Players, under_way: &mut UnderWay) -> Result<(), Fail> {
     let Some(node) = nodes.get(0) else {
         return Err("no node".into());
     };
     node.tick(alloc)?;
-    let Some((_, bytes)) = node.sent().last() else {
-        return Err("no summary".into());
-    };
-    let copy = bytes.as_slice().to_vec(alloc)?;
-    under_way.push((member(2), copy)).or(Err("memory"))?;
-    Ok(under_way)
+    let copy = last_sent(alloc, node)?;
+    Ok(under_way.push((member(2), copy)).or(Err("memory"))?)
 }
 
-/// Each node has the newest note of all four.
+/// Hands over that summary, with all that follows from it.
+fn carry_summary(alloc: Global, nodes: &mut Players) -> Result<(), Fail> {
+    let mut under_way = Vec::new(alloc);
+    push_summary(alloc, nodes, &mut under_way)?;
+    flow(alloc, nodes, &mut under_way)
+}
+
+/// The node has the newest note of all four.
+fn knows_all(rt: &impl Abort, alloc: Global, node: &Player) -> Result<(), Fail> {
+    let found = notes(alloc, node)?;
+    assert_eq!(rt; found.as_str(), "1 7\n1 7\n2 7\n1 7\n");
+    Ok(())
+}
+
+/// Each node has them.
 fn know_all(rt: &impl Abort, alloc: Global, nodes: &mut Players) -> Result<(), Fail> {
     for place in 0..2 {
         if let Some(node) = nodes.get(place) {
-            let found = notes(alloc, node)?;
-            assert_eq!(rt; found.as_str(), "1 7\n1 7\n2 7\n1 7\n");
+            knows_all(rt, alloc, node)?;
         }
     }
     Ok(())
@@ -177,8 +191,7 @@ fn know_all(rt: &impl Abort, alloc: Global, nodes: &mut Players) -> Result<(), F
 fn exchange(rt: &impl Abort, alloc: Global, nodes: &mut Players) -> Result<(), Fail> {
     start_two(alloc, nodes)?;
     teach_two(alloc, nodes)?;
-    let mut under_way = summary_to_2(alloc, nodes)?;
-    flow(alloc, nodes, &mut under_way)?;
+    carry_summary(alloc, nodes)?;
     know_all(rt, alloc, nodes)
 }
 

@@ -1,7 +1,7 @@
 //! Datagrams that a correct member wouldn't send, or that come late.
 
 use crate::scene::{
-    GROUP, OTHER, append, first_of_two, head, key_of, note, single, tells, tells_and_sends,
+    GROUP, OTHER, append, first_of_two, head, key_of, note, teach, tells, tells_and_sends,
 };
 use fixtures::Player;
 use std::alloc::Global;
@@ -116,9 +116,7 @@ fn tick_and_pong(
     epoch: u8,
     wanted: &str,
 ) -> Result<(), Fail> {
-    let mut key = key_of(alloc, 2)?;
-    let bytes = single(alloc, 2, &mut key, note(2, epoch, 7))?;
-    node.deliver(alloc, &bytes)?;
+    teach(alloc, node, 2, epoch)?;
     node.tick(alloc)?;
     tells(rt, alloc, node, &PONG, wanted)
 }

@@ -39,19 +39,32 @@ const HEAD: &str = "fireflies 1 kit\ngroup 1 4 1 2 00000000000000000000000000000
 const ALONE: &[u8] =
     b"at 0 spent 0 note 1 1 7\nat 0 entered 1\nturn 1 nothing ticks 0\nturn 2 nothing ticks 2\n";
 
-/// The line of a certificate of this member, which has the port 20,000 and its number.
-fn cert_line(alloc: Global, authority: &mut Key, number: u16) -> Result<String, Fail>
+/// The digits of the authority's signature under the certificate of this member, which has this key, and the port 20,000 and
+/// its number.
+fn signature_digits(
+    alloc: Global,
+    authority: &mut Key,
+    number: u16,
+    key: PublicKey,
+) -> Result<String, Fail>
     requires { number < 1024 }
 {
-    let key = Key::of(alloc, &GROUP.tag, number, KINDS)?.public();
     let cert = CertBody {
         member: MemberId::new(number),
         port: 20_000 + number,
         key,
     };
     let checked = authority.sign(alloc, &GROUP, Body::Certificate(cert))?;
+    Ok(hex::encode(alloc, checked.rec().signature.as_slice())?)
+}
+
+/// The line of the certificate of this member.
+fn cert_line(alloc: Global, authority: &mut Key, number: u16) -> Result<String, Fail>
+    requires { number < 1024 }
+{
+    let key = Key::of(alloc, &GROUP.tag, number, KINDS)?.public();
+    let signature = signature_digits(alloc, authority, number, key)?;
     let digits = hex::encode(alloc, key.write().as_slice())?;
-    let signature = hex::encode(alloc, checked.rec().signature.as_slice())?;
     let port = 20_000 + number;
     Ok(format!(in alloc; "cert {number} {port} {digits} {signature}\n")?)
 }

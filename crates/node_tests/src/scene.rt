@@ -122,6 +122,18 @@ pub fn single(alloc: Global, from: u8, key: &mut Key, body: Body) -> Result<Vec<
     Ok(bytes)
 }
 
+/// A records datagram of the member with its note of this epoch, which its key signs.
+fn own_note(alloc: Global, of: u8, epoch: u8) -> Result<Vec<u8>, Fail> {
+    let mut key = key_of(alloc, of)?;
+    single(alloc, of, &mut key, note(of, epoch, 7))
+}
+
+/// The node takes this note, which its member's key signs.
+pub fn teach(alloc: Global, node: &mut Player, of: u8, epoch: u8) -> Result<(), Fail> {
+    let bytes = own_note(alloc, of, epoch)?;
+    Ok(node.deliver(alloc, &bytes)?)
+}
+
 /// The last call reported this, each event with a line feed.
 pub fn told(rt: &impl Abort, alloc: Global, node: &Player, wanted: &str) -> Result<(), Fail> {
     let text = node.told(alloc)?;
