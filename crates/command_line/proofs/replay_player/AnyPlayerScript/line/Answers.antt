@@ -6,4 +6,4 @@ returns-in-Some-clause-line c = rw c.in-Some.is c.line.ensures.line
 
 pub returns-in-None-clause-line : goal.returns-in-None-clause-line
 returns-in-None-clause-line c =
-    rw c.in-None.is (first-line c.new-player.result c.line-answer.new.self c.args.bytes.now c.line-answer.new.text.items c.line-answer.result c.new-player.ensures.owes c.line-answer.ensures.line)
+    rw (c.in-None.is, c.replace.ensures.after) (first-line c.new-player.result c.line-answer.new.self c.args.bytes.now c.line-answer.new.text.items c.line-answer.result c.new-player.ensures.owes c.line-answer.ensures.line)
