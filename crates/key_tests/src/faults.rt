@@ -80,14 +80,18 @@ const NOTES: [(u8, u8, u32, u8, &str); 23] = [
     (5, 2, 7, 5, "ok"),
 ];
 
+fn compare_notes(rt: &impl Abort, alloc: Global, scene: &mut Scene) -> Result<(), Fail> {
+    for (member, epoch, mask, by, wanted) in NOTES {
+        let body = Body::Note(note(member, epoch, mask));
+        compare(rt, alloc, scene, body, by, wanted)?;
+    }
+    Ok(())
+}
+
 #[test]
 fn notes_have_their_first_fault(rt: HostRuntime) -> Result<(), Fail> {
     let mut scene = Scene::open(rt.alloc())?;
-    for (member, epoch, mask, by, wanted) in NOTES {
-        let body = Body::Note(note(member, epoch, mask));
-        compare(&rt, rt.alloc(), &mut scene, body, by, wanted)?;
-    }
-    Ok(())
+    compare_notes(&rt, rt.alloc(), &mut scene)
 }
 
 /// Accuser, accused, epoch, ring and signer.
@@ -148,14 +152,18 @@ const ACCUSATIONS: [(u8, u8, u8, u8, u8, &str); 47] = [
     (1, 2, 2, 2, 1, "ok"),
 ];
 
+fn compare_accusations(rt: &impl Abort, alloc: Global, scene: &mut Scene) -> Result<(), Fail> {
+    for (accuser, accused, epoch, ring, by, wanted) in ACCUSATIONS {
+        let body = Body::Accusation(accusation(accuser, accused, epoch, ring));
+        compare(rt, alloc, scene, body, by, wanted)?;
+    }
+    Ok(())
+}
+
 #[test]
 fn accusations_have_their_first_fault(rt: HostRuntime) -> Result<(), Fail> {
     let mut scene = Scene::open(rt.alloc())?;
-    for (accuser, accused, epoch, ring, by, wanted) in ACCUSATIONS {
-        let body = Body::Accusation(accusation(accuser, accused, epoch, ring));
-        compare(&rt, rt.alloc(), &mut scene, body, by, wanted)?;
-    }
-    Ok(())
+    compare_accusations(&rt, rt.alloc(), &mut scene)
 }
 
 /// Member, port, whose key, and signer, 0 being the authority.
@@ -169,14 +177,18 @@ const CERTIFICATES: [(u8, u16, u8, u8, &str); 6] = [
     (6, 20_002, 2, 0, "ok"),
 ];
 
+fn compare_certificates(rt: &impl Abort, alloc: Global, scene: &mut Scene) -> Result<(), Fail> {
+    for (member, port, key, by, wanted) in CERTIFICATES {
+        let body = Body::Certificate(certificate(member, port, scene.key(key)?));
+        compare(rt, alloc, scene, body, by, wanted)?;
+    }
+    Ok(())
+}
+
 #[test]
 fn certificates_have_their_first_fault(rt: HostRuntime) -> Result<(), Fail> {
     let mut scene = Scene::open(rt.alloc())?;
-    for (member, port, key, by, wanted) in CERTIFICATES {
-        let body = Body::Certificate(certificate(member, port, scene.key(key)?));
-        compare(&rt, rt.alloc(), &mut scene, body, by, wanted)?;
-    }
-    Ok(())
+    compare_certificates(&rt, rt.alloc(), &mut scene)
 }
 
 /// Another certificate of 2 is refused with the one that is kept, whoever signed: port, whose key, and signer.
@@ -187,18 +199,33 @@ const OTHERS: [(u16, u8, u8); 4] = [
     (20_002, 1, 1),
 ];
 
-#[test]
-fn another_certificate_is_refused_with_the_kept_one(rt: HostRuntime) -> Result<(), Fail> {
-    let mut scene = Scene::open(rt.alloc())?;
+/// The first fault of the certificate of 2 with this port and key, so signed.
+fn fault_of_other(
+    alloc: Global,
+    scene: &mut Scene,
+    port: u16,
+    key: u8,
+    by: u8,
+) -> Result<Option<Fault>, Fail> {
+    let body = Body::Certificate(certificate(2, port, scene.key(key)?));
+    let rec = scene.sign(alloc, by, body)?;
+    scene.fault(rec, by)
+}
+
+fn compare_others(rt: &impl Abort, alloc: Global, scene: &mut Scene) -> Result<(), Fail> {
     let kept = scene.key(2)?.write();
     for (port, key, by) in OTHERS {
-        let body = Body::Certificate(certificate(2, port, scene.key(key)?));
-        let rec = scene.sign(rt.alloc(), by, body)?;
         let wanted = Fault::OtherCertificate {
             port: 20_002,
             key: kept,
         };
-        assert_eq!(rt; scene.fault(rec, by)?, Some(wanted));
+        assert_eq!(rt; fault_of_other(alloc, scene, port, key, by)?, Some(wanted));
     }
     Ok(())
+}
+
+#[test]
+fn another_certificate_is_refused_with_the_kept_one(rt: HostRuntime) -> Result<(), Fail> {
+    let mut scene = Scene::open(rt.alloc())?;
+    compare_others(&rt, rt.alloc(), &mut scene)
 }

@@ -77,13 +77,23 @@ pub struct Scene {
     keys: Vec<Key>,
 }
 
+fn add_key(alloc: Global, keys: &mut Vec<Key>, number: u16) -> Result<(), Fail> {
+    let key = Key::of(alloc, &TAG, number)?;
+    keys.push(key)?;
+    Ok(())
+}
+
+fn add_keys(alloc: Global, keys: &mut Vec<Key>) -> Result<(), Fail> {
+    for number in [AUTHORITY, 1, 2, 3, 4, 5, 6] {
+        add_key(alloc, keys, number)?;
+    }
+    Ok(())
+}
+
 /// The authority's key, and those of 1 to 6.
 fn make_keys(alloc: Global) -> Result<Vec<Key>, Fail> {
     let mut keys = Vec::new(alloc);
-    keys.push(Key::of(alloc, &TAG, AUTHORITY)?)?;
-    for number in 1..7u16 {
-        keys.push(Key::of(alloc, &TAG, number)?)?;
-    }
+    add_keys(alloc, &mut keys)?;
     Ok(keys)
 }
 
@@ -114,7 +124,8 @@ fn public_keys(keys: &[Key]) -> Result<[PublicKey; 5], Fail> {
 }
 
 /// The certificates of 1 to 5, with these keys.
-fn roster_of(alloc: Global, keys: &[PublicKey; 5]) -> Result<Roster, Fail> {
+fn roster_of(alloc: Global, keys: &[Key]) -> Result<Roster, Fail> {
+    let keys = public_keys(keys)?;
     let mut roster = Roster::open(alloc)?;
     keep(&mut roster, certificate(1, 20_001, keys[0]));
     keep(&mut roster, certificate(2, 20_002, keys[1]));
@@ -130,11 +141,11 @@ fn joined(alloc: Global) -> Result<Membership, Fail>
     ensures moment { IfOk result (λ life. life.moment ≡ 0) }
 {
     let mut life = Membership::open(alloc, GROUP)?;
-    life.add_member(member(1), hash_places(&GROUP, member(1)))?;
-    life.add_member(member(2), hash_places(&GROUP, member(2)))?;
-    life.add_member(member(3), hash_places(&GROUP, member(3)))?;
-    life.add_member(member(4), hash_places(&GROUP, member(4)))?;
-    life.add_member(member(5), hash_places(&GROUP, member(5)))?;
+    life.add_member(member(1), hash_places(&GROUP, member(1)))
+        .and(life.add_member(member(2), hash_places(&GROUP, member(2))))
+        .and(life.add_member(member(3), hash_places(&GROUP, member(3))))
+        .and(life.add_member(member(4), hash_places(&GROUP, member(4))))
+        .and(life.add_member(member(5), hash_places(&GROUP, member(5))))?;
     Ok(life)
 }
 
@@ -144,20 +155,21 @@ fn with_notes(alloc: Global, mut life: Membership) -> Result<Membership, Fail>
     ensures { IfOk result (λ later. later.group ≡ life.group) }
 {
     let mut out = Changes::new(alloc)?;
-    life.put_note(note(1, 1, 7), &mut out)?;
-    life.put_note(note(2, 2, 6), &mut out)?;
-    life.put_note(note(3, 1, 7), &mut out)?;
-    life.put_note(note(5, 1, 6), &mut out)?;
-    life.put_accusation(accusation(3, 5, 1, 1))?;
+    let before = life
+        .put_note(note(1, 1, 7), &mut out)
+        .and(life.put_note(note(2, 2, 6), &mut out))
+        .and(life.put_note(note(3, 1, 7), &mut out))
+        .and(life.put_note(note(5, 1, 6), &mut out))
+        .and(life.put_accusation(accusation(3, 5, 1, 1)));
     life.tick(&mut out);
-    life.put_accusation(accusation(2, 1, 1, 1))?;
+    before.and(life.put_accusation(accusation(2, 1, 1, 1)))?;
     Ok(life)
 }
 
 impl Scene {
     pub fn open(alloc: Global) -> Result<Scene, Fail> {
         let keys = make_keys(alloc)?;
-        let roster = roster_of(alloc, &public_keys(&keys)?)?;
+        let roster = roster_of(alloc, &keys)?;
         let life = with_notes(alloc, joined(alloc)?)?;
         Ok(Scene { roster, life, keys })
     }

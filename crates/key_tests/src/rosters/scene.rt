@@ -78,15 +78,17 @@ fn admit(roster: &mut Roster, life: &mut Membership, cert: CertBody) -> Result<(
 impl Scene {
     /// The three have joined, with notes of epoch 1 and the rings 0 to 2.
     pub fn open(alloc: Global) -> Result<Scene, Fail> {
+        let mut out = Changes::new(alloc)?;
         let mut roster = Roster::open(alloc)?;
         let mut life = Membership::open(alloc, group())?;
-        admit(&mut roster, &mut life, certificate(1, 20001, &KEY_OF_1))?;
-        admit(&mut roster, &mut life, certificate(2, 20002, &KEY_OF_2))?;
-        admit(&mut roster, &mut life, certificate(3, 20003, &KEY_OF_3))?;
-        let mut out = Changes::new(alloc)?;
-        life.put_note(note(1, 0, 7), &mut out)?;
-        life.put_note(note(2, 0, 7), &mut out)?;
-        life.put_note(note(3, 0, 7), &mut out)?;
+        let joins = admit(&mut roster, &mut life, certificate(1, 20001, &KEY_OF_1))
+            .and(admit(&mut roster, &mut life, certificate(2, 20002, &KEY_OF_2)))
+            .and(admit(&mut roster, &mut life, certificate(3, 20003, &KEY_OF_3)));
+        let notes = life
+            .put_note(note(1, 0, 7), &mut out)
+            .and(life.put_note(note(2, 0, 7), &mut out))
+            .and(life.put_note(note(3, 0, 7), &mut out));
+        joins.and(notes)?;
         Ok(Scene { roster, life })
     }
 
