@@ -68,30 +68,51 @@ fn field_of(starts: &[usize], cut: usize) -> usize {
     place
 }
 
-/// The record is read from what was written, with bytes behind it left unread, and from no less.
-fn read_back(rt: &impl Abort, alloc: Global, body: Body, starts: &[usize]) -> Result<(), Fail>
+/// What a record of the body is written as.
+fn written(alloc: Global, body: Body) -> Result<Vec<u8>, Fail>
     requires { HasPort body }
 {
     let rec = record(alloc, body)?;
     let mut bytes = Vec::new(alloc);
     write_record(&rec, &mut bytes)?;
-    let written = bytes.len();
-    bytes.push(0xff)?;
-    let Ok((again, taken)) = read_record(alloc, bytes.as_slice()) else {
+    Ok(bytes)
+}
+
+fn fault_of(alloc: Global, bytes: &[u8]) -> Option<FormFault> {
+    read_record(alloc, bytes).err()
+}
+
+/// A record of the body is read from the first so many of the bytes.
+fn compare_read(rt: &impl Abort, alloc: Global, bytes: &[u8], body: Body, length: usize) {
+    let Ok((again, taken)) = read_record(alloc, bytes) else {
         panic!(rt; "the record is read");
     };
-    assert_eq!(rt; taken, written);
+    assert_eq!(rt; taken, length);
     assert_eq!(rt; again.body, body);
     assert_eq!(rt; again.signature.as_slice(), [0xa5u8; 5].as_slice());
-    bytes.pop();
+}
+
+/// Each cut of the bytes is refused where the field begins that it falls in.
+fn compare_cuts(rt: &impl Abort, alloc: Global, bytes: &[u8], starts: &[usize]) {
     for cut in 0..bytes.len() {
+        let place = field_of(starts, cut);
         assert_eq!(rt;
-            read_record(alloc, &bytes[..cut]).err(),
-            Some(FormFault::BadForm {
-                place: field_of(starts, cut)
-            })
+            fault_of(alloc, &bytes[..cut]),
+            Some(FormFault::BadForm { place })
         );
     }
+}
+
+/// The record is read from what was written, with bytes behind it left unread, and from no less.
+fn read_back(rt: &impl Abort, alloc: Global, body: Body, starts: &[usize]) -> Result<(), Fail>
+    requires { HasPort body }
+{
+    let mut bytes = written(alloc, body)?;
+    let length = bytes.len();
+    bytes.push(0xff)?;
+    compare_read(rt, alloc, bytes.as_slice(), body, length);
+    bytes.pop();
+    compare_cuts(rt, alloc, bytes.as_slice(), starts);
     Ok(())
 }
 
@@ -164,7 +185,7 @@ fn a_fault_is_where_its_field_begins(rt: HostRuntime) -> Result<(), Fail> {
         for (rest, count) in [(0u8, 0usize), (0, 100), (1, 100), (0xff, 10_000)] {
             let bytes = with_rest(rt.alloc(), front, rest, count)?;
             assert_eq!(rt;
-                read_record(rt.alloc(), bytes.as_slice()).err(),
+                fault_of(rt.alloc(), bytes.as_slice()),
                 Some(FormFault::BadForm { place })
             );
         }
@@ -172,24 +193,26 @@ fn a_fault_is_where_its_field_begins(rt: HostRuntime) -> Result<(), Fail> {
     Ok(())
 }
 
+/// The length of the record that is read, and that of its signature.
+fn lengths(alloc: Global, bytes: &[u8]) -> Option<(usize, usize)> {
+    let (rec, taken) = read_record(alloc, bytes).ok()?;
+    Some((taken, rec.signature.as_slice().len()))
+}
+
 // A signature of five bytes of which four are there, and the longest there is.
 #[test]
 fn a_signature_is_as_long_as_it_says(rt: HostRuntime) -> Result<(), Fail> {
     let short = b"\x02\x00\x02\x00\x00\x00\x00\x00\x00\x00\x01\x00\x00\x00\x07\x00\x05abcd";
     assert_eq!(rt;
-        read_record(rt.alloc(), short).err(),
+        fault_of(rt.alloc(), short),
         Some(FormFault::BadForm { place: 17 })
     );
     let longest = b"\x02\x00\x02\x00\x00\x00\x00\x00\x00\x00\x01\x00\x00\x00\x07\x23\x2c";
     let bytes = with_rest(rt.alloc(), longest, 7, 9_004)?;
-    let Ok((rec, taken)) = read_record(rt.alloc(), bytes.as_slice()) else {
-        panic!(rt; "the record is read");
-    };
-    assert_eq!(rt; taken, 9_021);
-    assert_eq!(rt; rec.signature.as_slice().len(), 9_004);
+    assert_eq!(rt; lengths(rt.alloc(), bytes.as_slice()), Some((9_021, 9_004)));
     let cut = with_rest(rt.alloc(), longest, 7, 9_003)?;
     assert_eq!(rt;
-        read_record(rt.alloc(), cut.as_slice()).err(),
+        fault_of(rt.alloc(), cut.as_slice()),
         Some(FormFault::BadForm { place: 17 })
     );
     Ok(())

@@ -3,6 +3,7 @@
 mod plain;
 
 ghost use Rattle.std.specs.Prelude.{◌≡◌, ◌<◌, IfOk, length};
+ghost use Rattle.epoch_store.specs.Store.{IsEntry};
 
 use epoch_store::{Store, StoreError, Stored, make};
 use ff_ids::{AccBody, Epoch, Group, Mask, MemberId, RingNo};
@@ -10,30 +11,40 @@ use fields::Reader;
 use lms_ots::OtsKind;
 use lms_tree::{SecretKey, TreeKind};
 use plain::state_of;
-use ports::{Disk, MemoryDisk};
+use ports::{Disk, Failed, MemoryDisk};
 use records::{Body, CertBody, Checked};
 use signer::{SignFault, Signer};
 use std::alloc::Global;
+use std::process::Abort;
 use std::test::Fail;
 
 const TAG: [u8; 32] = [5; 32];
 
 const NAME: &str = "a.st";
 
+/// A disk of which these calls fail.
+fn failing_disk(alloc: Global, fail: Vec<u64>) -> Result<MemoryDisk, Fail> {
+    Ok(MemoryDisk::new(alloc, 700, 200, fail)?)
+}
+
 fn new_disk(alloc: Global) -> Result<MemoryDisk, Fail> {
-    let fail = Vec::new(alloc);
-    Ok(MemoryDisk::new(alloc, 700, 200, fail).or(Err("no memory"))?)
+    failing_disk(alloc, Vec::new(alloc))
+}
+
+/// Writes the bytes, and settles them.
+fn write_all(disk: &mut MemoryDisk, bytes: &[u8]) -> Result<(), Failed> {
+    let mut place = 0;
+    for part in bytes.chunks(60) {
+        disk.write_at(place, part)?;
+        place = place.wrapping_add(part.len() as u64);
+    }
+    disk.sync()
 }
 
 /// A disk whose file has these bytes, settled.
 fn disk_with(alloc: Global, bytes: &[u8]) -> Result<MemoryDisk, Fail> {
     let mut disk = new_disk(alloc)?;
-    let mut place = 0;
-    for part in bytes.chunks(60) {
-        disk.write_at(place, part).or(Err("write"))?;
-        place = place.wrapping_add(part.len() as u64);
-    }
-    disk.sync().or(Err("sync"))?;
+    write_all(&mut disk, bytes).or(Err("write"))?;
     Ok(disk)
 }
 
@@ -44,13 +55,16 @@ fn disk_with_store(alloc: Global) -> Result<MemoryDisk, Fail> {
     Ok(disk)
 }
 
+/// What opening the store in the disk's file answers.
+fn state_in(disk: &mut MemoryDisk, name: &str) -> Result<Stored, StoreError> {
+    let store = Store::open(disk, name, &TAG)?;
+    Ok(store.state())
+}
+
 /// What opening the file with these bytes answers.
 fn opened(alloc: Global, bytes: &[u8]) -> Result<Result<Stored, StoreError>, Fail> {
     let mut disk = disk_with(alloc, bytes)?;
-    match Store::open(&mut disk, NAME, &TAG) {
-        Ok(store) => Ok(Ok(store.state())),
-        Err(error) => Ok(Err(error)),
-    }
+    Ok(state_in(&mut disk, NAME))
 }
 
 fn stored(next: u32, epoch: u64, mask: u32) -> Stored
@@ -63,17 +77,22 @@ fn stored(next: u32, epoch: u64, mask: u32) -> Stored
     }
 }
 
+/// The 58 bytes, and no other number.
+fn copy_of_58(alloc: Global, bytes: &[u8]) -> Result<Vec<u8>, Fail>
+    ensures { IfOk result (λ copy. length copy.items ≡ 58) }
+{
+    if bytes.len() != 58 {
+        return Err("another length".into());
+    }
+    Ok(bytes.to_vec(alloc)?)
+}
+
 /// The bytes of a store that is made new with mask 7.
 fn made(alloc: Global) -> Result<Vec<u8>, Fail>
     ensures { IfOk result (λ bytes. length bytes.items ≡ 58) }
 {
-    let mut disk = new_disk(alloc)?;
-    make(&mut disk, NAME, &TAG, Mask(7)).or(Err("make"))?;
-    let bytes = disk.image().to_vec(alloc)?;
-    if bytes.len() != 58 {
-        return Err("another length".into());
-    }
-    Ok(bytes)
+    let disk = disk_with_store(alloc)?;
+    copy_of_58(alloc, disk.image())
 }
 
 /// The first so many bytes, if there are as many.
@@ -94,10 +113,10 @@ fn changed(alloc: Global, bytes: &[u8], place: usize, value: u8) -> Result<Vec<u
     Ok(bytes)
 }
 
-#[test]
-fn a_made_store_has_58_bytes_and_is_made_once(rt: HostRuntime) -> Result<(), Fail> {
-    let alloc = rt.alloc();
-    let bytes = made(alloc)?;
+/// The bytes are those of a store that is made new with mask 7.
+fn compare_made(rt: &impl Abort, bytes: &[u8])
+    requires { length bytes.now ≡ 58 }
+{
     assert_eq!(rt; bytes.len(), 58);
     assert_eq!(rt; &bytes[..8], b"FFSTORE1".as_slice());
     assert_eq!(rt; &bytes[8..40], TAG.as_slice());
@@ -105,85 +124,122 @@ fn a_made_store_has_58_bytes_and_is_made_once(rt: HostRuntime) -> Result<(), Fai
         &bytes[40..],
         [1, 0, 0, 0, 0, 0, 0, 0, 0, 0, 0, 0, 0, 0, 0, 0, 7, 0].as_slice()
     );
-    let mut disk = disk_with(alloc, &bytes)?;
-    assert_eq!(rt;
-        make(&mut disk, NAME, &TAG, Mask(7)),
-        Err(StoreError::Taken { len: 58 })
-    );
+}
+
+/// What making a store answers where the file has these bytes.
+fn made_over(alloc: Global, bytes: &[u8]) -> Result<Result<(), StoreError>, Fail> {
+    let mut disk = disk_with(alloc, bytes)?;
+    Ok(make(&mut disk, NAME, &TAG, Mask(7)))
+}
+
+/// What opening the file answers once one of these bytes is changed.
+fn opened_changed(
+    alloc: Global,
+    bytes: &[u8],
+    place: usize,
+    value: u8,
+) -> Result<Result<Stored, StoreError>, Fail> {
+    let bytes = changed(alloc, bytes, place, value)?;
+    opened(alloc, &bytes)
+}
+
+#[test]
+fn a_made_store_has_58_bytes_and_is_made_once(rt: HostRuntime) -> Result<(), Fail> {
+    let alloc = rt.alloc();
+    let bytes = made(alloc)?;
+    compare_made(&rt, &bytes);
+    let taken = StoreError::Taken { len: 58 };
+    assert_eq!(rt; made_over(alloc, &bytes)?, Err(taken));
     assert_eq!(rt; opened(alloc, &bytes)?, Ok(stored(0, 0, 7)));
+    Ok(())
+}
+
+fn broken(place: u64, byte: Option<u8>) -> Result<Stored, StoreError> {
+    Err(StoreError::Broken { place, byte })
+}
+
+/// A file with too few of the bytes is no store.
+fn compare_cuts(rt: &impl Abort, alloc: Global, good: &[u8]) -> Result<(), Fail> {
+    assert_eq!(rt; opened(alloc, &[])?, broken(0, None));
+    assert_eq!(rt; opened(alloc, &[b'X'])?, broken(0, Some(b'X')));
+    assert_eq!(rt; opened(alloc, front(good, 39))?, broken(39, None));
+    assert_eq!(rt; opened(alloc, front(good, 57))?, broken(57, None));
+    Ok(())
+}
+
+/// A file with one of the bytes changed is the store of another key, or no store, or a store.
+fn compare_changes(rt: &impl Abort, alloc: Global, good: &[u8]) -> Result<(), Fail> {
+    let other = Err(StoreError::OtherKey { place: 8, byte: 6 });
+    assert_eq!(rt; opened_changed(alloc, good, 8, 6)?, other);
+    assert_eq!(rt; opened_changed(alloc, good, 40, 0)?, broken(40, Some(0)));
+    assert_eq!(rt; opened_changed(alloc, good, 57, 7)?, Ok(stored(0, 0, 7)));
+    assert_eq!(rt; opened_changed(alloc, good, 57, 1)?, broken(58, None));
     Ok(())
 }
 
 #[test]
 fn a_file_that_is_no_store_is_refused_at_its_place(rt: HostRuntime) -> Result<(), Fail> {
-    let alloc = rt.alloc();
-    let good = made(alloc)?;
-    let none = None;
-    assert_eq!(rt;
-        opened(alloc, &[])?,
-        Err(StoreError::Broken {
-            place: 0,
-            byte: none
-        })
-    );
-    assert_eq!(rt;
-        opened(alloc, &[b'X'])?,
-        Err(StoreError::Broken {
-            place: 0,
-            byte: Some(b'X')
-        })
-    );
-    assert_eq!(rt;
-        opened(alloc, front(&good, 39))?,
-        Err(StoreError::Broken {
-            place: 39,
-            byte: none
-        })
-    );
-    assert_eq!(rt;
-        opened(alloc, front(&good, 57))?,
-        Err(StoreError::Broken {
-            place: 57,
-            byte: none
-        })
-    );
-    let other = changed(alloc, &good, 8, 6)?;
-    assert_eq!(rt;
-        opened(alloc, &other)?,
-        Err(StoreError::OtherKey { place: 8, byte: 6 })
-    );
-    let shut = changed(alloc, &good, 40, 0)?;
-    assert_eq!(rt;
-        opened(alloc, &shut)?,
-        Err(StoreError::Broken {
-            place: 40,
-            byte: Some(0)
-        })
-    );
-    let closed = changed(alloc, &good, 57, 7)?;
-    assert_eq!(rt; opened(alloc, &closed)?, Ok(stored(0, 0, 7)));
-    let open = changed(alloc, &good, 57, 1)?;
-    assert_eq!(rt;
-        opened(alloc, &open)?,
-        Err(StoreError::Broken {
-            place: 58,
-            byte: none
-        })
-    );
+    let good = made(rt.alloc())?;
+    compare_cuts(&rt, rt.alloc(), &good)?;
+    compare_changes(&rt, rt.alloc(), &good)
+}
+
+/// Opens a store that was made, and puts the entry: what the put answers, and the state behind it.
+fn put_second(disk: &mut MemoryDisk, next: Stored) -> Result<(Result<(), StoreError>, Stored), Fail>
+    requires entry { IsEntry next }
+    requires rises { 0 < next.next }
+{
+    let mut store = Store::open(disk, NAME, &TAG).or(Err("open"))?;
+    let state = store.state();
+    if state.next > 0 || state.epoch > 0 {
+        return Err("another state".into());
+    }
+    let answer = store.put(disk, next);
+    Ok((answer, store.state()))
+}
+
+/// Puts the entry (3, 2, 5).
+fn put_3_2_5(disk: &mut MemoryDisk) -> Result<(), Fail> {
+    let (answer, _) = put_second(disk, stored(3, 2, 5))?;
+    answer.or(Err("put"))?;
     Ok(())
 }
 
 /// The bytes of a store with the entries (0, 0, 7) and (3, 2, 5).
 fn two_entries(alloc: Global) -> Result<Vec<u8>, Fail> {
-    let mut disk = new_disk(alloc)?;
-    make(&mut disk, NAME, &TAG, Mask(7)).or(Err("make"))?;
-    let mut store = Store::open(&mut disk, NAME, &TAG).or(Err("open"))?;
-    let state = store.state();
-    if state.next > 0 || state.epoch > 0 {
-        return Err("another state".into());
-    }
-    store.put(&mut disk, stored(3, 2, 5)).or(Err("put"))?;
+    let mut disk = disk_with_store(alloc)?;
+    put_3_2_5(&mut disk)?;
     Ok(disk.image().to_vec(alloc)?)
+}
+
+/// Opening the file answers what a plain reader does.
+fn compare_readers(rt: &impl Abort, alloc: Global, bytes: &[u8]) -> Result<(), Fail> {
+    assert_eq!(rt; opened(alloc, bytes)?, state_of(bytes, &TAG));
+    Ok(())
+}
+
+fn compare_readers_of_changed(
+    rt: &impl Abort,
+    alloc: Global,
+    bytes: &[u8],
+    place: usize,
+    value: u8,
+) -> Result<(), Fail> {
+    let bytes = changed(alloc, bytes, place, value)?;
+    compare_readers(rt, alloc, &bytes)
+}
+
+/// Likewise for each cut of the bytes and for each byte that is changed.
+fn compare_readers_of_all(rt: &impl Abort, alloc: Global, bytes: &[u8]) -> Result<(), Fail> {
+    for len in 0..bytes.len() {
+        compare_readers(rt, alloc, &bytes[..len])?;
+    }
+    for place in 0..bytes.len() {
+        for value in 0..=255u8 {
+            compare_readers_of_changed(rt, alloc, bytes, place, value)?;
+        }
+    }
+    Ok(())
 }
 
 #[test]
@@ -194,31 +250,16 @@ fn each_cut_and_each_changed_byte_is_answered_as_a_plain_reader_does(
     let good = two_entries(alloc)?;
     assert_eq!(rt; good.len(), 75);
     assert_eq!(rt; opened(alloc, &good)?, Ok(stored(3, 2, 5)));
-    for len in 0..good.len() {
-        assert_eq!(rt; opened(alloc, &good[..len])?, state_of(&good[..len], &TAG));
-    }
-    for place in 0..good.len() {
-        for value in 0..=255u8 {
-            let bytes = changed(alloc, &good, place, value)?;
-            assert_eq!(rt; opened(alloc, &bytes)?, state_of(&bytes, &TAG));
-        }
-    }
-    Ok(())
+    compare_readers_of_all(&rt, alloc, &good)
 }
 
 #[test]
 fn a_put_changes_the_state_and_the_file(rt: HostRuntime) -> Result<(), Fail> {
     let alloc = rt.alloc();
-    let mut disk = new_disk(alloc)?;
-    make(&mut disk, NAME, &TAG, Mask(7)).or(Err("make"))?;
-    let mut store = Store::open(&mut disk, NAME, &TAG).or(Err("open"))?;
-    let state = store.state();
-    if state.next > 0 || state.epoch > 0 {
-        return Err("another state".into());
-    }
-    assert_eq!(rt; store.put(&mut disk, stored(1, 1, 5)), Ok(()));
-    assert_eq!(rt; store.state(), stored(1, 1, 5));
-    assert_eq!(rt; opened(alloc, disk.image())?, Ok(stored(1, 1, 5)));
+    let mut disk = disk_with_store(alloc)?;
+    let entry = stored(1, 1, 5);
+    assert_eq!(rt; put_second(&mut disk, entry)?, (Ok(()), entry));
+    assert_eq!(rt; opened(alloc, disk.image())?, Ok(entry));
     Ok(())
 }
 
@@ -228,8 +269,7 @@ fn a_store_may_have_a_name_of_255_bytes(rt: HostRuntime) -> Result<(), Fail> {
     let name = std::str::from_utf8(&bytes).or(Err("no text"))?;
     let mut disk = new_disk(rt.alloc())?;
     assert_eq!(rt; make(&mut disk, name, &TAG, Mask(7)), Ok(()));
-    let store = Store::open(&mut disk, name, &TAG).or(Err("open"))?;
-    assert_eq!(rt; store.state(), stored(0, 0, 7));
+    assert_eq!(rt; state_in(&mut disk, name), Ok(stored(0, 0, 7)));
     Ok(())
 }
 
@@ -250,11 +290,11 @@ fn open_signer(alloc: Global, disk: &mut MemoryDisk) -> Result<Option<Signer>, F
         Err(StoreError::Fault) => return Ok(None),
         Err(_) => return Err("the file is no store".into()),
     };
-    let key = SecretKey::make(alloc, TreeKind::H5, OtsKind::W4, [1; 16], [2; 32]).or(Err("key"))?;
-    let (tree, leaves) = key.split();
     if store.state().next > 32 {
         return Err("a next index that the key has not".into());
     }
+    let key = SecretKey::make(alloc, TreeKind::H5, OtsKind::W4, [1; 16], [2; 32]).or(Err("key"))?;
+    let (tree, leaves) = key.split();
     Ok(Some(Signer::open(group(), tree, leaves, store)))
 }
 
@@ -394,6 +434,22 @@ fn stopped_faults(
     Ok([first, second, third, fourth])
 }
 
+fn open_and_stop(
+    alloc: Global,
+    disk: &mut MemoryDisk,
+    calls: u64,
+    outcome: u16,
+) -> Result<[SignFault; 4], Fail> {
+    let mut signer = open_signer(alloc, disk)?.ok_or("open")?;
+    stopped_faults(alloc, &mut signer, disk, calls, outcome)
+}
+
+/// The state that a signer finds in the disk's file.
+fn state_of_signer(alloc: Global, disk: &mut MemoryDisk) -> Result<Stored, Fail> {
+    let signer = open_signer(alloc, disk)?.ok_or("open")?;
+    Ok(signer.state())
+}
+
 /// The faults of a signature that is stopped so, and the state that is found afterwards.
 fn stopped(
     alloc: Global,
@@ -401,11 +457,9 @@ fn stopped(
     calls: u64,
     outcome: u16,
 ) -> Result<([SignFault; 4], Stored), Fail> {
-    let mut signer = open_signer(alloc, disk)?.ok_or("open")?;
-    let faults = stopped_faults(alloc, &mut signer, disk, calls, outcome)?;
+    let faults = open_and_stop(alloc, disk, calls, outcome)?;
     disk.crash(0);
-    let left = open_signer(alloc, disk)?.ok_or("open")?;
-    Ok((faults, left.state()))
+    Ok((faults, state_of_signer(alloc, disk)?))
 }
 
 #[test]
@@ -498,14 +552,12 @@ fn a_key_is_used_up_and_certificates_are_signed(rt: HostRuntime) -> Result<(), F
     Ok(())
 }
 
-/// Which call of a disk fails, counted from 0, that serves a store as it is made, opened and put.
-fn first_failure(alloc: Global, call: u64) -> Result<&'static str, Fail> {
-    let fail = [call].to_vec(alloc)?;
-    let mut disk = MemoryDisk::new(alloc, 700, 200, fail).or(Err("no memory"))?;
-    if make(&mut disk, NAME, &TAG, Mask(7)).is_err() {
+/// Makes a store, opens it and puts an entry: which of these failed first.
+fn first_failed(disk: &mut MemoryDisk) -> Result<&'static str, Fail> {
+    if make(disk, NAME, &TAG, Mask(7)).is_err() {
         return Ok("make");
     }
-    let mut store = match Store::open(&mut disk, NAME, &TAG) {
+    let mut store = match Store::open(disk, NAME, &TAG) {
         Ok(store) => store,
         Err(_) => return Ok("open"),
     };
@@ -513,10 +565,16 @@ fn first_failure(alloc: Global, call: u64) -> Result<&'static str, Fail> {
     if state.next > 0 || state.epoch > 0 {
         return Err("another state".into());
     }
-    if store.put(&mut disk, stored(1, 1, 7)).is_err() {
+    if store.put(disk, stored(1, 1, 7)).is_err() {
         return Ok("put");
     }
     Ok("none")
+}
+
+/// Which call of a disk fails, counted from 0, that serves a store as it is made, opened and put.
+fn first_failure(alloc: Global, call: u64) -> Result<&'static str, Fail> {
+    let mut disk = failing_disk(alloc, [call].to_vec(alloc)?)?;
+    first_failed(&mut disk)
 }
 
 #[test]
@@ -532,6 +590,35 @@ fn each_call_of_a_store_makes_its_disk_calls_and_no_more(rt: HostRuntime) -> Res
     Ok(())
 }
 
+/// Writes twice behind the settled `abcd`, and crashes: the file is then this one.
+fn compare_crash(
+    rt: &impl Abort,
+    disk: &mut MemoryDisk,
+    outcome: u16,
+    left: &[u8],
+) -> Result<(), Failed> {
+    disk.write_at(1, b"XY")?;
+    disk.write_at(4, b"ef")?;
+    assert_eq!(rt; disk.image(), b"aXYdef".as_slice());
+    disk.crash(outcome);
+    assert_eq!(rt; disk.image(), left);
+    Ok(())
+}
+
+/// Over the settled `abcd`, a disk that is stopped at its second call, and what it refuses once it is up.
+fn compare_stop(rt: &impl Abort, disk: &mut MemoryDisk) {
+    disk.arm(1, 1);
+    assert_eq!(rt; disk.write_at(0, b"X"), Ok(()));
+    assert_eq!(rt; disk.write_at(1, b"Y"), Err(Failed));
+    assert_eq!(rt; disk.len(), Err(Failed));
+    assert_eq!(rt; disk.image(), b"XYcd".as_slice());
+    disk.crash(0);
+    assert_eq!(rt; disk.image(), b"XYcd".as_slice());
+    assert_eq!(rt; disk.len(), Ok(4));
+    assert_eq!(rt; disk.write_at(0, &[0; 65]), Err(Failed));
+    assert_eq!(rt; disk.write_at(700, b"Z"), Err(Failed));
+}
+
 #[test]
 fn a_crash_of_a_disk_leaves_what_its_outcome_says(rt: HostRuntime) -> Result<(), Fail> {
     let alloc = rt.alloc();
@@ -543,22 +630,9 @@ fn a_crash_of_a_disk_leaves_what_its_outcome_says(rt: HostRuntime) -> Result<(),
     ];
     for (outcome, left) in cases {
         let mut disk = disk_with(alloc, b"abcd")?;
-        disk.write_at(1, b"XY").or(Err("write"))?;
-        disk.write_at(4, b"ef").or(Err("write"))?;
-        assert_eq!(rt; disk.image(), b"aXYdef".as_slice());
-        disk.crash(outcome);
-        assert_eq!(rt; disk.image(), left);
+        compare_crash(&rt, &mut disk, outcome, left).or(Err("write"))?;
     }
     let mut disk = disk_with(alloc, b"abcd")?;
-    disk.arm(1, 1);
-    assert_eq!(rt; disk.write_at(0, b"X"), Ok(()));
-    assert_eq!(rt; disk.write_at(1, b"Y"), Err(ports::Failed));
-    assert_eq!(rt; disk.len(), Err(ports::Failed));
-    assert_eq!(rt; disk.image(), b"XYcd".as_slice());
-    disk.crash(0);
-    assert_eq!(rt; disk.image(), b"XYcd".as_slice());
-    assert_eq!(rt; disk.len(), Ok(4));
-    assert_eq!(rt; disk.write_at(0, &[0; 65]), Err(ports::Failed));
-    assert_eq!(rt; disk.write_at(700, b"Z"), Err(ports::Failed));
+    compare_stop(&rt, &mut disk);
     Ok(())
 }
