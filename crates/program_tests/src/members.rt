@@ -42,17 +42,17 @@ fn key_of(alloc: Global, byte: u8) -> Result<SecretKey, Fail> {
 /// A signer with the key over a store that is made on the disk.
 fn signer_of(key: SecretKey, disk: &mut MemoryDisk) -> Result<Signer, Fail> {
     let tag = store_tag(&GROUP, &key.public());
-    let (tree, leaves) = key.split();
     make(disk, "s.st", &tag, Mask(7)).or(Err("no store is made"))?;
     let store = Store::open(disk, "s.st", &tag).or(Err("no store"))?;
+    let (tree, leaves) = key.split();
     if leaves.next() > 0 || store.state().next > 0 {
         return Err("a leaf is spent".into());
     }
     Ok(Signer::open(GROUP, tree, leaves, store))
 }
 
-/// The line of a certificate of this member.
-fn cert_line(
+/// The digits of the authority's signature of the certificate of this member.
+fn signature_of(
     alloc: Global,
     authority: &mut Signer,
     disk: &mut MemoryDisk,
@@ -67,9 +67,64 @@ fn cert_line(
     let signed = authority
         .sign_certificate(alloc, disk, cert)
         .or(Err("no certificate"))?;
+    Ok(hex::encode(alloc, signed.rec().signature.as_slice())?)
+}
+
+/// The text up to the certificates, with this key of the authority.
+fn head(alloc: Global, authority: &PublicKey) -> Result<String, Fail> {
+    let digits = hex::encode(alloc, authority.write().as_slice())?;
+    Ok(format!(in alloc; "{HEAD}authority {digits}\ntick 100\n")?)
+}
+
+/// Writes the line of a certificate of this member.
+fn write_cert(
+    alloc: Global,
+    authority: &mut Signer,
+    disk: &mut MemoryDisk,
+    member: u8,
+    key: PublicKey,
+    text: &mut String,
+) -> Result<(), Fail> {
     let digits = hex::encode(alloc, key.write().as_slice())?;
-    let signature = hex::encode(alloc, signed.rec().signature.as_slice())?;
-    Ok(format!(in alloc; "cert {member} 2000{member} {digits} {signature}\n")?)
+    let signature = signature_of(alloc, authority, disk, member, key)?;
+    let line = format!(in alloc; "cert {member} 2000{member} {digits} {signature}\n")?;
+    text.push_str(&line)?;
+    Ok(())
+}
+
+/// Writes the certificates of these members, and the end of the text.
+fn write_certs(
+    alloc: Global,
+    authority: &mut Signer,
+    disk: &mut MemoryDisk,
+    members: &[(u8, PublicKey)],
+    text: &mut String,
+) -> Result<(), Fail> {
+    for (member, key) in members {
+        write_cert(alloc, authority, disk, *member, *key, text)?;
+    }
+    text.push_str("end\n")?;
+    Ok(())
+}
+
+/// Writes what stands behind the head, signed by the authority of this key.
+fn certify(
+    alloc: Global,
+    key: SecretKey,
+    members: &[(u8, PublicKey)],
+    text: &mut String,
+) -> Result<(), Fail> {
+    let mut disk = disk(alloc, &[])?;
+    let mut authority = signer_of(key, &mut disk)?;
+    write_certs(alloc, &mut authority, &mut disk, members, text)
+}
+
+/// The text of member 1 with certificates of these members.
+fn text_of(alloc: Global, members: &[(u8, PublicKey)]) -> Result<String, Fail> {
+    let key = key_of(alloc, AUTHORITY)?;
+    let mut text = head(alloc, &key.public())?;
+    certify(alloc, key, members, &mut text)?;
+    Ok(text)
 }
 
 /// Member 1: its text, with the certificates of those that are there, and its key.
@@ -79,32 +134,19 @@ pub struct First {
     pub key: PublicKey,
 }
 
-/// Member 1, with certificates of it and of these others.
-fn first_beside(alloc: Global, others: &[(u8, PublicKey)]) -> Result<First, Fail> {
-    let mut disk = disk(alloc, &[])?;
-    let key = key_of(alloc, FIRST)?.public();
-    let own = key_of(alloc, AUTHORITY)?;
-    let digits = hex::encode(alloc, own.public().write().as_slice())?;
-    let mut authority = signer_of(own, &mut disk)?;
-    let mut text = format!(in alloc; "{HEAD}authority {digits}\ntick 100\n")?;
-    text.push_str(&cert_line(alloc, &mut authority, &mut disk, 1, key)?)?;
-    for (member, other) in others {
-        text.push_str(&cert_line(alloc, &mut authority, &mut disk, *member, *other)?)?;
-    }
-    text.push_str("end\n")?;
-    Ok(First { text, key })
-}
-
 /// Member 1, which is alone.
 pub fn first_alone(alloc: Global) -> Result<First, Fail> {
-    first_beside(alloc, &[])
+    let key = key_of(alloc, FIRST)?.public();
+    let text = text_of(alloc, &[(1, key)])?;
+    Ok(First { text, key })
 }
 
 /// Member 1, and the key of member 2, which is certified too.
 pub fn first_of_two(alloc: Global) -> Result<(First, SecretKey), Fail> {
+    let key = key_of(alloc, FIRST)?.public();
     let second = key_of(alloc, SECOND)?;
-    let first = first_beside(alloc, &[(2, second.public())])?;
-    Ok((first, second))
+    let text = text_of(alloc, &[(1, key), (2, second.public())])?;
+    Ok((First { text, key }, second))
 }
 
 /// A disk with the store of this key, which four calls made, and that fails at the calls with these numbers.
@@ -133,6 +175,14 @@ impl OfSecond {
     pub fn signed(alloc: Global, key: SecretKey) -> Result<OfSecond, Fail> {
         let mut disk = disk(alloc, &[])?;
         let mut signer = signer_of(key, &mut disk)?;
+        OfSecond::signed_with(alloc, &mut signer, &mut disk)
+    }
+
+    fn signed_with(
+        alloc: Global,
+        signer: &mut Signer,
+        disk: &mut MemoryDisk,
+    ) -> Result<OfSecond, Fail> {
         let accusation = AccBody {
             accuser: MemberId::new(2),
             accused: MemberId::new(1),
@@ -140,19 +190,18 @@ impl OfSecond {
             ring: RingNo(0),
         };
         let note = signer
-            .sign_note(alloc, &mut disk, MemberId::new(2), Mask(7))
+            .sign_note(alloc, disk, MemberId::new(2), Mask(7))
             .or(Err("no note"))?;
         let accusation = signer
-            .sign_accusation(alloc, &mut disk, accusation)
+            .sign_accusation(alloc, disk, accusation)
             .or(Err("no accusation"))?;
         Ok(OfSecond { note, accusation })
     }
 
     /// They come one after the other.
     pub fn answers(&self, alloc: Global) -> Result<Vec<LinkAnswer>, Fail> {
-        let mut answers = Vec::new(alloc);
-        answers.push(datagram_with(alloc, &self.note)?)?;
-        answers.push(datagram_with(alloc, &self.accusation)?)?;
-        Ok(answers)
+        let note = datagram_with(alloc, &self.note)?;
+        let accusation = datagram_with(alloc, &self.accusation)?;
+        Ok(vec![in alloc; note, accusation]?)
     }
 }

@@ -1,10 +1,9 @@
 //! A member that is run for two turns, over objects in memory.
 
 use crate::members::{First, OfSecond, first_alone, first_of_two, own_disk};
-use crate::runs::{Run, compare, words_of};
-use command_line::run;
+use crate::runs::{Run, compare, run_on};
 use fields::Bytes;
-use ports::{LinkAnswer, MemoryClock, MemoryDisk, MemoryLink, MemorySink, MemorySource};
+use ports::{LinkAnswer, MemoryClock, MemoryLink};
 use std::alloc::Global;
 use std::process::Abort;
 use std::test::Fail;
@@ -26,67 +25,77 @@ const PINGED: &str = "got 4646010100020000000000000102";
 
 const PONG: &str = "4646010200010000000000000102";
 
-/// What a member has around it: what comes on its link, which sends fail, and whether its port is taken.
-#[derive(Drop)]
-struct Around {
-    answers: Vec<LinkAnswer>,
-    fail_sends: Vec<u64>,
-    fail_bind: bool,
+/// A link on which nothing comes, and nothing fails.
+fn quiet_link(alloc: Global) -> MemoryLink {
+    link_with(alloc, Vec::new(alloc))
 }
 
-impl Around {
-    /// These come, and nothing fails.
-    fn of(alloc: Global, answers: Vec<LinkAnswer>) -> Around {
-        Around {
-            answers,
-            fail_sends: Vec::new(alloc),
-            fail_bind: false,
-        }
-    }
+/// A link on which these come, and nothing fails.
+fn link_with(alloc: Global, answers: Vec<LinkAnswer>) -> MemoryLink {
+    MemoryLink::new(alloc, answers, Vec::new(alloc), false)
 }
 
-/// Runs the member of the text for two turns. The clock reads 0, 50 and 250.
-fn serve(alloc: Global, text: &str, disk: &mut MemoryDisk, around: Around) -> Result<Run, Fail> {
-    let words = words_of(alloc, &["node", "n.st", "2"])?;
-    let mut input = MemorySource::new(text.as_bytes().to_vec(alloc)?, 4_096, Vec::new(alloc));
-    let mut out = MemorySink::new(alloc, 60_000, 4_096, Vec::new(alloc))?;
-    let mut link = MemoryLink::new(alloc, around.answers, around.fail_sends, around.fail_bind);
+/// Runs member 1 for two turns, on a disk that fails at these calls. The clock reads 0, 50 and 250.
+fn serve(
+    alloc: Global,
+    first: &First,
+    disk_fails: &[u64],
+    link: &mut MemoryLink,
+) -> Result<Run, Fail> {
     let mut clock = MemoryClock::new([0u64, 50, 250].to_vec(alloc)?);
-    let status = run(
-        alloc, &words, &mut input, &mut out, disk, &mut link, &mut clock,
-    );
-    Ok(Run {
-        written: out.bytes().to_vec(alloc)?,
-        number: status.number(),
-    })
+    let mut disk = own_disk(alloc, &first.key, disk_fails)?;
+    run_on(
+        alloc,
+        &["node", "n.st", "2"],
+        first.text.as_str(),
+        60_000,
+        &mut disk,
+        link,
+        &mut clock,
+    )
 }
 
-/// Nothing comes, and nothing fails.
-fn nothing(alloc: Global) -> Around {
-    Around::of(alloc, Vec::new(alloc))
+/// Runs member 1 so, and compares the number and what was written.
+fn serves(
+    rt: &impl Abort,
+    alloc: Global,
+    first: &First,
+    disk_fails: &[u64],
+    link: &mut MemoryLink,
+    number: u8,
+    written: &str,
+) -> Result<(), Fail> {
+    let got = serve(alloc, first, disk_fails, link)?;
+    compare(rt, &got, number, written.as_bytes());
+    Ok(())
+}
+
+/// Runs a member that hears nothing.
+fn serves_alone(rt: &impl Abort, alloc: Global, first: &First) -> Result<(), Fail> {
+    let wanted = format!(in alloc; "{STARTED}{QUIET}end\n")?;
+    serves(
+        rt,
+        alloc,
+        first,
+        &[],
+        &mut quiet_link(alloc),
+        0,
+        wanted.as_str(),
+    )
 }
 
 #[test]
 fn a_member_alone_writes_its_journal(rt: HostRuntime) -> Result<(), Fail> {
-    let alloc = rt.alloc();
-    let first = first_alone(alloc)?;
-    let mut disk = own_disk(alloc, &first.key, &[])?;
-    let got = serve(alloc, first.text.as_str(), &mut disk, nothing(alloc))?;
-    let wanted = format!(in alloc; "{STARTED}{QUIET}end\n")?;
-    compare(&rt, &got, 0, wanted.as_bytes());
-    Ok(())
+    let first = first_alone(rt.alloc())?;
+    serves_alone(&rt, rt.alloc(), &first)
 }
 
 #[test]
 fn a_port_that_cannot_be_bound(rt: HostRuntime) -> Result<(), Fail> {
     let alloc = rt.alloc();
     let first = first_alone(alloc)?;
-    let mut disk = own_disk(alloc, &first.key, &[4])?;
-    let mut around = nothing(alloc);
-    around.fail_bind = true;
-    let got = serve(alloc, first.text.as_str(), &mut disk, around)?;
-    compare(&rt, &got, 9, b"link fault\n");
-    Ok(())
+    let mut link = MemoryLink::new(alloc, Vec::new(alloc), Vec::new(alloc), true);
+    serves(&rt, alloc, &first, &[4], &mut link, 9, "link fault\n")
 }
 
 /// Runs member 1 of two, whose sends with these numbers fail: what it reports behind its turns is reported here.
@@ -97,78 +106,87 @@ fn lose(
     fails: &[u64],
     told: (&str, &str),
 ) -> Result<(), Fail> {
-    let mut disk = own_disk(alloc, &first.key, &[])?;
-    let mut around = nothing(alloc);
-    around.fail_sends = fails.to_vec(alloc)?;
-    let got = serve(alloc, first.text.as_str(), &mut disk, around)?;
     let (one, other) = told;
     let wanted = format!(in alloc;
         "{STARTED}{QUIET}at 1 sent 0 2 {SUMMARY}\n{one}at 2 sent 1 2 {SUMMARY}\n{other}end\n"
     )?;
-    compare(rt, &got, 0, wanted.as_bytes());
-    Ok(())
+    let mut link = MemoryLink::new(alloc, Vec::new(alloc), fails.to_vec(alloc)?, false);
+    serves(rt, alloc, first, &[], &mut link, 0, wanted.as_str())
 }
 
-#[test]
-fn sends_that_fail_are_lost(rt: HostRuntime) -> Result<(), Fail> {
-    let (first, _) = first_of_two(rt.alloc())?;
-    lose(&rt, rt.alloc(), &first, &[0], ("at 1 lost 0\n", ""))?;
+/// Loses the first send, and then both.
+fn lose_one_and_both(rt: &impl Abort, alloc: Global, first: &First) -> Result<(), Fail> {
+    lose(rt, alloc, first, &[0], ("at 1 lost 0\n", ""))?;
     lose(
-        &rt,
-        rt.alloc(),
-        &first,
+        rt,
+        alloc,
+        first,
         &[1, 0],
         ("at 1 lost 0\n", "at 2 lost 1\n"),
     )
 }
 
-/// A receive that fails, and then a ping of 2.
-fn failure_and_ping(alloc: Global) -> Result<Vec<LinkAnswer>, Fail> {
-    let mut answers = Vec::new(alloc);
-    answers.push(LinkAnswer::Failed)?;
-    answers.push(LinkAnswer::Got(Bytes::from_vec(PING.to_vec(alloc)?)))?;
-    Ok(answers)
+#[test]
+fn sends_that_fail_are_lost(rt: HostRuntime) -> Result<(), Fail> {
+    let (first, _) = first_of_two(rt.alloc())?;
+    lose_one_and_both(&rt, rt.alloc(), &first)
 }
 
-#[test]
-fn a_receive_that_fails_ends_nothing(rt: HostRuntime) -> Result<(), Fail> {
-    let alloc = rt.alloc();
-    let (first, _) = first_of_two(alloc)?;
-    let mut disk = own_disk(alloc, &first.key, &[])?;
-    let around = Around::of(alloc, failure_and_ping(alloc)?);
-    let got = serve(alloc, first.text.as_str(), &mut disk, around)?;
+/// A link on which a receive fails, and then a ping of 2 comes.
+fn failure_and_ping(alloc: Global) -> Result<MemoryLink, Fail> {
+    let ping = Bytes::from_vec(PING.to_vec(alloc)?);
+    let answers = vec![in alloc; LinkAnswer::Failed, LinkAnswer::Got(ping)]?;
+    Ok(link_with(alloc, answers))
+}
+
+/// Runs member 1 with this link, and it answers the ping.
+fn answers_ping(
+    rt: &impl Abort,
+    alloc: Global,
+    first: &First,
+    link: &mut MemoryLink,
+) -> Result<(), Fail> {
     let wanted = format!(in alloc;
         "{STARTED}turn 1 failed ticks 0\nturn 2 {PINGED} ticks 2\nat 0 ping 2 258\nat 0 sent 0 2 {PONG}\n\
         at 1 sent 1 2 {SUMMARY}\nat 2 sent 2 2 {SUMMARY}\nend\n"
     )?;
-    compare(&rt, &got, 0, wanted.as_bytes());
-    Ok(())
+    serves(rt, alloc, first, &[], link, 0, wanted.as_str())
 }
 
-/// Runs member 1 on a disk that fails at this call: five open the store that is there, and four sign the first note.
-fn fail_at(rt: &impl Abort, alloc: Global, first: &First, call: u64) -> Result<(), Fail> {
-    let mut disk = own_disk(alloc, &first.key, &[call])?;
-    let got = serve(alloc, first.text.as_str(), &mut disk, nothing(alloc))?;
-    compare(rt, &got, 7, b"store fault\n");
+#[test]
+fn a_receive_that_fails_ends_nothing(rt: HostRuntime) -> Result<(), Fail> {
+    let (first, _) = first_of_two(rt.alloc())?;
+    let mut link = failure_and_ping(rt.alloc())?;
+    answers_ping(&rt, rt.alloc(), &first, &mut link)
+}
+
+/// Runs member 1 on disks that fail at each of these calls: five open the store that is there, and four sign the first
+/// note.
+fn fail_at_each(rt: &impl Abort, alloc: Global, first: &First, calls: &[u64]) -> Result<(), Fail> {
+    for call in calls {
+        serves(
+            rt,
+            alloc,
+            first,
+            &[*call],
+            &mut quiet_link(alloc),
+            7,
+            "store fault\n",
+        )?;
+    }
     Ok(())
 }
 
 #[test]
 fn a_disk_that_fails_as_the_store_is_opened(rt: HostRuntime) -> Result<(), Fail> {
     let first = first_alone(rt.alloc())?;
-    for call in 4..9u64 {
-        fail_at(&rt, rt.alloc(), &first, call)?;
-    }
-    Ok(())
+    fail_at_each(&rt, rt.alloc(), &first, &[4, 5, 6, 7, 8])
 }
 
 #[test]
 fn a_disk_that_fails_as_the_first_note_is_signed(rt: HostRuntime) -> Result<(), Fail> {
     let first = first_alone(rt.alloc())?;
-    for call in 9..13u64 {
-        fail_at(&rt, rt.alloc(), &first, call)?;
-    }
-    Ok(())
+    fail_at_each(&rt, rt.alloc(), &first, &[9, 10, 11, 12])
 }
 
 /// What member 1 reports last of the accusation.
@@ -183,12 +201,24 @@ fn fail_in_answer(
     second: &OfSecond,
     call: u64,
 ) -> Result<(), Fail> {
-    let mut disk = own_disk(alloc, &first.key, &[call])?;
-    let around = Around::of(alloc, second.answers(alloc)?);
-    let got = serve(alloc, first.text.as_str(), &mut disk, around)?;
+    let mut link = link_with(alloc, second.answers(alloc)?);
+    let got = serve(alloc, first, &[call], &mut link)?;
     assert_eq!(rt; got.number, 7);
     assert!(rt; got.written.as_slice().starts_with(STARTED.as_bytes()));
     assert!(rt; got.written.as_slice().ends_with(STOPPED));
+    Ok(())
+}
+
+/// Each of those four fails.
+fn fail_in_answers(
+    rt: &impl Abort,
+    alloc: Global,
+    first: &First,
+    second: &OfSecond,
+) -> Result<(), Fail> {
+    for call in 13..17u64 {
+        fail_in_answer(rt, alloc, first, second, call)?;
+    }
     Ok(())
 }
 
@@ -196,8 +226,5 @@ fn fail_in_answer(
 fn a_disk_that_fails_at_a_rebuttal_ends_the_life(rt: HostRuntime) -> Result<(), Fail> {
     let (first, key) = first_of_two(rt.alloc())?;
     let second = OfSecond::signed(rt.alloc(), key)?;
-    for call in 13..17u64 {
-        fail_in_answer(&rt, rt.alloc(), &first, &second, call)?;
-    }
-    Ok(())
+    fail_in_answers(&rt, rt.alloc(), &first, &second)
 }

@@ -73,64 +73,101 @@ fn lines(text: &[u8]) -> u32 {
     lines
 }
 
-#[test]
-fn a_store_is_made_once(rt: HostRuntime) -> Result<(), Fail> {
-    let mut disk = disk(rt.alloc(), &[])?;
-    let made = make_store(rt.alloc(), &mut disk)?;
+/// The store is made: its key is written, and its image stands in the file.
+fn is_made(rt: &impl Abort, alloc: Global, disk: &mut MemoryDisk) -> Result<(), Fail> {
+    let made = make_store(alloc, disk)?;
     assert_eq!(rt; made.number, 0);
     assert_eq!(rt; made.written.len(), 117);
     assert_eq!(rt; stands_at(&made.written, 0, b"key 0000000500000002"), true);
     assert_eq!(rt; disk.image().len(), 58);
-    let again = make_store(rt.alloc(), &mut disk)?;
-    compare(&rt, &again, 12, b"store taken 58\n");
     Ok(())
+}
+
+/// The store is not made, for this cause.
+fn is_not_made(
+    rt: &impl Abort,
+    alloc: Global,
+    disk: &mut MemoryDisk,
+    number: u8,
+    cause: &[u8],
+) -> Result<(), Fail> {
+    let got = make_store(alloc, disk)?;
+    compare(rt, &got, number, cause);
+    Ok(())
+}
+
+#[test]
+fn a_store_is_made_once(rt: HostRuntime) -> Result<(), Fail> {
+    let mut disk = disk(rt.alloc(), &[])?;
+    is_made(&rt, rt.alloc(), &mut disk)?;
+    is_not_made(&rt, rt.alloc(), &mut disk, 12, b"store taken 58\n")
+}
+
+/// Makes the store on a disk that never fails, and asks it for so many certificates.
+fn enroll_in_new(alloc: Global, count: u16) -> Result<Run, Fail> {
+    let mut disk = disk(alloc, &[])?;
+    make_store(alloc, &mut disk)?;
+    enroll(alloc, count, &mut disk)
+}
+
+/// The half of two certificates that begins at this place certifies the member with the index of the same number.
+fn is_half(
+    rt: &impl Abort,
+    alloc: Global,
+    written: &[u8],
+    place: usize,
+    member: u8,
+) -> Result<(), Fail> {
+    let line = signed_line(alloc, member, member)?;
+    assert_eq!(rt; stands_at(written, place, line.as_bytes()), true);
+    assert_eq!(rt; written.len() / 2, line.len().wrapping_add(8_913));
+    Ok(())
+}
+
+/// The two halves.
+fn are_halves(rt: &impl Abort, alloc: Global, written: &[u8]) -> Result<(), Fail> {
+    is_half(rt, alloc, written, 0, 0)?;
+    is_half(rt, alloc, written, written.len() / 2, 1)
 }
 
 #[test]
 fn each_certificate_has_the_next_index(rt: HostRuntime) -> Result<(), Fail> {
-    let mut disk = disk(rt.alloc(), &[])?;
-    make_store(rt.alloc(), &mut disk)?;
-    let got = enroll(rt.alloc(), 2, &mut disk)?;
+    let got = enroll_in_new(rt.alloc(), 2)?;
     assert_eq!(rt; got.number, 0);
     assert_eq!(rt; lines(&got.written), 2);
-    let length = got.written.len() / 2;
-    for (member, place) in [(0u8, 0usize), (1, length)] {
-        let line = signed_line(rt.alloc(), member, member)?;
-        assert_eq!(rt; stands_at(&got.written, place, line.as_bytes()), true);
-        assert_eq!(rt; length, line.len().wrapping_add(8_913));
-    }
-    Ok(())
+    are_halves(&rt, rt.alloc(), &got.written)
 }
 
 #[test]
 fn a_key_is_used_up(rt: HostRuntime) -> Result<(), Fail> {
-    let mut disk = disk(rt.alloc(), &[])?;
-    make_store(rt.alloc(), &mut disk)?;
-    let got = enroll(rt.alloc(), 33, &mut disk)?;
+    let got = enroll_in_new(rt.alloc(), 33)?;
     assert_eq!(rt; got.number, 10);
     assert_eq!(rt; lines(&got.written), 33);
     assert_eq!(rt; got.written.as_slice().ends_with(b"\nexhausted 32\n"), true);
     Ok(())
 }
 
-/// Makes the store on a disk that fails at this call, of four. The same words then make it where nothing was written, and
-/// find it taken where only the sync failed.
+/// The store is not made, and then the same words make it where nothing was written, and find it taken where only the
+/// sync failed.
+fn make_again(
+    rt: &impl Abort,
+    alloc: Global,
+    disk: &mut MemoryDisk,
+    call: u64,
+) -> Result<(), Fail> {
+    is_not_made(rt, alloc, disk, 7, b"store fault\n")?;
+    assert_eq!(rt; disk.image().is_empty(), call < 3);
+    match call {
+        0..2 => Ok(()),
+        3 => is_not_made(rt, alloc, disk, 12, b"store taken 58\n"),
+        _ => is_made(rt, alloc, disk),
+    }
+}
+
+/// Makes the store on a disk that fails at this call, of four.
 fn make_twice(rt: &impl Abort, alloc: Global, call: u64) -> Result<(), Fail> {
     let mut disk = disk(alloc, &[call])?;
-    let first = make_store(alloc, &mut disk)?;
-    compare(rt, &first, 7, b"store fault\n");
-    assert_eq!(rt; disk.image().is_empty(), call < 3);
-    if call < 2 {
-        return Ok(());
-    }
-    let again = make_store(alloc, &mut disk)?;
-    if call == 3 {
-        compare(rt, &again, 12, b"store taken 58\n");
-        return Ok(());
-    }
-    assert_eq!(rt; again.number, 0);
-    assert_eq!(rt; disk.image().len(), 58);
-    Ok(())
+    make_again(rt, alloc, &mut disk, call)
 }
 
 #[test]
@@ -154,6 +191,36 @@ fn tag(alloc: Global) -> Result<[u8; 32], Fail> {
     Ok(store_tag(&group, &key))
 }
 
+/// Enrolls two in a store that is made here: so many lines stand above that of the cause.
+fn fail_to_enroll(
+    rt: &impl Abort,
+    alloc: Global,
+    tag: &[u8; 32],
+    disk: &mut MemoryDisk,
+    count: u32,
+) -> Result<(), Fail> {
+    make(disk, "a.st", tag, Mask(7)).or(Err("no store is made"))?;
+    let got = enroll(alloc, 2, disk)?;
+    assert_eq!(rt; got.number, 7);
+    assert_eq!(rt; lines(&got.written), count.wrapping_add(1));
+    assert!(rt; got.written.as_slice().ends_with(b"store fault\n"));
+    Ok(())
+}
+
+/// Enrolls one, whose certificate has this index.
+fn enroll_next(
+    rt: &impl Abort,
+    alloc: Global,
+    disk: &mut MemoryDisk,
+    index: u8,
+) -> Result<(), Fail> {
+    let got = enroll(alloc, 1, disk)?;
+    let line = signed_line(alloc, 0, index)?;
+    assert_eq!(rt; got.number, 0);
+    assert!(rt; got.written.as_slice().starts_with(line.as_bytes()));
+    Ok(())
+}
+
 /// Enrolls two on a disk that fails at this call: four made the store, five open it, and four sign each. So many lines
 /// stand above that of the cause. Where an index is given, the next enrolment begins with it.
 fn enroll_failing(
@@ -165,19 +232,11 @@ fn enroll_failing(
     next: Option<u8>,
 ) -> Result<(), Fail> {
     let mut disk = disk(alloc, &[call])?;
-    make(&mut disk, "a.st", tag, Mask(7)).or(Err("no store is made"))?;
-    let got = enroll(alloc, 2, &mut disk)?;
-    assert_eq!(rt; got.number, 7);
-    assert_eq!(rt; lines(&got.written), count.wrapping_add(1));
-    assert!(rt; got.written.as_slice().ends_with(b"store fault\n"));
-    let Some(next) = next else {
-        return Ok(());
-    };
-    let again = enroll(alloc, 1, &mut disk)?;
-    let line = signed_line(alloc, 0, next)?;
-    assert_eq!(rt; again.number, 0);
-    assert!(rt; again.written.as_slice().starts_with(line.as_bytes()));
-    Ok(())
+    fail_to_enroll(rt, alloc, tag, &mut disk, count)?;
+    match next {
+        Some(index) => enroll_next(rt, alloc, &mut disk, index),
+        None => Ok(()),
+    }
 }
 
 #[test]
@@ -216,12 +275,23 @@ fn an_empty_file_is_no_store(rt: HostRuntime) -> Result<(), Fail> {
     Ok(())
 }
 
+/// The words are refused on this disk.
+fn name_nothing(
+    rt: &impl Abort,
+    alloc: Global,
+    words: &[&str],
+    disk: &mut MemoryDisk,
+) -> Result<(), Fail> {
+    let got = run_over(alloc, words, SECRET, disk)?;
+    compare(rt, &got, 2, b"");
+    Ok(())
+}
+
 #[test]
 fn words_that_name_no_command(rt: HostRuntime) -> Result<(), Fail> {
     let mut disk = disk(rt.alloc(), &[])?;
     for words in [["store", ""], ["enrol", "a.st"], ["replay", "x"]] {
-        let got = run_over(rt.alloc(), &words, SECRET, &mut disk)?;
-        compare(&rt, &got, 2, b"");
+        name_nothing(&rt, rt.alloc(), &words, &mut disk)?;
     }
     Ok(())
 }

@@ -1,16 +1,13 @@
 //! Worlds, by `replay` and by `soak`.
 
-use crate::runs::{run_failing, words_of};
-use command_line::run;
+use crate::runs::{answers, run_failing, run_on};
 use ff_ids::{Epoch, Group, Mask, MemberId, NoteBody};
 use fields::Bytes;
 use fixtures::disk;
 use journal::{read_event, write_event};
 use lms_ots::OtsKind;
 use lms_tree::TreeKind;
-use ports::{
-    Clock, Disk, Link, LinkAnswer, MemoryClock, MemoryLink, MemorySink, MemorySource, Received,
-};
+use ports::{Clock, Disk, Link, LinkAnswer, MemoryClock, MemoryDisk, MemoryLink, Received};
 use records::{Body, Record, signed_bytes, write_record};
 use secrets::{make_key, world_secret};
 use std::alloc::Global;
@@ -35,10 +32,7 @@ fn replays(
 ) -> Result<(), Fail> {
     let text = format!(in alloc; "{WORLD}{rest}")?;
     let wanted = format!(in alloc; "{WORLD_TRACE}{trace}")?;
-    let got = run_failing(alloc, "replay", text.as_str(), 65_536, &[], &[])?;
-    assert_eq!(rt; got.written.as_slice(), wanted.as_bytes(), "for {rest}");
-    assert_eq!(rt; got.number, number, "for {rest}");
-    Ok(())
+    answers(rt, alloc, "replay", text.as_str(), wanted.as_str(), number)
 }
 
 #[test]
@@ -68,20 +62,25 @@ fn is_event(alloc: Global, text: &str) -> bool {
 const LIES: &str = "sign-note 2 2 1 7 a\ngive a 1\nsign-accusation 2 2 1 1 0 b\ngive b 1\n\
         sign-accusation 2 2 1 2 1 c\ngive c 1\nsign-accusation 2 2 1 now 1 d\ngive d 1\nend\n";
 
+/// Each line of what node 1 told is an event's, and there are so many.
+fn tells(rt: &impl Abort, alloc: Global, written: &[u8], count: u32) {
+    let mut events = 0u32;
+    for line in std::str::from_utf8(written).unwrap_or("").lines() {
+        if let Some(event) = line.strip_prefix("@1 ") {
+            assert!(rt; is_event(alloc, event), "{line}");
+            events = events.wrapping_add(1);
+        }
+    }
+    assert_eq!(rt; events, count);
+}
+
 #[test]
 fn what_is_told_in_a_world_is_read(rt: HostRuntime) -> Result<(), Fail> {
     let alloc = rt.alloc();
     let text = format!(in alloc; "{WORLD}{LIES}")?;
     let got = run_failing(alloc, "replay", text.as_str(), 65_536, &[], &[])?;
     assert_eq!(rt; got.number, 0);
-    let mut events = 0u32;
-    for line in std::str::from_utf8(&got.written).unwrap_or("").lines() {
-        if let Some(event) = line.strip_prefix("@1 ") {
-            assert!(rt; is_event(alloc, event), "{line}");
-            events = events.wrapping_add(1);
-        }
-    }
-    assert_eq!(rt; events, 13);
+    tells(&rt, alloc, &got.written, 13);
     Ok(())
 }
 
@@ -124,28 +123,44 @@ fn a_forged_record_ends_the_run(rt: HostRuntime) -> Result<(), Fail> {
     replays(&rt, rt.alloc(), rest.as_str(), "forged 8 1 note 1 9 7\n", 4)
 }
 
-#[test]
-fn a_forged_record_leaves_the_outside(rt: HostRuntime) -> Result<(), Fail> {
-    let alloc = rt.alloc();
+/// A forged record ends a run over these.
+fn replay_forged(
+    rt: &impl Abort,
+    alloc: Global,
+    disk: &mut MemoryDisk,
+    link: &mut MemoryLink,
+    clock: &mut MemoryClock,
+) -> Result<(), Fail> {
     let digits = forged_note(alloc)?;
     let text = format!(in alloc; "{WORLD}raw 1 {digits}\nend\n")?;
-    let words = words_of(alloc, &["replay"])?;
-    let mut input = MemorySource::new(text.as_bytes().to_vec(alloc)?, 4_096, Vec::new(alloc));
-    let mut out = MemorySink::new(alloc, 4_000, 4_096, Vec::new(alloc))?;
-    // At their first call disk and link fail, and the clock reads 7; at a second they do not.
-    let mut disk = disk(alloc, &[0])?;
-    let answers = vec![in alloc; LinkAnswer::Failed]?;
-    let mut link = MemoryLink::new(alloc, answers, Vec::new(alloc), false);
-    let mut clock = MemoryClock::new([7u64, 9].to_vec(alloc)?);
-    let status = run(
-        alloc, &words, &mut input, &mut out, &mut disk, &mut link, &mut clock,
-    );
-    assert_eq!(rt; status.number(), 4);
-    assert!(rt; out.bytes().ends_with(b"\nforged 8 1 note 1 9 7\n"));
+    let got = run_on(alloc, &["replay"], text.as_str(), 4_000, disk, link, clock)?;
+    assert_eq!(rt; got.number, 4);
+    assert!(rt; got.written.ends_with(b"\nforged 8 1 note 1 9 7\n"));
+    Ok(())
+}
+
+/// No call was made of these: at their first call disk and link fail, and the clock reads 7; at a second they do not.
+fn are_untouched(
+    rt: &impl Abort,
+    disk: &mut MemoryDisk,
+    link: &mut MemoryLink,
+    clock: &mut MemoryClock,
+) {
     assert!(rt; disk.len().is_err());
     assert!(rt; matches!(link.receive(&mut [0; 8]), Received::Failed));
     assert!(rt; link.sent().is_empty());
     assert_eq!(rt; clock.now(), 7);
+}
+
+#[test]
+fn a_forged_record_leaves_the_outside(rt: HostRuntime) -> Result<(), Fail> {
+    let alloc = rt.alloc();
+    let mut clock = MemoryClock::new([7u64, 9].to_vec(alloc)?);
+    let mut disk = disk(alloc, &[0])?;
+    let coming = vec![in alloc; LinkAnswer::Failed]?;
+    let mut link = MemoryLink::new(alloc, coming, Vec::new(alloc), false);
+    replay_forged(&rt, alloc, &mut disk, &mut link, &mut clock)?;
+    are_untouched(&rt, &mut disk, &mut link, &mut clock);
     Ok(())
 }
 
@@ -181,15 +196,23 @@ const REFUSED: [(&str, &str, &str); 16] = [
     ("node 1\nbegin\n", "", "bad 6 end\n"),
 ];
 
+/// The lines are kept, and the one behind them is refused.
+fn refuses(
+    rt: &impl Abort,
+    alloc: Global,
+    kept: &str,
+    line: &str,
+    refusal: &str,
+) -> Result<(), Fail> {
+    let text = format!(in alloc; "{SMALL}{kept}{line}")?;
+    let wanted = format!(in alloc; "{SMALL}{kept}{refusal}")?;
+    answers(rt, alloc, "replay", text.as_str(), wanted.as_str(), 3)
+}
+
 #[test]
 fn lines_that_a_world_refuses(rt: HostRuntime) -> Result<(), Fail> {
-    let alloc = rt.alloc();
     for (kept, line, refusal) in &REFUSED {
-        let text = format!(in alloc; "{SMALL}{kept}{line}")?;
-        let wanted = format!(in alloc; "{SMALL}{kept}{refusal}")?;
-        let got = run_failing(alloc, "replay", text.as_str(), 65_536, &[], &[])?;
-        assert_eq!(rt; got.written.as_slice(), wanted.as_bytes(), "for {line}");
-        assert_eq!(rt; got.number, 3, "for {line}");
+        refuses(&rt, rt.alloc(), kept, line, refusal)?;
     }
     Ok(())
 }
@@ -203,31 +226,44 @@ fn repeated(alloc: Global, words: &str, times: u32) -> Result<String, Fail> {
     Ok(text)
 }
 
-#[test]
-fn a_world_at_its_limits(rt: HostRuntime) -> Result<(), Fail> {
-    let alloc = rt.alloc();
-    let mut members = String::new(alloc);
+/// Replays the text, and compares what was written last.
+fn ends(rt: &impl Abort, alloc: Global, text: &str, end: &[u8]) -> Result<(), Fail> {
+    let got = run_failing(alloc, "replay", text, 65_536, &[], &[])?;
+    assert!(rt; got.written.ends_with(end));
+    Ok(())
+}
+
+/// The members of a world, of which there is one too many.
+fn too_many_members(rt: &impl Abort, alloc: Global) -> Result<(), Fail> {
+    let mut text = String::from_str(alloc, SMALL)?;
     for member in 0..32u8 {
-        members.push_str(format!(in alloc; "node {member}\n")?.as_str())?;
+        text.push_str(format!(in alloc; "node {member}\n")?.as_str())?;
     }
-    let text = format!(in alloc; "{SMALL}{members}liar 32\n")?;
-    let got = run_failing(alloc, "replay", text.as_str(), 65_536, &[], &[])?;
-    assert!(rt; got.written.ends_with(b"node 31\nbad 36 limit\n"));
+    text.push_str("liar 32\n")?;
+    ends(rt, alloc, text.as_str(), b"node 31\nbad 36 limit\n")
+}
+
+/// One tick more than a world may have.
+fn too_many_ticks(rt: &impl Abort, alloc: Global) -> Result<(), Fail> {
     let ticks = repeated(alloc, "tick 1 10000\n", 10)?;
     let text = format!(in alloc; "{SMALL}node 1\nbegin\n{ticks}tick 1 1\n")?;
-    let got = run_failing(alloc, "replay", text.as_str(), 65_536, &[], &[])?;
-    assert!(rt;
-        got.written
-            .ends_with(b"tick 1 10000 : refused stopped\nbad 16 limit\n")
-    );
+    let end = b"tick 1 10000 : refused stopped\nbad 16 limit\n";
+    ends(rt, alloc, text.as_str(), end)
+}
+
+/// The longest datagram, and one that is longer.
+fn too_many_bytes(rt: &impl Abort, alloc: Global) -> Result<(), Fail> {
     let bytes = repeated(alloc, "00", 32_769)?;
     let text = format!(in alloc; "{WORLD}raw 1 {bytes}\nraw 1 {bytes}00\n")?;
-    let got = run_failing(alloc, "replay", text.as_str(), 65_536, &[], &[])?;
-    assert!(rt;
-        got.written
-            .ends_with(b"00\n@1 at 0 bad-form 32768\nbad 9 limit\n")
-    );
-    Ok(())
+    let end = b"00\n@1 at 0 bad-form 32768\nbad 9 limit\n";
+    ends(rt, alloc, text.as_str(), end)
+}
+
+#[test]
+fn a_world_at_its_limits(rt: HostRuntime) -> Result<(), Fail> {
+    too_many_members(&rt, rt.alloc())?;
+    too_many_ticks(&rt, rt.alloc())?;
+    too_many_bytes(&rt, rt.alloc())
 }
 
 #[test]
