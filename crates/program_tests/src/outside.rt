@@ -6,6 +6,7 @@ use std::alloc::Global;
 use std::fs::Files;
 use std::io::{ErrorKind, Read, Write};
 use std::os::unix::fs::MetadataExt;
+use std::process::Abort;
 use std::test::Fail;
 use std::{fs, io, time};
 
@@ -108,59 +109,79 @@ fn make_folder(rt: &(impl Files + Alloc), folder: &str) -> Result<(), Fail> {
     Ok(())
 }
 
-#[test]
-fn disk_keeps_bytes_in_a_file(rt: HostRuntime) -> Result<(), Fail> {
-    make_folder(&rt, "edges_bytes")?;
+/// What is written over a new file is read there.
+fn keeps_bytes<D: Disk>(rt: &(impl Files + Alloc + Abort), disk: &mut D) -> Result<(), Fail> {
     let file = "edges_bytes/a.st";
-    let mut disk = FileDisk::new(rt.alloc(), &rt);
     assert!(rt; disk.len().is_err());
     assert!(rt; matches!(disk.open(file), Opened::Done));
     assert!(rt; disk.write_at(0, b"abcdef").is_ok());
     assert!(rt; disk.write_at(2, b"XY").is_ok());
     assert!(rt; disk.sync().is_ok());
     assert!(rt; matches!(disk.len(), Ok(6)));
-    assert_eq!(rt; fs::read(&rt, file)?.as_slice(), &b"abXYef"[..]);
+    assert_eq!(rt; fs::read(rt, file)?.as_slice(), &b"abXYef"[..]);
     assert!(rt; matches!(disk.open(file), Opened::Done));
     let mut buf = [b'-'; 8];
     assert!(rt; matches!(disk.read_at(1, &mut buf), Ok(5)));
     assert_eq!(rt; buf, *b"bXYef---");
     assert!(rt; disk.sync().is_ok());
+    Ok(())
+}
+
+#[test]
+fn disk_keeps_bytes_in_a_file(rt: HostRuntime) -> Result<(), Fail> {
+    make_folder(&rt, "edges_bytes")?;
+    keeps_bytes(&rt, &mut FileDisk::new(rt.alloc(), &rt))?;
     fs::remove_dir_all(&rt, "edges_bytes")?;
+    Ok(())
+}
+
+/// No file is made before the first write.
+fn makes_late<D: Disk>(rt: &(impl Files + Alloc + Abort), disk: &mut D) -> Result<(), Fail> {
+    let file = "edges_first/a.st";
+    assert!(rt; matches!(disk.open(file), Opened::Done));
+    assert!(rt; matches!(disk.len(), Ok(0)));
+    assert!(rt; matches!(disk.read_at(0, &mut [0; 8]), Ok(0)));
+    assert!(rt; disk.sync().is_ok());
+    assert!(rt; !fs::exists(rt, file)?);
+    assert!(rt; disk.write_at(0, b"a").is_ok());
+    assert_eq!(rt; fs::metadata(rt, file)?.mode() & 0o777, 0o600);
     Ok(())
 }
 
 #[test]
 fn disk_makes_its_file_at_the_first_write(rt: HostRuntime) -> Result<(), Fail> {
     make_folder(&rt, "edges_first")?;
-    let file = "edges_first/a.st";
-    let mut disk = FileDisk::new(rt.alloc(), &rt);
-    assert!(rt; matches!(disk.open(file), Opened::Done));
-    assert!(rt; matches!(disk.len(), Ok(0)));
-    assert!(rt; matches!(disk.read_at(0, &mut [0; 8]), Ok(0)));
-    assert!(rt; disk.sync().is_ok());
-    assert!(rt; !fs::exists(&rt, file)?);
-    assert!(rt; disk.write_at(0, b"a").is_ok());
-    assert_eq!(rt; fs::metadata(&rt, file)?.mode() & 0o777, 0o600);
+    makes_late(&rt, &mut FileDisk::new(rt.alloc(), &rt))?;
     fs::remove_dir_all(&rt, "edges_first")?;
     Ok(())
 }
 
-#[test]
-fn file_is_open_on_one_disk_at_a_time(rt: HostRuntime) -> Result<(), Fail> {
-    make_folder(&rt, "edges_lock")?;
+/// The second disk is refused the file as long as the first has it.
+fn take_turns<D: Disk>(
+    rt: &(impl Files + Alloc + Abort),
+    first: &mut D,
+    second: &mut D,
+) -> Result<(), Fail> {
     let file = "edges_lock/a.st";
-    let mut first = FileDisk::new(rt.alloc(), &rt);
-    let mut second = FileDisk::new(rt.alloc(), &rt);
     assert!(rt; matches!(first.open(file), Opened::Done));
     assert!(rt; matches!(second.open(file), Opened::Done));
     assert!(rt; first.write_at(0, b"first").is_ok());
     assert!(rt; second.write_at(0, b"second").is_err());
     assert!(rt; matches!(second.open(file), Opened::Failed));
     assert!(rt; second.read_at(0, &mut [0; 8]).is_err());
-    assert_eq!(rt; fs::read(&rt, file)?.as_slice(), &b"first"[..]);
+    assert_eq!(rt; fs::read(rt, file)?.as_slice(), &b"first"[..]);
     assert!(rt; matches!(first.open("edges_lock/b.st"), Opened::Done));
     assert!(rt; matches!(second.open(file), Opened::Done));
     assert!(rt; matches!(second.len(), Ok(5)));
+    Ok(())
+}
+
+#[test]
+fn file_is_open_on_one_disk_at_a_time(rt: HostRuntime) -> Result<(), Fail> {
+    make_folder(&rt, "edges_lock")?;
+    let mut first = FileDisk::new(rt.alloc(), &rt);
+    let mut second = FileDisk::new(rt.alloc(), &rt);
+    take_turns(&rt, &mut first, &mut second)?;
     fs::remove_dir_all(&rt, "edges_lock")?;
     Ok(())
 }
@@ -181,13 +202,11 @@ fn bind_from<L: Link>(link: &mut L, first: u16) -> Option<u16> {
     (first..first.saturating_add(1_000)).find(|port| matches!(link.bind(*port), Opened::Done))
 }
 
-#[test]
-fn link_moves_datagrams_between_two_ports(rt: HostRuntime) -> Result<(), Fail> {
-    let mut first = UdpLink::new(&rt);
-    let mut second = UdpLink::new(&rt);
+/// Datagrams move from the first to the port of the second, and as much of each as fits.
+fn moves_datagrams<L: Link>(rt: &impl Abort, first: &mut L, second: &mut L) -> Result<(), Fail> {
     assert_eq!(rt; second.send(20_000, b"early"), Sent::Failed);
-    bind_from(&mut first, 20_000).ok_or("no free port")?;
-    let port = bind_from(&mut second, 20_000).ok_or("no free port")?;
+    bind_from(first, 20_000).ok_or("no free port")?;
+    let port = bind_from(second, 20_000).ok_or("no free port")?;
     let mut buf = [b'-'; 8];
     assert_eq!(rt; second.receive(&mut buf), Received::Nothing);
     assert_eq!(rt; first.send(port, b"hello"), Sent::Done);
@@ -197,6 +216,13 @@ fn link_moves_datagrams_between_two_ports(rt: HostRuntime) -> Result<(), Fail> {
     assert_eq!(rt; second.receive(&mut buf), Received::Got(8));
     assert_eq!(rt; buf, *b"01234567");
     Ok(())
+}
+
+#[test]
+fn link_moves_datagrams_between_two_ports(rt: HostRuntime) -> Result<(), Fail> {
+    let mut first = UdpLink::new(&rt);
+    let mut second = UdpLink::new(&rt);
+    moves_datagrams(&rt, &mut first, &mut second)
 }
 
 #[test]

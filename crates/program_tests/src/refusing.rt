@@ -1,6 +1,6 @@
 //! Texts of operators that are refused, each for its first bad word. No disk is touched for them.
 
-use crate::runs::run_failing;
+use crate::runs::answers;
 use std::alloc::Global;
 use std::process::Abort;
 use std::test::Fail;
@@ -28,7 +28,21 @@ fn filled(alloc: Global, text: &str) -> Result<String, Fail> {
     Ok(filled)
 }
 
-/// Each text is refused, with its line and nothing before it.
+/// The text is refused, with its line and nothing before it.
+fn refuse_row(
+    rt: &impl Abort,
+    alloc: Global,
+    words: &str,
+    front: &str,
+    row: &Refused,
+) -> Result<(), Fail> {
+    let (rest, wanted) = row;
+    let rest = filled(alloc, rest)?;
+    let text = format!(in alloc; "{front}{rest}")?;
+    answers(rt, alloc, words, text.as_str(), wanted, 3)
+}
+
+/// Each text is refused.
 fn refuse(
     rt: &impl Abort,
     alloc: Global,
@@ -36,12 +50,8 @@ fn refuse(
     front: &str,
     rows: &[Refused],
 ) -> Result<(), Fail> {
-    for (rest, wanted) in rows {
-        let rest = filled(alloc, rest)?;
-        let text = format!(in alloc; "{front}{rest}")?;
-        let got = run_failing(alloc, words, text.as_str(), 65_536, &[], &[])?;
-        assert_eq!(rt; got.written.as_slice(), wanted.as_bytes(), "for {text}");
-        assert_eq!(rt; got.number, 3, "for {text}");
+    for row in rows {
+        refuse_row(rt, alloc, words, front, row)?;
     }
     Ok(())
 }
@@ -51,18 +61,31 @@ fn head(alloc: Global, kind: &str) -> Result<String, Fail> {
     Ok(format!(in alloc; "fireflies 1 {kind}\n{GROUP}kinds 2 5\n")?)
 }
 
+/// Nothing stands behind the header of this kind but what is refused.
+fn refuse_groups(rt: &impl Abort, alloc: Global, words: &str, kind: &str) -> Result<(), Fail> {
+    let header = format!(in alloc; "fireflies 1 {kind}\n")?;
+    refuse(rt, alloc, words, header.as_str(), &NO_GROUP)
+}
+
+/// Nothing stands behind the group but what is refused.
+fn refuse_kinds(rt: &impl Abort, alloc: Global, words: &str, kind: &str) -> Result<(), Fail> {
+    let grouped = format!(in alloc; "fireflies 1 {kind}\n{GROUP}")?;
+    refuse(rt, alloc, words, grouped.as_str(), &NO_KINDS)
+}
+
+/// The words of each command that reads a text of operators, and the kind of that text.
+const KINDS: [(&str, &str); 3] = [
+    ("store a.st", "secret"),
+    ("enroll a.st", "roster"),
+    ("node n.st 2", "kit"),
+];
+
 #[test]
 fn what_each_text_begins_with(rt: HostRuntime) -> Result<(), Fail> {
-    for (words, kind) in [
-        ("store a.st", "secret"),
-        ("enroll a.st", "roster"),
-        ("node n.st 2", "kit"),
-    ] {
+    for (words, kind) in KINDS {
         refuse(&rt, rt.alloc(), words, "", &NO_HEADER)?;
-        let header = format!(in rt.alloc(); "fireflies 1 {kind}\n")?;
-        refuse(&rt, rt.alloc(), words, header.as_str(), &NO_GROUP)?;
-        let grouped = format!(in rt.alloc(); "{header}{GROUP}")?;
-        refuse(&rt, rt.alloc(), words, grouped.as_str(), &NO_KINDS)?;
+        refuse_groups(&rt, rt.alloc(), words, kind)?;
+        refuse_kinds(&rt, rt.alloc(), words, kind)?;
     }
     Ok(())
 }
@@ -129,18 +152,17 @@ const NO_KINDS: [Refused; 6] = [
     ("kinds 2 5", "bad 3 line-feed\n"),
 ];
 
+/// What stands behind the head of a secret's text, and behind its secret.
+fn refuse_secrets(rt: &impl Abort, alloc: Global, head: &str) -> Result<(), Fail> {
+    refuse(rt, alloc, "store a.st", head, &SECRETS)?;
+    let whole = format!(in alloc; "{head}{SECRET}")?;
+    refuse(rt, alloc, "store a.st", whole.as_str(), &BEHIND_SECRET)
+}
+
 #[test]
 fn the_text_of_a_secret(rt: HostRuntime) -> Result<(), Fail> {
     let head = head(rt.alloc(), "secret")?;
-    refuse(&rt, rt.alloc(), "store a.st", head.as_str(), &SECRETS)?;
-    let whole = format!(in rt.alloc(); "{head}{SECRET}")?;
-    refuse(
-        &rt,
-        rt.alloc(),
-        "store a.st",
-        whole.as_str(),
-        &BEHIND_SECRET,
-    )
+    refuse_secrets(&rt, rt.alloc(), head.as_str())
 }
 
 /// A secret of 31 bytes, one of 33, and others that are none.
@@ -168,12 +190,17 @@ const BEHIND_SECRET: [Refused; 6] = [
     ("cert 1 20001 #\n", "bad 5 word\n"),
 ];
 
+/// What stands behind the head of a roster, and behind its secret.
+fn refuse_rosters(rt: &impl Abort, alloc: Global, head: &str) -> Result<(), Fail> {
+    refuse(rt, alloc, "enroll a.st", head, &SECRETS)?;
+    let front = format!(in alloc; "{head}{SECRET}")?;
+    refuse(rt, alloc, "enroll a.st", front.as_str(), &ASKED)
+}
+
 #[test]
 fn the_text_of_a_roster(rt: HostRuntime) -> Result<(), Fail> {
     let head = head(rt.alloc(), "roster")?;
-    let front = format!(in rt.alloc(); "{head}{SECRET}")?;
-    refuse(&rt, rt.alloc(), "enroll a.st", head.as_str(), &SECRETS)?;
-    refuse(&rt, rt.alloc(), "enroll a.st", front.as_str(), &ASKED)
+    refuse_rosters(&rt, rt.alloc(), head.as_str())
 }
 
 const ASKED: [Refused; 13] = [
@@ -199,12 +226,22 @@ fn owned(alloc: Global) -> Result<String, Fail> {
     Ok(format!(in alloc; "{head}self 1 {own}")?)
 }
 
+/// What stands behind the head of a kit.
+fn refuse_kits(rt: &impl Abort, alloc: Global) -> Result<(), Fail> {
+    let head = head(alloc, "kit")?;
+    refuse(rt, alloc, "node n.st 2", head.as_str(), &OWN)
+}
+
+/// What stands behind the member's own line.
+fn refuse_owned(rt: &impl Abort, alloc: Global) -> Result<(), Fail> {
+    let owned = owned(alloc)?;
+    refuse(rt, alloc, "node n.st 2", owned.as_str(), &BEHIND_OWN)
+}
+
 #[test]
 fn the_text_of_a_member(rt: HostRuntime) -> Result<(), Fail> {
-    let head = head(rt.alloc(), "kit")?;
-    refuse(&rt, rt.alloc(), "node n.st 2", head.as_str(), &OWN)?;
-    let owned = owned(rt.alloc())?;
-    refuse(&rt, rt.alloc(), "node n.st 2", owned.as_str(), &BEHIND_OWN)
+    refuse_kits(&rt, rt.alloc())?;
+    refuse_owned(&rt, rt.alloc())
 }
 
 const OWN: [Refused; 5] = [
@@ -236,21 +273,26 @@ const CERTIFIED: [Refused; 4] = [
     ("cert 1 20001 # 00\n", "bad 7 cert\n"),
 ];
 
-#[test]
-fn a_line_that_is_too_long(rt: HostRuntime) -> Result<(), Fail> {
-    let mut line = String::new(rt.alloc());
-    for _ in 0..65_601u32 {
+/// A line of so many letters.
+fn letters(alloc: Global, count: usize) -> Result<String, Fail> {
+    let mut line = String::new(alloc);
+    for _ in 0..count {
         line.push('v')?;
     }
-    for (words, kind) in [
-        ("store a.st", "secret"),
-        ("enroll a.st", "roster"),
-        ("node n.st 2", "kit"),
-    ] {
-        let text = format!(in rt.alloc(); "fireflies 1 {kind}\n{line}\n")?;
-        let got = run_failing(rt.alloc(), words, text.as_str(), 65_536, &[], &[])?;
-        assert_eq!(rt; got.written.as_slice(), b"bad 2 long\n".as_slice());
-        assert_eq!(rt; got.number, 3);
+    Ok(line)
+}
+
+/// Each command refuses this line.
+fn refuse_long(rt: &impl Abort, alloc: Global, line: &str) -> Result<(), Fail> {
+    for (words, kind) in KINDS {
+        let text = format!(in alloc; "fireflies 1 {kind}\n{line}\n")?;
+        answers(rt, alloc, words, text.as_str(), "bad 2 long\n", 3)?;
     }
     Ok(())
+}
+
+#[test]
+fn a_line_that_is_too_long(rt: HostRuntime) -> Result<(), Fail> {
+    let line = letters(rt.alloc(), 65_601)?;
+    refuse_long(&rt, rt.alloc(), line.as_str())
 }

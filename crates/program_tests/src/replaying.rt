@@ -1,6 +1,6 @@
 //! Worked texts, played by `run` over objects in memory.
 
-use crate::runs::run_failing;
+use crate::runs::{Run, answers, run_failing};
 use std::alloc::Global;
 use std::process::Abort;
 use std::test::Fail;
@@ -52,14 +52,18 @@ impl Front {
 /// What stands behind the front, what is written for it, and the number of the answer.
 type Row = (Front, &'static str, &'static str, u8);
 
-/// Plays each row, and compares what was written and the number.
+/// Plays the row, and compares what was written and the number.
+fn play_row(rt: &impl Abort, alloc: Global, row: &Row) -> Result<(), Fail> {
+    let (front, rest, trace, number) = row;
+    let text = format!(in alloc; "{}{rest}", front.text())?;
+    let wanted = format!(in alloc; "{}{trace}", front.trace())?;
+    answers(rt, alloc, "replay", text.as_str(), wanted.as_str(), *number)
+}
+
+/// Plays each row.
 fn play_rows(rt: &impl Abort, alloc: Global, rows: &[Row]) -> Result<(), Fail> {
-    for (front, rest, trace, number) in rows {
-        let text = format!(in alloc; "{}{rest}", front.text())?;
-        let wanted = format!(in alloc; "{}{trace}", front.trace())?;
-        let got = run_failing(alloc, "replay", text.as_str(), 65_536, &[], &[])?;
-        assert_eq!(rt; got.written.as_slice(), wanted.as_bytes(), "for {text}");
-        assert_eq!(rt; got.number, *number, "for {text}");
+    for row in rows {
+        play_row(rt, alloc, row)?;
     }
     Ok(())
 }
@@ -310,73 +314,91 @@ const ACCUSED: [Row; 10] = [
     ),
 ];
 
+/// Words that name no command, of which some are near to one.
+const NO_COMMAND: [&str; 18] = [
+    "",
+    "replay x",
+    "verify x",
+    "node s",
+    "node s 0",
+    "node s 1000001",
+    "node s 01",
+    "node s 1 2",
+    "soak",
+    "soak x 3 1",
+    "soak 7 2 1",
+    "soak 7 33 1",
+    "soak 7 3 0",
+    "soak 7 3 1001",
+    "soak 7 3",
+    "soak 18446744073709551616 3 1",
+    "soak 7 3 1 1",
+    "--help",
+];
+
 #[test]
 fn words_that_name_no_command(rt: HostRuntime) -> Result<(), Fail> {
-    for words in [
-        "",
-        "replay x",
-        "verify x",
-        "node s",
-        "node s 0",
-        "node s 1000001",
-        "node s 01",
-        "node s 1 2",
-        "soak",
-        "soak x 3 1",
-        "soak 7 2 1",
-        "soak 7 33 1",
-        "soak 7 3 0",
-        "soak 7 3 1001",
-        "soak 7 3",
-        "soak 18446744073709551616 3 1",
-        "soak 7 3 1 1",
-        "--help",
-    ] {
+    for words in NO_COMMAND {
         let got = run_failing(rt.alloc(), words, SHORT, 1, &[], &[])?;
-        assert_eq!(rt; got.number, 2);
-        assert!(rt; got.written.is_empty());
+        is_run(&rt, &got, b"", 2, 0);
     }
+    Ok(())
+}
+
+/// Compares what was written and the number of a run whose call fails.
+fn is_run(rt: &impl Abort, got: &Run, written: &[u8], number: u8, call: u64) {
+    assert_eq!(rt; got.written.as_slice(), written, "at call {call}");
+    assert_eq!(rt; got.number, number, "at call {call}");
+}
+
+/// The lines of the shortest text that a source gave whole before this call.
+fn whole_lines(call: u64) -> &'static str {
+    match call {
+        0..19 => "",
+        19..29 => "fireflies 1 direct\n",
+        29..33 => HEAD,
+        _ => SHORT,
+    }
+}
+
+/// Plays the shortest text from a source that fails at this call.
+fn fail_source(rt: &impl Abort, alloc: Global, call: u64) -> Result<(), Fail> {
+    let wanted = format!(in alloc; "{}read fault\n", whole_lines(call))?;
+    let got = run_failing(alloc, "replay", SHORT, 1, &[call], &[])?;
+    is_run(rt, &got, wanted.as_bytes(), 5, call);
     Ok(())
 }
 
 #[test]
 fn a_source_that_fails_at_each_call(rt: HostRuntime) -> Result<(), Fail> {
-    let alloc = rt.alloc();
     for call in 0..34u64 {
-        let got = run_failing(alloc, "replay", SHORT, 1, &[call], &[])?;
-        let whole_lines = match call {
-            0..19 => "",
-            19..29 => "fireflies 1 direct\n",
-            29..33 => HEAD,
-            _ => SHORT,
-        };
-        let wanted = format!(in alloc; "{whole_lines}read fault\n")?;
-        assert_eq!(rt; got.written.as_slice(), wanted.as_bytes(), "at call {call}");
-        assert_eq!(rt; got.number, 5, "at call {call}");
+        fail_source(&rt, rt.alloc(), call)?;
     }
-    let past_the_end = run_failing(alloc, "replay", SHORT, 1, &[34], &[])?;
-    assert_eq!(rt; past_the_end.written.as_slice(), SHORT.as_bytes());
-    assert_eq!(rt; past_the_end.number, 0);
+    let past_the_end = run_failing(rt.alloc(), "replay", SHORT, 1, &[34], &[])?;
+    is_run(&rt, &past_the_end, SHORT.as_bytes(), 0, 34);
+    Ok(())
+}
+
+/// Plays the shortest text to a sink that fails at this call.
+fn fail_sink(rt: &impl Abort, alloc: Global, call: u64) -> Result<(), Fail> {
+    let wanted = SHORT
+        .as_bytes()
+        .iter()
+        .take(call as usize)
+        .copied()
+        .collect::<Vec<u8>>(alloc)?;
+    let got = run_failing(alloc, "replay", SHORT, 1, &[], &[call])?;
+    is_run(rt, &got, wanted.as_slice(), 6, call);
     Ok(())
 }
 
 #[test]
 fn a_sink_that_fails_at_each_call(rt: HostRuntime) -> Result<(), Fail> {
-    let alloc = rt.alloc();
     for call in 0..33u64 {
-        let got = run_failing(alloc, "replay", SHORT, 1, &[], &[call])?;
-        let wanted = SHORT
-            .as_bytes()
-            .iter()
-            .take(call as usize)
-            .copied()
-            .collect::<Vec<u8>>(alloc)?;
-        assert_eq!(rt; got.written.as_slice(), wanted.as_slice(), "at call {call}");
-        assert_eq!(rt; got.number, 6, "at call {call}");
+        fail_sink(&rt, rt.alloc(), call)?;
     }
-    let past_the_end = run_failing(alloc, "replay", SHORT, 1, &[], &[33])?;
-    assert_eq!(rt; past_the_end.written.as_slice(), SHORT.as_bytes());
-    assert_eq!(rt; past_the_end.number, 0);
+    let past_the_end = run_failing(rt.alloc(), "replay", SHORT, 1, &[], &[33])?;
+    is_run(&rt, &past_the_end, SHORT.as_bytes(), 0, 33);
     Ok(())
 }
 
@@ -390,41 +412,46 @@ fn repeated(alloc: Global, line: &str, times: u32, rest: &str) -> Result<String,
     Ok(text)
 }
 
+/// A line and its times, the rest behind it, what is written last, and the number of the answer.
+type Limit = (&'static str, u32, &'static str, &'static str, u8);
+
+const LIMITS: [Limit; 5] = [
+    ("monitor 0 1\n", 99_997, "end\n", "unknown-member\nend\n", 0),
+    (
+        "monitor 0 1\n",
+        99_998,
+        "view\n",
+        "unknown-member\nbad 100001 lines\n",
+        3,
+    ),
+    (
+        "tick 10000\n",
+        100,
+        "tick 1\n",
+        "tick 10000\nbad 103 limit\n",
+        3,
+    ),
+    ("v", 65_600, "\n", "group 1 3\nbad 3 word\n", 3),
+    ("v", 65_601, "\n", "group 1 3\nbad 3 long\n", 3),
+];
+
+/// Plays a text that is as long as a text may be, or longer.
+fn play_limit(rt: &impl Abort, alloc: Global, limit: &Limit) -> Result<(), Fail> {
+    let (line, times, rest, last, number) = limit;
+    let text = repeated(alloc, line, *times, rest)?;
+    let got = run_failing(alloc, "replay", text.as_str(), 65_536, &[], &[])?;
+    assert!(rt;
+        got.written.ends_with(last.as_bytes()),
+        "for {times} times {line}"
+    );
+    assert_eq!(rt; got.number, *number, "for {times} times {line}");
+    Ok(())
+}
+
 #[test]
 fn texts_at_the_limits(rt: HostRuntime) -> Result<(), Fail> {
-    let alloc = rt.alloc();
-    for (line, times, rest, last, number) in [
-        (
-            "monitor 0 1\n",
-            99_997u32,
-            "end\n",
-            "unknown-member\nend\n",
-            0u8,
-        ),
-        (
-            "monitor 0 1\n",
-            99_998,
-            "view\n",
-            "unknown-member\nbad 100001 lines\n",
-            3,
-        ),
-        (
-            "tick 10000\n",
-            100,
-            "tick 1\n",
-            "tick 10000\nbad 103 limit\n",
-            3,
-        ),
-        ("v", 65_600, "\n", "group 1 3\nbad 3 word\n", 3),
-        ("v", 65_601, "\n", "group 1 3\nbad 3 long\n", 3),
-    ] {
-        let text = repeated(alloc, line, times, rest)?;
-        let got = run_failing(alloc, "replay", text.as_str(), 65_536, &[], &[])?;
-        assert!(rt;
-            got.written.ends_with(last.as_bytes()),
-            "for {times} times {line}"
-        );
-        assert_eq!(rt; got.number, number, "for {times} times {line}");
+    for limit in &LIMITS {
+        play_limit(&rt, rt.alloc(), limit)?;
     }
     Ok(())
 }

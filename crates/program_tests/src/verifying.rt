@@ -1,6 +1,6 @@
 //! Texts that ask whether a signature is good, answered by `run`.
 
-use crate::runs::run_failing;
+use crate::runs::{answers, run_failing};
 use lms_ots::OtsKind;
 use lms_tree::{PublicKey, SecretKey, TreeKind};
 use std::alloc::Global;
@@ -39,75 +39,125 @@ fn text_of(
     )?)
 }
 
-/// Answers a text, and compares what was written and the number.
-fn compare(
+/// A byte at a place, and what is answered to a signature that has it there.
+type Set = (usize, u8, &'static str);
+
+const SETS: [Set; 8] = [
+    (0, 0, "signature good\n"),
+    (2184, 1, "signature refused tree-type\n"),
+    (2187, 6, "signature refused tree-type\n"),
+    (4, 1, "signature refused ots-type\n"),
+    (7, 4, "signature refused ots-type\n"),
+    (3, 32, "signature refused index\n"),
+    (3, 1, "signature refused root\n"),
+    (3, 31, "signature refused root\n"),
+];
+
+/// The signature is answered so.
+fn is_answered(
     rt: &impl Abort,
     alloc: Global,
-    text: &str,
+    key: &PublicKey,
+    signature: &[u8],
     wanted: &str,
-    number: u8,
 ) -> Result<(), Fail> {
-    let got = run_failing(alloc, "verify", text, 65_536, &[], &[])?;
-    assert_eq!(rt; got.written.as_slice(), wanted.as_bytes(), "for {text}");
-    assert_eq!(rt; got.number, number, "for {text}");
+    let text = text_of(alloc, key, b"message", signature)?;
+    answers(rt, alloc, "verify", text.as_str(), wanted, 0)
+}
+
+/// The signature with this byte at the place is answered so.
+fn set_is_answered(
+    rt: &impl Abort,
+    alloc: Global,
+    key: &PublicKey,
+    signature: &[u8],
+    set: Set,
+) -> Result<(), Fail> {
+    let (place, byte, wanted) = set;
+    let mut changed = signature.to_vec(alloc)?;
+    if let Some(there) = changed.as_mut_slice().get_mut(place) {
+        *there = byte;
+    }
+    is_answered(rt, alloc, key, changed.as_slice(), wanted)
+}
+
+/// A bit is changed at each of these places.
+fn flips_are_refused(
+    rt: &impl Abort,
+    alloc: Global,
+    key: &PublicKey,
+    signature: &[u8],
+) -> Result<(), Fail> {
+    for place in [8usize, 40, 2183, 2188, 2347] {
+        let byte = signature.get(place).copied().unwrap_or(0) ^ 1;
+        let set = (place, byte, "signature refused root\n");
+        set_is_answered(rt, alloc, key, signature, set)?;
+    }
     Ok(())
+}
+
+/// A signature that is shorter, one that is longer, and none.
+fn lengths_are_refused(
+    rt: &impl Abort,
+    alloc: Global,
+    key: &PublicKey,
+    signature: &[u8],
+) -> Result<(), Fail> {
+    let refused = "signature refused length\n";
+    let shorter = signature.get(..2347).unwrap_or(&[]);
+    is_answered(rt, alloc, key, shorter, refused)?;
+    is_answered(rt, alloc, key, &[], refused)?;
+    let mut longer = signature.to_vec(alloc)?;
+    longer.push(0)?;
+    is_answered(rt, alloc, key, longer.as_slice(), refused)
+}
+
+/// Each of the changed signatures is answered so.
+fn changes_are_answered(
+    rt: &impl Abort,
+    alloc: Global,
+    key: &PublicKey,
+    signature: &[u8],
+) -> Result<(), Fail> {
+    for set in SETS {
+        set_is_answered(rt, alloc, key, signature, set)?;
+    }
+    flips_are_refused(rt, alloc, key, signature)?;
+    lengths_are_refused(rt, alloc, key, signature)
 }
 
 #[test]
 fn a_signature_and_changed_ones(rt: HostRuntime) -> Result<(), Fail> {
-    let alloc = rt.alloc();
-    let (key, signature) = signed(alloc, b"message")?;
-    for (place, byte, wanted) in [
-        (0usize, 0u8, "signature good\n"),
-        (2184, 1, "signature refused tree-type\n"),
-        (2187, 6, "signature refused tree-type\n"),
-        (4, 1, "signature refused ots-type\n"),
-        (7, 4, "signature refused ots-type\n"),
-        (3, 32, "signature refused index\n"),
-        (3, 1, "signature refused root\n"),
-        (3, 31, "signature refused root\n"),
-    ] {
-        let mut changed = signature.clone()?;
-        if let Some(there) = changed.as_mut_slice().get_mut(place) {
-            *there = byte;
-        }
-        let text = text_of(alloc, &key, b"message", changed.as_slice())?;
-        compare(&rt, alloc, text.as_str(), wanted, 0)?;
-    }
-    for place in [8usize, 40, 2183, 2188, 2347] {
-        let mut changed = signature.clone()?;
-        if let Some(there) = changed.as_mut_slice().get_mut(place) {
-            *there ^= 1;
-        }
-        let text = text_of(alloc, &key, b"message", changed.as_slice())?;
-        compare(&rt, alloc, text.as_str(), "signature refused root\n", 0)?;
-    }
-    let mut longer = signature.clone()?;
-    longer.push(0)?;
-    for other in [
-        signature.as_slice().get(..2347).unwrap_or(&[]),
-        longer.as_slice(),
-        &[],
-    ] {
-        let text = text_of(alloc, &key, b"message", other)?;
-        compare(&rt, alloc, text.as_str(), "signature refused length\n", 0)?;
-    }
-    Ok(())
+    let (key, signature) = signed(rt.alloc(), b"message")?;
+    changes_are_answered(&rt, rt.alloc(), &key, signature.as_slice())
+}
+
+/// The signature of the empty message is good.
+fn is_good(rt: &impl Abort, alloc: Global, key: &PublicKey, signature: &[u8]) -> Result<(), Fail> {
+    let text = text_of(alloc, key, b"", signature)?;
+    answers(rt, alloc, "verify", text.as_str(), "signature good\n", 0)
+}
+
+/// It is good in upper case.
+fn is_good_in_upper_case(
+    rt: &impl Abort,
+    alloc: Global,
+    key: &PublicKey,
+    signature: &[u8],
+) -> Result<(), Fail> {
+    let key = hex::encode_upper(alloc, key.write().as_slice())?;
+    let signature = hex::encode_upper(alloc, signature)?;
+    let text = format!(in alloc;
+        "fireflies 1 verify\nkey {key}\nmessage -\nsignature {signature}\nend\n"
+    )?;
+    answers(rt, alloc, "verify", text.as_str(), "signature good\n", 0)
 }
 
 #[test]
 fn an_empty_message_and_upper_case(rt: HostRuntime) -> Result<(), Fail> {
-    let alloc = rt.alloc();
-    let (key, signature) = signed(alloc, b"")?;
-    let text = text_of(alloc, &key, b"", signature.as_slice())?;
-    compare(&rt, alloc, text.as_str(), "signature good\n", 0)?;
-
-    let key = hex::encode_upper(alloc, key.write().as_slice())?;
-    let signature = hex::encode_upper(alloc, signature.as_slice())?;
-    let text = format!(in alloc;
-        "fireflies 1 verify\nkey {key}\nmessage -\nsignature {signature}\nend\n"
-    )?;
-    compare(&rt, alloc, text.as_str(), "signature good\n", 0)
+    let (key, signature) = signed(rt.alloc(), b"")?;
+    is_good(&rt, rt.alloc(), &key, signature.as_slice())?;
+    is_good_in_upper_case(&rt, rt.alloc(), &key, signature.as_slice())
 }
 
 const KEY: &str =
@@ -116,51 +166,92 @@ const KEY: &str =
 const KEY_OF_NO_TREE: &str =
     "key 0000000900000003000102030405060708090a0b0c0d0e0f000102030405060708090a0b0c0d0e0f101112131415161718191a1b1c1d1e1f\n";
 
+/// What stands below the header, with the line of a key for `KEY`, and the line that is answered.
+const REFUSED: [(&str, &str); 13] = [
+    ("key 0\n", "bad 2 hex\n"),
+    ("key -\n", "bad 2 hex\n"),
+    ("key 00\n", "bad 2 limit\n"),
+    ("key\n", "bad 2 count\n"),
+    ("message -\n", "bad 2 order\n"),
+    ("fireflies 1 verify\n", "bad 2 word\n"),
+    ("", "bad 2 end\n"),
+    ("KEYmessage 000\n", "bad 3 hex\n"),
+    ("KEYmessage 0x\n", "bad 3 hex\n"),
+    ("KEYmessage -\nend\n", "bad 4 order\n"),
+    ("KEYmessage -\nsignature -\n", "bad 5 end\n"),
+    ("KEYmessage -\nsignature -\nend", "bad 5 line-feed\n"),
+    ("KEYmessage -\nsignature -\nend\nx", "bad 6 after-end\n"),
+];
+
+/// The text with these parts below its header is refused.
+fn refuse(rt: &impl Abort, alloc: Global, key: &str, rest: &str, wanted: &str) -> Result<(), Fail> {
+    let text = format!(in alloc; "fireflies 1 verify\n{key}{rest}")?;
+    answers(rt, alloc, "verify", text.as_str(), wanted, 3)
+}
+
 #[test]
 fn texts_that_are_refused(rt: HostRuntime) -> Result<(), Fail> {
-    for (below_header, wanted) in [
-        ("key 0\n", "bad 2 hex\n"),
-        ("key -\n", "bad 2 hex\n"),
-        ("key 00\n", "bad 2 limit\n"),
-        ("key\n", "bad 2 count\n"),
-        ("message -\n", "bad 2 order\n"),
-        ("fireflies 1 verify\n", "bad 2 word\n"),
-        ("", "bad 2 end\n"),
-        ("KEYmessage 000\n", "bad 3 hex\n"),
-        ("KEYmessage 0x\n", "bad 3 hex\n"),
-        ("KEYmessage -\nend\n", "bad 4 order\n"),
-        ("KEYmessage -\nsignature -\n", "bad 5 end\n"),
-        ("KEYmessage -\nsignature -\nend", "bad 5 line-feed\n"),
-        ("KEYmessage -\nsignature -\nend\nx", "bad 6 after-end\n"),
-    ] {
-        let lines = match below_header.strip_prefix("KEY") {
-            Some(rest) => format!(in rt.alloc(); "{KEY}{rest}")?,
-            None => String::from_str(rt.alloc(), below_header)?,
+    for (below_header, wanted) in REFUSED {
+        let (key, rest) = match below_header.strip_prefix("KEY") {
+            Some(rest) => (KEY, rest),
+            None => ("", below_header),
         };
-        let text = format!(in rt.alloc(); "fireflies 1 verify\n{lines}")?;
-        compare(&rt, rt.alloc(), text.as_str(), wanted, 3)?;
+        refuse(&rt, rt.alloc(), key, rest, wanted)?;
     }
-    compare(&rt, rt.alloc(), "", "bad 1 end\n", 3)?;
-    compare(&rt, rt.alloc(), "fireflies 1 direct\n", "bad 1 header\n", 3)?;
-    let text = format!(in rt.alloc(); "fireflies 1 verify\n{KEY_OF_NO_TREE}")?;
-    compare(&rt, rt.alloc(), text.as_str(), "bad 2 limit\n", 3)
+    refuse(&rt, rt.alloc(), KEY_OF_NO_TREE, "", "bad 2 limit\n")?;
+    answers(&rt, rt.alloc(), "verify", "", "bad 1 end\n", 3)?;
+    answers(
+        &rt,
+        rt.alloc(),
+        "verify",
+        "fireflies 1 direct\n",
+        "bad 1 header\n",
+        3,
+    )
+}
+
+/// Answers a text with a message and a signature of so many bytes.
+fn answer_lengths(
+    rt: &impl Abort,
+    alloc: Global,
+    key: &PublicKey,
+    lengths: (usize, usize),
+    wanted: &str,
+    number: u8,
+) -> Result<(), Fail> {
+    let message = vec![in alloc; 7u8; lengths.0]?;
+    let signature = vec![in alloc; 8u8; lengths.1]?;
+    let text = text_of(alloc, key, message.as_slice(), signature.as_slice())?;
+    answers(rt, alloc, "verify", text.as_str(), wanted, number)
 }
 
 #[test]
 fn bytes_at_the_limits(rt: HostRuntime) -> Result<(), Fail> {
-    let alloc = rt.alloc();
-    let (key, _) = signed(alloc, b"")?;
-    for (message, signature, wanted, number) in [
-        (16_384usize, 10_000usize, "signature refused length\n", 0),
-        (16_384, 2_348, "signature refused tree-type\n", 0),
-        (16_385, 2_348, "bad 3 limit\n", 3),
-        (16_384, 10_001, "bad 4 limit\n", 3),
+    let (key, _) = signed(rt.alloc(), b"")?;
+    for (lengths, wanted, number) in [
+        ((16_384usize, 10_000usize), "signature refused length\n", 0),
+        ((16_384, 2_348), "signature refused tree-type\n", 0),
+        ((16_385, 2_348), "bad 3 limit\n", 3),
+        ((16_384, 10_001), "bad 4 limit\n", 3),
     ] {
-        let message = vec![in alloc; 7u8; message]?;
-        let signature = vec![in alloc; 8u8; signature]?;
-        let text = text_of(alloc, &key, message.as_slice(), signature.as_slice())?;
-        compare(&rt, alloc, text.as_str(), wanted, number)?;
+        answer_lengths(&rt, rt.alloc(), &key, lengths, wanted, number)?;
     }
+    Ok(())
+}
+
+/// The source fails in the last line of the text.
+fn cut(rt: &impl Abort, alloc: Global, text: &str) -> Result<(), Fail> {
+    let got = run_failing(alloc, "verify", text, 1, &[160], &[])?;
+    assert_eq!(rt; got.written.as_slice(), b"read fault\n".as_slice());
+    assert_eq!(rt; got.number, 5);
+    Ok(())
+}
+
+/// The sink fails in the answer.
+fn cut_answer(rt: &impl Abort, alloc: Global, text: &str) -> Result<(), Fail> {
+    let got = run_failing(alloc, "verify", text, 1, &[], &[9])?;
+    assert_eq!(rt; got.written.as_slice(), b"signature".as_slice());
+    assert_eq!(rt; got.number, 6);
     Ok(())
 }
 
@@ -168,11 +259,6 @@ fn bytes_at_the_limits(rt: HostRuntime) -> Result<(), Fail> {
 fn nothing_is_written_before_the_end(rt: HostRuntime) -> Result<(), Fail> {
     let alloc = rt.alloc();
     let text = format!(in alloc; "fireflies 1 verify\n{KEY}message -\nsignature -\nend\n")?;
-    let cut = run_failing(alloc, "verify", text.as_str(), 1, &[160], &[])?;
-    assert_eq!(rt; cut.written.as_slice(), b"read fault\n".as_slice());
-    assert_eq!(rt; cut.number, 5);
-    let whole = run_failing(alloc, "verify", text.as_str(), 1, &[], &[9])?;
-    assert_eq!(rt; whole.written.as_slice(), b"signature".as_slice());
-    assert_eq!(rt; whole.number, 6);
-    Ok(())
+    cut(&rt, alloc, text.as_str())?;
+    cut_answer(&rt, alloc, text.as_str())
 }
