@@ -83,12 +83,12 @@ fn fault_of(alloc: Global, bytes: &[u8]) -> Option<FormFault> {
 }
 
 /// A record of the body is read from the first so many of the bytes.
-fn compare_read(rt: &impl Abort, alloc: Global, bytes: &[u8], body: Body, length: usize) {
+fn compare_read(rt: &impl Abort, alloc: Global, bytes: &[u8], body: &Body, length: usize) {
     let Ok((again, taken)) = read_record(alloc, bytes) else {
         panic!(rt; "the record is read");
     };
     assert_eq!(rt; taken, length);
-    assert_eq!(rt; again.body, body);
+    assert_eq!(rt; again.body, *body);
     assert_eq!(rt; again.signature.as_slice(), [0xa5u8; 5].as_slice());
 }
 
@@ -110,7 +110,7 @@ fn read_back(rt: &impl Abort, alloc: Global, body: Body, starts: &[usize]) -> Re
     let mut bytes = written(alloc, body)?;
     let length = bytes.len();
     bytes.push(0xff)?;
-    compare_read(rt, alloc, bytes.as_slice(), body, length);
+    compare_read(rt, alloc, bytes.as_slice(), &body, length);
     bytes.pop();
     compare_cuts(rt, alloc, bytes.as_slice(), starts);
     Ok(())
