@@ -27,10 +27,10 @@ pub record JournalRests (feed : NetInputs) (was now : IoState) (old : OfDisk) : 
   pub rests : (moment m : ℕ) → IsLineOf (removal_line moment m) bytes
       → IsGiven was old feed moment (told.Removed m)
 
--- Each whole line that was written and gives that a delivered note or accusation was accepted, that the node signed an accusation,
--- or that one expired: so it was, just then, in the life that the run began. No note that the life had accepted by then is of a
--- later epoch than the accusation against its member; and where one answers it otherwise, it expires only where it was accepted
--- again behind the note, and stood since, for the timeout.
+-- Each whole line that was written and gives that a delivered note or accusation was accepted, or that an accusation expired: so it
+-- was, at that moment, in the life that the run began. Of one that gives a signature over an accusation a tick of the life has the
+-- moment. No note that the life had accepted by then is of a later epoch than the accusation against its member; and where one
+-- answers it otherwise, it expires only where it was accepted again behind the note, and stood since, for the timeout.
 pub record JournalAnswers (feed : NetInputs) (was now : IoState) (old : OfDisk) : Type 0 where
   pub bytes : List ℕ
   pub written : Appends was.taken now.taken bytes

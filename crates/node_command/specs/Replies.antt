@@ -111,8 +111,7 @@ pub record GivesAccepted (s : Setting) (start : ServeState) (acts : List Act) (l
 
 -- ## What the node signs
 
--- At a tick among these acts, which brings the moment, the node accuses. No note that the life accepted before outdates the
--- accusation.
+-- A tick among these acts brings the moment, and no note that the life accepted before outdates the accusation.
 pub record Signs (s : Setting) (start : ServeState) (acts : List Act) (moment : ℕ) (a : AccBody)
     : Type 0 where
   pub before : List Act

@@ -79,8 +79,9 @@ UnlessCut other P = P
 abbrev pub event_line : ℕ → whats.What → List ℕ
 event_line moment what = line_of (record { moment = moment; what = what })
 
--- Each whole line that was written and gives an event is one of a life that the run began, and says this of it. The journal is
--- whole lines, unless a write failed or memory was refused.
+-- Each whole line that was written and gives an event comes only where a member was read and a store of its key found; one that
+-- gives a removal, an expiry, an accepted note or accusation, or an own accusation says this of the life that this began. The
+-- journal is whole lines, unless a write failed or memory was refused.
 pub record LinesRest (feed : NetInputs) (was now : IoState) (old : OfDisk)
     (result : Result (Unit {0}) NodeHalt) : Type 0 where
   pub bytes : List ℕ

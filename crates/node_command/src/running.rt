@@ -207,8 +207,8 @@ pub fn run_node<S: Source, O: Sink, D: Disk, L: Link, C: Clock>(
         (environment (O.state out.new).taken (L.state link.new).contents (D.state disk.new))
         result }
     // Each whole line that was written and gives a removal is reported by a tick of the life, and rests on an accusation that was
-    // accepted in it, verified, and stood for the timeout. One that gives an accepted note or accusation, an own accusation or an
-    // expiry is so of the life, and nothing that a note rules out which the life accepted before.
+    // accepted in it, verified, and stood for the timeout. One that gives an accepted note or accusation or an expiry is so of the
+    // life, and neither these nor an own accusation are outdated by a note that the life accepted before.
     ensures rests { (feed : NetInputs) → (L.state link.old).contents ≡ Some feed.link
         → (C.state clock.old).coming ≡ Some feed.readings
         → (C.state clock.old).reading ≡ feed.reading → turns ≡ feed.turns

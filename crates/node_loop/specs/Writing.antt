@@ -133,7 +133,7 @@ abbrev pub KeepsGiven : Option LinkState → Option LinkState → Type 0
 KeepsGiven None after = Unit {0}
 KeepsGiven (Some link) after = (later : LinkState) × ((after ≡ Some later) × IsPrefix link.given later.given)
 
--- A datagram with this line was given to the link behind its whole line; or none was.
+-- The link is as it was, or what was written begins with the whole line.
 abbrev pub IsBehindLine : List ℕ → Option (List ℕ) → Option (List ℕ) → Option LinkState
     → Option LinkState → Type 0
 IsBehindLine line taken after link later =

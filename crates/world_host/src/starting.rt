@@ -107,7 +107,7 @@ fn start_of(started: Result<Node, NodeFault>) -> Result<Option<Node>, NoMemory>
 }
 
 /// What a life of the member's node with this key begins with, its store's next index being `next`; none where that is not
-/// sound, which it is for each node of a world.
+/// sound, which it is for each node of a world whose group's numbers are in their ranges.
 fn kit_for(
     alloc: Global,
     authority: &Authority,

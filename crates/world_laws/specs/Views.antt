@@ -1,4 +1,5 @@
--- What the views of nodes have in common that hold the same records, and what a question for a view is answered.
+-- What the views of lives have in common that accept the same notes, and in which the same accusations expire, and what a question
+-- for a view is answered.
 use Rattle.std.specs.Prelude.{◌≡◌, ℕ, List, [], Contains, Some, None}
 use Rattle.std.specs.List.{AllByRecursion}
 use Rattle.ff_ids.specs.Lives.{opening}
