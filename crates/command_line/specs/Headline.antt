@@ -56,7 +56,8 @@ OnForged (Ok _) P = Unit {0}
 -- liar can help: each removal rests on a verified accusation that stood for the timeout, and each key spends once. Flows hand
 -- over each datagram at most once. A line that is answered by members asks for the view of a node, and is answered by that of the
 -- life that runs then; where two such lives accept the same notes, and the same accusations expire in them, the answers are the
--- same. What is named as forged is handed over by the very line of the number that is named, which ends so in this world, and verifies under a key that never signed it.
+-- same. What is named as forged is handed over by the very line of the number that is named, which ends so in this world, and
+-- verifies under a key that never signed it.
 -- Each whole line that was written and gives an event gives one that was reported, and each event that was reported is written.
 pub record WorldHeadline (lines : List (List ℕ)) (text line : List ℕ) (result : RunEnd Cause) : Type 0 where
   -- Three laws of any input: `written` and `told` tie what they say of `told_in lines` to what was written.
