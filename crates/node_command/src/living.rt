@@ -64,16 +64,7 @@ fn serve_to_end<D: Disk, L: Link, C: Clock, O: Sink>(
         (environment (O.state out.new).taken (L.state link.new).contents (D.state disk.new))
         result }
 {
-    match serve(
-        alloc,
-        node,
-        link,
-        clock,
-        disk,
-        out,
-        pace.millis,
-        pace.turns,
-    ) {
+    match serve(alloc, node, link, clock, disk, out, pace.millis, pace.turns) {
         Ok(()) => match write_all(out, b"end\n") {
             Ok(()) => Ok(()),
             Err(Failed) => Err(NodeHalt::WriteFault),
