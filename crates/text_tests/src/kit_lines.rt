@@ -20,6 +20,11 @@ fn take(alloc: Global, lines: &mut Reader<KitText>, bytes: &[u8]) -> Result<(), 
     Ok(())
 }
 
+/// Whether the line is the text's last.
+fn is_end(alloc: Global, lines: &mut Reader<KitText>, bytes: &[u8]) -> Result<bool, LineFault> {
+    Ok(matches!(lines.line(alloc, bytes)?, KitLine::End))
+}
+
 /// What the line is refused for.
 fn fault_of(alloc: Global, lines: &mut Reader<KitText>, bytes: &[u8]) -> Option<LineFault> {
     lines.line(alloc, bytes).err()
@@ -94,7 +99,7 @@ fn certificates_are_checked(rt: HostRuntime) -> Result<(), Fail> {
     let other = another_digit(alloc)?;
     assert_eq!(rt; fault_of(alloc, &mut lines, &other), bad(BadWord::Cert));
     take(alloc, &mut lines, OF_1)?;
-    take(alloc, &mut lines, b"end\n")?;
+    assert_eq!(rt; is_end(alloc, &mut lines, b"end\n"), Ok(true));
     assert_eq!(rt; lines.end().err(), None);
     Ok(())
 }
