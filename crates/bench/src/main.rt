@@ -1,6 +1,6 @@
 //! Floor: checks. All benches, of which the words pick one: `lms`, `records`, `signer` and `node` print times; `read`
 //! reads a datagram's worth of records and prints how many it could; `hold` keeps a node among 1,000 members until a
-//! line comes; `receive PORT TURNS` is the plain side of the times of a node that is served, and `hash COUNT` prints
+//! line comes; `receive PORT TURNS FROM` is the plain side of the times of a node that is served, and `hash COUNT` prints
 //! the time of so many plain calls of SHA-256; `call WORD` makes one call of a node. With other words it says so, and
 //! exits with 2. The scripts in `bench/` run it.
 #![tactic(auto)]
@@ -28,7 +28,7 @@ enum Bench {
     Signer,
     Node,
     Hold,
-    Receive { port: u16, turns: u32 },
+    Receive { port: u16, turns: u32, from: u16 },
     Hash { count: u64 },
     Call(Call),
 }
@@ -42,9 +42,10 @@ impl Bench {
                 count: count.parse::<u64>().ok()?,
             }),
             [word, which] if word.as_str() == "call" => Bench::of_call(which.as_str()),
-            [word, port, turns] if word.as_str() == "receive" => Some(Bench::Receive {
+            [word, port, turns, from] if word.as_str() == "receive" => Some(Bench::Receive {
                 port: port.parse::<u16>().ok()?,
                 turns: turns.parse::<u32>().ok()?,
+                from: from.parse::<u16>().ok()?,
             }),
             _ => None,
         }
@@ -79,7 +80,7 @@ impl Bench {
             Bench::Signer => signing::print(rt),
             Bench::Node => node::print(rt),
             Bench::Hold => node::hold(rt),
-            Bench::Receive { port, turns } => receive_and_write(rt, port, turns),
+            Bench::Receive { port, turns, from } => receive_and_write(rt, port, turns, from),
             Bench::Hash { count } => println!(rt; "{}", plain_calls(rt, count)?),
             Bench::Call(call) => print_call(rt, call),
         }
@@ -99,7 +100,7 @@ fn main(rt: HostRuntime) -> io::Result<ExitCode> {
     let words = words_of(&rt)?;
     let Some(bench) = Bench::of(&words) else {
         println!(rt;
-            "words: lms, records, read, signer, node, hold, receive PORT TURNS, hash COUNT, call records|summary|tick"
+            "words: lms, records, read, signer, node, hold, receive PORT TURNS FROM, hash COUNT, call records|summary|tick"
         )?;
         return Ok(ExitCode::from(2));
     };

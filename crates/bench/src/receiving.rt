@@ -77,13 +77,14 @@ fn receive_turns<L: Link, O: Sink>(
     Ok(())
 }
 
-/// Binds the port, says so, and serves it for so many turns.
-pub fn receive_and_write(rt: &HostRuntime, port: u16, turns: u32) -> io::Result<()> {
-    let mut link = UdpLink::new(rt);
+/// Binds the port, says so, and serves it for so many turns. Member 2 sends from a port of its own, as to a node.
+pub fn receive_and_write(rt: &HostRuntime, port: u16, turns: u32, from: u16) -> io::Result<()> {
+    let mut link = UdpLink::new(rt.alloc(), rt);
     let mut out = StdSink::new(io::writer(rt));
     if link.bind(port) != Opened::Done {
         return Err(failed());
     }
+    link.expect(2, from);
     let Ok(mut buf) = vec![in rt.alloc(); 0u8; ROOM] else {
         return Err(failed());
     };

@@ -32,11 +32,10 @@ use Rattle.authority.specs.Texts.{IsRoster}
 use Rattle.authority.specs.Lines.{lines_for, lines_within, signed_line, signed_lines}
 use Rattle.authority.specs.Signing.{IsPart}
 use Rattle.authority.specs.Enrolling.{AreEnrolled, Enrols, IsEnough, Spends, SpendsFronts}
-use Rattle.node_command.specs.Spendings.{SpendsNothing}
 use Rattle.node_command.proofs.RestLemmas.{silent-unread}
 use Rattle.command_line.specs.Causes.{status_of_halt}
 use Rattle.command_line.specs.Ends.{Tells}
-use Rattle.command_line.specs.Enrolment.{Enrolment, SpendsCerts, WritesCerts, cert_lines}
+use Rattle.command_line.specs.Enrolment.{Enrolment, SpendsCerts, SpendsNone, WritesCerts, cert_lines}
 use Rattle.command_line.specs.declared.status.Status.{Status}
 use Rattle.command_line.proofs.EnrollLemmas.{split-within}
 

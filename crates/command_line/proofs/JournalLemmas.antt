@@ -16,7 +16,7 @@ use Rattle.node_command.specs.Spendings.{Spends}
 use Rattle.node_command.specs.Written.{AreWholeLines, IsGiven, LinesRest, event_line}
 use Rattle.command_line.specs.Causes.{IsWritten, cause_line, status_of_node}
 use Rattle.command_line.specs.Ends.{RestsFed, Tells, NetState}
-use Rattle.command_line.specs.Journals.{JournalAnswers, JournalRests, NodeUpholds}
+use Rattle.command_line.specs.Journals.{JournalAnswers, JournalRests, JournalSends, NodeUpholds}
 use Rattle.command_line.proofs.EndLemmas.{none_shorter}
 use Rattle.command_line.proofs.CauseLines.{IsOther, bad-line, begins-other, broken-line, fault-line, link-line, store-line, tail-of, used-line}
 use Rattle.command_line.proofs.NodeLemmas.{node-upheld}
@@ -80,11 +80,15 @@ journal-answers feed was now old w = record {
   expiries = λ moment a of. w.rests moment (told.Expired a) of;
 }
 
-pub node-upholds : (turns : ℕ) (was between now : IoState) (old new : OfDisk) (before : NetState) (r : Result (Unit {0}) NodeHalt) (s : Status) → Takes was between old new r → RestsFed turns was between old before r → Spends was between old new r → Tells (status_of_node r) between now s
-    → NodeUpholds turns was now old new before s
-node-upholds turns was between now old new before r s takes rests spends t = record {
+journal-sends : (feed : NetInputs) (was now : IoState) (old : OfDisk) → WroteAll feed was now old → JournalSends feed was now old
+journal-sends feed was now old w = record { bytes = w.bytes; written = w.written; sent = λ moment number to datagram of. w.rests moment (told.Sent number to datagram) of }
+
+pub node-upholds : (turns : ℕ) (was between now : IoState) (old new : OfDisk) (before after : NetState) (r : Result (Unit {0}) NodeHalt) (s : Status) → Takes was between old new r → RestsFed turns was between old before r → Spends was between old new before.faults after.faults r → Tells (status_of_node r) between now s
+    → NodeUpholds turns was now old new before after s
+node-upholds turns was between now old new before after r s takes rests spends t = record {
   untouched = node-upheld was between now old new r s takes t;
   removals = λ feed link readings reading turns_is. journal-rests feed was now old (wrote-all feed was between now old r s (rests feed link readings reading turns_is) t);
   answers = λ feed link readings reading turns_is. journal-answers feed was now old (wrote-all feed was between now old r s (rests feed link readings reading turns_is) t);
+  sends = λ feed link readings reading turns_is. journal-sends feed was now old (wrote-all feed was between now old r s (rests feed link readings reading turns_is) t);
   spends = record { result = r; between = between; spends = spends; tells = t };
 }

@@ -35,11 +35,11 @@ use Rattle.command_line.specs.declared.status.Status.{Status}
 use Rattle.command_line.specs.declared.status.Status.TheVariants as status
 
 -- what holds of a run of the command
-pub record AllOf (c : Command) (was now : IoState) (old new : OfDisk) (before : NetState) (s : Status) : Type 0 where
+pub record AllOf (c : Command) (was now : IoState) (old new : OfDisk) (before after : NetState) (s : Status) : Type 0 where
   pub command : s ≢ status.Usage
   pub traced : TracedAs c was now old new s
   pub complete : CompletesAs c was now old new s
-  pub upholds : Upholds c was now old new before s
+  pub upholds : Upholds c was now old new before after s
   pub counts : Counts was now s
   pub faults : DiskCountsAs c old new s
 
@@ -96,7 +96,7 @@ halt-command : (failed : Bool) (r : Result (Unit {0}) Halt) (line : List ℕ) (s
 halt-command false r line s says e = halt-used r (sym says.0 ∙ e)
 halt-command true r line s says e = let same : status.WriteFault ≡ status.Usage = sym says.0 ∙ e in cc
 
-pub all-of : (c : Command) (name : List ℕ) (was now : IoState) (old new : OfDisk) (before after : NetState) (s : Status) → EndsAs c name was now old new before after s → AllOf c was now old new before s
+pub all-of : (c : Command) (name : List ℕ) (was now : IoState) (old new : OfDisk) (before after : NetState) (s : Status) → EndsAs c name was now old new before after s → AllOf c was now old new before after s
 all-of Replay name was now old new before after s h =
     let t = of-text IsJudged for_cause replayed was now old new s for-causes h.0 h.1 in
     record { command = t.command; traced = t.traced_by; complete = t.complete; upholds = headline was now s h.0; counts = t.counts; faults = t.faults }
@@ -129,7 +129,7 @@ all-of (Node turns) name was now old new before after s h =
       command = node-command h.tells.failed h.result h.tells.line s h.tells.says;
       traced = node-traced was h.between now old new h.result s h.takes h.tells;
       complete = node-completes was h.between now old new h.result s h.takes h.store_fault h.cause h.tells n;
-      upholds = node-upholds turns was h.between now old new before h.result s h.takes h.rests h.spends h.tells;
+      upholds = node-upholds turns was h.between now old new before after h.result s h.takes h.rests h.spends h.tells;
       counts = n;
       faults = node-disk was h.between now old new h.result s h.takes h.no_disk_fault h.store_fault h.tells;
     }

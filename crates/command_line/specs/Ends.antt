@@ -103,7 +103,7 @@ pub record NodeEnds (name : List ℕ) (turns : ℕ) (was now : IoState) (old new
   pub link_fault : IfErr result (λ h. h ≡ node.LinkFault → after.faults ≡ next_count before.faults)
   pub runs : RunsFed turns was between old new before after result
   pub rests : RestsFed turns was between old before result
-  pub spends : Spends was between old new result
+  pub spends : Spends was between old new before.faults after.faults result
   pub tells : Tells (status_of_node result) between now s
 
 -- The count of faults of the disk: a fault of the store raises it by one, and also where the line that says so can't be

@@ -1,6 +1,6 @@
 -- What an enrolment upholds: the indexes that it spends are those from the next one found on, each once, for the certificates
 -- whose lines it wrote, and at most one more.
-use Rattle.std.specs.Prelude.{◌≡◌, ℕ, ◌+◌, ◌≤◌, ◌⊎◌, Option, List, ◌++◌, length, map, Result}
+use Rattle.std.specs.Prelude.{◌≡◌, ℕ, ◌+◌, ◌≤◌, ◌⊎◌, Option, List, [], ◌++◌, length, map, Result}
 use Rattle.std.specs.List.{AllByRecursion}
 use Rattle.std.specs.Io.KnownBytes.{Appends}
 use Rattle.epoch_store.specs.declared.seat.Seat.{Seat}
@@ -9,7 +9,8 @@ use Rattle.epoch_store.specs.Calls.{HoldsStore}
 use Rattle.records.specs.declared.Body.TheVariants.{Certificate}
 use Rattle.records.specs.declared.CertBody.{CertBody}
 use Rattle.schedule_texts.specs.declared.line.RosterLine.{RosterLine}
-use Rattle.signer.specs.Lives.{IsOnce, IsPrefix, indexes, spent_by}
+use Rattle.ports.specs.Disk.{Since}
+use Rattle.signer.specs.Lives.{EndsLives, EndsNow, IsOnce, IsPrefix, Spent, indexes, spent_by}
 use Rattle.play.specs.Plays.{IoState}
 use Rattle.authority.specs.declared.halt.Halt.{Halt}
 use Rattle.authority.specs.declared.setting.Setting.{Setting}
@@ -18,7 +19,6 @@ use Rattle.authority.specs.Lines.{signed_lines}
 use Rattle.authority.specs.Settings.{asked_in, key_of, tag_of}
 use Rattle.authority.specs.Texts.{IsRoster}
 use Rattle.authority.specs.Enrolling.{Spends, SpendsFronts}
-use Rattle.node_command.specs.Spendings.{SpendsNothing}
 use Rattle.command_line.specs.Causes.{status_of_halt}
 use Rattle.command_line.specs.Ends.{Tells}
 use Rattle.command_line.specs.declared.status.Status.{Status}
@@ -61,9 +61,17 @@ pub record SpendsOnce (was now : IoState) (old new : OfDisk) : Type 0 where
   pub lives : Spends setting opened certs old new
   pub any_moment : SpendsFronts setting opened certs old new
 
+-- Nothing was written, and nothing of any key spent: each crash ends lives as before, now and at each moment between.
+pub record SpendsNone (before after : Option (List ℕ)) (old new : OfDisk) : Type 0 where
+  pub unwritten : Appends before after []
+  pub any_moment : (tag image : List ℕ) (spent : List Spent) → EndsNow tag image spent old.moments
+      → Since (EndsLives tag image spent) old.moments new.moments
+  pub ends : (tag image : List ℕ) (spent : List Spent) → EndsNow tag image spent old.moments
+      → EndsNow tag image spent new.moments
+
 -- It spends nothing, and writes nothing; or the indexes from the next one of the store that it found, each once.
 abbrev pub SpendsCerts : IoState → IoState → OfDisk → OfDisk → Type 0
-SpendsCerts was now old new = SpendsNothing was.taken now.taken old new ⊎ SpendsOnce was now old new
+SpendsCerts was now old new = SpendsNone was.taken now.taken old new ⊎ SpendsOnce was now old new
 
 -- What `enroll` upholds, under every status: this was spent, and the line of the cause follows its lines.
 pub record Enrolment (was now : IoState) (old new : OfDisk) (s : Status) : Type 0 where

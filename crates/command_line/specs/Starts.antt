@@ -22,6 +22,6 @@ pub record Ran (words : List (List ℕ)) (was now : IoState) (old new : OfDisk) 
   pub ends : IfSome (command_of words) (λ command. EndsAs command (store_in words) was now old new before after s)
   pub traced : IfSome (command_of words) (λ command. TracedAs command was now old new s)
   pub complete : IfSome (command_of words) (λ command. CompletesAs command was now old new s)
-  pub upholds : IfSome (command_of words) (λ command. Upholds command was now old new before s)
+  pub upholds : IfSome (command_of words) (λ command. Upholds command was now old new before after s)
   pub counts : Counts was now s
   pub faults : FaultsAs (command_of words) old new s

@@ -31,10 +31,10 @@ pub record IsStoreMade (was : IoState) (old new : OfDisk) : Type 0 where
   pub image : SettlesAs (λ _. made (tag_of setting) (first_of setting)) old.moments new.moments
 
 -- What each command upholds beyond its trace.
-abbrev pub Upholds : Command → IoState → IoState → OfDisk → OfDisk → NetState → Status → Type 0
-Upholds Replay was now old new before s = Headline was now s
-Upholds Verify was now old new before s = Verification was now s
-Upholds Store was now old new before s = OnMade s (IsStoreMade was old new)
-Upholds Enroll was now old new before s = Enrolment was now old new s
-Upholds (Node turns) was now old new before s = NodeUpholds turns was now old new before s
-Upholds (Soak seed members rounds) was now old new before s = SoakUpheld seed members rounds was now s
+abbrev pub Upholds : Command → IoState → IoState → OfDisk → OfDisk → NetState → NetState → Status → Type 0
+Upholds Replay was now old new before after s = Headline was now s
+Upholds Verify was now old new before after s = Verification was now s
+Upholds Store was now old new before after s = OnMade s (IsStoreMade was old new)
+Upholds Enroll was now old new before after s = Enrolment was now old new s
+Upholds (Node turns) was now old new before after s = NodeUpholds turns was now old new before after s
+Upholds (Soak seed members rounds) was now old new before after s = SoakUpheld seed members rounds was now s

@@ -196,7 +196,8 @@ pub fn run<S: Source, O: Sink, D: Disk, L: Link, C: Clock>(
         (io (S.state input.old) (O.state out.old))
         (io (S.state input.new) (O.state out.new))
         (D.state disk.old) (D.state disk.new)
-        (net_state (L.state link.old) (C.state clock.old)) result) }
+        (net_state (L.state link.old) (C.state clock.old))
+        (net_state (L.state link.new) (C.state clock.new)) result) }
 
     // A cause that is no fault leaves both counts as they were; a fault raises its own by one.
     ensures counts { Counts

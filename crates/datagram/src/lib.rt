@@ -3,7 +3,7 @@
 #![tactic(auto)]
 
 pub use reading::read;
-pub use writing::{records_head, write};
+pub use writing::{bytes_of, records_head, write};
 
 mod fields_in;
 pub mod laws;

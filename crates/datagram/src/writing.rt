@@ -12,6 +12,7 @@ use crate::Datagram;
 use ff_ids::{MemberId, Summary, SummaryEntry};
 use fields::{NoMemory, Writer};
 use records::{Record, write_record};
+use std::alloc::Global;
 
 /// What a datagram of this kind from this member begins with.
 #[tactic(auto, unfolding(crate::specs::Spelling::head_bytes))]
@@ -86,7 +87,7 @@ fn put_records(bytes: &mut Vec<u8>, records: &[Record]) -> Result<(), NoMemory>
     Ok(())
 }
 
-/// The bytes of a datagram, in memory of their own.
+/// The bytes of a datagram, put one field after the other.
 #[tactic(auto, unfolding(crate::specs::Spelling::records_bytes))]
 fn datagram_bytes(datagram: &Datagram, mut writer: Writer) -> Result<Vec<u8>, NoMemory>
     requires content { HasContent datagram.now }
@@ -115,13 +116,21 @@ fn datagram_bytes(datagram: &Datagram, mut writer: Writer) -> Result<Vec<u8>, No
     }
 }
 
+/// The datagram's one spelling, of at most 32,768 bytes, in memory of its own.
+pub fn bytes_of(alloc: Global, datagram: &Datagram) -> Result<Vec<u8>, NoMemory>
+    requires { IsWritable datagram.now }
+    ensures { IfOk result (λ bytes. bytes.items ≡ datagram_bytes datagram.now) }
+{
+    datagram_bytes(datagram, Writer::new(alloc))
+}
+
 /// Appends the datagram's one spelling, of at most 32,768 bytes. Where memory is refused, `out` is as it was.
 pub fn write(datagram: &Datagram, out: &mut Vec<u8>) -> Result<(), NoMemory>
     requires { IsWritable datagram.now }
     ensures ok { OnOk result (out.new.items ≡ out.old.items ++ datagram_bytes datagram.now) }
     ensures refused { OnErr result (out.new.items ≡ out.old.items) }
 {
-    let bytes = datagram_bytes(datagram, Writer::new(*out.allocator()))?;
+    let bytes = bytes_of(*out.allocator(), datagram)?;
     out.extend_from_slice(bytes.as_slice())?;
     Ok(())
 }

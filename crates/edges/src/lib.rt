@@ -7,24 +7,30 @@
 //! counted, and tests move real bytes.
 #![tactic(auto)]
 
-ghost use Rattle.std.specs.Prelude.{◌≡◌, true, false, length, IfOk};
+ghost use Rattle.std.specs.Prelude.{◌≡◌, ◌+◌, ◌<◌, ◌≤◌, true, false, length, IfOk, vec_len, vec_capacity};
+ghost use Rattle.std.specs.Result.{is_err};
 ghost use Rattle.std.specs.Io.{ReadsAtMost, WritesAtMost};
 ghost use Rattle.std.specs.Io.KnownBytes.{ReadConsumes, WriteAppends};
 ghost use Rattle.std.specs.Io.Buffered.{reader_remaining};
-ghost use Rattle.ports.specs.Count.{next_count};
+ghost use Rattle.ports.specs.Count.{counted, next_count};
+ghost use Rattle.text_trace.specs.Lines.{seen_bytes};
+ghost use Rattle.edges.specs.Parts.{TakesPart, took_part};
 
 mod absent;
 mod file_disk;
+mod line_part;
 mod real_clock;
 mod udp_link;
 
 pub use absent::{Absent, NoClock};
 use fields::NoMemory;
 pub use file_disk::FileDisk;
-use ports::{Given, Sink, Source, Taken};
+use line_part::{Part, take_buffered};
+use ports::{Ending, Failed, Given, Sink, Source, Taken};
 pub use real_clock::RealClock;
 use std::alloc::Global;
 use std::io::{self, BufReader, Read, Write};
+use text_trace::SEEN_BYTES;
 pub use udp_link::UdpLink;
 
 /// How many bytes a source reads at a time.
@@ -107,6 +113,52 @@ impl<R: Read + Drop> StdSource<R> {
         self.faults = self.faults.saturating_add(1);
         Taken::Failed
     }
+
+    /// Takes a byte of a line, through the buffer. At the end there is none.
+    fn take_byte(&mut self, line: &mut Vec<u8>) -> Result<Option<Part>, Failed>
+        requires open { self.old.is_open ≡ true }
+        requires reserved { vec_len line.old < vec_capacity line.old }
+        ensures fits { vec_len line.new ≤ vec_len line.old + 1 }
+        ensures reserved { vec_capacity line.new ≡ vec_capacity line.old }
+        ensures going { self.new.is_open ≡ took_part result }
+        ensures faults { self.new.faults ≡ counted (is_err result) self.old.faults }
+        ensures takes { TakesPart (reader_remaining R.remaining self.old.reader)
+            (reader_remaining R.remaining self.new.reader) line.old.items line.new.items result }
+    {
+        let mut byte = [0u8; 1];
+        match self.read(&mut byte) {
+            Taken::Got(_) => {
+                line.push_reserved(byte[0]);
+                if byte[0] == b'\n' {
+                    Ok(Some(Part::Last))
+                } else {
+                    Ok(Some(Part::Front))
+                }
+            }
+            Taken::End => Ok(None),
+            Taken::Failed => Err(Failed),
+        }
+    }
+
+    /// Takes a part of a line: what the buffer has of it, or where it is empty a byte.
+    fn take_part(&mut self, room: usize, line: &mut Vec<u8>) -> Result<Option<Part>, Failed>
+        requires open { self.old.is_open ≡ true }
+        requires room { 0 < room }
+        requires most { room ≤ seen_bytes }
+        requires reserved { vec_len line.old + room ≤ vec_capacity line.old }
+        ensures fits { vec_len line.new ≤ vec_len line.old + room }
+        ensures reserved { vec_capacity line.old ≤ vec_capacity line.new }
+        ensures going { self.new.is_open ≡ took_part result }
+        ensures faults { self.new.faults ≡ counted (is_err result) self.old.faults }
+        ensures takes { TakesPart (reader_remaining R.remaining self.old.reader)
+            (reader_remaining R.remaining self.new.reader) line.old.items line.new.items result }
+    {
+        if self.reader.buffer().is_empty() {
+            self.take_byte(line)
+        } else {
+            Ok(Some(take_buffered(&mut self.reader, room, line)))
+        }
+    }
 }
 
 impl<R: Read + Drop> Source for StdSource<R> {
@@ -125,6 +177,20 @@ impl<R: Read + Drop> Source for StdSource<R> {
             Ok(count) => Taken::Got(count),
             Err(_) => self.fail(),
         }
+    }
+
+    /// The line feed is looked for in the buffer, and what stands up to it is taken at once.
+    fn read_line(&mut self, line: &mut Vec<u8>) -> Result<Ending, Failed> {
+        line.clear();
+        'parts: while line.len() < SEEN_BYTES {
+            match self.take_part(SEEN_BYTES - line.len(), line) {
+                Ok(Some(Part::Last)) => return Ok(Ending::Feed),
+                Ok(Some(Part::Front)) => {}
+                Ok(None) => return Ok(Ending::Input),
+                Err(Failed) => return Err(Failed),
+            }
+        }
+        Ok(Ending::Limit)
     }
 }
 

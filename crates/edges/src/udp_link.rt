@@ -6,68 +6,201 @@ ghost use Rattle.ports.specs.Link.{Binds, Receives, Sends};
 ghost use Rattle.ports.specs.Device.{open_failed, receive_failed, ReceivedAtMost, send_failed};
 ghost use Rattle.edges.specs.Device.{after_call, after_open};
 
-use crate::TRIES;
-use ports::{Link, Opened, Received, Sent};
-use std::io;
+use crate::{RealClock, TRIES};
+use fields::NoMemory;
+use link_queues::{Queues, Sizes};
+use ports::{Clock, Link, Opened, Received, Sent};
+use std::alloc::Global;
 use std::marker::Model;
-use std::net::{Ipv4Addr, Net, UdpSocket};
+use std::net::{Ipv4Addr, Net, SocketAddr, UdpSocket};
 use std::time::Duration;
+use std::{io, time};
 
 /// How long a receive waits for a datagram, in milliseconds.
 const PATIENCE: u64 = 20;
 
+/// How often a receive empties the socket, at most, while it waits.
+const LOOKS: u32 = 65_536;
+
+/// How many datagrams are taken from the socket in one look.
+const BATCH: u32 = 512;
+
+/// How many bytes are taken of a datagram: one more than the longest has.
+const ROOM: usize = 32_769;
+
+/// A queue holds two of the longest datagrams. From ports at which nobody is expected ten datagrams a second are handed on.
+const SIZES: Sizes = Sizes {
+    members: 1_024,
+    slots: 64,
+    room: 65_538,
+    gap: 100,
+};
+
+/// A socket, and what came there.
+#[derive(Drop)]
+struct Bound {
+    socket: UdpSocket,
+    queues: Queues,
+    datagram: Vec<u8>,
+    /// The reading of the clock at which the socket was emptied last.
+    emptied: u64,
+}
+
 /// A UDP socket of 127.0.0.1. Its content is not modelled. Before a `bind` that was `Done` the other calls fail. A receive
 /// waits for at most 20 milliseconds, and then answers `Nothing`.
+///
+/// What comes is put into queues, of which each port at which a member is expected has its own: so what one sends does not
+/// push out what another sent, and they are served in turn.
 #[derive(Drop)]
-pub struct UdpLink<'a, R: Net> {
+pub struct UdpLink<'a, R: Net + time::Clock> {
+    alloc: Global,
     net: &'a R,
-    socket: Option<UdpSocket>,
+    clock: RealClock<'a, R>,
+    bound: Option<Bound>,
     faults: u64,
 }
 
-impl<'a, R: Net> Model for UdpLink<'a, R> {
+impl<'a, R: Net + time::Clock> Model for UdpLink<'a, R> {
     ghost use Rattle.std.specs.Prelude.{is_some};
     ghost use Rattle.edges.specs.Device.{Device};
 
     ghost Value = { Device };
 
-    ghost view = { λ l. record { is_open = is_some l.socket; faults = l.faults } };
+    ghost view = { λ l. record { is_open = is_some l.bound; faults = l.faults } };
 }
 
-fn bound<R: Net>(net: &R, port: u16) -> io::Result<UdpSocket> {
+/// Why a port isn't bound.
+enum BindFault {
+    Socket,
+    Memory,
+}
+
+fn socket_at<R: Net>(net: &R, port: u16) -> io::Result<UdpSocket> {
     let socket = UdpSocket::bind(net, (Ipv4Addr::LOCALHOST, port))?;
-    socket.set_read_timeout(Some(Duration::from_millis(PATIENCE)))?;
+    socket.set_nonblocking(true)?;
     Ok(socket)
 }
 
-fn opened(socket: &Option<UdpSocket>) -> io::Result<&UdpSocket>
-    ensures shut { IsNone socket.now → IsErr result }
-{
-    socket.as_ref().ok_or(io::ErrorKind::NotConnected.into())
+/// Room for what comes.
+fn room(alloc: Global) -> Result<(Queues, Vec<u8>), NoMemory> {
+    Ok((Queues::new(alloc, &SIZES)?, vec![in alloc; 0u8; ROOM]?))
 }
 
-/// The number of bytes received, if a datagram came in time and signals left the receive alone. A process that was
-/// stopped and goes on has such a signal.
-fn receive(socket: &Option<UdpSocket>, buf: &mut [u8]) -> io::Result<Option<usize>>
-    ensures shut { IsNone socket.now → IsErr result }
-    ensures fits { IfOk result (λ got. IfSome got (λ n. n ≤ length buf.old)) }
-{
-    let socket = opened(socket)?;
-    for _ in 0..TRIES {
-        match socket.recv(buf) {
-            Ok(count) => return Ok(Some(count)),
-            Err(error) if error.kind() == io::ErrorKind::WouldBlock => return Ok(None),
-            Err(error) if error.kind() == io::ErrorKind::Interrupted => {}
-            Err(error) => return Err(error),
+fn bind_at<R: Net>(alloc: Global, net: &R, port: u16) -> Result<Bound, BindFault> {
+    let Ok((queues, datagram)) = room(alloc) else {
+        return Err(BindFault::Memory);
+    };
+    match socket_at(net, port) {
+        Ok(socket) => Ok(Bound {
+            socket,
+            queues,
+            datagram,
+            emptied: 0,
+        }),
+        Err(_) => Err(BindFault::Socket),
+    }
+}
+
+/// The port that a datagram came from, and 0, at which nobody is expected, where it came from another address.
+fn port_of(from: SocketAddr) -> u16 {
+    match from {
+        SocketAddr::V4(at) if *at.ip() == Ipv4Addr::LOCALHOST => at.port(),
+        _ => 0,
+    }
+}
+
+impl Bound {
+    /// Puts the next datagram of the socket into its queue, if there is one. None is there where a signal interrupts the
+    /// call: a process that was stopped and goes on has such a signal.
+    fn take_in(&mut self) -> io::Result<bool> {
+        match self.socket.recv_from(self.datagram.as_mut_slice()) {
+            Ok((count, from)) => {
+                self.queues.put(port_of(from), &self.datagram[..count]);
+                Ok(true)
+            }
+            Err(error) if error.kind() == io::ErrorKind::WouldBlock => Ok(false),
+            Err(error) if error.kind() == io::ErrorKind::Interrupted => Ok(false),
+            Err(error) => Err(error),
         }
+    }
+
+    /// Empties the socket into the queues, up to as many datagrams as one look takes.
+    fn empty(&mut self) -> io::Result<()> {
+        for _ in 0..BATCH {
+            if !self.take_in()? {
+                break;
+            }
+        }
+        Ok(())
+    }
+
+    /// Waits for a datagram for so many milliseconds.
+    fn wait(&mut self, millis: u64) -> io::Result<()> {
+        self.socket
+            .set_read_timeout(Some(Duration::from_millis(millis)))?;
+        self.socket.set_nonblocking(false)?;
+        let came = self.take_in();
+        self.socket.set_nonblocking(true)?;
+        came?;
+        Ok(())
+    }
+
+    /// What is handed on without a look at the socket, which was emptied in this millisecond.
+    fn next_at_once(&mut self, now: u64, buf: &mut [u8]) -> Option<usize>
+        ensures { IfSome result (λ n. n ≤ length buf.old) }
+    {
+        if now != self.emptied {
+            return None;
+        }
+        self.queues.next(now, buf)
+    }
+
+    /// What is handed on once the socket was emptied.
+    fn next_emptied(&mut self, now: u64, buf: &mut [u8]) -> io::Result<Option<usize>>
+        ensures { IfOk result (λ got. IfSome got (λ n. n ≤ length buf.old)) }
+    {
+        self.empty()?;
+        self.emptied = now;
+        Ok(self.queues.next(now, buf))
+    }
+}
+
+/// The number of bytes received, if something can be handed on in time.
+fn receive<C: Clock>(bound: &mut Bound, clock: &mut C, buf: &mut [u8]) -> io::Result<Option<usize>>
+    ensures { IfOk result (λ got. IfSome got (λ n. n ≤ length buf.old)) }
+{
+    let start = clock.now();
+    if let Some(count) = bound.next_at_once(start, buf) {
+        return Ok(Some(count));
+    }
+    let mut now = start;
+    for _ in 0..LOOKS {
+        if let Some(count) = bound.next_emptied(now, buf)? {
+            return Ok(Some(count));
+        }
+        let waited = now.saturating_sub(start);
+        if waited >= PATIENCE {
+            break;
+        }
+        bound.wait(PATIENCE - waited)?;
+        now = clock.now();
     }
     Ok(None)
 }
 
-fn send(socket: &Option<UdpSocket>, port: u16, bytes: &[u8]) -> io::Result<usize>
-    ensures shut { IsNone socket.now → IsErr result }
+fn opened(bound: &Option<Bound>) -> io::Result<&UdpSocket>
+    ensures shut { IsNone bound.now → IsErr result }
 {
-    let socket = opened(socket)?;
+    match bound {
+        Some(bound) => Ok(&bound.socket),
+        None => Err(io::ErrorKind::NotConnected.into()),
+    }
+}
+
+fn send(bound: &Option<Bound>, port: u16, bytes: &[u8]) -> io::Result<usize>
+    ensures shut { IsNone bound.now → IsErr result }
+{
+    let socket = opened(bound)?;
     for _ in 0..TRIES {
         match socket.send_to(bytes, (Ipv4Addr::LOCALHOST, port)) {
             Err(error) if error.kind() == io::ErrorKind::Interrupted => {}
@@ -77,16 +210,23 @@ fn send(socket: &Option<UdpSocket>, port: u16, bytes: &[u8]) -> io::Result<usize
     Err(io::ErrorKind::Interrupted.into())
 }
 
-impl<'a, R: Net> UdpLink<'a, R> {
+impl<'a, R: Net + time::Clock> UdpLink<'a, R> {
     /// A link with no port bound yet.
-    pub fn new(net: &'a R) -> UdpLink<'a, R>
+    pub fn new(alloc: Global, net: &'a R) -> UdpLink<'a, R>
         ensures { result ≡ record { is_open = false; faults = 0 } }
     {
         UdpLink {
+            alloc,
             net,
-            socket: None,
+            clock: RealClock::new(net),
+            bound: None,
             faults: 0,
         }
+    }
+
+    /// How many datagrams came since the port was bound and were lost here.
+    pub fn lost(&self) -> u64 {
+        self.bound.as_ref().map_or(0, |bound| bound.queues.lost())
     }
 
     fn count_fault(&mut self)
@@ -94,9 +234,17 @@ impl<'a, R: Net> UdpLink<'a, R> {
     {
         self.faults = self.faults.saturating_add(1);
     }
+
+    fn failed_receive(&mut self) -> Received
+        ensures answer { receive_failed result ≡ true }
+        ensures after { self.new ≡ after_call true self.old }
+    {
+        self.count_fault();
+        Received::Failed
+    }
 }
 
-impl<'a, R: Net> Link for UdpLink<'a, R> {
+impl<'a, R: Net + time::Clock> Link for UdpLink<'a, R> {
     ghost state = { λ l. record { contents = None; faults = l.faults } };
 
     fn bind(&mut self, port: u16) -> Opened
@@ -104,15 +252,16 @@ impl<'a, R: Net> Link for UdpLink<'a, R> {
         ensures binds { Binds port None None result }
         ensures after { self.new ≡ after_open result self.old }
     {
-        match bound(self.net, port) {
-            Ok(socket) => {
-                self.socket = Some(socket);
+        match bind_at(self.alloc, self.net, port) {
+            Ok(bound) => {
+                self.bound = Some(bound);
                 Opened::Done
             }
-            Err(_) => {
+            Err(BindFault::Socket) => {
                 self.count_fault();
                 Opened::Failed
             }
+            Err(BindFault::Memory) => Opened::OutOfMemory,
         }
     }
 
@@ -123,13 +272,13 @@ impl<'a, R: Net> Link for UdpLink<'a, R> {
         ensures after { self.new ≡ after_call (receive_failed result) self.old }
         ensures shut { self.old.is_open ≡ false → receive_failed result ≡ true }
     {
-        match receive(&self.socket, buf) {
+        let Some(bound) = &mut self.bound else {
+            return self.failed_receive();
+        };
+        match receive(bound, &mut self.clock, buf) {
             Ok(Some(count)) => Received::Got(count),
             Ok(None) => Received::Nothing,
-            Err(_) => {
-                self.count_fault();
-                Received::Failed
-            }
+            Err(_) => self.failed_receive(),
         }
     }
 
@@ -140,12 +289,22 @@ impl<'a, R: Net> Link for UdpLink<'a, R> {
         ensures after { self.new ≡ after_call (send_failed result) self.old }
         ensures shut { self.old.is_open ≡ false → send_failed result ≡ true }
     {
-        match send(&self.socket, port, bytes) {
+        match send(&self.bound, port, bytes) {
             Ok(count) if count == bytes.len() => Sent::Done,
             _ => {
                 self.count_fault();
                 Sent::Failed
             }
+        }
+    }
+
+    /// From then on the port has a queue of its own, and what names the member as its sender and comes from another port is
+    /// lost, where it carries no signature. Before a `bind` that was `Done` it does nothing.
+    fn expect(&mut self, member: u16, port: u16)
+        ensures { self.new ≡ self.old }
+    {
+        if let Some(bound) = &mut self.bound {
+            bound.queues.expect(member, port);
         }
     }
 }

@@ -13,7 +13,7 @@ fn main(rt: HostRuntime) -> ExitCode {
     let mut input = StdSource::new(rt.alloc(), rt.reader());
     let mut out = StdSink::new(io::writer(&rt));
     let mut disk = FileDisk::new(rt.alloc(), &rt);
-    let mut link = UdpLink::new(&rt);
+    let mut link = UdpLink::new(rt.alloc(), &rt);
     let mut clock = RealClock::new(&rt);
     let status = start(
         rt.alloc(),

@@ -2,7 +2,6 @@
 //! the events; `node_loop` and the crates of worlds write them.
 #![tactic(auto)]
 
-mod digits;
 mod event;
 mod fault;
 mod hex_word;
@@ -12,9 +11,8 @@ mod turn;
 mod words;
 mod writing;
 
-pub use digits::add_digits;
 pub use event::{Event, What};
 pub use fault::EventFault;
 pub use reading::read_event;
 pub use turn::{Heard, Turn, read_turn, write_turn};
-pub use writing::write_event;
+pub use writing::{write_event, write_sent};

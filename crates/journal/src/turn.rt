@@ -1,17 +1,16 @@
 //! Turns of a node, as values and as lines of text, both ways.
 
-ghost use Rattle.std.specs.Prelude.{◌≡◌, ◌++◌, IfOk, IfErr, OnOk, OnErr, length, take};
+ghost use Rattle.std.specs.Prelude.{◌≡◌, ◌++◌, IfOk, IfErr, OnOk, OnErr, length, take, codes, decimal};
 ghost use Rattle.journal.specs.declared.fault.EventFault.TheVariants.{OutOfMemory};
 ghost use Rattle.journal.specs.declared.turn.Turn.{Turn as OneTurn};
 ghost use Rattle.journal.specs.Words.{Reads, among, number, token_at, whole};
 ghost use Rattle.journal.specs.Turns.{FindsTurn, GivesTurn, HeardTakesMemory, IsGivenTurn, IsTurn, TurnFailsAs, bytes_or_dash, every_heard, heard_at, heard_found, heard_text, heard_word, or_no_bytes, turn_at, turn_text};
 
-use crate::digits::add_digits;
 use crate::fault::EventFault;
 use crate::hex_word::{HexWord, digits_or_dash};
 use crate::words::{Misread, Words, end, literal, number};
 use fields::{Bytes, NoMemory};
-use life_events::write_text;
+use life_events::{add_of_digits, add_of_number, write_bytes};
 use std::alloc::Global;
 
 /// One turn of a node: what it heard, and how many ticks it then made. The type holds any values; what is read back
@@ -175,26 +174,38 @@ fn add_heard(heard: &Heard, out: &mut Vec<u8>) -> Result<(), NoMemory>
         Heard::Got(bytes) => {
             let bytes = bytes.as_slice();
             if bytes.is_empty() {
-                return write_text("got -", out);
+                return write_bytes(b"got -", out);
             }
-            write_text("got ", out)?;
-            add_digits(bytes, out)
+            add_of_digits(b"got ", bytes, out)
         }
-        Heard::Nothing => write_text("nothing", out),
-        Heard::Failed => write_text("failed", out),
+        Heard::Nothing => write_bytes(b"nothing", out),
+        Heard::Failed => write_bytes(b"failed", out),
     }
 }
 
+/// Adds the number of a turn and what was heard. Where memory is refused, `out` begins with what it held.
+#[tactic(auto, using(life_events::proofs::TextLemmas::begins, life_events::proofs::TextLemmas::begins_so, life_events::proofs::TextLemmas::begins_on, life_events::proofs::TextLemmas::begins_then))]
+fn add_turn_heard(number: u32, heard: &Heard, out: &mut Vec<u8>) -> Result<(), NoMemory>
+    ensures ok { OnOk result
+        (out.new.items
+        ≡ out.old.items ++ (codes "turn " ++ decimal number ++ codes " " ++ heard_text heard.now)) }
+    ensures refused { OnErr result (take (length out.old.items) out.new.items ≡ out.old.items) }
+{
+    add_of_number(b"turn ", number.into(), out)?;
+    write_bytes(b" ", out)?;
+    add_heard(heard, out)?;
+    Ok(())
+}
+
 /// Adds the turn's line. Where memory is refused, `out` begins with what it held.
+#[tactic(auto, using(life_events::proofs::TextLemmas::begins, life_events::proofs::TextLemmas::begins_so, life_events::proofs::TextLemmas::begins_on, life_events::proofs::TextLemmas::begins_then))]
 fn add_turn(turn: &Turn, out: &mut Vec<u8>) -> Result<(), NoMemory>
     ensures ok { OnOk result (out.new.items ≡ out.old.items ++ turn_text turn.now) }
     ensures refused { OnErr result (take (length out.old.items) out.new.items ≡ out.old.items) }
 {
-    let number = turn.number;
-    write_text(format_args!("turn {number} "), out)?;
-    add_heard(&turn.heard, out)?;
-    let ticks = turn.ticks;
-    write_text(format_args!(" ticks {ticks}"), out)
+    add_turn_heard(turn.number, &turn.heard, out)?;
+    add_of_number(b" ticks ", turn.ticks.into(), out)?;
+    Ok(())
 }
 
 /// Adds the turn's line, as `turn 3 nothing ticks 2`, without a line feed. Where memory is refused, `out` is as it was.

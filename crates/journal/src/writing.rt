@@ -1,125 +1,201 @@
 //! Events as they are written.
 
-ghost use Rattle.std.specs.Prelude.{◌≡◌, ℕ, ◌++◌, Some, OnOk, OnErr, length, take, codes, decimal};
+ghost use Rattle.std.specs.Prelude.{◌≡◌, ◌++◌, OnOk, OnErr, length, take, codes, decimal};
 ghost use Rattle.hex.specs.Hex.{encode_lower};
-ghost use Rattle.journal.specs.Texts.{answer_text, body_text, event_text, flag_text, verdict_text, what_text};
+ghost use Rattle.journal.specs.declared.event.What.TheVariants as kinds;
+ghost use Rattle.journal.specs.Texts.{answer_text, body_text, certificate_text, event_text, flag_text, note_text, verdict_text, what_text};
 
-use crate::digits::add_digits;
 use crate::event::{Event, What};
-use ff_ids::{Digits, Fault, MemberId};
+use ff_ids::{Fault, MemberId, NoteBody};
 use fields::NoMemory;
-use life_events::write_text;
-use records::Body;
-use std::fmt;
+use life_events::{
+    add_of_accusation, add_of_digits, add_of_number, add_of_two, add_refused, write_bytes,
+};
+use records::{Body, CertBody};
 
-/// A body as a line of its kind.
-#[derive(Drop)]
-struct BodyText<'a>(&'a Body);
+/// Adds a certificate. Where memory is refused, `out` begins with what it held.
+#[tactic(auto, using(life_events::proofs::TextLemmas::begins, life_events::proofs::TextLemmas::begins_so, life_events::proofs::TextLemmas::begins_on, life_events::proofs::TextLemmas::begins_then))]
+fn add_certificate(certificate: &CertBody, out: &mut Vec<u8>) -> Result<(), NoMemory>
+    ensures ok { OnOk result (out.new.items ≡ out.old.items ++ certificate_text certificate.now) }
+    ensures refused { OnErr result (take (length out.old.items) out.new.items ≡ out.old.items) }
+{
+    let (member, port) = (certificate.member.get(), certificate.port);
+    add_of_two(b"cert ", member.into(), port.into(), out)?;
+    add_of_digits(b" ", &certificate.key.write(), out)?;
+    Ok(())
+}
 
-impl<'a> fmt::Display for BodyText<'a> {
-    ghost output = { λ body. Some (body_text body.0.now) };
+/// Adds a note. Where memory is refused, `out` begins with what it held.
+#[tactic(auto, using(life_events::proofs::TextLemmas::begins, life_events::proofs::TextLemmas::begins_so, life_events::proofs::TextLemmas::begins_on, life_events::proofs::TextLemmas::begins_then))]
+fn add_note(note: &NoteBody, out: &mut Vec<u8>) -> Result<(), NoMemory>
+    ensures ok { OnOk result (out.new.items ≡ out.old.items ++ note_text note.now) }
+    ensures refused { OnErr result (take (length out.old.items) out.new.items ≡ out.old.items) }
+{
+    add_of_two(b"note ", note.member.get().into(), note.epoch.get(), out)?;
+    add_of_number(b" ", note.mask.0.into(), out)?;
+    Ok(())
+}
 
-    fn fmt<W: fmt::Write>(&self, f: &mut fmt::Formatter<W>) -> fmt::Result {
-        match self.0 {
-            Body::Certificate(certificate) => {
-                let (member, port) = (certificate.member, certificate.port);
-                let key = certificate.key.write();
-                let key = Digits(&key);
-                write!(f, "cert {member} {port} {key}")
-            }
-            Body::Note(note) => {
-                let (member, epoch, mask) = (note.member, note.epoch, note.mask);
-                write!(f, "note {member} {epoch} {mask}")
-            }
-            Body::Accusation(accusation) => write!(f, "accuse {accusation}"),
-        }
+/// Adds a body as a line of its kind. Where memory is refused, `out` begins with what it held.
+fn add_body(body: &Body, out: &mut Vec<u8>) -> Result<(), NoMemory>
+    ensures ok { OnOk result (out.new.items ≡ out.old.items ++ body_text body.now) }
+    ensures refused { OnErr result (take (length out.old.items) out.new.items ≡ out.old.items) }
+{
+    match body {
+        Body::Certificate(certificate) => add_certificate(certificate, out),
+        Body::Note(note) => add_note(note, out),
+        Body::Accusation(accusation) => add_of_accusation(b"accuse ", accusation, out),
     }
 }
 
-fn write_took(body: &Body, fault: Option<Fault>, out: &mut Vec<u8>) -> Result<(), NoMemory>
+/// Adds a word and a body. Where memory is refused, `out` begins with what it held.
+#[tactic(auto, using(life_events::proofs::TextLemmas::begins, life_events::proofs::TextLemmas::begins_so, life_events::proofs::TextLemmas::begins_on, life_events::proofs::TextLemmas::begins_then))]
+fn add_of_body(word: &[u8], body: &Body, out: &mut Vec<u8>) -> Result<(), NoMemory>
+    ensures ok { OnOk result (out.new.items ≡ out.old.items ++ word.now ++ body_text body.now) }
+    ensures refused { OnErr result (take (length out.old.items) out.new.items ≡ out.old.items) }
+{
+    write_bytes(word, out)?;
+    add_body(body, out)?;
+    Ok(())
+}
+
+/// Adds an index and a body. Where memory is refused, `out` begins with what it held.
+#[tactic(auto, using(life_events::proofs::TextLemmas::begins, life_events::proofs::TextLemmas::begins_so, life_events::proofs::TextLemmas::begins_on, life_events::proofs::TextLemmas::begins_then))]
+fn add_spent(index: u32, body: &Body, out: &mut Vec<u8>) -> Result<(), NoMemory>
+    ensures ok { OnOk result
+        (out.new.items
+        ≡ out.old.items ++ (codes "spent " ++ decimal index ++ codes " " ++ body_text body.now)) }
+    ensures refused { OnErr result (take (length out.old.items) out.new.items ≡ out.old.items) }
+{
+    add_of_number(b"spent ", index.into(), out)?;
+    add_of_body(b" ", body, out)?;
+    Ok(())
+}
+
+/// Adds what is said of a record. Where memory is refused, `out` begins with what it held.
+fn add_verdict(fault: &Option<Fault>, out: &mut Vec<u8>) -> Result<(), NoMemory>
+    ensures ok { OnOk result (out.new.items ≡ out.old.items ++ verdict_text fault.now) }
+    ensures refused { OnErr result (take (length out.old.items) out.new.items ≡ out.old.items) }
+{
+    match fault {
+        None => write_bytes(b"accepted", out),
+        Some(fault) => add_refused(fault, out),
+    }
+}
+
+/// Adds a record and what is said of it. Where memory is refused, `out` begins with what it held.
+#[tactic(auto, using(life_events::proofs::TextLemmas::begins, life_events::proofs::TextLemmas::begins_so, life_events::proofs::TextLemmas::begins_on, life_events::proofs::TextLemmas::begins_then))]
+fn add_took(body: &Body, fault: &Option<Fault>, out: &mut Vec<u8>) -> Result<(), NoMemory>
     ensures ok { OnOk result
         (out.new.items
         ≡ out.old.items ++ (codes "took " ++ body_text body.now ++ codes " : " ++ verdict_text
-        fault)) }
-    ensures refused { OnErr result (out.new.items ≡ out.old.items) }
+        fault.now)) }
+    ensures refused { OnErr result (take (length out.old.items) out.new.items ≡ out.old.items) }
 {
-    let body = BodyText(body);
-    match fault {
-        None => write_text(format_args!("took {body} : accepted"), out),
-        Some(fault) => write_text(format_args!("took {body} : refused {fault}"), out),
-    }
+    add_of_body(b"took ", body, out)?;
+    write_bytes(b" : ", out)?;
+    add_verdict(fault, out)?;
+    Ok(())
 }
 
-fn answer_word(counted: bool) -> &'static str
+fn answer_word(counted: bool) -> &'static [u8]
     ensures { result.now ≡ answer_text counted }
 {
-    if counted { "counted" } else { "stray" }
+    if counted { b"counted" } else { b"stray" }
 }
 
-fn flag_word(flag: bool) -> &'static str
+fn flag_word(flag: bool) -> &'static [u8]
     ensures { result.now ≡ flag_text flag }
 {
-    if flag { "1" } else { "0" }
+    if flag { b"1" } else { b"0" }
 }
 
-/// Where memory is refused, `out` begins with what it held.
-fn write_sent(number: u64, to: MemberId, bytes: &[u8], out: &mut Vec<u8>) -> Result<(), NoMemory>
+/// Adds two numbers and a word behind a word. Where memory is refused, `out` begins with what it held.
+#[tactic(auto, using(life_events::proofs::TextLemmas::begins, life_events::proofs::TextLemmas::begins_so, life_events::proofs::TextLemmas::begins_on, life_events::proofs::TextLemmas::begins_then))]
+fn add_of_two_and(
+    word: &[u8],
+    first: u64,
+    second: u64,
+    last: &[u8],
+    out: &mut Vec<u8>,
+) -> Result<(), NoMemory>
+    ensures ok { OnOk result
+        (out.new.items
+        ≡ out.old.items ++ (word.now ++ decimal first ++ codes " " ++ decimal second ++ codes " "
+        ++ last.now)) }
+    ensures refused { OnErr result (take (length out.old.items) out.new.items ≡ out.old.items) }
+{
+    add_of_two(word, first, second, out)?;
+    write_bytes(b" ", out)?;
+    write_bytes(last, out)?;
+    Ok(())
+}
+
+/// Adds a datagram that went out. Where memory is refused, `out` begins with what it held.
+#[tactic(auto, using(life_events::proofs::TextLemmas::begins, life_events::proofs::TextLemmas::begins_so, life_events::proofs::TextLemmas::begins_on, life_events::proofs::TextLemmas::begins_then))]
+fn add_sent(number: u64, to: MemberId, bytes: &[u8], out: &mut Vec<u8>) -> Result<(), NoMemory>
     ensures ok { OnOk result
         (out.new.items
         ≡ out.old.items ++ (codes "sent " ++ decimal number ++ codes " " ++ decimal to ++ codes
         " " ++ encode_lower bytes.now)) }
     ensures refused { OnErr result (take (length out.old.items) out.new.items ≡ out.old.items) }
 {
-    write_text(format_args!("sent {number} {to} "), out)?;
-    add_digits(bytes, out)
+    add_of_two(b"sent ", number, to.get().into(), out)?;
+    add_of_digits(b" ", bytes, out)?;
+    Ok(())
 }
 
 /// Adds what happened. Where memory is refused, `out` begins with what it held.
-fn write_what(what: &What, out: &mut Vec<u8>) -> Result<(), NoMemory>
+fn add_what(what: &What, out: &mut Vec<u8>) -> Result<(), NoMemory>
     ensures ok { OnOk result (out.new.items ≡ out.old.items ++ what_text what.now) }
     ensures refused { OnErr result (take (length out.old.items) out.new.items ≡ out.old.items) }
 {
     match what {
-        What::Entered(member) => write_text(life_events::What::Entered(*member), out),
-        What::Expired(accusation) => write_text(life_events::What::Expired(*accusation), out),
-        What::Removed(member) => write_text(life_events::What::Removed(*member), out),
-        What::Fell(accusation) => write_text(life_events::What::Fell(*accusation), out),
-        What::Spent { index, body } => {
-            let body = BodyText(body);
-            write_text(format_args!("spent {index} {body}"), out)
-        }
-        What::Took { body, fault } => write_took(body, *fault, out),
-        What::BadForm { place } => write_text(format_args!("bad-form {place}"), out),
-        What::Ping { from, nonce } => write_text(format_args!("ping {from} {nonce}"), out),
+        What::Entered(member) => add_of_number(b"entered ", member.get().into(), out),
+        What::Expired(accusation) => add_of_accusation(b"expired ", accusation, out),
+        What::Removed(member) => add_of_number(b"removed ", member.get().into(), out),
+        What::Fell(accusation) => add_of_accusation(b"fell ", accusation, out),
+        What::Spent { index, body } => add_spent(*index, body, out),
+        What::Took { body, fault } => add_took(body, fault, out),
+        What::BadForm { place } => add_of_number(b"bad-form ", *place as u64, out),
+        What::Ping { from, nonce } => add_of_two(b"ping ", from.get().into(), *nonce, out),
         What::Pong {
             from,
             nonce,
             counted,
-        } => {
-            let answer = answer_word(*counted);
-            write_text(format_args!("pong {from} {nonce} {answer}"), out)
-        }
-        What::Summary { from, page, flag } => {
-            let flag = flag_word(*flag);
-            write_text(format_args!("summary {from} {page} {flag}"), out)
-        }
-        What::Silent(member) => write_text(format_args!("silent {member}"), out),
-        What::Exhausted { next } => write_text(format_args!("exhausted {next}"), out),
-        What::Sent { number, to, bytes } => write_sent(*number, *to, bytes.as_slice(), out),
-        What::Lost { number } => write_text(format_args!("lost {number}"), out),
-        What::Got { number } => write_text(format_args!("got {number}"), out),
-        What::Stopped => write_text("stopped", out),
+        } => add_of_two_and(
+            b"pong ",
+            from.get().into(),
+            *nonce,
+            answer_word(*counted),
+            out,
+        ),
+        What::Summary { from, page, flag } => add_of_two_and(
+            b"summary ",
+            from.get().into(),
+            (*page).into(),
+            flag_word(*flag),
+            out,
+        ),
+        What::Silent(member) => add_of_number(b"silent ", member.get().into(), out),
+        What::Exhausted { next } => add_of_number(b"exhausted ", (*next).into(), out),
+        What::Sent { number, to, bytes } => add_sent(*number, *to, bytes.as_slice(), out),
+        What::Lost { number } => add_of_number(b"lost ", *number, out),
+        What::Got { number } => add_of_number(b"got ", *number, out),
+        What::Stopped => write_bytes(b"stopped", out),
     }
 }
 
 /// Adds the moment, and what happened. Where memory is refused, `out` begins with what it held.
+#[tactic(auto, using(life_events::proofs::TextLemmas::begins, life_events::proofs::TextLemmas::begins_so, life_events::proofs::TextLemmas::begins_on, life_events::proofs::TextLemmas::begins_then))]
 fn add_event(event: &Event, out: &mut Vec<u8>) -> Result<(), NoMemory>
     ensures ok { OnOk result (out.new.items ≡ out.old.items ++ event_text event.now) }
     ensures refused { OnErr result (take (length out.old.items) out.new.items ≡ out.old.items) }
 {
-    let moment = event.moment;
-    write_text(format_args!("at {moment} "), out)?;
-    write_what(&event.what, out)
+    add_of_number(b"at ", event.moment, out)?;
+    write_bytes(b" ", out)?;
+    add_what(&event.what, out)?;
+    Ok(())
 }
 
 /// Adds the event's text, as `at 3 removed 2`: without a line feed, and in a world without the node's number
@@ -130,6 +206,46 @@ pub fn write_event(event: &Event, out: &mut Vec<u8>) -> Result<(), NoMemory>
 {
     let held = out.len();
     let written = add_event(event, out);
+    if written.is_err() {
+        out.truncate(held);
+    }
+    written
+}
+
+/// Adds the moment, and that the datagram of this number went to the member. Where memory is refused, `out` begins with
+/// what it held.
+#[tactic(auto, using(life_events::proofs::TextLemmas::begins, life_events::proofs::TextLemmas::begins_so, life_events::proofs::TextLemmas::begins_on, life_events::proofs::TextLemmas::begins_then))]
+fn add_sent_event(
+    moment: u64,
+    number: u64,
+    to: MemberId,
+    bytes: &[u8],
+    out: &mut Vec<u8>,
+) -> Result<(), NoMemory>
+    ensures ok { OnOk result (out.new.items ≡ out.old.items ++ event_text
+        (record { moment = moment; what = kinds.Sent number to bytes.now })) }
+    ensures refused { OnErr result (take (length out.old.items) out.new.items ≡ out.old.items) }
+{
+    add_of_number(b"at ", moment, out)?;
+    write_bytes(b" ", out)?;
+    add_sent(number, to, bytes, out)?;
+    Ok(())
+}
+
+/// As `write_event`, of the event that the datagram of this number went to the member. Its bytes are only read.
+pub fn write_sent(
+    moment: u64,
+    number: u64,
+    to: MemberId,
+    bytes: &[u8],
+    out: &mut Vec<u8>,
+) -> Result<(), NoMemory>
+    ensures ok { OnOk result (out.new.items ≡ out.old.items ++ event_text
+        (record { moment = moment; what = kinds.Sent number to bytes.now })) }
+    ensures refused { OnErr result (out.new.items ≡ out.old.items) }
+{
+    let held = out.len();
+    let written = add_sent_event(moment, number, to, bytes, out);
     if written.is_err() {
         out.truncate(held);
     }

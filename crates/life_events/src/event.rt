@@ -1,10 +1,12 @@
 // Events, and how they are written.
 
-ghost use Rattle.std.specs.Prelude.{Some};
+ghost use Rattle.std.specs.Prelude.{◌≡◌, ◌++◌, OnOk, OnErr, length, take};
+ghost use Rattle.ff_ids.specs.Texts.{accusation_text};
 ghost use Rattle.life_events.specs.Events.{event_text, what_text};
 
+use crate::number::{add_of_number, write_bytes, write_number};
 use ff_ids::{AccBody, MemberId};
-use std::fmt;
+use fields::NoMemory;
 
 /// Something that happened in a life, and the moment at which it did.
 #[derive(Clone, Copy, Debug, PartialEq, Eq)]
@@ -27,24 +29,59 @@ pub enum What {
     Fell(AccBody),
 }
 
-impl fmt::Display for What {
-    ghost output = { λ what. Some (what_text what) };
+/// Adds the accuser, the accused, the epoch and the ring. Where memory is refused, `out` begins with what it held.
+#[tactic(auto, using(crate::proofs::TextLemmas::begins, crate::proofs::TextLemmas::begins_so))]
+fn add_accusation(accusation: &AccBody, out: &mut Vec<u8>) -> Result<(), NoMemory>
+    ensures ok { OnOk result (out.new.items ≡ out.old.items ++ accusation_text accusation.now) }
+    ensures refused { OnErr result (take (length out.old.items) out.new.items ≡ out.old.items) }
+{
+    write_number(accusation.accuser.get().into(), out)?;
+    write_bytes(b" ", out)?;
+    write_number(accusation.accused.get().into(), out)?;
+    write_bytes(b" ", out)?;
+    write_number(accusation.epoch.get(), out)?;
+    write_bytes(b" ", out)?;
+    write_number(accusation.ring.0.into(), out)
+}
 
-    fn fmt<W: fmt::Write>(&self, f: &mut fmt::Formatter<W>) -> fmt::Result {
-        match self {
-            What::Entered(member) => write!(f, "entered {member}"),
-            What::Expired(accusation) => write!(f, "expired {accusation}"),
-            What::Removed(member) => write!(f, "removed {member}"),
-            What::Fell(accusation) => write!(f, "fell {accusation}"),
-        }
+/// Adds a word and an accusation. Where memory is refused, `out` begins with what it held.
+#[tactic(auto, using(crate::proofs::TextLemmas::begins, crate::proofs::TextLemmas::begins_so, crate::proofs::TextLemmas::begins_on))]
+pub fn add_of_accusation(
+    word: &[u8],
+    accusation: &AccBody,
+    out: &mut Vec<u8>,
+) -> Result<(), NoMemory>
+    ensures ok { OnOk result
+        (out.new.items ≡ out.old.items ++ word.now ++ accusation_text accusation.now) }
+    ensures refused { OnErr result (take (length out.old.items) out.new.items ≡ out.old.items) }
+{
+    write_bytes(word, out)?;
+    add_accusation(accusation, out)?;
+    Ok(())
+}
+
+/// Adds what happened. Where memory is refused, `out` begins with what it held.
+pub fn add_what(what: &What, out: &mut Vec<u8>) -> Result<(), NoMemory>
+    ensures ok { OnOk result (out.new.items ≡ out.old.items ++ what_text what.now) }
+    ensures refused { OnErr result (take (length out.old.items) out.new.items ≡ out.old.items) }
+{
+    match what {
+        What::Entered(member) => add_of_number(b"entered ", member.get().into(), out),
+        What::Expired(accusation) => add_of_accusation(b"expired ", accusation, out),
+        What::Removed(member) => add_of_number(b"removed ", member.get().into(), out),
+        What::Fell(accusation) => add_of_accusation(b"fell ", accusation, out),
     }
 }
 
-impl fmt::Display for Event {
-    ghost output = { λ event. Some (event_text event) };
-
-    fn fmt<W: fmt::Write>(&self, f: &mut fmt::Formatter<W>) -> fmt::Result {
-        let (moment, what) = (self.moment, self.what);
-        write!(f, "at {moment} {what}")
-    }
+/// Adds the moment and what happened. Where memory is refused, `out` begins with what it held.
+#[tactic(auto, using(crate::proofs::TextLemmas::begins, crate::proofs::TextLemmas::begins_so, crate::proofs::TextLemmas::begins_on))]
+pub fn add_event(event: &Event, out: &mut Vec<u8>) -> Result<(), NoMemory>
+    ensures ok { OnOk result (out.new.items ≡ out.old.items ++ event_text event.now) }
+    ensures refused { OnErr result (take (length out.old.items) out.new.items ≡ out.old.items) }
+{
+    write_bytes(b"at ", out)?;
+    write_number(event.moment, out)?;
+    write_bytes(b" ", out)?;
+    add_what(&event.what, out)?;
+    Ok(())
 }

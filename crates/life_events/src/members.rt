@@ -3,7 +3,7 @@
 ghost use Rattle.std.specs.Prelude.{◌≡◌, ◌++◌, OnOk, OnErr, length, take};
 ghost use Rattle.life_events.specs.Events.{members_text};
 
-use crate::text::write_text;
+use crate::number::{write_bytes, write_number};
 use ff_ids::MemberId;
 use fields::NoMemory;
 
@@ -15,11 +15,12 @@ pub fn add_members(members: &[MemberId], out: &mut Vec<u8>) -> Result<(), NoMemo
     ensures refused { OnErr result (take (length out.old.items) out.new.items ≡ out.old.items) }
 {
     let Some((first, others)) = members.split_first() else {
-        return write_text("nobody", out);
+        return write_bytes(b"nobody", out);
     };
-    write_text(first, out)?;
+    write_number(first.get().into(), out)?;
     for member in others {
-        write_text(format_args!(" {member}"), out)?;
+        write_bytes(b" ", out)?;
+        write_number(member.get().into(), out)?;
     }
     Ok(())
 }

@@ -1,5 +1,6 @@
 mod Rows
 pub mod NumberLemmas
+pub mod HeadLemmas
 pub mod WordLemmas
 pub mod HexWords
 pub mod FrameLemmas
@@ -8,3 +9,4 @@ pub mod DigitLemmas
 pub mod SpellingLemmas
 pub mod ShapeLemmas
 pub mod TableLemmas
+pub mod SpacedLemmas

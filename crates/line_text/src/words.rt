@@ -1,46 +1,63 @@
 //! The words of a line.
 
-ghost use Rattle.std.specs.Prelude.{◌≡◌, ◌≤◌, ◌==◌, [], ◌∷◌, length, not, position, ⊤, MatchOption, IfNone, IfOk};
-ghost use Rattle.std.specs.List.{list_all};
+ghost use Rattle.std.specs.Prelude.{◌≡◌, ◌≤◌, ◌==◌, [], ◌∷◌, length, not, position, is_some, ⊤, MatchOption, IfNone, IfSome, IfOk};
 ghost use Rattle.line_text.specs.Answers.{AnswersBy, read_bytes, read_name, refusal};
 ghost use Rattle.line_text.specs.Fields.{bad_where, hex, hex_of, number, number_32, number_in};
 ghost use Rattle.line_text.specs.Frame.{behind, first_word, is_header};
-ghost use Rattle.line_text.specs.Words.{is_space, is_printable, is_word, is_spaced, parts, parts_left, words_of};
+ghost use Rattle.line_text.specs.Numbers.{number_of};
+ghost use Rattle.line_text.specs.Words.{is_space, is_printable, is_spaced, parts, parts_left, words_of};
 
 use crate::bad_word::{BadWord, LineFault};
 use crate::digits::{bytes_up_to, exact_bytes};
 use crate::names::name_of;
-use crate::numbers::number_within;
+use crate::numbers::{head_number, number_of, number_within};
 use fields::{Bytes, Name};
 use std::alloc::Global;
 use std::marker::Model;
 
-fn is_printable(bytes: &[u8]) -> bool
-    ensures { result ≡ list_all is_printable bytes.now }
+fn is_printable(byte: u8) -> bool
+    ensures { result ≡ is_printable byte }
 {
-    bytes.iter().all(|byte| 33 <= *byte && *byte <= 126)
+    33 <= byte && byte <= 126
 }
 
-fn is_word(bytes: &[u8]) -> bool
-    ensures { result ≡ is_word bytes.now }
+/// How many words the text is, if it is words with one space between two and none elsewhere.
+fn count_words(text: &[u8]) -> Option<usize>
+    ensures spaced { is_some result ≡ is_spaced text.now }
+    ensures count { IfSome result (λ n. n ≡ length (parts text.now)) }
 {
-    !bytes.is_empty() && is_printable(bytes)
-}
-
-fn is_spaced(text: &[u8]) -> bool
-    ensures { result ≡ is_spaced text.now }
-{
-    text.split(|byte| *byte == b' ').all(|part| is_word(part))
+    let mut spaces = 0;
+    let mut has_begun = false;
+    for byte in text {
+        if is_printable(*byte) {
+            has_begun = true;
+        } else if *byte == b' ' {
+            if !has_begun {
+                return None;
+            }
+            spaces += 1;
+            has_begun = false;
+        } else {
+            return None;
+        }
+    }
+    if has_begun { Some(spaces + 1) } else { None }
 }
 
 fn first_space(text: &[u8]) -> Option<usize>
     ensures { result ≡ position is_space text.now }
 {
-    text.iter().position(|byte| *byte == b' ')
+    for at in 0..text.len() {
+        if text[at] == b' ' {
+            return Some(at);
+        }
+    }
+    None
 }
 
 /// The part before the first space, and what stands behind that space.
 #[tactic(auto, using(crate::proofs::WordLemmas::parts_alone, crate::proofs::WordLemmas::parts_at))]
+#[inline(always)]
 fn first_part(text: &[u8]) -> (&[u8], Option<&[u8]>)
     ensures { parts text.now ≡ result.0.now ∷ parts_left result.1 }
 {
@@ -54,15 +71,18 @@ fn first_part(text: &[u8]) -> (&[u8], Option<&[u8]>)
 #[derive(Drop)]
 pub struct Words<'a> {
     left: Option<&'a [u8]>,
+    count: usize,
 }
 
 impl<'a> Model for Words<'a> {
-    ghost use Rattle.std.specs.Prelude.{ℕ, List};
+    ghost use Rattle.std.specs.Prelude.{◌≡◌, ℕ, List, length};
     ghost use Rattle.line_text.specs.Words.{parts_left};
 
     ghost Value = { List (List ℕ) };
 
     ghost view = { λ w. parts_left w.left };
+
+    ghost invariant = { λ w. w.count ≡ length (parts_left w.left) };
 }
 
 impl<'a> Words<'a> {
@@ -70,22 +90,18 @@ impl<'a> Words<'a> {
     pub fn of(text: &'a [u8]) -> Option<Words<'a>>
         ensures { result ≡ words_of text.now }
     {
-        if is_spaced(text) {
-            Some(Words { left: Some(text) })
-        } else {
-            None
-        }
+        let count = count_words(text)?;
+        Some(Words {
+            left: Some(text),
+            count,
+        })
     }
 
     /// Whether no word is left.
-    #[tactic(auto, using(crate::proofs::WordLemmas::some_parts))]
     pub fn is_empty(&self) -> bool
         ensures { result ≡ (length self.now == 0) }
     {
-        match self.left {
-            None => true,
-            Some(_) => false,
-        }
+        self.count == 0
     }
 
     /// Whether the words are `fireflies 1 FORM`, which head a text of this form.
@@ -103,17 +119,17 @@ impl<'a> Words<'a> {
     pub fn again(&self) -> Words<'a>
         ensures { result ≡ self.now }
     {
-        Words { left: self.left }
+        Words {
+            left: self.left,
+            count: self.count,
+        }
     }
 
     /// How many words are left.
     pub fn count(&self) -> usize
         ensures { result ≡ length self.now }
     {
-        match self.left {
-            None => 0,
-            Some(text) => text.iter().filter(|byte| **byte == b' ').count() + 1,
-        }
+        self.count
     }
 
     /// Takes the next word.
@@ -123,6 +139,7 @@ impl<'a> Words<'a> {
     {
         let (word, left) = first_part(self.left?);
         self.left = left;
+        self.count -= 1;
         Some(word)
     }
 
@@ -149,6 +166,7 @@ impl<'a> Words<'a> {
     }
 
     /// Takes a number that the next word spells, from `low` to `high`.
+    #[inline(always)]
     pub fn number(&mut self, low: u64, high: u64) -> Result<u64, BadWord>
         ensures refused { number low high (first_word self.old) ≡ refusal result }
         ensures value { IfOk result (λ n. n ≡ number_in (first_word self.old)) }
@@ -156,7 +174,7 @@ impl<'a> Words<'a> {
         ensures high { IfOk result (λ n. n ≤ high) }
         ensures moved { self.new ≡ behind self.old }
     {
-        number_within(self.take(), low, high)
+        number_within(self.take_number(), low, high)
     }
 
     /// Takes a number that 32 bits hold.
@@ -193,6 +211,28 @@ impl<'a> Words<'a> {
         ensures moved { self.new ≡ behind self.old }
     {
         name_of(alloc, self.take())
+    }
+
+    // Takes the number that the next word spells.
+    #[inline(always)]
+    fn take_number(&mut self) -> Option<u64>
+        ensures number { result ≡ number_of (first_word self.old) }
+        ensures moved { self.new ≡ behind self.old }
+    {
+        let text = self.left?;
+        match head_number(text) {
+            Some((number, left)) => {
+                self.left = left;
+                self.count -= 1;
+                Some(number)
+            }
+            None => {
+                let (word, left) = first_part(text);
+                self.left = left;
+                self.count -= 1;
+                number_of(word)
+            }
+        }
     }
 
     // The next word; an empty one, which is no number, no bytes and no name, where none is left.

@@ -33,11 +33,11 @@ pub filter_agree_on : {X : Type 0} (f g : X → Bool) (xs : List X) → AllByRec
 filter_agree_on f g [] h = refl
 filter_agree_on f g (x ∷ xs) h = ap (λ b. cond b (x ∷ filter f xs) (filter f xs)) h.0 ∙ ap (λ ys. cond (g x) (x ∷ ys) ys) (filter_agree_on f g xs h.1)
 
-filter_all : {X : Type 0} (p : X → Bool) → ((x : X) → p x ≡ true) → (xs : List X) → filter p xs ≡ xs
+pub filter_all : {X : Type 0} (p : X → Bool) → ((x : X) → p x ≡ true) → (xs : List X) → filter p xs ≡ xs
 filter_all p h [] = refl
 filter_all p h (x ∷ xs) = rw (h x) (ap (λ ys. x ∷ ys) (filter_all p h xs))
 
-filter_nothing : {X : Type 0} (xs : List X) → filter (λ x. false) xs ≡ []
+pub filter_nothing : {X : Type 0} (xs : List X) → filter (λ x. false) xs ≡ []
 filter_nothing [] = refl
 filter_nothing (x ∷ xs) = filter_nothing xs
 

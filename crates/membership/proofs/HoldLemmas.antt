@@ -15,7 +15,7 @@ use Rattle.ff_ids.specs.Rings.{Key, nearest_before, nearest_after}
 use Rattle.ff_ids.specs.Views.{State, Member, has_expired, in_view, in_view_by, is_member, all_numbers, view, key_at, key_of, monitor, successor}
 use Rattle.ff_ids.specs.Faults.{note_fault, note_fault_by}
 use Rattle.monitor_rule.specs.Joined.{keys_on}
-use Rattle.membership.specs.Kept.{expired_at, is_live, is_live_at, member_at, live_members}
+use Rattle.membership.specs.Kept.{ByNumber, expired_at, is_live, is_live_at, member_at, live_members}
 use Rattle.membership.specs.Life.{Life, has_joined, live_monitor, live_successor, live_keys, live_count, own_key, note_fault_in}
 use Rattle.membership.specs.Holds.{Holds, HoldsAt, greatest_epoch}
 use Rattle.membership.specs.Reports.{Answers}
@@ -138,3 +138,13 @@ answers-fault f g fault e h = subst (λ o. Answers o (Err fault)) (sym h ∙ e) 
 
 pub answers-none : (f g : Option Fault) → f ≡ g → f ≡ None → Answers g (Ok tt)
 answers-none f g e h = subst (λ o. Answers o (Ok tt)) (sym h ∙ e) refl
+
+numbers_at : (places : ByNumber (List (List ℕ))) (xs : List ℕ) → map (λ x. x.number) (map (member_at places) xs) ≡ xs
+numbers_at places [] = refl
+numbers_at places (x ∷ xs) = ap (λ ns. x ∷ ns) (numbers_at places xs)
+
+-- the numbers of the live members are the view
+pub numbers-held : (l : Life) (s : State) (members : List Member) → HoldsEach l s → members ≡ live_members l.places l.notes l.expired → map (λ x. x.number) members ≡ view s
+numbers-held l s members h viewed =
+    ap (map (λ (x : Member). x.number)) viewed ∙ numbers_at l.places (filter (is_live_at l.notes l.expired) all_numbers)
+    ∙ filter_agree (is_live_at l.notes l.expired) (in_view s) (λ m. sym (in_view-each l s m h)) all_numbers

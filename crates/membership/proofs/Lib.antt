@@ -9,5 +9,5 @@ pub mod NoteLemmas
 pub mod ExpireLemmas
 pub mod TickLemmas
 pub mod AccuseLemmas
-pub mod ViewLemmas
 pub mod SlotLemmas
+mod PassLemmas

@@ -181,7 +181,7 @@ ticked_state timeout s =
       kept = filter (λ p. not (is_due timeout (s.moment + 1) p)) s.kept;
     }
 
-due_same : (l : Life) (s : State) → Holds l s → map (λ p. p.0) (filter (is_due l.group.timeout (s.moment + 1)) s.kept) ≡ due_of l
+pub due_same : (l : Life) (s : State) → Holds l s → map (λ p. p.0) (filter (is_due l.group.timeout (s.moment + 1)) s.kept) ≡ due_of l
 due_same l s h =
     ap (λ now. map (λ p. p.0) (filter (is_due l.group.timeout (now + 1)) s.kept)) h.moment_same ∙ ap (λ kept. map (λ p. p.0) (filter (is_due l.group.timeout (l.moment + 1)) kept)) h.kept_same
 

@@ -5,3 +5,4 @@ pub mod Ends
 pub mod Touched
 pub mod Reports
 pub mod Slots
+pub mod Ticks

@@ -11,7 +11,7 @@ ghost use Rattle.membership.specs.Ends.{AreNamed, Entry, Ends, HasEnded, IsAgain
 ghost use Rattle.removal_timer.specs.Kept.{is_at, entry_at, IsInOrder};
 
 use crate::Membership;
-use crate::kept::successors;
+use crate::kept::{successors, successors_of_last};
 use crate::report::Changes;
 use ff_ids::{AccBody, MAX_RINGS, MemberId, NoteBody, RingNo};
 
@@ -31,7 +31,7 @@ impl Membership {
         if self.timers.is_empty() {
             [None; MAX_RINGS as usize]
         } else if enters {
-            self.next_after(note.member)
+            self.next_after_last(note.member)
         } else {
             self.answered_by(note)
         }
@@ -46,6 +46,19 @@ impl Membership {
     {
         match self.places.get(member) {
             Some(places) => successors(&self.rings, 2 * self.group.t + 1, member, places),
+            None => [None; MAX_RINGS as usize],
+        }
+    }
+
+    /// The successor on each ring of the member that was the last to enter the view.
+    fn next_after_last(&self, member: MemberId) -> [Option<MemberId>; MAX_RINGS as usize]
+        ensures each { (ring : ℕ) → ring < ring_count self.now.group.t
+            → slice_index_or result ring None
+            ≡ next_of self.now member ring }
+        ensures count { ring_count self.now.group.t ≤ MAX_RINGS }
+    {
+        match self.places.get(member) {
+            Some(places) => successors_of_last(&self.rings, 2 * self.group.t + 1, member, places),
             None => [None; MAX_RINGS as usize],
         }
     }

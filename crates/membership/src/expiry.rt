@@ -37,6 +37,23 @@ impl Membership {
         out.take_due(&mut self.timers, self.moment);
     }
 
+    /// Raises the clock by as many ticks as nothing is due at, at most so many.
+    pub(crate) fn pass(&mut self, most: u32) -> u32
+        requires { self.old.moment + most < 2 ^ 64 }
+        ensures most { result ≤ most }
+        ensures kept { self.new ≡ record self.old { moment = self.old.moment + result } }
+        ensures quiet { (n : ℕ) → n < result
+            → filter (is_due self.old.group.timeout (self.old.moment + n + 1)) self.old.kept ≡ [] }
+        ensures next { result < most → 0 < length
+            (filter (is_due self.old.group.timeout (self.old.moment + result + 1)) self.old.kept) }
+        ensures in_order { IsInOrder (ring_count self.old.group.t) self.old.kept }
+        ensures noted { (m : ℕ) → get self.old.places m ≡ None → get self.old.notes m ≡ None }
+    {
+        let ticks = self.timers.quiet_ticks(self.moment, most);
+        self.moment += u64::from(ticks);
+        ticks
+    }
+
     /// Counts the reported accusations as expired, and reports the members that they take out of the view.
     pub(crate) fn expire_all(&mut self, out: &mut Changes)
         requires empty { out.old.removed ≡ [] }

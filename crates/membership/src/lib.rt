@@ -19,6 +19,7 @@ ghost use Rattle.membership.specs.Life.{has_joined, live_monitor, live_count, no
 ghost use Rattle.membership.specs.Ends.{Ends, next_of, answered_on, is_named, is_of, is_of_any, with_fallen};
 ghost use Rattle.membership.specs.Holds.{Holds};
 ghost use Rattle.membership.specs.Reports.{Answers, kept_against};
+ghost use Rattle.membership.specs.Ticks.{after_ticks};
 ghost use Rattle.removal_timer.specs.Kept.{IsInOrder};
 
 mod by_member;
@@ -30,7 +31,7 @@ mod laws;
 mod report;
 
 pub use by_member::ByMember;
-use ff_ids::{AccBody, Epoch, Fault, Group, MEMBERS, MemberId, NoteBody, RingNo};
+use ff_ids::{AccBody, Epoch, Fault, Group, MemberId, NoteBody, RingNo};
 use fields::NoMemory;
 use kept::{brings_in, is_live};
 pub use laws::only_the_touched_end;
@@ -131,16 +132,18 @@ impl Membership {
     }
 
     /// The members of the view, in order of number.
+    pub fn view(&self) -> &[MemberId]
+        ensures { (s : State) → Holds self.now s → result.now ≡ view s }
+    {
+        self.rings.numbers()
+    }
+
+    /// A copy of `view`.
     pub fn members_in_view(&self, alloc: Global) -> Result<Vec<MemberId>, NoMemory>
         ensures { (s : State) → Holds self.now s → IfOk result (λ members. members.items ≡ view s) }
     {
         let mut members = Vec::new(alloc);
-        for number in 0..MEMBERS {
-            let member = MemberId::new(number);
-            if self.in_view(member) {
-                members.push(member)?;
-            }
-        }
+        members.extend_from_slice(self.view())?;
         Ok(members)
     }
 
@@ -311,6 +314,26 @@ impl Membership {
         self.advance(out);
         self.end_of_expired(out);
         self.expire_all(out);
+    }
+
+    /// Passes those of the next ticks that bring nothing, of at most so many, and answers how many they are: all up to the one
+    /// at which a kept accusation is due. It takes no longer for many of them than for one.
+    pub fn pass_quiet(&mut self, most: u32) -> u32
+        requires { self.old.moment + most < 2 ^ 64 }
+        ensures most { result ≤ most }
+        ensures step { (s : State) → Holds self.old s
+            → Holds self.new (after_ticks self.old.group.timeout result s) }
+        ensures quiet { (s : State) → Holds self.old s → (n : ℕ) → n < result
+            → (after_tick self.old.group.timeout
+            (after_ticks self.old.group.timeout n s)).report ≡ nothing }
+        ensures next { (s : State) → Holds self.old s → result < most
+            → 0 < length (after_tick self.old.group.timeout
+            (after_ticks self.old.group.timeout result s)).report.expired }
+        ensures moment { self.new.moment ≡ self.old.moment + result }
+        ensures group { self.new.group ≡ self.old.group }
+        ensures members { self.new.places ≡ self.old.places }
+    {
+        self.pass(most)
     }
 
     /// The accusation kept against the member on the ring.

@@ -9,10 +9,12 @@ use Rattle.std.proofs.lemmas.List.{length-map, get_or-map, map-append}
 use Rattle.std.proofs.lemmas.List.Elements.{All-map, All-push, All-same}
 use Rattle.std.proofs.lemmas.List.FromFn.{get_or-range_with_len}
 use Rattle.ff_ids.specs.declared.TheConstants.{MAX_RINGS, MEMBERS}
-use Rattle.ff_ids.specs.Views.{key_at}
+use Rattle.ff_ids.specs.Views.{Member, key_at}
 use Rattle.ff_ids.proofs.MaskLemmas.{range_with_len-push}
 use Rattle.monitor_rule.specs.Joined.{Joined, is_joined, with_member, without_member}
-use Rattle.monitor_rule.specs.Sorted.{RingOrder, places_at, members_from, emptied, IsRow, IsBetween, IsKept}
+use Rattle.monitor_rule.specs.Listed.{is_listed, with_number, without_number}
+use Rattle.monitor_rule.specs.Sorted.{RingOrder, places_at, members_from, numbers_in, emptied, hint_on, IsRow, IsBetween, IsKept}
+use Rattle.monitor_rule.proofs.NumberLemmas.{numbers_with, numbers_without, is_listed-joined}
 use Rattle.monitor_rule.proofs.SlotLemmas.{Slots, length-members_below, members_from-none, members_from-filled, members_from-emptied, is_joined-slot}
 use Rattle.monitor_rule.proofs.RowLemmas.{IsRow-joined, IsRow-left, IsRow-empty}
 
@@ -22,28 +24,38 @@ written n xs ys same long =
     let e : n ≡ length ys = omega arith in
     ap (λ k. take k (ys ++ drop (length ys) xs)) e ∙ take-append_seam ys (drop (length ys) xs)
 
+-- the numbers of nobody
+pub numbers-none : (slots : Slots) (numbers : List ℕ) → ((n : ℕ) → places_at slots n ≡ None) → numbers ≡ [] → numbers ≡ numbers_in slots
+numbers-none slots numbers none is = is ∙ sym (ap (map (λ (x : Member). x.number)) (members_from-none 0 slots none))
+
+-- where a slot is free fewer numbers than all are listed
+pub numbers-few : (slots : Slots) (numbers : List ℕ) (m : ℕ) → numbers ≡ numbers_in slots → places_at slots m ≡ None → m < MEMBERS → length slots ≡ MEMBERS → length numbers < MEMBERS
+numbers-few slots numbers m same free number long =
+    omega (arith, ap length same, length-map (members_from 0 slots) (λ (x : Member). x.number), length-members_below 0 slots m free (omega arith), long)
+
 -- ---- one row
 
-pub joined_row : (slots : Slots) (ring : ℕ) (order after : List ℕ) (row : RingOrder) (places : List (List ℕ)) (place m capacity : ℕ) (done : Bool) → record { ring = ring; order = order } ≡ row → IsRow slots row → IsBetween slots row (key_at row.ring places m) place place → places_at slots m ≡ None → m < MEMBERS → length slots ≡ MEMBERS → row.ring < length places → after ≡ cond done (insert order place m) order → MEMBERS ≤ capacity → (length order < capacity → done ≡ true) → IsRow (set slots m (Some places)) (record { ring = ring; order = after })
-joined_row slots ring order after row places place m capacity done view h between free number long placed is room succeeds =
+pub joined_row : (slots : Slots) (ring : ℕ) (order hints after : List ℕ) (row : RingOrder) (places : List (List ℕ)) (place m capacity : ℕ) (done : Bool) → record { ring = ring; order = order; hints = hints } ≡ row → IsRow slots row → IsBetween slots row (key_at row.ring places m) place place → places_at slots m ≡ None → m < MEMBERS → length slots ≡ MEMBERS → row.ring < length places → after ≡ cond done (insert order place m) order → MEMBERS ≤ capacity → (length order < capacity → done ≡ true) → length hints ≡ MEMBERS → IsRow (set slots m (Some places)) (record { ring = ring; order = after; hints = set hints m (hint_on ring places) })
+joined_row slots ring order hints after row places place m capacity done view h between free number long placed is room succeeds all =
     let same : length order ≡ length row.order = ap (λ (r : RingOrder). length r.order) view in
     let in' : m < length slots = omega arith in
     let below = length-members_below 0 slots m free in' in
     let yes : done ≡ true = succeeds (omega (arith, h.count, below)) in
     let put : after ≡ insert order place m = is ∙ ap (λ b. cond b (insert order place m) order) yes in
-    let joined = IsRow-joined slots row places place m h between free in' placed in
+    let in_hints : m < length row.hints = omega (arith, number, all, ap (λ (r : RingOrder). length r.hints) view) in
+    let joined = IsRow-joined slots row places place m h between free in' placed in_hints in
     let P : RingOrder → Type 0 = λ r. IsRow (set slots m (Some places)) r in
-    subst P (ap (λ (r : RingOrder). record r { order = insert r.order place m }) (sym view) ∙ ap (λ (o : List ℕ). record { ring = ring; order = o }) (sym put)) joined
+    subst P (ap (λ (r : RingOrder). record r { order = insert r.order place m; hints = set r.hints m (hint_on r.ring places) }) (sym view) ∙ ap (λ (o : List ℕ). record { ring = ring; order = o; hints = set hints m (hint_on ring places) }) (sym put)) joined
 
-pub left_row : (slots : Slots) (ring : ℕ) (order after : List ℕ) (row : RingOrder) (places : List (List ℕ)) (place m : ℕ) → record { ring = ring; order = order } ≡ row → IsRow slots row → IsBetween slots row (key_at row.ring places m) place place → places_at slots m ≡ Some places → m < MEMBERS → length slots ≡ MEMBERS → after ≡ remove order place → IsRow (set slots m None) (record { ring = ring; order = after })
-left_row slots ring order after row places place m view h between there number long is =
+pub left_row : (slots : Slots) (ring : ℕ) (order hints after : List ℕ) (row : RingOrder) (places : List (List ℕ)) (place m : ℕ) → record { ring = ring; order = order; hints = hints } ≡ row → IsRow slots row → IsBetween slots row (key_at row.ring places m) place place → places_at slots m ≡ Some places → m < MEMBERS → length slots ≡ MEMBERS → after ≡ remove order place → IsRow (set slots m None) (record { ring = ring; order = after; hints = hints })
+left_row slots ring order hints after row places place m view h between there number long is =
     let in' : m < length slots = omega arith in
     let left = (IsRow-left slots row places place m h between there in').1 in
     let P : RingOrder → Type 0 = λ r. IsRow (set slots m None) r in
-    subst P (ap (λ (r : RingOrder). record r { order = remove r.order place }) (sym view) ∙ ap (λ (o : List ℕ). record { ring = ring; order = o }) (sym is)) left
+    subst P (ap (λ (r : RingOrder). record r { order = remove r.order place }) (sym view) ∙ ap (λ (o : List ℕ). record { ring = ring; order = o; hints = hints }) (sym is)) left
 
-pub left_within : (slots : Slots) (ring : ℕ) (order : List ℕ) (row : RingOrder) (places : List (List ℕ)) (place m : ℕ) → record { ring = ring; order = order } ≡ row → IsRow slots row → IsBetween slots row (key_at row.ring places m) place place → places_at slots m ≡ Some places → m < MEMBERS → length slots ≡ MEMBERS → place < length order
-left_within slots ring order row places place m view h between there number long =
+pub left_within : (slots : Slots) (ring : ℕ) (order hints : List ℕ) (row : RingOrder) (places : List (List ℕ)) (place m : ℕ) → record { ring = ring; order = order; hints = hints } ≡ row → IsRow slots row → IsBetween slots row (key_at row.ring places m) place place → places_at slots m ≡ Some places → m < MEMBERS → length slots ≡ MEMBERS → place < length order
+left_within slots ring order hints row places place m view h between there number long =
     let within = (IsRow-left slots row places place m h between there (omega arith)).0 in
     let same : length order ≡ length row.order = ap (λ (r : RingOrder). length r.order) view in
     omega arith
@@ -126,7 +138,7 @@ IsKept-nobody slots rows few long none numbered nobody =
       numbered = numbered;
       in_order = λ k d lt.
           let row = get_or rows k d in
-          subst (IsRow slots) (ap (λ (o : List ℕ). record { ring = row.ring; order = o }) (sym (nobody k d lt))) (IsRow-empty slots row.ring none (members_from-none 0 slots none));
+          subst (IsRow slots) (ap (λ (o : List ℕ). record row { order = o }) (sym (nobody k d lt))) (IsRow-empty slots row none (members_from-none 0 slots none));
     }
 
 rings-emptied : (rows : List RingOrder) → map (λ r. r.ring) (map emptied rows) ≡ map (λ r. r.ring) rows
@@ -140,16 +152,16 @@ IsKept-cleared slots after rows h same none =
     (All-map (λ (r : RingOrder). r.order ≡ []) emptied rows (λ k d lt. refl))
 
 -- a row more, with nobody on it
-pub rings_pushed : (rows after : List RingOrder) (n : ℕ) (row : RingOrder) → after ≡ rows ++ row ∷ [] → row ≡ record { ring = n; order = [] } → map (λ r. r.ring) rows ≡ range_with_len 0 n → map (λ r. r.ring) after ≡ range_with_len 0 (n + 1)
+pub rings_pushed : (rows after : List RingOrder) (n : ℕ) (row : RingOrder) → after ≡ rows ++ row ∷ [] → row.ring ≡ n → map (λ r. r.ring) rows ≡ range_with_len 0 n → map (λ r. r.ring) after ≡ range_with_len 0 (n + 1)
 rings_pushed rows after n row is opened numbered =
     let e : n + 1 ≡ suc n = omega arith in
     let zero_more : n ≡ 0 + n = omega arith in
     ap (map (λ (r : RingOrder). r.ring)) is ∙ map-append (λ (r : RingOrder). r.ring) rows (row ∷ []) ∙ ap (λ ns. ns ++ row.ring ∷ []) numbered
-    ∙ ap (λ x. range_with_len 0 n ++ x ∷ []) (ap (λ (r : RingOrder). r.ring) opened ∙ zero_more) ∙ sym (ap (range_with_len 0) e ∙ range_with_len-push 0 n)
+    ∙ ap (λ x. range_with_len 0 n ++ x ∷ []) (opened ∙ zero_more) ∙ sym (ap (range_with_len 0) e ∙ range_with_len-push 0 n)
 
-pub empty_pushed : (rows after : List RingOrder) (n : ℕ) (row : RingOrder) → after ≡ rows ++ row ∷ [] → row ≡ record { ring = n; order = [] } → All (λ r. r.order ≡ []) rows → All (λ r. r.order ≡ []) after
-empty_pushed rows after n row is opened h =
-    All-same (λ (r : RingOrder). r.order ≡ []) after (rows ++ row ∷ []) is (All-push (λ (r : RingOrder). r.order ≡ []) rows row h (ap (λ (r : RingOrder). r.order) opened))
+pub empty_pushed : (rows after : List RingOrder) (row : RingOrder) → after ≡ rows ++ row ∷ [] → row.order ≡ [] → All (λ r. r.order ≡ []) rows → All (λ r. r.order ≡ []) after
+empty_pushed rows after row is opened h =
+    All-same (λ (r : RingOrder). r.order ≡ []) after (rows ++ row ∷ []) is (All-push (λ (r : RingOrder). r.order ≡ []) rows row h opened)
 
 -- ---- by who has joined
 
@@ -168,16 +180,20 @@ free_slot slots rings m joined view absent = none_from (places_at slots m) (slot
 pub filled_slot : (slots : Slots) (rings m : ℕ) (joined : Joined) → record { rings = rings; members = members_from 0 slots } ≡ joined → is_joined joined.members m ≡ true → is_some (places_at slots m) ≡ true
 filled_slot slots rings m joined view present = slot_of slots rings m joined view ∙ present
 
-pub record Rekept (slots : Slots) (rows : List RingOrder) (joined : Joined) : Type 0 where
+pub record Rekept (slots : Slots) (rows : List RingOrder) (numbers : List ℕ) (joined : Joined) : Type 0 where
   pub kept : IsKept slots rows
+  pub numbers_same : numbers ≡ numbers_in slots
   pub view : record { rings = length rows; members = members_from 0 slots } ≡ joined
 
-pub Rekept-joined : (slots : Slots) (rows after : List RingOrder) (joined : Joined) (m : ℕ) (places : List (List ℕ)) → Rekept slots rows joined → is_joined joined.members m ≡ false → m < MEMBERS → length places ≡ joined.rings → All (IsRow (set slots m (Some places))) after → map (λ r. r.ring) after ≡ map (λ r. r.ring) rows → Rekept (set slots m (Some places)) after (record joined { members = with_member (record { number = m; places = places }) joined.members })
-Rekept-joined slots rows after joined m places h absent number placed in_order same =
+pub Rekept-joined : (slots : Slots) (rows after : List RingOrder) (numbers : List ℕ) (joined : Joined) (m : ℕ) (places : List (List ℕ)) → Rekept slots rows numbers joined → is_joined joined.members m ≡ false → m < MEMBERS → length places ≡ joined.rings → All (IsRow (set slots m (Some places))) after → map (λ r. r.ring) after ≡ map (λ r. r.ring) rows → Rekept (set slots m (Some places)) after (with_number m numbers) (record joined { members = with_member (record { number = m; places = places }) joined.members })
+Rekept-joined slots rows after numbers joined m places h absent number placed in_order same =
     let free = free_slot slots (length rows) m joined h.view absent in
     let zero_more : 0 + m ≡ m = omega arith in
     record {
       kept = IsKept-joined slots rows after m places h.kept number (placed ∙ sym (ap (λ (j : Joined). j.rings) h.view)) in_order same;
+      numbers_same =
+          ap (with_number m) h.numbers_same ∙ sym (numbers_with (record { number = m; places = places }) (members_from 0 slots))
+          ∙ sym (ap (map (λ (x : Member). x.number)) (members_from-filled 0 slots m places free (omega (arith, h.kept.long)) ∙ ap (λ n. with_member (record { number = n; places = places }) (members_from 0 slots)) zero_more));
       view =
           ap (λ n. record { rings = n; members = members_from 0 (set slots m (Some places)) }) (length-same_rings rows after same)
           ∙ ap (λ ms. record { rings = length rows; members = ms }) (members_from-filled 0 slots m places free (omega (arith, h.kept.long)) ∙ ap (λ n. with_member (record { number = n; places = places }) (members_from 0 slots)) zero_more)
@@ -188,24 +204,33 @@ some_slot : (o : Option (List (List ℕ))) → is_some o ≡ true → (places : 
 some_slot None h = cc
 some_slot (Some places) h = (places, refl)
 
-pub Rekept-left : (slots : Slots) (rows after : List RingOrder) (joined : Joined) (m : ℕ) → Rekept slots rows joined → is_joined joined.members m ≡ true → m < MEMBERS → All (IsRow (set slots m None)) after → map (λ r. r.ring) after ≡ map (λ r. r.ring) rows → Rekept (set slots m None) after (record joined { members = without_member m joined.members })
-Rekept-left slots rows after joined m h present number in_order same =
+pub Rekept-left : (slots : Slots) (rows after : List RingOrder) (numbers : List ℕ) (joined : Joined) (m : ℕ) → Rekept slots rows numbers joined → is_joined joined.members m ≡ true → m < MEMBERS → All (IsRow (set slots m None)) after → map (λ r. r.ring) after ≡ map (λ r. r.ring) rows → Rekept (set slots m None) after (without_number m numbers) (record joined { members = without_member m joined.members })
+Rekept-left slots rows after numbers joined m h present number in_order same =
     let there = some_slot (places_at slots m) (filled_slot slots (length rows) m joined h.view present) in
     let zero_more : 0 + m ≡ m = omega arith in
     record {
       kept = IsKept-left slots rows after m h.kept number in_order same;
+      numbers_same =
+          ap (without_number m) h.numbers_same ∙ sym (numbers_without m (members_from 0 slots))
+          ∙ sym (ap (map (λ (x : Member). x.number)) (members_from-emptied 0 slots m there.0 there.1 ∙ ap (λ n. without_member n (members_from 0 slots)) zero_more));
       view =
           ap (λ n. record { rings = n; members = members_from 0 (set slots m None) }) (length-same_rings rows after same)
           ∙ ap (λ ms. record { rings = length rows; members = ms }) (members_from-emptied 0 slots m there.0 there.1 ∙ ap (λ n. without_member n (members_from 0 slots)) zero_more)
           ∙ ap (λ (j : Joined). record j { members = without_member m j.members }) h.view;
     }
 
-pub Rekept-cleared : (slots after : Slots) (rows : List RingOrder) (joined : Joined) → Rekept slots rows joined → length after ≡ length slots → ((n : ℕ) → places_at after n ≡ None) → Rekept after (map emptied rows) (record joined { members = [] })
-Rekept-cleared slots after rows joined h same none =
+pub Rekept-cleared : (slots after : Slots) (rows : List RingOrder) (numbers : List ℕ) (joined : Joined) → Rekept slots rows numbers joined → length after ≡ length slots → ((n : ℕ) → places_at after n ≡ None) → Rekept after (map emptied rows) [] (record joined { members = [] })
+Rekept-cleared slots after rows numbers joined h same none =
     record {
       kept = IsKept-cleared slots after rows h.kept same none;
+      numbers_same = sym (ap (map (λ (x : Member). x.number)) (members_from-none 0 after none));
       view =
           ap (λ n. record { rings = n; members = members_from 0 after }) (length-map rows emptied)
           ∙ ap (λ ms. record { rings = length rows; members = ms }) (members_from-none 0 after none)
           ∙ ap (λ (j : Joined). record j { members = [] }) h.view;
     }
+
+-- a member that has joined is listed
+pub listed_number : (slots : Slots) (rings m : ℕ) (numbers : List ℕ) (joined : Joined) → record { rings = rings; members = members_from 0 slots } ≡ joined → numbers ≡ numbers_in slots → is_joined joined.members m ≡ true → is_listed numbers m ≡ true
+listed_number slots rings m numbers joined view same present =
+    ap (λ (l : List ℕ). is_listed l m) same ∙ is_listed-joined (members_from 0 slots) m ∙ ap (λ (j : Joined). is_joined j.members m) view ∙ present

@@ -4,3 +4,4 @@ pub mod SlotLemmas
 pub mod NeighbourLemmas
 pub mod RowLemmas
 pub mod KeptLemmas
+pub mod NumberLemmas

@@ -1,7 +1,7 @@
 -- The order of keys on a ring, and what a search among keys in order has come to.
-use Rattle.std.proofs.Common.{◌≡◌, ℕ, ◌+◌, ◌<◌, ◌≤◌, Bool, true, false, List, Option, Some, [], length, get_or, inl, inr, refl, sym, ap, ◌∙◌, subst, arith}
+use Rattle.std.proofs.Common.{◌≡◌, ℕ, ◌+◌, ◌<◌, ◌≤◌, Bool, true, false, List, Option, Some, None, [], length, get_or, inl, inr, refl, sym, ap, ◌∙◌, subst, arith}
 use Rattle.std.specs.Ordering.{is_lt}
-use Rattle.std.specs.Option.{unwrap_or}
+use Rattle.std.specs.Option.{unwrap_or, IfSome, IsSomeAnd}
 use Rattle.std.specs.declared.cmp.Ordering.{Ordering}
 use Rattle.std.specs.declared.cmp.Ordering.TheVariants.{Less, Equal, Greater}
 use Rattle.std.proofs.lemmas.Bool.{cases_lt, true≢false}
@@ -10,7 +10,7 @@ use Rattle.std.proofs.lemmas.Cmp.{tied_itself}
 use Rattle.ff_ids.specs.Rings.{Key, key_cmp, is_below}
 use Rattle.ff_ids.specs.Views.{key_at}
 use Rattle.ring_order.proofs.KeyOrder.{key_cmp_total}
-use Rattle.monitor_rule.specs.Sorted.{RingOrder, places_at, key_in, key_of_index, IsRow, IsBetween}
+use Rattle.monitor_rule.specs.Sorted.{RingOrder, places_at, key_in, key_of_index, hint_on, IsRow, IsBetween}
 
 less_from : (o : Ordering) → is_lt o ≡ true → o ≡ Less
 less_from Less h = refl
@@ -68,11 +68,21 @@ IsBetween-below slots row q low middle high h between le lt above =
           ];
     }
 
+-- the number that was read at an index of a ring
+pub number_here : (order : List ℕ) (row : RingOrder) (middle other : ℕ) → order ≡ row.order → middle < length row.order → other ≡ get_or order middle other → get_or row.order middle 0 ≡ other
+number_here order row middle other view lt read =
+    get_or_default row.order middle 0 other lt ∙ ap (λ (o : List ℕ). get_or o middle other) (sym view) ∙ sym read
+
 -- what a comparison with the number at an index of a ring says
-pub narrowed_key : (slots : List (Option (List (List ℕ)))) (ring : ℕ) (order : List ℕ) (row : RingOrder) (places other_places : List (List ℕ)) (member other middle : ℕ) (answer b : Bool) → record { ring = ring; order = order } ≡ row → middle < length row.order → other ≡ get_or order middle other → places_at slots other ≡ Some other_places → answer ≡ is_below (key_at ring other_places other) (key_at ring places member) → answer ≡ b → is_below (key_of_index slots row middle) (key_at row.ring places member) ≡ b
-narrowed_key slots ring order row places other_places member other middle answer b view lt read there says is =
-    let P : RingOrder → Type 0 = λ r. middle < length r.order → is_below (key_of_index slots r middle) (key_at r.ring places member) ≡ b in
-    subst P view (λ within.
-    let here : get_or order middle 0 ≡ other = get_or_default order middle 0 other within ∙ sym read in
-    let key : key_in slots ring (get_or order middle 0) ≡ key_at ring other_places other = ap (key_in slots ring) here ∙ key_here slots ring other other_places there in
-    ap (λ k. is_below k (key_at ring places member)) key ∙ sym says ∙ is) lt
+pub narrowed_key : (slots : List (Option (List (List ℕ)))) (order : List ℕ) (row : RingOrder) (places : List (List ℕ)) (member other middle : ℕ) (answer b : Bool) → order ≡ row.order → middle < length row.order → other ≡ get_or order middle other → answer ≡ is_below (key_in slots row.ring other) (key_at row.ring places member) → answer ≡ b → is_below (key_of_index slots row middle) (key_at row.ring places member) ≡ b
+narrowed_key slots order row places member other middle answer b view lt read says is =
+    ap (λ n. is_below (key_in slots row.ring n) (key_at row.ring places member)) (number_here order row middle other view lt read) ∙ sym says ∙ is
+
+hint_in : (ring x : ℕ) (o : Option (List (List ℕ))) → IfSome o (λ places. x ≡ hint_on ring places) → IsSomeAnd o (λ places. ring < length places) → x ≡ hint_on ring (unwrap_or o [])
+hint_in ring x None h some = absurd some
+hint_in ring x (Some places) h some = h
+
+-- the hint that was read of a member that has joined
+pub hint_here : (slots : List (Option (List (List ℕ)))) (hints : List ℕ) (row : RingOrder) (index other x : ℕ) → hints ≡ row.hints → index ≡ other → other < length hints → x ≡ get_or hints index x → IsRow slots row → IsSomeAnd (places_at slots other) (λ places. row.ring < length places) → x ≡ hint_on row.ring (unwrap_or (places_at slots other) [])
+hint_here slots hints row index other x view same lt read h some =
+    read ∙ ap (λ i. get_or hints i x) same ∙ sym (get_or_default hints other 0 x lt) ∙ ap (λ (l : List ℕ). get_or l other 0) view ∙ hint_in row.ring (get_or row.hints other 0) (places_at slots other) (h.hinted other) some

@@ -6,6 +6,7 @@ use Rattle.std.specs.Option.{IsSomeAnd, IfSome}
 use Rattle.ff_ids.specs.declared.TheConstants.{MAX_RINGS, MEMBERS}
 use Rattle.ff_ids.specs.Rings.{Key, is_below}
 use Rattle.ff_ids.specs.Views.{Member, key_at}
+use Rattle.ring_order.specs.Rows.{hint_of}
 
 -- The places of the number's member, or none where it hasn't joined.
 abbrev pub places_at : List (Option (List (List ℕ))) → ℕ → Option (List (List ℕ))
@@ -21,10 +22,11 @@ members_from n (Some places ∷ slots) = record { number = n; places = places } 
 abbrev pub key_in : List (Option (List (List ℕ))) → ℕ → ℕ → Key
 key_in slots ring n = key_at ring (unwrap_or (places_at slots n) []) n
 
--- A ring, and the numbers of those on it.
+-- A ring, the numbers of those on it, and by number the hints of their places there.
 pub record RingOrder : Type 0 where
   pub ring : ℕ
   pub order : List ℕ
+  pub hints : List ℕ
 
 -- The ring without anybody.
 abbrev pub emptied : RingOrder → RingOrder
@@ -34,12 +36,17 @@ emptied row = record row { order = [] }
 abbrev pub key_of_index : List (Option (List (List ℕ))) → RingOrder → ℕ → Key
 key_of_index slots row i = key_in slots row.ring (slice_index row.order i)
 
+-- The hint of the place on the ring.
+abbrev pub hint_on : ℕ → List (List ℕ) → ℕ
+hint_on ring places = hint_of (slice_index_or places ring [])
+
 -- On the ring are those that have joined, each once, in order of their keys.
 pub record IsRow (slots : List (Option (List (List ℕ)))) (row : RingOrder) : Type 0 where
   pub rising : (i j : ℕ) → i < j → j < length row.order → is_below (key_of_index slots row i) (key_of_index slots row j) ≡ true
   pub joined : (i : ℕ) → i < length row.order → IsSomeAnd (places_at slots (slice_index row.order i)) (λ places. row.ring < length places)
   pub listed : (n : ℕ) → is_some (places_at slots n) ≡ true → Contains row.order n
   pub count : length row.order ≡ length (members_from 0 slots)
+  pub hinted : (n : ℕ) → IfSome (places_at slots n) (λ places. slice_index_or row.hints n 0 ≡ hint_on row.ring places)
 
 -- Those before the first index are below the key, and those from the second on aren't.
 pub record IsBetween (slots : List (Option (List (List ℕ)))) (row : RingOrder) (q : Key) (low high : ℕ) : Type 0 where
@@ -55,3 +62,7 @@ pub record IsKept (slots : List (Option (List (List ℕ)))) (rows : List RingOrd
   pub placed : (n : ℕ) → IfSome (places_at slots n) (λ places. length places ≡ length rows)
   pub numbered : map (λ r. r.ring) rows ≡ range_with_len 0 (length rows)
   pub in_order : All (IsRow slots) rows
+
+-- The numbers of the members whose places are in the slots.
+abbrev pub numbers_in : List (Option (List (List ℕ))) → List ℕ
+numbers_in slots = map (λ x. x.number) (members_from 0 slots)

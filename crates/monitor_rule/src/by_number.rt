@@ -2,6 +2,7 @@
 
 ghost use Rattle.std.specs.Prelude.{◌≡◌, ℕ, ◌<◌, true, None, Some, length, is_some, slice_index_or, IfOk};
 ghost use Rattle.ff_ids.specs.declared.TheConstants.{MEMBERS};
+ghost use Rattle.monitor_rule.specs.Sorted.{numbers_in};
 
 use ff_ids::{MEMBERS, MemberId};
 use ring_order::Places;
@@ -32,11 +33,13 @@ pub fn places_of(slots: &[Option<Places>], member: MemberId) -> &Places
     }
 }
 
-/// Empties each slot.
-pub fn forget_all(slots: &mut [Option<Places>])
+/// Empties the slots of these numbers, which are those of all that are filled.
+pub fn forget_each(slots: &mut [Option<Places>], numbers: &[MemberId])
+    requires long { length slots.old ≡ MEMBERS }
+    requires all { numbers.now ≡ numbers_in slots.old }
     ensures none { (n : ℕ) → slice_index_or slots.new n None ≡ None }
 {
-    for slot in slots.iter_mut() {
-        *slot = None;
+    for number in numbers {
+        slots[number.get() as usize] = None;
     }
 }

@@ -11,11 +11,13 @@ ghost use Rattle.monitor_rule.specs.Joined.{with_member, without_member, is_join
 ghost use Rattle.monitor_rule.specs.Sorted.{places_at, emptied, IsRow};
 
 pub mod by_number;
+mod numbers;
 mod row;
 
-use by_number::{forget_all, none_yet};
+use by_number::{forget_each, none_yet};
 use ff_ids::{Group, MemberId, RingNo};
 use fields::NoMemory;
+use numbers::Numbers;
 use ring_order::Places;
 use ring_order::steps::Steps;
 use row::Row;
@@ -28,20 +30,23 @@ use std::sync::ledger::{Blank, Ledger};
 #[derive(Drop)]
 pub struct Rings {
     slots: Vec<Option<Places>>,
+    /// Those of the slots that are filled.
+    numbers: Numbers,
     rows: Vec<Row>,
 }
 
 impl Model for Rings {
-    ghost use Rattle.std.specs.Prelude.{length};
+    ghost use Rattle.std.specs.Prelude.{◌≡◌, length};
     ghost use Rattle.monitor_rule.specs.Joined.{Joined};
-    ghost use Rattle.monitor_rule.specs.Sorted.{members_from, IsKept};
+    ghost use Rattle.monitor_rule.specs.Sorted.{members_from, numbers_in, IsKept};
 
     ghost Value = { Joined };
 
     ghost view = { λ r. record
         { rings = length r.rows.items; members = members_from 0 r.slots.items } };
 
-    ghost invariant = { λ r. IsKept r.slots.items r.rows.items };
+    ghost invariant = { λ r. IsKept r.slots.items r.rows.items
+        × (r.numbers ≡ numbers_in r.slots.items) };
 }
 
 impl Rings {
@@ -57,6 +62,7 @@ impl Rings {
         }
         Ok(Rings {
             slots: none_yet(alloc)?,
+            numbers: Numbers::new(alloc)?,
             rows,
         })
     }
@@ -74,6 +80,7 @@ impl Rings {
         let index = member.get() as usize;
         join_each(&mut self.rows, &self.slots, member, places);
         self.slots[index] = Some(*places);
+        self.numbers.put(member);
     }
 
     /// Takes the member off the rings.
@@ -85,6 +92,7 @@ impl Rings {
         let index = member.get() as usize;
         leave_each(&mut self.rows, &self.slots, member);
         self.slots[index] = None;
+        self.numbers.take_out(member);
     }
 
     /// Takes all members off the rings.
@@ -92,7 +100,15 @@ impl Rings {
         ensures { self.new ≡ record self.old { members = [] } }
     {
         clear_each(&mut self.rows);
-        forget_all(&mut self.slots);
+        forget_each(&mut self.slots, self.numbers.all());
+        self.numbers.clear();
+    }
+
+    /// The numbers of the joined members, rising.
+    pub fn numbers(&self) -> &[MemberId]
+        ensures { result.now ≡ map (λ x. x.number) self.now.members }
+    {
+        self.numbers.all()
     }
 
     /// The nearest joined member before this one on the ring, or none where no other has joined. The member
@@ -132,6 +148,22 @@ impl Rings {
             ≡ number_after (keys_on ring.0 self.now.members) (key_at ring.0 places.now member) }
     {
         self.successor_near_in::<Brand>(Blank::new(1), ring, member, places, near)
+    }
+
+    /// As `successor`. The member's place on the ring is looked for first where the last member joined: so for that one few
+    /// members are looked at.
+    pub fn successor_of_last(
+        &self,
+        ring: RingNo,
+        member: MemberId,
+        places: &Places,
+    ) -> Option<MemberId>
+        requires ring { ring.0 < self.now.rings }
+        requires placed { length places.now ≡ self.now.rings }
+        ensures { result
+            ≡ number_after (keys_on ring.0 self.now.members) (key_at ring.0 places.now member) }
+    {
+        self.successor_of_last_in::<Brand>(Blank::new(1), ring, member, places)
     }
 
     /// As `monitor`. Among n joined members d steps are counted, with `2^d <= 2n + 1` and `n + 2 <= 2 * 2^d`.
@@ -208,6 +240,26 @@ impl Rings {
             ≡ number_after (keys_on ring.0 self.now.members) (key_at ring.0 places.now member) }
     {
         self.successor_counted(ring, member, places, &mut Steps::<L>::open(blank))
+    }
+
+    /// The successor, looked for where the last member joined, counted in a ledger of its own.
+    fn successor_of_last_in<L: Ledger>(
+        &self,
+        blank: Blank,
+        ring: RingNo,
+        member: MemberId,
+        places: &Places,
+    ) -> Option<MemberId>
+        requires name { blank.name ≡ L.name }
+        requires parts { blank.parts ≡ L.parts }
+        requires some { 0 < blank.parts }
+        requires ring { ring.0 < self.now.rings }
+        requires placed { length places.now ≡ self.now.rings }
+        ensures { result
+            ≡ number_after (keys_on ring.0 self.now.members) (key_at ring.0 places.now member) }
+    {
+        let mut steps = Steps::<L>::open(blank);
+        self.rows[ring.0 as usize].after_last(&self.slots, member, places, &mut steps)
     }
 
     /// The successor, found from an index on, counted in a ledger of its own.

@@ -1,16 +1,17 @@
 //! One ring: the joined members in order of their keys there, found by halving.
 
 ghost use Rattle.std.specs.Prelude.{◌≡◌, ◌⊎◌, ℕ, List, Option, ◌+◌, ◌-◌, ◌*◌, ◌^◌, ◌<◌, ◌≤◌, ◌==◌, true, None, Some, [], length, is_some, slice_index, slice_set, IfOk, if◌then◌else◌};
+ghost use Rattle.std.specs.Option.{IsSomeAnd};
 ghost use Rattle.ff_ids.specs.declared.TheConstants.{MEMBERS};
-ghost use Rattle.ff_ids.specs.Rings.{Key, nearest_before as number_before, nearest_after as number_after};
+ghost use Rattle.ff_ids.specs.Rings.{Key, is_below, nearest_before as number_before, nearest_after as number_after};
 ghost use Rattle.ff_ids.specs.Views.{key_at};
 ghost use Rattle.monitor_rule.specs.Joined.{keys_on};
-ghost use Rattle.monitor_rule.specs.Sorted.{places_at, members_from, IsRow, IsBetween};
+ghost use Rattle.monitor_rule.specs.Sorted.{places_at, members_from, key_in, hint_on, IsRow, IsBetween};
 
 use crate::by_number::places_of;
 use ff_ids::{MEMBERS, MemberId, RingNo};
 use ring_order::steps::Steps;
-use ring_order::{Places, key_before};
+use ring_order::{Places, hint_before, key_order};
 use std::alloc::{AllocError, Global};
 use std::marker::{Brand, Model};
 use std::sync::ledger::{Blank, Ledger};
@@ -20,18 +21,22 @@ use std::sync::ledger::{Blank, Ledger};
 pub struct Row {
     ring: RingNo,
     order: Vec<MemberId>,
+    /// By number the hint of the member's place, for each that has joined.
+    hints: Vec<u32>,
+    /// Where in the order the last member joined.
+    near: usize,
 }
 
 impl Model for Row {
-    ghost use Rattle.std.specs.Prelude.{◌≤◌, vec_capacity};
+    ghost use Rattle.std.specs.Prelude.{◌≡◌, ◌≤◌, length, vec_capacity};
     ghost use Rattle.ff_ids.specs.declared.TheConstants.{MEMBERS};
     ghost use Rattle.monitor_rule.specs.Sorted.{RingOrder};
 
     ghost Value = { RingOrder };
 
-    ghost view = { λ r. record { ring = r.ring.0; order = r.order.items } };
+    ghost view = { λ r. record { ring = r.ring.0; order = r.order.items; hints = r.hints.items } };
 
-    ghost invariant = { λ r. MEMBERS ≤ vec_capacity r.order };
+    ghost invariant = { λ r. (MEMBERS ≤ vec_capacity r.order) × (length r.hints.items ≡ MEMBERS) };
 }
 
 /// The index in the middle of those from `low` on and before `high`.
@@ -47,11 +52,14 @@ fn middle_of(low: usize, high: usize) -> usize
 impl Row {
     /// Nobody has joined yet. The room for every member is taken here.
     pub fn open(alloc: Global, ring: RingNo) -> Result<Row, AllocError>
-        ensures { IfOk result (λ r. r ≡ record { ring = ring.0; order = [] }) }
+        ensures ring { IfOk result (λ r. r.ring ≡ ring.0) }
+        ensures nobody { IfOk result (λ r. r.order ≡ []) }
     {
         Ok(Row {
             ring,
             order: Vec::with_capacity(alloc, MEMBERS as usize)?,
+            hints: vec![in alloc; 0; MEMBERS as usize]?,
+            near: 0,
         })
     }
 
@@ -67,6 +75,8 @@ impl Row {
     {
         let place = self.place_of(slots, member, places);
         let _ = self.order.insert(place, member);
+        self.hints[member.get() as usize] = places.hint(self.ring);
+        self.near = place;
     }
 
     /// Takes out a member that is there. The slots are those before it leaves.
@@ -154,6 +164,25 @@ impl Row {
     {
         *near = self.search_near(slots, *near, member, places, steps);
         self.behind(*near, member)
+    }
+
+    /// As `after`, of which no step counts. The member's place is looked for first where the last member joined.
+    pub fn after_last<L: Ledger>(
+        &self,
+        slots: &[Option<Places>],
+        member: MemberId,
+        places: &Places,
+        steps: &mut Steps<L>,
+    ) -> Option<MemberId>
+        requires in_order { IsRow slots.now self.now }
+        requires long { length slots.now ≡ MEMBERS }
+        requires placed { self.now.ring < length places.now }
+        ensures { result
+            ≡ number_after (keys_on self.now.ring (members_from 0 slots.now))
+            (key_at self.now.ring places.now member) }
+    {
+        let place = self.search_near(slots, self.near, member, places, steps);
+        self.behind(place, member)
     }
 
     /// The member from this place on, going round, that is another than this one.
@@ -258,11 +287,12 @@ impl Row {
         ensures most { 2 ^ (steps.new - steps.old) ≤ 2 * length self.now.order + 1 }
         ensures least { length self.now.order + 2 ≤ 2 * 2 ^ (steps.new - steps.old) }
     {
+        let hint = places.hint(self.ring);
         let mut low = 0;
         let mut high = self.order.len();
         while low < high {
             let middle = middle_of(low, high);
-            (low, high) = self.narrow(slots, low, middle, high, member, places, steps);
+            (low, high) = self.narrow(slots, low, middle, high, member, places, hint, steps);
         }
         low
     }
@@ -282,6 +312,7 @@ impl Row {
         ensures { IsBetween slots.now self.now (key_at self.now.ring places.now member) result
             result }
     {
+        let hint = places.hint(self.ring);
         let (low, high) = (0, self.order.len());
         let (low, high) = self.narrow_at(
             slots,
@@ -290,12 +321,15 @@ impl Row {
             high,
             member,
             places,
+            hint,
             steps,
         );
-        let (mut first, mut last) = self.narrow_at(slots, low, near, high, member, places, steps);
+        let (mut first, mut last) = self.narrow_at(
+            slots, low, near, high, member, places, hint, steps,
+        );
         while first < last {
             let middle = middle_of(first, last);
-            (first, last) = self.narrow(slots, first, middle, last, member, places, steps);
+            (first, last) = self.narrow(slots, first, middle, last, member, places, hint, steps);
         }
         first
     }
@@ -309,18 +343,20 @@ impl Row {
         high: usize,
         member: MemberId,
         places: &Places,
+        hint: u32,
         steps: &mut Steps<L>,
     ) -> (usize, usize)
         requires in_order { IsRow slots.now self.now }
         requires long { length slots.now ≡ MEMBERS }
         requires placed { self.now.ring < length places.now }
+        requires hinted { hint ≡ hint_on self.now.ring places.now }
         requires between { IsBetween slots.now self.now (key_at self.now.ring places.now member) low
             high }
         ensures { IsBetween slots.now self.now (key_at self.now.ring places.now member) result.0
             result.1 }
     {
         if low <= index && index < high {
-            self.narrow(slots, low, index, high, member, places, steps)
+            self.narrow(slots, low, index, high, member, places, hint, steps)
         } else {
             (low, high)
         }
@@ -335,11 +371,13 @@ impl Row {
         high: usize,
         member: MemberId,
         places: &Places,
+        hint: u32,
         steps: &mut Steps<L>,
     ) -> (usize, usize)
         requires in_order { IsRow slots.now self.now }
         requires long { length slots.now ≡ MEMBERS }
         requires placed { self.now.ring < length places.now }
+        requires hinted { hint ≡ hint_on self.now.ring places.now }
         requires between { IsBetween slots.now self.now (key_at self.now.ring places.now member) low
             high }
         requires from { low ≤ middle }
@@ -350,11 +388,36 @@ impl Row {
         ensures part { (result ≡ (middle + 1, high)) ⊎ (result ≡ (low, middle)) }
     {
         let other = self.order[middle];
-        let other_places = places_of(slots, other);
-        if key_before(self.ring, other_places, other, places, member, steps) {
+        if self.is_before(slots, other, member, places, hint, steps) {
             (middle + 1, high)
         } else {
             (low, middle)
+        }
+    }
+
+    /// Whether a joined member comes before this one: its places are looked at where the hints don't tell.
+    fn is_before<L: Ledger>(
+        &self,
+        slots: &[Option<Places>],
+        other: MemberId,
+        member: MemberId,
+        places: &Places,
+        hint: u32,
+        steps: &mut Steps<L>,
+    ) -> bool
+        requires in_order { IsRow slots.now self.now }
+        requires long { length slots.now ≡ MEMBERS }
+        requires joined { IsSomeAnd (places_at slots.now other) (λ p. self.now.ring < length p) }
+        requires placed { self.now.ring < length places.now }
+        requires hinted { hint ≡ hint_on self.now.ring places.now }
+        ensures value { result
+            ≡ is_below (key_in slots.now self.now.ring other)
+            (key_at self.now.ring places.now member) }
+        ensures step { steps.new ≡ steps.old + 1 }
+    {
+        match hint_before(self.hints[other.get() as usize], hint, steps) {
+            Some(before) => before,
+            None => key_order(self.ring, places_of(slots, other), other, places, member),
         }
     }
 }

@@ -7,6 +7,7 @@ pub mod LineLemmas
 pub mod OriginLemmas
 pub mod RemovalLemmas
 pub mod ReplyLemmas
+pub mod SentLemmas
 pub mod SignedLemmas
 pub mod WrittenLemmas
 pub mod RestLemmas

@@ -31,6 +31,7 @@ use Rattle.trace.proofs.WrittenLemmas as written
 use Rattle.node_loop.specs.Courses.{line_of, with_feed}
 use Rattle.node_command.specs.Removals.{removal_line}
 use Rattle.node_command.specs.Replies.{accepted_line, expiry_line, signed_line}
+use Rattle.node_command.specs.Sendings.{sent_line}
 
 -- ## No line has a line feed inside it
 
@@ -323,6 +324,37 @@ signed-word told.Stopped index a e = absurd (omega (arith, ap (λ (x : List ℕ)
 -- an event whose line gives an accusation that is signed is one
 pub signed-event : (e : journal.Event) (moment index : ℕ) (a : AccBody) → line_of e ≡ signed_line moment index a → IsSigned e.what
 signed-event e moment index a same = signed-word e.what index a (same-what e (record { moment = moment; what = told.Spent index (Accusation a) }) same)
+
+-- ## Which line gives a datagram
+
+-- What an event says was sent.
+pub record IsSent (w : whats.What) : Type 0 where
+  pub number : ℕ
+  pub to : ℕ
+  pub bytes : List ℕ
+  pub is : w ≡ told.Sent number to bytes
+
+sent-word : (w : whats.What) (number to : ℕ) (bytes : List ℕ) → what_text w ++ 10 ∷ [] ≡ what_text (told.Sent number to bytes) ++ 10 ∷ [] → IsSent w
+sent-word (told.Entered k) number to bytes e = absurd (omega (arith, ap (λ (x : List ℕ). get_or x 0 0) e))
+sent-word (told.Expired b) number to bytes e = absurd (omega (arith, ap (λ (x : List ℕ). get_or x 0 0) e))
+sent-word (told.Removed k) number to bytes e = absurd (omega (arith, ap (λ (x : List ℕ). get_or x 0 0) e))
+sent-word (told.Fell b) number to bytes e = absurd (omega (arith, ap (λ (x : List ℕ). get_or x 0 0) e))
+sent-word (told.Spent k b) number to bytes e = absurd (omega (arith, ap (λ (x : List ℕ). get_or x 1 0) e))
+sent-word (told.Took b fault) number to bytes e = absurd (omega (arith, ap (λ (x : List ℕ). get_or x 0 0) e))
+sent-word (told.BadForm place) number to bytes e = absurd (omega (arith, ap (λ (x : List ℕ). get_or x 0 0) e))
+sent-word (told.Ping from nonce) number to bytes e = absurd (omega (arith, ap (λ (x : List ℕ). get_or x 0 0) e))
+sent-word (told.Pong from nonce counted) number to bytes e = absurd (omega (arith, ap (λ (x : List ℕ). get_or x 0 0) e))
+sent-word (told.Summary from page flag) number to bytes e = absurd (omega (arith, ap (λ (x : List ℕ). get_or x 1 0) e))
+sent-word (told.Silent k) number to bytes e = absurd (omega (arith, ap (λ (x : List ℕ). get_or x 1 0) e))
+sent-word (told.Exhausted next) number to bytes e = absurd (omega (arith, ap (λ (x : List ℕ). get_or x 0 0) e))
+sent-word (told.Sent k m xs) number to bytes e = record { number = k; to = m; bytes = xs; is = refl }
+sent-word (told.Lost k) number to bytes e = absurd (omega (arith, ap (λ (x : List ℕ). get_or x 0 0) e))
+sent-word (told.Got k) number to bytes e = absurd (omega (arith, ap (λ (x : List ℕ). get_or x 0 0) e))
+sent-word told.Stopped number to bytes e = absurd (omega (arith, ap (λ (x : List ℕ). get_or x 1 0) e))
+
+-- an event whose line gives a datagram is one
+pub sent-event : (e : journal.Event) (moment number to : ℕ) (bytes : List ℕ) → line_of e ≡ sent_line moment number to bytes → IsSent e.what
+sent-event e moment number to bytes same = sent-word e.what number to bytes (same-what e (record { moment = moment; what = told.Sent number to bytes }) same)
 
 -- ## Texts that are whole lines
 

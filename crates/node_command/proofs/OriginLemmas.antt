@@ -140,7 +140,7 @@ is-gained s (r ∷ records) n place a e =
           }
     ]
 
-signature-verifies : (s : Setting) (author : Option PublicKey) (r : Record) → signature_fault s.verifies author r ≡ None → VerifiesFor s author r
+pub signature-verifies : (s : Setting) (author : Option PublicKey) (r : Record) → signature_fault s.verifies author r ≡ None → VerifiesFor s author r
 signature-verifies s None r e = absurd cc
 signature-verifies s (Some key) r e = by (s.verifies key r) refl e
   where

@@ -521,10 +521,7 @@ removes s own start acts before behind at m sign v none ticks away =
     let left = away-left s n at m away in
     let r = rests-last s.group n.lived Passes m left in
     record {
-      before = before;
-      behind = behind;
-      ticks = ticks;
-      at = ap (λ (st : State). st.moment) (state-at_tick s n) ∙ away.brings;
+      tick = record { before = before; behind = behind; ticks = ticks; at = ap (λ (st : State). st.moment) (state-at_tick s n) ∙ away.brings };
       removed = removed-last s.group n.lived Passes m left;
       accepted = r.accepted;
       accusation = r.accusation;

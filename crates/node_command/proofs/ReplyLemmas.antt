@@ -25,8 +25,9 @@ use Rattle.datagram.specs.Grammar.{read_of}
 use Rattle.journal.specs.declared.event.Event as journal
 use Rattle.journal.specs.declared.event.What as whats
 use Rattle.journal.specs.declared.event.What.TheVariants as told
-use Rattle.node_rules.specs.Nodes.{Setting, Node, event_of, state_of}
+use Rattle.node_rules.specs.Nodes.{Setting, Node, event_of, public_key_of, state_of}
 use Rattle.node_rules.specs.Refusals.{refusal, refusal_of}
+use Rattle.node_rules.specs.Vouching.{author_key}
 use Rattle.node_rules.specs.Calls.{Call, told_of, whats_of}
 use Rattle.node_rules.specs.Deliveries.{delivered}
 use Rattle.node_rules.specs.Ticking.{ticked}
@@ -42,9 +43,9 @@ use Rattle.node_rules.proofs.Ticks.{tick-tells}
 use Rattle.node_loop.specs.Turns.{Act, Calls}
 use Rattle.node_loop.specs.Courses.{ServeState, served}
 use Rattle.node_loop.proofs.CourseLemmas.{node-gives}
-use Rattle.node_command.specs.Removals.{life_behind, node_behind}
+use Rattle.node_command.specs.Removals.{VerifiesFor, life_behind, node_behind}
 use Rattle.node_command.specs.Replies.{Accepts, AcceptsNext, Expires}
-use Rattle.node_command.proofs.OriginLemmas.{acts-behind}
+use Rattle.node_command.proofs.OriginLemmas.{acts-behind, signature-verifies}
 use Rattle.node_command.proofs.RemovalLemmas.{IsOfNoStart, IsOfTicks, TicksTell, at-last, state-at_tick, tickless-behind}
 
 abbrev pub expiry : ℕ → AccBody → journal.Event
@@ -160,10 +161,7 @@ expires s start acts before behind at a split tells =
     let life = n.lived ++ Passes ∷ [] in
     let expired : ExpiresAt s.group (opening []) life (length n.lived) a = expires-last s.group n.lived Passes a x.expired in
     record {
-      before = before;
-      behind = behind;
-      ticks = split;
-      at = moment-at s n ∙ x.brings;
+      tick = record { before = before; behind = behind; ticks = split; at = moment-at s n ∙ x.brings };
       expires = expired;
       none_outdates = λ i note earlier accepted older. none_expires s.group (opening []) life i (length n.lived) note a earlier accepted older expired;
       only_again = λ i note earlier accepted against answered. revokes s.group [] life i (length n.lived) note a earlier accepted against answered expired;
@@ -379,6 +377,14 @@ accepts-next s n r (Certificate c) is fine = tt
 accepts-next s n r (Note note) is fine = note-next s n r note is fine
 accepts-next s n r (Accusation a) is fine = accusation-next s n r a is fine
 
+-- a record without a fault verifies under its author's key
+taken-verifies : (s : Setting) (n : Node) (r : Record) (body : Body) → r.body ≡ body → refusal s n r ≡ None → VerifiesFor s (author_key s n body) r
+unfolding refusal
+taken-verifies s n r (Certificate c) is fine = signature-verifies s (Some s.authority) r (option_or-none _ _ (sym (ap (refusal_of s n r) is) ∙ fine)).1
+taken-verifies s n r (Note note) is fine =
+    signature-verifies s (public_key_of n note.member) r (option_or-none _ _ (option_or-none _ _ (sym (ap (refusal_of s n r) is) ∙ fine)).1).0
+taken-verifies s n r (Accusation a) is fine = signature-verifies s (public_key_of n a.accuser) r (option_or-none _ _ (sym (ap (refusal_of s n r) is) ∙ fine)).1
+
 life-called : (s : Setting) (start : ServeState) (before : List Act) (bytes : List ℕ) → life_behind s start (before ++ Calls (Delivers bytes) ∷ []) ≡ (delivered s (node_behind s start before) bytes).node.lived
 life-called s start before bytes =
     let r : ServeState = served s before start in
@@ -401,6 +407,8 @@ accepts s start acts before behind i at body split x =
       later = x.later;
       read = x.read;
       says = x.says;
+      no_fault = x.no_fault;
+      verified = taken-verifies s (when_all_handled s n x.earlier) x.taken body x.says x.no_fault;
       accepted = accepts-next s (when_all_handled s n x.earlier) x.taken body x.says x.no_fault;
       more = on.more;
       goes_on =

@@ -34,6 +34,7 @@ use Rattle.node_command.specs.Written.{AreWholeLines, LinesRest, UnlessCut, acts
 use Rattle.node_command.proofs.LineLemmas.{in-front, lines-behind}
 use Rattle.node_command.proofs.RemovalLemmas.{removal-no-start, start-quiet, start-unaccused}
 use Rattle.node_command.proofs.ReplyLemmas.{expiry-no-start, taken-no-start}
+use Rattle.node_command.proofs.SentLemmas.{sent-no-start}
 use Rattle.node_command.proofs.SignedLemmas.{accusation-no-start}
 use Rattle.node_command.proofs.WrittenLemmas.{Gives, IsFounded, TellsOf, WritesOf, end-lines, life-of, lines-all, lines-told, lives-written, writes-all}
 
@@ -54,6 +55,8 @@ tells-start m stored feed at (happened.Removed who) i = absurd (start-quiet (set
 tells-start m stored feed at (happened.Expired a) i = absurd (start-quiet (setting_for m) (nonce_seed m.own.secret stored.next) (recs_of m.certificates.items) stored _ (expiry-no-start at a) i)
 tells-start m stored feed at (happened.Took body None) i = absurd (start-quiet (setting_for m) (nonce_seed m.own.secret stored.next) (recs_of m.certificates.items) stored _ (taken-no-start at body) i)
 tells-start m stored feed at (happened.Spent index (Accusation a)) i = absurd (start-quiet (setting_for m) (nonce_seed m.own.secret stored.next) (recs_of m.certificates.items) stored _ (accusation-no-start at index a) i)
+tells-start m stored feed at (happened.Sent place to bytes) i =
+    absurd (start-quiet (setting_for m) (nonce_seed m.own.secret stored.next) (recs_of m.certificates.items) stored _ (sent-no-start at place to bytes) i)
 tells-start m stored feed at _ i = tt
 
 -- what was written of the life

@@ -1,7 +1,9 @@
 -- What a call reports of accusations that the node signs, and that no accepted note outdates them.
 use Rattle.std.proofs.Common.{◌≡◌, ℕ, ◌+◌, Bool, true, false, cond, eqb, List, [], ◌∷◌, ◌++◌, length, Option, Some, None, inl, inr, refl, ap, sym, ◌∙◌, subst, arith}
+use Rattle.std.specs.Prelude.{Contains, not}
 use Rattle.std.specs.Option.{option_map_or}
 use Rattle.std.proofs.lemmas.List.{length-append}
+use Rattle.std.proofs.lemmas.List.Elements.{filter-append}
 use Rattle.ff_ids.specs.declared.AccBody.{AccBody}
 use Rattle.ff_ids.specs.declared.Fault.{Fault}
 use Rattle.ff_ids.specs.declared.NoteBody.{NoteBody}
@@ -12,22 +14,25 @@ use Rattle.ff_ids.specs.Lives.{opening, state_at}
 use Rattle.life_laws.specs.Removals.{IsOlderThan}
 use Rattle.life_laws.proofs.AnsweredLemmas.{IsPast, past}
 use Rattle.life_laws.proofs.LifeLemmas.{state_at-next}
-use Rattle.life_laws.proofs.Lists.{Contains-from_In, In, In-append_cases}
+use Rattle.life_laws.proofs.Lists.{Contains-from_In, In, In-append_cases, In-from_filter}
+use Rattle.trace.proofs.JustifiedLemmas.{in-map}
 use Rattle.records.specs.declared.Body.{Body}
 use Rattle.records.specs.declared.Body.TheVariants.{Note, Accusation}
 use Rattle.records.specs.declared.Record.{Record}
+use Rattle.journal.specs.declared.event.Event as journal
 use Rattle.journal.specs.declared.event.What as whats
 use Rattle.journal.specs.declared.event.What.TheVariants as told
 use Rattle.node_rules.specs.Nodes.{Setting, Node, state_of}
 use Rattle.node_rules.specs.Calls.{Call, is_used_up}
 use Rattle.node_rules.specs.Deliveries.{answer_to}
-use Rattle.node_rules.specs.Ticking.{ticked}
+use Rattle.node_rules.specs.Accusing.{AccusesTheSilent}
+use Rattle.node_rules.specs.Ticking.{has_accused, silent_at, ticked}
 use Rattle.node_rules.specs.OnDisks.{IsCut, called}
 use Rattle.node_rules.specs.Lives.{Input, Delivers, Ticks, call_of}
 use Rattle.node_rules.specs.Answering.{answered_with, asked_by, records_told}
 use Rattle.node_rules.specs.Outgoing.{accusation_of, accusing_told, at_tick, to_accuse, unaccused}
 use Rattle.node_rules.specs.Stopping.{StopsAccusing, StopsAnswering, StopsIn}
-use Rattle.node_rules.specs.Verdicts.{is_apart, verdict_on, when_all_handled, when_handled}
+use Rattle.node_rules.specs.Verdicts.{is_apart, told_that, verdict_on, when_all_handled, when_handled}
 use Rattle.node_rules.proofs.Stopping.{delivery-stops, only-signatures, tick-stops}
 use Rattle.node_rules.proofs.Ticks.{only-silent, tick-tells}
 use Rattle.node_loop.specs.Turns.{Act, Calls}
@@ -106,23 +111,26 @@ none-handled s (r ∷ records) n index a i =
       | inr later ↦ none-handled s records (when_handled s n r) index a later
     ]
 
--- The call is a tick, at which the accusation is of the epoch of the newest note of the accused.
-pub record SignsNow (s : Setting) (n : Node) (i : Input) (at : ℕ) (a : AccBody) : Type 0 where
+-- The call is a tick, which spends the index on the accusation of a silent member, at the epoch of its newest note.
+pub record SignsNow (s : Setting) (n : Node) (i : Input) (at index : ℕ) (a : AccBody) : Type 0 where
   pub tick : i ≡ Ticks
   pub same : (state_of s (at_tick s n)).moment ≡ at
   pub epoch : a.epoch ≡ newest_epoch (state_of s (at_tick s n)) a.accused
+  pub spent : Contains (call_of s n Ticks).told (record { moment = at; what = signed index a })
+  pub silent : AccusesTheSilent s n a
 
 delivers-not : (bytes : List ℕ) → Delivers bytes ≡ Ticks → ⊥
 delivers-not bytes e = cc
 
-pub called-signed : (s : Setting) (n : Node) (i : Input) (at index : ℕ) (a : AccBody) → In (call_of s n i).told (record { moment = at; what = signed index a }) → SignsNow s n i at a
+pub called-signed : (s : Setting) (n : Node) (i : Input) (at index : ℕ) (a : AccBody) → In (call_of s n i).told (record { moment = at; what = signed index a }) → SignsNow s n i at index a
 called-signed s n (Delivers bytes) at index a i = absurd (delivers-not bytes (only-silent s n (Delivers bytes) a (at, index, Contains-from_In _ _ i)).0)
 called-signed s n Ticks at index a i =
     let p : Node = at_tick s n in
     let st : State = state_of s p in
     let all : List ℕ = to_accuse s p st in
     let x = in-told_that is_apart (ticked s n) st.moment (accusing_told s st p.stored.next all) at (signed index a) (tick-tells s n) refl i in
-    record { tick = refl; same = x.same; epoch = (in-accusing s st p.stored.next all index a x.among).epoch }
+    let spent = Contains-from_In (call_of s n Ticks).told (record { moment = at; what = signed index a }) i in
+    record { tick = refl; same = x.same; epoch = (in-accusing s st p.stored.next all index a x.among).epoch; spent = spent; silent = (only-silent s n Ticks a (at, index, spent)).1 }
 
 -- of what is reported of these, behind which the life is over
 stopping : {A : Type 0} (ws : List whats.What) (last : whats.What) (index : ℕ) (a : AccBody) → (In ws (signed index a) → A) → (last ≡ signed index a → ⊥) → In ((ws ++ last ∷ []) ++ told.Stopped ∷ []) (signed index a) → A
@@ -145,21 +153,55 @@ cut-delivery s n bytes put at index a stop i =
     let x = in-told_that is_apart (called s n (Delivers bytes) (Some put)) (state_of s n).moment ((ws ++ last ∷ []) ++ told.Stopped ∷ []) at (signed index a) (delivery-stops s n bytes put stop).told refl i in
     absurd (stopping ws last index a (none-handled s stop.before n index a) (took-not stop.at.body _ index a) x.among)
 
-cut-tick : (s : Setting) (n : Node) (put at index : ℕ) (a : AccBody) → StopsAccusing s n put → In (called s n Ticks (Some put)).told (record { moment = at; what = signed index a }) → SignsNow s n Ticks at a
+-- what is reported of some of the silent is reported of them and more
+in-front : (s : Setting) (st : State) (next : ℕ) (ms more : List ℕ) (w : whats.What) → In (accusing_told s st next ms) w → In (accusing_told s st next (ms ++ more)) w
+in-front s st next [] more w i = absurd i
+in-front s st next (m ∷ ms) more w (inl e) = inl e
+in-front s st next (m ∷ ms) more w (inr i) = inr (by (in-front s st next ms more w) (in-front s st (next + 1) ms more w) (eqb next s.indexes) i)
+  where
+    by : (In (accusing_told s st next ms) w → In (accusing_told s st next (ms ++ more)) w) → (In (accusing_told s st (next + 1) ms) w → In (accusing_told s st (next + 1) (ms ++ more)) w) → (b : Bool)
+        → In (cond b (told.Exhausted next ∷ accusing_told s st next ms) (told.Spent next (accusation_of s st m) ∷ accusing_told s st (next + 1) ms)) w
+        → In (cond b (told.Exhausted next ∷ accusing_told s st next (ms ++ more)) (told.Spent next (accusation_of s st m) ∷ accusing_told s st (next + 1) (ms ++ more))) w
+    by up left true (inl e) = inl e
+    by up left true (inr j) = inr (up j)
+    by up left false (inl e) = inl e
+    by up left false (inr j) = inr (left j)
+
+-- those to accuse before the put that failed are the first of those to accuse
+front-of : (s : Setting) (n : Node) (put : ℕ) (stop : StopsAccusing s n put) → let st = state_of s (at_tick s n) in
+    to_accuse s (at_tick s n) st ≡ unaccused s st stop.before ++ unaccused s st (stop.at ∷ stop.behind)
+unfolding silent_at
+front-of s n put stop =
+    let st = state_of s (at_tick s n) in
+    ap (unaccused s st) stop.silent ∙ filter-append (λ m. not (has_accused s st m)) stop.before (stop.at ∷ stop.behind)
+
+-- what the cut tick has signed the whole tick signs
+whole-tick : (s : Setting) (n : Node) (put at index : ℕ) (a : AccBody) (stop : StopsAccusing s n put) → let st = state_of s (at_tick s n) in st.moment ≡ at
+    → In (accusing_told s st (at_tick s n).stored.next (unaccused s st stop.before)) (signed index a) → In (call_of s n Ticks).told (record { moment = at; what = signed index a })
+whole-tick s n put at index a stop same i =
+    let p : Node = at_tick s n in
+    let st : State = state_of s p in
+    let event : ℕ → whats.What → journal.Event = λ moment what. record { moment = moment; what = what } in
+    let longer = in-front s st p.stored.next (unaccused s st stop.before) (unaccused s st (stop.at ∷ stop.behind)) (signed index a) i in
+    let among = subst (λ (ms : List ℕ). In (accusing_told s st p.stored.next ms) (signed index a)) (sym (front-of s n put stop)) longer in
+    let told_in = in-map (event st.moment) (accusing_told s st p.stored.next (to_accuse s p st)) (signed index a) among in
+    let apart : In (told_that is_apart (ticked s n)) (event st.moment (signed index a)) = subst (λ (es : List journal.Event). In es (event st.moment (signed index a))) (sym (tick-tells s n)) told_in in
+    subst (λ (moment : ℕ). In (ticked s n).told (event moment (signed index a))) same (In-from_filter (λ (e : journal.Event). is_apart e.what) (ticked s n).told _ apart).0
+
+cut-tick : (s : Setting) (n : Node) (put at index : ℕ) (a : AccBody) → StopsAccusing s n put → In (called s n Ticks (Some put)).told (record { moment = at; what = signed index a }) → SignsNow s n Ticks at index a
 cut-tick s n put at index a stop i =
     let p : Node = at_tick s n in
     let st : State = state_of s p in
     let all : List ℕ = unaccused s st stop.before in
     let ws = accusing_told s st p.stored.next all in
     let x = in-told_that is_apart (called s n Ticks (Some put)) st.moment ((ws ++ told.Silent stop.at ∷ []) ++ told.Stopped ∷ []) at (signed index a) (tick-stops s n put stop).told refl i in
-    let newest : IsOfNewest st a = stopping ws (told.Silent stop.at) index a (in-accusing s st p.stored.next all index a) (silent-not stop.at index a) x.among in
-    record { tick = refl; same = x.same; epoch = newest.epoch }
+    called-signed s n Ticks at index a (stopping ws (told.Silent stop.at) index a (whole-tick s n put at index a stop x.same) (silent-not stop.at index a) x.among)
 
-pub cut-signed : (s : Setting) (n : Node) (i : Input) (c : Call) (at index : ℕ) (a : AccBody) → IsCut s n i c → In c.told (record { moment = at; what = signed index a }) → SignsNow s n i at a
+pub cut-signed : (s : Setting) (n : Node) (i : Input) (c : Call) (at index : ℕ) (a : AccBody) → IsCut s n i c → In c.told (record { moment = at; what = signed index a }) → SignsNow s n i at index a
 cut-signed s n i c at index a cut among =
     by i (only-signatures s n i cut.put (ap (λ (x : Call). x.ended) (sym cut.is) ∙ cut.ended)) (subst (λ (x : Call). In x.told (record { moment = at; what = signed index a })) cut.is among)
   where
-    by : (i : Input) → StopsIn s n i cut.put → In (called s n i (Some cut.put)).told (record { moment = at; what = signed index a }) → SignsNow s n i at a
+    by : (i : Input) → StopsIn s n i cut.put → In (called s n i (Some cut.put)).told (record { moment = at; what = signed index a }) → SignsNow s n i at index a
     by (Delivers bytes) stop j = cut-delivery s n bytes cut.put at index a stop j
     by Ticks stop j = cut-tick s n cut.put at index a stop j
 
@@ -188,15 +230,15 @@ none-outdates s n a epoch i note p older =
     absurd (omega (arith, same, p.reached, older.older))
 
 -- No note outdates what a tick among the acts signs.
-pub signs : (s : Setting) (start : ServeState) (acts before behind : List Act) (i : Input) (at : ℕ) (a : AccBody) → acts ≡ before ++ Calls i ∷ behind → SignsNow s (node_behind s start before) i at a → Signs s start acts at a
-signs s start acts before behind i at a split x =
+pub signs : (s : Setting) (start : ServeState) (acts before behind : List Act) (i : Input) (at index : ℕ) (a : AccBody) → acts ≡ before ++ Calls i ∷ behind → SignsNow s (node_behind s start before) i at index a → Signs s start acts at index a
+signs s start acts before behind i at index a split x =
     let n = node_behind s start before in
     let life : List Event = n.lived ++ Passes ∷ [] in
     record {
-      before = before;
-      behind = behind;
-      ticks = split ∙ ap (λ (y : Input). before ++ Calls y ∷ behind) x.tick;
-      at = x.same;
+      tick = record { before = before; behind = behind; ticks = split ∙ ap (λ (y : Input). before ++ Calls y ∷ behind) x.tick; at = x.same };
+      spent = x.spent;
+      by = x.silent.by_the_node;
+      silent = x.silent;
       none_outdates = λ k note earlier noted older.
           none-outdates s n a x.epoch k note
           (subst (IsPast note.member note.epoch) (tick-state s n) (past s.group (opening []) life k (length n.lived + 1) note noted earlier (omega (arith, length-append n.lived (Passes ∷ []))))) older;

@@ -39,11 +39,13 @@ use Rattle.node_command.specs.declared.halt.NodeHalt.TheVariants as halt
 use Rattle.node_command.specs.Journal.{Environment, IsUnserved, IsUntold, Lives, end_line, lines_of}
 use Rattle.node_command.specs.Removals.{Removes, node_behind}
 use Rattle.node_command.specs.Replies.{Accepts, Expires, Signs}
+use Rattle.node_command.specs.Sendings.{Sends}
 use Rattle.node_command.specs.Written.{AreWholeLines, GivesOf, UnlessCut}
-use Rattle.node_command.proofs.LineLemmas.{AreLines, accepted-event, expiry-event, lines-behind, lines-none, lines-one, other-line, removal-event, signed-event, turn-other, whole-event, whole-fed, whole-turn}
+use Rattle.node_command.proofs.LineLemmas.{AreLines, accepted-event, expiry-event, lines-behind, lines-none, lines-one, other-line, removal-event, sent-event, signed-event, turn-other, whole-event, whole-fed, whole-turn}
 use Rattle.node_command.proofs.OriginLemmas.{acts-behind}
 use Rattle.node_command.proofs.RemovalLemmas.{TellsNow, called-told, cut-told, removal, removal-of-ticks, removes, ticks-away}
 use Rattle.node_command.proofs.ReplyLemmas.{accepts, called-taken, cut-taken, expires, expiry, expiry-of-ticks}
+use Rattle.node_command.proofs.SentLemmas.{cut-sends, sends}
 use Rattle.node_command.proofs.SignedLemmas.{called-signed, cut-signed, signs}
 
 -- ## The lines of events
@@ -55,12 +57,13 @@ event moment what = record { moment = moment; what = what }
 abbrev pub Gives : Setting → ServeState → List Act → List ℕ → Type 0
 Gives s start acts line = (moment : ℕ) (what : whats.What) → line ≡ line_of (event moment what) → GivesOf s start acts moment what
 
--- what is told of removals, of expiries and of what is accepted is of these acts
+-- what is told of removals, of expiries, of what is accepted or signed, and of what is sent is of these acts
 abbrev pub IsOf : Setting → ServeState → List Act → ℕ → whats.What → Type 0
 IsOf s start acts at (told.Removed m) = Removes s start acts at m
 IsOf s start acts at (told.Expired a) = Expires s start acts at a
 IsOf s start acts at (told.Took body None) = Accepts s start acts at body
-IsOf s start acts at (told.Spent index (Accusation a)) = Signs s start acts at a
+IsOf s start acts at (told.Spent index (Accusation a)) = Signs s start acts at index a
+IsOf s start acts at (told.Sent number to bytes) = Sends s start acts at to bytes
 IsOf s start acts at other = Unit {0}
 
 abbrev pub TellsOf : Setting → ServeState → List Act → List journal.Event → Type 0
@@ -82,34 +85,62 @@ gives-event s start acts at w h moment (told.Took (Accusation a) None) same =
 gives-event s start acts at w h moment (told.Spent index (Accusation a)) same =
     let k = signed-event (event at w) moment index a same in
     record { moment = at; index = k.index; accusation = k.accusation; spelled = sym same ∙ ap (λ x. line_of (event at x)) k.is; signs = subst (IsOf s start acts at) k.is h }
+gives-event s start acts at w h moment (told.Sent number to bytes) same =
+    let k = sent-event (event at w) moment number to bytes same in
+    record { moment = at; number = k.number; to = k.to; bytes = k.bytes; spelled = sym same ∙ ap (λ x. line_of (event at x)) k.is; sends = subst (IsOf s start acts at) k.is h }
 gives-event s start acts at w h moment _ same = tt
 
 line-behind : (s : Setting) (start : ServeState) (acts : List Act) (e : journal.Event) (r : ServeState) → Gives s start acts (line_of e) → AreLines (Gives s start acts) r.text → AreLines (Gives s start acts) (r.text ++ line_of e)
 line-behind s start acts e r g h = lines-behind (Gives s start acts) r.text (line_of e) h (lines-one (Gives s start acts) (line_of e) (whole-event e) g)
 
-lines-sends : (s : Setting) (start : ServeState) (acts : List Act) (moment to : ℕ) (bytes : List ℕ) (r : ServeState) → AreLines (Gives s start acts) r.text → AreLines (Gives s start acts) (sends_one moment to bytes r).text
-lines-sends s start acts moment to bytes r h =
+lines-sends : (s : Setting) (start : ServeState) (acts : List Act) (moment to : ℕ) (bytes : List ℕ) (r : ServeState) → Sends s start acts moment to bytes → AreLines (Gives s start acts) r.text → AreLines (Gives s start acts) (sends_one moment to bytes r).text
+lines-sends s start acts moment to bytes r of h =
     let P = Gives s start acts in
     let sent : journal.Event = record { moment = moment; what = told.Sent r.sent to bytes } in
     let lost : journal.Event = record { moment = moment; what = told.Lost r.sent } in
     let r1 : ServeState = hands_over to bytes (writes_event moment (told.Sent r.sent to bytes) r) in
-    let one : AreLines P r1.text = line-behind s start acts sent r (gives-event s start acts moment (told.Sent r.sent to bytes) tt) h in
+    let one : AreLines P r1.text = line-behind s start acts sent r (gives-event s start acts moment (told.Sent r.sent to bytes) of) h in
     cond_both {A = ServeState} (fails_next r.link) (writes_event moment (told.Lost r.sent) r1) r1 (λ x. AreLines P x.text)
     (λ fails. line-behind s start acts lost r1 (gives-event s start acts moment (told.Lost r.sent) tt) one) (λ works. one)
 
-lines-what : (s : Setting) (start : ServeState) (acts : List Act) (moment : ℕ) (what : whats.What) (d : Option (ℕ × List ℕ)) (r : ServeState) → Gives s start acts (line_of (record { moment = moment; what = what })) → AreLines (Gives s start acts) r.text
-    → AreLines (Gives s start acts) (tells_what moment what d r).text
-lines-what s start acts moment what (Some d) r g h = lines-sends s start acts moment d.0 d.1 r h
-lines-what s start acts moment what None r g h = line-behind s start acts (record { moment = moment; what = what }) r g h
+nothing-sent : {A : Type 0} (d : ℕ × List ℕ) → None ≡ Some d → A
+nothing-sent d e = cc
 
-lines-tells : (s : Setting) (start : ServeState) (acts : List Act) (r : ServeState) (e : journal.Event) → Gives s start acts (line_of e) → AreLines (Gives s start acts) r.text → AreLines (Gives s start acts) (tells r e).text
+same-datagram : (c d : ℕ × List ℕ) → Some c ≡ Some d → c ≡ d
+same-datagram c d e = cc
+
+-- the datagram that an event reports, where it reports one
+sends-of : (s : Setting) (start : ServeState) (acts : List Act) (moment : ℕ) (what : whats.What) (d : ℕ × List ℕ) → datagram_in what ≡ Some d → IsOf s start acts moment what → Sends s start acts moment d.0 d.1
+sends-of s start acts moment (told.Sent number to bytes) d is of = subst (λ (x : ℕ × List ℕ). Sends s start acts moment x.0 x.1) (same-datagram (to, bytes) d is) of
+sends-of s start acts moment (told.Entered m) d is of = nothing-sent d is
+sends-of s start acts moment (told.Expired a) d is of = nothing-sent d is
+sends-of s start acts moment (told.Removed m) d is of = nothing-sent d is
+sends-of s start acts moment (told.Fell a) d is of = nothing-sent d is
+sends-of s start acts moment (told.Spent index body) d is of = nothing-sent d is
+sends-of s start acts moment (told.Took body fault) d is of = nothing-sent d is
+sends-of s start acts moment (told.BadForm place) d is of = nothing-sent d is
+sends-of s start acts moment (told.Ping from_ nonce) d is of = nothing-sent d is
+sends-of s start acts moment (told.Pong from_ nonce counted) d is of = nothing-sent d is
+sends-of s start acts moment (told.Summary from_ page flag) d is of = nothing-sent d is
+sends-of s start acts moment (told.Silent m) d is of = nothing-sent d is
+sends-of s start acts moment (told.Exhausted next) d is of = nothing-sent d is
+sends-of s start acts moment (told.Lost number) d is of = nothing-sent d is
+sends-of s start acts moment (told.Got number) d is of = nothing-sent d is
+sends-of s start acts moment told.Stopped d is of = nothing-sent d is
+
+lines-what : (s : Setting) (start : ServeState) (acts : List Act) (moment : ℕ) (what : whats.What) (d : Option (ℕ × List ℕ)) (r : ServeState) → datagram_in what ≡ d → IsOf s start acts moment what → AreLines (Gives s start acts) r.text
+    → AreLines (Gives s start acts) (tells_what moment what d r).text
+lines-what s start acts moment what (Some d) r is of h = lines-sends s start acts moment d.0 d.1 r (sends-of s start acts moment what d is of) h
+lines-what s start acts moment what None r is of h = line-behind s start acts (record { moment = moment; what = what }) r (gives-event s start acts moment what of) h
+
+lines-tells : (s : Setting) (start : ServeState) (acts : List Act) (r : ServeState) (e : journal.Event) → IsOf s start acts e.moment e.what → AreLines (Gives s start acts) r.text → AreLines (Gives s start acts) (tells r e).text
 unfolding tells
-lines-tells s start acts r e g h = lines-what s start acts e.moment e.what (datagram_in e.what) r g h
+lines-tells s start acts r e of h = lines-what s start acts e.moment e.what (datagram_in e.what) r refl of h
 
 lines-tells_all : (s : Setting) (start : ServeState) (acts : List Act) (events : List journal.Event) (r : ServeState) → TellsOf s start acts events → AreLines (Gives s start acts) r.text → AreLines (Gives s start acts) (tells_all events r).text
 lines-tells_all s start acts [] r of h = h
 lines-tells_all s start acts (e ∷ events) r of h =
-    lines-tells_all s start acts events (tells r e) (λ at w i. of at w (inr i)) (lines-tells s start acts r e (gives-event s start acts e.moment e.what (of e.moment e.what (inl refl))) h)
+    lines-tells_all s start acts events (tells r e) (λ at w i. of at w (inr i)) (lines-tells s start acts r e (of e.moment e.what (inl refl)) h)
 
 lines-gives : (s : Setting) (start : ServeState) (acts : List Act) (c : Call) (r : ServeState) → TellsOf s start acts c.told → AreLines (Gives s start acts) r.text → AreLines (Gives s start acts) (gives c r).text
 unfolding gives
@@ -131,7 +162,7 @@ IsOfTurn Receives = Unit {0}
 IsOfTurn (Writes line) = (t : Turn) × (line ≡ turn_text t)
 IsOfTurn (Calls input) = Unit {0}
 
--- What a life begins with, so that its removals rest on what is delivered and made in it.
+-- What a life begins with, so that its removals rest on what is delivered and made in it, and what it sends verifies.
 pub record IsFounded (s : Setting) (own : PublicKey) (start : ServeState) : Type 0 where
   pub sign : OwnSignaturesVerify s own
   pub vouched : KeepsKey s own start.node
@@ -148,14 +179,16 @@ called-of : (s : Setting) (own : PublicKey) (start : ServeState) (acts done late
 called-of s own start acts done later i f split at (told.Removed m) among = removes-now s own start acts done later i at m f split (called-told s (node_behind s start done) i (removal at m) (removal-of-ticks at m) among)
 called-of s own start acts done later i f split at (told.Expired a) among = expires-now s start acts done later i at a split (called-told s (node_behind s start done) i (expiry at a) (expiry-of-ticks at a) among)
 called-of s own start acts done later i f split at (told.Took body None) among = accepts s start acts done later i at body split (called-taken s (node_behind s start done) i at body among)
-called-of s own start acts done later i f split at (told.Spent index (Accusation a)) among = signs s start acts done later i at a split (called-signed s (node_behind s start done) i at index a among)
+called-of s own start acts done later i f split at (told.Spent index (Accusation a)) among = signs s start acts done later i at index a split (called-signed s (node_behind s start done) i at index a among)
+called-of s own start acts done later i f split at (told.Sent place to bytes) among = sends s start acts done later i at place to bytes split among
 called-of s own start acts done later i f split at _ among = tt
 
 cut-of : (s : Setting) (own : PublicKey) (start : ServeState) (acts done later : List Act) (i : Input) (c : Call) → IsFounded s own start → acts ≡ done ++ Calls i ∷ later → IsCut s (node_behind s start done) i c → TellsOf s start acts c.told
 cut-of s own start acts done later i c f split cut at (told.Removed m) among = removes-now s own start acts done later i at m f split (cut-told s (node_behind s start done) i c (removal at m) (removal-of-ticks at m) cut among)
 cut-of s own start acts done later i c f split cut at (told.Expired a) among = expires-now s start acts done later i at a split (cut-told s (node_behind s start done) i c (expiry at a) (expiry-of-ticks at a) cut among)
 cut-of s own start acts done later i c f split cut at (told.Took body None) among = accepts s start acts done later i at body split (cut-taken s (node_behind s start done) i c at body cut among)
-cut-of s own start acts done later i c f split cut at (told.Spent index (Accusation a)) among = signs s start acts done later i at a split (cut-signed s (node_behind s start done) i c at index a cut among)
+cut-of s own start acts done later i c f split cut at (told.Spent index (Accusation a)) among = signs s start acts done later i at index a split (cut-signed s (node_behind s start done) i c at index a cut among)
+cut-of s own start acts done later i c f split cut at (told.Sent place to bytes) among = cut-sends s start acts done later i c at place to bytes split cut among
 cut-of s own start acts done later i c f split cut at _ among = tt
 
 lines-act : (s : Setting) (own : PublicKey) (start : ServeState) (acts done later : List Act) (act : Act) → IsFounded s own start → acts ≡ done ++ act ∷ later → IsOfTurn act → AreLines (Gives s start acts) (served s done start).text

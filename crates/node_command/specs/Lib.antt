@@ -6,4 +6,5 @@ pub mod Spendings
 pub mod Running
 pub mod Removals
 pub mod Replies
+pub mod Sendings
 pub mod Written

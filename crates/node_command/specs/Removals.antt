@@ -29,6 +29,13 @@ node_behind s start acts = (served s acts start).node
 abbrev pub life_behind : Setting → ServeState → List Act → List Event
 life_behind s start acts = (node_behind s start acts).lived
 
+-- A tick among these acts brings the moment.
+pub record IsTick (s : Setting) (start : ServeState) (acts : List Act) (moment : ℕ) : Type 0 where
+  pub before : List Act
+  pub behind : List Act
+  pub ticks : acts ≡ before ++ Calls Ticks ∷ behind
+  pub at : (state_of s (at_tick s (node_behind s start before))).moment ≡ moment
+
 -- ## Where an accusation has come from
 
 -- The author has a key, under which the record verifies.
@@ -75,15 +82,12 @@ pub record WasMade (s : Setting) (start : ServeState) (acts : List Act) (place :
 -- At a tick among these acts, which brings the moment, the member leaves the view. That rests on an accusation that was
 -- accepted earlier in the life, and stood in each state between, for the timeout; and which was delivered, or made.
 pub record Removes (s : Setting) (start : ServeState) (acts : List Act) (moment m : ℕ) : Type 0 where
-  pub before : List Act
-  pub behind : List Act
-  pub ticks : acts ≡ before ++ Calls Ticks ∷ behind
-  pub at : (state_of s (at_tick s (node_behind s start before))).moment ≡ moment
-  pub removed : IsRemovedAt s.group (opening []) (life_behind s start before ++ Passes ∷ []) (length (life_behind s start before)) m
+  pub tick : IsTick s start acts moment
+  pub removed : IsRemovedAt s.group (opening []) (life_behind s start tick.before ++ Passes ∷ []) (length (life_behind s start tick.before)) m
   pub accepted : ℕ
   pub accusation : AccBody
-  pub rests : RestsOn s.group (opening []) (life_behind s start before ++ Passes ∷ []) (length (life_behind s start before)) m accepted accusation
-  pub came : WasDelivered s start before accepted accusation ⊎ WasMade s start before accepted accusation
+  pub rests : RestsOn s.group (opening []) (life_behind s start tick.before ++ Passes ∷ []) (length (life_behind s start tick.before)) m accepted accusation
+  pub came : WasDelivered s start tick.before accepted accusation ⊎ WasMade s start tick.before accepted accusation
 
 -- The line that gives a removal.
 abbrev pub removal_line : ℕ → ℕ → List ℕ

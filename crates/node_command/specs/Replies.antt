@@ -1,5 +1,5 @@
 -- What an accepted note rules out of what the journal of a life gives.
-use Rattle.std.specs.Prelude.{◌≡◌, ℕ, ◌+◌, ◌<◌, false, List, [], ◌∷◌, ◌++◌, length, None, Ok}
+use Rattle.std.specs.Prelude.{◌≡◌, ℕ, ◌+◌, ◌<◌, false, List, [], ◌∷◌, ◌++◌, length, Contains, None, Ok}
 use Rattle.ff_ids.specs.declared.AccBody.{AccBody}
 use Rattle.ff_ids.specs.declared.Group.{Group}
 use Rattle.ff_ids.specs.declared.NoteBody.{NoteBody}
@@ -14,12 +14,14 @@ use Rattle.datagram.specs.declared.Datagram.TheVariants as kinds
 use Rattle.datagram.specs.Grammar.{read_of}
 use Rattle.journal.specs.declared.event.What.TheVariants as told
 use Rattle.node_rules.specs.Nodes.{Setting, event_of, state_of}
+use Rattle.node_rules.specs.Accusing.{AccusesTheSilent}
+use Rattle.node_rules.specs.Refusals.{refusal}
 use Rattle.node_rules.specs.Verdicts.{when_all_handled}
-use Rattle.node_rules.specs.Outgoing.{at_tick}
-use Rattle.node_rules.specs.Lives.{Delivers, Ticks}
+use Rattle.node_rules.specs.Vouching.{author_key}
+use Rattle.node_rules.specs.Lives.{Delivers, Ticks, call_of}
 use Rattle.node_loop.specs.Turns.{Act, Calls}
 use Rattle.node_loop.specs.Courses.{ServeState, line_of}
-use Rattle.node_command.specs.Removals.{life_behind, node_behind}
+use Rattle.node_command.specs.Removals.{IsTick, VerifiesFor, life_behind, node_behind}
 
 -- ## What a note rules out
 
@@ -40,16 +42,13 @@ OnlyAgain g events j a = (i : ℕ) (n : NoteBody) → i < j
 -- it, and where one answers it otherwise, it was accepted again since.
 pub record Expires (s : Setting) (start : ServeState) (acts : List Act) (moment : ℕ) (a : AccBody)
     : Type 0 where
-  pub before : List Act
-  pub behind : List Act
-  pub ticks : acts ≡ before ++ Calls Ticks ∷ behind
-  pub at : (state_of s (at_tick s (node_behind s start before))).moment ≡ moment
-  pub expires : ExpiresAt s.group (opening []) (life_behind s start before ++ Passes ∷ [])
-      (length (life_behind s start before)) a
-  pub none_outdates : NoneOutdates s.group (life_behind s start before ++ Passes ∷ [])
-      (length (life_behind s start before)) a
-  pub only_again : OnlyAgain s.group (life_behind s start before ++ Passes ∷ [])
-      (length (life_behind s start before)) a
+  pub tick : IsTick s start acts moment
+  pub expires : ExpiresAt s.group (opening []) (life_behind s start tick.before ++ Passes ∷ [])
+      (length (life_behind s start tick.before)) a
+  pub none_outdates : NoneOutdates s.group (life_behind s start tick.before ++ Passes ∷ [])
+      (length (life_behind s start tick.before)) a
+  pub only_again : OnlyAgain s.group (life_behind s start tick.before ++ Passes ∷ [])
+      (length (life_behind s start tick.before)) a
 
 -- The line that gives an expiry.
 abbrev pub expiry_line : ℕ → AccBody → List ℕ
@@ -75,8 +74,9 @@ AcceptsNext g events (Accusation a) =
     IsAcceptedAt g (opening []) (events ++ Accuses a ∷ []) (length events) a
     × NoneOutdates g (events ++ Accuses a ∷ []) (length events) a
 
--- A record of this body is one of a datagram that one of these acts delivers, at this moment of the life, and as the acts and
--- the records before it have left the life, that accepts it, and goes on with it.
+-- A record of this body is one of a datagram that one of these acts delivers, at this moment of the life. As the acts and the
+-- records before it have left the node, it has no fault, and it verifies under its author's key; the life accepts it, and goes on
+-- with it.
 pub record Accepts (s : Setting) (start : ServeState) (acts : List Act) (moment : ℕ) (body : Body)
     : Type 0 where
   pub before : List Act
@@ -90,6 +90,9 @@ pub record Accepts (s : Setting) (start : ServeState) (acts : List Act) (moment 
   pub later : List Record
   pub read : read_of bytes ≡ Ok (kinds.Records from (earlier ++ taken ∷ later))
   pub says : taken.body ≡ body
+  pub no_fault : refusal s (when_all_handled s (node_behind s start before) earlier) taken ≡ None
+  pub verified : VerifiesFor s
+      (author_key s (when_all_handled s (node_behind s start before) earlier) body) taken
   pub accepted : AcceptsNext s.group
       (when_all_handled s (node_behind s start before) earlier).lived body
   pub more : List Event
@@ -111,15 +114,17 @@ pub record GivesAccepted (s : Setting) (start : ServeState) (acts : List Act) (l
 
 -- ## What the node signs
 
--- A tick among these acts brings the moment, and no note that the life accepted before outdates the accusation.
-pub record Signs (s : Setting) (start : ServeState) (acts : List Act) (moment : ℕ) (a : AccBody)
-    : Type 0 where
-  pub before : List Act
-  pub behind : List Act
-  pub ticks : acts ≡ before ++ Calls Ticks ∷ behind
-  pub at : (state_of s (at_tick s (node_behind s start before))).moment ≡ moment
-  pub none_outdates : NoneOutdates s.group (life_behind s start before ++ Passes ∷ [])
-      (length (life_behind s start before) + 1) a
+-- A tick among these acts, which brings the moment, spends this index on the accusation. It is the node's own, and the accused
+-- was silent at this tick. No note that the life accepted before outdates it.
+pub record Signs (s : Setting) (start : ServeState) (acts : List Act) (moment index : ℕ)
+    (a : AccBody) : Type 0 where
+  pub tick : IsTick s start acts moment
+  pub spent : Contains (call_of s (node_behind s start tick.before) Ticks).told
+      (record { moment = moment; what = told.Spent index (Accusation a) })
+  pub by : a.accuser ≡ s.me
+  pub silent : AccusesTheSilent s (node_behind s start tick.before) a
+  pub none_outdates : NoneOutdates s.group (life_behind s start tick.before ++ Passes ∷ [])
+      (length (life_behind s start tick.before) + 1) a
 
 -- The line that gives the index that is spent on an accusation.
 abbrev pub signed_line : ℕ → ℕ → AccBody → List ℕ
@@ -133,4 +138,4 @@ pub record GivesSigned (s : Setting) (start : ServeState) (acts : List Act) (lin
   pub index : ℕ
   pub accusation : AccBody
   pub spelled : line ≡ signed_line moment index accusation
-  pub signs : Signs s start acts moment accusation
+  pub signs : Signs s start acts moment index accusation

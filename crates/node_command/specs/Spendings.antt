@@ -1,5 +1,5 @@
--- What the run of a member has spent of its key.
-use Rattle.std.specs.Prelude.{◌≡◌, ℕ, ◌+◌, ◌≤◌, ◌<◌, ◌⊎◌, List, [], ◌++◌, fold, Option, Result, Ok, Err}
+-- What the run of a member has spent of its key, and how often its link failed.
+use Rattle.std.specs.Prelude.{◌≡◌, ℕ, ◌+◌, ◌≤◌, ◌<◌, ◌⊎◌, Bool, true, false, List, [], ◌++◌, fold, Option, Result, Ok, Err}
 use Rattle.std.specs.Io.KnownBytes.{Appends}
 use Rattle.std.specs.List.{AllByRecursion}
 use Rattle.epoch_store.specs.declared.Stored.{Stored}
@@ -7,11 +7,12 @@ use Rattle.journal.specs.declared.event.Event as journal
 use Rattle.play.specs.Plays.{IoState}
 use Rattle.records.specs.declared.Body.{Body}
 use Rattle.records.specs.declared.Body.TheVariants.{Certificate, Note, Accusation}
+use Rattle.ports.specs.Count.{counted}
 use Rattle.ports.specs.Disk.{Moment, Since}
 use Rattle.signer.specs.Lives.{EndsLives, EndsNow, IsOnce, LivesOn, Spent, indexes, note_epochs}
 use Rattle.signer.specs.Signing.{SignerState}
 use Rattle.node_core.specs.Spending.{spent_told}
-use Rattle.node_loop.specs.Lines.{JournalLine, WroteFront, bytes_of, spent_in}
+use Rattle.node_loop.specs.Lines.{JournalLine, WroteFront, bytes_of, faults_behind, spent_in}
 use Rattle.node_command.specs.declared.halt.NodeHalt.{NodeHalt}
 use Rattle.node_command.specs.declared.halt.NodeHalt.TheVariants as halt
 use Rattle.node_command.specs.declared.kit.Member.{Member}
@@ -55,24 +56,26 @@ WritesJournal before after lines (Err halt.OutOfMemory) = WroteFront before afte
 WritesJournal before after lines (Err other) = (lines ≡ []) × Appends before after []
 
 -- The lines give the signatures that the start reported, and behind them those that the life made, with which the lives of the
--- key go on.
+-- key go on; and the faults of the link.
 pub record LifeSpends (told : List journal.Event) (s : SignerState) (older newer : List Moment)
-    (before after : Option (List ℕ)) (result : Result (Unit {0}) NodeHalt) : Type 0 where
+    (before after : Option (List ℕ)) (count faults : ℕ) (result : Result (Unit {0}) NodeHalt)
+    : Type 0 where
   pub lines : List JournalLine
   pub written : WritesJournal before after lines result
   pub later : SignerState
   pub spent : List Spent
   pub give : spent_in lines ≡ spent_told told ++ spent
   pub key : LivesOn spent s later older newer
+  pub link : faults ≡ faults_behind lines count
 
 -- ## The run
 
 -- A store of the member's key was found. These lines of the journal were written, or a prefix of them where it broke off. What they
 -- give of signatures rises in index and in epoch from what the store kept. If a crash first left the file as lives of the key
 -- leave it that spent something, each crash now leaves it as lives do that spent that and then this, and at each moment between
--- as lives do that spent a prefix of this.
+-- as lives do that spent a prefix of this. The link's count of faults rose with just the lines that say so.
 pub record SpendsFrom (m : Member) (before after : Option (List ℕ)) (old new : OfDisk)
-    (result : Result (Unit {0}) NodeHalt) : Type 0 where
+    (count faults : ℕ) (result : Result (Unit {0}) NodeHalt) : Type 0 where
   pub stored : Stored
   pub found : IsFound m stored old
   pub lines : List JournalLine
@@ -80,10 +83,19 @@ pub record SpendsFrom (m : Member) (before after : Option (List ℕ)) (old new :
   pub from : Tells old.moments → IsSpentFrom stored (spent_in lines)
   pub ends : Ends m (spent_in lines) old new
   pub any_moment : EndsFronts m (spent_in lines) old new
+  pub link : faults ≡ faults_behind lines count
 
--- Nothing was written, and nothing of any key spent: each crash ends lives as before, now and at each moment between.
-pub record SpendsNothing (before after : Option (List ℕ)) (old new : OfDisk) : Type 0 where
+-- the port could not be bound
+abbrev pub is_unbound : Result (Unit {0}) NodeHalt → Bool
+is_unbound (Err halt.LinkFault) = true
+is_unbound other = false
+
+-- Nothing was written, and nothing of any key spent: each crash ends lives as before, now and at each moment between. The link
+-- failed where the port could not be bound, and nowhere else.
+pub record SpendsNothing (before after : Option (List ℕ)) (old new : OfDisk) (count faults : ℕ)
+    (result : Result (Unit {0}) NodeHalt) : Type 0 where
   pub unwritten : Appends before after []
+  pub link : faults ≡ counted (is_unbound result) count
   pub any_moment : (tag image : List ℕ) (spent : List Spent) → EndsNow tag image spent old.moments
       → Since (EndsLives tag image spent) old.moments new.moments
   pub ends : (tag image : List ℕ) (spent : List Spent) → EndsNow tag image spent old.moments
@@ -98,21 +110,25 @@ MayFindNone (Err (halt.Exhausted next)) = ⊥
 MayFindNone (Err other) = Unit {0}
 
 -- Nothing was written or spent, and the run ended so that this may be; or a store was found, of which this was spent.
-abbrev pub SpendsBehind : Member → Option (List ℕ) → Option (List ℕ) → OfDisk → OfDisk
+abbrev pub SpendsBehind : Member → Option (List ℕ) → Option (List ℕ) → OfDisk → OfDisk → ℕ → ℕ
     → Result (Unit {0}) NodeHalt → Type 0
-SpendsBehind m before after old new result =
-    (MayFindNone result × SpendsNothing before after old new) ⊎ SpendsFrom m before after old new result
+SpendsBehind m before after old new count faults result =
+    (MayFindNone result × SpendsNothing before after old new count faults result)
+    ⊎ SpendsFrom m before after old new count faults result
 
 -- A member was read from the text, and this was spent of its key.
-pub record HasSpent (was now : IoState) (old new : OfDisk) (result : Result (Unit {0}) NodeHalt)
-    : Type 0 where
+pub record HasSpent (was now : IoState) (old new : OfDisk) (count faults : ℕ)
+    (result : Result (Unit {0}) NodeHalt) : Type 0 where
   pub member : Member
   pub between : IoState
   pub read : IsMember was between member
-  pub spends : SpendsFrom member was.taken now.taken old new result
+  pub spends : SpendsFrom member was.taken now.taken old new count faults result
 
 -- What a run does to the lives of the key, under every answer: either nothing was written and nothing put, and it ended so that
--- no store may have been found; or the lines of the journal, of which a prefix may be written, give what was spent.
-abbrev pub Spends : IoState → IoState → OfDisk → OfDisk → Result (Unit {0}) NodeHalt → Type 0
-Spends was now old new result =
-    (MayFindNone result × SpendsNothing was.taken now.taken old new) ⊎ HasSpent was now old new result
+-- no store may have been found; or the lines of the journal, of which a prefix may be written, give what was spent. The link's
+-- count of faults is before and behind it.
+abbrev pub Spends : IoState → IoState → OfDisk → OfDisk → ℕ → ℕ → Result (Unit {0}) NodeHalt
+    → Type 0
+Spends was now old new count faults result =
+    (MayFindNone result × SpendsNothing was.taken now.taken old new count faults result)
+    ⊎ HasSpent was now old new count faults result

@@ -21,6 +21,7 @@ use Rattle.node_command.specs.Journal.{bound_for}
 use Rattle.node_command.specs.Running.{NetInputs}
 use Rattle.node_command.specs.Removals.{GivesRemoval, removal_line}
 use Rattle.node_command.specs.Replies.{GivesAccepted, GivesExpiry, GivesSigned, accepted_line, expiry_line, signed_line}
+use Rattle.node_command.specs.Sendings.{GivesSent, sent_line}
 
 -- ## The life of a run
 
@@ -42,8 +43,8 @@ pub record IsOfLife (was : IoState) (old : OfDisk) (feed : NetInputs)
   pub found : IsFound member stored old
   pub gives : P (setting_for member) (first_of member stored feed) (acts_of member feed)
 
--- What the line says of the life at these acts that gives a removal, an expiry, an accepted note or accusation, or an accusation
--- that the node signs.
+-- What the line says of the life at these acts that gives a removal, an expiry, an accepted note or accusation, an accusation
+-- that the node signs, or a datagram.
 abbrev pub GivesOf : Setting → ServeState → List Act → ℕ → whats.What → Type 0
 GivesOf s start acts moment (told.Removed m) =
     GivesRemoval s start acts (removal_line moment m)
@@ -54,6 +55,8 @@ GivesOf s start acts moment (told.Took (Accusation a) None) =
     GivesAccepted s start acts (accepted_line moment (Accusation a))
 GivesOf s start acts moment (told.Spent index (Accusation a)) =
     GivesSigned s start acts (signed_line moment index a)
+GivesOf s start acts moment (told.Sent number to bytes) =
+    GivesSent s start acts (sent_line moment number to bytes)
 GivesOf s start acts moment other = Unit {0}
 
 -- The same of the life that a run began.
@@ -80,7 +83,7 @@ abbrev pub event_line : ℕ → whats.What → List ℕ
 event_line moment what = line_of (record { moment = moment; what = what })
 
 -- Each whole line that was written and gives an event comes only where a member was read and a store of its key found; one that
--- gives a removal, an expiry, an accepted note or accusation, or an own accusation says this of the life that this began. The
+-- gives a removal, an expiry, an accepted note or accusation, an own accusation or a datagram says this of the life that this began. The
 -- journal is whole lines, unless a write failed or memory was refused.
 pub record LinesRest (feed : NetInputs) (was now : IoState) (old : OfDisk)
     (result : Result (Unit {0}) NodeHalt) : Type 0 where

@@ -52,7 +52,8 @@ fn serve_to_end<D: Disk, L: Link, C: Clock, O: Sink>(
     ensures served { IfErr result IsServed }
     ensures spends { LifeSpends [] node.old.signer
         (D.state disk.old).moments (D.state disk.new).moments
-        (O.state out.old).taken (O.state out.new).taken result }
+        (O.state out.old).taken (O.state out.new).taken
+        (L.state link.old).faults (L.state link.new).faults result }
     ensures lives { (s : Setting) (n : RulesNode) (link_told : LinkState) (readings : List ℕ)
         (told : List journal.Event) (was : Option LinkState) (taken : Option (List ℕ))
         → IsNode s node.old n → (L.state link.old).contents ≡ Some link_told
@@ -99,7 +100,8 @@ pub fn live<D: Disk, L: Link, C: Clock, O: Sink>(
     ensures served { IfErr result IsServed }
     ensures spends { LifeSpends events.now node.old.signer
         (D.state disk.old).moments (D.state disk.new).moments
-        (O.state out.old).taken (O.state out.new).taken result }
+        (O.state out.old).taken (O.state out.new).taken
+        (L.state link.old).faults (L.state link.new).faults result }
     ensures lives { (s : Setting) (n : RulesNode) (link_told : LinkState) (readings : List ℕ)
         → IsNode s node.old n → (L.state link.old).contents ≡ Some link_told
         → (C.state clock.old).coming ≡ Some readings
@@ -110,7 +112,7 @@ pub fn live<D: Disk, L: Link, C: Clock, O: Sink>(
         result }
 {
     let mut sent = 0;
-    match tell_all(alloc, node, link, out, &mut sent, events.as_slice()) {
+    match tell_all(alloc, node, link, out, &mut sent, events.without_loss()) {
         Ok(()) => serve_to_end(alloc, node, pace, out, disk, link, clock),
         Err(fault) => Err(NodeHalt::from(fault)),
     }

@@ -48,7 +48,8 @@ fn begin_and_live<D: Disk, L: Link, C: Clock, O: Sink>(
         (D.state disk.old) (D.state disk.new) result }
     ensures opened { OpensFile name.now (D.state disk.old) (D.state disk.new) result }
     ensures spends { SpendsBehind member (O.state out.old).taken (O.state out.new).taken
-        (D.state disk.old) (D.state disk.new) result }
+        (D.state disk.old) (D.state disk.new)
+        (L.state link.old).faults (L.state link.new).faults result }
     ensures runs { (feed : NetInputs)
         → (L.state link.old).contents ≡ Some (bound_for member feed.link)
         → (C.state clock.old).coming ≡ Some feed.readings
@@ -101,7 +102,8 @@ fn bind_and_live<D: Disk, L: Link, C: Clock, O: Sink>(
         (D.state disk.old) (D.state disk.new) result }
     ensures opened { OpensFile name.now (D.state disk.old) (D.state disk.new) result }
     ensures spends { SpendsBehind member (O.state out.old).taken (O.state out.new).taken
-        (D.state disk.old) (D.state disk.new) result }
+        (D.state disk.old) (D.state disk.new)
+        (L.state link.old).faults (L.state link.new).faults result }
     ensures runs { (feed : NetInputs) → (L.state link.old).contents ≡ Some feed.link
         → (C.state clock.old).coming ≡ Some feed.readings
         → (C.state clock.old).reading ≡ feed.reading → turns ≡ feed.turns
@@ -147,7 +149,8 @@ fn read_and_run<S: Source, O: Sink, D: Disk, L: Link, C: Clock>(
     ensures spends { Spends
         (io (S.state input.old) (O.state out.old))
         (io (S.state input.new) (O.state out.new))
-        (D.state disk.old) (D.state disk.new) result }
+        (D.state disk.old) (D.state disk.new)
+        (L.state link.old).faults (L.state link.new).faults result }
     ensures runs { (feed : NetInputs) → (L.state link.old).contents ≡ Some feed.link
         → (C.state clock.old).coming ≡ Some feed.readings
         → (C.state clock.old).reading ≡ feed.reading → turns ≡ feed.turns
@@ -217,11 +220,13 @@ pub fn run_node<S: Source, O: Sink, D: Disk, L: Link, C: Clock>(
         (io (S.state input.new) (O.state out.new))
         (D.state disk.old) result }
     // What was spent of the key is what the lines of the journal give, in order. It rises from the store that was found, each index
-    // once, and each epoch.
+    // once, and each epoch. The link's count of faults rises with the turns that say `failed` and the lines `lost`, one for one;
+    // and where the port can't be bound.
     ensures spends { Spends
         (io (S.state input.old) (O.state out.old))
         (io (S.state input.new) (O.state out.new))
-        (D.state disk.old) (D.state disk.new) result }
+        (D.state disk.old) (D.state disk.new)
+        (L.state link.old).faults (L.state link.new).faults result }
 {
     read_and_run(alloc, name, turns, input, out, disk, link, clock)
 }

@@ -1,7 +1,11 @@
 -- Certificates that a life may begin with.
-use Rattle.std.proofs.Common.{◌≡◌, ◌<◌, ◌≤◌, ℕ, Bool, true, false, List, [], ◌∷◌, length, get_or, refl, ap, sym, subst, ◌∙◌, zero, suc, arith}
+use Rattle.std.proofs.Common.{◌≡◌, ◌<◌, ◌≤◌, ℕ, eqb-true, Bool, true, false, cond, inl, inr, Option, Some, None, List, [], ◌∷◌, length, get_or, refl, ap, sym, subst, ◌∙◌, zero, suc, arith}
 use Rattle.std.specs.Prelude.{All, not, nat_eq, ◌||◌}
-use Rattle.std.proofs.lemmas.Bool.{and_parts, and_from}
+use Rattle.std.specs.Cmp.{unsigned_tied}
+use Rattle.std.specs.FinMap as fin
+use Rattle.std.specs.Ordering.{eq_by_cmp, nat_cmp}
+use Rattle.std.proofs.lemmas.Cmp.{nat_cmp_total}
+use Rattle.std.proofs.lemmas.Bool.{and_parts, and_from, cases_Bool}
 use Rattle.std.specs.List.{AllByRecursion, list_any, list_all}
 use Rattle.std.specs.Result.{is_ok}
 use Rattle.ff_ids.specs.declared.TheConstants.{MAX_TOLERANCE}
@@ -22,7 +26,8 @@ use Rattle.lms_tree.specs.Leaves.{index_count}
 use Rattle.signer.specs.Signing.{SignerState}
 use Rattle.node_core.proofs.OwnKeyLemmas.{own-verify}
 use Rattle.node_core.specs.declared.kit.Kit.{Kit}
-use Rattle.node_core.specs.Playing.{setting_of}
+use Rattle.validate.specs.Certified.{Certificates, certificate_of as kept_certificate}
+use Rattle.node_core.specs.Playing.{KeepsCertificates, setting_of}
 use Rattle.node_core.specs.Rolls.{IsCertificateFor, IsOfOther, IsApart, AreApart, recs_of}
 use Rattle.node_core.specs.Begins.{IsCheckedIn, is_of_other, HasKey, IsKit, IsVouchable}
 use Rattle.node_core.proofs.RollLemmas.{same-certificate}
@@ -132,3 +137,14 @@ is-apart r cert behind is apart =
 pub among-recs : (m : ℕ) (xs : List CheckedRecord) → list_any (λ x. is_certificate_for m x.rec.body) xs ≡ list_any (λ r. is_certificate_for m r.body) (recs_of xs)
 among-recs m [] = refl
 among-recs m (x ∷ xs) = ap (λ b. is_certificate_for m x.rec.body || b) (among-recs m xs)
+
+none-some : {A : Type 0} {X : Type 0} (x : X) → None ≡ Some x → A
+none-some x e = cc
+
+-- Whoever has a certificate keeps it where a member without one gets one.
+pub kept-inserted : (r : Certificates) (x : CertBody) → kept_certificate r x.member ≡ None → KeepsCertificates r (fin.insert r x.member x)
+kept-inserted r x free m c is =
+    elim (cases_Bool (eq_by_cmp nat_cmp m x.member)) [
+      | inl same ↦ let at : m ≡ x.member = eqb-true m x.member (sym (unsigned_tied m x.member) ∙ same) in none-some c (sym (ap (kept_certificate r) at ∙ free) ∙ is)
+      | inr apart ↦ fin.get-insert nat_cmp_total r x.member x m ∙ ap (λ b. cond b (Some x) (kept_certificate r m)) apart ∙ is
+    ]

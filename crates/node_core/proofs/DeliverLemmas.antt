@@ -1,5 +1,5 @@
 -- What a call gives, by its answer.
-use Rattle.std.proofs.Common.{◌≡◌, ℕ, Bool, true, false, inl, inr, List, ◌++◌, refl, sym, ◌∙◌, subst, Result, Ok, Err, take}
+use Rattle.std.proofs.Common.{◌≡◌, ℕ, Bool, true, false, inl, inr, List, ◌++◌, refl, ap, sym, ◌∙◌, subst, Result, Ok, Err, take}
 use Rattle.std.specs.Prelude.{IfErr, OnOk, is_err}
 use Rattle.ports.specs.Count.{counted}
 use Rattle.std.proofs.lemmas.Bool.{cases_Bool}
@@ -10,11 +10,12 @@ use Rattle.node_rules.specs.Deliveries.{hears, handles, handles_all, delivered}
 use Rattle.node_rules.specs.OnDisks.{Input, Delivers, IsCut}
 use Rattle.node_rules.specs.Lives.{call_of}
 use Rattle.node_rules.proofs.Called.{cut-answering, until-is}
+use Rattle.validate.specs.Certified.{certificate_of as kept_certificate}
 use Rattle.node_core.specs.declared.NodeFault.{NodeFault}
 use Rattle.node_core.specs.declared.NodeFault.TheVariants as faults
-use Rattle.node_core.specs.Playing.{Kept, IsNode, IsAt, IsBehind, Plays, Stops}
+use Rattle.node_core.specs.Playing.{Grows, Kept, KeepsCertificates, IsNode, IsAt, IsBehind, Plays, Stops}
 use Rattle.node_core.specs.Hears.{RunsHearing}
-use Rattle.node_core.specs.Answers.{CallerBuffers, Gives, GivesFront, Stands, GivesCall}
+use Rattle.node_core.specs.Answers.{CallerBuffers, Gives, GivesFront, MayStop, Stands, GivesCall}
 use Rattle.journal.specs.declared.event.Event as journal
 use Rattle.node_core.specs.Told.{IsPrefix}
 use Rattle.node_core.proofs.TellingLemmas.{front-behind}
@@ -99,6 +100,23 @@ calm-done (Ok d) x y counts = counts
 calm-done (Err e) x y counts = record {}
 
 -- Where a call is answered no call of the disk has failed.
+-- only a put that failed and memory that was refused stop a call that ran
+pub stops-by : (done answer : Result (Unit {0}) NodeFault) (failed : Bool) → IfErr done (λ e. e ≡ faults.StoreFault)
+    → (failed ≡ true → answer ≡ Err faults.OutOfMemory) → (failed ≡ false → answer ≡ done) → IfErr answer MayStop
+stops-by done answer failed cause memory going =
+    elim (cases_Bool failed) [
+      | inl is ↦ subst (λ (r : Result (Unit {0}) NodeFault). IfErr r MayStop) (sym (memory is)) tt
+      | inr fine ↦ subst (λ (r : Result (Unit {0}) NodeFault). IfErr r MayStop) (sym (going fine)) (by done cause)
+    ]
+  where
+    by : (done : Result (Unit {0}) NodeFault) → IfErr done (λ e. e ≡ faults.StoreFault) → IfErr done MayStop
+    by (Ok x) cause = record {}
+    by (Err e) cause = subst MayStop (sym cause) tt
+
+-- what the steps of a call kept is kept by the call
+pub kept-by : (w v0 v1 v2 : Kept) → v0.roster ≡ w.roster → Grows v0 v1 → v2.roster ≡ v1.roster → KeepsCertificates w.roster v2.roster
+kept-by w v0 v1 v2 same grows last m c is = ap (λ r. kept_certificate r m) last ∙ grows.roster m c (ap (λ r. kept_certificate r m) same ∙ is)
+
 pub calm-by : (done answer : Result (Unit {0}) NodeFault) (failed : Bool) (x y : ℕ) → y ≡ counted (is_err done) x
     → (failed ≡ true → answer ≡ Err faults.OutOfMemory) → (failed ≡ false → answer ≡ done) → OnOk answer (y ≡ x)
 calm-by done answer failed x y counts memory going =

@@ -4,6 +4,7 @@ use Rattle.std.proofs.lemmas.Bool.{cases_Bool, false≢true}
 use Rattle.journal.specs.declared.event.Event as journal
 use Rattle.node_rules.specs.Nodes.{Setting}
 use Rattle.node_rules.specs.Calls.{Call}
+use Rattle.validate.specs.Certified.{certificate_of as kept_certificate}
 use Rattle.node_core.specs.declared.NodeFault.{NodeFault}
 use Rattle.node_core.specs.Told.{Tellings, Adds, IsPrefix}
 use Rattle.node_core.specs.Playing.{Kept, IsAt, IsBehind, Plays, Stops, Extends, Grows}
@@ -86,8 +87,8 @@ plays-refused s es os v w c d same p further = record {
   due = behind-extends es os w c d (behind-same es os v w c (ap (λ (t : Tellings). t.events) same) (ap (λ (t : Tellings). t.sent) same) p.due) further;
 }
 
-pub grows-refused : (v w : Kept) → w.telling ≡ record v.telling { failed = true } → w.ended ≡ v.ended → w.group ≡ v.group → w.me ≡ v.me → Grows v w
-grows-refused v w same ended group me = record {
+pub grows-refused : (v w : Kept) → w.telling ≡ record v.telling { failed = true } → w.ended ≡ v.ended → w.group ≡ v.group → w.me ≡ v.me → w.roster ≡ v.roster → Grows v w
+grows-refused v w same ended group me roster = record {
   going = λ fine. absurd (false≢true (sym fine ∙ ap (λ (t : Tellings). t.failed) same));
   stuck = λ failed. same ∙ sym (with-failed v.telling failed);
   events = whole-front v.telling.events w.telling.events (sym (ap (λ (t : Tellings). t.events) same));
@@ -96,6 +97,7 @@ grows-refused v w same ended group me = record {
   ended = ended;
   group = group;
   me = me;
+  roster = λ m c is. ap (λ r. kept_certificate r m) roster ∙ is;
 }
   where
     with-failed : (t : Tellings) → t.failed ≡ true → t ≡ record t { failed = true }

@@ -68,7 +68,7 @@ probed-at s es os v c d h p stands = record {
 
 -- whatever the probes were
 pub grows-probed : (a b : Kept) (d : Probing) → Grows (record a { detector = d }) b → Grows a b
-grows-probed a b d h = record { going = h.going; stuck = h.stuck; events = h.events; sent = h.sent; before = h.before; ended = h.ended; group = h.group; me = h.me }
+grows-probed a b d h = record { going = h.going; stuck = h.stuck; events = h.events; sent = h.sent; before = h.before; ended = h.ended; group = h.group; me = h.me; roster = h.roster }
 
 pub ponged-is : (s : Setting) (from nonce : ℕ) (c : Call) → ponged_by s from nonce c ≡ tells s (told.Pong from nonce (counts c.node.probes from nonce)) (with_probes (ponged c.node.probes from nonce) c)
 unfolding state_of

@@ -544,18 +544,19 @@ grows-trans a b c p q =
       ended = q.ended ∙ p.ended;
       group = q.group ∙ p.group;
       me = q.me ∙ p.me;
+      roster = λ m x is. q.roster m x (p.roster m x is);
     }
 
 -- whatever the signer was
 pub grows-signer : (a b : Kept) (signer : SignerState) → Grows (record a { signer = signer }) b → Grows a b
-grows-signer a b signer h = record { going = h.going; stuck = h.stuck; events = h.events; sent = h.sent; before = h.before; ended = h.ended; group = h.group; me = h.me }
+grows-signer a b signer h = record { going = h.going; stuck = h.stuck; events = h.events; sent = h.sent; before = h.before; ended = h.ended; group = h.group; me = h.me; roster = h.roster }
 
 -- what adds to what is reported grows it
 pub grows-adds : (v : Kept) (life next : Life) (held later : Held) (f : Tellings → Tellings) (a b : Tellings) → Adds f a b → Grows (with_known v life held a) (with_known v next later b)
-grows-adds v life next held later f a b h = record { going = λ fine. (h.going fine).0; stuck = h.stuck; events = h.events; sent = h.sent; before = h.before; ended = refl; group = refl; me = refl }
+grows-adds v life next held later f a b h = record { going = λ fine. (h.going fine).0; stuck = h.stuck; events = h.events; sent = h.sent; before = h.before; ended = refl; group = refl; me = refl; roster = λ m x is. is }
 
 pub grows-refl : (a : Kept) → Grows a a
-grows-refl a = record { going = λ ok. ok; stuck = λ failed. refl; events = front-refl a.telling.events; sent = front-refl a.telling.sent; before = refl; ended = refl; group = refl; me = refl }
+grows-refl a = record { going = λ ok. ok; stuck = λ failed. refl; events = front-refl a.telling.events; sent = front-refl a.telling.sent; before = refl; ended = refl; group = refl; me = refl; roster = λ m x is. is }
 
 -- the list of all that are wanted is that of the addressees
 pub all-wanted : (s : Setting) (v : Kept) (n : Node) (also : Option ℕ) (listed : List (Option ℕ)) → IsNode s v n → v.membership.group ≡ v.group

@@ -49,6 +49,13 @@ GivesCall s n i v old new (Err faults.OutOfMemory) = GivesFront old new (call_of
 GivesCall s n i v old new (Err (faults.Exhausted next)) = ⊥
 GivesCall s n i v old new (Err faults.Ended) = ⊥
 
+-- What may stop a call of a node that runs.
+abbrev pub MayStop : NodeFault → Type 0
+MayStop faults.StoreFault = Unit {0}
+MayStop faults.OutOfMemory = Unit {0}
+MayStop (faults.Exhausted next) = ⊥
+MayStop faults.Ended = ⊥
+
 -- Whether the node is over.
 abbrev pub IsEnded : Result (Unit {0}) NodeFault → Type 0
 IsEnded (Ok done) = ⊥

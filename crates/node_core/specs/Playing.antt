@@ -1,5 +1,5 @@
 -- What a node keeps, and how it stands where a call so far does.
-use Rattle.std.specs.Prelude.{◌≡◌, ℕ, ◌≤◌, ◌<◌, Bool, false, true, not, ◌&&◌, Option, List, ◌++◌, length}
+use Rattle.std.specs.Prelude.{◌≡◌, ℕ, ◌≤◌, ◌<◌, Bool, false, true, not, ◌&&◌, Option, Some, List, ◌++◌, length}
 use Rattle.std.specs.Option.{option_map}
 use Rattle.std.specs.Result.{is_ok}
 use Rattle.ff_ids.specs.declared.TheConstants.{MAX_TOLERANCE}
@@ -9,6 +9,7 @@ use Rattle.ff_ids.specs.declared.NoteBody.{NoteBody}
 use Rattle.ff_ids.specs.declared.summary.RecordKey.{RecordKey}
 use Rattle.ff_ids.specs.Masks.{good_mask}
 use Rattle.lms_tree.specs.declared.key.PublicKey.{PublicKey}
+use Rattle.records.specs.declared.CertBody.{CertBody}
 use Rattle.lms_tree.specs.declared.secret.Secret.{Secret}
 use Rattle.lms_tree.specs.Leaves.{index_count}
 use Rattle.lms_tree.specs.Lms.{signature_of, verdict_of}
@@ -117,8 +118,12 @@ pub record IsInCall (v : Kept) : Type 0 where
   pub within : v.ended ≡ true
   pub is_open : v.signer.closed ≡ false
 
--- The events and datagrams of the first are a front of those of the second, and the node is the same one. Where memory was
--- refused before, nothing is added.
+-- Each certificate that was held is held.
+abbrev pub KeepsCertificates : Certificates → Certificates → Type 0
+KeepsCertificates old new = (m : ℕ) (c : CertBody) → kept_certificate old m ≡ Some c → kept_certificate new m ≡ Some c
+
+-- The events and datagrams of the first are a front of those of the second, and the node is the same one, which holds each
+-- certificate that it held. Where memory was refused before, nothing is added.
 pub record Grows (old new : Kept) : Type 0 where
   pub going : new.telling.failed ≡ false → old.telling.failed ≡ false
   pub stuck : old.telling.failed ≡ true → new.telling ≡ old.telling
@@ -128,3 +133,4 @@ pub record Grows (old new : Kept) : Type 0 where
   pub ended : new.ended ≡ old.ended
   pub group : new.group ≡ old.group
   pub me : new.me ≡ old.me
+  pub roster : KeepsCertificates old.roster new.roster

@@ -14,6 +14,15 @@ pub record Tellings : Type 0 where
   pub before : ℕ
   pub failed : Bool
 
+-- It says that a datagram is lost.
+abbrev pub is_loss : whats.What → Bool
+is_loss (told.Lost number) = true
+is_loss other = false
+
+-- What a node reports is no loss: who gives its datagrams to a link knows of those.
+abbrev pub IsNoLoss : journal.Event → Type 0
+IsNoLoss e = is_loss e.what ≡ false
+
 abbrev pub with_event : ℕ → whats.What → Tellings → Tellings
 with_event moment what w = record w { events = w.events ++ record { moment = moment; what = what } ∷ [] }
 

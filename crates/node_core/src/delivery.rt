@@ -11,12 +11,12 @@ ghost use Rattle.node_rules.specs.Calls.{Call, tells};
 ghost use Rattle.journal.specs.declared.event.What.TheVariants as told;
 ghost use Rattle.records.specs.declared.fault.FormFault.TheVariants as forms;
 ghost use Rattle.node_core.specs.declared.NodeFault.TheVariants as faults;
-ghost use Rattle.node_core.specs.Playing.{Plays, Stops, Grows, IsInCall, IsNode};
+ghost use Rattle.node_core.specs.Playing.{Plays, Stops, Grows, IsInCall, IsNode, KeepsCertificates};
 ghost use Rattle.node_core.specs.Spending.{SignsNothing, Spends, SpendsIn};
 ghost use Rattle.node_core.specs.Hears.{RunsHearing};
 ghost use Rattle.node_rules.specs.OnDisks.{Delivers, delivered_on, hears_on};
 ghost use Rattle.node_core.specs.OnDisks.{ComesTo, FollowsDisk, on_disk, storage};
-ghost use Rattle.node_core.specs.Answers.{GivesCall, Stands, IsEnded};
+ghost use Rattle.node_core.specs.Answers.{GivesCall, Stands, IsEnded, MayStop};
 ghost use Rattle.node_rules.specs.Nodes.{Node as RulesNode};
 
 use crate::telling::CallOutput;
@@ -165,6 +165,7 @@ impl Node {
             (record { events = events.old; sent = out.old })
             (record { events = events.new; sent = out.new }) result }
         ensures over { (self.old.ended ≡ true) ↔ IsEnded result }
+        ensures stops { self.old.ended ≡ false → IfErr result MayStop }
         ensures ended { self.new.ended ≡ is_err result }
         ensures unchanged_after_end { self.old.ended ≡ true
             → (self.new ≡ self.old) × (disk.new ≡ disk.old) × (events.new ≡ events.old)
@@ -174,6 +175,7 @@ impl Node {
         ensures spends { SpendsIn result self.old.signer self.new.signer (D.state disk.old).moments
             (D.state disk.new).moments events.old events.new }
         ensures closed { OnOk result (self.new.signer.closed ≡ self.old.signer.closed) }
+        ensures kept { KeepsCertificates self.old.roster self.new.roster }
         ensures faults { IfErr result (λ e. e ≡ faults.StoreFault
             → Rose (D.state disk.old).faults (D.state disk.new).faults) }
         ensures no_disk_fault { OnOk result

@@ -2,6 +2,7 @@
 
 ghost use Rattle.std.specs.Prelude.{◌≡◌, ◌↔◌, [], All, true};
 ghost use Rattle.node_core.specs.Begins.{IsCheckedIn, IsGroup, IsKit};
+ghost use Rattle.node_core.specs.Told.{IsNoLoss};
 
 use crate::certificates::are_certificates_of;
 use ff_ids::{Group, MAX_TOLERANCE, MemberId};
@@ -78,19 +79,22 @@ impl Outbox {
     }
 }
 
-/// What calls have reported, the first one first. Contracts see the list.
+/// What calls have reported, the first one first. None of it is the loss of a datagram. Contracts see the list.
 #[derive(Drop)]
 pub struct Events {
     pub(crate) events: Vec<Event>,
 }
 
 impl Model for Events {
-    ghost use Rattle.std.specs.Prelude.{List};
+    ghost use Rattle.std.specs.Prelude.{All, List};
     ghost use Rattle.journal.specs.declared.event.Event as journal;
+    ghost use Rattle.node_core.specs.Told.{IsNoLoss};
 
     ghost Value = { List journal.Event };
 
     ghost view = { λ e. e.events.items };
+
+    ghost invariant = { λ e. All IsNoLoss e.events.items };
 }
 
 impl Events {
@@ -106,6 +110,14 @@ impl Events {
     /// The events.
     pub fn as_slice(&self) -> &[Event]
         ensures { result.now ≡ self.now }
+    {
+        self.events.as_slice()
+    }
+
+    /// The events, for whom it matters that none is the loss of a datagram.
+    pub fn without_loss(&self) -> &[Event]
+        ensures same { result.now ≡ self.now }
+        ensures no_loss { All IsNoLoss result.now }
     {
         self.events.as_slice()
     }

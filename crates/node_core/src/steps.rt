@@ -12,6 +12,7 @@ ghost use Rattle.node_rules.specs.Nodes.{Setting, certificate_of};
 ghost use Rattle.node_rules.specs.Calls.{Call, tells, lives, takes};
 ghost use Rattle.node_core.specs.Playing.{Kept, Plays, Grows};
 ghost use Rattle.node_core.specs.Spending.{spent_by, SignsNothing, TellsSpent};
+ghost use Rattle.node_core.specs.Told.{is_loss};
 
 use crate::Node;
 use crate::parts::{accept_note, report};
@@ -23,7 +24,8 @@ use ring_order::hash_places;
 impl Node {
     /// Tells this, which is no signature.
     pub(crate) fn tell(&mut self, what: What)
-        requires { spent_by what ≡ [] }
+        requires unsigned { spent_by what ≡ [] }
+        requires no_loss { is_loss what ≡ false }
         ensures plays { (s : Setting) (es : List journal.Event) (os : List (ℕ × List ℕ)) (c : Call)
             → Plays s es os self.old c
             → Plays s es os self.new (tells s what c) }

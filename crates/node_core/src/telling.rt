@@ -2,7 +2,7 @@
 
 ghost use Rattle.std.specs.Prelude.{◌≡◌, [], ◌∷◌, ◌++◌, ◌-◌, ◌≤◌, false, true, length, OnOk};
 ghost use Rattle.journal.specs.declared.event.What.TheVariants as kinds;
-ghost use Rattle.node_core.specs.Told.{Adds, IsPrefix, with_event, with_report, with_sent, with_each};
+ghost use Rattle.node_core.specs.Told.{Adds, IsPrefix, is_loss, with_event, with_report, with_sent, with_each};
 
 use crate::kit::{Events, Outbox};
 use ff_ids::{AccBody, MemberId};
@@ -25,8 +25,8 @@ pub struct CallOutput {
 }
 
 impl Model for CallOutput {
-    ghost use Rattle.std.specs.Prelude.{length, ◌≤◌};
-    ghost use Rattle.node_core.specs.Told.{Tellings};
+    ghost use Rattle.std.specs.Prelude.{All, length, ◌≤◌};
+    ghost use Rattle.node_core.specs.Told.{Tellings, IsNoLoss};
 
     ghost Value = { Tellings };
 
@@ -37,7 +37,8 @@ impl Model for CallOutput {
       failed = t.failed;
     } };
 
-    ghost invariant = { λ t. t.before ≤ length t.sent.items };
+    ghost invariant = { λ t. (t.before ≤ length t.sent.items)
+        × All IsNoLoss t.events.items };
 }
 
 impl CallOutput {
@@ -70,6 +71,7 @@ impl CallOutput {
 
     /// Adds the event.
     pub fn tell(&mut self, moment: u64, what: What)
+        requires { is_loss what ≡ false }
         ensures adds { Adds (with_event moment what) self.old self.new }
         ensures refused { self.new.failed ≡ true → self.new ≡ record self.old { failed = true } }
     {

@@ -6,9 +6,9 @@ ghost use Rattle.ports.specs.MemoryDisk.{DiskState};
 ghost use Rattle.node_rules.specs.Nodes.{Node as RulesNode};
 ghost use Rattle.node_rules.specs.Calls.{begun};
 ghost use Rattle.node_core.specs.declared.NodeFault.TheVariants as faults;
-ghost use Rattle.node_core.specs.Playing.{IsNode};
+ghost use Rattle.node_core.specs.Playing.{IsNode, KeepsCertificates};
 ghost use Rattle.node_core.specs.Spending.{SignsNothing, Spends, SpendsIn};
-ghost use Rattle.node_core.specs.Answers.{GivesCall, Stands, IsEnded};
+ghost use Rattle.node_core.specs.Answers.{GivesCall, Stands, IsEnded, MayStop};
 ghost use Rattle.node_core.specs.Ticks.{RunsDue, RunsTick};
 ghost use Rattle.node_rules.specs.OnDisks.{Ticks, due_on, ticked_on};
 ghost use Rattle.node_core.specs.OnDisks.{ComesTo, FollowsDisk, on_disk, storage};
@@ -149,6 +149,7 @@ impl Node {
             → GivesCall s n Ticks self.new (record { events = events.old; sent = out.old })
             (record { events = events.new; sent = out.new }) result }
         ensures over { (self.old.ended ≡ true) ↔ IsEnded result }
+        ensures stops { self.old.ended ≡ false → IfErr result MayStop }
         ensures ended { self.new.ended ≡ is_err result }
         ensures unchanged_after_end { self.old.ended ≡ true
             → (self.new ≡ self.old) × (disk.new ≡ disk.old) × (events.new ≡ events.old)
@@ -158,6 +159,7 @@ impl Node {
         ensures spends { SpendsIn result self.old.signer self.new.signer (D.state disk.old).moments
             (D.state disk.new).moments events.old events.new }
         ensures closed { OnOk result (self.new.signer.closed ≡ self.old.signer.closed) }
+        ensures kept { KeepsCertificates self.old.roster self.new.roster }
         ensures faults { IfErr result (λ e. e ≡ faults.StoreFault
             → Rose (D.state disk.old).faults (D.state disk.new).faults) }
         ensures no_disk_fault { OnOk result

@@ -13,7 +13,7 @@ use Rattle.node_core.specs.Spending.{LivesOn, SpendsIn, spent_told}
 use Rattle.node_core.proofs.SpendLemmas.{lives-trans}
 use Rattle.node_core.specs.declared.NodeFault.{NodeFault}
 use Rattle.node_core.specs.declared.NodeFault.TheVariants as node
-use Rattle.node_core.specs.Playing.{Kept, IsNode}
+use Rattle.node_core.specs.Playing.{Kept, IsNode, KeepsCertificates}
 use Rattle.std.specs.Option.{option_and_then, option_map}
 use Rattle.ff_ids.specs.declared.summary.RecordKey.TheVariants as keys
 use Rattle.records.specs.declared.CertBody.{CertBody}
@@ -31,7 +31,7 @@ use Rattle.node_loop.specs.declared.fault.ServeFault.TheVariants as faults
 use Rattle.node_loop.specs.Turns.{Act, Calls}
 use Rattle.node_loop.specs.Courses.{ServeState, acted, gives, may_tick, moves, served, tells_all}
 use Rattle.node_loop.specs.Writing.{Answers, Before, Extends, IsAt, IsBeyond, IsWithin, Settles, Standing, Stands, standing}
-use Rattle.node_loop.specs.Serving.{IsStarved, IsStopped, Serves, starves}
+use Rattle.node_loop.specs.Serving.{IsStarved, IsStopped, KeepsHeld, Serves, starves}
 use Rattle.node_loop.proofs.CourseLemmas.{Grows, grows-refl, grows-tells_all, node-gives, served-cons, served-nil, tells_all-append}
 use Rattle.node_loop.proofs.TellLemmas.{at-within, beyond, within-grows}
 use Rattle.node_loop.proofs.ServeLemmas.{breaks-off}
@@ -192,8 +192,8 @@ told-front before w r events all front h =
     (subst (λ x. Grows (tells_all events r) x) (sym (ap (λ es. tells_all es r) front.is ∙ tells_all-append events front.more r)) (grows-tells_all front.more (tells_all events r)))
 
 starved-one : (s : Setting) (before : Before) (w : Standing) (r : ServeState) (input : Input) (there : Node) (spent : List Spent) → w.node.ended ≡ true → IsBeyond before w r
-    → ((m : ℕ) → kept_certificate w.node.roster m ≡ certificate_of there m) → IsWithin before w (tells_all (call_of s r.node input).told (starves there spent r)) → IsStarved s before (Calls input ∷ []) r w
-starved-one s before w r input there spent over far knows within = record {
+    → ((m : ℕ) → kept_certificate w.node.roster m ≡ certificate_of there m) → KeepsHeld r w → IsWithin before w (tells_all (call_of s r.node input).told (starves there spent r)) → IsStarved s before (Calls input ∷ []) r w
+starved-one s before w r input there spent over far knows holds within = record {
   done = [];
   input = input;
   later = [];
@@ -202,6 +202,7 @@ starved-one s before w r input there spent over far knows within = record {
   beyond = subst (λ z. IsBeyond before w z) (sym (served-nil s r)) far;
   there = there;
   knows = knows;
+  holds = subst (λ (z : ServeState). KeepsHeld z w) (sym (served-nil s r)) holds;
   spent = spent;
   within = subst (λ (z : ServeState). IsWithin before w (tells_all (call_of s z.node input).told (starves there spent z))) (sym (served-nil s r)) within;
 }
@@ -225,17 +226,17 @@ starved-so s before w r input (Err faults.OutOfMemory) answers h = inr (h faults
 -- a call for which memory was refused
 pub starved-call : (s : Setting) (before : Before) (v0 v : Kept) (link later : Option LinkState) (taken after : Option (List ℕ)) (older newer : List Moment) (sent sent1 : ℕ) (r : ServeState) (input : Input)
     (events : List journal.Event) (spent : List Spent) (answer : Result (Unit {0}) ServeFault)
-    → Stands s before (standing v0 link taken older sent) r → v.ended ≡ true → LivesOn spent v0.signer v.signer older newer → IsPrefix events (call_of s r.node input).told
+    → Stands s before (standing v0 link taken older sent) r → KeepsCertificates v0.roster v.roster → v.ended ≡ true → LivesOn spent v0.signer v.signer older newer → IsPrefix events (call_of s r.node input).told
     → Answers (Err node.OutOfMemory) answer → Extends taken after link later
     → ((r1 : ServeState) → IsAt before (standing v link taken newer sent) r1 → Settles before (standing v later after newer sent1) (tells_all events r1) answer)
     → Serves s before (Calls input ∷ []) r (standing v later after newer sent1) answer
-starved-call s before v0 v link later taken after older newer sent sent1 r input events spent answer st over lives front answers more settles =
+starved-call s before v0 v link later taken after older newer sent sent1 r input events spent answer st keeps over lives front answers more settles =
     let w : Standing = standing v later after newer sent1 in
     let there : Node = knowing v.roster r.node in
     let r1 : ServeState = starves there spent r in
     let at = came-to s before v0 v link taken older newer sent r there spent st (knows-kept v.roster r.node) lives in
     starved-so s before w r input answer answers (λ e other is.
-    starved-one s before w r input there spent over (beyond before v0 v link later taken after older newer sent sent1 r spent st.at more lives) (knows-kept v.roster r.node)
+    starved-one s before w r input there spent over (beyond before v0 v link later taken after older newer sent sent1 r spent st.at more lives) (knows-kept v.roster r.node) (λ m c held. keeps m c (st.node.roster m ∙ held))
     (told-front before w r1 events (call_of s r.node input).told front (untold before w (tells_all events r1) e other (subst (λ x. Settles before w (tells_all events r1) x) is (settles r1 at)))))
 
 -- ---- the calls
@@ -250,24 +251,24 @@ lent-none P es os no_events no_sent h = subst (λ (xs : List journal.Event). P (
 pub serves-call : (s : Setting) (before : Before) (v0 v : Kept) (link later : Option LinkState) (taken after : Option (List ℕ)) (older newer : List Moment) (sent sent1 : ℕ) (r : ServeState) (input : Input)
     (events : List journal.Event) (out : List (ℕ × List ℕ)) (done : Result (Unit {0}) NodeFault) (answer : Result (Unit {0}) ServeFault)
     → Stands s before (standing v0 link taken older sent) r → acted s r (Calls input) ≡ gives (call_of s r.node input) r → GivesCall s r.node input v (lent [] []) (lent events out) done
-    → v.ended ≡ is_err done → SpendsIn done v0.signer v.signer older newer [] events → Answers done answer → Extends taken after link later
+    → KeepsCertificates v0.roster v.roster → v.ended ≡ is_err done → SpendsIn done v0.signer v.signer older newer [] events → Answers done answer → Extends taken after link later
     → ((r1 : ServeState) → IsAt before (standing v link taken newer sent) r1 → Settles before (standing v later after newer sent1) (tells_all events r1) answer)
     → Serves s before (Calls input ∷ []) r (standing v later after newer sent1) answer
-serves-call s before v0 v link later taken after older newer sent sent1 r input events out (Ok x) answer st acts d over spends answers more settles =
+serves-call s before v0 v link later taken after older newer sent sent1 r input events out (Ok x) answer st acts d keeps over spends answers more settles =
     let c = call_of s r.node input in
     let lives = told-spent events c.told spends.spent v0.signer v.signer older newer d.told (ap spent_told spends.after_is ∙ spends.tells) spends.key in
     whole-call s before (standing v later after newer sent1) r input c x answer acts d.is answers
     (told-so before (standing v later after newer sent1) r c events answer d.told (settles (moves c r) (moved s before v0 v link taken older newer sent r c st d.is lives)))
-serves-call s before v0 v link later taken after older newer sent sent1 r input events out (Err node.StoreFault) answer st acts d over spends answers more settles =
+serves-call s before v0 v link later taken after older newer sent sent1 r input events out (Err node.StoreFault) answer st acts d keeps over spends answers more settles =
     let c = d.call in
     let lives = told-spent events c.told spends.spent v0.signer v.signer older newer d.gives.told (ap spent_told spends.after_is ∙ spends.tells) spends.key in
     cut-call s before (standing v later after newer sent1) r input c answer d.cut d.gives.is answers
     (told-so before (standing v later after newer sent1) r c events answer d.gives.told (settles (moves c r) (moved s before v0 v link taken older newer sent r c st d.gives.is lives)))
-serves-call s before v0 v link later taken after older newer sent sent1 r input events out (Err node.OutOfMemory) answer st acts d over spends answers more settles =
-    starved-call s before v0 v link later taken after older newer sent sent1 r input events spends.spent answer st over spends.key
+serves-call s before v0 v link later taken after older newer sent sent1 r input events out (Err node.OutOfMemory) answer st acts d keeps over spends answers more settles =
+    starved-call s before v0 v link later taken after older newer sent sent1 r input events spends.spent answer st keeps over spends.key
     (subst (λ es. IsPrefix es (call_of s r.node input).told) (sym d.events_added) d.events_front) answers more settles
-serves-call s before v0 v link later taken after older newer sent sent1 r input events out (Err (node.Exhausted next)) answer st acts d over spends answers more settles = absurd d
-serves-call s before v0 v link later taken after older newer sent sent1 r input events out (Err node.Ended) answer st acts d over spends answers more settles = absurd d
+serves-call s before v0 v link later taken after older newer sent sent1 r input events out (Err (node.Exhausted next)) answer st acts d keeps over spends answers more settles = absurd d
+serves-call s before v0 v link later taken after older newer sent sent1 r input events out (Err node.Ended) answer st acts d keeps over spends answers more settles = absurd d
 
 pub tick-acted : (s : Setting) (r : ServeState) → may_tick s r.node ≡ true → acted s r (Calls Ticks) ≡ gives (call_of s r.node Ticks) r
 tick-acted s r may = ap (λ b. cond b (gives (call_of s r.node Ticks) r) r) may

@@ -6,4 +6,5 @@ pub mod ServeLemmas
 pub mod LineLemmas
 pub mod CallLemmas
 pub mod TurnLemmas
+pub mod ClockLemmas
 mod Rows

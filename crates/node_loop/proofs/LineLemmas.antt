@@ -1,6 +1,7 @@
 -- Lines one behind the other, and the signatures that they give.
 use Rattle.std.proofs.Common.{◌≡◌, ℕ, List, [], ◌∷◌, ◌++◌, map, Option, Some, Result, Ok, Err, refl, sym, ap, ◌∙◌, subst, append_assoc, append-nil, take, drop, take-append-drop}
 use Rattle.std.specs.Io.KnownBytes.{Appends}
+use Rattle.ports.specs.Count.{counted}
 use Rattle.std.proofs.KnownBytes.{Appends-nil, Appends-trans}
 use Rattle.std.proofs.lemmas.Bool.{false≢true}
 use Rattle.std.proofs.lemmas.Grind.{flat_map-append}
@@ -14,13 +15,13 @@ use Rattle.signer.specs.Signing.{SignerState}
 use Rattle.node_core.specs.declared.NodeFault.{NodeFault}
 use Rattle.node_core.specs.declared.NodeFault.TheVariants as node
 use Rattle.node_core.specs.Spending.{LivesOn, SpendsIn, spent_by, spent_told}
-use Rattle.node_core.specs.Told.{IsPrefix}
+use Rattle.node_core.specs.Told.{IsPrefix, is_loss}
 use Rattle.node_core.proofs.SpendLemmas.{lives-same, lives-trans, told-append}
 use Rattle.node_loop.specs.declared.fault.ServeFault.{ServeFault}
 use Rattle.node_loop.specs.declared.fault.ServeFault.TheVariants as faults
 use Rattle.node_loop.specs.Courses.{datagram_in, line_of}
-use Rattle.node_loop.specs.Lines.{GoesOn, JournalLine, OfEvent, OfTurn, WritesLines, WritesSpent, WroteFront, bytes_of, line_bytes, spent_in, spent_on}
-use Rattle.node_loop.specs.Writing.{Answers, WritesLine}
+use Rattle.node_loop.specs.Lines.{GoesOn, JournalLine, OfEvent, OfTurn, WritesLines, WritesSpent, WroteFront, bytes_of, faults_behind, is_link_fault, line_bytes, spent_in, spent_on}
+use Rattle.node_loop.specs.Writing.{Answers, WritesLine, has_failed}
 
 abbrev Answer : Type 0
 Answer = Result (Unit {0}) ServeFault
@@ -45,6 +46,21 @@ given s = OfEvent (record { moment = 0; what = told.Spent s.index s.body })
 given-spent : (spent : List Spent) → spent_in (map given spent) ≡ spent
 given-spent [] = refl
 given-spent (s ∷ spent) = ap (λ xs. s ∷ xs) (given-spent spent)
+
+pub faults-append : (xs ys : List JournalLine) (count : ℕ) → faults_behind (xs ++ ys) count ≡ faults_behind ys (faults_behind xs count)
+faults-append [] ys count = refl
+faults-append (x ∷ xs) ys count = faults-append xs ys (counted (is_link_fault x) count)
+
+pub faults-trans : (xs ys : List JournalLine) (a b c : ℕ) → b ≡ faults_behind xs a → c ≡ faults_behind ys b → c ≡ faults_behind (xs ++ ys) a
+faults-trans xs ys a b c p q = q ∙ ap (faults_behind ys) p ∙ sym (faults-append xs ys a)
+
+-- a line that gives a signature says nothing of the link
+given-faults : (spent : List Spent) (count : ℕ) → faults_behind (map given spent) count ≡ count
+given-faults [] count = refl
+given-faults (s ∷ spent) count = given-faults spent count
+
+faults-longer : (xs : List JournalLine) (spent : List Spent) (a b : ℕ) → b ≡ faults_behind xs a → b ≡ faults_behind (xs ++ map given spent) a
+faults-longer xs spent a b is = faults-trans xs (map given spent) a b b is (sym (given-faults spent b))
 
 -- ---- fronts
 
@@ -127,8 +143,8 @@ one-line before after line answer h = by answer h
 
 -- ---- what events report
 
-pub spent-event : (before after : Option (List ℕ)) (e : journal.Event) (answer : Answer) → WritesLine before after (line_of e) answer → WritesSpent (spent_by e.what) before after answer
-spent-event before after e answer wrote = record { lines = OfEvent e ∷ []; give = append-nil (spent_by e.what); written = one-line before after (OfEvent e) answer wrote }
+pub spent-event : (before after : Option (List ℕ)) (count later : ℕ) (e : journal.Event) (answer : Answer) → WritesLine before after (line_of e) answer → later ≡ counted (is_loss e.what) count → WritesSpent (spent_by e.what) before after count later answer
+spent-event before after count later e answer wrote is = record { lines = OfEvent e ∷ []; give = append-nil (spent_by e.what); written = one-line before after (OfEvent e) answer wrote; link = is }
 
 -- an event that reports a datagram gives no signature
 pub sent-none : (what : whats.What) (d : ℕ × List ℕ) → datagram_in what ≡ Some d → spent_by what ≡ []
@@ -149,80 +165,93 @@ sent-none (told.Lost number) d is = refl
 sent-none (told.Got number) d is = refl
 sent-none told.Stopped d is = refl
 
-pub spent-same : (xs ys : List Spent) (before after : Option (List ℕ)) (answer : Answer) → xs ≡ ys → WritesSpent xs before after answer → WritesSpent ys before after answer
-spent-same xs ys before after answer is h = subst (λ (s : List Spent). WritesSpent s before after answer) is h
+pub spent-same : (xs ys : List Spent) (before after : Option (List ℕ)) (count later : ℕ) (answer : Answer) → xs ≡ ys → WritesSpent xs before after count later answer → WritesSpent ys before after count later answer
+spent-same xs ys before after count later answer is h = subst (λ (s : List Spent). WritesSpent s before after count later answer) is h
 
-pub spent-none : (taken : Option (List ℕ)) → WritesSpent [] taken taken (Ok tt)
-spent-none taken = record { lines = []; give = refl; written = Appends-nil taken }
+pub spent-none : (taken : Option (List ℕ)) (count : ℕ) → WritesSpent [] taken taken count count (Ok tt)
+spent-none taken count = record { lines = []; give = refl; written = Appends-nil taken; link = refl }
 
 -- nothing came to be written
-pub spent-unwritten : (spent : List Spent) (taken : Option (List ℕ)) → WritesSpent spent taken taken (Err faults.OutOfMemory)
-spent-unwritten spent taken = record { lines = map given spent; give = given-spent spent; written = front-none taken (bytes_of (map given spent)) }
+pub spent-unwritten : (spent : List Spent) (taken : Option (List ℕ)) (count : ℕ) → WritesSpent spent taken taken count count (Err faults.OutOfMemory)
+spent-unwritten spent taken count = record { lines = map given spent; give = given-spent spent; written = front-none taken (bytes_of (map given spent)); link = sym (given-faults spent count) }
 
-pub spent-trans : (xs ys : List Spent) (before mid after : Option (List ℕ)) (answer : Answer) → WritesSpent xs before mid (Ok tt) → WritesSpent ys mid after answer → WritesSpent (xs ++ ys) before after answer
-spent-trans xs ys before mid after answer p q = record {
+pub spent-trans : (xs ys : List Spent) (before mid after : Option (List ℕ)) (a b c : ℕ) (answer : Answer) → WritesSpent xs before mid a b (Ok tt) → WritesSpent ys mid after b c answer → WritesSpent (xs ++ ys) before after a c answer
+spent-trans xs ys before mid after a b c answer p q = record {
   lines = p.lines ++ q.lines;
   give = spent-append p.lines q.lines ∙ ap (λ s. s ++ spent_in q.lines) p.give ∙ ap (λ s. xs ++ s) q.give;
   written = lines-trans before mid after p.lines q.lines answer p.written q.written;
+  link = faults-trans p.lines q.lines a b c p.link q.link;
 }
 
 -- those that were not come to
-pub spent-longer : (xs ys : List Spent) (before after : Option (List ℕ)) (e : ServeFault) → (e ≡ faults.StoreFault → ⊥) → WritesSpent xs before after (Err e) → WritesSpent (xs ++ ys) before after (Err e)
-spent-longer xs ys before after e other h = record {
+pub spent-longer : (xs ys : List Spent) (before after : Option (List ℕ)) (a b : ℕ) (e : ServeFault) → (e ≡ faults.StoreFault → ⊥) → WritesSpent xs before after a b (Err e) → WritesSpent (xs ++ ys) before after a b (Err e)
+spent-longer xs ys before after a b e other h = record {
   lines = h.lines ++ map given ys;
   give = spent-append h.lines (map given ys) ∙ ap (λ s. s ++ spent_in (map given ys)) h.give ∙ ap (λ s. xs ++ s) (given-spent ys);
   written = lines-longer before after h.lines (map given ys) e other h.written;
+  link = faults-longer h.lines ys a b h.link;
 }
 
 -- one event more
-pub spent-next : (done all : List journal.Event) (e : journal.Event) (before mid after : Option (List ℕ)) → WritesSpent (spent_told done) before mid (Ok tt) → all ≡ done ++ e ∷ [] → WritesSpent (spent_by e.what) mid after (Ok tt) → WritesSpent (spent_told all) before after (Ok tt)
-spent-next done all e before mid after p is q =
-    spent-same (spent_told done ++ spent_by e.what) (spent_told all) before after (Ok tt)
+pub spent-next : (done all : List journal.Event) (e : journal.Event) (before mid after : Option (List ℕ)) (a b c : ℕ) → WritesSpent (spent_told done) before mid a b (Ok tt) → all ≡ done ++ e ∷ [] → WritesSpent (spent_by e.what) mid after b c (Ok tt)
+    → WritesSpent (spent_told all) before after a c (Ok tt)
+spent-next done all e before mid after a b c p is q =
+    spent-same (spent_told done ++ spent_by e.what) (spent_told all) before after a c (Ok tt)
     (ap (λ s. spent_told done ++ s) (sym (append-nil (spent_by e.what))) ∙ sym (told-append done (e ∷ [])) ∙ ap spent_told (sym is))
-    (spent-trans (spent_told done) (spent_by e.what) before mid after (Ok tt) p q)
+    (spent-trans (spent_told done) (spent_by e.what) before mid after a b c (Ok tt) p q)
 
 -- one of them broke off
-pub spent-part : (done all rest : List journal.Event) (e : journal.Event) (before mid after : Option (List ℕ)) (fault : ServeFault) → (fault ≡ faults.StoreFault → ⊥) → all ≡ done ++ e ∷ rest
-    → WritesSpent (spent_told done) before mid (Ok tt) → WritesSpent (spent_by e.what) mid after (Err fault) → WritesSpent (spent_told all) before after (Err fault)
-spent-part done all rest e before mid after fault other is p q =
-    spent-same (spent_told done ++ (spent_by e.what ++ spent_told rest)) (spent_told all) before after (Err fault)
+pub spent-part : (done all rest : List journal.Event) (e : journal.Event) (before mid after : Option (List ℕ)) (a b c : ℕ) (fault : ServeFault) → (fault ≡ faults.StoreFault → ⊥) → all ≡ done ++ e ∷ rest
+    → WritesSpent (spent_told done) before mid a b (Ok tt) → WritesSpent (spent_by e.what) mid after b c (Err fault) → WritesSpent (spent_told all) before after a c (Err fault)
+spent-part done all rest e before mid after a b c fault other is p q =
+    spent-same (spent_told done ++ (spent_by e.what ++ spent_told rest)) (spent_told all) before after a c (Err fault)
     (sym (told-append done (e ∷ rest)) ∙ ap spent_told (sym is))
-    (spent-trans (spent_told done) (spent_by e.what ++ spent_told rest) before mid after (Err fault) p (spent-longer (spent_by e.what) (spent_told rest) mid after fault other q))
+    (spent-trans (spent_told done) (spent_by e.what ++ spent_told rest) before mid after a b c (Err fault) p (spent-longer (spent_by e.what) (spent_told rest) mid after b c fault other q))
 
 -- whatever is answered behind it
-pub spent-behind : (spent : List Spent) (before after : Option (List ℕ)) (answer : Answer) → WritesSpent spent before after (Ok tt) → WritesSpent spent before after answer
-spent-behind spent before after answer h = record { lines = h.lines; give = h.give; written = all-lines before after h.lines answer h.written }
+pub spent-behind : (spent : List Spent) (before after : Option (List ℕ)) (count later : ℕ) (answer : Answer) → WritesSpent spent before after count later (Ok tt) → WritesSpent spent before after count later answer
+spent-behind spent before after count later answer h = record { lines = h.lines; give = h.give; written = all-lines before after h.lines answer h.written; link = h.link }
 
--- ---- the key
+-- ---- the key and the link
 
-pub goes-same : (s : SignerState) (moments : List Moment) (taken : Option (List ℕ)) (answer : Answer) → GoesOn s s moments moments taken taken answer
-goes-same s moments taken answer = record { lines = []; written = all-lines taken taken [] answer (Appends-nil taken); key = lives-same s s moments refl }
+pub goes-same : (s : SignerState) (moments : List Moment) (taken : Option (List ℕ)) (count later : ℕ) (answer : Answer) → later ≡ count → GoesOn s s moments moments taken taken count later answer
+goes-same s moments taken count later answer same = record { lines = []; written = all-lines taken taken [] answer (Appends-nil taken); key = lives-same s s moments refl; link = same }
 
 -- a line of a turn gives no signature
-pub goes-turn : (s : SignerState) (moments : List Moment) (before after : Option (List ℕ)) (turn : Turn) (answer : Answer) → WritesLine before after (line_bytes (OfTurn turn)) answer → GoesOn s s moments moments before after answer
-goes-turn s moments before after turn answer wrote = record { lines = OfTurn turn ∷ []; written = one-line before after (OfTurn turn) answer wrote; key = lives-same s s moments refl }
+pub goes-turn : (s : SignerState) (moments : List Moment) (before after : Option (List ℕ)) (count later : ℕ) (turn : Turn) (answer : Answer) → WritesLine before after (line_bytes (OfTurn turn)) answer → later ≡ counted (has_failed (Ok turn.heard)) count
+    → GoesOn s s moments moments before after count later answer
+goes-turn s moments before after count later turn answer wrote is = record { lines = OfTurn turn ∷ []; written = one-line before after (OfTurn turn) answer wrote; key = lives-same s s moments refl; link = is }
 
-pub goes-trans : (a b c : SignerState) (x y z : List Moment) (before mid after : Option (List ℕ)) (answer : Answer) → GoesOn a b x y before mid (Ok tt) → GoesOn b c y z mid after answer → GoesOn a c x z before after answer
-goes-trans a b c x y z before mid after answer p q = record {
+pub goes-trans : (a b c : SignerState) (x y z : List Moment) (before mid after : Option (List ℕ)) (i j k : ℕ) (answer : Answer) → GoesOn a b x y before mid i j (Ok tt) → GoesOn b c y z mid after j k answer → GoesOn a c x z before after i k answer
+goes-trans a b c x y z before mid after i j k answer p q = record {
   lines = p.lines ++ q.lines;
   written = lines-trans before mid after p.lines q.lines answer p.written q.written;
   key = subst (λ (s : List Spent). LivesOn s a c x z) (sym (spent-append p.lines q.lines)) (lives-trans (spent_in p.lines) (spent_in q.lines) a b c x y z p.key q.key);
+  link = faults-trans p.lines q.lines i j k p.link q.link;
 }
 
-pub goes-as : (a b : SignerState) (x y : List Moment) (before after : Option (List ℕ)) (r answer : Answer) → r ≡ answer → GoesOn a b x y before after answer → GoesOn a b x y before after r
-goes-as a b x y before after r answer is h = subst (λ t. GoesOn a b x y before after t) (sym is) h
+pub goes-as : (a b : SignerState) (x y : List Moment) (before after : Option (List ℕ)) (i j : ℕ) (r answer : Answer) → r ≡ answer → GoesOn a b x y before after i j answer → GoesOn a b x y before after i j r
+goes-as a b x y before after i j r answer is h = subst (λ t. GoesOn a b x y before after i j t) (sym is) h
 
-goes-told : (s later : SignerState) (older newer : List Moment) (spent : List Spent) (before after : Option (List ℕ)) (answer : Answer) → LivesOn spent s later older newer → WritesSpent spent before after answer → GoesOn s later older newer before after answer
-goes-told s later older newer spent before after answer key h =
-    record { lines = h.lines; written = h.written; key = subst (λ (xs : List Spent). LivesOn xs s later older newer) (sym h.give) key }
+-- from where the count was before
+pub goes-from : (a b : SignerState) (x y : List Moment) (before after : Option (List ℕ)) (i i0 j : ℕ) (answer : Answer) → i ≡ i0 → GoesOn a b x y before after i j answer → GoesOn a b x y before after i0 j answer
+goes-from a b x y before after i i0 j answer is h = subst (λ (k : ℕ). GoesOn a b x y before after k j answer) is h
+
+-- to where it is behind it
+pub goes-to : (a b : SignerState) (x y : List Moment) (before after : Option (List ℕ)) (i j j1 : ℕ) (answer : Answer) → j1 ≡ j → GoesOn a b x y before after i j answer → GoesOn a b x y before after i j1 answer
+goes-to a b x y before after i j j1 answer is h = subst (λ (k : ℕ). GoesOn a b x y before after i k answer) (sym is) h
+
+goes-told : (s later : SignerState) (older newer : List Moment) (spent : List Spent) (before after : Option (List ℕ)) (i j : ℕ) (answer : Answer) → LivesOn spent s later older newer → WritesSpent spent before after i j answer → GoesOn s later older newer before after i j answer
+goes-told s later older newer spent before after i j answer key h =
+    record { lines = h.lines; written = h.written; key = subst (λ (xs : List Spent). LivesOn xs s later older newer) (sym h.give) key; link = h.link }
 
 -- memory was refused in the call: what was reported is a front of what was spent
-starved-told : (s later : SignerState) (older newer : List Moment) (spent said : List Spent) (before after : Option (List ℕ)) (answer : Answer) → LivesOn spent s later older newer → IsPrefix said spent
-    → Answers (Err node.OutOfMemory) answer → WritesSpent said before after answer → GoesOn s later older newer before after answer
-starved-told s later older newer spent said before after answer key front answers h = by answer answers h
+starved-told : (s later : SignerState) (older newer : List Moment) (spent said : List Spent) (before after : Option (List ℕ)) (i j : ℕ) (answer : Answer) → LivesOn spent s later older newer → IsPrefix said spent
+    → Answers (Err node.OutOfMemory) answer → WritesSpent said before after i j answer → GoesOn s later older newer before after i j answer
+starved-told s later older newer spent said before after i j answer key front answers h = by answer answers h
   where
-    further : (e : ServeFault) → (e ≡ faults.StoreFault → ⊥) → WritesSpent said before after (Err e) → GoesOn s later older newer before after (Err e)
-    further e other w = goes-told s later older newer spent before after (Err e) key (spent-same (said ++ front.more) spent before after (Err e) (sym front.is) (spent-longer said front.more before after e other w))
+    further : (e : ServeFault) → (e ≡ faults.StoreFault → ⊥) → WritesSpent said before after i j (Err e) → GoesOn s later older newer before after i j (Err e)
+    further e other w = goes-told s later older newer spent before after i j (Err e) key (spent-same (said ++ front.more) spent before after i j (Err e) (sym front.is) (spent-longer said front.more before after i j e other w))
 
     refused-other : ◌≡◌ {A = Result (Unit {0}) NodeFault} (Err node.OutOfMemory) (Err node.StoreFault) → ⊥
     refused-other is = cc
@@ -233,25 +262,25 @@ starved-told s later older newer spent said before after answer key front answer
     memory-other : faults.OutOfMemory ≡ faults.StoreFault → ⊥
     memory-other is = cc
 
-    by : (answer : Answer) → Answers (Err node.OutOfMemory) answer → WritesSpent said before after answer → GoesOn s later older newer before after answer
+    by : (answer : Answer) → Answers (Err node.OutOfMemory) answer → WritesSpent said before after i j answer → GoesOn s later older newer before after i j answer
     by (Ok y) gave w = absurd (false≢true gave)
     by (Err faults.StoreFault) gave w = absurd (refused-other gave)
     by (Err faults.WriteFault) gave w = further faults.WriteFault write-other w
     by (Err faults.OutOfMemory) gave w = further faults.OutOfMemory memory-other w
 
 -- What a call spent is what its events report, and those were written.
-pub goes-by : (done : Result (Unit {0}) NodeFault) (s later : SignerState) (older newer : List Moment) (events : List journal.Event) (before after : Option (List ℕ)) (answer : Answer) → SpendsIn done s later older newer [] events
-    → Answers done answer → WritesSpent (spent_told events) before after answer → GoesOn s later older newer before after answer
-goes-by done s later older newer events before after answer h answers w = by done h answers
+pub goes-by : (done : Result (Unit {0}) NodeFault) (s later : SignerState) (older newer : List Moment) (events : List journal.Event) (before after : Option (List ℕ)) (i j : ℕ) (answer : Answer) → SpendsIn done s later older newer [] events
+    → Answers done answer → WritesSpent (spent_told events) before after i j answer → GoesOn s later older newer before after i j answer
+goes-by done s later older newer events before after i j answer h answers w = by done h answers
   where
-    whole : (spent : List Spent) → LivesOn spent s later older newer → spent_told events ≡ spent → GoesOn s later older newer before after answer
-    whole spent key is = goes-told s later older newer spent before after answer key (spent-same (spent_told events) spent before after answer is w)
+    whole : (spent : List Spent) → LivesOn spent s later older newer → spent_told events ≡ spent → GoesOn s later older newer before after i j answer
+    whole spent key is = goes-told s later older newer spent before after i j answer key (spent-same (spent_told events) spent before after i j answer is w)
 
-    by : (done : Result (Unit {0}) NodeFault) → SpendsIn done s later older newer [] events → Answers done answer → GoesOn s later older newer before after answer
+    by : (done : Result (Unit {0}) NodeFault) → SpendsIn done s later older newer [] events → Answers done answer → GoesOn s later older newer before after i j answer
     by (Ok x) d a = whole d.spent d.key (ap spent_told d.after_is ∙ d.tells)
     by (Err node.StoreFault) d a = whole d.spent d.key (ap spent_told d.after_is ∙ d.tells)
     by (Err node.OutOfMemory) d a =
-        starved-told s later older newer d.spent (spent_told events) before after answer d.key
+        starved-told s later older newer d.spent (spent_told events) before after i j answer d.key
         (subst (λ es. IsPrefix (spent_told es) d.spent) (sym d.after_is) (record { more = d.tells.last; is = d.tells.is })) a w
     by (Err (node.Exhausted next)) d a = whole d.spent d.key (ap spent_told d.after_is ∙ d.tells)
     by (Err node.Ended) d a = whole d.spent d.key (ap spent_told d.after_is ∙ d.tells)

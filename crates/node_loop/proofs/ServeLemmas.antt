@@ -8,7 +8,7 @@ use Rattle.node_loop.specs.declared.fault.ServeFault.TheVariants as faults
 use Rattle.node_loop.specs.Turns.{Act, Calls}
 use Rattle.node_loop.specs.Courses.{ServeState, gives, served, tells_all}
 use Rattle.node_loop.specs.Writing.{Before, IsBeyond, IsWithin, Standing, Stands}
-use Rattle.node_loop.specs.Serving.{IsStopped, IsWhole, BreaksOff, IsStarved, Serves, starves}
+use Rattle.node_loop.specs.Serving.{IsStopped, IsWhole, BreaksOff, IsStarved, KeepsHeld, Serves, starves}
 use Rattle.node_loop.proofs.CourseLemmas.{Grows, grows-refl, grows-served, served-append}
 use Rattle.node_loop.proofs.TellLemmas.{within-grows}
 
@@ -65,6 +65,7 @@ starved-within s before first acts last start w h = record {
   beyond = subst (λ r. IsBeyond before w r) (sym (served-append s first h.done start)) h.beyond;
   there = h.there;
   knows = h.knows;
+  holds = subst (λ (r : ServeState). KeepsHeld r w) (sym (served-append s first h.done start)) h.holds;
   spent = h.spent;
   within = subst (λ (r : ServeState). IsWithin before w (tells_all (call_of s r.node h.input).told (starves h.there h.spent r))) (sym (served-append s first h.done start)) h.within;
 }

@@ -1,5 +1,6 @@
 -- How a life is served, by the answer.
 use Rattle.std.specs.Prelude.{◌≡◌, ℕ, ◌⊎◌, true, List, ◌∷◌, ◌++◌, Option, Some, Result, Ok, Err}
+use Rattle.records.specs.declared.CertBody.{CertBody}
 use Rattle.signer.specs.Lives.{Spent}
 use Rattle.validate.specs.Certified.{certificate_of as kept_certificate}
 use Rattle.node_rules.specs.Nodes.{Setting, Node, certificate_of}
@@ -42,8 +43,13 @@ pub record BreaksOff (s : Setting) (before : Before) (acts : List Act) (start : 
   pub is : IsWhole s acts start whole
   pub within : IsWithin before w whole
 
+-- Each certificate that the course's node held is kept.
+abbrev pub KeepsHeld : ServeState → Standing → Type 0
+KeepsHeld r w = (m : ℕ) (c : CertBody) → certificate_of r.node m ≡ Some c → kept_certificate w.node.roster m ≡ Some c
+
 -- Memory was refused in a call of the node, which is over. What came before the call stands in front, and of what the
--- whole call would report a front was reported, with the ports in the certificates that the node keeps.
+-- whole call would report a front was reported, with the ports in the certificates that the node keeps: those that it held
+-- before are among them.
 pub record IsStarved (s : Setting) (before : Before) (acts : List Act) (start : ServeState) (w : Standing) : Type 0 where
   pub done : List Act
   pub input : Input
@@ -53,6 +59,7 @@ pub record IsStarved (s : Setting) (before : Before) (acts : List Act) (start : 
   pub beyond : IsBeyond before w (served s done start)
   pub there : Node
   pub knows : (m : ℕ) → kept_certificate w.node.roster m ≡ certificate_of there m
+  pub holds : KeepsHeld (served s done start) w
   pub spent : List Spent
   pub within : IsWithin before w (tells_all (call_of s (served s done start).node input).told (starves there spent (served s done start)))
 

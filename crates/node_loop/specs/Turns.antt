@@ -1,10 +1,11 @@
 -- The turns of a life: in each one receive and one reading of the clock, the turn's line, and the calls of the node that
 -- these bring. What they are depends on the answers of the link and the readings of the clock alone.
-use Rattle.std.specs.Prelude.{ℕ, zero, suc, ◌+◌, ◌-◌, ◌/◌, ◌≤◌, ◌<◌, min, List, [], ◌∷◌, ◌++◌, replicate, take, drop}
+use Rattle.std.specs.Prelude.{◌≡◌, ℕ, zero, suc, ◌+◌, ◌-◌, ◌/◌, ◌≤◌, ◌<◌, min, Bool, true, false, List, [], ◌∷◌, ◌++◌, filter, length, replicate, take, drop}
 use Rattle.ports.specs.declared.link.LinkAnswer.{LinkAnswer}
 use Rattle.ports.specs.declared.link.LinkAnswer.TheVariants as answers
 use Rattle.ports.specs.Link.{next_of}
 use Rattle.ports.specs.Clock.{next_reading}
+use Rattle.ports.specs.MemoryClock.{NeverFalls}
 use Rattle.journal.specs.declared.turn.Heard.{Heard}
 use Rattle.journal.specs.declared.turn.Heard.TheVariants as heard
 use Rattle.journal.specs.declared.turn.Turn.{Turn}
@@ -95,3 +96,29 @@ unfoldable pub life_acts : ℕ → ℕ → List LinkAnswer → ℕ → List ℕ 
 life_acts millis turns heard reading readings =
     let base = next_reading reading readings in
     turns_from millis base turns 1 (record { heard = heard; reading = base; readings = drop 1 readings; made = 0 })
+
+-- ---- how many ticks a life makes
+
+abbrev pub is_tick : Act → Bool
+is_tick (Calls Ticks) = true
+is_tick other = false
+
+abbrev pub ticks_among : List Act → ℕ
+ticks_among acts = length (filter is_tick acts)
+
+-- the reading of the last of so many turns, or the last one before them
+abbrev pub reading_behind : ℕ → ℕ → List ℕ → ℕ
+reading_behind zero last readings = last
+reading_behind (suc turns) last readings = reading_behind turns (next_reading last readings) (drop 1 readings)
+
+-- One for each so many milliseconds from the base to the reading of the last of so many turns.
+abbrev pub ticks_due : ℕ → ℕ → ℕ → List ℕ → ℕ
+ticks_due millis turns last readings = (reading_behind (suc turns) last readings - next_reading last readings) / millis
+
+-- Where the clock never falls, a life of so many turns makes no more ticks than its readings give, and just as many where
+-- the last of its turns made fewer than the most.
+abbrev pub LivesFollowTheClock : Type 0
+LivesFollowTheClock = (millis turns : ℕ) (heard : List LinkAnswer) (last : ℕ) (readings : List ℕ) → 1 ≤ millis → NeverFalls last readings
+    → (ticks_among (life_acts millis turns heard last readings) ≤ ticks_due millis turns last readings)
+    × (ticks_among (life_acts millis (suc turns) heard last readings) < ticks_among (life_acts millis turns heard last readings) + most_ticks
+    → ticks_among (life_acts millis (suc turns) heard last readings) ≡ ticks_due millis (suc turns) last readings)

@@ -3,6 +3,7 @@
 ghost use Rattle.std.specs.Prelude.{◌≡◌, false, true, List, [], ◌∷◌, OnOk, IfErr};
 ghost use Rattle.ports.specs.Count.{counted, Rose};
 ghost use Rattle.ports.specs.Disk.{Moment};
+ghost use Rattle.node_core.specs.Answers.{MayStop};
 ghost use Rattle.node_core.specs.Spending.{spent_told};
 ghost use Rattle.node_rules.specs.Nodes.{Setting};
 ghost use Rattle.node_rules.specs.Lives as lives;
@@ -12,6 +13,7 @@ ghost use Rattle.node_loop.specs.Lines.{GoesOn, WritesSpent};
 ghost use Rattle.node_loop.specs.Writing.{Answers, Before, Extends, IsAt, Settles, Stands, is_open_after, is_write_fault, standing};
 ghost use Rattle.node_loop.specs.Serving.{Serves};
 
+use crate::expecting::expect_newly_certified;
 use crate::fault::{ServeFault, fault_of};
 use crate::telling::tell_all;
 use node_core::{Events, Node, NodeFault, Outbox};
@@ -29,6 +31,7 @@ fn settle<L: Link, O: Sink>(
     done: Result<(), NodeFault>,
 ) -> Result<(), ServeFault>
     requires open { (O.state out.old).is_open ≡ true }
+    requires cause { IfErr done MayStop }
     ensures going { (O.state out.new).is_open ≡ is_open_after result }
     ensures faults { (O.state out.new).faults
         ≡ counted (is_write_fault result) (O.state out.old).faults }
@@ -41,16 +44,16 @@ fn settle<L: Link, O: Sink>(
     ensures extends { Extends (O.state out.old).taken (O.state out.new).taken
         (L.state link.old).contents (L.state link.new).contents }
     ensures spent { WritesSpent (spent_told events.now) (O.state out.old).taken
-        (O.state out.new).taken result }
+        (O.state out.new).taken (L.state link.old).faults (L.state link.new).faults result }
 {
-    tell_all(alloc, node, link, out, sent, events.as_slice())?;
+    tell_all(alloc, node, link, out, sent, events.without_loss())?;
     match done {
         Ok(()) => Ok(()),
         Err(fault) => Err(fault_of(fault)),
     }
 }
 
-/// Delivers the bytes.
+/// Delivers the bytes. The link is told of each member that they certify.
 pub fn deliver<D: Disk, L: Link, O: Sink>(
     alloc: Global,
     node: &mut Node,
@@ -72,7 +75,8 @@ pub fn deliver<D: Disk, L: Link, O: Sink>(
     ensures closed { OnOk result (node.new.signer.closed ≡ node.old.signer.closed) }
     ensures spends { GoesOn node.old.signer node.new.signer
         (D.state disk.old).moments (D.state disk.new).moments
-        (O.state out.old).taken (O.state out.new).taken result }
+        (O.state out.old).taken (O.state out.new).taken
+        (L.state link.old).faults (L.state link.new).faults result }
     ensures serves { (s : Setting) (before : Before) (r : ServeState)
         → Stands s before (standing node.old (L.state link.old).contents (O.state out.old).taken
         (D.state disk.old).moments sent.old) r
@@ -83,7 +87,9 @@ pub fn deliver<D: Disk, L: Link, O: Sink>(
     let mut outbox = Outbox::new(alloc);
     let mut events = Events::new(alloc);
     let done = node.deliver(alloc, disk, bytes, &mut outbox, &mut events);
-    settle(alloc, node, link, out, sent, &events, done)
+    let settled = settle(alloc, node, link, out, sent, &events, done);
+    expect_newly_certified(link, events.as_slice());
+    settled
 }
 
 /// Makes a tick. A life that counted 2^64 - 1 ticks makes no more.
@@ -107,7 +113,8 @@ fn tick<D: Disk, L: Link, O: Sink>(
     ensures closed { OnOk result (node.new.signer.closed ≡ node.old.signer.closed) }
     ensures spends { GoesOn node.old.signer node.new.signer
         (D.state disk.old).moments (D.state disk.new).moments
-        (O.state out.old).taken (O.state out.new).taken result }
+        (O.state out.old).taken (O.state out.new).taken
+        (L.state link.old).faults (L.state link.new).faults result }
     ensures serves { (s : Setting) (before : Before) (r : ServeState)
         → Stands s before (standing node.old (L.state link.old).contents (O.state out.old).taken
         (D.state disk.old).moments sent.old) r
@@ -146,7 +153,8 @@ pub fn tick_times<D: Disk, L: Link, O: Sink>(
     ensures closed { OnOk result (node.new.signer.closed ≡ node.old.signer.closed) }
     ensures spends { GoesOn node.old.signer node.new.signer
         (D.state disk.old).moments (D.state disk.new).moments
-        (O.state out.old).taken (O.state out.new).taken result }
+        (O.state out.old).taken (O.state out.new).taken
+        (L.state link.old).faults (L.state link.new).faults result }
     ensures serves { (s : Setting) (before : Before) (r : ServeState)
         → Stands s before (standing node.old (L.state link.old).contents (O.state out.old).taken
         (D.state disk.old).moments sent.old) r

@@ -1,6 +1,7 @@
 //! Why a node is served no longer.
 
 ghost use Rattle.std.specs.Prelude.{◌≡◌, ◌≢◌};
+ghost use Rattle.node_core.specs.Answers.{MayStop};
 ghost use Rattle.node_core.specs.declared.NodeFault.TheVariants as node;
 
 use fields::NoMemory;
@@ -22,14 +23,14 @@ pub enum ServeFault {
 
 /// A running node ends by its store or by want of memory: `Exhausted` comes as it starts, and `Ended` behind its end.
 pub fn fault_of(fault: NodeFault) -> ServeFault
+    requires { MayStop fault }
     ensures store { result ≡ ServeFault.StoreFault → fault ≡ node.StoreFault }
     ensures writes { result ≢ ServeFault.WriteFault }
     ensures other { fault ≡ node.StoreFault → result ≡ ServeFault.StoreFault }
 {
     match fault {
         NodeFault::StoreFault => ServeFault::StoreFault,
-        NodeFault::OutOfMemory | NodeFault::Exhausted { .. } | NodeFault::Ended => {
-            ServeFault::OutOfMemory
-        }
+        NodeFault::OutOfMemory => ServeFault::OutOfMemory,
+        NodeFault::Exhausted { .. } | NodeFault::Ended => unreachable!(),
     }
 }

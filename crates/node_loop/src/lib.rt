@@ -2,9 +2,10 @@
 //! writes the node's events as the journal of the life, and sends its datagrams. `node_command` calls it.
 #![tactic(auto)]
 
-ghost use Rattle.node_loop.specs.Turns.{TicksFollowTheClock};
+ghost use Rattle.node_loop.specs.Turns.{LivesFollowTheClock, TicksFollowTheClock};
 
 mod calls;
+mod expecting;
 mod fault;
 mod serving;
 mod telling;
@@ -19,4 +20,10 @@ pub use telling::tell_all;
 /// 64; and no more than those, if there were no more before the turn.
 pub fn ticks_follow_the_clock()
     ensures { TicksFollowTheClock }
+{}
+
+/// In so many turns a life makes no more ticks than its clock gives: one for each `millis` milliseconds from the base to the
+/// last reading. It makes just as many, unless its last turn made 64.
+pub fn lives_follow_the_clock()
+    ensures { LivesFollowTheClock }
 {}

@@ -11,6 +11,7 @@ ghost use Rattle.node_loop.specs.Lines.{GoesOn};
 ghost use Rattle.node_loop.specs.Writing.{before_all, is_open_after, is_write_fault, standing};
 ghost use Rattle.node_loop.specs.Serving.{Serves};
 
+use crate::expecting::expect_certified;
 use crate::fault::ServeFault;
 use crate::turns::{Progress, turn};
 use node_core::Node;
@@ -26,7 +27,8 @@ const ROOM: usize = 32_769;
 ///
 /// What the node reports is written, line by line. A datagram has the number of those sent before it in this call: it is
 /// given to the link once its line is written, for the port in its addressee's certificate. A send that fails is followed
-/// by the line `lost`, and a receive that fails is the turn's word `failed`: neither ends the loop.
+/// by the line `lost`, and a receive that fails is the turn's word `failed`: neither ends the loop. The link is told from
+/// which port each certified member sends, those whose certificates are accepted in a turn among them.
 ///
 /// Where the disk fails in a call of the node, what that reported until then is still written and sent, and the answer is
 /// `StoreFault`. `WriteFault` comes where a write failed. The node is over behind a `StoreFault`, and where memory was
@@ -54,7 +56,8 @@ pub fn serve<D: Disk, L: Link, C: Clock, O: Sink>(
     ensures closed { OnOk result (node.new.signer.closed ≡ node.old.signer.closed) }
     ensures spends { GoesOn node.old.signer node.new.signer
         (D.state disk.old).moments (D.state disk.new).moments
-        (O.state out.old).taken (O.state out.new).taken result }
+        (O.state out.old).taken (O.state out.new).taken
+        (L.state link.old).faults (L.state link.new).faults result }
     ensures serves { (s : Setting) (n : RulesNode) (link_told : LinkState) (readings : List ℕ)
         → IsNode s node.old n → (L.state link.old).contents ≡ Some link_told
         → (C.state clock.old).coming ≡ Some readings
@@ -74,6 +77,7 @@ pub fn serve<D: Disk, L: Link, C: Clock, O: Sink>(
         made: 0,
         sent: 0,
     };
+    expect_certified(node, link);
     for done in 0..turns {
         turn(
             alloc,

@@ -1,10 +1,11 @@
 //! What a call reported is written, line by line, and each of its datagrams is sent behind its line.
 
-ghost use Rattle.std.specs.Prelude.{◌≡◌, ◌≢◌, true, List, [], Some, None, MatchOption, IfErr, unwrap_or};
+ghost use Rattle.std.specs.Prelude.{◌≡◌, ◌≢◌, true, All, List, [], Some, None, MatchOption, IfErr, unwrap_or};
 ghost use Rattle.std.specs.Option.{option_map};
 ghost use Rattle.ports.specs.Count.{counted};
 ghost use Rattle.ports.specs.Disk.{Moment};
 ghost use Rattle.node_core.specs.Spending.{spent_by, spent_told};
+ghost use Rattle.node_core.specs.Told.{IsNoLoss};
 ghost use Rattle.validate.specs.Certified.{certificate_of as kept_certificate};
 ghost use Rattle.journal.specs.declared.event.What.TheVariants as kinds;
 ghost use Rattle.node_loop.specs.Courses.{ServeState, datagram_in, line_of, sends_one, tells, tells_all};
@@ -110,7 +111,7 @@ fn send_one<L: Link, O: Sink>(
     ensures extends { Extends (O.state out.old).taken (O.state out.new).taken
         (L.state link.old).contents (L.state link.new).contents }
     ensures spent { WritesSpent [] (O.state out.old).taken
-        (O.state out.new).taken result }
+        (O.state out.new).taken (L.state link.old).faults (L.state link.new).faults result }
 {
     let number = *sent;
     write_sent(alloc, out, moment, number, to, bytes)?;
@@ -137,6 +138,7 @@ fn tell<L: Link, O: Sink>(
     event: &Event,
 ) -> Result<(), ServeFault>
     requires open { (O.state out.old).is_open ≡ true }
+    requires no_loss { IsNoLoss event.now }
     ensures going { (O.state out.new).is_open ≡ is_open_after result }
     ensures faults { (O.state out.new).faults
         ≡ counted (is_write_fault result) (O.state out.old).faults }
@@ -149,7 +151,7 @@ fn tell<L: Link, O: Sink>(
     ensures extends { Extends (O.state out.old).taken (O.state out.new).taken
         (L.state link.old).contents (L.state link.new).contents }
     ensures spent { WritesSpent (spent_by event.now.what) (O.state out.old).taken
-        (O.state out.new).taken result }
+        (O.state out.new).taken (L.state link.old).faults (L.state link.new).faults result }
 {
     match datagram_in(&event.what) {
         Some(datagram) => send_one(
@@ -166,7 +168,8 @@ fn tell<L: Link, O: Sink>(
     }
 }
 
-/// Writes what happened, event after event, and sends each datagram behind its line.
+/// Writes what happened, event after event, and sends each datagram behind its line. Where a send fails it writes that the
+/// datagram is lost: none of the events says so.
 pub fn tell_all<L: Link, O: Sink>(
     alloc: Global,
     node: &Node,
@@ -176,6 +179,7 @@ pub fn tell_all<L: Link, O: Sink>(
     events: &[Event],
 ) -> Result<(), ServeFault>
     requires open { (O.state out.old).is_open ≡ true }
+    requires no_loss { All IsNoLoss events.now }
     ensures going { (O.state out.new).is_open ≡ is_open_after result }
     ensures faults { (O.state out.new).faults
         ≡ counted (is_write_fault result) (O.state out.old).faults }
@@ -188,7 +192,7 @@ pub fn tell_all<L: Link, O: Sink>(
     ensures extends { Extends (O.state out.old).taken (O.state out.new).taken
         (L.state link.old).contents (L.state link.new).contents }
     ensures spent { WritesSpent (spent_told events.now) (O.state out.old).taken
-        (O.state out.new).taken result }
+        (O.state out.new).taken (L.state link.old).faults (L.state link.new).faults result }
 {
     for event in events {
         tell(alloc, node, link, out, sent, event)?;

@@ -105,7 +105,8 @@ fn deliver_heard<D: Disk, L: Link, O: Sink>(
     ensures closed { OnOk result (node.new.signer.closed ≡ node.old.signer.closed) }
     ensures spends { GoesOn node.old.signer node.new.signer
         (D.state disk.old).moments (D.state disk.new).moments
-        (O.state out.old).taken (O.state out.new).taken result }
+        (O.state out.old).taken (O.state out.new).taken
+        (L.state link.old).faults (L.state link.new).faults result }
     ensures serves { (s : Setting) (before : Before) (r : ServeState)
         → Stands s before (standing node.old (L.state link.old).contents (O.state out.old).taken
         (D.state disk.old).moments sent.old) r
@@ -148,7 +149,8 @@ pub fn turn<D: Disk, L: Link, C: Clock, O: Sink>(
     ensures closed { OnOk result (node.new.signer.closed ≡ node.old.signer.closed) }
     ensures spends { GoesOn node.old.signer node.new.signer
         (D.state disk.old).moments (D.state disk.new).moments
-        (O.state out.old).taken (O.state out.new).taken result }
+        (O.state out.old).taken (O.state out.new).taken
+        (L.state link.old).faults (L.state link.new).faults result }
     ensures serves { (s : Setting) (before : Before) (r : ServeState) (o : Outlook)
         → Stands s before (standing node.old (L.state link.old).contents (O.state out.old).taken
         (D.state disk.old).moments progress.old.sent) r

@@ -32,4 +32,4 @@ mod Sendable
 mod Addressing
 pub mod ExchangeRows
 mod WideRows
-mod SentRecords
+pub mod SentRecords

@@ -7,9 +7,9 @@ use Rattle.text_trace.specs.Lines.{has_line_feed, IsFed}
 use Rattle.text_trace.specs.Trace.{Continuation, Trace, Steps, Waits, Writes, Ends, Refuses, Admits}
 use Rattle.text_trace.proofs.TraceLemmas.{steps-none, steps-weaker}
 use Rattle.text_trace.proofs.WholeLemmas.{whole-none, whole-one, feed_apart}
-use Rattle.play.specs.declared.reader.Ending.{Ending}
-use Rattle.play.specs.declared.reader.Ending.TheVariants as ending
-use Rattle.play.specs.Reading.{EndsBy, Reads, ReadsPart}
+use Rattle.ports.specs.declared.Ending.{Ending}
+use Rattle.ports.specs.declared.Ending.TheVariants as ending
+use Rattle.ports.specs.LineReading.{EndsBy, ReadsWhole, ReadsPart}
 use Rattle.play.specs.Plays.{ConsumedLines, Finished, IoState, IsLast, Lines, Refused, Starved, Unfailed, Unread, Unwritten, Advanced}
 
 no-bytes : (line : List ℕ) → length line ≡ 0 → line ≡ []
@@ -43,7 +43,7 @@ is-fed ending.Limit line left e fed = absurd (feed_apart line e.clear fed)
 is-fed ending.Input line left e fed = absurd (feed_apart line e.clear fed)
 
 -- a line was taken, and its trace was written
-pub went-one : (C : Type 0) (A B : Continuation C → Type 0) (first room later : ℕ) (was now : IoState) (line text : List ℕ) (by : Ending) → Reads was.left now.left line by → has_line_feed line ≡ true → Steps C A B (line ∷ []) text → Appends was.taken now.taken text → later < room → Unfailed was now → Advanced C A B first (first + 1) room later was now
+pub went-one : (C : Type 0) (A B : Continuation C → Type 0) (first room later : ℕ) (was now : IoState) (line text : List ℕ) (by : Ending) → ReadsWhole was.left now.left line by → has_line_feed line ≡ true → Steps C A B (line ∷ []) text → Appends was.taken now.taken text → later < room → Unfailed was now → Advanced C A B first (first + 1) room later was now
 went-one C A B first room later was now line text by read fed steps wrote less unfailed = record {
   lines = line ∷ [];
   bytes = line;
@@ -58,7 +58,7 @@ went-one C A B first room later was now line text by read fed steps wrote less u
 }
 
 -- no line was left, and what comes at the end was written
-pub finished-here : (C : Type 0) (A : Continuation C → Type 0) (room : ℕ) (was now : IoState) (line text : List ℕ) (by : Ending) → Reads was.left now.left line by → length line ≡ 0 → Ends C A [] text → Appends was.taken now.taken text → Unfailed was now → Finished C A room was now
+pub finished-here : (C : Type 0) (A : Continuation C → Type 0) (room : ℕ) (was now : IoState) (line text : List ℕ) (by : Ending) → ReadsWhole was.left now.left line by → length line ≡ 0 → Ends C A [] text → Appends was.taken now.taken text → Unfailed was now → Finished C A room was now
 finished-here C A room was now line text by read none ends wrote unfailed = record {
   lines = [];
   bytes = [];
@@ -72,7 +72,7 @@ finished-here C A room was now line text by read none ends wrote unfailed = reco
 }
 
 -- the line was refused, before anything was written
-pub refused-line : (C : Type 0) (A : Continuation C → Type 0) (room first : ℕ) (cause : C) (was now : IoState) (line : List ℕ) (by : Ending) → Reads was.left now.left line by → 0 < length line → Refuses C A [] (Some line) [] cause → ((f : Continuation C) → A f → Waits C f) → Appends was.taken now.taken [] → Unfailed was now → Refused C A room first first cause was now
+pub refused-line : (C : Type 0) (A : Continuation C → Type 0) (room first : ℕ) (cause : C) (was now : IoState) (line : List ℕ) (by : Ending) → ReadsWhole was.left now.left line by → 0 < length line → Refuses C A [] (Some line) [] cause → ((f : Continuation C) → A f → Waits C f) → Appends was.taken now.taken [] → Unfailed was now → Refused C A room first first cause was now
 refused-line C A room first cause was now line by read some refuses waits same unfailed = record {
   lines = [];
   bytes = [];
@@ -89,7 +89,7 @@ refused-line C A room first cause was now line by read some refuses waits same u
 }
 
 -- the end was refused, before anything was written
-pub refused-end : (C : Type 0) (A : Continuation C → Type 0) (room first : ℕ) (cause : C) (was now : IoState) (line : List ℕ) (by : Ending) → Reads was.left now.left line by → length line ≡ 0 → Refuses C A [] None [] cause → ((f : Continuation C) → A f → Waits C f) → Appends was.taken now.taken [] → Unfailed was now → Refused C A room first first cause was now
+pub refused-end : (C : Type 0) (A : Continuation C → Type 0) (room first : ℕ) (cause : C) (was now : IoState) (line : List ℕ) (by : Ending) → ReadsWhole was.left now.left line by → length line ≡ 0 → Refuses C A [] None [] cause → ((f : Continuation C) → A f → Waits C f) → Appends was.taken now.taken [] → Unfailed was now → Refused C A room first first cause was now
 refused-end C A room first cause was now line by read none refuses waits same unfailed = record {
   lines = [];
   bytes = [];
@@ -123,7 +123,7 @@ unread-here C A room was now part read waits same failed kept = record {
 }
 
 -- a write of what the line brings failed
-pub unwritten-line : (C : Type 0) (A B : Continuation C → Type 0) (room : ℕ) (was now : IoState) (line text : List ℕ) (by : Ending) → Reads was.left now.left line by → has_line_feed line ≡ true → Steps C A B (line ∷ []) text → ((f : Continuation C) → A f → Waits C f) → ((f : Continuation C) → B f → Waits C f) → TookFront was.taken now.taken text → now.write_faults ≡ next_count was.write_faults → now.read_faults ≡ was.read_faults → Unwritten C A room was now
+pub unwritten-line : (C : Type 0) (A B : Continuation C → Type 0) (room : ℕ) (was now : IoState) (line text : List ℕ) (by : Ending) → ReadsWhole was.left now.left line by → has_line_feed line ≡ true → Steps C A B (line ∷ []) text → ((f : Continuation C) → A f → Waits C f) → ((f : Continuation C) → B f → Waits C f) → TookFront was.taken now.taken text → now.write_faults ≡ next_count was.write_faults → now.read_faults ≡ was.read_faults → Unwritten C A room was now
 unwritten-line C A B room was now line text by read fed steps waits waits_later front failed kept = record {
   lines = [];
   bytes = [];
@@ -143,7 +143,7 @@ unwritten-line C A B room was now line text by read fed steps waits waits_later 
 }
 
 -- a write of what the end brings failed
-pub unwritten-end : (C : Type 0) (A : Continuation C → Type 0) (room : ℕ) (was now : IoState) (line text : List ℕ) (by : Ending) → Reads was.left now.left line by → length line ≡ 0 → Ends C A [] text → ((f : Continuation C) → A f → Waits C f) → TookFront was.taken now.taken text → now.write_faults ≡ next_count was.write_faults → now.read_faults ≡ was.read_faults → Unwritten C A room was now
+pub unwritten-end : (C : Type 0) (A : Continuation C → Type 0) (room : ℕ) (was now : IoState) (line text : List ℕ) (by : Ending) → ReadsWhole was.left now.left line by → length line ≡ 0 → Ends C A [] text → ((f : Continuation C) → A f → Waits C f) → TookFront was.taken now.taken text → now.write_faults ≡ next_count was.write_faults → now.read_faults ≡ was.read_faults → Unwritten C A room was now
 unwritten-end C A room was now line text by read none ends waits front failed kept = record {
   lines = [];
   bytes = [];
@@ -163,7 +163,7 @@ unwritten-end C A room was now line text by read none ends waits front failed ke
 }
 
 -- memory was refused for a line, before anything was written
-pub starved-line : (C : Type 0) (P : C → Type 0) (A : Continuation C → Type 0) (room : ℕ) (was now : IoState) (line : List ℕ) (by : Ending) → Reads was.left now.left line by → has_line_feed line ≡ true → Admits C P A [] (Some line) → ((f : Continuation C) → A f → Waits C f) → Appends was.taken now.taken [] → Unfailed was now → Starved C P A room was now
+pub starved-line : (C : Type 0) (P : C → Type 0) (A : Continuation C → Type 0) (room : ℕ) (was now : IoState) (line : List ℕ) (by : Ending) → ReadsWhole was.left now.left line by → has_line_feed line ≡ true → Admits C P A [] (Some line) → ((f : Continuation C) → A f → Waits C f) → Appends was.taken now.taken [] → Unfailed was now → Starved C P A room was now
 starved-line C P A room was now line by read fed admits waits same unfailed = record {
   lines = [];
   bytes = [];
@@ -178,7 +178,7 @@ starved-line C P A room was now line by read fed admits waits same unfailed = re
 }
 
 -- memory was refused at the end, before anything was written
-pub starved-end : (C : Type 0) (P : C → Type 0) (A : Continuation C → Type 0) (room : ℕ) (was now : IoState) (line : List ℕ) (by : Ending) → Reads was.left now.left line by → length line ≡ 0 → Admits C P A [] None → ((f : Continuation C) → A f → Waits C f) → Appends was.taken now.taken [] → Unfailed was now → Starved C P A room was now
+pub starved-end : (C : Type 0) (P : C → Type 0) (A : Continuation C → Type 0) (room : ℕ) (was now : IoState) (line : List ℕ) (by : Ending) → ReadsWhole was.left now.left line by → length line ≡ 0 → Admits C P A [] None → ((f : Continuation C) → A f → Waits C f) → Appends was.taken now.taken [] → Unfailed was now → Starved C P A room was now
 starved-end C P A room was now line by read none admits waits same unfailed = record {
   lines = [];
   bytes = [];
@@ -193,7 +193,7 @@ starved-end C P A room was now line by read none admits waits same unfailed = re
 }
 
 -- a line was taken, and something learned of it
-pub came-one : (Reaches : List (List ℕ) → Type 0) (room later : ℕ) (before after : Option (List ℕ)) (line : List ℕ) (by : Ending) → Reads before after line by → has_line_feed line ≡ true → later < room → Reaches (line ∷ []) → ConsumedLines Reaches room later before after
+pub came-one : (Reaches : List (List ℕ) → Type 0) (room later : ℕ) (before after : Option (List ℕ)) (line : List ℕ) (by : Ending) → ReadsWhole before after line by → has_line_feed line ≡ true → later < room → Reaches (line ∷ []) → ConsumedLines Reaches room later before after
 came-one Reaches room later before after line by read fed less one = record {
   lines = line ∷ [];
   bytes = line;
@@ -204,7 +204,7 @@ came-one Reaches room later before after line by read fed less one = record {
 }
 
 -- no line was left, and nothing learned
-pub came-end : (Reaches : List (List ℕ) → Type 0) (room : ℕ) (before after : Option (List ℕ)) (line : List ℕ) (by : Ending) → Reads before after line by → length line ≡ 0 → Reaches [] → ConsumedLines Reaches room room before after
+pub came-end : (Reaches : List (List ℕ) → Type 0) (room : ℕ) (before after : Option (List ℕ)) (line : List ℕ) (by : Ending) → ReadsWhole before after line by → length line ≡ 0 → Reaches [] → ConsumedLines Reaches room room before after
 came-end Reaches room before after line by read none same = record {
   lines = [];
   bytes = [];

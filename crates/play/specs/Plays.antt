@@ -6,7 +6,7 @@ use Rattle.ports.specs.Count.{next_count}
 use Rattle.ports.specs.Outside.{OfSink, OfSource}
 use Rattle.text_trace.specs.Lines.{has_no_feed, line_bytes, AreWhole, IsCut, IsFed}
 use Rattle.text_trace.specs.Trace.{Continuation, Steps, Writes, Ends, Refuses, Admits}
-use Rattle.play.specs.Reading.{IsRest}
+use Rattle.ports.specs.LineReading.{IsRest}
 use Rattle.play.specs.declared.stop.Stop.{Stop}
 use Rattle.play.specs.declared.stop.Stop.TheVariants as stop
 

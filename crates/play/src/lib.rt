@@ -3,7 +3,6 @@
 #![tactic(auto)]
 
 mod player;
-mod reader;
 mod script;
 mod stop;
 

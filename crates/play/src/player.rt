@@ -5,7 +5,6 @@ ghost use Rattle.text_trace.specs.Lines.{seen_bytes, text_lines};
 ghost use Rattle.text_trace.specs.Trace.{Admits, Owing};
 ghost use Rattle.play.specs.Plays.{ConsumedLines, Runs, Turns, has_written, io};
 
-use crate::reader::read_line;
 use crate::script::{Refusal, Script};
 use crate::stop::Stop;
 use ports::{Failed, Sink, Source, write_all};
@@ -39,7 +38,7 @@ fn turn<P: Script, S: Source, O: Sink>(
         (io (S.state input.new) (O.state out.new)) result }
 {
     text.clear();
-    match read_line(input, line) {
+    match input.read_line(line) {
         Ok(_) => {}
         Err(Failed) => return Err(Stop::ReadFault),
     }

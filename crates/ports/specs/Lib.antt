@@ -1,6 +1,7 @@
 pub mod Count
 pub mod Contents
 pub mod Reading
+pub mod LineReading
 pub mod Writing
 pub mod Device
 pub mod Memory

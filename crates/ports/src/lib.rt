@@ -7,12 +7,14 @@
 //! behind a fault; a disk and a link go on after a failure.
 #![tactic(auto)]
 
-ghost use Rattle.std.specs.Prelude.{◌≡◌, true, length};
+ghost use Rattle.std.specs.Prelude.{◌≡◌, ◌≤◌, true, length, vec_capacity};
 ghost use Rattle.std.specs.Result.{is_err, is_ok};
 ghost use Rattle.ports.specs.Count.{counted};
 ghost use Rattle.ports.specs.Contents.{Wrote};
 ghost use Rattle.ports.specs.Outside.{OfSink, OfSource};
 ghost use Rattle.ports.specs.Reading.{has_got, read_failed, GotAtMost, GotSome, Reads, EndsUsedUp};
+ghost use Rattle.ports.specs.LineReading.{ReadsLine, is_going};
+ghost use Rattle.text_trace.specs.Lines.{seen_bytes};
 ghost use Rattle.ports.specs.Writing.{has_taken, write_failed, TookAtMost, TookSome, Gives};
 
 mod clock;
@@ -26,6 +28,7 @@ pub use disk::Disk;
 pub use link::{Link, LinkAnswer, MemoryLink};
 pub use memory::{MemorySink, MemorySource};
 pub use memory_disk::MemoryDisk;
+use text_trace::SEEN_BYTES;
 
 /// The answer of a read.
 #[derive(Clone, Copy, Debug, PartialEq, Eq)]
@@ -36,6 +39,17 @@ pub enum Taken {
     End,
     /// Nothing was read.
     Failed,
+}
+
+/// What ended the bytes that were taken for a line.
+#[derive(Clone, Copy, Debug, PartialEq, Eq)]
+pub enum Ending {
+    /// Its line feed, which is the last of them.
+    Feed,
+    /// More than 65,600 bytes stand before the line feed, and 65,601 of them were taken.
+    Limit,
+    /// The input.
+    Input,
 }
 
 /// The answer of a write.
@@ -99,6 +113,34 @@ pub trait Source {
         ensures some { GotSome result (length buf.old) }
         ensures reads { Reads (state self.old).left (state self.new).left buf.new result }
         ensures end { EndsUsedUp (state self.new).left result };
+
+    /// Reads the next line up to and including its line feed; where the input ends inside it, what is left; and
+    /// of a line with more than 65,600 bytes before its line feed the first 65,601. Takes no memory, and nothing
+    /// behind these bytes: so a byte at a time, unless a source knows better.
+    fn read_line(&mut self, line: &mut Vec<u8>) -> Result<Ending, Failed>
+        requires open { (state self.old).is_open ≡ true }
+        requires room { seen_bytes ≤ vec_capacity line.old }
+        ensures room { seen_bytes ≤ vec_capacity line.new }
+        ensures going { (state self.new).is_open ≡ is_going result }
+        ensures faults { (state self.new).faults ≡ counted (is_err result) (state self.old).faults }
+        ensures reads { ReadsLine (state self.old).left (state self.new).left line.new.items result }
+    {
+        line.clear();
+        'bytes: while line.len() < SEEN_BYTES {
+            let mut byte = [0u8; 1];
+            match self.read(&mut byte) {
+                Taken::Got(_) => {
+                    line.push_reserved(byte[0]);
+                    if byte[0] == b'\n' {
+                        return Ok(Ending::Feed);
+                    }
+                }
+                Taken::End => return Ok(Ending::Input),
+                Taken::Failed => return Err(Failed),
+            }
+        }
+        Ok(Ending::Limit)
+    }
 }
 
 /// Where bytes go to.

@@ -38,6 +38,12 @@ pub trait Link {
             ≡ counted (send_failed result) (state self.old).faults }
         ensures sends { Sends port bytes.now (state self.old).contents (state self.new).contents
             result };
+
+    /// Takes note that this member sends from this port, so that a link may serve that port by itself. A link that
+    /// doesn't tell ports apart has nothing to do.
+    fn expect(&mut self, _member: u16, _port: u16)
+        ensures { state self.new ≡ state self.old }
+    {}
 }
 
 /// What a link in memory answers to a receive.

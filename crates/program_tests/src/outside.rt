@@ -202,11 +202,12 @@ fn bind_from<L: Link>(link: &mut L, first: u16) -> Option<u16> {
     (first..first.saturating_add(1_000)).find(|port| matches!(link.bind(*port), Opened::Done))
 }
 
-/// Datagrams move from the first to the port of the second, and as much of each as fits.
+/// Datagrams move from the first to the port of the second, which expects them there, and as much of each as fits.
 fn moves_datagrams<L: Link>(rt: &impl Abort, first: &mut L, second: &mut L) -> Result<(), Fail> {
     assert_eq!(rt; second.send(20_000, b"early"), Sent::Failed);
-    bind_from(first, 20_000).ok_or("no free port")?;
+    let from = bind_from(first, 20_000).ok_or("no free port")?;
     let port = bind_from(second, 20_000).ok_or("no free port")?;
+    second.expect(1, from);
     let mut buf = [b'-'; 8];
     assert_eq!(rt; second.receive(&mut buf), Received::Nothing);
     assert_eq!(rt; first.send(port, b"hello"), Sent::Done);
@@ -220,9 +221,60 @@ fn moves_datagrams<L: Link>(rt: &impl Abort, first: &mut L, second: &mut L) -> R
 
 #[test]
 fn link_moves_datagrams_between_two_ports(rt: HostRuntime) -> Result<(), Fail> {
-    let mut first = UdpLink::new(&rt);
-    let mut second = UdpLink::new(&rt);
+    let mut first = UdpLink::new(rt.alloc(), &rt);
+    let mut second = UdpLink::new(rt.alloc(), &rt);
     moves_datagrams(&rt, &mut first, &mut second)
+}
+
+/// A ping of member 1.
+const PING: &[u8; 14] = b"FF\x01\x01\x00\x01\x00\x00\x00\x00\x00\x00\x00\x07";
+
+/// Whether these three bytes are what comes next beside what a stranger sent, of which little is handed on.
+fn hears<L: Link>(link: &mut L, text: &[u8]) -> bool {
+    let mut buf = [0; 14];
+    for _ in 0..4u8 {
+        if link.receive(&mut buf) == Received::Got(3) {
+            return &buf[..3] == text;
+        }
+    }
+    false
+}
+
+/// A ping of a member is handed on from the port at which it is expected, and from no other; and a stranger's flood pushes
+/// out nothing that the member sent.
+fn serves_each_port<L: Link>(
+    rt: &impl Abort,
+    link: &mut L,
+    member: &mut L,
+    stranger: &mut L,
+) -> Result<(), Fail> {
+    let port = bind_from(link, 20_000).ok_or("no free port")?;
+    let from = bind_from(member, 20_000).ok_or("no free port")?;
+    bind_from(stranger, 20_000).ok_or("no free port")?;
+    link.expect(1, from);
+    let mut buf = [0; 14];
+    assert_eq!(rt; stranger.send(port, PING), Sent::Done);
+    assert_eq!(rt; link.receive(&mut buf), Received::Nothing);
+    assert_eq!(rt; member.send(port, PING), Sent::Done);
+    assert_eq!(rt; link.receive(&mut buf), Received::Got(14));
+    for _ in 0..150u8 {
+        assert_eq!(rt; stranger.send(port, b"flood"), Sent::Done);
+    }
+    assert_eq!(rt; member.send(port, b"one"), Sent::Done);
+    assert_eq!(rt; member.send(port, b"two"), Sent::Done);
+    assert!(rt; hears(link, b"one"));
+    assert!(rt; hears(link, b"two"));
+    Ok(())
+}
+
+#[test]
+fn link_serves_each_port_by_itself(rt: HostRuntime) -> Result<(), Fail> {
+    let mut link = UdpLink::new(rt.alloc(), &rt);
+    let mut member = UdpLink::new(rt.alloc(), &rt);
+    let mut stranger = UdpLink::new(rt.alloc(), &rt);
+    serves_each_port(&rt, &mut link, &mut member, &mut stranger)?;
+    assert!(rt; link.lost() >= 80, "the ping, and most of the flood");
+    Ok(())
 }
 
 #[test]

@@ -53,7 +53,7 @@ entry_apart slots k o m h apart =
 pub ready-set : (slots : List Slot) (entries : List SummaryEntry) (k : RecordKey) (o : Slot) (e : SummaryEntry) → IsReady slots entries → IsSlotted k → e ≡ entry_in (slice_set slots (slot_of k) o) (member_of k) → IsReady (slice_set slots (slot_of k) o) (slice_set entries (member_of k) e)
 ready-set slots entries k o e r at made =
     record {
-      slots_all = length-set slots (slot_of k) o ∙ r.slots_all;
+      slots_few = omega (arith, length-set slots (slot_of k) o, r.slots_few);
       entries_all = length-set entries (member_of k) e ∙ r.entries_all;
       ready = λ m h. by_member m h (cases_eq m (member_of k));
     }
@@ -72,13 +72,24 @@ ready-put slots entries k o slot number e r at same_slot same_number made =
     let Q : ℕ → Type 0 = λ n. e ≡ entry_in (slice_set slots (slot_of k) o) n → IsReady (slice_set slots (slot_of k) o) (slice_set entries n e) in
     subst P (sym same_slot) (subst Q (sym same_number) (λ m. ready-set slots entries k o e r at m)) made
 
--- nothing is held
-pub ready-none : (slots : List Slot) (entries : List SummaryEntry) → length slots ≡ SLOTS → length entries ≡ MEMBERS → ((k : ℕ) → get_or slots k None ≡ None) → ((k : ℕ) → k < MEMBERS → get_or entries k (no_entry k) ≡ no_entry k) → IsReady slots entries
-ready-none slots entries all each none fresh =
+-- the slots reach further
+pub ready-reached : (slots reached : List Slot) (entries : List SummaryEntry) → length reached ≤ SLOTS → ((k : ℕ) → get_or reached k None ≡ get_or slots k None) → IsReady slots entries → IsReady reached entries
+ready-reached slots reached entries few same r =
     record {
-      slots_all = all;
+      slots_few = few;
+      entries_all = r.entries_all;
+      ready = λ m h. r.ready m h
+          ∙ sym (ap (λ s. entry_with m (note_in s) (bits_where (accused_in reached m) MAX_RINGS)) (same (SLOTS_EACH * m + 1))
+          ∙ ap (entry_with m (note_in (get_or slots (SLOTS_EACH * m + 1) None))) (bits_same (accused_in reached m) (accused_in slots m) MAX_RINGS (λ r low. ap is_some (same (SLOTS_EACH * m + 2 + r)))));
+    }
+
+-- nothing is held
+pub ready-none : (entries : List SummaryEntry) → length entries ≡ MEMBERS → ((k : ℕ) → k < MEMBERS → get_or entries k (no_entry k) ≡ no_entry k) → IsReady [] entries
+ready-none entries each fresh =
+    record {
+      slots_few = omega arith;
       entries_all = each;
-      ready = λ m h. fresh m h ∙ sym (ap (λ s. entry_with m (note_in s) (bits_where (accused_in slots m) MAX_RINGS)) (none (SLOTS_EACH * m + 1)) ∙ ap (entry_with m None) (bits-no (accused_in slots m) MAX_RINGS (λ r. ap is_some (none (SLOTS_EACH * m + 2 + r)))));
+      ready = λ m h. fresh m h ∙ sym (ap (entry_with m None) (bits-no (accused_in [] m) MAX_RINGS (λ r. refl)));
     }
 
 -- ---- a page
@@ -115,7 +126,7 @@ pub same_summary : (page number : ℕ) (listed others : List SummaryEntry) → p
 same_summary page number listed others same each = λ i. summary_with (same i) (each i)
 
 -- nobody is certified behind the last page
-pub no-summary : (slots : List Slot) (page : ℕ) → length slots ≡ SLOTS → PAGES ≤ page → (summary_of (held_in slots) page).listed ≡ []
+pub no-summary : (slots : List Slot) (page : ℕ) → length slots ≤ SLOTS → PAGES ≤ page → (summary_of (held_in slots) page).listed ≡ []
 unfolding certified_of
 no-summary slots page long above =
     ap (map (entry_of (held_in slots)))

@@ -1,7 +1,7 @@
 -- The slots, and the map that they stand for.
-use Rattle.std.proofs.Common.{◌≡◌, ◌≢◌, ℕ, zero, suc, ◌+◌, ◌-◌, ◌*◌, ◌/◌, ◌%◌, ◌<◌, ◌≤◌, Bool, true, false, cond, eqb, List, [], ◌∷◌, length, get_or, Some, None, IsSome, refl, ap, sym, subst, ◌∙◌, arith, get_or-set_same, get_or-set_other, length-set, ◌⊎◌, inl, inr}
+use Rattle.std.proofs.Common.{◌≡◌, ◌≢◌, ℕ, zero, suc, ◌+◌, ◌-◌, ◌*◌, ◌/◌, ◌%◌, ◌<◌, ◌≤◌, Bool, true, false, cond, eqb, List, [], ◌∷◌, ◌++◌, length, get_or, Some, None, IsSome, refl, ap, sym, subst, ◌∙◌, arith, get_or-set_same, get_or-set_other, length-set, ◌⊎◌, inl, inr}
 use Rattle.std.specs.Prelude.{slice_set}
-use Rattle.std.specs.FinMap.{get, insert, remove, empty, find, same_map, get-insert, get-remove, from_entries, get-from_entries}
+use Rattle.std.specs.FinMap.{get, insert, remove, find, same_map, get-insert, get-remove, get-from_entries}
 use Rattle.std.proofs.lemmas.Bool.{cases_lt, true≢false}
 use Rattle.std.proofs.lemmas.Bool.Decides.{nat_tests}
 use Rattle.ff_ids.specs.declared.TheConstants.{MAX_RINGS, MEMBERS, MAX_TOLERANCE}
@@ -110,7 +110,7 @@ pub get-held_in : (slots : List Slot) (k : RecordKey) → HasSlot k → get (hel
 get-held_in slots k h = get-from_entries key_cmp_total (taken_from 0 slots) k ∙ found_at k 0 (slot_of k) slots h (omega arith)
 
 -- nothing is held under any other
-pub get-unslotted : (slots : List Slot) (k : RecordKey) → length slots ≡ SLOTS → (IsSlotted k → ⊥) → get (held_in slots) k ≡ None
+pub get-unslotted : (slots : List Slot) (k : RecordKey) → length slots ≤ SLOTS → (IsSlotted k → ⊥) → get (held_in slots) k ≡ None
 get-unslotted slots k long never =
     get-from_entries key_cmp_total (taken_from 0 slots) k ∙ not_found k 0 slots (λ a low high e. never (subst IsSlotted (sym e) (slotted_at a (omega (arith, high, long)))))
 
@@ -137,59 +137,84 @@ slotted_body t (bodies.Note n) few ring member = record { member = member; slot 
 slotted_body t (bodies.Accusation a) few ring member = record { member = member; slot = omega (arith, ring, few) }
 
 -- who holds something has a slot
-pub held-slotted : (slots : List Slot) (k : RecordKey) → length slots ≡ SLOTS → IsSome (get (held_in slots) k) → IsSlotted k
+pub held-slotted : (slots : List Slot) (k : RecordKey) → length slots ≤ SLOTS → IsSome (get (held_in slots) k) → IsSlotted k
 held-slotted slots k long some = by_slot (is_slotted k)
   where
     by_slot : IsSlotted k ⊎ (IsSlotted k → ⊥) → IsSlotted k
     by_slot (inl s) = s
     by_slot (inr never) = let none = subst IsSome (get-unslotted slots k long never) some in absurd (true≢false (sym none))
 
+-- ---- the same slots
+
+-- slots that hold the same, one by one, hold the same records
+pub held_in-same : (slots others : List Slot) → length slots ≤ SLOTS → length others ≤ SLOTS → ((j : ℕ) → get_or slots j None ≡ get_or others j None) → held_in slots ≡ held_in others
+held_in-same slots others few few_others same =
+    same_map key_cmp_total key_cmp-IsAntisymmetric _ _ (λ q. by_slot q (is_slotted q))
+  where
+    by_slot : (q : RecordKey) → IsSlotted q ⊎ (IsSlotted q → ⊥) → get (held_in slots) q ≡ get (held_in others) q
+    by_slot q (inl s) = get-held_in slots q s.slot ∙ same (slot_of q) ∙ sym (get-held_in others q s.slot)
+    by_slot q (inr never) = get-unslotted slots q few never ∙ sym (get-unslotted others q few_others never)
+
 -- ---- writing a slot
 
-set_slotted : (slots : List Slot) (k q : RecordKey) (o : Slot) → length slots ≡ SLOTS → IsSlotted k → IsSlotted q → (b : Bool) → is_key q k ≡ b → get_or (slice_set slots (slot_of k) o) (slot_of q) None ≡ cond b o (get_or slots (slot_of q) None)
-set_slotted slots k q o long at s true same =
-    let below : slot_of k < length slots = omega (arith, slot_below k at, long) in
-    ap (λ (i : ℕ). get_or (slice_set slots (slot_of k) o) i None) (ap slot_of (is_key-true q k same)) ∙ get_or-set_same slots (slot_of k) o None below
-set_slotted slots k q o long at s false off =
+-- what is written is there
+abbrev pub IsWritten : List Slot → ℕ → Slot → Type 0
+IsWritten slots slot o = get_or (slice_set slots slot o) slot None ≡ o
+
+pub written : (slots : List Slot) (slot : ℕ) (o : Slot) → slot < length slots → IsWritten slots slot o
+written slots slot o below = get_or-set_same slots slot o None below
+
+pub cleared : (slots : List Slot) (slot : ℕ) → IsWritten slots slot None
+cleared [] slot = refl
+cleared (o ∷ slots) zero = refl
+cleared (o ∷ slots) (suc slot) = cleared slots slot
+
+-- nothing changes where there is no such slot
+pub unreached : (slots : List Slot) (slot : ℕ) → length slots ≤ slot → slice_set slots slot None ≡ slots
+unreached [] slot h = refl
+unreached (o ∷ slots) zero h = absurd (omega arith)
+unreached (o ∷ slots) (suc slot) h = ap (λ (os : List Slot). o ∷ os) (unreached slots slot (omega (arith, h)))
+
+set_slotted : (slots : List Slot) (k q : RecordKey) (o : Slot) → IsWritten slots (slot_of k) o → IsSlotted k → IsSlotted q → (b : Bool) → is_key q k ≡ b → get_or (slice_set slots (slot_of k) o) (slot_of q) None ≡ cond b o (get_or slots (slot_of q) None)
+set_slotted slots k q o there at s true same =
+    ap (λ (i : ℕ). get_or (slice_set slots (slot_of k) o) i None) (ap slot_of (is_key-true q k same)) ∙ there
+set_slotted slots k q o there at s false off =
     let apart : slot_of q ≢ slot_of k = λ e. true≢false (sym (is_key-same k) ∙ ap (λ x. is_key x k) (sym (key_at-slot_of k at.slot) ∙ ap key_at (sym e) ∙ key_at-slot_of q s.slot) ∙ off) in
     get_or-set_other slots (slot_of k) (slot_of q) o None apart
 
-set_at : (slots : List Slot) (k q : RecordKey) (o : Slot) → length slots ≡ SLOTS → IsSlotted k → get (held_in (slice_set slots (slot_of k) o)) q ≡ cond (is_key q k) o (get (held_in slots) q)
-set_at slots k q o long at = by_slot (is_slotted q)
+set_at : (slots : List Slot) (k q : RecordKey) (o : Slot) → length slots ≤ SLOTS → IsWritten slots (slot_of k) o → IsSlotted k → get (held_in (slice_set slots (slot_of k) o)) q ≡ cond (is_key q k) o (get (held_in slots) q)
+set_at slots k q o few there at = by_slot (is_slotted q)
   where
-    still : length (slice_set slots (slot_of k) o) ≡ SLOTS
-    still = length-set slots (slot_of k) o ∙ long
+    still : length (slice_set slots (slot_of k) o) ≤ SLOTS
+    still = omega (arith, length-set slots (slot_of k) o, few)
 
     by_slot : IsSlotted q ⊎ (IsSlotted q → ⊥) → get (held_in (slice_set slots (slot_of k) o)) q ≡ cond (is_key q k) o (get (held_in slots) q)
     by_slot (inl s) =
-        get-held_in (slice_set slots (slot_of k) o) q s.slot ∙ set_slotted slots k q o long at s (is_key q k) refl ∙ ap (cond (is_key q k) o) (sym (get-held_in slots q s.slot))
+        get-held_in (slice_set slots (slot_of k) o) q s.slot ∙ set_slotted slots k q o there at s (is_key q k) refl ∙ ap (cond (is_key q k) o) (sym (get-held_in slots q s.slot))
     by_slot (inr never) =
         let apart : is_key q k ≡ false = is_key-other q k (λ e. never (subst IsSlotted (sym e) at)) in
-        get-unslotted (slice_set slots (slot_of k) o) q still never ∙ sym (ap (λ b. cond b o (get (held_in slots) q)) apart ∙ get-unslotted slots q long never)
+        get-unslotted (slice_set slots (slot_of k) o) q still never ∙ sym (ap (λ b. cond b o (get (held_in slots) q)) apart ∙ get-unslotted slots q few never)
 
-pub held_in-put : (slots : List Slot) (k : RecordKey) (c : CheckedRecord) → length slots ≡ SLOTS → IsSlotted k → held_in (slice_set slots (slot_of k) (Some c)) ≡ insert (held_in slots) k c
-held_in-put slots k c long at =
-    same_map key_cmp_total key_cmp-IsAntisymmetric _ _ (λ q. set_at slots k q (Some c) long at ∙ sym (get-insert key_cmp_total (held_in slots) k c q))
+pub held_in-put : (slots : List Slot) (k : RecordKey) (c : CheckedRecord) → length slots ≤ SLOTS → slot_of k < length slots → IsSlotted k → held_in (slice_set slots (slot_of k) (Some c)) ≡ insert (held_in slots) k c
+held_in-put slots k c few below at =
+    same_map key_cmp_total key_cmp-IsAntisymmetric _ _ (λ q. set_at slots k q (Some c) few (written slots (slot_of k) (Some c) below) at ∙ sym (get-insert key_cmp_total (held_in slots) k c q))
 
-pub held_in-drop : (slots : List Slot) (k : RecordKey) → length slots ≡ SLOTS → IsSlotted k → held_in (slice_set slots (slot_of k) None) ≡ remove (held_in slots) k
-held_in-drop slots k long at =
-    same_map key_cmp_total key_cmp-IsAntisymmetric _ _ (λ q. set_at slots k q None long at ∙ sym (get-remove key_cmp_total (held_in slots) k q))
+pub held_in-drop : (slots : List Slot) (k : RecordKey) → length slots ≤ SLOTS → IsSlotted k → held_in (slice_set slots (slot_of k) None) ≡ remove (held_in slots) k
+held_in-drop slots k few at =
+    same_map key_cmp_total key_cmp-IsAntisymmetric _ _ (λ q. set_at slots k q None few (cleared slots (slot_of k)) at ∙ sym (get-remove key_cmp_total (held_in slots) k q))
 
 -- nothing is dropped where there is no slot
-pub held_in-no_drop : (slots : List Slot) (k : RecordKey) → length slots ≡ SLOTS → (IsSlotted k → ⊥) → held_in slots ≡ remove (held_in slots) k
-held_in-no_drop slots k long never =
+pub held_in-no_drop : (slots : List Slot) (k : RecordKey) → length slots ≤ SLOTS → (IsSlotted k → ⊥) → held_in slots ≡ remove (held_in slots) k
+held_in-no_drop slots k few never =
     same_map key_cmp_total key_cmp-IsAntisymmetric _ _ (λ q. by_key q (is_key q k) refl ∙ sym (get-remove key_cmp_total (held_in slots) k q))
   where
     by_key : (q : RecordKey) (b : Bool) → is_key q k ≡ b → get (held_in slots) q ≡ cond b None (get (held_in slots) q)
-    by_key q true same = ap (get (held_in slots)) (is_key-true q k same) ∙ get-unslotted slots k long never
+    by_key q true same = ap (get (held_in slots)) (is_key-true q k same) ∙ get-unslotted slots k few never
     by_key q false off = refl
 
--- ---- no slot holds anything
-
-taken_none : (slot : ℕ) (slots : List Slot) → ((j : ℕ) → get_or slots j None ≡ None) → taken_from slot slots ≡ []
-taken_none slot [] none = refl
-taken_none slot (None ∷ slots) none = taken_none (slot + 1) slots (λ j. none (suc j))
-taken_none slot (Some c ∷ slots) none = let wrong : Some c ≡ None = none 0 in absurd (cc)
-
-pub held_in-none : (slots : List Slot) → ((j : ℕ) → get_or slots j None ≡ None) → held_in slots ≡ empty
-held_in-none slots none = ap (λ (es : List (RecordKey × CheckedRecord)). from_entries es) (taken_none 0 slots none)
+-- a push of an empty slot
+pub push-none : (slots : List Slot) (k : ℕ) → get_or (slots ++ None ∷ []) k None ≡ get_or slots k None
+push-none [] zero = refl
+push-none [] (suc k) = refl
+push-none (o ∷ slots) zero = refl
+push-none (o ∷ slots) (suc k) = push-none slots k

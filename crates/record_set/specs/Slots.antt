@@ -1,5 +1,6 @@
 -- How the records are kept: `SLOTS_EACH` slots for each member, of its certificate, its note, and the accusations against it by ring.
-use Rattle.std.specs.Prelude.{◌≡◌, ℕ, ◌+◌, ◌*◌, ◌-◌, ◌/◌, ◌%◌, ◌<◌, ◌==◌, if◌then◌else◌, List, [], ◌∷◌, Option, Some, None, is_some, length, map, filter, slice_index_or}
+-- Behind the last slot that was written there may be none: what has no slot isn't held.
+use Rattle.std.specs.Prelude.{◌≡◌, ℕ, ◌+◌, ◌*◌, ◌-◌, ◌/◌, ◌%◌, ◌<◌, ◌≤◌, ◌==◌, if◌then◌else◌, List, [], ◌∷◌, Option, Some, None, is_some, length, map, filter, slice_index_or}
 use Rattle.std.specs.List.{range_with_len}
 use Rattle.std.specs.FinMap.{from_entries}
 use Rattle.ff_ids.specs.declared.TheConstants.{MAX_RINGS, MEMBERS}
@@ -56,9 +57,9 @@ entry_in slots m = entry_with m (note_in (slice_index_or slots (SLOTS_EACH * m +
 abbrev pub no_entry : ℕ → SummaryEntry
 no_entry m = record { member = m; epoch = 0; mask = record { 0 = 0 }; rings = 0 }
 
--- There is a slot for each key, and for each member the entry that its slots make.
+-- There are no more slots than keys, and for each member the entry that its slots make.
 pub record IsReady (slots : List Slot) (entries : List SummaryEntry) : Type 0 where
-  pub slots_all : length slots ≡ SLOTS
+  pub slots_few : length slots ≤ SLOTS
   pub entries_all : length entries ≡ MEMBERS
   pub ready : (m : ℕ) → m < MEMBERS → slice_index_or entries m (no_entry m) ≡ entry_in slots m
 

@@ -19,7 +19,8 @@ use ff_ids::{MAX_RINGS, MemberId, PAGE_MEMBERS, PAGES, RecordKey, RingNo, Summar
 use fields::NoMemory;
 use records::{Checked, write_record};
 use slots::{
-    fresh_entry, key_of, member_of, no_entries, no_slots, push_certified, slot_of, spelled_length,
+    SLOTS, clear, fresh_entry, kept_in, key_of, member_of, no_entries, push_certified, reach,
+    slot_of, spelled_length,
 };
 use std::alloc::Global;
 use std::marker::Model;
@@ -34,6 +35,8 @@ pub struct RecordSet {
 impl Model for RecordSet {
     ghost use Rattle.std.specs.Coded.{codes};
     ghost use Rattle.std.specs.FinMap.{code};
+    ghost use Rattle.std.specs.Prelude.{◌≤◌, vec_capacity};
+    ghost use Rattle.record_set.specs.declared.slots.TheConstants.{SLOTS};
     ghost use Rattle.record_set.specs.Held.{Held};
     ghost use Rattle.record_set.specs.Slots.{held_in, IsReady};
 
@@ -43,7 +46,8 @@ impl Model for RecordSet {
 
     ghost view = { λ s. held_in s.slots.items };
 
-    ghost invariant = { λ s. IsReady s.slots.items s.entries.items };
+    ghost invariant = { λ s. IsReady s.slots.items s.entries.items
+        × (SLOTS ≤ vec_capacity s.slots) };
 }
 
 impl RecordSet {
@@ -51,7 +55,7 @@ impl RecordSet {
     pub fn open(alloc: Global) -> Result<RecordSet, NoMemory>
         ensures { IfOk result (λ s. s ≡ map.empty) }
     {
-        let slots = no_slots(alloc)?;
+        let slots = Vec::with_capacity(alloc, SLOTS)?;
         let entries = no_entries(alloc)?;
         Ok(RecordSet { slots, entries })
     }
@@ -66,7 +70,9 @@ impl RecordSet {
     {
         let key = key_of(&rec.rec().body);
         let member = member_of(&key);
-        self.slots[slot_of(&key)] = Some(rec);
+        let slot = slot_of(&key);
+        reach(&mut self.slots, slot);
+        self.slots[slot] = Some(rec);
         self.entries[member.get() as usize] = fresh_entry(&self.slots, member);
     }
 
@@ -75,7 +81,10 @@ impl RecordSet {
         ensures { self.new ≡ map.remove self.old (Accusation accused ring) }
     {
         if ring.0 < MAX_RINGS {
-            self.slots[slot_of(&RecordKey::Accusation(accused, ring))] = None;
+            clear(
+                &mut self.slots,
+                slot_of(&RecordKey::Accusation(accused, ring)),
+            );
             self.entries[accused.get() as usize] = fresh_entry(&self.slots, accused);
         }
     }
@@ -103,7 +112,7 @@ impl RecordSet {
         requires { IsSome (held_under self.now key.now) }
         ensures { held_under self.now key.now ≡ Some result.now }
     {
-        self.slots[slot_of(key)].as_ref().unwrap()
+        kept_in(&self.slots, slot_of(key)).unwrap()
     }
 
     /// Appends the records under the keys, each of which has one, in their order, up to the first that would make

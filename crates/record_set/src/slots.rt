@@ -1,7 +1,8 @@
 //! The slots in which records are kept: for each member one for its certificate, one for its note, and one for
 //! an accusation against it on each ring.
 
-ghost use Rattle.std.specs.Prelude.{◌≡◌, ℕ, ◌+◌, ◌*◌, ◌<◌, ◌≤◌, ◌++◌, length, IfOk, None, slice_index_or, is_some};
+ghost use Rattle.std.specs.Prelude.{◌≡◌, ℕ, ◌+◌, ◌*◌, ◌<◌, ◌≤◌, ◌++◌, length, IfOk, None, slice_index_or, slice_set, is_some, vec_capacity};
+ghost use Rattle.std.specs.Option.{option_copied};
 ghost use Rattle.ff_ids.specs.declared.TheConstants.{MAX_RINGS, MEMBERS, PAGE_MEMBERS};
 ghost use Rattle.ff_ids.specs.Masks.{bits_where};
 ghost use Rattle.records.specs.Spelling.{IsBody, HasLength, body_bytes, record_bytes};
@@ -17,8 +18,8 @@ use std::alloc::{AllocError, Global};
 
 /// How many slots a member has: one for each ring, and two.
 const SLOTS_EACH: usize = MAX_RINGS as usize + 2;
-/// How many slots there are.
-const SLOTS: usize = SLOTS_EACH * MEMBERS as usize;
+/// How many slots there are at most.
+pub(crate) const SLOTS: usize = SLOTS_EACH * MEMBERS as usize;
 
 /// The slot of the certificate of the member of this number.
 pub(crate) fn certificate_slot(number: usize) -> usize
@@ -86,16 +87,43 @@ pub(crate) fn spelled_length(rec: &Record) -> usize
     body_length(&rec.body) + 2 + rec.signature.as_slice().len()
 }
 
-/// Without a record in any slot.
-pub(crate) fn no_slots(alloc: Global) -> Result<Vec<Option<Checked>>, AllocError>
-    ensures all { IfOk result (λ v. length v.items ≡ SLOTS) }
-    ensures none { IfOk result (λ v. (k : ℕ) → slice_index_or v.items k None ≡ None) }
+/// Makes the slots reach this one, for which they have room. Those that are new hold nothing: the memory of members
+/// with greater numbers than any of which something is held stays untouched.
+pub(crate) fn reach(slots: &mut Vec<Option<Checked>>, slot: usize)
+    requires slot { slot < SLOTS }
+    requires few { length slots.old.items ≤ SLOTS }
+    requires room { SLOTS ≤ vec_capacity slots.old }
+    ensures reached { slot < length slots.new.items }
+    ensures few { length slots.new.items ≤ SLOTS }
+    ensures room { SLOTS ≤ vec_capacity slots.new }
+    ensures same { (k : ℕ) → slice_index_or slots.new.items k None
+        ≡ slice_index_or slots.old.items k None }
 {
-    let mut slots = Vec::with_capacity(alloc, SLOTS)?;
-    for _slot in 0..SLOTS {
+    'growing: while slots.len() <= slot {
         slots.push_reserved(None);
     }
-    Ok(slots)
+}
+
+/// Holds nothing in this slot any more, where the slots reach it.
+pub(crate) fn clear(slots: &mut Vec<Option<Checked>>, slot: usize)
+    ensures items { slots.new.items ≡ slice_set slots.old.items slot None }
+    ensures room { vec_capacity slots.new ≡ vec_capacity slots.old }
+{
+    if slot < slots.len() {
+        slots[slot] = None;
+    }
+}
+
+/// The record in the slot, if one is held there.
+pub(crate) fn kept_in(slots: &[Option<Checked>], slot: usize) -> Option<&Checked>
+    ensures value { option_copied result ≡ slice_index_or slots.now slot None }
+    ensures variant { is_some result ≡ is_some (slice_index_or slots.now slot None) }
+{
+    if slot < slots.len() {
+        slots[slot].as_ref()
+    } else {
+        None
+    }
 }
 
 /// The entry of a member of which nothing is held.
@@ -125,10 +153,10 @@ pub(crate) fn no_entries(alloc: Global) -> Result<Vec<SummaryEntry>, AllocError>
 }
 
 /// The note in its slot.
-fn note_in(slot: &Option<Checked>) -> Option<NoteBody>
-    ensures { result ≡ note_in slot.now }
+fn note_in(slots: &[Option<Checked>], slot: usize) -> Option<NoteBody>
+    ensures { result ≡ note_in (slice_index_or slots.now slot None) }
 {
-    match slot {
+    match kept_in(slots, slot) {
         Some(kept) => match kept.rec().body {
             Body::Note(note) => Some(note),
             _ => None,
@@ -139,13 +167,13 @@ fn note_in(slot: &Option<Checked>) -> Option<NoteBody>
 
 /// The set of the rings whose slots, from this one on, hold an accusation.
 fn rings_in(slots: &[Option<Checked>], first: usize) -> Bits
-    requires { first + MAX_RINGS ≤ length slots.now }
+    requires { first ≤ SLOTS }
     ensures { result ≡ bits_where (λ r. is_some (slice_index_or slots.now (first + r) None))
         MAX_RINGS }
 {
     let mut rings = 0;
     for ring in 0..MAX_RINGS {
-        if slots[first + ring as usize].is_some() {
+        if kept_in(slots, first + ring as usize).is_some() {
             rings += 1 << ring;
         }
     }
@@ -160,7 +188,6 @@ pub(crate) fn push_certified(
     count: usize,
     out: &mut Summary,
 )
-    requires slots { length slots.now ≡ SLOTS }
     requires entries { length entries.now ≡ MEMBERS }
     requires members { first + count ≤ MEMBERS }
     requires room { length out.old.listed + count ≤ PAGE_MEMBERS }
@@ -170,7 +197,7 @@ pub(crate) fn push_certified(
 {
     for index in 0..count {
         let number = first + index;
-        if slots[certificate_slot(number)].is_some() {
+        if kept_in(slots, certificate_slot(number)).is_some() {
             out.push(entries[number]);
         }
     }
@@ -194,14 +221,13 @@ fn entry_with(member: MemberId, note: Option<NoteBody>, rings: Bits) -> SummaryE
 
 /// What the slots hold of the member.
 pub(crate) fn fresh_entry(slots: &[Option<Checked>], member: MemberId) -> SummaryEntry
-    requires { length slots.now ≡ SLOTS }
     ensures value { result ≡ entry_in slots.now member }
     ensures range { member < MEMBERS }
 {
     let first = certificate_slot(member.get() as usize);
     entry_with(
         member,
-        note_in(&slots[first + 1]),
+        note_in(slots, first + 1),
         rings_in(slots, first + 2),
     )
 }

@@ -204,7 +204,7 @@ first_since slots n m (k ∷ order) h there = by_first (eqb k m) refl there (fir
     by_first true same e rest = subst (λ j. since_at slots n ≤ since_at slots j) (eqb-true k m same) h.0
     by_first false other e rest = rest e
 
-in_time_first : (slots : Slots) (n m : ℕ) (order : List ℕ) → AreInTime slots order → first_number order ≡ Some n → is_queued order m ≡ true → since_at slots n ≤ since_at slots m
+pub in_time_first : (slots : Slots) (n m : ℕ) (order : List ℕ) → AreInTime slots order → first_number order ≡ Some n → is_queued order m ≡ true → since_at slots n ≤ since_at slots m
 in_time_first slots n m [] h first there = cc
 in_time_first slots n m (k ∷ order) h first there = by_first (eqb k m) refl there
   where
@@ -217,7 +217,7 @@ in_time_first slots n m (k ∷ order) h first there = by_first (eqb k m) refl th
         omega (arith, ap (since_at slots) at)
     by_first false other e = subst (λ j. since_at slots j ≤ since_at slots m) same (first_since slots k m order h.0 e)
 
-not_due : (timeout now first : ℕ) (p : Entry) → first ≤ p.1 → nat_le timeout (now - first) ≡ false → is_due timeout now p ≡ false
+pub not_due : (timeout now first : ℕ) (p : Entry) → first ≤ p.1 → nat_le timeout (now - first) ≡ false → is_due timeout now p ≡ false
 not_due timeout now first p le h = grind (arith, nat_tests)
 
 -- where the first isn't due, none is

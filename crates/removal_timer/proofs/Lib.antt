@@ -3,3 +3,4 @@ mod QueueLemmas
 mod SlotLemmas
 mod HeldLemmas
 mod SortLemmas
+mod WaitLemmas

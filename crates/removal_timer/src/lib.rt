@@ -3,8 +3,9 @@
 //! `membership` alone calls it.
 #![tactic(auto)]
 
-ghost use Rattle.std.specs.Prelude.{◌≡◌, ℕ, ◌+◌, ◌*◌, ◌<◌, ◌≤◌, true, false, [], ◌++◌, ◌==◌, not, IfOk, IfSome, IsNone, None, Some, is_some, List, length, filter, map, vec_len, vec_capacity, slice_set};
+ghost use Rattle.std.specs.Prelude.{◌≡◌, ℕ, ◌+◌, ◌-◌, ◌*◌, min, ◌<◌, ◌≤◌, true, false, [], ◌++◌, ◌==◌, not, IfOk, IfSome, IsNone, None, Some, is_some, List, length, filter, map, vec_len, vec_capacity, slice_set};
 ghost use Rattle.std.specs.Bool.{OnTrue};
+ghost use Rattle.std.specs.List.{AllByRecursion, list_any};
 ghost use Rattle.std.specs.List.Sorted.{IsPermutation};
 ghost use Rattle.ff_ids.specs.declared.TheConstants.{MAX_RINGS, MAX_TOLERANCE};
 ghost use Rattle.ff_ids.specs.declared.AccBody.{AccBody as Accusation};
@@ -107,6 +108,34 @@ fn first_due(slots: &[Option<Entry>], queue: &Queue, timeout: u32, now: u64) -> 
         Some(number)
     } else {
         None
+    }
+}
+
+/// Since when the entry stands that stands for the longest time.
+fn first_since(slots: &[Option<Entry>], queue: &Queue) -> Option<u64>
+    requires { AreQueued slots.now queue.now }
+    ensures none { IsNone result → entries_in slots.now ≡ [] }
+    ensures first { IfSome result
+        (λ since. AllByRecursion (λ p. since ≤ p.1) (entries_in slots.now)) }
+    ensures there { IfSome result
+        (λ since. list_any (λ p. p.1 == since) (entries_in slots.now) ≡ true) }
+{
+    let number = queue.first()?;
+    let entry = slots[number as usize]?;
+    Some(entry.1)
+}
+
+/// How many of the next ticks pass before what stands since then is due, of at most so many.
+fn ticks_before(timeout: u32, since: u64, now: u64, most: u32) -> u32
+    ensures { result ≡ min most (timeout - (now - since) - 1) }
+{
+    let left = u64::from(timeout)
+        .saturating_sub(now.saturating_sub(since))
+        .saturating_sub(1);
+    if left < u64::from(most) {
+        left as u32
+    } else {
+        most
     }
 }
 
@@ -213,6 +242,22 @@ impl Timers {
         let from = out.len();
         take_due(&mut self.slots, &mut self.queue, self.timeout, now, out);
         sort_behind(out, from);
+    }
+
+    /// At how many of the next ticks nothing is due, of at most so many. Only the entry is looked at that has stood for the
+    /// longest time.
+    pub fn quiet_ticks(&self, now: u64, most: u32) -> u32
+        requires { AreUntil now self.now.entries }
+        ensures most { result ≤ most }
+        ensures quiet { (n : ℕ) → n < result
+            → filter (is_due self.now.timeout (now + n + 1)) self.now.entries ≡ [] }
+        ensures next { result < most
+            → 0 < length (filter (is_due self.now.timeout (now + result + 1)) self.now.entries) }
+    {
+        match first_since(&self.slots, &self.queue) {
+            Some(since) => ticks_before(self.timeout, since, now, most),
+            None => most,
+        }
     }
 
     /// Whether nothing stands.

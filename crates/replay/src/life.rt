@@ -19,7 +19,7 @@ ghost use Rattle.replay.specs.Plays.{Plays, PlaysOne, Tells, FitsLife, FitsOn};
 use crate::report::{add, add_report, add_verdict, add_verdict_on};
 use ff_ids::{AccBody, Fault, Group, MemberId, NoteBody, RingNo};
 use fields::NoMemory;
-use life_events::{Verdict, write_members};
+use life_events::{Told, Verdict};
 use membership::{Changes, Membership};
 use ring_order::number_places;
 use ring_order::steps::Steps;
@@ -34,6 +34,8 @@ pub struct Life {
     pub number: u64,
     pub membership: Membership,
     pub changes: Changes,
+    /// The view as it was last told.
+    told: Told,
 }
 
 /// As `Membership::put_accusation`, its comparisons counted in a ledger of its own.
@@ -90,6 +92,7 @@ impl Life {
             number: 1,
             membership: Membership::open(alloc, group)?,
             changes: Changes::new(alloc)?,
+            told: Told::new(alloc),
         })
     }
 
@@ -149,7 +152,7 @@ impl Life {
         add(text, b"\n")
     }
 
-    /// So many ticks come, one after another.
+    /// So many ticks come, one after another. Those that bring nothing are passed at once.
     fn take_ticks(&mut self, ticks: u32, text: &mut Vec<u8>) -> Result<(), NoMemory>
         requires { self.old.membership.moment + ticks ≤ most_ticks }
         ensures { (r : Recorded) → PlaysOne self.old r
@@ -158,9 +161,12 @@ impl Life {
             text.new.items) }
     {
         add(text, b"\n")?;
-        for _tick in 0..ticks {
+        let mut passed = self.membership.pass_quiet(ticks);
+        while passed < ticks {
             self.membership.tick(&mut self.changes);
             add_report(text, self.membership.now(), &self.changes)?;
+            passed += 1;
+            passed += self.membership.pass_quiet(ticks - passed);
         }
         Ok(())
     }
@@ -179,14 +185,13 @@ impl Life {
     }
 
     /// The view is asked for.
-    fn tell_view(&self, alloc: Global, text: &mut Vec<u8>) -> Result<(), NoMemory>
-        ensures { (r : Recorded) → PlaysOne self.now r
+    fn tell_view(&mut self, text: &mut Vec<u8>) -> Result<(), NoMemory>
+        ensures { (r : Recorded) → PlaysOne self.old r
             → OnOk result
-            (Tells (answer_in r DirectLine.View) self.now text.old.items text.new.items) }
+            (Tells (answer_in r DirectLine.View) self.new text.old.items text.new.items) }
     {
-        let members = self.membership.members_in_view(alloc)?;
         add(text, b" : ")?;
-        write_members(&members, text)?;
+        self.told.write(self.membership.view(), text)?;
         add(text, b"\n")
     }
 
@@ -213,12 +218,7 @@ impl Life {
     }
 
     /// Runs a line below that of the group.
-    fn answer(
-        &mut self,
-        alloc: Global,
-        line: DirectLine,
-        text: &mut Vec<u8>,
-    ) -> Result<(), NoMemory>
+    fn answer(&mut self, line: DirectLine, text: &mut Vec<u8>) -> Result<(), NoMemory>
         requires { FitsLife self.old line }
         ensures { (r : Recorded) → PlaysOne self.old r
             → OnOk result (Tells (answer_in r line) self.new text.old.items text.new.items) }
@@ -230,7 +230,7 @@ impl Life {
             DirectLine::Accuse(accusation) => self.take_accusation(accusation, text),
             DirectLine::Tick(ticks) => self.take_ticks(ticks, text),
             DirectLine::Life => self.begin_another(text),
-            DirectLine::View => self.tell_view(alloc, text),
+            DirectLine::View => self.tell_view(text),
             DirectLine::Monitor { ring, member } => self.tell_monitor(ring, member, text),
         }
     }
@@ -251,7 +251,7 @@ pub fn answer(
         → OnOk result (text.new.items ≡ text.old.items ++ answer_text (answer_to r line)) }
 {
     match life {
-        Some(life) => life.answer(alloc, line, text),
+        Some(life) => life.answer(line, text),
         None => {
             if let DirectLine::Group { t, timeout } = line {
                 *life = Some(Life::first(alloc, t, timeout)?);

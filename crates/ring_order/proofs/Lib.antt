@@ -4,3 +4,4 @@ pub mod KeyOrder
 pub mod Top
 pub mod CountLemmas
 pub mod NearestLaws
+mod HintLemmas

@@ -1,5 +1,5 @@
 -- Rows that are filled from the front.
-use Rattle.std.proofs.Common.{◌≡◌, ℕ, suc, ◌+◌, ◌-◌, ◌<◌, ◌^◌, Bool, true, false, ◌&&◌, List, [], ◌∷◌, ◌++◌, length, take, set, get_or, map, refl, sym, ◌∙◌, ap, arith, length-append, append_assoc}
+use Rattle.std.proofs.Common.{◌≡◌, ℕ, suc, ◌+◌, ◌-◌, ◌<◌, ◌^◌, Bool, true, false, cond, ◌&&◌, List, [], ◌∷◌, ◌++◌, length, take, set, get_or, map, refl, sym, ◌∙◌, ap, arith, length-append, append_assoc}
 use Rattle.std.proofs.Math.Seq.{set-append_seam}
 use Rattle.std.proofs.lemmas.Grind.{take-set_at}
 use Rattle.std.specs.Str.{bytes_eq}
@@ -8,7 +8,7 @@ use Rattle.std.proofs.lemmas.Slice.Eq.{bytes_eq-Decides}
 use Rattle.std.proofs.lemmas.List.Folds.{list_all_at}
 use Rattle.std.proofs.lemmas.List.{map-set, get_or-map, get_or-take, length-take}
 use Rattle.ff_ids.specs.declared.TheConstants.{MAX_RINGS}
-use Rattle.ring_order.specs.Rows.{place_of_number, tail_of, is_plain, kept_of, filled, unused, unused_row}
+use Rattle.ring_order.specs.Rows.{place_of_number, tail_of, is_plain, hint_of, kept_of, filled, unused, unused_row}
 
 -- the first of the unused rows
 pub unused-suc : (n : ℕ) → unused (suc n) ≡ unused_row ∷ unused n
@@ -107,9 +107,15 @@ kept-set rows used count tails plain row h view len room =
 pub record IsPlaceOf (row : List ℕ) (n : ℕ) : Type 0 where
   pub place : row ≡ place_of_number n
   pub small : n < 2 ^ 32
+  pub plain : is_plain row ≡ true
+  pub tail : n ≡ tail_of row
 
 tail_small : (n : ℕ) → n ≡ tail_of (place_of_number n) → n < 2 ^ 32
 tail_small n h = omega (arith, h)
+
+-- its hint is the number
+pub hint_there : (row : List ℕ) (n : ℕ) → IsPlaceOf row n → n ≡ hint_of row
+hint_there row n h = h.tail ∙ ap (λ (b : Bool). cond b (tail_of row) (2 ^ 32 - 1)) (sym h.plain)
 
 -- a row that is given stands for its tail, where all are plain
 pub plain_row : (rows used : List (List ℕ)) (count : ℕ) (tails : List ℕ) (plain : Bool) (r : ℕ) → kept_of (take count rows) ≡ (rows, count, tails, plain) → plain ≡ true → take count rows ≡ used → r < length used → IsPlaceOf (get_or used r []) (get_or tails r 0)
@@ -127,6 +133,8 @@ plain_row rows used count tails plain r h is view low =
     record {
       place = given ∙ place ∙ ap place_of_number (sym tail);
       small = tail_small (get_or tails r 0) (tail ∙ ap tail_of (place ∙ ap place_of_number (sym tail)));
+      plain = ap is_plain given ∙ each;
+      tail = tail ∙ ap tail_of (sym given);
     }
   where
     bytes_true : (xs ys : List ℕ) → bytes_eq xs ys ≡ true → xs ≡ ys

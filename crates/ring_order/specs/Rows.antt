@@ -1,5 +1,5 @@
 -- Places: one row of 32 bytes for each ring.
-use Rattle.std.specs.Prelude.{ℕ, Bool, ◌-◌, List, ◌++◌, length, replicate, map, drop}
+use Rattle.std.specs.Prelude.{ℕ, Bool, ◌-◌, ◌^◌, if◌then◌else◌, List, ◌++◌, length, replicate, map, drop}
 use Rattle.std.specs.List.{list_all}
 use Rattle.std.specs.Int.{w32, to_be_bytes, from_be_bytes}
 use Rattle.std.specs.Str.{bytes_eq}
@@ -27,6 +27,11 @@ tail_of row = from_be_bytes w32 (drop 28 row)
 -- The row is the place that a number stands for.
 unfoldable pub is_plain : List ℕ → Bool
 is_plain row = bytes_eq row (place_of_number (tail_of row))
+
+-- What a row says at once of its order: the number that it is the place of, or, where it is that of none, the greatest
+-- number, with which nothing is said.
+abbrev pub hint_of : List ℕ → ℕ
+hint_of row = if is_plain row then tail_of row else 2 ^ 32 - 1
 
 -- What is kept of rows that are given: `MAX_RINGS` rows, how many are given, the tail of each, and whether all are plain.
 abbrev pub kept_of : List (List ℕ) → List (List ℕ) × ℕ × List ℕ × Bool

@@ -4,9 +4,9 @@
 
 ghost use Rattle.std.specs.Prelude.{◌≡◌, ◌<◌, ◌≤◌, ◌+◌, ◌*◌, ◌-◌, [], ◌∷◌, ◌++◌, ◌↔◌, length, map, All, IsNone, IfSome, option_map, get_or};
 ghost use Rattle.ff_ids.specs.declared.TheConstants.{MAX_RINGS};
-ghost use Rattle.ff_ids.specs.Rings.{is_below, is_between, others, nearest_before as number_before, nearest_after as number_after};
+ghost use Rattle.ff_ids.specs.Rings.{Key, is_below, is_between, others, nearest_before as number_before, nearest_after as number_after};
 ghost use Rattle.ff_ids.specs.Views.{key_at};
-ghost use Rattle.ring_order.specs.Rows.{place_of_number, is_plain, tail_of};
+ghost use Rattle.ring_order.specs.Rows.{place_of_number, is_plain, tail_of, hint_of};
 ghost use Rattle.ring_order.specs.Nearest.{key_of_pair, keys_of, nearer, nearest, nearest_so_far, comparisons_of_next, comparisons_of_all, IsNumberBefore, IsNumberAfter};
 
 mod hashed;
@@ -125,6 +125,19 @@ impl Places {
         self.rows[ring.0 as usize][0]
     }
 
+    /// What the place on the ring says at once of its order: `hint_before` compares two of these.
+    #[inline]
+    pub fn hint(&self, ring: RingNo) -> u32
+        requires { ring.0 < length self.now }
+        ensures { result ≡ hint_of (get_or self.now ring.0 []) }
+    {
+        if self.plain {
+            self.tails[ring.0 as usize]
+        } else {
+            hint_of(&self.rows[ring.0 as usize])
+        }
+    }
+
     /// On how many rings the member has a place.
     pub fn rings(&self) -> u8
         ensures value { result ≡ length self.now }
@@ -147,6 +160,19 @@ fn is_plain(place: &[u8; 32]) -> bool
     ensures { result ≡ is_plain place.now }
 {
     *place == place_of(tail_of(place))
+}
+
+/// The hint of a place that no number stands for. It says nothing.
+const NO_HINT: u32 = u32::MAX;
+
+fn hint_of(place: &[u8; 32]) -> u32
+    ensures { result ≡ hint_of place.now }
+{
+    if is_plain(place) {
+        tail_of(place)
+    } else {
+        NO_HINT
+    }
 }
 
 /// The place that a number stands for.
@@ -231,6 +257,21 @@ pub fn key_before<L: Ledger>(
 {
     steps.add_one();
     key_order(ring, a_places, a, b_places, b)
+}
+
+/// Whether the place with hint `a` comes before that with hint `b`, whose numbers then don't matter, where their hints
+/// tell. It counts one step.
+pub fn hint_before<L: Ledger>(a: u32, b: u32, steps: &mut Steps<L>) -> Option<bool>
+    ensures value { (j k : Key) → a ≡ hint_of j.place → b ≡ hint_of k.place
+        → IfSome result (λ before. before ≡ is_below j k) }
+    ensures step { steps.new ≡ steps.old + 1 }
+{
+    steps.add_one();
+    if a == b || a == NO_HINT || b == NO_HINT {
+        None
+    } else {
+        Some(a < b)
+    }
 }
 
 /// On which side of a member to look.

@@ -1,2 +1,3 @@
 mod Rows
 pub mod GrammarLemmas
+pub mod PlaceLemmas

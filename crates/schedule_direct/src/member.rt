@@ -1,43 +1,35 @@
 //! The `member` line, the only one that takes memory.
 
-ghost use Rattle.std.specs.Prelude.{◌≡◌, Ok, length, map, replicate, ⊤};
-ghost use Rattle.line_text.specs.Answers.{AnswersBy, refusal};
-ghost use Rattle.line_text.specs.Fields.{number_32, number_in};
-ghost use Rattle.line_text.specs.Frame.{fields_line, first_of, unless_bad, word_tests};
+ghost use Rattle.std.specs.Prelude.{◌≡◌, ◌≤◌, Ok, length, ⊤};
+ghost use Rattle.ff_ids.specs.declared.TheConstants.{MAX_RINGS, MAX_TOLERANCE};
+ghost use Rattle.line_text.specs.Answers.{AnswersBy};
+ghost use Rattle.line_text.specs.Frame.{fields_line};
 ghost use Rattle.line_text.specs.Shapes.{tests};
 ghost use Rattle.schedule_direct.specs.Rows.{TakesMemory, line_of, member_fields, read_places};
 
 use crate::line::{DirectLine, LineWord, PlaceList};
 use crate::read::take_member;
-use line_text::{BadWord, LineFault, Words};
+use ff_ids::MAX_RINGS;
+use line_text::{LineFault, Words};
 use std::alloc::Global;
-
-/// The first bad word of the places that the words spell.
-fn check_places(mut words: Words) -> Result<(), BadWord>
-    ensures { first_of (word_tests (replicate (length words.entry) number_32) words.entry)
-        ≡ refusal result }
-{
-    while !words.is_empty() {
-        words.number_32()?;
-    }
-    Ok(())
-}
 
 /// The places that the words spell. They are read before memory is asked for.
 fn place_numbers(alloc: Global, mut words: Words) -> Result<PlaceList, LineFault>
+    requires { length words ≤ MAX_RINGS }
     ensures { AnswersBy (λ _. ⊤) (read_places words.entry) result }
 {
-    check_places(words.again())?;
-    let mut places = Vec::with_capacity(alloc, words.count())?;
+    let mut places = [0; MAX_RINGS as usize];
+    let mut many = 0;
     while !words.is_empty() {
-        let place = words.number_32()?;
-        places.push(place)?;
+        places[many] = words.number_32()?;
+        many += 1;
     }
-    Ok(PlaceList::new(places))
+    Ok(PlaceList::new(Vec::from_slice(alloc, &places[..many])?))
 }
 
 /// A member and its places, one for each of the 2t+1 rings.
 pub(crate) fn member_line(alloc: Global, t: u8, args: Words) -> Result<DirectLine, LineFault>
+    requires { t ≤ MAX_TOLERANCE }
     ensures { AnswersBy TakesMemory
         (fields_line (tests (member_fields t)) (line_of LineWord.Member) args.entry) result }
 {

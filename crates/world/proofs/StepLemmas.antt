@@ -176,5 +176,6 @@ steps-lawful s w told line v old new (Ok done) h played =
     let a : Answer = h.0 in
     let on : IsPlayed s a.world (told ++ a.told) = record { fits = played.fits; verify = played.verify; reached = goes w told line a played.reached h.1.0 } in
     (a, record { is = h.1.0; holds = h.1.1.holds; played = on; lawful = played-lawful s a.world (told ++ a.told) on })
-steps-lawful s w told line v old new (Err (faults.Forged who body)) h played = lines-hand-over s w line (record { who = who; body = body }) played.fits h.0
+steps-lawful s w told line v old new (Err (faults.Forged who body)) h played =
+    record { is = h.0; lawful = played-lawful s w told played; handed = lines-hand-over s w line (record { who = who; body = body }) played.fits h.0 }
 steps-lawful s w told line v old new (Err faults.OutOfMemory) h played = tt

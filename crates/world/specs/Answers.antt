@@ -33,11 +33,17 @@ pub record LeadsLawfully (s : Setting) (w : ModelWorld) (told : List NodeEvent) 
   pub played : IsPlayed s a.world (told ++ a.told)
   pub lawful : IsLawful s a.world (told ++ a.told)
 
--- What a step is worth in a world to which lines lead: no liar brings about anything by it. What is named as forged was found in
--- bytes that this line hands over, and verifies under a key that never signed it.
+-- The line ends as forged in this very world, of which all holds that holds of worlds, and of all that was reported till then. What
+-- is named was found in bytes that the line hands over, and verifies under a key that never signed it.
+pub record EndsForged (s : Setting) (w : ModelWorld) (told : List NodeEvent) (line : WorldLine) (f : Forgery) : Type 0 where
+  pub is : step s w line ≡ Err f
+  pub lawful : IsLawful s w told
+  pub handed : IsForgedIn s w line f
+
+-- What a step is worth in a world to which lines lead: no liar brings about anything by it.
 abbrev pub StepsLawfully : Setting → ModelWorld → List NodeEvent → WorldLine → Kept → Result (Unit {0}) WorldFault → Type 0
 StepsLawfully s w told line v (Ok done) = (a : Answer) × LeadsLawfully s w told line v a
-StepsLawfully s w told line v (Err (faults.Forged who body)) = IsForgedIn s w line (record { who = who; body = body })
+StepsLawfully s w told line v (Err (faults.Forged who body)) = EndsForged s w told line (record { who = who; body = body })
 StepsLawfully s w told line v (Err faults.OutOfMemory) = Unit {0}
 
 -- The same of a line that is played: where a record is forged, or memory was refused, more may be written already.

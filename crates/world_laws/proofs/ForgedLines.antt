@@ -311,7 +311,7 @@ forged-stage : (stage : Stage) (told : List NodeEvent) (line : WorldLine) (f : F
 forged-stage (Lists r) told line f come e = cc
 forged-stage (Plays s w) told line f come e =
     let is : step s w line ≡ Err f = stepped-forged s w line (step s w line) f refl e in
-    record { setting = s; world = w; come = refl; ends = is; handed = lines-hand-over s w line f come.fits is }
+    record { setting = s; world = w; come = refl; ends = is; handed = lines-hand-over s w line f come.0.fits is }
 
 pub texts-hand-over : ForgedTextsHandItOver
 texts-hand-over spelled text f e =

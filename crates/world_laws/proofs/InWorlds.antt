@@ -19,13 +19,12 @@ use Rattle.node_rules.specs.Lives.{Input, Ticks, KeepsOwnNote}
 use Rattle.node_rules.specs.Accusing.{AccusesTheSilent}
 use Rattle.node_rules.proofs.Accusations.{In-filter_map}
 use Rattle.world_rules.specs.Settings.{Owner, Setting, Signed, is_node, setting_of}
-use Rattle.world_rules.specs.Disks.{Disk}
 use Rattle.world_rules.specs.Calls.{called_on}
 use Rattle.world_rules.specs.Worlds.{Life, Host, World, lives_of}
 use Rattle.world_rules.specs.Steps.{NodeEvent, signed_if_spent, signed_in}
 use Rattle.world_rules.proofs.CallSteps.{MayFollow}
 use Rattle.world_rules.proofs.Once.{Rises, Stands}
-use Rattle.world_laws.specs.Signing.{KeepsRoster, TellsSpent, node_after}
+use Rattle.world_laws.specs.Signing.{KeepsRoster, SignsAtTick, TellsSpent, node_after}
 use Rattle.world_laws.proofs.Signed.{OnlyCertifies, SignedIn}
 use Rattle.world_laws.proofs.Rightly.{IsNoteWithin}
 use Rattle.world_laws.proofs.InCalls.{AcceptsSigned, ComesSigned, IsRight, IsSignedBy}
@@ -92,17 +91,24 @@ pub record SignedBy (s : Setting) (lives : List Life) (m index : ℕ) (a : AccBo
   pub own : a.accuser ≡ m
   pub life : Life
   pub lived : In lives life
-  pub before : List Input
-  pub behind : List Input
-  pub at_tick : life.inputs ≡ before ++ Ticks ∷ behind
-  pub disk : Disk
-  pub kept : disk.state ≡ (node_after s m life.found before).stored
-  pub signed : TellsSpent (called_on (setting_of s m) (node_after s m life.found before) Ticks disk).call index (Accusation a)
-  pub silent : AccusesTheSilent (setting_of s m) (node_after s m life.found before) a
   pub place : ℕ
-  pub since : length (node_after s m life.found before).lived ≤ place
-  pub came_in : slice_get (called_on (setting_of s m) (node_after s m life.found before) Ticks disk).call.node.lived place ≡ Some (Accuses a)
+  pub signs : SignsAtTick s m life place index a
   pub stays : slice_get life.node.lived place ≡ Some (Accuses a)
+
+-- A life that began with the same store, and has had more calls.
+pub signs-later : (s : Setting) (m place index : ℕ) (a : AccBody) (life later : Life) (more : List Input) → later.found ≡ life.found → later.inputs ≡ life.inputs ++ more → SignsAtTick s m life place index a → SignsAtTick s m later place index a
+signs-later s m place index a life later more found inputs h =
+    record {
+      before = h.before;
+      behind = h.behind ++ more;
+      at_tick = inputs ∙ ap (λ xs. xs ++ more) h.at_tick ∙ append_assoc h.before (Ticks ∷ h.behind) more;
+      disk = h.disk;
+      kept = subst (λ k. h.disk.state ≡ (node_after s m k h.before).stored) (sym found) h.kept;
+      signed = subst (λ k. TellsSpent (called_on (setting_of s m) (node_after s m k h.before) Ticks h.disk).call index (Accusation a)) (sym found) h.signed;
+      silent = subst (λ k. AccusesTheSilent (setting_of s m) (node_after s m k h.before) a) (sym found) h.silent;
+      since = subst (λ k. length (node_after s m k h.before).lived ≤ place) (sym found) h.since;
+      came_in = subst (λ k. slice_get (called_on (setting_of s m) (node_after s m k h.before) Ticks h.disk).call.node.lived place ≡ Some (Accuses a)) (sym found) h.came_in;
+    }
 
 pub signed-later : (s : Setting) (m index : ℕ) (a : AccBody) (old new : Host) → ((life : Life) → In (lives_at old) life → IsThere new life) → SignedBy s (lives_at old) m index a → SignedBy s (lives_at new) m index a
 signed-later s m index a old new grows h =
@@ -111,16 +117,8 @@ signed-later s m index a old new grows h =
       own = h.own;
       life = x.later;
       lived = x.among;
-      before = h.before;
-      behind = h.behind ++ x.more;
-      at_tick = x.inputs ∙ ap (λ xs. xs ++ x.more) h.at_tick ∙ append_assoc h.before (Ticks ∷ h.behind) x.more;
-      disk = h.disk;
-      kept = subst (λ k. h.disk.state ≡ (node_after s m k h.before).stored) (sym x.found) h.kept;
-      signed = subst (λ k. TellsSpent (called_on (setting_of s m) (node_after s m k h.before) Ticks h.disk).call index (Accusation a)) (sym x.found) h.signed;
-      silent = subst (λ k. AccusesTheSilent (setting_of s m) (node_after s m k h.before) a) (sym x.found) h.silent;
       place = h.place;
-      since = subst (λ k. length (node_after s m k h.before).lived ≤ h.place) (sym x.found) h.since;
-      came_in = subst (λ k. slice_get (called_on (setting_of s m) (node_after s m k h.before) Ticks h.disk).call.node.lived h.place ≡ Some (Accuses a)) (sym x.found) h.came_in;
+      signs = signs-later s m h.place index a h.life x.later x.more x.found x.inputs h.signs;
       stays = subst (λ (es : List Event). slice_get es h.place ≡ Some (Accuses a)) (sym x.grew) (get-front h.life.node.lived x.events h.place (Accuses a) h.stays);
     }
 

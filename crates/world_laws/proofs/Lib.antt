@@ -9,14 +9,17 @@ mod CameIn
 mod Reaching
 mod Bounded
 mod Lawful
+mod Written
+mod SignedFirst
+mod Living
+mod OwnBodies
+mod SignedBefore
 mod Origins
 mod Verified
 mod Removing
-mod Written
-mod SignedFirst
+mod Sent
 mod Answered
 pub mod Viewed
-mod Living
 mod Flowing
 pub mod FlowWalks
 mod FirstForged

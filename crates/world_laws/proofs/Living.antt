@@ -39,13 +39,13 @@ use Rattle.world_laws.proofs.Rosters.{kit-all}
 abbrev taken : List journal.Event → List Body
 taken events = filter_map (λ e. took_in e.what) events
 
-abbrev said : List Event → List Body
+abbrev pub said : List Event → List Body
 said events = filter_map said_in events
 
 taken-append : (xs ys : List journal.Event) → taken (xs ++ ys) ≡ taken xs ++ taken ys
 taken-append xs ys = filter_map-append (λ (e : journal.Event). took_in e.what) xs ys
 
-said-append : (xs ys : List Event) → said (xs ++ ys) ≡ said xs ++ said ys
+pub said-append : (xs ys : List Event) → said (xs ++ ys) ≡ said xs ++ said ys
 said-append xs ys = filter_map-append said_in xs ys
 
 -- ---- in a call
@@ -194,10 +194,10 @@ told_for-other m k before (e ∷ events) apart = ap (λ o. cons_option o (told_f
 
 -- ---- a node's lives
 
-abbrev life_says : Life → List Body
+abbrev pub life_says : Life → List Body
 life_says life = said life.node.lived
 
-flat-append : {X Y : Type 0} (f : X → List Y) (xs ys : List X) → flat_map f (xs ++ ys) ≡ flat_map f xs ++ flat_map f ys
+pub flat-append : {X Y : Type 0} (f : X → List Y) (xs ys : List X) → flat_map f (xs ++ ys) ≡ flat_map f xs ++ flat_map f ys
 flat-append f [] ys = refl
 flat-append f (x ∷ xs) ys = ap (λ zs. f x ++ zs) (flat-append f xs ys) ∙ sym (append_assoc (f x) (flat_map f xs) (flat_map f ys))
 

@@ -7,21 +7,23 @@ use Rattle.std.proofs.lemmas.List.{append_assoc}
 use Rattle.ff_ids.specs.declared.AccBody.{AccBody}
 use Rattle.ff_ids.specs.declared.Fault.{Fault}
 use Rattle.ff_ids.specs.declared.NoteBody.{NoteBody}
-use Rattle.ff_ids.specs.Steps.{Event, Notes, Accuses, Ticks as Passes}
+use Rattle.ff_ids.specs.Steps.{Event, Notes, Accuses, Ticks as Passes, step}
+use Rattle.life_laws.proofs.Lists.{In, In-append_left, In-append_right}
 use Rattle.records.specs.declared.Body.{Body}
 use Rattle.records.specs.declared.Body.TheVariants.{Certificate, Note, Accusation}
 use Rattle.records.specs.declared.Record.{Record}
 use Rattle.datagram.specs.declared.Datagram.{Datagram}
 use Rattle.datagram.specs.declared.Datagram.TheVariants as kinds
 use Rattle.datagram.specs.Grammar.{read_of}
+use Rattle.journal.specs.declared.event.Event as journal
+use Rattle.journal.specs.declared.event.What as whats
 use Rattle.journal.specs.declared.event.What.TheVariants as told
-use Rattle.node_rules.specs.Nodes.{Setting, Node, event_of, neighbours}
+use Rattle.node_rules.specs.Nodes.{Setting, Node, event_of, neighbours, state_of}
 use Rattle.node_rules.specs.Refusals.{refusal}
-use Rattle.node_rules.specs.Calls.{Call, begun, tells, lives, takes, signs, wants, is_used_up}
+use Rattle.node_rules.specs.Calls.{Call, begun, tells, lives, takes, spends, signs, sends, stops, told_of, wants, is_used_up}
 use Rattle.node_rules.specs.Deliveries.{answer_to, answering_note, answers, judged, handles, handles_all, hears, delivered}
 use Rattle.node_rules.specs.Lives.{Input, Delivers, Ticks}
 use Rattle.node_rules.specs.Verdicts.{when_all_handled}
-use Rattle.node_rules.proofs.Small.{node-sends}
 use Rattle.node_rules.proofs.Handling.{nil-right, node-wants, node-handles, unread}
 use Rattle.node_rules.proofs.Sendings.{ping-brings, pong-brings, summary-brings}
 use Rattle.world_rules.specs.Disks.{Disk}
@@ -101,10 +103,6 @@ lived-takes s r c = refl
 pub lived-signs : (s : Setting) (b : Body) (c : Call) → (signs s b c).node.lived ≡ c.node.lived ++ event_of s b ∷ []
 unfolding signs takes lives
 lived-signs s b c = refl
-
-lived-passes : (s : Setting) (c : Call) → (lives s Passes c).node.lived ≡ c.node.lived ++ Passes ∷ []
-unfolding lives
-lived-passes s c = refl
 
 brings-wants : (works : Bool) (s : Setting) (n : Node) (r : Record) (x : AccBody) (c : Call) → refusal s n r ≡ None → c.node.lived ≡ n.lived ++ event_of s r.body ∷ [] → Brings s n r (wants works s (answer_to s c.node.stored x) (neighbours s) c).node
 brings-wants works s n r x c fine lived =
@@ -204,17 +202,20 @@ no-shorter : {X : Type 0} (xs ys : List X) → length xs ≤ length (xs ++ ys)
 no-shorter [] ys = omega arith
 no-shorter (x ∷ xs) ys = omega (arith, no-shorter xs ys)
 
--- The accusation is the node's own, and is behind what was in the life before.
-pub record IsAddedOwn (s : Setting) (n : Node) (place : ℕ) (a : AccBody) : Type 0 where
+-- The accusation is the node's own, is behind what was in the life before, and an index was spent on it.
+pub record IsAddedOwn (s : Setting) (n : Node) (c : Call) (place : ℕ) (a : AccBody) : Type 0 where
   pub by : a.accuser ≡ s.me
   pub since : length n.lived ≤ place
+  pub moment : ℕ
+  pub index : ℕ
+  pub spent : In c.told (record { moment = moment; what = told.Spent index (Accusation a) })
 
 -- So is each accusation that comes in.
-record AddsOwn (s : Setting) (n next : Node) : Type 0 where
-  longer : length n.lived ≤ length next.lived
-  each : (place : ℕ) (a : AccBody) → slice_get next.lived place ≡ Some (Accuses a) → (slice_get n.lived place ≡ Some (Accuses a)) ⊎ IsAddedOwn s n place a
+record AddsOwn (s : Setting) (n : Node) (c : Call) : Type 0 where
+  longer : length n.lived ≤ length c.node.lived
+  each : (place : ℕ) (a : AccBody) → slice_get c.node.lived place ≡ Some (Accuses a) → (slice_get n.lived place ≡ Some (Accuses a)) ⊎ IsAddedOwn s n c place a
 
-adds-nothing : (s : Setting) (n : Node) → AddsOwn s n n
+adds-nothing : (s : Setting) (n : Node) → AddsOwn s n (begun n)
 adds-nothing s n = record { longer = omega arith; each = λ place a e. inl e }
 
 abbrev NoRecord : Record → Type 0
@@ -224,37 +225,88 @@ one-at : (e x : Event) (place : ℕ) → slice_get (e ∷ []) place ≡ Some x �
 one-at e x zero h = some-is e x h
 one-at e x (suc place) h = cc
 
-adds-one : (s : Setting) (n before next : Node) (e : Event) → next.lived ≡ before.lived ++ e ∷ [] → ((a : AccBody) → e ≡ Accuses a → a.accuser ≡ s.me) → AddsOwn s n before → AddsOwn s n next
-adds-one s n before next e lived own h =
+later-own : (s : Setting) (n : Node) (c d : Call) (news : List journal.Event) (place : ℕ) (a : AccBody) → d.told ≡ c.told ++ news → IsAddedOwn s n c place a → IsAddedOwn s n d place a
+later-own s n c d news place a grew h =
+    let e : journal.Event = record { moment = h.moment; what = told.Spent h.index (Accusation a) } in
+    record { by = h.by; since = h.since; moment = h.moment; index = h.index; spent = subst (λ (xs : List journal.Event). In xs e) (sym grew) (In-append_left c.told news e h.spent) }
+
+-- More is reported, and the life stays.
+adds-told : (s : Setting) (n : Node) (c d : Call) (news : List journal.Event) → d.told ≡ c.told ++ news → d.node.lived ≡ c.node.lived → AddsOwn s n c → AddsOwn s n d
+adds-told s n c d news grew lived h =
     record {
-      longer = omega (arith, h.longer, no-shorter before.lived (e ∷ []), ap (λ xs. length xs) lived);
-      each = λ place a found. elim (at-append before.lived (e ∷ []) place (Accuses a) (sym (ap (λ xs. slice_get xs place) lived) ∙ found)) [
-        | inl old ↦ h.each place a old
-        | inr new ↦ inr (record { by = own a (one-at e (Accuses a) new.more new.found); since = omega (arith, new.is, h.longer) })
+      longer = omega (arith, h.longer, ap (λ xs. length xs) lived);
+      each = λ place a found. elim (h.each place a (sym (ap (λ xs. slice_get xs place) lived) ∙ found)) [
+        | inl old ↦ inl old
+        | inr own ↦ inr (later-own s n c d news place a grew own)
       ];
     }
 
-own-accusation : (m : ℕ) (x a : AccBody) → x.accuser ≡ m → Accuses x ≡ Accuses a → a.accuser ≡ m
-own-accusation m x a by e = subst (λ (z : AccBody). z.accuser ≡ m) (inner x a e) by
+-- One event comes in; if it is an accusation, it is the node's own, on which an index was spent.
+adds-one : (s : Setting) (n : Node) (c d : Call) (news : List journal.Event) (e : Event) → d.told ≡ c.told ++ news → d.node.lived ≡ c.node.lived ++ e ∷ []
+    → ((a : AccBody) → e ≡ Accuses a → (a.accuser ≡ s.me) × ((moment : ℕ) × ((index : ℕ) × In news (record { moment = moment; what = told.Spent index (Accusation a) })))) → AddsOwn s n c → AddsOwn s n d
+adds-one s n c d news e grew lived own h =
+    record {
+      longer = omega (arith, h.longer, no-shorter c.node.lived (e ∷ []), ap (λ xs. length xs) lived);
+      each = λ place a found. elim (at-append c.node.lived (e ∷ []) place (Accuses a) (sym (ap (λ xs. slice_get xs place) lived) ∙ found)) [
+        | inl old ↦ elim (h.each place a old) [ inl older ↦ inl older | inr new ↦ inr (later-own s n c d news place a grew new) ]
+        | inr new ↦
+            let x = own a (one-at e (Accuses a) new.more new.found) in
+            let spent : journal.Event = record { moment = x.1.0; what = told.Spent x.1.1.0 (Accusation a) } in
+            inr (record {
+              by = x.0;
+              since = omega (arith, new.is, h.longer);
+              moment = x.1.0;
+              index = x.1.1.0;
+              spent = subst (λ (xs : List journal.Event). In xs spent) (sym grew) (In-append_right c.told news spent x.1.1.1);
+            })
+      ];
+    }
+
+adds-tells : (s : Setting) (n : Node) (what : whats.What) (c : Call) → AddsOwn s n c → AddsOwn s n (tells s what c)
+adds-tells s n what c h = adds-told s n c (tells s what c) _ refl refl h
+
+adds-sends : (s : Setting) (n : Node) (d : Datagram) (c : Call) (to : ℕ) → AddsOwn s n c → AddsOwn s n (sends s d c to)
+unfolding sends
+adds-sends s n d c to h = adds-told s n c (sends s d c to) _ refl refl h
+
+adds-stops : (s : Setting) (n : Node) (c : Call) → AddsOwn s n c → AddsOwn s n (stops s c)
+adds-stops s n c h = adds-told s n c (stops s c) _ refl refl h
+
+passes-not : {A : Type 0} (a : AccBody) → Passes ≡ Accuses a → A
+passes-not a e = cc
+
+adds-passes : (s : Setting) (n : Node) (c : Call) → AddsOwn s n c → AddsOwn s n (lives s Passes c)
+unfolding lives
+adds-passes s n c h =
+    adds-one s n c (lives s Passes c) (told_of (step s.group (state_of s c.node) Passes).state.moment (step s.group (state_of s c.node) Passes).report) Passes refl refl (λ a e. passes-not a e) h
+
+adds-signs : (s : Setting) (n : Node) (x : AccBody) (c : Call) → x.accuser ≡ s.me → AddsOwn s n c → AddsOwn s n (signs s (Accusation x) c)
+unfolding signs takes lives
+adds-signs s n x c by h =
+    let d : Call = spends s (Accusation x) c in
+    let first : journal.Event = record { moment = (state_of s c.node).moment; what = told.Spent c.node.stored.next (Accusation x) } in
+    let report : List journal.Event = told_of (step s.group (state_of s d.node) (Accuses x)).state.moment (step s.group (state_of s d.node) (Accuses x)).report in
+    adds-one s n c (signs s (Accusation x) c) (first ∷ report) (Accuses x) (append_assoc c.told (first ∷ []) report) refl
+    (λ a e.
+    let same : x ≡ a = inner x a e in
+    subst (λ (y : AccBody). (y.accuser ≡ s.me) × ((moment : ℕ) × ((index : ℕ) × In (first ∷ report) (record { moment = moment; what = told.Spent index (Accusation y) })))) same
+    (by, ((state_of s c.node).moment, (c.node.stored.next, inl refl)))) h
   where
     inner : (x y : AccBody) → Accuses x ≡ Accuses y → x ≡ y
     inner x y e = cc
 
-passes-not : (m : ℕ) (a : AccBody) → Passes ≡ Accuses a → a.accuser ≡ m
-passes-not m a e = cc
-
-adding : (s : Setting) (n : Node) → Hands s NoRecord (λ c. AddsOwn s n c.node)
+adding : (s : Setting) (n : Node) → Hands s NoRecord (AddsOwn s n)
 adding s n =
-    joined s NoRecord (λ c. AddsOwn s n c.node) (record {
-      told = λ what c plain h. h;
+    joined s NoRecord (AddsOwn s n) (record {
+      told = λ what c plain h. adds-tells s n what c h;
       judged = λ r c none h. absurd none;
-      sent = λ d c to h. subst (AddsOwn s n) (sym (node-sends s d c to)) h;
+      sent = λ d c to h. adds-sends s n d c to h;
       taken = λ r c none fine h. absurd none;
       answered = λ r a c none fine is me left h. absurd none;
-      accused = λ a c by left h. adds-one s n c.node (signs s (Accusation a) c).node (Accuses a) (lived-signs s (Accusation a) c) (λ x e. own-accusation s.me a x by e) h;
-      stopped = λ c h. h;
-      passed = λ c h. adds-one s n c.node (lives s Passes c).node Passes (lived-passes s c) (λ a e. passes-not s.me a e) h;
-      probed = λ p c h. record { longer = h.longer; each = h.each };
+      accused = λ a c by left h. adds-signs s n a c by h;
+      stopped = λ c h. adds-stops s n c h;
+      passed = λ c h. adds-passes s n c h;
+      probed = λ p c h. adds-told s n c (record c { node = record c.node { probes = p } }) [] (sym (nil-right c.told)) refl h;
     })
 
 -- ---- a call
@@ -266,48 +318,48 @@ pub record ComesOfRecord (s : Setting) (n : Node) (bytes : List ℕ) (place : �
   pub read : read_of bytes ≡ Ok (kinds.Records from records)
   pub one : ComesOfOne s (begun n) records place a
 
-abbrev pub ComesOfInput : Setting → Node → Input → ℕ → AccBody → Type 0
-ComesOfInput s n (Delivers bytes) place a = ComesOfRecord s n bytes place a
-ComesOfInput s n Ticks place a = IsAddedOwn s n place a
+abbrev pub ComesOfInput : Setting → Node → Input → Call → ℕ → AccBody → Type 0
+ComesOfInput s n (Delivers bytes) c place a = ComesOfRecord s n bytes place a
+ComesOfInput s n Ticks c place a = IsAddedOwn s n c place a
 
 -- It was there before, or has come of the call.
-abbrev pub ComesIn : Setting → Node → Input → ℕ → AccBody → Type 0
-ComesIn s n i place a = (slice_get n.lived place ≡ Some (Accuses a)) ⊎ ComesOfInput s n i place a
+abbrev pub ComesIn : Setting → Node → Input → Call → ℕ → AccBody → Type 0
+ComesIn s n i c place a = (slice_get n.lived place ≡ Some (Accuses a)) ⊎ ComesOfInput s n i c place a
 
-records-in : (s : Setting) (n : Node) (bytes : List ℕ) (from : ℕ) (records : List Record) (place : ℕ) (a : AccBody) → read_of bytes ≡ Ok (kinds.Records from records) → (slice_get n.lived place ≡ Some (Accuses a)) ⊎ ComesOfOne s (begun n) records place a
-    → ComesIn s n (Delivers bytes) place a
-records-in s n bytes from records place a read (inl old) = inl old
-records-in s n bytes from records place a read (inr one) = inr (record { from = from; records = records; read = read; one = one })
+records-in : (s : Setting) (n : Node) (bytes : List ℕ) (c : Call) (from : ℕ) (records : List Record) (place : ℕ) (a : AccBody) → read_of bytes ≡ Ok (kinds.Records from records) → (slice_get n.lived place ≡ Some (Accuses a)) ⊎ ComesOfOne s (begun n) records place a
+    → ComesIn s n (Delivers bytes) c place a
+records-in s n bytes c from records place a read (inl old) = inl old
+records-in s n bytes c from records place a read (inr one) = inr (record { from = from; records = records; read = read; one = one })
 
-all-in : (s : Setting) (n : Node) (bytes : List ℕ) (from : ℕ) (records : List Record) (place : ℕ) (a : AccBody) → read_of bytes ≡ Ok (kinds.Records from records) → slice_get (delivered s n bytes).node.lived place ≡ Some (Accuses a) → ComesIn s n (Delivers bytes) place a
+all-in : (s : Setting) (n : Node) (bytes : List ℕ) (c : Call) (from : ℕ) (records : List Record) (place : ℕ) (a : AccBody) → read_of bytes ≡ Ok (kinds.Records from records) → slice_get (delivered s n bytes).node.lived place ≡ Some (Accuses a) → ComesIn s n (Delivers bytes) c place a
 unfolding delivered
-all-in s n bytes from records place a read e =
-    records-in s n bytes from records place a read
+all-in s n bytes c from records place a read e =
+    records-in s n bytes c from records place a read
     (of-all s records (begun n) place a (subst (λ heard. slice_get (hears s heard (begun n)).node.lived place ≡ Some (Accuses a)) read e))
 
-same-in : (s : Setting) (n next : Node) (i : Input) (place : ℕ) (a : AccBody) → next.lived ≡ n.lived → slice_get next.lived place ≡ Some (Accuses a) → ComesIn s n i place a
-same-in s n next i place a same e = inl (sym (ap (λ xs. slice_get xs place) same) ∙ e)
+same-in : (s : Setting) (n next : Node) (i : Input) (c : Call) (place : ℕ) (a : AccBody) → next.lived ≡ n.lived → slice_get next.lived place ≡ Some (Accuses a) → ComesIn s n i c place a
+same-in s n next i c place a same e = inl (sym (ap (λ xs. slice_get xs place) same) ∙ e)
 
-whole-in : (s : Setting) (n : Node) (bytes : List ℕ) (heard : Result Datagram ℕ) (place : ℕ) (a : AccBody) → read_of bytes ≡ heard → slice_get (delivered s n bytes).node.lived place ≡ Some (Accuses a) → ComesIn s n (Delivers bytes) place a
-whole-in s n bytes (Err at) place a read e = same-in s n (delivered s n bytes).node (Delivers bytes) place a (ap (λ (x : Node). x.lived) (unread s n bytes at read).node) e
-whole-in s n bytes (Ok (kinds.Ping from nonce)) place a read e = same-in s n (delivered s n bytes).node (Delivers bytes) place a (ap (λ (x : Node). x.lived) (ping-brings s n bytes from nonce read).node_so) e
-whole-in s n bytes (Ok (kinds.Pong from nonce)) place a read e = same-in s n (delivered s n bytes).node (Delivers bytes) place a (ap (λ (x : Node). x.lived) (pong-brings s n bytes from nonce read).node_so) e
-whole-in s n bytes (Ok (kinds.Summary from flag theirs)) place a read e = same-in s n (delivered s n bytes).node (Delivers bytes) place a (ap (λ (x : Node). x.lived) (summary-brings s n bytes from flag theirs read).node_so) e
-whole-in s n bytes (Ok (kinds.Records from records)) place a read e = all-in s n bytes from records place a read e
+whole-in : (s : Setting) (n : Node) (bytes : List ℕ) (c : Call) (heard : Result Datagram ℕ) (place : ℕ) (a : AccBody) → read_of bytes ≡ heard → slice_get (delivered s n bytes).node.lived place ≡ Some (Accuses a) → ComesIn s n (Delivers bytes) c place a
+whole-in s n bytes c (Err at) place a read e = same-in s n (delivered s n bytes).node (Delivers bytes) c place a (ap (λ (x : Node). x.lived) (unread s n bytes at read).node) e
+whole-in s n bytes c (Ok (kinds.Ping from nonce)) place a read e = same-in s n (delivered s n bytes).node (Delivers bytes) c place a (ap (λ (x : Node). x.lived) (ping-brings s n bytes from nonce read).node_so) e
+whole-in s n bytes c (Ok (kinds.Pong from nonce)) place a read e = same-in s n (delivered s n bytes).node (Delivers bytes) c place a (ap (λ (x : Node). x.lived) (pong-brings s n bytes from nonce read).node_so) e
+whole-in s n bytes c (Ok (kinds.Summary from flag theirs)) place a read e = same-in s n (delivered s n bytes).node (Delivers bytes) c place a (ap (λ (x : Node). x.lived) (summary-brings s n bytes from flag theirs read).node_so) e
+whole-in s n bytes c (Ok (kinds.Records from records)) place a read e = all-in s n bytes c from records place a read e
 
-so_far-in : (s : Setting) (n : Node) (i : Input) (c : Call) (place : ℕ) (a : AccBody) → ComesSoFar s n i c → slice_get c.node.lived place ≡ Some (Accuses a) → ComesIn s n i place a
-so_far-in s n (Delivers bytes) c place a (inl whole) e = whole-in s n bytes (read_of bytes) place a refl (subst (λ (x : Call). slice_get x.node.lived place ≡ Some (Accuses a)) whole.is e)
+so_far-in : (s : Setting) (n : Node) (i : Input) (c : Call) (place : ℕ) (a : AccBody) → ComesSoFar s n i c → slice_get c.node.lived place ≡ Some (Accuses a) → ComesIn s n i c place a
+so_far-in s n (Delivers bytes) c place a (inl whole) e = whole-in s n bytes c (read_of bytes) place a refl (subst (λ (x : Call). slice_get x.node.lived place ≡ Some (Accuses a)) whole.is e)
 so_far-in s n (Delivers bytes) c place a (inr cut) e =
     let split = split-at cut.records cut.place cut.at cut.found in
     let is : slice_get (delivered_until s n (take cut.place cut.records) cut.at).node.lived place ≡ Some (Accuses a) = subst (λ (x : Call). slice_get x.node.lived place ≡ Some (Accuses a)) cut.is e in
-    records-in s n bytes cut.from cut.records place a cut.read
+    records-in s n bytes c cut.from cut.records place a cut.read
     (elim (of-until s n (take cut.place cut.records) split.0 cut.at place a is) [
       | inl old ↦ inl old
       | inr one ↦ inr (subst (λ xs. ComesOfOne s (begun n) xs place a) (sym split.1) one)
     ])
-so_far-in s n Ticks c place a so e = (hands-so_far s NoRecord (λ c. AddsOwn s n c.node) (adding s n) n Ticks c so tt (adds-nothing s n)).each place a e
+so_far-in s n Ticks c place a so e = (hands-so_far s NoRecord (AddsOwn s n) (adding s n) n Ticks c so tt (adds-nothing s n)).each place a e
 
-pub called-in : (s : Setting) (n : Node) (i : Input) (d : Disk) (place : ℕ) (a : AccBody) → slice_get (called_on s n i d).call.node.lived place ≡ Some (Accuses a) → ComesIn s n i place a
+pub called-in : (s : Setting) (n : Node) (i : Input) (d : Disk) (place : ℕ) (a : AccBody) → slice_get (called_on s n i d).call.node.lived place ≡ Some (Accuses a) → ComesIn s n i (called_on s n i d).call place a
 called-in s n i d place a e = so_far-in s n i (called_on s n i d).call place a (so_far s n i d) e
 
 -- ---- the node behind records

@@ -33,7 +33,7 @@ use Rattle.world_rules.proofs.SoFar.{so_far}
 use Rattle.world_rules.proofs.LineSteps.{IsFree, HasIndexLeft, Keeps, begins_life, keeps-reached}
 use Rattle.world_rules.proofs.Once.{Stands, at-host, one-started, stands-kept, stands-first}
 use Rattle.world_rules.proofs.Telling.{call-on-tells}
-use Rattle.world_laws.specs.Signing.{KeepsRoster, TellsSpent, node_after}
+use Rattle.world_laws.specs.Signing.{KeepsRoster, SignsAtTick, TellsSpent, node_after}
 use Rattle.world_laws.proofs.Rosters.{kit-all, kit-own, roster-started}
 use Rattle.world_laws.proofs.Signed.{authority-of, spent-in}
 use Rattle.world_laws.proofs.Rightly.{IsNoteWithin}
@@ -138,7 +138,7 @@ told-spent m (happened.Spent index body) moment events x i e =
     subst (ToldAs m events) is (record { who = refl; moment = moment; among = i })
 told-spent m _ moment events x i e = cc
 
-told-as : (m : ℕ) (events : List journal.Event) (x : Signed) → In (signed_in m events) x → ToldAs m events x
+pub told-as : (m : ℕ) (events : List journal.Event) (x : Signed) → In (signed_in m events) x → ToldAs m events x
 told-as m events x i =
     let e = In-from_filter_map (λ (e : journal.Event). signed_if_spent m e.what) events x i in
     told-spent m e.0.what e.0.moment events x e.1.0 e.1.1
@@ -236,31 +236,44 @@ called-there host life i n events d grew running x j =
       | inr is ↦ subst (IsThere (host_after host after d)) is (record { later = after; among = after-itself host after d; found = refl; more = i ∷ []; inputs = refl; events = events; grew = grew })
     ]
 
+-- At the tick that spends the index on it the accused was silent, and the accusation came in at this place.
+pub signs-here : (s : Setting) (m place index : ℕ) (a : AccBody) (life : Life) (i : Input) (d : Disk) (moment : ℕ) (next : node.Node) → life.node ≡ node_after s m life.found life.inputs → life.node.stored ≡ d.state
+    → In (called_on (setting_of s m) life.node i d).call.told (record { moment = moment; what = happened.Spent index (Accusation a) })
+    → length life.node.lived ≤ place → slice_get (called_on (setting_of s m) life.node i d).call.node.lived place ≡ Some (Accuses a) → (a.accuser ≡ m) × SignsAtTick s m (with_input life i next) place index a
+signs-here s m place index a life i d moment next after kept told since there =
+    let own : node.Setting = setting_of s m in
+    let whole = (within-whole own life.node i (called_on own life.node i d).call (so_far own life.node i d)).spent moment index (Accusation a) told in
+    let silent = only-silent own life.node i a (moment, index, Contains-from_In _ _ whole) in (
+      silent.1.by_the_node,
+      record {
+        before = life.inputs;
+        behind = [];
+        at_tick = ap (λ x. life.inputs ++ x ∷ []) silent.0;
+        disk = d;
+        kept = sym kept ∙ ap (λ (n : node.Node). n.stored) after;
+        signed = subst (λ n. TellsSpent (called_on own n Ticks d).call index (Accusation a)) after
+            (subst (λ x. TellsSpent (called_on own life.node x d).call index (Accusation a)) silent.0 (moment, Contains-from_In _ _ told));
+        silent = subst (λ n. AccusesTheSilent own n a) after silent.1;
+        since = subst (λ (n : node.Node). length n.lived ≤ place) after since;
+        came_in = subst (λ (n : node.Node). slice_get (called_on own n Ticks d).call.node.lived place ≡ Some (Accuses a)) after
+            (subst (λ x. slice_get (called_on own life.node x d).call.node.lived place ≡ Some (Accuses a)) silent.0 there);
+      },
+    )
+
 called-signed : (s : Setting) (m index : ℕ) (a : AccBody) (life : Life) (i : Input) (host : Host) (moment : ℕ) → life.node ≡ node_after s m life.found life.inputs → life.node.stored ≡ host.disk.state
     → In (called_on (setting_of s m) life.node i host.disk).call.told (record { moment = moment; what = happened.Spent index (Accusation a) })
     → let d = called_on (setting_of s m) life.node i host.disk in SignedBy s (lives_at (host_after host (with_input life i d.call.node) d)) m index a
 called-signed s m index a life i host moment after kept told =
     let own : node.Setting = setting_of s m in
     let d : OnDisk = called_on own life.node i host.disk in
-    let whole = (within-whole own life.node i d.call (so_far own life.node i host.disk)).spent moment index (Accusation a) told in
-    let silent = only-silent own life.node i a (moment, index, Contains-from_In _ _ whole) in
     let came : Came (length life.node.lived) d.call a = came-called own life.node i host.disk moment index a told in
+    let signs = signs-here s m came.place index a life i host.disk moment d.call.node after kept told came.since came.there in
     record {
-      own = silent.1.by_the_node;
+      own = signs.0;
       life = with_input life i d.call.node;
       lived = after-itself host (with_input life i d.call.node) d;
-      before = life.inputs;
-      behind = [];
-      at_tick = ap (λ x. life.inputs ++ x ∷ []) silent.0;
-      disk = host.disk;
-      kept = sym kept ∙ ap (λ (n : node.Node). n.stored) after;
-      signed = subst (λ n. TellsSpent (called_on own n Ticks host.disk).call index (Accusation a)) after
-          (subst (λ x. TellsSpent (called_on own life.node x host.disk).call index (Accusation a)) silent.0 (moment, Contains-from_In _ _ told));
-      silent = subst (λ n. AccusesTheSilent own n a) after silent.1;
       place = came.place;
-      since = subst (λ (n : node.Node). length n.lived ≤ came.place) after came.since;
-      came_in = subst (λ (n : node.Node). slice_get (called_on own n Ticks host.disk).call.node.lived came.place ≡ Some (Accuses a)) after
-          (subst (λ x. slice_get (called_on own life.node x host.disk).call.node.lived came.place ≡ Some (Accuses a)) silent.0 came.there);
+      signs = signs.1;
       stays = came.there;
     }
 

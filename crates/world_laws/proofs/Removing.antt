@@ -23,8 +23,7 @@ use Rattle.world_rules.specs.Laws.{IsSetting, Reached, tells_life}
 use Rattle.world_rules.proofs.Telling.{lives-justified}
 use Rattle.world_laws.specs.Laws.{IsVerifiedRemoval, RemovalsAreVerified, RemovesVerified, SignaturesVerify, ToldRemovalsAreVerified}
 use Rattle.world_laws.proofs.Signed.{in-mapped}
-use Rattle.world_laws.proofs.Lawful.{removes}
-use Rattle.world_laws.proofs.Reaching.{reached-holds}
+use Rattle.world_laws.proofs.SignedBefore.{removes}
 use Rattle.world_laws.proofs.Verified.{IsVouchedAt, reached-verified, vouched}
 
 -- ---- a step that reports a removal
@@ -140,16 +139,16 @@ in-flat f (x ∷ xs) y i =
 
 -- ---- the law
 
-verified-at : (s : Setting) (w : World) (told : List NodeEvent) (who : ℕ) (life : Life) → IsSetting s → SignaturesVerify s → Reached s w told → In (lives_of w who) life → RemovesVerified s w who life
+verified-at : (s : Setting) (w : World) (told : List NodeEvent) (who : ℕ) (life : Life) → IsSetting s → SignaturesVerify s → Reached s w told → In (lives_of w who) life → RemovesVerified s w told who life
 verified-at s w told who life fits verify reached i place m within removed =
     let rests = justified s.group [] life.node.lived place m within removed in
     let vouched-at : IsVouchedAt s w who life rests.0 rests.1 = vouched s w told who life rests.0 rests.1 fits verify reached (reached-verified s w told fits reached) i rests.2.accepted.event in
-    record { accepted = rests.0; accusation = rests.1; rests = rests.2; verified = vouched-at.verified; came = vouched-at.came; own_note = λ is. removes s w told who (reached-holds s w told fits reached) life i place m rests.0 rests.1 rests.2 is }
+    record { accepted = rests.0; accusation = rests.1; rests = rests.2; verified = vouched-at.verified; came = vouched-at.came; own_note = λ is. removes s w told who fits reached life i place m rests.0 rests.1 rests.2 is }
 
 pub removals-verified : RemovalsAreVerified
 removals-verified s w told who fits verify reached = All-from_In _ (lives_of w who) (λ life i. verified-at s w told who life fits verify reached i)
 
-told-verified : (s : Setting) (w : World) (told : List NodeEvent) (t : NodeEvent) (m : ℕ) (life : Life) → IsSetting s → SignaturesVerify s → Reached s w told → In (lives_of w t.who) life → RemovedIn s.group (opening []) life.node.lived m t.event.moment → IsVerifiedRemoval s w t m
+told-verified : (s : Setting) (w : World) (told : List NodeEvent) (t : NodeEvent) (m : ℕ) (life : Life) → IsSetting s → SignaturesVerify s → Reached s w told → In (lives_of w t.who) life → RemovedIn s.group (opening []) life.node.lived m t.event.moment → IsVerifiedRemoval s w told t m
 told-verified s w told t m life fits verify reached i gone =
     record {
       life = life;

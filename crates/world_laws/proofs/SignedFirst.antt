@@ -41,7 +41,7 @@ is-in {X} (x ∷ xs) ys (b ∷ before) behind t e =
       | inr later ↦ inr (later.0, ap (λ z. z ∷ before) (sym head) ∙ ap (λ (zs : List X). x ∷ zs) later.1, later.2)
     ]
 
-told-more : (told gap : List NodeEvent) (who : ℕ) (body : Body) → IsToldSigned told who body → IsToldSigned (told ++ gap) who body
+pub told-more : (told gap : List NodeEvent) (who : ℕ) (body : Body) → IsToldSigned told who body → IsToldSigned (told ++ gap) who body
 told-more told gap who body h =
     record { moment = h.moment; index = h.index; among = Contains-from_In _ _ (In-append_left told gap _ (In-from_Contains _ _ h.among)) }
 

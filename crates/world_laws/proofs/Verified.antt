@@ -8,7 +8,7 @@ use Rattle.std.proofs.lemmas.List.{append_assoc}
 use Rattle.ff_ids.specs.declared.AccBody.{AccBody}
 use Rattle.ff_ids.specs.Faults.{accusation_fault}
 use Rattle.ff_ids.specs.Steps.{Event, Accuses}
-use Rattle.life_laws.proofs.Lists.{In, Contains-from_In, In-append_left, In-append_cases, any_from_In}
+use Rattle.life_laws.proofs.Lists.{In, Contains-from_In, In-append_left, In-append_right, In-append_cases, any_from_In}
 use Rattle.lms_tree.specs.declared.key.PublicKey.{PublicKey}
 use Rattle.records.specs.declared.Body.TheVariants.{Accusation}
 use Rattle.records.specs.declared.Record.{Record}
@@ -16,6 +16,7 @@ use Rattle.epoch_store.specs.declared.Stored.{Stored}
 use Rattle.signer.specs.Lives.{Spent}
 use Rattle.datagram.specs.declared.Datagram.TheVariants as kinds
 use Rattle.validate.specs.Table.{signature_fault}
+use Rattle.journal.specs.declared.event.Event as journal
 use Rattle.node_rules.specs.Nodes as node
 use Rattle.node_rules.specs.Nodes.{Node, state_of, event_of, public_key_of}
 use Rattle.node_rules.specs.Refusals.{refusal, refusal_of}
@@ -25,26 +26,27 @@ use Rattle.node_rules.specs.Starting.{blank, opened, first_note, started}
 use Rattle.node_rules.specs.Lives.{Input, Delivers, Ticks, AreCertificates}
 use Rattle.node_rules.specs.Verdicts.{when_all_handled}
 use Rattle.node_rules.specs.Vouching.{IsVouchedFor}
+use Rattle.node_rules.proofs.Accusations.{In-filter_map}
 use Rattle.node_rules.proofs.OwnNote.{option_or-none}
-use Rattle.world_rules.specs.Settings.{Setting, is_node, members, certificate, certificates, record_of, setting_of}
+use Rattle.world_rules.specs.Settings.{Setting, Signed, is_node, members, certificate, certificates, record_of, setting_of}
 use Rattle.world_rules.specs.Disks.{Disk}
 use Rattle.world_rules.specs.Calls.{OnDisk, called_on}
-use Rattle.world_rules.specs.Worlds.{Life, Host, World, begun_world, lives_of, spent_of, with_host}
-use Rattle.world_rules.specs.Steps.{NodeEvent, first_call, first_life, life_over, host_after, with_disk, with_input}
+use Rattle.world_rules.specs.Worlds.{Life, Host, World, begun_world, lives_of, next_of_liar, spent_of, with_host}
+use Rattle.world_rules.specs.Steps.{NodeEvent, first_call, first_life, life_over, host_after, signed_if_spent, signed_in, with_disk, with_input}
 use Rattle.world_rules.specs.Laws.{IsSetting, Reached}
 use Rattle.world_rules.proofs.OnDisks.{next-after}
 use Rattle.world_rules.proofs.LineSteps.{IsFree, HasIndexLeft, Keeps, keeps-reached}
 use Rattle.world_rules.proofs.Once.{Rises, Stands, at-host, one-started, stands-kept, stands-first}
-use Rattle.world_laws.specs.Signing.{KeepsRoster, node_after}
+use Rattle.world_laws.specs.Signing.{KeepsRoster, SignsAtTick, node_after}
 use Rattle.world_laws.specs.Origins.{HasComeOf, IsAcceptedBehind, node_behind}
 use Rattle.world_laws.specs.Laws.{SignaturesVerify}
 use Rattle.world_laws.proofs.Handing.{In-at, hands-handles_all}
 use Rattle.world_laws.proofs.Rosters.{kit-all, member-listed, roster-key}
-use Rattle.world_laws.proofs.Signed.{IsGenuine, SignedIn, spent-in}
+use Rattle.world_laws.proofs.Signed.{IsGenuine, spent-in}
 use Rattle.world_laws.proofs.Rightly.{Verifies, signature-verifies}
-use Rattle.world_laws.proofs.InCalls.{ComesSigned, GoesOn, InLife, IsOfWorld, going-on, handed}
-use Rattle.world_laws.proofs.InWorlds.{Holds, lives_at}
-use Rattle.world_laws.proofs.Reaching.{after-current, after-lives, current-in, holds-first, holds-kept, in-last, in-life, lives-over}
+use Rattle.world_laws.proofs.InCalls.{GoesOn, InLife, IsOfWorld, going-on, handed}
+use Rattle.world_laws.proofs.InWorlds.{Holds, lives_at, signs-later}
+use Rattle.world_laws.proofs.Reaching.{after-current, after-lives, current-in, holds-first, holds-kept, in-last, in-life, lives-over, signs-here}
 use Rattle.world_laws.proofs.Bounded.{IsWithin, bounded-called}
 use Rattle.world_laws.proofs.Origins.{ComesOfInput, ComesOfOne, ComesOfRecord, IsAddedOwn, all-handled, called-in, lived-signs, lived-takes}
 
@@ -87,35 +89,32 @@ pub record WasAccepted (s : Setting) (m : ℕ) (life : Life) (place : ℕ) (a : 
   pub says : witness.body ≡ Accusation a
   pub verified : Verified s a witness
 
--- The node, which is the accuser, came to it at a tick.
-pub record IsByItself (s : Setting) (m : ℕ) (life : Life) (place : ℕ) (a : AccBody) : Type 0 where
+-- The node, which is the accuser, signed it at a tick, with an index that is among what was signed.
+pub record IsByItself (s : Setting) (signed : List Signed) (m : ℕ) (life : Life) (place : ℕ) (a : AccBody) : Type 0 where
   pub by : a.accuser ≡ m
   pub is : is_node s m ≡ true
-  pub before : List Input
-  pub behind : List Input
-  pub at_tick : life.inputs ≡ before ++ Ticks ∷ behind
-  pub disk : Disk
-  pub kept : disk.state ≡ (node_after s m life.found before).stored
-  pub since : length (node_after s m life.found before).lived ≤ place
-  pub came_in : slice_get (called_on (setting_of s m) (node_after s m life.found before) Ticks disk).call.node.lived place ≡ Some (Accuses a)
+  pub index : ℕ
+  pub at_tick : SignsAtTick s m life place index a
+  pub spent : In signed (record { who = Some m; index = index; body = Accusation a })
 
-abbrev pub HasCome : Setting → ℕ → Life → ℕ → AccBody → Type 0
-HasCome s m life place a = WasAccepted s m life place a ⊎ IsByItself s m life place a
+abbrev pub HasCome : Setting → List Signed → ℕ → Life → ℕ → AccBody → Type 0
+HasCome s signed m life place a = WasAccepted s m life place a ⊎ IsByItself s signed m life place a
 
-accepted-later : (s : Setting) (m : ℕ) (life : Life) (i : Input) (n : Node) (place : ℕ) (a : AccBody) → HasCome s m life place a → HasCome s m (with_input life i n) place a
-accepted-later s m life i n place a (inr own) =
+come-more : (s : Setting) (signed more : List Signed) (m : ℕ) (life : Life) (place : ℕ) (a : AccBody) → HasCome s signed m life place a → HasCome s (signed ++ more) m life place a
+come-more s signed more m life place a (inl h) = inl h
+come-more s signed more m life place a (inr own) =
+    inr (record { by = own.by; is = own.is; index = own.index; at_tick = own.at_tick; spent = In-append_left signed more _ own.spent })
+
+accepted-later : (s : Setting) (signed : List Signed) (m : ℕ) (life : Life) (i : Input) (n : Node) (place : ℕ) (a : AccBody) → HasCome s signed m life place a → HasCome s signed m (with_input life i n) place a
+accepted-later s signed m life i n place a (inr own) =
     inr (record {
       by = own.by;
       is = own.is;
-      before = own.before;
-      behind = own.behind ++ i ∷ [];
-      at_tick = ap (λ xs. xs ++ i ∷ []) own.at_tick ∙ append_assoc own.before (Ticks ∷ own.behind) (i ∷ []);
-      disk = own.disk;
-      kept = own.kept;
-      since = own.since;
-      came_in = own.came_in;
+      index = own.index;
+      at_tick = signs-later s m place own.index a life (with_input life i n) (i ∷ []) refl refl own.at_tick;
+      spent = own.spent;
     })
-accepted-later s m life i n place a (inl h) =
+accepted-later s signed m life i n place a (inl h) =
     let x : IsAcceptedBehind s m life place h.witness = h.accepted in
     inl (record {
       witness = h.witness;
@@ -168,19 +167,16 @@ accepted-here s w m life bytes next place a of free h after x =
       verified = accepted-verified s m n one.taken a one.says roster one.no_fault;
     }
 
-own-here : (s : Setting) (m : ℕ) (life : Life) (d : Disk) (next : Node) (place : ℕ) (a : AccBody) → is_node s m ≡ true → life.node ≡ node_after s m life.found life.inputs → life.node.stored ≡ d.state
-    → IsAddedOwn (setting_of s m) life.node place a → slice_get (called_on (setting_of s m) life.node Ticks d).call.node.lived place ≡ Some (Accuses a) → IsByItself s m (with_input life Ticks next) place a
-own-here s m life d next place a is after runs x found =
+own-here : (s : Setting) (signed : List Signed) (m : ℕ) (life : Life) (d : Disk) (next : Node) (place : ℕ) (a : AccBody) → is_node s m ≡ true → life.node ≡ node_after s m life.found life.inputs → life.node.stored ≡ d.state
+    → let c = (called_on (setting_of s m) life.node Ticks d).call in IsAddedOwn (setting_of s m) life.node c place a → slice_get c.node.lived place ≡ Some (Accuses a) → IsByItself s (signed ++ signed_in m c.told) m (with_input life Ticks next) place a
+own-here s signed m life d next place a is after runs x found =
+    let c : Call = (called_on (setting_of s m) life.node Ticks d).call in
     record {
       by = x.by;
       is = is;
-      before = life.inputs;
-      behind = [];
-      at_tick = refl;
-      disk = d;
-      kept = sym runs ∙ ap (λ (n : Node). n.stored) after;
-      since = subst (λ (n : Node). length n.lived ≤ place) after x.since;
-      came_in = subst (λ (n : Node). slice_get (called_on (setting_of s m) n Ticks d).call.node.lived place ≡ Some (Accuses a)) after found;
+      index = x.index;
+      at_tick = (signs-here s m place x.index a life Ticks d x.moment next after runs x.spent x.since found).1;
+      spent = In-append_right signed (signed_in m c.told) _ (In-filter_map (λ (e : journal.Event). signed_if_spent m e.what) c.told _ (record { who = Some m; index = x.index; body = Accusation a }) x.spent refl);
     }
 
 -- A node that runs in the world, over this disk.
@@ -191,18 +187,19 @@ record Runs (s : Setting) (w : World) (m : ℕ) (life : Life) (d : Disk) : Type 
   runs : life.node.stored ≡ d.state
 
 input-here : (s : Setting) (w : World) (m : ℕ) (life : Life) (i : Input) (d : Disk) (next : Node) (place : ℕ) (a : AccBody) → Runs s w m life d → IsFree s w i
-    → ComesOfInput (setting_of s m) life.node i place a → slice_get (called_on (setting_of s m) life.node i d).call.node.lived place ≡ Some (Accuses a) → HasCome s m (with_input life i next) place a
+    → let c = (called_on (setting_of s m) life.node i d).call in ComesOfInput (setting_of s m) life.node i c place a → slice_get c.node.lived place ≡ Some (Accuses a) → HasCome s (w.signed ++ signed_in m c.told) m (with_input life i next) place a
 input-here s w m life (Delivers bytes) d next place a h free x found = inl (accepted-here s w m life bytes next place a h.of free h.in_life h.after x)
-input-here s w m life Ticks d next place a h free x found = inr (own-here s m life d next place a h.of.is h.after h.runs x found)
+input-here s w m life Ticks d next place a h free x found = inr (own-here s w.signed m life d next place a h.of.is h.after h.runs x found)
 
 -- Behind one more call too each accusation has come from there.
 called-come : (s : Setting) (w : World) (m : ℕ) (life : Life) (i : Input) (d : Disk) (place : ℕ) (a : AccBody) → Runs s w m life d → IsFree s w i
-    → (slice_get life.node.lived place ≡ Some (Accuses a) → HasCome s m life place a) → let next = (called_on (setting_of s m) life.node i d).call.node in slice_get next.lived place ≡ Some (Accuses a) → HasCome s m (with_input life i next) place a
+    → (slice_get life.node.lived place ≡ Some (Accuses a) → HasCome s w.signed m life place a)
+    → let c = (called_on (setting_of s m) life.node i d).call in slice_get c.node.lived place ≡ Some (Accuses a) → HasCome s (w.signed ++ signed_in m c.told) m (with_input life i c.node) place a
 called-come s w m life i d place a h free old found =
-    let next : Node = (called_on (setting_of s m) life.node i d).call.node in
+    let c : Call = (called_on (setting_of s m) life.node i d).call in
     elim (called-in (setting_of s m) life.node i d place a found) [
-      | inl before ↦ accepted-later s m life i next place a (old before)
-      | inr came ↦ input-here s w m life i d next place a h free came found
+      | inl before ↦ come-more s w.signed (signed_in m c.told) m (with_input life i c.node) place a (accepted-later s w.signed m life i c.node place a (old before))
+      | inr came ↦ input-here s w m life i d c.node place a h free came found
     ]
 
 -- ---- the start
@@ -239,7 +236,7 @@ started-quiet s m kept =
 none-first : {A : Type 0} (s : Setting) (m : ℕ) (kept : Stored) (place : ℕ) (a : AccBody) → slice_get (first_call s m kept).node.lived place ≡ Some (Accuses a) → A
 none-first s m kept place a found = absurd (quiet-not (Accuses a) a (started-quiet s m kept (Accuses a) (In-at (first_call s m kept).node.lived place (Accuses a) found)) refl)
 
-first-left : (s : Setting) (host : Host) → HasIndexLeft s host → host.disk.state.next ≤ s.indexes → host.disk.state.next < s.indexes
+pub first-left : (s : Setting) (host : Host) → HasIndexLeft s host → host.disk.state.next ≤ s.indexes → host.disk.state.next < s.indexes
 first-left s host left within = grind (arith, nat_tests, left, within)
 
 first-bounded : (s : Setting) (m : ℕ) (host : Host) → HasIndexLeft s host → host.disk.state.next ≤ s.indexes → (first_call s m host.disk.state).node.stored.next ≤ s.indexes
@@ -250,20 +247,25 @@ first-bounded s m host left within =
 
 -- ---- the world
 
-abbrev pub AllHaveCome : Setting → ℕ → Life → Type 0
-AllHaveCome s m life = (place : ℕ) (a : AccBody) → slice_get life.node.lived place ≡ Some (Accuses a) → HasCome s m life place a
+abbrev pub AllHaveCome : Setting → List Signed → ℕ → Life → Type 0
+AllHaveCome s signed m life = (place : ℕ) (a : AccBody) → slice_get life.node.lived place ≡ Some (Accuses a) → HasCome s signed m life place a
 
-pub record IsVerifiedAt (s : Setting) (m : ℕ) (host : Host) : Type 0 where
+pub record IsVerifiedAt (s : Setting) (signed : List Signed) (m : ℕ) (host : Host) : Type 0 where
   pub disk : host.disk.state.next ≤ s.indexes
   pub running : (life : Life) → host.current ≡ Some life → life.node.stored.next ≤ s.indexes
-  pub lived : (life : Life) → In (lives_at host) life → AllHaveCome s m life
+  pub lived : (life : Life) → In (lives_at host) life → AllHaveCome s signed m life
 
 pub record AllVerified (s : Setting) (w : World) (told : List NodeEvent) : Type 0 where
   pub holds : Holds s w told
-  pub hosts : (m : ℕ) → IsVerifiedAt s m (w.hosts m)
+  pub hosts : (m : ℕ) → IsVerifiedAt s w.signed m (w.hosts m)
 
-put : (s : Setting) (m : ℕ) (host : Host) (w : World) → IsVerifiedAt s m host → ((k : ℕ) → IsVerifiedAt s k (w.hosts k)) → (k : ℕ) → IsVerifiedAt s k ((with_host m host w).hosts k)
-put s m host w here others k = at-host k m host w (IsVerifiedAt s k) (λ e. subst (λ z. IsVerifiedAt s z host) e here) (λ apart. others k)
+-- More was signed.
+at-more : (s : Setting) (signed more : List Signed) (m : ℕ) (host : Host) → IsVerifiedAt s signed m host → IsVerifiedAt s (signed ++ more) m host
+at-more s signed more m host h =
+    record { disk = h.disk; running = h.running; lived = λ life i place a found. come-more s signed more m life place a (h.lived life i place a found) }
+
+put : (s : Setting) (signed : List Signed) (m : ℕ) (host : Host) (w : World) → IsVerifiedAt s signed m host → ((k : ℕ) → IsVerifiedAt s signed k (w.hosts k)) → (k : ℕ) → IsVerifiedAt s signed k ((with_host m host w).hosts k)
+put s signed m host w here others k = at-host k m host w (IsVerifiedAt s signed k) (λ e. subst (λ z. IsVerifiedAt s signed z host) e here) (λ apart. others k)
 
 some-is : {X : Type 0} (x y : X) → Some x ≡ Some y → x ≡ y
 some-is x y e = cc
@@ -275,75 +277,84 @@ after-disk : (host : Host) (life : Life) (d : OnDisk) → (host_after host life 
 after-disk host life d = cond_both {A = Host} d.call.ended _ _ (λ x. x.disk ≡ d.disk) (λ over. refl) (λ going. refl)
 
 called-at : (s : Setting) (w : World) (told : List NodeEvent) (m : ℕ) (i : Input) (life : Life) → IsSetting s → (w.hosts m).current ≡ Some life → IsFree s w i → AllVerified s w told
-    → let d = called_on (setting_of s m) life.node i (w.hosts m).disk in IsVerifiedAt s m (host_after (w.hosts m) (with_input life i d.call.node) d)
+    → let d = called_on (setting_of s m) life.node i (w.hosts m).disk in IsVerifiedAt s (w.signed ++ signed_in m d.call.told) m (host_after (w.hosts m) (with_input life i d.call.node) d)
 called-at s w told m i life fits running free h =
     let own : node.Setting = setting_of s m in
     let host : Host = w.hosts m in
     let d : OnDisk = called_on own life.node i host.disk in
+    let made : List Signed = signed_in m d.call.told in
     let after : Life = with_input life i d.call.node in
-    let at : IsVerifiedAt s m host = h.hosts m in
+    let at : IsVerifiedAt s w.signed m host = h.hosts m in
     let of : IsOfWorld s w m = record { fits = fits; is = (h.holds.hosts m).is life running; only = h.holds.only } in
     let bound : IsWithin own d = bounded-called own life.node i host.disk (at.running life running) at.disk in
     let runs : Runs s w m life host.disk = record { of = of; in_life = in-life s w told m life running h.holds; after = (h.holds.hosts m).after life running; runs = (h.holds.notes m of.is).runs life running } in
-    let come : AllHaveCome s m after = λ place a found. called-come s w m life i host.disk place a runs free (at.lived life (current-in host life running) place a) found in
+    let come : AllHaveCome s (w.signed ++ made) m after = λ place a found. called-come s w m life i host.disk place a runs free (at.lived life (current-in host life running) place a) found in
     record {
       disk = subst (λ (x : Disk). x.state.next ≤ s.indexes) (sym (after-disk host after d)) bound.disk;
       running = λ l e. subst (λ (x : Life). x.node.stored.next ≤ s.indexes) (after-current host after d l e).1 bound.node;
       lived = λ l j. elim (after-lives host after d l j) [
-        | inl old ↦ at.lived l (In-append_left host.past (option_to_list host.current) l old)
-        | inr is ↦ subst (AllHaveCome s m) is come
+        | inl old ↦ (at-more s w.signed made m host at).lived l (In-append_left host.past (option_to_list host.current) l old)
+        | inr is ↦ subst (AllHaveCome s (w.signed ++ made) m) is come
       ];
     }
 
-began-at : (s : Setting) (m : ℕ) (d : Disk) (host : Host) → HasIndexLeft s host → d.state ≡ (first_call s m host.disk.state).node.stored → IsVerifiedAt s m host
-    → IsVerifiedAt s m (record { disk = d; past = host.past; current = Some (first_life host.disk.state (first_call s m host.disk.state)) })
-began-at s m d host left same h =
+began-at : (s : Setting) (signed : List Signed) (m : ℕ) (d : Disk) (host : Host) → HasIndexLeft s host → d.state ≡ (first_call s m host.disk.state).node.stored → IsVerifiedAt s signed m host
+    → IsVerifiedAt s signed m (record { disk = d; past = host.past; current = Some (first_life host.disk.state (first_call s m host.disk.state)) })
+began-at s signed m d host left same h =
     let kept : Stored = host.disk.state in
     let call : Call = first_call s m kept in
     let bound : call.node.stored.next ≤ s.indexes = first-bounded s m host left h.disk in
-    let first : AllHaveCome s m (first_life kept call) = λ place a found. none-first s m kept place a found in
+    let first : AllHaveCome s signed m (first_life kept call) = λ place a found. none-first s m kept place a found in
     record {
       disk = subst (λ (k : Stored). k.next ≤ s.indexes) (sym same) bound;
       running = λ l e. subst (λ (x : Life). x.node.stored.next ≤ s.indexes) (some-is _ l e) bound;
       lived = λ l j. elim (in-last host.past (first_life kept call) l j) [
         | inl old ↦ h.lived l (In-append_left host.past (option_to_list host.current) l old)
-        | inr is ↦ subst (AllHaveCome s m) is first
+        | inr is ↦ subst (AllHaveCome s signed m) is first
       ];
     }
 
-disk-at : (s : Setting) (m : ℕ) (host : Host) (d : Disk) → d.state.next ≤ s.indexes → IsVerifiedAt s m host → IsVerifiedAt s m (with_disk host d)
-disk-at s m host d bound h = record { disk = bound; running = h.running; lived = h.lived }
+disk-at : (s : Setting) (signed : List Signed) (m : ℕ) (host : Host) (d : Disk) → d.state.next ≤ s.indexes → IsVerifiedAt s signed m host → IsVerifiedAt s signed m (with_disk host d)
+disk-at s signed m host d bound h = record { disk = bound; running = h.running; lived = h.lived }
 
-tried-at : (s : Setting) (m : ℕ) (host : Host) (d : Disk) → HasIndexLeft s host → (d.state ≡ host.disk.state) ⊎ (d.state ≡ (first_call s m host.disk.state).node.stored) → IsVerifiedAt s m host → d.state.next ≤ s.indexes
-tried-at s m host d left (inl same) h = subst (λ (k : Stored). k.next ≤ s.indexes) (sym same) h.disk
-tried-at s m host d left (inr after) h = subst (λ (k : Stored). k.next ≤ s.indexes) (sym after) (first-bounded s m host left h.disk)
+tried-at : (s : Setting) (signed : List Signed) (m : ℕ) (host : Host) (d : Disk) → HasIndexLeft s host → (d.state ≡ host.disk.state) ⊎ (d.state ≡ (first_call s m host.disk.state).node.stored) → IsVerifiedAt s signed m host → d.state.next ≤ s.indexes
+tried-at s signed m host d left (inl same) h = subst (λ (k : Stored). k.next ≤ s.indexes) (sym same) h.disk
+tried-at s signed m host d left (inr after) h = subst (λ (k : Stored). k.next ≤ s.indexes) (sym after) (first-bounded s m host left h.disk)
 
-over-at : (s : Setting) (m : ℕ) (host : Host) (life : Life) → host.current ≡ Some life → IsVerifiedAt s m host → IsVerifiedAt s m (life_over host (Some life))
-over-at s m host life running h =
+over-at : (s : Setting) (signed : List Signed) (m : ℕ) (host : Host) (life : Life) → host.current ≡ Some life → IsVerifiedAt s signed m host → IsVerifiedAt s signed m (life_over host (Some life))
+over-at s signed m host life running h =
     record {
       disk = h.disk;
       running = λ l none. none-some {X = Life} l none;
       lived = λ l i. h.lived l (subst (λ xs. In xs l) (lives-over host life running) i);
     }
 
-verified-kept : (s : Setting) → IsSetting s → Keeps s (AllVerified s)
+pub verified-kept : (s : Setting) → IsSetting s → Keeps s (AllVerified s)
 verified-kept s fits =
     let k : Keeps s (Holds s) = holds-kept s fits in
     record {
       called = λ m i life c running free h.
-          record { holds = k.called m i life c running free h.holds; hosts = put s m _ c.world (called-at s c.world c.told m i life fits running free h) h.hosts };
-      began = λ m d c is idle left same h. record { holds = k.began m d c is idle left same h.holds; hosts = put s m _ c.world (began-at s m d (c.world.hosts m) left same (h.hosts m)) h.hosts };
+          let made : List Signed = signed_in m (called_on (setting_of s m) life.node i (c.world.hosts m).disk).call.told in
+          record {
+            holds = k.called m i life c running free h.holds;
+            hosts = put s (c.world.signed ++ made) m _ c.world (called-at s c.world c.told m i life fits running free h) (λ j. at-more s c.world.signed made j (c.world.hosts j) (h.hosts j));
+          };
+      began = λ m d c is idle left same h.
+          let made : List Signed = signed_in m (first_call s m (c.world.hosts m).disk.state).told in
+          let all : (j : ℕ) → IsVerifiedAt s (c.world.signed ++ made) j (c.world.hosts j) = λ j. at-more s c.world.signed made j (c.world.hosts j) (h.hosts j) in
+          record { holds = k.began m d c is idle left same h.holds; hosts = put s (c.world.signed ++ made) m _ c.world (began-at s (c.world.signed ++ made) m d (c.world.hosts m) left same (all m)) all };
       tried = λ m d w told idle left may h.
-          record { holds = k.tried m d w told idle left may h.holds; hosts = put s m _ w (disk-at s m (w.hosts m) d (tried-at s m (w.hosts m) d left may (h.hosts m)) (h.hosts m)) h.hosts };
+          record { holds = k.tried m d w told idle left may h.holds; hosts = put s w.signed m _ w (disk-at s w.signed m (w.hosts m) d (tried-at s w.signed m (w.hosts m) d left may (h.hosts m)) (h.hosts m)) h.hosts };
       disked = λ m d w told same h.
-          record { holds = k.disked m d w told same h.holds; hosts = put s m _ w (disk-at s m (w.hosts m) d (subst (λ (x : Stored). x.next ≤ s.indexes) (sym same) (h.hosts m).disk) (h.hosts m)) h.hosts };
-      ended = λ m life w told running h. record { holds = k.ended m life w told running h.holds; hosts = put s m _ w (over-at s m (w.hosts m) life running (h.hosts m)) h.hosts };
+          record { holds = k.disked m d w told same h.holds; hosts = put s w.signed m _ w (disk-at s w.signed m (w.hosts m) d (subst (λ (x : Stored). x.next ≤ s.indexes) (sym same) (h.hosts m).disk) (h.hosts m)) h.hosts };
+      ended = λ m life w told running h. record { holds = k.ended m life w told running h.holds; hosts = put s w.signed m _ w (over-at s w.signed m (w.hosts m) life running (h.hosts m)) h.hosts };
       got = λ m moment number w told h. record { holds = k.got m moment number w told h.holds; hosts = h.hosts };
       flowed = λ number w told h. record { holds = k.flowed number w told h.holds; hosts = h.hosts };
-      lied = λ key body name w told liar h. record { holds = k.lied key body name w told liar h.holds; hosts = h.hosts };
+      lied = λ key body name w told liar h.
+          record { holds = k.lied key body name w told liar h.holds; hosts = λ j. at-more s w.signed (record { who = Some key; index = next_of_liar w key; body = body } ∷ []) j (w.hosts j) (h.hosts j) };
     }
 
-verified-first : (s : Setting) → AllVerified s (begun_world s) []
+pub verified-first : (s : Setting) → AllVerified s (begun_world s) []
 unfolding begun_world
 verified-first s =
     record {
@@ -394,44 +405,29 @@ pub record IsVouchedAt (s : Setting) (w : World) (m : ℕ) (life : Life) (place 
   pub verified : IsVouchedFor (setting_of s m) (public_key_of life.node a.accuser) (Accusation a)
   pub came : HasComeOf s w m life place a verified.witness
 
-own-vouched : (s : Setting) (w : World) (told : List NodeEvent) (m : ℕ) (life : Life) (place : ℕ) (a : AccBody) → IsSetting s → SignaturesVerify s → Reached s w told → AllVerified s w told → KeepsRoster s life.node → IsByItself s m life place a → SignedIn w.signed (Some a.accuser) (Accusation a)
+own-vouched : (s : Setting) (w : World) (told : List NodeEvent) (m : ℕ) (life : Life) (place : ℕ) (a : AccBody) → IsSetting s → SignaturesVerify s → Reached s w told → AllVerified s w told → KeepsRoster s life.node → IsByItself s w.signed m life place a
     → IsVouchedAt s w m life place a
 unfolding vouched-by
-own-vouched s w told m life place a fits verify reached h keeps own signed =
-    let spent : In (spent_of w (Some m)) (record { index = signed.index; body = Accusation a }) = spent-in w (Some m) signed.index (Accusation a) (eq-eqb m m refl) (subst (λ z. In w.signed (record { who = Some z; index = signed.index; body = Accusation a })) own.by signed.among) in
-    let below : signed.index < (w.hosts m).disk.state.next = spent-below s w told m fits own.is reached (record { index = signed.index; body = Accusation a }) spent in
-    let left : signed.index < s.indexes = omega (arith, below, (h.hosts m).disk) in
-    let r : Record = record_of s (record { who = Some m; index = signed.index; body = Accusation a }) in
+own-vouched s w told m life place a fits verify reached h keeps own =
+    let spent : In (spent_of w (Some m)) (record { index = own.index; body = Accusation a }) = spent-in w (Some m) own.index (Accusation a) (eq-eqb m m refl) own.spent in
+    let below : own.index < (w.hosts m).disk.state.next = spent-below s w told m fits own.is reached (record { index = own.index; body = Accusation a }) spent in
+    let left : own.index < s.indexes = omega (arith, below, (h.hosts m).disk) in
+    let r : Record = record_of s (record { who = Some m; index = own.index; body = Accusation a }) in
     record {
       verified = vouched-by s m life.node a r keeps refl (record {
         listed = any_from_In (λ k. eqb k a.accuser) (members s) m (member-listed s m fits own.is) (eq-eqb m a.accuser (sym own.by));
-        verifies = subst (λ z. s.verifies (s.key (Some z)) r ≡ true) (sym own.by) (verify (Some m) signed.index (Accusation a) left);
+        verifies = subst (λ z. s.verifies (s.key (Some z)) r ≡ true) (sym own.by) (verify (Some m) own.index (Accusation a) left);
       });
-      came = inr (record {
-        by = own.by;
-        before = own.before;
-        behind = own.behind;
-        at_tick = own.at_tick;
-        disk = own.disk;
-        kept = own.kept;
-        since = own.since;
-        came_in = own.came_in;
-        index = signed.index;
-        spent = Contains-from_In _ _ spent;
-        signed = refl;
-      });
+      came = inr (record { by = own.by; index = own.index; at_tick = own.at_tick; spent = Contains-from_In _ _ spent; signed = refl });
     }
 
-come-vouched : (s : Setting) (w : World) (told : List NodeEvent) (m : ℕ) (life : Life) (place : ℕ) (a : AccBody) → IsSetting s → SignaturesVerify s → Reached s w told → AllVerified s w told → KeepsRoster s life.node → ComesSigned s m w.signed [] (Accuses a) → HasCome s m life place a
+come-vouched : (s : Setting) (w : World) (told : List NodeEvent) (m : ℕ) (life : Life) (place : ℕ) (a : AccBody) → IsSetting s → SignaturesVerify s → Reached s w told → AllVerified s w told → KeepsRoster s life.node → HasCome s w.signed m life place a
     → IsVouchedAt s w m life place a
 unfolding vouched-by
-come-vouched s w told m life place a fits verify reached h keeps signed (inl x) = record { verified = vouched-by s m life.node a x.witness keeps x.says x.verified; came = inl x.accepted }
-come-vouched s w told m life place a fits verify reached h keeps signed (inr own) =
-    own-vouched s w told m life place a fits verify reached h keeps own (elim (signed (ap (is_node s) own.by ∙ own.is)) [ inl before ↦ before | inr now ↦ absurd now.1.among ])
+come-vouched s w told m life place a fits verify reached h keeps (inl x) = record { verified = vouched-by s m life.node a x.witness keeps x.says x.verified; came = inl x.accepted }
+come-vouched s w told m life place a fits verify reached h keeps (inr own) = own-vouched s w told m life place a fits verify reached h keeps own
 
 -- The record from which an accusation in a life has come verifies under the key of the accuser's certificate.
 pub vouched : (s : Setting) (w : World) (told : List NodeEvent) (m : ℕ) (life : Life) (place : ℕ) (a : AccBody) → IsSetting s → SignaturesVerify s → Reached s w told → AllVerified s w told → In (lives_of w m) life → slice_get life.node.lived place ≡ Some (Accuses a)
     → IsVouchedAt s w m life place a
-vouched s w told m life place a fits verify reached h i found =
-    let at = h.holds.hosts m in
-    come-vouched s w told m life place a fits verify reached h (at.rosters life i) (at.lived life i (Accuses a) (In-at life.node.lived place (Accuses a) found)) ((h.hosts m).lived life i place a found)
+vouched s w told m life place a fits verify reached h i found = come-vouched s w told m life place a fits verify reached h ((h.holds.hosts m).rosters life i) ((h.hosts m).lived life i place a found)

@@ -1,13 +1,18 @@
 -- The walk over a text in the world form comes to a world to which its lines lead.
-use Rattle.std.proofs.Common.{◌≡◌, ◌⊎◌, ℕ, ◌<◌, ◌≤◌, true, eqb, List, [], ◌∷◌, ◌++◌, Option, Some, None, inl, inr, refl, ap, sym, subst, arith}
+use Rattle.std.proofs.Common.{◌≡◌, ◌⊎◌, ℕ, zero, suc, ◌+◌, ◌<◌, ◌≤◌, Bool, true, false, ◌||◌, eqb, List, [], ◌∷◌, ◌++◌, filter, length, Option, Some, None, inl, inr, refl, ap, sym, subst, arith, length-append}
 use Rattle.std.specs.Prelude.{Result, Ok, Err, IsTrue}
-use Rattle.std.specs.List.{list_any}
-use Rattle.std.proofs.lemmas.Bool.{eqb-true, false≢true, false_from_ne_true}
+use Rattle.std.specs.List.{list_any, range_with_len}
+use Rattle.std.proofs.lemmas.Bool.{cases_Bool, eqb-true, false≢true, false_from_ne_true}
+use Rattle.std.proofs.lemmas.Bool.Decides.{nat_tests}
 use Rattle.std.proofs.lemmas.List.{append_assoc}
 use Rattle.ff_ids.specs.declared.TheConstants.{MEMBERS, MAX_TOLERANCE}
 use Rattle.ff_ids.specs.declared.Group.{Group}
+use Rattle.ff_ids.specs.Views.{all_numbers}
 use Rattle.lms_ots.specs.declared.OtsKind.{OtsKind}
 use Rattle.lms_tree.specs.declared.TreeKind.{TreeKind}
+use Rattle.lms_tree.specs.declared.kind.TreeKind.TheVariants.{H5, H10, H15}
+use Rattle.lms_tree.specs.Kinds.{leaf_count}
+use Rattle.membership.proofs.NumberLemmas.{all_length}
 use Rattle.life_laws.proofs.Lists.{In, Contains-from_In, In-append_left, In-append_right, In-append_cases, some_passes}
 use Rattle.line_text.specs.declared.bad_word.BadWord.{BadWord}
 use Rattle.line_text.specs.Answers.{Progress, next_line}
@@ -20,18 +25,21 @@ use Rattle.schedule_world.specs.Rows.{has_node, is_body, is_ended, is_grouped, i
 use Rattle.schedule_world.specs.Grammar.{InRange, IsWorld, Stands, after, behind, judge, opening}
 use Rattle.schedule_world.specs.Laws.{world-spelled}
 use Rattle.schedule_world.proofs.GrammarLemmas.{newcomer-in, world-in_range, world-stands}
-use Rattle.world_rules.specs.Settings.{Setting}
+use Rattle.world_rules.specs.Settings.{Setting, members}
 use Rattle.world_rules.specs.Keys.{setting_for}
 use Rattle.world_rules.specs.Worlds.{World, begun_world}
 use Rattle.world_rules.specs.Forgeries.{Forgery}
 use Rattle.world_rules.specs.Steps.{Answer, NodeEvent, step}
 use Rattle.world_rules.specs.Walk.{Brought, Lists, Plays, Roster, Stage, Walk, at_end, brought, events_in, from_answer, from_line, listed, no_roster, setting_in, stepped, walk, walk_over}
 use Rattle.world_rules.specs.Laws.{IsSetting, opens_so, goes}
+use Rattle.world_laws.specs.Sent.{HasIndexes}
 use Rattle.world_laws.specs.Texts.{IsComeTo, IsLawful, IsLawfulStage, IsPlayed, TextsAreLawful, TextsComeToWorlds, end_fault, world_grammar}
 use Rattle.world_rules.proofs.Once.{nodes-once}
 use Rattle.world_rules.proofs.Telling.{lives-justified}
 use Rattle.world_laws.proofs.Keyed.{keys-verify}
-use Rattle.world_laws.proofs.Lawful.{accepted-signed, accuse-silent, never-ahead, rosters}
+use Rattle.world_laws.proofs.Lawful.{accuse-silent, never-ahead, rosters}
+use Rattle.world_laws.proofs.SignedBefore.{accepted-signed}
+use Rattle.world_laws.proofs.Sent.{sent-verify}
 use Rattle.world_laws.proofs.Removing.{removals-verified, told-removals-verified}
 use Rattle.world_laws.proofs.Written.{authority-once, sending-told, spending-told}
 use Rattle.world_laws.proofs.SignedFirst.{accepted-signed-first}
@@ -39,6 +47,46 @@ use Rattle.world_laws.proofs.Living.{accepted-lived}
 use Rattle.world_laws.proofs.Flowing.{only-sent}
 use Rattle.world_laws.proofs.Answered.{answers-hold, expiries-lived}
 use Rattle.world_laws.proofs.Viewed.{equal-records}
+
+-- ---- how many are listed
+
+either : (p q : ℕ → Bool) (ms : List ℕ) → length (filter (λ m. p m || q m) ms) ≤ length (filter p ms) + length (filter q ms)
+either p q [] = omega arith
+either p q (m ∷ ms) =
+    let rest = either p q ms in
+    elim (cases_Bool (p m)) [
+      | inl first ↦ elim (cases_Bool (q m)) [ inl second ↦ rw (first, second) (omega (arith, rest)) | inr other ↦ rw (first, other) (omega (arith, rest)) ]
+      | inr apart ↦ elim (cases_Bool (q m)) [ inl second ↦ rw (apart, second) (omega (arith, rest)) | inr other ↦ rw (apart, other) (omega (arith, rest)) ]
+    ]
+
+none-before : (x from n : ℕ) → x < from → length (filter (λ m. eqb x m) (range_with_len from n)) ≡ 0
+none-before x from zero less = refl
+none-before x from (suc n) less =
+    let apart : eqb x from ≡ false = grind (arith, nat_tests, less) in
+    let rest = none-before x (from + 1) n (omega (arith, less)) in
+    rw apart rest
+
+at-most-one : (x from n : ℕ) → length (filter (λ m. eqb x m) (range_with_len from n)) ≤ 1
+at-most-one x from zero = omega arith
+at-most-one x from (suc n) =
+    elim (cases_Bool (eqb x from)) [
+      | inl here ↦ let rest = none-before x (from + 1) n (omega (arith, eqb-true x from here)) in rw here (omega (arith, rest))
+      | inr apart ↦ let rest = at-most-one x (from + 1) n in rw apart rest
+    ]
+
+nobody : (ms : List ℕ) → length (filter (λ (m : ℕ). false) ms) ≡ 0
+nobody [] = refl
+nobody (m ∷ ms) = nobody ms
+
+few-listed : (xs : List ℕ) (from n : ℕ) → length (filter (λ m. list_any (λ x. eqb x m) xs) (range_with_len from n)) ≤ length xs
+few-listed [] from n = omega (arith, nobody (range_with_len from n))
+few-listed (x ∷ xs) from n = omega (arith, either (λ m. eqb x m) (λ m. list_any (λ y. eqb y m) xs) (range_with_len from n), at-most-one x from n, few-listed xs from n)
+
+-- A roster of at most as many as a tree has indexes.
+many-leaves : (tree : TreeKind) → 32 ≤ leaf_count tree
+many-leaves H5 = omega arith
+many-leaves H10 = omega arith
+many-leaves H15 = omega arith
 
 -- ---- rosters
 
@@ -54,6 +102,8 @@ pub record HasGroup (r : Roster) : Type 0 where
 -- Who is listed is among the names, and the nodes and the liars are apart.
 pub record IsNamed (r : Roster) (names : List ℕ) : Type 0 where
   pub group : HasGroup r
+  pub count : length r.correct + length r.liars ≤ length names
+  pub few : length names ≤ 32
   pub nodes : (m : ℕ) → In r.correct m → In names m
   pub liars : (m : ℕ) → In r.liars m → In names m
   pub numbered : (m : ℕ) → In r.correct m → m < MEMBERS
@@ -98,6 +148,8 @@ kinds-line : (form : WorldText) (r : Roster) (ots : OtsKind) (tree : TreeKind) �
 kinds-line (world.Grouped t) r ots tree stands h =
     record {
       group = record { some = h.1.some; few = h.1.few };
+      count = omega (arith, ap (λ (xs : List ℕ). length xs) h.0.nodes, ap (λ (xs : List ℕ). length xs) h.0.liars);
+      few = omega arith;
       nodes = λ m i. subst (λ xs. In xs m) h.0.nodes i;
       liars = λ m i. subst (λ xs. In xs m) h.0.liars i;
       numbered = λ m i. absurd (subst (λ xs. In xs m) h.0.nodes i);
@@ -110,6 +162,8 @@ node-line (world.Roster t names node) r m stands range h =
     let new = newcomer-in (world.Roster t names node) m range in
     record {
       group = record { some = h.group.some; few = h.group.few };
+      count = omega (arith, h.count, length-append r.correct (m ∷ []), length-append names (m ∷ []));
+      few = omega (arith, new.few, length-append names (m ∷ []));
       nodes = λ k i. elim (last-of r.correct m k i) [ inl old ↦ In-append_left names (m ∷ []) k (h.nodes k old) | inr is ↦ In-append_right names (m ∷ []) k (inl is) ];
       liars = λ k i. In-append_left names (m ∷ []) k (h.liars k i);
       numbered = λ k i. elim (last-of r.correct m k i) [ inl old ↦ h.numbered k old | inr is ↦ omega (arith, is, new.range) ];
@@ -122,6 +176,8 @@ liar-line (world.Roster t names node) r m stands range h =
     let new = newcomer-in (world.Roster t names node) m range in
     record {
       group = record { some = h.group.some; few = h.group.few };
+      count = omega (arith, h.count, length-append r.liars (m ∷ []), length-append names (m ∷ []));
+      few = omega (arith, new.few, length-append names (m ∷ []));
       nodes = λ k i. In-append_left names (m ∷ []) k (h.nodes k i);
       liars = λ k i. elim (last-of r.liars m k i) [ inl old ↦ In-append_left names (m ∷ []) k (h.liars k old) | inr is ↦ In-append_right names (m ∷ []) k (inl is) ];
       numbered = h.numbered;
@@ -129,8 +185,17 @@ liar-line (world.Roster t names node) r m stands range h =
     }
 liar-line _ r m stands range h = absurd (false≢true stands)
 
-begin-line : (form : WorldText) (r : Roster) → IsTrue (has_node form) → Fits form r → IsPlayed (setting_in r) (begun_world (setting_in r)) []
-begin-line (world.Roster t names node) r stands h = record { fits = setting-fits r names h; verify = keys-verify r.group r.ots r.tree r.correct r.liars; reached = opens_so }
+-- Each member has an index.
+has-indexes : (r : Roster) (names : List ℕ) → IsNamed r names → HasIndexes (setting_in r)
+unfolding setting_for members
+has-indexes r names h =
+    let all : List ℕ = r.correct ++ r.liars in
+    let listed : length (filter (λ m. list_any (λ x. eqb x m) all) all_numbers) ≤ length all =
+    subst (λ xs. length (filter (λ m. list_any (λ x. eqb x m) all) xs) ≤ length all) (sym all_length.1.are) (few-listed all 0 all_length.0) in
+    omega (arith, listed, length-append r.correct r.liars, h.count, h.few, many-leaves r.tree)
+
+begin-line : (form : WorldText) (r : Roster) → IsTrue (has_node form) → Fits form r → IsPlayed (setting_in r) (begun_world (setting_in r)) [] × HasIndexes (setting_in r)
+begin-line (world.Roster t names node) r stands h = (record { fits = setting-fits r names h; verify = keys-verify r.group r.ots r.tree r.correct r.liars; reached = opens_so }, has-indexes r names h)
 begin-line _ r stands h = absurd (false≢true stands)
 
 no-body : (form : WorldText) (r : Roster) → IsTrue (is_body form) → Fits form r → ⊥
@@ -139,7 +204,7 @@ no-body _ r stands h = absurd (false≢true stands)
 
 abbrev pub IsAt : WorldText → Stage → List NodeEvent → Type 0
 IsAt form (Lists r) told = Fits form r × (told ≡ [])
-IsAt form (Plays s w) told = IsPlayed s w told
+IsAt form (Plays s w) told = IsPlayed s w told × HasIndexes s
 
 roster-line : (form : WorldText) (r : Roster) (l : WorldLine) → Stands form l → InRange form l → Fits form r → IsAt (after form l) (listed setting_in r l) []
 roster-line form r lines.Header stands range h = (header-line form r stands h, refl)
@@ -152,11 +217,11 @@ roster-line form r l stands range h = absurd (no-body form r stands h)
 
 -- ---- a line
 
-played-step : (form : WorldText) (s : Setting) (w : World) (told : List NodeEvent) (l : WorldLine) (r : Result Answer Forgery) (b : Brought) → step s w l ≡ r → stepped s r ≡ Ok b → IsPlayed s w told → IsAt form b.stage (told ++ b.told)
+played-step : (form : WorldText) (s : Setting) (w : World) (told : List NodeEvent) (l : WorldLine) (r : Result Answer Forgery) (b : Brought) → step s w l ≡ r → stepped s r ≡ Ok b → IsPlayed s w told × HasIndexes s → IsAt form b.stage (told ++ b.told)
 played-step form s w told l (Err found) b is e h = cc
 played-step form s w told l (Ok a) b is e h =
     subst (λ (x : Brought). IsAt form x.stage (told ++ x.told)) (ok-is _ _ e)
-    (record { fits = h.fits; verify = h.verify; reached = goes w told l a h.reached is })
+    (record { fits = h.0.fits; verify = h.0.verify; reached = goes w told l a h.0.reached is }, h.1)
   where
     ok-is : (x y : Brought) → (let r : Result Brought Forgery = Ok x in r) ≡ Ok y → x ≡ y
     ok-is x y e = cc
@@ -236,11 +301,12 @@ played-lawful s w told h =
       lived = accepted.0;
       accepted = accepted.1;
       signed_first = accepted-signed-first s w told h.fits h.reached;
+      sent_verify = λ few. sent-verify s w told h.fits h.verify few h.reached;
     }
 
 come-lawful : (stage : Stage) (told : List NodeEvent) → IsComeTo stage told → IsLawfulStage stage told
 come-lawful (Lists r) told h = h
-come-lawful (Plays s w) told h = played-lawful s w told h
+come-lawful (Plays s w) told h = played-lawful s w told h.0
 
 pub texts-lawful : TextsAreLawful
 texts-lawful spelled text =

@@ -1,10 +1,10 @@
 -- What no liar brings about, in each world that lines lead to, none of which is forged.
-use Rattle.std.specs.Prelude.{◌≡◌, ℕ, ◌+◌, ◌<◌, Bool, true, false, List, [], length, Contains, Some, None}
-use Rattle.std.specs.List.{AllByRecursion}
+use Rattle.std.specs.Prelude.{◌≡◌, ℕ, ◌+◌, ◌<◌, Bool, true, false, List, [], ◌∷◌, ◌++◌, length, Contains, Some, None}
+use Rattle.std.specs.List.{AllByRecursion, slice_get}
 use Rattle.ff_ids.specs.declared.AccBody.{AccBody}
 use Rattle.ff_ids.specs.declared.Group.{Group}
 use Rattle.ff_ids.specs.declared.Fault.TheVariants as faults
-use Rattle.ff_ids.specs.Steps.{Event, Accuses}
+use Rattle.ff_ids.specs.Steps.{Accuses}
 use Rattle.ff_ids.specs.Notes.{newest}
 use Rattle.ff_ids.specs.Lives.{opening, state_at, IsRemovedAt, RestsOn}
 use Rattle.lms_ots.specs.declared.OtsKind.{OtsKind}
@@ -22,6 +22,7 @@ use Rattle.world_rules.specs.Steps.{NodeEvent}
 use Rattle.world_rules.specs.Laws.{IsSetting, Reached}
 use Rattle.world_laws.specs.Signing.{KeepsRoster, HasSpentOn, HasEnabled, SignedAtTick, WasSigned}
 use Rattle.world_laws.specs.Origins.{HasComeOf}
+use Rattle.world_laws.specs.Telling.{IsToldBehind}
 
 -- ---- certificates
 
@@ -42,20 +43,21 @@ OwnAheadNeverComes = (s : Setting) (w : World) (told : List NodeEvent) → IsSet
 
 -- ---- removals
 
--- The accusation was accepted at this place of a life. The note that was the accused's newest there, the accused itself had
--- signed, of this accusation's epoch and with this accusation's ring enabled.
-pub record IsOnOwnNote (s : Setting) (w : World) (events : List Event) (place : ℕ) (a : AccBody) : Type 0 where
-  pub had_signed : HasEnabled w a
-  pub is_newest : newest (state_at s.group (opening []) events place).notes a.accused ≡ Some had_signed.note
+-- The accusation was accepted at this place of a life, as is reported. The note that was the accused's newest there, the accused
+-- itself had signed, as is reported before, of this accusation's epoch and with this accusation's ring enabled.
+pub record IsOnOwnNote (s : Setting) (w : World) (told : List NodeEvent) (who : ℕ) (life : Life) (place : ℕ) (a : AccBody) : Type 0 where
+  pub accepted : IsToldBehind w told who life place (Accusation a)
+  pub had_signed : HasEnabled w accepted.earlier a
+  pub is_newest : newest (state_at s.group (opening []) life.node.lived place).notes a.accused ≡ Some had_signed.note
 
 -- So was each accusation on which the removal of a node in the life rests.
-abbrev pub RemovesRightly : Setting → World → Life → Type 0
-RemovesRightly s w life = (j m place : ℕ) (a : AccBody) → RestsOn s.group (opening []) life.node.lived j m place a → is_node s m ≡ true
-    → IsOnOwnNote s w life.node.lived place a
+abbrev pub RemovesRightly : Setting → World → List NodeEvent → ℕ → Life → Type 0
+RemovesRightly s w told who life = (j m place : ℕ) (a : AccBody) → RestsOn s.group (opening []) life.node.lived j m place a → is_node s m ≡ true
+    → IsOnOwnNote s w told who life place a
 
 -- Each node that is removed from a view had itself signed the note of the accusation's epoch, with its ring enabled.
 abbrev pub TheRemovedHadSigned : Type 0
-TheRemovedHadSigned = (s : Setting) (w : World) (told : List NodeEvent) (who : ℕ) → IsSetting s → Reached s w told → AllByRecursion (RemovesRightly s w) (lives_of w who)
+TheRemovedHadSigned = (s : Setting) (w : World) (told : List NodeEvent) (who : ℕ) → IsSetting s → Reached s w told → AllByRecursion (RemovesRightly s w told who) (lives_of w who)
 
 -- ---- accusations
 
@@ -65,23 +67,29 @@ abbrev pub NodesAccuseTheSilent : Type 0
 NodesAccuseTheSilent = (s : Setting) (w : World) (told : List NodeEvent) (m index : ℕ) (a : AccBody) → IsSetting s → Reached s w told → is_node s m ≡ true
     → HasSpentOn w (Some m) index (Accusation a) → (a.accuser ≡ m) × SignedAtTick s w index a
 
--- An accusation of a node's comes of its own signature.
-abbrev pub IsOfItsAccuser : Setting → World → AccBody → Type 0
-IsOfItsAccuser s w a = is_node s a.accuser ≡ true → WasSigned s w a
+-- The accusation came in at this place of a life, as is reported; and by then, with that report, its accuser had signed it.
+pub record IsSignedByThen (s : Setting) (w : World) (told : List NodeEvent) (who : ℕ) (life : Life) (place : ℕ) (a : AccBody) : Type 0 where
+  pub accepted : IsToldBehind w told who life place (Accusation a)
+  pub was_signed : WasSigned s w (accepted.earlier ++ accepted.report ∷ []) a
 
-abbrev pub AccusesRightly : Setting → World → Event → Type 0
-AccusesRightly s w (Accuses a) = IsOfItsAccuser s w a
-AccusesRightly s w event = Unit {0}
+-- So is each accusation of a node's in the life.
+abbrev pub AccusesRightly : Setting → World → List NodeEvent → ℕ → Life → Type 0
+AccusesRightly s w told who life = (place : ℕ) (a : AccBody) → slice_get life.node.lived place ≡ Some (Accuses a) → is_node s a.accuser ≡ true
+    → IsSignedByThen s w told who life place a
 
-abbrev pub AcceptsRightly : Setting → World → whats.What → Type 0
-AcceptsRightly s w (happened.Took (Accusation a) None) = IsOfItsAccuser s w a
-AcceptsRightly s w what = Unit {0}
+-- An accusation of a node's that is reported as accepted was signed by it in the events before.
+abbrev pub AcceptsRightly : Setting → World → List NodeEvent → whats.What → Type 0
+AcceptsRightly s w earlier (happened.Took (Accusation a) None) = is_node s a.accuser ≡ true → WasSigned s w earlier a
+AcceptsRightly s w earlier what = Unit {0}
 
--- Each accusation of a node's that is accepted in any life, own ones included, was so signed; also where only its
+abbrev pub AllAcceptRightly : Setting → World → List NodeEvent → Type 0
+AllAcceptRightly s w told = (earlier later : List NodeEvent) (t : NodeEvent) → told ≡ earlier ++ t ∷ later → AcceptsRightly s w earlier t.event.what
+
+-- Each accusation of a node's that is accepted in any life, own ones included, was so signed by then; also where only its
 -- acceptance is reported.
 abbrev pub AcceptedAccusationsWereSigned : Type 0
 AcceptedAccusationsWereSigned = (s : Setting) (w : World) (told : List NodeEvent) → IsSetting s → Reached s w told
-    → ((who : ℕ) → AllByRecursion (λ life. AllByRecursion (AccusesRightly s w) life.node.lived) (lives_of w who)) × AllByRecursion (λ t. AcceptsRightly s w t.event.what) told
+    → ((who : ℕ) → AllByRecursion (AccusesRightly s w told who) (lives_of w who)) × AllAcceptRightly s w told
 
 -- ---- removals that are reported
 
@@ -95,32 +103,32 @@ KeysVerify = (g : Group) (ots : OtsKind) (tree : TreeKind) (correct liars : List
 
 -- The removal of the member at this place of the life rests on one accusation, of which all of this is said. The record of which
 -- it has come verifies under the key of the accuser's certificate, as the node keeps it. If the member is a node, it had itself
--- signed the note that was its newest there as the accusation was accepted.
-pub record RestsOnVerified (s : Setting) (w : World) (who : ℕ) (life : Life) (place m : ℕ) : Type 0 where
+-- signed the note that was its newest there, before the accusation was accepted.
+pub record RestsOnVerified (s : Setting) (w : World) (told : List NodeEvent) (who : ℕ) (life : Life) (place m : ℕ) : Type 0 where
   pub accepted : ℕ
   pub accusation : AccBody
   pub rests : RestsOn s.group (opening []) life.node.lived place m accepted accusation
   pub verified : IsVouchedFor (setting_of s who) (public_key_of life.node accusation.accuser) (Accusation accusation)
   pub came : HasComeOf s w who life accepted accusation verified.witness
-  pub own_note : is_node s m ≡ true → IsOnOwnNote s w life.node.lived accepted accusation
+  pub own_note : is_node s m ≡ true → IsOnOwnNote s w told who life accepted accusation
 
 -- So does each removal in the life.
-abbrev pub RemovesVerified : Setting → World → ℕ → Life → Type 0
-RemovesVerified s w who life = (j m : ℕ) → j < length life.node.lived → IsRemovedAt s.group (opening []) life.node.lived j m → RestsOnVerified s w who life j m
+abbrev pub RemovesVerified : Setting → World → List NodeEvent → ℕ → Life → Type 0
+RemovesVerified s w told who life = (j m : ℕ) → j < length life.node.lived → IsRemovedAt s.group (opening []) life.node.lived j m → RestsOnVerified s w told who life j m
 
 abbrev pub RemovalsAreVerified : Type 0
-RemovalsAreVerified = (s : Setting) (w : World) (told : List NodeEvent) (who : ℕ) → IsSetting s → SignaturesVerify s → Reached s w told → AllByRecursion (RemovesVerified s w who) (lives_of w who)
+RemovalsAreVerified = (s : Setting) (w : World) (told : List NodeEvent) (who : ℕ) → IsSetting s → SignaturesVerify s → Reached s w told → AllByRecursion (RemovesVerified s w told who) (lives_of w who)
 
 -- What is reported of the member is its removal at a place of one of the node's lives, which has the reported moment behind it;
 -- and that rests on such a record.
-pub record IsVerifiedRemoval (s : Setting) (w : World) (t : NodeEvent) (m : ℕ) : Type 0 where
+pub record IsVerifiedRemoval (s : Setting) (w : World) (told : List NodeEvent) (t : NodeEvent) (m : ℕ) : Type 0 where
   pub life : Life
   pub lived : Contains (lives_of w t.who) life
   pub place : ℕ
   pub within : place < length life.node.lived
   pub removed : IsRemovedAt s.group (opening []) life.node.lived place m
   pub moment : (state_at s.group (opening []) life.node.lived (place + 1)).moment ≡ t.event.moment
-  pub rests : RestsOnVerified s w t.who life place m
+  pub rests : RestsOnVerified s w told t.who life place m
 
 abbrev pub ToldRemovalsAreVerified : Type 0
-ToldRemovalsAreVerified = (s : Setting) (w : World) (told : List NodeEvent) (t : NodeEvent) (m : ℕ) → IsSetting s → SignaturesVerify s → Reached s w told → Contains told t → t.event.what ≡ happened.Removed m → IsVerifiedRemoval s w t m
+ToldRemovalsAreVerified = (s : Setting) (w : World) (told : List NodeEvent) (t : NodeEvent) (m : ℕ) → IsSetting s → SignaturesVerify s → Reached s w told → Contains told t → t.event.what ≡ happened.Removed m → IsVerifiedRemoval s w told t m

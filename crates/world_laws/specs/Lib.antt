@@ -1,6 +1,7 @@
 pub mod Signing
 pub mod Origins
 pub mod Laws
+pub mod Sent
 pub mod Telling
 pub mod Replies
 pub mod Views

@@ -1,21 +1,17 @@
 -- Which records the accusations in a life of a world have come of.
-use Rattle.std.specs.Prelude.{◌≡◌, ◌⊎◌, ℕ, ◌≤◌, List, ◌∷◌, ◌++◌, length, Some, None, Ok}
-use Rattle.std.specs.List.{slice_get}
+use Rattle.std.specs.Prelude.{◌≡◌, ◌⊎◌, ℕ, List, ◌∷◌, ◌++◌, length, None, Some, Ok}
 use Rattle.ff_ids.specs.declared.AccBody.{AccBody}
-use Rattle.ff_ids.specs.Steps.{Accuses}
 use Rattle.records.specs.declared.Body.TheVariants.{Accusation}
 use Rattle.records.specs.declared.Record.{Record}
 use Rattle.datagram.specs.declared.Datagram.TheVariants as kinds
 use Rattle.datagram.specs.Grammar.{read_of}
 use Rattle.node_rules.specs.Nodes as node
 use Rattle.node_rules.specs.Refusals.{refusal}
-use Rattle.node_rules.specs.Lives.{Input, Delivers, Ticks}
+use Rattle.node_rules.specs.Lives.{Input, Delivers}
 use Rattle.node_rules.specs.Verdicts.{when_all_handled}
 use Rattle.world_rules.specs.Settings.{Setting, record_of, setting_of}
-use Rattle.world_rules.specs.Disks.{Disk}
-use Rattle.world_rules.specs.Calls.{called_on}
 use Rattle.world_rules.specs.Worlds.{Life, World}
-use Rattle.world_laws.specs.Signing.{HasSpentOn, node_after}
+use Rattle.world_laws.specs.Signing.{HasSpentOn, SignsAtTick, node_after}
 
 -- What the node has come to behind these calls and these records of the next one.
 abbrev pub node_behind : Setting → ℕ → Life → List Input → List Record → node.Node
@@ -35,18 +31,12 @@ pub record IsAcceptedBehind (s : Setting) (m : ℕ) (life : Life) (events : ℕ)
   pub at : length (node_behind s m life before earlier).lived ≡ events
   pub no_fault : refusal (setting_of s m) (node_behind s m life before earlier) r ≡ None
 
--- The accusation came in at this place of the life, at a tick, by the node itself, over a disk that keeps what its store
--- kept then; and the record has the signature of an index that the node's key has spent on it.
+-- The accusation is the node's own, and came in at this place of the life at a tick at which the accused was silent; the tick
+-- signed it with this index, and the record has the signature of that index.
 pub record IsOwnRecord (s : Setting) (w : World) (m : ℕ) (life : Life) (place : ℕ) (a : AccBody) (r : Record) : Type 0 where
   pub by : a.accuser ≡ m
-  pub before : List Input
-  pub behind : List Input
-  pub at_tick : life.inputs ≡ before ++ Ticks ∷ behind
-  pub disk : Disk
-  pub kept : disk.state ≡ (node_after s m life.found before).stored
-  pub since : length (node_after s m life.found before).lived ≤ place
-  pub came_in : slice_get (called_on (setting_of s m) (node_after s m life.found before) Ticks disk).call.node.lived place ≡ Some (Accuses a)
   pub index : ℕ
+  pub at_tick : SignsAtTick s m life place index a
   pub spent : HasSpentOn w (Some m) index (Accusation a)
   pub signed : r ≡ record_of s (record { who = Some m; index = index; body = Accusation a })
 

@@ -18,6 +18,8 @@ use Rattle.world_rules.specs.Settings.{Owner, Setting, certificate, certificates
 use Rattle.world_rules.specs.Disks.{Disk}
 use Rattle.world_rules.specs.Calls.{called_on}
 use Rattle.world_rules.specs.Worlds.{Life, World, lives_of, spent_of}
+use Rattle.world_rules.specs.Steps.{NodeEvent}
+use Rattle.world_laws.specs.Telling.{IsSignedIn}
 
 -- ---- certificates
 
@@ -35,10 +37,11 @@ KeepsRoster s n = (k : ℕ) → node.certificate_of n k ≡ certificate_for s k
 abbrev pub HasSpentOn : World → Owner → ℕ → Body → Type 0
 HasSpentOn w who index body = Contains (spent_of w who) (record { index = index; body = body })
 
--- The accused has signed a note of its own, of the accusation's epoch, which enables the accusation's ring.
-pub record HasEnabled (w : World) (a : AccBody) : Type 0 where
+-- Among these events the accused has signed a note of its own, of the accusation's epoch, which enables the accusation's ring.
+pub record HasEnabled (w : World) (told : List NodeEvent) (a : AccBody) : Type 0 where
   pub note : NoteBody
   pub index : ℕ
+  pub signed : IsSignedIn w told a.accused index (Note note)
   pub spent : HasSpentOn w (Some a.accused) index (Note note)
   pub own : note.member ≡ a.accused
   pub epoch : note.epoch ≡ a.epoch
@@ -54,27 +57,32 @@ node_after s m found inputs = life_of (setting_of s m) (s.nonces m found.next) (
 abbrev pub TellsSpent : Call → ℕ → Body → Type 0
 TellsSpent c index body = (moment : ℕ) × Contains c.told (record { moment = moment; what = told.Spent index body })
 
--- The accuser signs the accusation with this index, at a tick of one of its lives, over a disk that keeps what its store
--- kept then. As it came to that tick the accused was silent, and the accuser was its monitor on the ring in its own view,
--- by the newest note that it had of it, whose epoch the accusation has and which enables the ring. The accusation came
--- into the life there, as an event of that tick.
-pub record SignedAtTick (s : Setting) (w : World) (index : ℕ) (a : AccBody) : Type 0 where
-  pub life : Life
-  pub lived : Contains (lives_of w a.accuser) life
+-- At a tick of this life the node signs the accusation with this index, over a disk that keeps what its store kept then. As it
+-- came to that tick the accused was silent, and the node was its monitor on the ring in its own view, by the newest note that it
+-- had of it, whose epoch the accusation has and which enables the ring. The accusation came into the life at this place, as an
+-- event of that tick.
+pub record SignsAtTick (s : Setting) (m : ℕ) (life : Life) (place index : ℕ) (a : AccBody) : Type 0 where
   pub before : List Input
   pub behind : List Input
   pub at_tick : life.inputs ≡ before ++ Ticks ∷ behind
   pub disk : Disk
-  pub kept : disk.state ≡ (node_after s a.accuser life.found before).stored
-  pub signed : TellsSpent (called_on (setting_of s a.accuser) (node_after s a.accuser life.found before) Ticks disk).call index (Accusation a)
-  pub silent : AccusesTheSilent (setting_of s a.accuser) (node_after s a.accuser life.found before) a
+  pub kept : disk.state ≡ (node_after s m life.found before).stored
+  pub signed : TellsSpent (called_on (setting_of s m) (node_after s m life.found before) Ticks disk).call index (Accusation a)
+  pub silent : AccusesTheSilent (setting_of s m) (node_after s m life.found before) a
+  pub since : length (node_after s m life.found before).lived ≤ place
+  pub came_in : slice_get (called_on (setting_of s m) (node_after s m life.found before) Ticks disk).call.node.lived place ≡ Some (Accuses a)
+
+-- So its accuser signs it at a place of one of its lives, and there it stays.
+pub record SignedAtTick (s : Setting) (w : World) (index : ℕ) (a : AccBody) : Type 0 where
+  pub life : Life
+  pub lived : Contains (lives_of w a.accuser) life
   pub place : ℕ
-  pub since : length (node_after s a.accuser life.found before).lived ≤ place
-  pub came_in : slice_get (called_on (setting_of s a.accuser) (node_after s a.accuser life.found before) Ticks disk).call.node.lived place ≡ Some (Accuses a)
+  pub signs : SignsAtTick s a.accuser life place index a
   pub stays : slice_get life.node.lived place ≡ Some (Accuses a)
 
--- The accuser's key has spent an index on the accusation, which is signed with it at such a tick.
-pub record WasSigned (s : Setting) (w : World) (a : AccBody) : Type 0 where
+-- Among these events the accuser has signed the accusation, with an index that such a tick spends on it.
+pub record WasSigned (s : Setting) (w : World) (told : List NodeEvent) (a : AccBody) : Type 0 where
   pub index : ℕ
+  pub signed : IsSignedIn w told a.accuser index (Accusation a)
   pub spent : HasSpentOn w (Some a.accuser) index (Accusation a)
   pub at_tick : SignedAtTick s w index a

@@ -1,5 +1,5 @@
 -- What was reported of spending, sending and accepting is all that was spent, sent and accepted.
-use Rattle.std.specs.Prelude.{◌≡◌, ℕ, true, ◌==◌, if◌then◌else◌, List, ◌∷◌, ◌++◌, Contains, Option, Some, None, filter, filter_map, flat_map, map}
+use Rattle.std.specs.Prelude.{◌≡◌, ℕ, true, ◌==◌, if◌then◌else◌, List, ◌∷◌, ◌++◌, Contains, Option, Some, None, filter, filter_map, flat_map, map, slice_get, take}
 use Rattle.ff_ids.specs.Steps.{Event, Notes, Accuses}
 use Rattle.records.specs.declared.Body.{Body}
 use Rattle.records.specs.declared.Body.TheVariants.{Certificate, Note, Accusation}
@@ -8,7 +8,7 @@ use Rattle.journal.specs.declared.event.What as whats
 use Rattle.journal.specs.declared.event.What.TheVariants as happened
 use Rattle.node_rules.specs.Sending.{is_sent, sendings}
 use Rattle.world_rules.specs.Settings.{Setting, Signed, by_authority, is_node}
-use Rattle.world_rules.specs.Worlds.{World, lives_of, spent_of}
+use Rattle.world_rules.specs.Worlds.{Life, World, lives_of, spent_of}
 use Rattle.world_rules.specs.Steps.{NodeEvent}
 use Rattle.world_rules.specs.Laws.{IsSetting, Reached}
 
@@ -66,11 +66,45 @@ IsLivedAsTold w told m = filter_map (took_if_told m) told ≡ flat_map (λ life.
 abbrev pub AcceptedIsLived : Type 0
 AcceptedIsLived = (s : Setting) (w : World) (told : List NodeEvent) (m : ℕ) → Reached s w told → IsLivedAsTold w told m
 
--- ---- what was signed first
+-- ---- where a place of a life is reported
+
+-- What is reported here came into the node's life at this place. Till then as much was reported of the node as had come into its
+-- lives before that one, and into that one before the place.
+pub record IsToldHere (w : World) (who : ℕ) (life : Life) (place : ℕ) (body : Body) (earlier : List NodeEvent) (t : NodeEvent) : Type 0 where
+  pub past : List Life
+  pub rest : List Life
+  pub lives : lives_of w who ≡ past ++ life ∷ rest
+  pub event : Event
+  pub there : slice_get life.node.lived place ≡ Some event
+  pub says : said_in event ≡ Some body
+  pub reports : took_if_told who t ≡ Some body
+  pub till : filter_map (took_if_told who) earlier
+      ≡ flat_map (λ l. filter_map said_in l.node.lived) past ++ filter_map said_in (take place life.node.lived)
+
+-- The note or accusation at this place of the life is reported behind these events.
+pub record IsToldBehind (w : World) (told : List NodeEvent) (who : ℕ) (life : Life) (place : ℕ) (body : Body) : Type 0 where
+  pub earlier : List NodeEvent
+  pub report : NodeEvent
+  pub later : List NodeEvent
+  pub among : told ≡ earlier ++ report ∷ later
+  pub here : IsToldHere w who life place body earlier report
 
 -- The member's key spent this index on the body, at this moment.
 abbrev pub spending : ℕ → ℕ → ℕ → Body → NodeEvent
 spending who moment index body = record { who = who; event = record { moment = moment; what = happened.Spent index body } }
+
+-- Among these events it is reported that the member's key spent this index on the note or accusation, which so came into one of its
+-- lives, at this place.
+pub record IsSignedIn (w : World) (told : List NodeEvent) (who index : ℕ) (body : Body) : Type 0 where
+  pub moment : ℕ
+  pub before : List NodeEvent
+  pub behind : List NodeEvent
+  pub among : told ≡ before ++ spending who moment index body ∷ behind
+  pub life : Life
+  pub place : ℕ
+  pub here : IsToldHere w who life place body before (spending who moment index body)
+
+-- ---- what was signed first
 
 -- It is reported that the member's key spent an index on the body.
 pub record IsToldSigned (told : List NodeEvent) (who : ℕ) (body : Body) : Type 0 where

@@ -20,7 +20,8 @@ use Rattle.world_rules.specs.declared.cause.Cause.TheVariants as causes
 use Rattle.world_rules.specs.Walk.{Grammar, Stage, Lists, Plays, Taken, Walk, events_in, last_line, setting_in, walk_over}
 use Rattle.world_rules.specs.Laws.{IsSetting, Reached, TellsLives}
 use Rattle.world_laws.specs.Signing.{HasSpentOn, KeepsRoster, SignedAtTick}
-use Rattle.world_laws.specs.Laws.{is_own_ahead, AccusesRightly, AcceptsRightly, IsVerifiedRemoval, RemovesVerified, SignaturesVerify}
+use Rattle.world_laws.specs.Laws.{is_own_ahead, AccusesRightly, AllAcceptRightly, IsVerifiedRemoval, RemovesVerified, SignaturesVerify}
+use Rattle.world_laws.specs.Sent.{HasIndexes, SendsAuthentic}
 use Rattle.world_laws.specs.Telling.{IsIssued, IsLivedAsTold, IsSentAsTold, IsSpentAsTold, SignsFirst}
 use Rattle.world_laws.specs.Flows.{HandsOverSent, flowed_in}
 use Rattle.world_laws.specs.Forged.{IsForgedIn}
@@ -42,10 +43,11 @@ pub record IsPlayed (s : Setting) (w : World) (told : List NodeEvent) : Type 0 w
   pub verify : SignaturesVerify s
   pub reached : Reached s w told
 
--- What has come of a text is such a world; or it is a roster, and nothing was reported.
+-- What has come of a text is such a world, whose authority has an index for each certificate; or it is a roster, and nothing was
+-- reported.
 abbrev pub IsComeTo : Stage → List NodeEvent → Type 0
 IsComeTo (Lists roster) told = told ≡ []
-IsComeTo (Plays s w) told = IsPlayed s w told
+IsComeTo (Plays s w) told = IsPlayed s w told × HasIndexes s
 
 -- Whatever the text is, and whatever ends it: with the lines that were taken it has come to that.
 abbrev pub TextsComeToWorlds : Type 0
@@ -60,7 +62,7 @@ TextsComeToWorlds = (spelled : WorldLine → List ℕ) (text : List (List ℕ)) 
 --
 -- Each removal in a life rests on an accusation that stood for the timeout, and the record that the node accepted of it, or
 -- made of it, verifies under the key of the accuser's certificate. Where a node was removed, it had itself signed the note of
--- that accusation's epoch with that accusation's ring enabled. The certificates that a node keeps are the authority's.
+-- that accusation's epoch with that accusation's ring enabled, as is reported before the accusation's acceptance there. The certificates that a node keeps are the authority's.
 -- Each removal that was reported is one of these, at the reported moment. What each node's key spent, over all its lives, rises
 -- in index and, for notes, in epoch; and the authority's key has spent an index on each member's certificate alone. No
 -- verdict reported that a note was ahead of a node's own. Behind an accepted note nothing that it answers expires unless it
@@ -68,7 +70,8 @@ TextsComeToWorlds = (spelled : WorldLine → List ℕ) (text : List (List ℕ)) 
 -- notes, and in which the same accusations expire, have the same view.
 --
 -- Each accusation of a node's, signed by it or accepted by anyone, was signed by it at a tick at which the accused was silent
--- there. And what was reported as accepted of a node's was reported as signed by it before.
+-- there, as is reported before its acceptance. And what was reported as accepted of a node's was reported as signed by it before.
+-- Each record in each datagram that was sent verifies under the key of who signed it.
 pub record IsLawful (s : Setting) (w : World) (told : List NodeEvent) : Type 0 where
   pub lives : (m : ℕ) → TellsLives s w told m
   pub living : (m : ℕ) → IsLivedAsTold w told m
@@ -76,8 +79,8 @@ pub record IsLawful (s : Setting) (w : World) (told : List NodeEvent) : Type 0 w
   pub sending : IsSentAsTold w told
   pub handing : HandsOverSent w told
   pub rosters : (who : ℕ) → AllByRecursion (λ life. KeepsRoster s life.node) (lives_of w who)
-  pub verified : (who : ℕ) → AllByRecursion (RemovesVerified s w who) (lives_of w who)
-  pub removals : (t : NodeEvent) (m : ℕ) → Contains told t → t.event.what ≡ happened.Removed m → IsVerifiedRemoval s w t m
+  pub verified : (who : ℕ) → AllByRecursion (RemovesVerified s w told who) (lives_of w who)
+  pub removals : (t : NodeEvent) (m : ℕ) → Contains told t → t.event.what ≡ happened.Removed m → IsVerifiedRemoval s w told t m
   pub once : (m : ℕ) → is_node s m ≡ true → IsOnce (spent_of w (Some m))
   pub issued : IsIssued s w
   pub none_ahead : AllByRecursion (λ t. is_own_ahead t.event.what ≡ false) told
@@ -85,9 +88,10 @@ pub record IsLawful (s : Setting) (w : World) (told : List NodeEvent) : Type 0 w
   pub expiries : (t : NodeEvent) (a : AccBody) → Contains told t → t.event.what ≡ happened.Expired a → IsExpiryInLife s w t a
   pub one_view : HaveOneView s w
   pub signed : (m index : ℕ) (a : AccBody) → is_node s m ≡ true → HasSpentOn w (Some m) index (Accusation a) → (a.accuser ≡ m) × SignedAtTick s w index a
-  pub lived : (who : ℕ) → AllByRecursion (λ life. AllByRecursion (AccusesRightly s w) life.node.lived) (lives_of w who)
-  pub accepted : AllByRecursion (λ t. AcceptsRightly s w t.event.what) told
+  pub lived : (who : ℕ) → AllByRecursion (AccusesRightly s w told who) (lives_of w who)
+  pub accepted : AllAcceptRightly s w told
   pub signed_first : SignsFirst s told
+  pub sent_verify : HasIndexes s → SendsAuthentic s w
 
 abbrev pub IsLawfulStage : Stage → List NodeEvent → Type 0
 IsLawfulStage (Lists roster) told = told ≡ []

@@ -9,6 +9,7 @@ ghost use Rattle.world_laws.specs.Telling.{AcceptedIsLived, AcceptedWasSignedFir
 ghost use Rattle.world_laws.specs.Flows.{FlowsGoOn, OnlySentIsHandedOver, OthersTakeNone};
 ghost use Rattle.world_laws.specs.Forged.{ForgedLinesHandItOver, ForgeriesAreFirst};
 ghost use Rattle.world_laws.specs.Replies.{AnswersHoldInWorlds, ToldExpiriesAreLived};
+ghost use Rattle.world_laws.specs.Sent.{SentRecordsVerify};
 ghost use Rattle.world_laws.specs.Texts.{FlowsTakeEachOnce, ForgedTextsHandItOver, TextsAnswerViews, TextsAreLawful, TextsComeToWorlds};
 ghost use Rattle.world_laws.specs.Views.{EqualRecordsGiveOneView};
 
@@ -23,14 +24,15 @@ pub fn own_ahead_never_comes()
 {}
 
 /// Whichever accusation a removal of a node from any node's view rests on: the note of the removed that was the newest
-/// there, as that was accepted, the removed had itself signed, of that accusation's epoch and with its ring enabled.
+/// there, as that was accepted, the removed had itself signed before, as is reported, of that accusation's epoch and with
+/// its ring enabled.
 pub fn the_removed_had_signed()
     ensures { TheRemovedHadSigned }
 {}
 
 /// A node signs no accusation but at a tick of one of its lives at which the accused is silent there, and it is the
 /// accused's monitor in its own view, on a ring that the newest note enables that it has of the accused, and at the
-/// epoch of that note. Each accepted accusation of a node's was signed so, whoever accepts it.
+/// epoch of that note. Each accepted accusation of a node's was signed so before, as is reported, whoever accepts it.
 pub fn accusations_are_of_the_silent()
     ensures signed { NodesAccuseTheSilent }
     ensures accepted { AcceptedAccusationsWereSigned }
@@ -44,8 +46,9 @@ pub fn keys_verify()
 /// Each removal in a life of a node rests on an accusation that was accepted earlier in that life, by the node's monitor
 /// of the member, and stood so and unanswered for the timeout. The record of it verifies under the key of the accuser's
 /// certificate, as the node keeps it: the one of a delivered datagram that the node accepted there; or, where the node came
-/// to accuse there itself, at a tick, one with the signature of an index that its key spent on the accusation. If a node is
-/// removed, it had itself signed the note of that same accusation's epoch, with its ring enabled. And each removal that is
+/// to accuse there itself, at a tick at which the accused was silent, one with the signature of the index that the tick spent
+/// on the accusation. If a node is removed, it had itself signed the note of that same accusation's epoch before, with its
+/// ring enabled. And each removal that is
 /// reported of a node is one of these, at a place that has the reported moment behind it.
 pub fn removals_are_verified()
     ensures lived { RemovalsAreVerified }
@@ -66,6 +69,12 @@ pub fn spending_is_told()
 /// What is reported as sent is the list of all datagrams, each with its number there, counted from 0.
 pub fn sending_is_told()
     ensures { SendingIsTold }
+{}
+
+/// Each record in each datagram that a node sends verifies: a certificate under the authority's key, a note under its
+/// member's and an accusation under its accuser's. The authority is to have an index for each certificate.
+pub fn sent_records_verify()
+    ensures { SentRecordsVerify }
 {}
 
 /// The notes and accusations that are reported of a node as accepted, or as its own, are in this order those that came into its

@@ -5,7 +5,7 @@ ghost use Rattle.world_text.specs.Lines.{Began};
 ghost use Rattle.world_replay.specs.Summaries.{count_line, counts_text, removed_line, summary_text, taken_text, workload_line};
 
 use fields::NoMemory;
-use life_events::write_text;
+use life_events::{add_of_number, add_of_two, write_bytes};
 use world::Counts;
 
 /// What came of a workload: how many lines it had, and what was counted in its world.
@@ -23,28 +23,33 @@ fn end_line(out: &mut Vec<u8>) -> Result<(), NoMemory>
     Ok(())
 }
 
+#[tactic(auto, using(life_events::proofs::TextLemmas::begins, life_events::proofs::TextLemmas::begins_so, life_events::proofs::TextLemmas::begins_on, life_events::proofs::TextLemmas::begins_then))]
 fn add_count(word: &str, count: u64, out: &mut Vec<u8>) -> Result<(), NoMemory>
     ensures ok { OnOk result (out.new.items ≡ out.old.items ++ count_line word.now count) }
     ensures refused { OnErr result (Began out.old.items out.new.items) }
 {
-    out.extend_from_slice(word.as_bytes())?;
-    write_text(format_args!(" {count}"), out)?;
+    write_bytes(word.as_bytes(), out)?;
+    add_of_number(b" ", count, out)?;
     end_line(out)
 }
 
+#[tactic(auto, using(life_events::proofs::TextLemmas::begins, life_events::proofs::TextLemmas::begins_so, life_events::proofs::TextLemmas::begins_on, life_events::proofs::TextLemmas::begins_then))]
 fn add_workload(seed: u64, nodes: u16, rounds: u16, out: &mut Vec<u8>) -> Result<(), NoMemory>
     ensures ok { OnOk result (out.new.items ≡ out.old.items ++ workload_line seed nodes rounds) }
     ensures refused { OnErr result (Began out.old.items out.new.items) }
 {
-    write_text(format_args!("soak {seed} {nodes} {rounds}"), out)?;
+    add_of_two(b"soak ", seed, nodes.into(), out)?;
+    add_of_number(b" ", rounds.into(), out)?;
     end_line(out)
 }
 
+#[tactic(auto, using(life_events::proofs::TextLemmas::begins, life_events::proofs::TextLemmas::begins_so, life_events::proofs::TextLemmas::begins_on, life_events::proofs::TextLemmas::begins_then))]
 fn add_removed(removed: u64, correct: u64, out: &mut Vec<u8>) -> Result<(), NoMemory>
     ensures ok { OnOk result (out.new.items ≡ out.old.items ++ removed_line removed correct) }
     ensures refused { OnErr result (Began out.old.items out.new.items) }
 {
-    write_text(format_args!("removed {removed} correct {correct}"), out)?;
+    add_of_number(b"removed ", removed, out)?;
+    add_of_number(b" correct ", correct, out)?;
     end_line(out)
 }
 
@@ -97,7 +102,7 @@ fn add_end(out: &mut Vec<u8>) -> Result<(), NoMemory>
     ensures ok { OnOk result (out.new.items ≡ out.old.items ++ (codes "end" ++ 10 ∷ [])) }
     ensures refused { OnErr result (Began out.old.items out.new.items) }
 {
-    write_text("end", out)?;
+    write_bytes(b"end", out)?;
     end_line(out)
 }
 

@@ -8,34 +8,49 @@ ghost use Rattle.world_text.specs.Lines.{Began, accusation_end, accusation_line,
 
 use ff_ids::{Epoch, Group, Mask, MemberId, NoteBody, RingNo};
 use fields::{Name, NoMemory};
-use journal::add_digits;
-use life_events::write_text;
+use life_events::{add_of_digits, add_of_number, add_of_two, write_bytes, write_number};
 use lms_ots::OtsKind;
 use lms_tree::TreeKind;
 use schedule_world::WorldLine;
 
-fn add(out: &mut Vec<u8>, bytes: &[u8]) -> Result<(), NoMemory>
-    ensures ok { OnOk result (out.new.items ≡ out.old.items ++ bytes.now) }
+fn add_of_name(word: &[u8], name: &Name, out: &mut Vec<u8>) -> Result<(), NoMemory>
+    ensures ok { OnOk result (out.new.items ≡ out.old.items ++ word.now ++ name.now) }
     ensures refused { OnErr result (Began out.old.items out.new.items) }
 {
-    out.extend_from_slice(bytes)?;
-    Ok(())
+    write_bytes(word, out)?;
+    write_bytes(name.as_slice(), out)
+}
+
+fn add_of_three(
+    word: &[u8],
+    first: u64,
+    second: u64,
+    third: u64,
+    out: &mut Vec<u8>,
+) -> Result<(), NoMemory>
+    ensures ok { OnOk result
+        (out.new.items
+        ≡ out.old.items ++ word.now ++ decimal first ++ codes " " ++ decimal second ++ codes " "
+        ++ decimal third) }
+    ensures refused { OnErr result (Began out.old.items out.new.items) }
+{
+    add_of_two(word, first, second, out)?;
+    add_of_number(b" ", third, out)
 }
 
 fn add_group_end(period: u32, misses: u8, tag: &[u8], out: &mut Vec<u8>) -> Result<(), NoMemory>
     ensures ok { OnOk result (out.new.items ≡ out.old.items ++ group_end period misses tag.now) }
     ensures refused { OnErr result (Began out.old.items out.new.items) }
 {
-    write_text(format_args!(" {period} {misses} "), out)?;
-    add_digits(tag, out)
+    add_of_two(b" ", period.into(), misses.into(), out)?;
+    add_of_digits(b" ", tag, out)
 }
 
 fn add_group(group: &Group, out: &mut Vec<u8>) -> Result<(), NoMemory>
     ensures ok { OnOk result (out.new.items ≡ out.old.items ++ group_text group.now) }
     ensures refused { OnErr result (Began out.old.items out.new.items) }
 {
-    let (t, timeout) = (group.t, group.timeout);
-    write_text(format_args!("group {t} {timeout}"), out)?;
+    add_of_two(b"group ", group.t.into(), group.timeout.into(), out)?;
     add_group_end(group.period, group.misses, &group.tag, out)
 }
 
@@ -58,8 +73,7 @@ fn add_kinds(ots: OtsKind, tree: TreeKind, out: &mut Vec<u8>) -> Result<(), NoMe
         (height tree))) }
     ensures refused { OnErr result (Began out.old.items out.new.items) }
 {
-    let (width, height) = (width(ots), tree.height());
-    write_text(format_args!("kinds {width} {height}"), out)
+    add_of_two(b"kinds ", width(ots).into(), tree.height() as u64, out)
 }
 
 fn add_raw(member: MemberId, bytes: &[u8], out: &mut Vec<u8>) -> Result<(), NoMemory>
@@ -68,19 +82,19 @@ fn add_raw(member: MemberId, bytes: &[u8], out: &mut Vec<u8>) -> Result<(), NoMe
         ≡ out.old.items ++ (codes "raw " ++ decimal member ++ codes " " ++ bytes_text bytes.now)) }
     ensures refused { OnErr result (Began out.old.items out.new.items) }
 {
-    write_text(format_args!("raw {member} "), out)?;
+    add_of_number(b"raw ", member.get().into(), out)?;
     if bytes.is_empty() {
-        return add(out, b"-");
+        return write_bytes(b" -", out);
     }
-    add_digits(bytes, out)
+    add_of_digits(b" ", bytes, out)
 }
 
 fn add_note_end(epoch: Epoch, mask: Mask, name: &Name, out: &mut Vec<u8>) -> Result<(), NoMemory>
     ensures ok { OnOk result (out.new.items ≡ out.old.items ++ note_end epoch mask.0 name.now) }
     ensures refused { OnErr result (Began out.old.items out.new.items) }
 {
-    write_text(format_args!(" {epoch} {mask} "), out)?;
-    add(out, name.as_slice())
+    add_of_two(b" ", epoch.get(), mask.0.into(), out)?;
+    add_of_name(b" ", name, out)
 }
 
 fn add_sign_note(
@@ -92,8 +106,12 @@ fn add_sign_note(
     ensures ok { OnOk result (out.new.items ≡ out.old.items ++ note_line key note.now name.now) }
     ensures refused { OnErr result (Began out.old.items out.new.items) }
 {
-    let member = note.member;
-    write_text(format_args!("sign-note {key} {member}"), out)?;
+    add_of_two(
+        b"sign-note ",
+        key.get().into(),
+        note.member.get().into(),
+        out,
+    )?;
     add_note_end(note.epoch, note.mask, name, out)
 }
 
@@ -103,17 +121,15 @@ fn add_give(name: &Name, member: MemberId, out: &mut Vec<u8>) -> Result<(), NoMe
         ≡ out.old.items ++ (codes "give " ++ name.now ++ codes " " ++ decimal member)) }
     ensures refused { OnErr result (Began out.old.items out.new.items) }
 {
-    add(out, b"give ")?;
-    add(out, name.as_slice())?;
-    write_text(format_args!(" {member}"), out)
+    add_of_name(b"give ", name, out)?;
+    add_of_number(b" ", member.get().into(), out)
 }
 
 fn add_give_all(name: &Name, out: &mut Vec<u8>) -> Result<(), NoMemory>
     ensures ok { OnOk result (out.new.items ≡ out.old.items ++ (codes "give-all " ++ name.now)) }
     ensures refused { OnErr result (Began out.old.items out.new.items) }
 {
-    add(out, b"give-all ")?;
-    add(out, name.as_slice())
+    add_of_name(b"give-all ", name, out)
 }
 
 fn add_epoch(epoch: Option<Epoch>, out: &mut Vec<u8>) -> Result<(), NoMemory>
@@ -121,25 +137,33 @@ fn add_epoch(epoch: Option<Epoch>, out: &mut Vec<u8>) -> Result<(), NoMemory>
     ensures refused { OnErr result (Began out.old.items out.new.items) }
 {
     match epoch {
-        None => write_text("now", out),
-        Some(epoch) => write_text(epoch, out),
+        None => write_bytes(b"now", out),
+        Some(epoch) => write_number(epoch.get(), out),
     }
+}
+
+fn add_of_epoch(epoch: Option<Epoch>, out: &mut Vec<u8>) -> Result<(), NoMemory>
+    ensures ok { OnOk result (out.new.items ≡ out.old.items ++ (codes " " ++ spelled_epoch epoch)) }
+    ensures refused { OnErr result (Began out.old.items out.new.items) }
+{
+    write_bytes(b" ", out)?;
+    add_epoch(epoch, out)
 }
 
 fn add_accused(accused: MemberId, epoch: Option<Epoch>, out: &mut Vec<u8>) -> Result<(), NoMemory>
     ensures ok { OnOk result (out.new.items ≡ out.old.items ++ accusation_middle accused epoch) }
     ensures refused { OnErr result (Began out.old.items out.new.items) }
 {
-    write_text(format_args!(" {accused} "), out)?;
-    add_epoch(epoch, out)
+    add_of_number(b" ", accused.get().into(), out)?;
+    add_of_epoch(epoch, out)
 }
 
 fn add_ring(ring: RingNo, name: &Name, out: &mut Vec<u8>) -> Result<(), NoMemory>
     ensures ok { OnOk result (out.new.items ≡ out.old.items ++ accusation_end ring name.now) }
     ensures refused { OnErr result (Began out.old.items out.new.items) }
 {
-    write_text(format_args!(" {ring} "), out)?;
-    add(out, name.as_slice())
+    add_of_number(b" ", ring.0.into(), out)?;
+    add_of_name(b" ", name, out)
 }
 
 fn add_accusation(
@@ -172,7 +196,12 @@ fn add_sign_accusation(
         ≡ out.old.items ++ accusation_line key accuser accused epoch ring name.now) }
     ensures refused { OnErr result (Began out.old.items out.new.items) }
 {
-    write_text(format_args!("sign-accusation {key} {accuser}"), out)?;
+    add_of_two(
+        b"sign-accusation ",
+        key.get().into(),
+        accuser.get().into(),
+        out,
+    )?;
     add_accusation(accused, epoch, ring, name, out)
 }
 
@@ -181,28 +210,37 @@ fn add_line(line: &WorldLine, out: &mut Vec<u8>) -> Result<(), NoMemory>
     ensures refused { OnErr result (Began out.old.items out.new.items) }
 {
     match line {
-        WorldLine::Header => write_text("fireflies 1 world", out),
+        WorldLine::Header => write_bytes(b"fireflies 1 world", out),
         WorldLine::Group { group } => add_group(group, out),
         WorldLine::Kinds { ots, tree } => add_kinds(*ots, *tree, out),
-        WorldLine::Node { member } => write_text(format_args!("node {member}"), out),
-        WorldLine::Liar { member } => write_text(format_args!("liar {member}"), out),
-        WorldLine::Begin => write_text("begin", out),
-        WorldLine::Start { member } => write_text(format_args!("start {member}"), out),
-        WorldLine::Stop { member, outcome } => write_text(
-            format_args!("stop {member} {outcome}"),
+        WorldLine::Node { member } => add_of_number(b"node ", member.get().into(), out),
+        WorldLine::Liar { member } => add_of_number(b"liar ", member.get().into(), out),
+        WorldLine::Begin => write_bytes(b"begin", out),
+        WorldLine::Start { member } => add_of_number(b"start ", member.get().into(), out),
+        WorldLine::Stop { member, outcome } => add_of_two(
+            b"stop ",
+            member.get().into(),
+            (*outcome).into(),
             out,
         ),
         WorldLine::Arm {
             member,
             calls,
             outcome,
-        } => write_text(format_args!("arm {member} {calls} {outcome}"), out),
-        WorldLine::Tick { member, ticks } => write_text(format_args!("tick {member} {ticks}"), out),
-        WorldLine::Deliver { datagram, member } => write_text(
-            format_args!("deliver {datagram} {member}"),
+        } => add_of_three(b"arm ", member.get().into(), *calls, (*outcome).into(), out),
+        WorldLine::Tick { member, ticks } => add_of_two(
+            b"tick ",
+            member.get().into(),
+            (*ticks).into(),
             out,
         ),
-        WorldLine::Flow { most } => write_text(format_args!("flow {most}"), out),
+        WorldLine::Deliver { datagram, member } => add_of_two(
+            b"deliver ",
+            *datagram,
+            member.get().into(),
+            out,
+        ),
+        WorldLine::Flow { most } => add_of_number(b"flow ", (*most).into(), out),
         WorldLine::Raw { member, bytes } => add_raw(*member, bytes.as_slice(), out),
         WorldLine::SignNote { key, note, name } => add_sign_note(*key, note, name, out),
         WorldLine::SignAccusation {
@@ -215,12 +253,15 @@ fn add_line(line: &WorldLine, out: &mut Vec<u8>) -> Result<(), NoMemory>
         } => add_sign_accusation(*key, *accuser, *accused, *epoch, *ring, name, out),
         WorldLine::Give { name, member } => add_give(name, *member, out),
         WorldLine::GiveAll { name } => add_give_all(name, out),
-        WorldLine::View { member } => write_text(format_args!("view {member}"), out),
-        WorldLine::Monitor { member, ring, of } => write_text(
-            format_args!("monitor {member} {ring} {of}"),
+        WorldLine::View { member } => add_of_number(b"view ", member.get().into(), out),
+        WorldLine::Monitor { member, ring, of } => add_of_three(
+            b"monitor ",
+            member.get().into(),
+            ring.0.into(),
+            of.get().into(),
             out,
         ),
-        WorldLine::End => write_text("end", out),
+        WorldLine::End => write_bytes(b"end", out),
     }
 }
 

@@ -7,14 +7,15 @@ ghost use Rattle.world_text.specs.Lines.{Began};
 use ff_ids::MemberId;
 use fields::NoMemory;
 use journal::{Event, write_event};
-use life_events::write_text;
+use life_events::{add_of_number, write_bytes};
 
 fn add_told(who: MemberId, event: &Event, out: &mut Vec<u8>) -> Result<(), NoMemory>
     ensures ok { OnOk result
         (out.new.items ≡ out.old.items ++ told_text (record { who = who; event = event.now })) }
     ensures refused { OnErr result (Began out.old.items out.new.items) }
 {
-    write_text(format_args!("@{who} "), out)?;
+    add_of_number(b"@", who.get().into(), out)?;
+    write_bytes(b" ", out)?;
     write_event(event, out)
 }
 

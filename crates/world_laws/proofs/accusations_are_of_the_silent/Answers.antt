@@ -1,4 +1,5 @@
-use Rattle.world_laws.proofs.Lawful.{accuse-silent, accepted-signed}
+use Rattle.world_laws.proofs.Lawful.{accuse-silent}
+use Rattle.world_laws.proofs.SignedBefore.{accepted-signed}
 use Rattle.world_laws.proofs.accusations_are_of_the_silent.Goals as goal
 
 pub returns-clause-signed : goal.returns-clause-signed

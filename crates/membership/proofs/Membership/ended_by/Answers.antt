@@ -11,7 +11,7 @@ returns-then-enters c =
     let l = c.args.self.now in
     let n = c.args.note.now in
     let ordered = subst (λ (k : Life). IsInOrder (ring_count k.group.t) k.kept) c.self.view_is c.self.invariant.timed.in_order in
-    AreNamed-each (ring_count l.group.t) c.next_after.result (λ ring. cond c.args.enters (next_of l n.member ring) (answered_on l n ring)) l.kept ordered (λ ring low. c.next_after.ensures.each ring low ∙ sym (ap (λ b. cond b (next_of l n.member ring) (answered_on l n ring)) c.if-enters.true))
+    AreNamed-each (ring_count l.group.t) c.next_after_last.result (λ ring. cond c.args.enters (next_of l n.member ring) (answered_on l n ring)) l.kept ordered (λ ring low. c.next_after_last.ensures.each ring low ∙ sym (ap (λ b. cond b (next_of l n.member ring) (answered_on l n ring)) c.if-enters.true))
 
 pub returns-else-enters : goal.returns-else-enters
 returns-else-enters c =

@@ -36,10 +36,10 @@ pub returns-in-Err-clause-served : goal.returns-in-Err-clause-served
 returns-in-Err-clause-served g c = rw c.from.ensures (served-so c.in-Err.fault)
 
 pub returns-in-Ok-write_all-clause-spends : goal.returns-in-Ok-write_all-clause-spends
-returns-in-Ok-write_all-clause-spends g c = served-spends _ _ _ _ _ _ _ _ c.in-Ok.ensures.spends c.in-Ok-write_all.ensures.wrote
+returns-in-Ok-write_all-clause-spends g c = served-spends _ _ _ _ _ _ _ _ _ _ c.in-Ok.ensures.spends c.in-Ok-write_all.ensures.wrote
 
 pub returns-in-Err-write_all-clause-spends : goal.returns-in-Err-write_all-clause-spends
-returns-in-Err-write_all-clause-spends g c = unended-spends _ _ _ _ _ _ _ _ c.in-Ok.ensures.spends c.in-Err-write_all.ensures.wrote
+returns-in-Err-write_all-clause-spends g c = unended-spends _ _ _ _ _ _ _ _ _ _ c.in-Ok.ensures.spends c.in-Err-write_all.ensures.wrote
 
 pub returns-in-Err-clause-spends : goal.returns-in-Err-clause-spends
-returns-in-Err-clause-spends g c = rw c.from.ensures (unserved-spends _ _ _ _ _ _ c.in-Err.fault c.in-Err.ensures.spends)
+returns-in-Err-clause-spends g c = rw c.from.ensures (unserved-spends _ _ _ _ _ _ _ _ c.in-Err.fault c.in-Err.ensures.spends)

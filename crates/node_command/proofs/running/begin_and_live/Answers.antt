@@ -27,10 +27,10 @@ returns-in-Ok-clause-runs g c = λ feed link_is coming_is reading_is turns_is.
 
 pub returns-in-Ok-clause-spends : goal.returns-in-Ok-clause-spends
 returns-in-Ok-clause-spends g c =
-    inr (begun-spends c.args.member c.in-Ok.ensures.begins.0 c.in-Ok.node c.begin.new.events _ _ _ (g.D.Disk.state c.begin.new.disk) _ c.live-ended.result c.in-Ok.ensures.begins.1 c.live-ended.ensures.spends)
+    inr (begun-spends c.args.member c.in-Ok.ensures.begins.0 c.in-Ok.node c.begin.new.events _ _ _ (g.D.Disk.state c.begin.new.disk) _ _ _ c.live-ended.result c.in-Ok.ensures.begins.1 c.live-ended.ensures.spends)
 
 pub returns-clause-spends : goal.returns-clause-spends
-returns-clause-spends g c = unbegun-spends c.args.member _ _ _ c.begin.new.events c.in-Err.halt c.in-Err.ensures.begins
+returns-clause-spends g c = unbegun-spends c.args.member _ _ _ _ c.begin.new.events c.in-Err.halt c.in-Err.ensures.begins
 
 pub returns-clause-sink : goal.returns-clause-sink
 returns-clause-sink g c = c.requires.sink ∙ sym (begins-writable c.args.member _ _ c.begin.new.events c.in-Err.halt c.in-Err.ensures.begins).0

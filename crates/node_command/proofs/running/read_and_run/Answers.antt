@@ -74,16 +74,16 @@ returns-in-Ok-member_of-clause-cause g c =
     (record { lines = c.in-Ok.lines.items; whole = c.in-Ok.ensures.whole; is = c.in-Ok-member_of.ensures.value; sound = c.in-Ok-member_of.ensures.sound }) c.bind_and_live.ensures.cause
 
 pub returns-in-Err-clause-spends : goal.returns-in-Err-clause-spends
-returns-in-Err-clause-spends g c = rw c.from.ensures (cut-spends _ _ (g.D.Disk.state c.args.disk.now) c.in-Err.stop c.in-Err.ensures.unfinished)
+returns-in-Err-clause-spends g c = rw c.from.ensures (cut-spends _ _ (g.D.Disk.state c.args.disk.now) _ c.in-Err.stop c.in-Err.ensures.unfinished)
 
 pub returns-in-Err-member_of-clause-spends : goal.returns-in-Err-member_of-clause-spends
-returns-in-Err-member_of-clause-spends g c = ungathered-spends _ _ c.in-Ok.lines.items (g.D.Disk.state c.args.disk.now) c.in-Ok.ensures.whole
+returns-in-Err-member_of-clause-spends g c = ungathered-spends _ _ c.in-Ok.lines.items (g.D.Disk.state c.args.disk.now) _ c.in-Ok.ensures.whole
 
 pub returns-in-Ok-member_of-clause-spends : goal.returns-in-Ok-member_of-clause-spends
 returns-in-Ok-member_of-clause-spends g c =
     let between = io (g.S.Source.state c.read_whole.new.input) (g.O.Sink.state c.read_whole.new.out) in
     let now = io (g.S.Source.state c.read_whole.new.input) (g.O.Sink.state c.bind_and_live.new.out) in
-    read-spends _ between now c.in-Ok-member_of.member (g.D.Disk.state c.args.disk.now) (g.D.Disk.state c.bind_and_live.new.disk) c.bind_and_live.result
+    read-spends _ between now c.in-Ok-member_of.member (g.D.Disk.state c.args.disk.now) (g.D.Disk.state c.bind_and_live.new.disk) _ _ c.bind_and_live.result
     (record { lines = c.in-Ok.lines.items; whole = c.in-Ok.ensures.whole; is = c.in-Ok-member_of.ensures.value; sound = c.in-Ok-member_of.ensures.sound }) c.bind_and_live.ensures.spends
 
 pub returns-in-Err-clause-opened : goal.returns-in-Err-clause-opened

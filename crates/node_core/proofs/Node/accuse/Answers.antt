@@ -14,9 +14,9 @@ use Rattle.node_core.specs.Playing.{Kept, IsNode, Plays}
 use Rattle.node_core.specs.contracts.Node.{the_view}
 use Rattle.node_core.proofs.PlayLemmas.{setting-me, grows-refl, grows-trans}
 use Rattle.node_core.proofs.ExtendLemmas.{extends-accuses, extends-wants_accusation}
-use Rattle.node_core.proofs.DueLemmas.{from-fine, runs-from-fine, runs-same, plays-refused, grows-refused}
+use Rattle.node_core.proofs.DueLemmas.{from-fine, runs-from-fine, runs-same}
 use Rattle.node_core.proofs.AccusingLemmas.{accused-same, accuses-kept, accuses-wanted, no-note, ring-of_note, rings-same, body-is, wanted-if}
-use Rattle.node_core.proofs.SpendLemmas.{open-further, still-failed, nothing-same, nothing-trans, refused-none, spends-none, spends-after}
+use Rattle.node_core.proofs.SpendLemmas.{open-further, still-failed, nothing-same, spends-none, spends-after}
 use Rattle.signer.specs.Signing.{SignerState}
 use Rattle.node_core.proofs.DiskLemmas.{stores-none, stored-behind, fails-behind, fails-given, fails-same}
 use Rattle.node_core.proofs.Node.accuse.Goals as goal

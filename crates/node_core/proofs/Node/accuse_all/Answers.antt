@@ -8,8 +8,7 @@ use Rattle.node_core.proofs.AccusingLemmas.{IsFoundBehind, found-behind, accuses
 use Rattle.node_core.proofs.DueLemmas.{behind-extends}
 use Rattle.node_core.proofs.TellingLemmas.{nil-right}
 use Rattle.node_core.proofs.SpendLemmas.{nothing-same, spends-none, spends-trans}
-use Rattle.std.specs.Prelude.{fold, is_err, Bool}
-use Rattle.ports.specs.MemoryDisk.{DiskState}
+use Rattle.std.specs.Prelude.{fold, Bool}
 use Rattle.epoch_store.specs.Placed.{PlacedStore}
 use Rattle.node_rules.specs.OnDisks.{OnDisk, accuses_on}
 use Rattle.node_rules.proofs.GoingOn.{on-accuses}

@@ -8,7 +8,7 @@ use Rattle.std.proofs.Common.{refl, Err}
 use Rattle.node_core.specs.declared.NodeFault.TheVariants as faults
 use Rattle.node_core.specs.contracts.Node.{the_view}
 use Rattle.node_core.proofs.TellingLemmas.{nil-right}
-use Rattle.node_core.proofs.DeliverLemmas.{calm-by, gives-by, hearing-ran}
+use Rattle.node_core.proofs.DeliverLemmas.{calm-by, gives-by, hearing-ran, kept-by, stops-by}
 use Rattle.node_core.proofs.SpendLemmas.{open-by, open-further, call-spends, idle-spends}
 use Rattle.node_core.proofs.DueLemmas.{plays-at}
 use Rattle.std.proofs.Common.{true, rules}
@@ -17,6 +17,7 @@ use Rattle.std.specs.Prelude.{is_err}
 use Rattle.node_core.specs.OnDisks.{ComesTo, storage}
 use Rattle.node_rules.specs.OnDisks.{Delivers, delivered_on}
 use Rattle.node_core.proofs.DiskLemmas.{delivered-on-is, follows-by}
+use Rattle.validate.specs.Certified.{Certificates}
 use Rattle.node_core.proofs.Node.deliver.Goals as goal
 use Rattle.epoch_store.specs.declared.seat.Seat.{Seat}
 
@@ -86,3 +87,17 @@ returns-clause-follows g c = λ s n d is0 going told.
 
 pub returns-then-self-clause-follows : goal.returns-then-self-clause-follows
 returns-then-self-clause-follows g c = λ s n d is going told. let over : c.args.self.now.ended ≡ true = search rules in absurd (false≢true (sym going ∙ over))
+
+pub returns-clause-stops : goal.returns-clause-stops
+returns-clause-stops g c = λ running. stops-by c.hear_bytes-heard.result c.finish.result c.hear_bytes-heard.new.self.telling.failed c.hear_bytes-heard.ensures.cause c.finish.ensures.failed c.finish.ensures.going
+
+pub returns-then-self-clause-stops : goal.returns-then-self-clause-stops
+returns-then-self-clause-stops g c = λ running. let over : c.args.self.now.ended ≡ true = search rules in absurd (false≢true (sym running ∙ over))
+
+pub returns-clause-kept : goal.returns-clause-kept
+returns-clause-kept g c =
+    let roster : Kept → Certificates = λ v. v.roster in
+    kept-by c.args.self.now (record (the_view c.self.inside) { telling = c.over.result; ended = true }) c.hear_bytes-heard.new.self c.finish.new.self (ap roster c.self.view_is) c.hear_bytes-heard.ensures.grows (ap roster c.finish.ensures.frame)
+
+pub returns-then-self-clause-kept : goal.returns-then-self-clause-kept
+returns-then-self-clause-kept g c = λ m x is. is

@@ -17,8 +17,8 @@ use Rattle.node_core.proofs.SpendLemmas.{open-further, still-failed, spends-none
 use Rattle.signer.specs.Signing.{SignerState}
 use Rattle.std.proofs.Common.{ℕ, List}
 use Rattle.std.specs.Prelude.{is_err}
-use Rattle.node_rules.specs.OnDisks.{due_on, ticked_on}
-use Rattle.node_core.specs.OnDisks.{ComesTo, on_disk, storage}
+use Rattle.node_rules.specs.OnDisks.{ticked_on}
+use Rattle.node_core.specs.OnDisks.{ComesTo, storage}
 use Rattle.node_core.proofs.TickLemmas.{FindsDue}
 use Rattle.node_core.proofs.TickDiskLemmas.{seen-on, ticked-on-idle, ticked-on-found}
 use Rattle.node_core.proofs.Node.pass.Goals as goal

@@ -5,7 +5,7 @@ use Rattle.node_core.specs.Playing.{Plays}
 use Rattle.node_core.proofs.TickLemmas.{due-is, err-due}
 use Rattle.node_core.proofs.SpendLemmas.{nothing-trans, spends-before}
 use Rattle.signer.specs.Signing.{SignerState}
-use Rattle.std.proofs.Common.{Bool, true, false, refl}
+use Rattle.std.proofs.Common.{Bool, true, refl}
 use Rattle.std.specs.Prelude.{fold}
 use Rattle.epoch_store.specs.Placed.{PlacedStore}
 use Rattle.node_rules.specs.OnDisks.{OnDisk, accuses_on, due_on}

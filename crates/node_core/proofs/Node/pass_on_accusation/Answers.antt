@@ -21,3 +21,7 @@ returns-clause-plays c = λ s es os call p at own.
     let grows = grows-trans c.args.self.now c.tell_spent.new.self c.send_own.new.self c.tell_spent.ensures.grows (grows-trans c.tell_spent.new.self c.take_accusation.new.self c.send_own.new.self c.take_accusation.ensures.grows c.send_own.ensures.grows) in
     passed-on s es os call b (Some c.args.acc.now.accused) (the_view c.self.inside) c.take_accusation.new.self c.send_own.new.self c.args.rec.rec Spelled p0 (subst (λ (v : Kept). Grows v c.send_own.new.self) (sym c.self.view_is) grows) own kept
     (λ x d q e. c.send_own.ensures.plays s es os x d q e) spelled
+
+pub returns-clause-grows : goal.returns-clause-grows
+returns-clause-grows c =
+    grows-trans c.args.self.now c.tell_spent.new.self c.send_own.new.self c.tell_spent.ensures.grows (grows-trans c.tell_spent.new.self c.take_accusation.new.self c.send_own.new.self c.take_accusation.ensures.grows c.send_own.ensures.grows)

@@ -2,11 +2,12 @@ use Rattle.std.proofs.Common.{◌≡◌, List, ◌++◌, false, ap, sym, subst, 
 use Rattle.records.specs.declared.Record.{Record}
 use Rattle.journal.specs.declared.event.Event as journal
 use Rattle.node_rules.specs.Starting.{started}
-use Rattle.node_core.specs.Told.{Tellings}
+use Rattle.node_core.specs.Told.{IsNoLoss, Tellings}
 use Rattle.node_core.specs.Rolls.{recs_of}
 use Rattle.node_core.specs.Playing.{Kept, IsNode}
 use Rattle.node_core.proofs.BeginLemmas.{other-told, sent-started}
-use Rattle.std.specs.Prelude.{[], ◌∷◌}
+use Rattle.std.specs.Prelude.{All, [], ◌∷◌}
+use Rattle.std.proofs.lemmas.List.Elements.{All-take}
 use Rattle.records.specs.declared.Body.TheVariants as bodies
 use Rattle.node_core.proofs.SpendLemmas.{start-spends, signed-untold}
 use Rattle.node_core.proofs.CertificateLemmas.{vouchable}
@@ -45,3 +46,6 @@ returns-clause-vouchable g c = λ s setting. vouchable s c.args.kit c.args.signe
 pub returns-clause-seat : goal.returns-clause-seat
 returns-clause-seat g c =
     ap (λ (v : Kept). v.signer.seat) c.node.view_is ∙ ap (λ k. k.seat) c.begin-node.ensures.signer ∙ c.in_ok-ready.ensures.seat
+
+pub invariant_of-events : goal.invariant_of-events
+invariant_of-events g c = subst (All IsNoLoss) (sym c.truncate.ensures.items) (All-take IsNoLoss c.len-before.result c.events-2.inside.events.items c.events-2.invariant)

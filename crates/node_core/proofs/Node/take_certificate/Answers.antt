@@ -1,12 +1,15 @@
 use Rattle.std.proofs.Common.{refl, subst, sym, ◌∙◌}
 use Rattle.node_rules.specs.Calls.{lives}
-use Rattle.node_core.specs.Playing.{Kept, Plays, IsAt}
+use Rattle.node_core.specs.Playing.{Grows, Kept, KeepsCertificates, Plays, IsAt}
 use Rattle.node_core.specs.contracts.Node.{the_view}
 use Rattle.node_core.proofs.PlayLemmas.{certified-at, takes-quietly, quiet-at, join-steps, places-of, still-joined}
 use Rattle.std.proofs.Common.{ap}
 use Rattle.ff_ids.specs.Steps.{Joins, nothing}
 use Rattle.record_set.specs.Held.{key_of}
 use Rattle.node_core.proofs.NotedLemmas.{newest-same, notes-certificate}
+use Rattle.validate.specs.Certified.{certificate_of as kept_certificate}
+use Rattle.node_core.proofs.CertificateLemmas.{kept-inserted}
+use Rattle.node_core.proofs.TellingLemmas.{front-refl}
 use Rattle.node_core.proofs.Node.take_certificate.Goals as goal
 
 pub invariant_of-self : goal.invariant_of-self
@@ -40,3 +43,19 @@ returns-clause-plays c = λ s es os call p free.
     let at = quiet-at s es os v call (Joins c.args.cert.member c.hash_places-places.result) c.add_member-fault.new.self p1.at steps fine in
     certified-at s es os (record v { membership = c.add_member-fault.new.self }) call c.args.rec c.args.cert c.put-2.new.self c.put.new.self c.requires.certificate c.put-2.ensures.held c.put.ensures
     (subst (λ x. IsAt s es os (record v { membership = c.add_member-fault.new.self }) (lives s (Joins c.args.cert.member x) call)) places at))
+
+pub returns-clause-grows : goal.returns-clause-grows
+returns-clause-grows c =
+    let v : Kept = the_view c.self.inside in
+    subst (λ (w : Kept). Grows w (record v { membership = c.add_member-fault.new.self; roster = c.put.new.self; records = c.put-2.new.self })) c.self.view_is
+    (record {
+      going = λ fine. fine;
+      stuck = λ failed. refl;
+      events = front-refl v.telling.events;
+      sent = front-refl v.telling.sent;
+      before = refl;
+      ended = refl;
+      group = refl;
+      me = refl;
+      roster = subst (KeepsCertificates v.roster) (sym c.put.ensures) (kept-inserted v.roster c.args.cert (ap (λ (w : Kept). kept_certificate w.roster c.args.cert.member) c.self.view_is ∙ c.requires.fresh));
+    })

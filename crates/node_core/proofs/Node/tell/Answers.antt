@@ -9,7 +9,7 @@ use Rattle.node_core.proofs.Node.tell.Goals as goal
 pub returns-clause-signs_nothing : goal.returns-clause-signs_nothing
 returns-clause-signs_nothing c = record {
   signer = ap (λ (v : Kept). v.signer) c.self.view_is;
-  told_none = event-none c.now.result c.args.what c.self.inside.telling c.tell.new.self c.tell.ensures.adds c.requires ∙ ap (λ (v : Kept). spent_told v.telling.events) c.self.view_is;
+  told_none = event-none c.now.result c.args.what c.self.inside.telling c.tell.new.self c.tell.ensures.adds c.requires.unsigned ∙ ap (λ (v : Kept). spent_told v.telling.events) c.self.view_is;
 }
 
 pub returns-clause-plays : goal.returns-clause-plays

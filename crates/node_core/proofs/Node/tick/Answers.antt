@@ -11,13 +11,14 @@ use Rattle.node_core.proofs.TellingLemmas.{nil-right}
 use Rattle.node_core.proofs.TickLemmas.{tick-ran}
 use Rattle.node_core.proofs.SpendLemmas.{open-by, open-further, call-spends, idle-spends}
 use Rattle.node_core.proofs.DueLemmas.{plays-at}
-use Rattle.node_core.proofs.DeliverLemmas.{calm-by, gives-by}
+use Rattle.node_core.proofs.DeliverLemmas.{calm-by, gives-by, kept-by, stops-by}
 use Rattle.std.proofs.Common.{true, rules}
 use Rattle.std.proofs.lemmas.Bool.{false≢true}
 use Rattle.std.specs.Prelude.{is_err}
 use Rattle.node_core.specs.OnDisks.{ComesTo, storage}
 use Rattle.node_rules.specs.OnDisks.{Ticks, ticked_on}
 use Rattle.node_core.proofs.DiskLemmas.{follows-by}
+use Rattle.validate.specs.Certified.{Certificates}
 use Rattle.node_core.proofs.Node.tick.Goals as goal
 use Rattle.epoch_store.specs.declared.seat.Seat.{Seat}
 
@@ -87,3 +88,17 @@ returns-clause-follows g c = λ s n d is0 going told.
 
 pub returns-then-self-clause-follows : goal.returns-then-self-clause-follows
 returns-then-self-clause-follows g c = λ s n d is going told. let over : c.args.self.now.ended ≡ true = search rules in absurd (false≢true (sym going ∙ over))
+
+pub returns-clause-stops : goal.returns-clause-stops
+returns-clause-stops g c = λ running. stops-by c.pass-passed.result c.finish.result c.pass-passed.new.self.telling.failed c.pass-passed.ensures.cause c.finish.ensures.failed c.finish.ensures.going
+
+pub returns-then-self-clause-stops : goal.returns-then-self-clause-stops
+returns-then-self-clause-stops g c = λ running. let over : c.args.self.now.ended ≡ true = search rules in absurd (false≢true (sym running ∙ over))
+
+pub returns-clause-kept : goal.returns-clause-kept
+returns-clause-kept g c =
+    let roster : Kept → Certificates = λ v. v.roster in
+    kept-by c.args.self.now (record (the_view c.self.inside) { telling = c.over.result; ended = true }) c.pass-passed.new.self c.finish.new.self (ap roster c.self.view_is) c.pass-passed.ensures.grows (ap roster c.finish.ensures.frame)
+
+pub returns-then-self-clause-kept : goal.returns-then-self-clause-kept
+returns-then-self-clause-kept g c = λ m x is. is

@@ -12,12 +12,12 @@ use Rattle.node_core.proofs.SpendLemmas.{lives-signed, signed-spends, unsigned-s
 use Rattle.node_core.specs.Neighbours.{addressees}
 use Rattle.node_rules.specs.Calls.{wants}
 use Rattle.epoch_store.specs.Asked.{put_calls}
-use Rattle.std.proofs.Common.{◌≡◌, true, false}
+use Rattle.std.proofs.Common.{◌≡◌, true}
 use Rattle.epoch_store.specs.declared.Stored.{Stored}
 use Rattle.signer.specs.Signing.{after_signing, stored_after}
 use Rattle.signer.specs.Signs.{MakesFrom}
 use Rattle.node_core.proofs.PlayLemmas.{free-below}
-use Rattle.node_core.proofs.DiskLemmas.{stores-idle, stores-none, stores-signed, fails-signed, wants-stored}
+use Rattle.node_core.proofs.DiskLemmas.{stores-none, stores-signed, fails-signed, wants-stored}
 use Rattle.node_core.specs.OnDisks.{Stores, FailsToStore}
 use Rattle.node_core.proofs.DueLemmas.{plays-stuck}
 use Rattle.node_core.proofs.ExtendLemmas.{extends-wants}

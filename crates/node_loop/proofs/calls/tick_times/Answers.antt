@@ -19,7 +19,7 @@ loop-done-init g c = record {
   calm = refl;
   faults = refl;
   closed = refl;
-  goes = goes-same c.args.node.now.signer (g.D.Disk.state c.args.disk.now).moments (g.O.Sink.state c.args.out.now).taken (Ok tt);
+  goes = goes-same c.args.node.now.signer (g.D.Disk.state c.args.disk.now).moments (g.O.Sink.state c.args.out.now).taken _ _ (Ok tt) refl;
   ticked = λ s before r at. ticked-none s before _ r at;
 }
 
@@ -32,7 +32,7 @@ loop-done-preserved g c =
       calm = c.in_ok-tick.ensures.no_disk_fault ∙ h.calm;
       faults = c.in_ok-tick.ensures.faults ∙ h.faults;
       closed = c.in_ok-tick.ensures.closed ∙ h.closed;
-      goes = goes-trans _ _ _ _ _ _ _ _ _ _ h.goes c.in_ok-tick.ensures.spends;
+      goes = goes-trans _ _ _ _ _ _ _ _ _ _ _ _ _ h.goes c.in_ok-tick.ensures.spends;
       ticked = λ s before r at. ticked-on s before _ r c.loop-done._done (c.in_ok-tick.ensures.serves s before (served s (ticks_of c.loop-done._done) r) (h.ticked s before r at));
     }
 
@@ -51,8 +51,8 @@ returns-in_err-tick-clause-store g c =
 pub returns-in_err-tick-clause-spends : goal.returns-in_err-tick-clause-spends
 returns-in_err-tick-clause-spends g c =
     let e : ServeFault = c.in_err-tick.field-0.0 in
-    goes-as _ _ _ _ _ _ c.from_residual.result (Err e) (thrown c.from_residual.result e c.from_residual.ensures.1)
-    (goes-trans _ _ _ _ _ _ _ _ _ (Err e) c.loop-done.invariant.goes c.in_err-tick.ensures.spends)
+    goes-as _ _ _ _ _ _ _ _ c.from_residual.result (Err e) (thrown c.from_residual.result e c.from_residual.ensures.1)
+    (goes-trans _ _ _ _ _ _ _ _ _ _ _ _ (Err e) c.loop-done.invariant.goes c.in_err-tick.ensures.spends)
 
 pub returns-in_err-tick-clause-serves : goal.returns-in_err-tick-clause-serves
 returns-in_err-tick-clause-serves g c = λ s before r at.

@@ -1,20 +1,21 @@
 use Rattle.std.proofs.Common.{◌≡◌, ◌+◌, ℕ, length, Ok, Err, subst, sym, ap, ◌∙◌, refl, arith}
 use Rattle.std.specs.Prelude.{IfErr}
 use Rattle.ports.specs.Count.{Rose}
+use Rattle.ports.specs.Outside.{OfLink}
 use Rattle.node_loop.specs.declared.fault.ServeFault.{ServeFault}
 use Rattle.node_loop.specs.declared.fault.ServeFault.TheVariants as faults
 use Rattle.node_loop.specs.Turns.{Outlook, room, after_turn, life_acts, turn_acts, turn_in}
 use Rattle.node_loop.specs.Courses.{ServeState, served, served_from}
 use Rattle.node_loop.specs.Serving.{Sees, Serves}
 use Rattle.node_loop.specs.Writing.{Before, Stands, Standing, before_all, standing}
-use Rattle.node_loop.proofs.LineLemmas.{goes-as, goes-same, goes-trans}
+use Rattle.node_loop.proofs.LineLemmas.{goes-as, goes-from, goes-same, goes-trans}
 use Rattle.node_loop.proofs.SendLemmas.{thrown}
 use Rattle.node_loop.proofs.TellLemmas.{at-within}
 use Rattle.node_loop.proofs.TurnLemmas.{Turned, at-pace, base-read, begins-at, begins-seeing, first_outlook, length-kept, life-is, turned-ends, turned-first, turned-last, turned-next, unheard-turn}
 use Rattle.node_loop.proofs.serving.serve.Goals as goal
 
 pub returns-in_default-clause-spends : goal.returns-in_default-clause-spends
-returns-in_default-clause-spends g c = goes-same c.args.node.now.signer (g.D.Disk.state c.args.disk.now).moments (g.O.Sink.state c.args.out.now).taken _
+returns-in_default-clause-spends g c = goes-same c.args.node.now.signer (g.D.Disk.state c.args.disk.now).moments (g.O.Sink.state c.args.out.now).taken _ _ _ refl
 
 pub returns-in_default-clause-serves : goal.returns-in_default-clause-serves
 returns-in_default-clause-serves g c = λ s n link_told readings is link_is coming_is.
@@ -39,7 +40,7 @@ loop-done-init g c = record {
   base = refl;
   room = sym c.in-Ok.buf.ok.0 ∙ c.in-Ok.ensures.len;
   closed = refl;
-  goes = goes-same c.args.node.now.signer (g.D.Disk.state c.args.disk.now).moments (g.O.Sink.state c.args.out.now).taken (Ok tt);
+  goes = goes-same c.args.node.now.signer (g.D.Disk.state c.args.disk.now).moments (g.O.Sink.state c.args.out.now).taken _ _ (Ok tt) refl;
   turned = λ s before o start at sees. turned-first s before c.args.millis c.now-base.result c.args.turns o start _ _ _ _ at sees;
 }
 
@@ -56,7 +57,7 @@ loop-done-preserved g c =
       base = c.in_ok-turn.ensures.kept.0 ∙ h.base;
       room = length-kept c.loop-done.buf.len room c.turn.new.buf c.loop-done.buf.items c.loop-done.buf.ok.0 (let a = c.turn.auto.buf in let b = c.deref_mut.ensures.len in let d = c.deref_mut.ensures.value in omega (arith, a, b, ap length d)) h.room;
       closed = c.in_ok-turn.ensures.closed ∙ h.closed;
-      goes = goes-trans _ _ _ _ _ _ _ _ _ _ h.goes c.in_ok-turn.ensures.spends;
+      goes = goes-trans _ _ _ _ _ _ _ _ _ _ _ _ _ h.goes c.in_ok-turn.ensures.spends;
       turned = λ s before o start at sees.
           let w : Standing = standing c.loop-done.node (g.L.Link.state c.loop-done.link).contents (g.O.Sink.state c.loop-done.out).taken (g.D.Disk.state c.loop-done.disk).moments c.loop-done.progress.sent in
           let w1 : Standing = standing c.turn.new.node (g.L.Link.state c.turn.new.link).contents (g.O.Sink.state c.turn.new.out).taken (g.D.Disk.state c.turn.new.disk).moments c.turn.new.progress.sent in
@@ -86,8 +87,13 @@ returns-in_err-turn-clause-store_fault g c =
 pub returns-in_err-turn-clause-spends : goal.returns-in_err-turn-clause-spends
 returns-in_err-turn-clause-spends g c =
     let e : ServeFault = c.in_err-turn.field-0.0 in
-    goes-as _ _ _ _ _ _ c.from_residual.result (Err e) (thrown c.from_residual.result e c.from_residual.ensures.1)
-    (goes-trans _ _ _ _ _ _ _ _ _ (Err e) c.loop-done.invariant.goes c.in_err-turn.ensures.spends)
+    let count = ap (λ (l : OfLink). l.faults) c.expect_certified.ensures in
+    let goes = goes-trans _ _ _ _ _ _ _ _ _ _ _ _ (Err e) c.loop-done.invariant.goes c.in_err-turn.ensures.spends in
+    goes-as _ _ _ _ _ _ _ _ c.from_residual.result (Err e) (thrown c.from_residual.result e c.from_residual.ensures.1)
+    (goes-from _ _ _ _ _ _ _ _ _ (Err e) count goes)
+
+pub returns-clause-spends : goal.returns-clause-spends
+returns-clause-spends g c = goes-from _ _ _ _ _ _ _ _ _ (Ok tt) (ap (λ (l : OfLink). l.faults) c.expect_certified.ensures) c.loop-done.invariant.goes
 
 pub returns-in_err-turn-clause-serves : goal.returns-in_err-turn-clause-serves
 returns-in_err-turn-clause-serves g c = λ s n link_told readings is link_is coming_is.
@@ -97,7 +103,8 @@ returns-in_err-turn-clause-serves g c = λ s n link_told readings is link_is com
     let last = (g.C.Clock.state c.args.clock.now).reading in
     let taken = (g.O.Sink.state c.args.out.now).taken in
     let moments = (g.D.Disk.state c.args.disk.now).moments in
-    let link = (g.L.Link.state c.args.link.now).contents in
+    let link = (g.L.Link.state c.expect_certified.new.link).contents in
+    let told = ap (λ (l : OfLink). l.contents) c.expect_certified.ensures ∙ link_is in
     let later = (g.C.Clock.state c.now-base.new.self).coming in
     let read = base-read last (g.C.Clock.state c.args.clock.now).coming later readings base coming_is c.now-base.ensures.reads in
     let before : Before = before_all taken c.args.node.now.signer moments in
@@ -106,7 +113,7 @@ returns-in_err-turn-clause-serves g c = λ s n link_told readings is link_is com
     let w : Standing = standing c.loop-done.node (g.L.Link.state c.loop-done.link).contents (g.O.Sink.state c.loop-done.out).taken (g.D.Disk.state c.loop-done.disk).moments c.loop-done.progress.sent in
     let w1 : Standing = standing c.turn.new.node (g.L.Link.state c.turn.new.link).contents (g.O.Sink.state c.turn.new.out).taken (g.D.Disk.state c.turn.new.disk).moments c.turn.new.progress.sent in
     let t : Turned s before c.args.millis base c.args.turns done o start w (g.C.Clock.state c.loop-done.clock).reading (g.C.Clock.state c.loop-done.clock).coming c.loop-done.progress.made =
-    h.turned s before o start (begins-at s c.args.node.now n link taken moments link_told is link_is) (begins-seeing n link_told (g.C.Clock.state c.now-base.new.self).reading base later readings c.now-base.ensures.kept read.1) in
+    h.turned s before o start (begins-at s c.args.node.now n link taken moments link_told is told) (begins-seeing n link_told (g.C.Clock.state c.now-base.new.self).reading base later readings c.now-base.ensures.kept read.1) in
     let r : ServeState = served s t.acts start in
     let e : ServeFault = c.in_err-turn.field-0.0 in
     let ended = at-pace (λ m b. Serves s before (turn_acts (turn_in m b (done + 1) t.outlook)) r w1 (Err e)) c.loop-done.progress.millis c.args.millis c.loop-done.progress.base base h.millis h.base
@@ -123,7 +130,8 @@ returns-clause-serves g c = λ s n link_told readings is link_is coming_is.
     let last = (g.C.Clock.state c.args.clock.now).reading in
     let taken = (g.O.Sink.state c.args.out.now).taken in
     let moments = (g.D.Disk.state c.args.disk.now).moments in
-    let link = (g.L.Link.state c.args.link.now).contents in
+    let link = (g.L.Link.state c.expect_certified.new.link).contents in
+    let told = ap (λ (l : OfLink). l.contents) c.expect_certified.ensures ∙ link_is in
     let later = (g.C.Clock.state c.now-base.new.self).coming in
     let read = base-read last (g.C.Clock.state c.args.clock.now).coming later readings base coming_is c.now-base.ensures.reads in
     let before : Before = before_all taken c.args.node.now.signer moments in
@@ -134,7 +142,7 @@ returns-clause-serves g c = λ s n link_told readings is link_is coming_is.
     let coming = (g.C.Clock.state c.loop-done.clock).coming in
     let made : ℕ = c.loop-done.progress.made in
     let t : Turned s before c.args.millis base c.args.turns c.loop-done.done o start w reading coming made =
-    c.loop-done.invariant.turned s before o start (begins-at s c.args.node.now n link taken moments link_told is link_is) (begins-seeing n link_told (g.C.Clock.state c.now-base.new.self).reading base later readings c.now-base.ensures.kept read.1) in
+    c.loop-done.invariant.turned s before o start (begins-at s c.args.node.now n link taken moments link_told is told) (begins-seeing n link_told (g.C.Clock.state c.now-base.new.self).reading base later readings c.now-base.ensures.kept read.1) in
     let all : c.loop-done.done ≡ c.args.turns = omega arith in
     let last_turn = subst (λ k. Turned s before c.args.millis base c.args.turns k o start w reading coming made) all t in (
       c.loop-done.progress.sent,

@@ -18,7 +18,7 @@ invariant-loop-done g l = record {
   base : l.progress.base ≡ l.base;
   room : length l.buf.items ≡ room;
   closed : l.node.signer.closed ≡ l.initial.node.signer.closed;
-  goes : GoesOn l.initial.node.signer l.node.signer (g.D.Disk.state l.initial.disk).moments (g.D.Disk.state l.disk).moments (g.O.Sink.state l.initial.out).taken (g.O.Sink.state l.out).taken (Ok tt);
+  goes : GoesOn l.initial.node.signer l.node.signer (g.D.Disk.state l.initial.disk).moments (g.D.Disk.state l.disk).moments (g.O.Sink.state l.initial.out).taken (g.O.Sink.state l.out).taken (g.L.Link.state l.initial.link).faults (g.L.Link.state l.link).faults (Ok tt);
   turned : (s : Setting) (before : Before) (o : Outlook) (start : ServeState)
       → Stands s before (standing l.initial.node (g.L.Link.state l.initial.link).contents (g.O.Sink.state l.initial.out).taken (g.D.Disk.state l.initial.disk).moments 0) start
       → Sees o start (g.C.Clock.state l.initial.clock).reading (g.C.Clock.state l.initial.clock).coming 0

@@ -1,5 +1,6 @@
-use Rattle.std.proofs.Common.{◌≡◌, [], true, false, Ok, Err, inl, inr, refl, subst, sym, ◌∙◌}
+use Rattle.std.proofs.Common.{◌≡◌, Bool, [], true, false, Ok, Err, inl, inr, refl, ap, subst, sym, ◌∙◌}
 use Rattle.std.proofs.KnownBytes.{Appends-nil, Appends-trans}
+use Rattle.ports.specs.Count.{counted}
 use Rattle.journal.specs.declared.event.What.TheVariants as kinds
 use Rattle.node_loop.specs.declared.fault.ServeFault.{ServeFault}
 use Rattle.node_loop.specs.Courses.{ServeState, fails_next, hands_over, line_of, sends_one, writes_event}
@@ -76,28 +77,36 @@ returns-in_err-write_sent-clause-spent g c =
     let e : ServeFault = c.in_err-write_sent.field-0.0 in
     let before = (g.O.Sink.state c.args.out.now).taken in
     let after = (g.O.Sink.state c.write_sent.new.out).taken in
-    subst (λ x. WritesSpent [] before after x) (sym (thrown c.from_residual.result e c.from_residual.ensures.1))
-    (spent-event before after (record { moment = c.args.moment; what = kinds.Sent c.args.sent.now c.args.to c.args.bytes.now }) (Err e) c.in_err-write_sent.ensures.wrote)
+    let faults = (g.L.Link.state c.args.link.now).faults in
+    subst (λ x. WritesSpent [] before after faults faults x) (sym (thrown c.from_residual.result e c.from_residual.ensures.1))
+    (spent-event before after faults faults (record { moment = c.args.moment; what = kinds.Sent c.args.sent.now c.args.to c.args.bytes.now }) (Err e) c.in_err-write_sent.ensures.wrote refl)
 
 pub returns-then-lost-clause-spent : goal.returns-then-lost-clause-spent
 returns-then-lost-clause-spent g c =
     let t0 = (g.O.Sink.state c.args.out.now).taken in
     let t1 = (g.O.Sink.state c.write_sent.new.out).taken in
     let t2 = (g.O.Sink.state c.write_told.new.out).taken in
-    spent-trans [] [] t0 t1 t2 c.write_told.result
-    (spent-event t0 t1 (record { moment = c.args.moment; what = kinds.Sent c.args.sent.now c.args.to c.args.bytes.now }) (Ok c.in_ok-write_sent.field-0) c.in_ok-write_sent.ensures.wrote)
-    (spent-event t1 t2 (record { moment = c.args.moment; what = kinds.Lost c.args.sent.now }) c.write_told.result c.write_told.ensures.wrote)
+    let f0 = (g.L.Link.state c.args.link.now).faults in
+    let f1 = (g.L.Link.state c.hand_over.new.link).faults in
+    spent-trans [] [] t0 t1 t2 f0 f0 f1 c.write_told.result
+    (spent-event t0 t1 f0 f0 (record { moment = c.args.moment; what = kinds.Sent c.args.sent.now c.args.to c.args.bytes.now }) (Ok c.in_ok-write_sent.field-0) c.in_ok-write_sent.ensures.wrote refl)
+    (spent-event t1 t2 f0 f1 (record { moment = c.args.moment; what = kinds.Lost c.args.sent.now }) c.write_told.result c.write_told.ensures.wrote
+    (c.in-Ok.ensures.faults ∙ ap (λ (b : Bool). counted b f0) c.if-lost.true))
 
 pub returns-else-lost-clause-spent : goal.returns-else-lost-clause-spent
 returns-else-lost-clause-spent g c =
-    spent-event (g.O.Sink.state c.args.out.now).taken (g.O.Sink.state c.write_sent.new.out).taken
+    let faults = (g.L.Link.state c.args.link.now).faults in
+    spent-event (g.O.Sink.state c.args.out.now).taken (g.O.Sink.state c.write_sent.new.out).taken faults (g.L.Link.state c.hand_over.new.link).faults
     (record { moment = c.args.moment; what = kinds.Sent c.args.sent.now c.args.to c.args.bytes.now }) (Ok c.in_ok-write_sent.field-0) c.in_ok-write_sent.ensures.wrote
+    (c.in-Ok.ensures.faults ∙ ap (λ (b : Bool). counted b faults) c.if-lost.false)
 
 pub returns-in-Err-clause-spent : goal.returns-in-Err-clause-spent
 returns-in-Err-clause-spent g c =
-    spent-behind [] (g.O.Sink.state c.args.out.now).taken (g.O.Sink.state c.write_sent.new.out).taken _
-    (spent-event (g.O.Sink.state c.args.out.now).taken (g.O.Sink.state c.write_sent.new.out).taken
-    (record { moment = c.args.moment; what = kinds.Sent c.args.sent.now c.args.to c.args.bytes.now }) (Ok c.in_ok-write_sent.field-0) c.in_ok-write_sent.ensures.wrote)
+    let older = (g.L.Link.state c.args.link.now).faults in
+    let newer = (g.L.Link.state c.hand_over.new.link).faults in
+    spent-behind [] (g.O.Sink.state c.args.out.now).taken (g.O.Sink.state c.write_sent.new.out).taken older newer _
+    (spent-event (g.O.Sink.state c.args.out.now).taken (g.O.Sink.state c.write_sent.new.out).taken older newer
+    (record { moment = c.args.moment; what = kinds.Sent c.args.sent.now c.args.to c.args.bytes.now }) (Ok c.in_ok-write_sent.field-0) c.in_ok-write_sent.ensures.wrote c.in-Err.ensures.faults)
 
 pub returns-in_err-write_sent-clause-behind : goal.returns-in_err-write_sent-clause-behind
 returns-in_err-write_sent-clause-behind g c = inl refl

@@ -1,4 +1,5 @@
-use Rattle.std.proofs.Common.{◌≡◌, ℕ, List, [], Some, sym, ap, ◌∙◌}
+use Rattle.std.proofs.Common.{◌≡◌, ℕ, Bool, List, [], Some, sym, ap, ◌∙◌}
+use Rattle.ports.specs.Count.{counted}
 use Rattle.node_core.specs.Spending.{spent_by}
 use Rattle.node_loop.specs.Courses.{datagram_in, line_of, sends_one, writes}
 use Rattle.node_loop.specs.Writing.{Standing, standing}
@@ -28,8 +29,9 @@ returns-in-None-clause-extends g c =
 
 pub returns-in-Some-clause-spent : goal.returns-in-Some-clause-spent
 returns-in-Some-clause-spent g c =
-    spent-same [] (spent_by c.args.event.now.what) _ _ c.send_one.result (sym (sent-none c.args.event.now.what _ c.in-Some.ensures)) c.send_one.ensures.spent
+    spent-same [] (spent_by c.args.event.now.what) _ _ _ _ c.send_one.result (sym (sent-none c.args.event.now.what _ c.in-Some.ensures)) c.send_one.ensures.spent
 
 pub returns-in-None-clause-spent : goal.returns-in-None-clause-spent
 returns-in-None-clause-spent g c =
-    spent-event (g.O.Sink.state c.args.out.now).taken (g.O.Sink.state c.write_told.new.out).taken c.args.event.now c.write_told.result c.write_told.ensures.wrote
+    spent-event (g.O.Sink.state c.args.out.now).taken (g.O.Sink.state c.write_told.new.out).taken _ _ c.args.event.now c.write_told.result c.write_told.ensures.wrote
+    (ap (λ (b : Bool). counted b (g.L.Link.state c.args.link.now).faults) (sym c.requires.no_loss))

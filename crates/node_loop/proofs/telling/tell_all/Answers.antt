@@ -23,7 +23,7 @@ loop-event-preserved g c =
       writable = c.in_ok-tell.ensures.going;
       calm = c.in_ok-tell.ensures.faults ∙ h.calm;
       told = told-next c.args.node.now (take i events) (take (i + 1) events) e _ _ _ _ _ _ _ _ _ h.told longer c.in_ok-tell.ensures.tells c.in_ok-tell.ensures.extends;
-      spent = spent-next (take i events) (take (i + 1) events) e _ _ _ h.spent longer c.in_ok-tell.ensures.spent;
+      spent = spent-next (take i events) (take (i + 1) events) e _ _ _ _ _ _ h.spent longer c.in_ok-tell.ensures.spent;
     }
 
 pub returns-in_err-tell-clause-tells : goal.returns-in_err-tell-clause-tells
@@ -61,11 +61,13 @@ returns-in_err-tell-clause-spent g c =
     sym (take-append-drop (i + 1) events) ∙ ap (λ (xs : List journal.Event). xs ++ drop (i + 1) events) longer ∙ append_assoc (take i events) (x ∷ []) (drop (i + 1) events) in
     let before = (g.O.Sink.state c.args.out.now).taken in
     let after = (g.O.Sink.state c.tell.new.out).taken in
-    subst (λ y. WritesSpent (spent_told events) before after y) (sym (thrown c.from_residual.result e c.from_residual.ensures.1))
-    (spent-part (take i events) events (drop (i + 1) events) x before (g.O.Sink.state c.loop-event.out).taken after e c.in_err-tell.ensures.cause split c.loop-event.invariant.spent c.in_err-tell.ensures.spent)
+    let f0 = (g.L.Link.state c.args.link.now).faults in
+    let f1 = (g.L.Link.state c.tell.new.link).faults in
+    subst (λ y. WritesSpent (spent_told events) before after f0 f1 y) (sym (thrown c.from_residual.result e c.from_residual.ensures.1))
+    (spent-part (take i events) events (drop (i + 1) events) x before (g.O.Sink.state c.loop-event.out).taken after f0 (g.L.Link.state c.loop-event.link).faults f1 e c.in_err-tell.ensures.cause split c.loop-event.invariant.spent c.in_err-tell.ensures.spent)
 
 pub returns-clause-spent : goal.returns-clause-spent
 returns-clause-spent g c =
     let events : List journal.Event = c.args.events.now in
     let whole : take c.loop-event.event-index events ≡ events = take-all c.loop-event.event-index events (omega (arith, c.loop-event-test.false)) in
-    subst (λ (es : List journal.Event). WritesSpent (spent_told es) (g.O.Sink.state c.args.out.now).taken (g.O.Sink.state c.loop-event.out).taken (Ok tt)) whole c.loop-event.invariant.spent
+    subst (λ (es : List journal.Event). WritesSpent (spent_told es) (g.O.Sink.state c.args.out.now).taken (g.O.Sink.state c.loop-event.out).taken (g.L.Link.state c.args.link.now).faults (g.L.Link.state c.loop-event.link).faults (Ok tt)) whole c.loop-event.invariant.spent

@@ -9,5 +9,5 @@ invariant-loop-event g l = record {
   writable : (g.O.Sink.state l.out).is_open ≡ true;
   calm : (g.O.Sink.state l.out).faults ≡ (g.O.Sink.state l.initial.out).faults;
   told : HasTold l.node (take l.event-index l.events) (g.L.Link.state l.initial.link).contents (g.L.Link.state l.link).contents (g.O.Sink.state l.initial.out).taken (g.O.Sink.state l.out).taken l.initial.sent l.sent;
-  spent : WritesSpent (spent_told (take l.event-index l.events)) (g.O.Sink.state l.initial.out).taken (g.O.Sink.state l.out).taken (Ok tt);
+  spent : WritesSpent (spent_told (take l.event-index l.events)) (g.O.Sink.state l.initial.out).taken (g.O.Sink.state l.out).taken (g.L.Link.state l.initial.link).faults (g.L.Link.state l.link).faults (Ok tt);
 }

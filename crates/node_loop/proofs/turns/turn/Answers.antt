@@ -13,7 +13,7 @@ use Rattle.node_loop.proofs.TurnLemmas.{at-heard, heard-is, on-any, read-next, s
 use Rattle.node_loop.proofs.turns.turn.Goals as goal
 
 pub returns-in_default-clause-spends : goal.returns-in_default-clause-spends
-returns-in_default-clause-spends g c = goes-same c.args.node.now.signer (g.D.Disk.state c.args.disk.now).moments (g.O.Sink.state c.args.out.now).taken _
+returns-in_default-clause-spends g c = goes-same c.args.node.now.signer (g.D.Disk.state c.args.disk.now).moments (g.O.Sink.state c.args.out.now).taken _ _ _ c.in_default.ensures.faults
 
 pub returns-in_default-clause-serves : goal.returns-in_default-clause-serves
 returns-in_default-clause-serves g c = λ s before r o at sees.
@@ -25,8 +25,8 @@ pub returns-in_err-write_turn_line-clause-spends : goal.returns-in_err-write_tur
 returns-in_err-write_turn_line-clause-spends g c =
     let made : Turn = record { number = c.args.number; heard = c.in-Ok.heard; ticks = c.next_ticks-ticks.result } in
     let e : ServeFault = c.in_err-write_turn_line.field-0.0 in
-    goes-as _ _ _ _ _ _ c.from_residual.result (Err e) (thrown c.from_residual.result e c.from_residual.ensures.1)
-    (goes-turn c.args.node.now.signer (g.D.Disk.state c.args.disk.now).moments _ _ made (Err e) c.in_err-write_turn_line.ensures.wrote)
+    goes-as _ _ _ _ _ _ _ _ c.from_residual.result (Err e) (thrown c.from_residual.result e c.from_residual.ensures.1)
+    (goes-turn c.args.node.now.signer (g.D.Disk.state c.args.disk.now).moments _ _ _ _ made (Err e) c.in_err-write_turn_line.ensures.wrote c.in-Ok.ensures.faults)
 
 pub returns-in_err-write_turn_line-clause-serves : goal.returns-in_err-write_turn_line-clause-serves
 returns-in_err-write_turn_line-clause-serves g c = λ s before r o at0 sees.
@@ -79,16 +79,16 @@ returns-in_err-deliver_heard-clause-serves g c = λ s before r o at0 sees.
 pub returns-clause-spends : goal.returns-clause-spends
 returns-clause-spends g c =
     let made : Turn = record { number = c.args.number; heard = c.in-Ok.heard; ticks = c.next_ticks-ticks.result } in
-    let line = goes-turn c.args.node.now.signer (g.D.Disk.state c.args.disk.now).moments _ _ made (Ok c.in_ok-write_turn_line.field-0) c.in_ok-write_turn_line.ensures.wrote in
-    goes-trans _ _ _ _ _ _ _ _ _ _ (goes-trans _ _ _ _ _ _ _ _ _ _ line c.in_ok-deliver_heard.ensures.spends) c.tick_times.ensures.spends
+    let line = goes-turn c.args.node.now.signer (g.D.Disk.state c.args.disk.now).moments _ _ _ _ made (Ok c.in_ok-write_turn_line.field-0) c.in_ok-write_turn_line.ensures.wrote c.in-Ok.ensures.faults in
+    goes-trans _ _ _ _ _ _ _ _ _ _ _ _ _ (goes-trans _ _ _ _ _ _ _ _ _ _ _ _ _ line c.in_ok-deliver_heard.ensures.spends) c.tick_times.ensures.spends
 
 pub returns-in_err-deliver_heard-clause-spends : goal.returns-in_err-deliver_heard-clause-spends
 returns-in_err-deliver_heard-clause-spends g c =
     let made : Turn = record { number = c.args.number; heard = c.in-Ok.heard; ticks = c.next_ticks-ticks.result } in
-    let line = goes-turn c.args.node.now.signer (g.D.Disk.state c.args.disk.now).moments _ _ made (Ok c.in_ok-write_turn_line.field-0) c.in_ok-write_turn_line.ensures.wrote in
+    let line = goes-turn c.args.node.now.signer (g.D.Disk.state c.args.disk.now).moments _ _ _ _ made (Ok c.in_ok-write_turn_line.field-0) c.in_ok-write_turn_line.ensures.wrote c.in-Ok.ensures.faults in
     let e : ServeFault = c.in_err-deliver_heard.field-0.0 in
-    goes-as _ _ _ _ _ _ c.from_residual-in_err-deliver_heard.result (Err e) (thrown c.from_residual-in_err-deliver_heard.result e c.from_residual-in_err-deliver_heard.ensures.1)
-    (goes-trans _ _ _ _ _ _ _ _ _ (Err e) line c.in_err-deliver_heard.ensures.spends)
+    goes-as _ _ _ _ _ _ _ _ c.from_residual-in_err-deliver_heard.result (Err e) (thrown c.from_residual-in_err-deliver_heard.result e c.from_residual-in_err-deliver_heard.ensures.1)
+    (goes-trans _ _ _ _ _ _ _ _ _ _ _ _ (Err e) line c.in_err-deliver_heard.ensures.spends)
 
 pub returns-clause-serves : goal.returns-clause-serves
 returns-clause-serves g c = λ s before r o at0 sees.

@@ -1,9 +1,13 @@
+use Rattle.std.proofs.Common.{ap, sym, subst}
+use Rattle.record_set.specs.Slots.{held_in, IsReady}
 use Rattle.record_set.proofs.ReadyLemmas.{ready-none}
-use Rattle.record_set.proofs.SlotLemmas.{held_in-none}
 use Rattle.record_set.proofs.RecordSet.open.Goals as goal
 
 pub invariant_of-result : goal.invariant_of-result
-invariant_of-result c = ready-none c.in_ok-slots.slots.items c.in_ok-entries.entries.items c.in_ok-slots.ensures.all c.in_ok-entries.ensures.all c.in_ok-slots.ensures.none c.in_ok-entries.ensures.none
+invariant_of-result c = (
+  subst (λ ss. IsReady ss c.in_ok-entries.entries.items) (sym c.in_ok-slots.ensures.items) (ready-none c.in_ok-entries.entries.items c.in_ok-entries.ensures.all c.in_ok-entries.ensures.none),
+  c.in_ok-slots.ensures.capacity,
+)
 
 pub returns : goal.returns
-returns c = held_in-none c.in_ok-slots.slots.items c.in_ok-slots.ensures.none
+returns c = ap held_in c.in_ok-slots.ensures.items

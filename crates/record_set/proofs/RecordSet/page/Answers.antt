@@ -14,9 +14,9 @@ returns-then-page-lt-PAGES c =
     ∙ ap (λ (es : List SummaryEntry). es ++ ready_entries c.deref.result.now c.deref-then-page-lt-PAGES.result.now (PAGE_MEMBERS * c.args.page) PAGE_MEMBERS) c.new.ensures.none
     ∙ ap (λ ss. ready_entries ss c.deref-then-page-lt-PAGES.result.now (PAGE_MEMBERS * c.args.page) PAGE_MEMBERS) c.deref.ensures.value
     ∙ ap (λ es. ready_entries slots es (PAGE_MEMBERS * c.args.page) PAGE_MEMBERS) c.deref-then-page-lt-PAGES.ensures.value
-    ∙ ready-summary slots entries c.args.page c.self.invariant c.if-page-lt-PAGES.true in
+    ∙ ready-summary slots entries c.args.page c.self.invariant.0 c.if-page-lt-PAGES.true in
     same_summary _ _ _ _ c.push_certified.ensures.page listed ∙ ap (λ h. summary_of h c.args.page) c.self.view_is
 
 pub returns-else-page-lt-PAGES : goal.returns-else-page-lt-PAGES
 returns-else-page-lt-PAGES c =
-    same_summary c.args.page c.args.page c.new.result.listed _ refl (c.new.ensures.none ∙ sym (no-summary c.self.inside.slots.items c.args.page c.self.invariant.slots_all c.if-page-lt-PAGES.false)) ∙ ap (λ h. summary_of h c.args.page) c.self.view_is
+    same_summary c.args.page c.args.page c.new.result.listed _ refl (c.new.ensures.none ∙ sym (no-summary c.self.inside.slots.items c.args.page c.self.invariant.0.slots_few c.if-page-lt-PAGES.false)) ∙ ap (λ h. summary_of h c.args.page) c.self.view_is

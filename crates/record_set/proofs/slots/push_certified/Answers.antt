@@ -22,10 +22,8 @@ loop-index-preserved c =
     let entries = c.args.entries.now in
     let number = c.args.first + c.loop-index.index in
     let inv = c.loop-index.invariant in
-    let below : c.certificate_slot.result < length slots = omega (arith, c.certificate_slot.ensures, c.requires.slots, c.requires.members) in
     let told : is_some (get_or slots (SLOTS_EACH * number) None) ≡ c.is_some.result =
-    ap (λ (s : ℕ). is_some (get_or slots s None)) (sym c.certificate_slot.ensures)
-    ∙ ap is_some (get_or_default slots c.certificate_slot.result None _ below ∙ sym c.index-slots-certificate_slot.is) ∙ sym c.is_some.ensures in
+    ap (λ (s : ℕ). is_some (get_or slots s None)) (sym c.certificate_slot.ensures) ∙ sym c.kept_in.ensures.variant ∙ sym c.is_some.ensures in
     let push = entry_pushed slots entries c.args.out.now.listed c.loop-index.out.listed c.if-is_some.out.listed c.args.first c.loop-index.index in
     elim c.if-is_some.branch [
       | then-is_some w ↦

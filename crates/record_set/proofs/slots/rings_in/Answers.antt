@@ -1,5 +1,4 @@
-use Rattle.std.proofs.Common.{◌≡◌, ℕ, Bool, ◌+◌, ◌<◌, true, false, None, is_some, length, get_or, ap, sym, ◌∙◌, add-zero, arith}
-use Rattle.std.proofs.lemmas.List.{get_or_default}
+use Rattle.std.proofs.Common.{◌≡◌, ℕ, Bool, ◌+◌, true, false, None, is_some, get_or, ap, sym, ◌∙◌, add-zero}
 use Rattle.ff_ids.proofs.BitLemmas.{bits-none, bit_value, bit_fits, bit_pushed}
 use Rattle.record_set.proofs.slots.rings_in.Goals as goal
 use Rattle.record_set.proofs.slots.rings_in.Goals.{then-is_some, else-is_some}
@@ -14,8 +13,7 @@ pub loop-ring-preserved : goal.loop-ring-preserved
 loop-ring-preserved c =
     let slots = c.args.slots.now in
     let test : ℕ → Bool = λ r. is_some (get_or slots (c.args.first + r) None) in
-    let below : c.args.first + c.loop-ring.ring < length slots = omega (arith, c.requires) in
-    let told : test c.loop-ring.ring ≡ c.is_some.result = ap is_some (get_or_default slots (c.args.first + c.loop-ring.ring) None _ below ∙ sym c.index-slots-first.is) ∙ sym c.is_some.ensures in
+    let told : test c.loop-ring.ring ≡ c.is_some.result = sym c.kept_in.ensures.variant ∙ sym c.is_some.ensures in
     let push = bit_pushed test c.loop-ring.ring c.loop-ring.rings c.if-is_some.rings in
     elim c.if-is_some.branch [
       | then-is_some w ↦ push true (told ∙ w.if-is_some.true) c.loop-ring.invariant (w.rings-is ∙ ap (λ (b : ℕ). c.loop-ring.rings + b) (bit_value c.loop-ring.ring c.loop-ring-test.true))

@@ -1,4 +1,4 @@
-use Rattle.std.proofs.Common.{◌≡◌, ◌<◌, length, arith}
+use Rattle.std.proofs.Common.{◌≡◌, length, arith}
 use Rattle.membership.proofs.SlotLemmas.{map_of-none}
 use Rattle.membership.proofs.by_member.ByMember.clear.Goals as goal
 

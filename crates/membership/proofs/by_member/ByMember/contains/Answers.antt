@@ -1,7 +1,7 @@
-use Rattle.std.proofs.Common.{◌≡◌, ◌<◌, ◌∙◌, ap, sym, None, length, get_or, arith, is_some}
+use Rattle.std.proofs.Common.{◌<◌, ◌∙◌, ap, sym, None, length, get_or, arith, is_some}
 use Rattle.std.proofs.lemmas.List.{get_or_default}
 use Rattle.std.specs.FinMap.{get}
-use Rattle.membership.proofs.SlotLemmas.{map_of, get-map_of}
+use Rattle.membership.proofs.SlotLemmas.{get-map_of}
 use Rattle.membership.proofs.by_member.ByMember.contains.Goals as goal
 
 pub returns : goal.returns

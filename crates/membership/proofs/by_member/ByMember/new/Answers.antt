@@ -1,4 +1,3 @@
-use Rattle.std.proofs.Common.{◌≡◌}
 use Rattle.membership.proofs.SlotLemmas.{map_of-none}
 use Rattle.membership.proofs.by_member.ByMember.new.Goals as goal
 

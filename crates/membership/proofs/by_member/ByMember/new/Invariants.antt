@@ -1,4 +1,4 @@
-use Rattle.std.proofs.Common.{◌≡◌, ℕ, ◌<◌, ◌≤◌, None, length, get_or}
+use Rattle.std.proofs.Common.{◌≡◌, ℕ, ◌≤◌, None, length, get_or}
 use Rattle.std.specs.Prelude.{vec_capacity}
 use Rattle.ff_ids.specs.declared.TheConstants.{MEMBERS}
 use Rattle.membership.proofs.by_member.ByMember.new.Given as goal

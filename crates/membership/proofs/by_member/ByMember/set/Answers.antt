@@ -1,4 +1,4 @@
-use Rattle.std.proofs.Common.{◌≡◌, ◌<◌, ◌∙◌, ap, length, arith}
+use Rattle.std.proofs.Common.{◌<◌, ◌∙◌, ap, length, arith}
 use Rattle.std.specs.FinMap.{insert}
 use Rattle.membership.proofs.SlotLemmas.{map_of, map_of-set}
 use Rattle.membership.proofs.by_member.ByMember.set.Goals as goal

@@ -1,0 +1,5 @@
+mod WaitingLemmas
+mod TurnLemmas
+pub mod RunLemmas
+pub mod CountLemmas
+mod Rows

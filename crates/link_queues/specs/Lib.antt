@@ -1,0 +1,4 @@
+pub mod Waiting
+pub mod Senders
+pub mod Queues
+pub mod Runs

@@ -1,0 +1,81 @@
+-- What a call reports of the datagrams that it sends.
+use Rattle.std.proofs.Common.{◌≡◌, ℕ, ◌+◌, true, List, [], ◌∷◌, ◌++◌, map, Option, Some, None, inl, inr, refl, ap, sym, ◌∙◌, subst}
+use Rattle.ff_ids.specs.declared.NoteBody.{NoteBody}
+use Rattle.records.specs.declared.Body.TheVariants.{Note}
+use Rattle.life_laws.proofs.Lists.{Contains-from_In, In, In-filter}
+use Rattle.trace.proofs.JustifiedLemmas.{in-map}
+use Rattle.journal.specs.declared.event.Event as journal
+use Rattle.journal.specs.declared.event.What as whats
+use Rattle.journal.specs.declared.event.What.TheVariants as told
+use Rattle.node_rules.specs.Nodes.{Setting, Node}
+use Rattle.node_rules.specs.Calls.{Call}
+use Rattle.node_rules.specs.OnDisks.{IsCut, called}
+use Rattle.node_rules.specs.Lives.{Input, call_of}
+use Rattle.node_rules.specs.Sending.{TellsSendings, is_sent, sendings}
+use Rattle.node_rules.specs.Verdicts.{told_that}
+use Rattle.node_rules.proofs.Sendings.{called-sendings}
+use Rattle.node_rules.proofs.Stopping.{whole-calls}
+use Rattle.node_loop.specs.Turns.{Act, Calls}
+use Rattle.node_loop.specs.Courses.{ServeState}
+use Rattle.node_command.specs.Removals.{node_behind}
+use Rattle.node_command.specs.Sendings.{Sends}
+use Rattle.node_command.proofs.RemovalLemmas.{IsOfNoStart}
+use Rattle.node_command.proofs.ReplyLemmas.{none-in-report}
+
+abbrev sent_event : ℕ → ℕ → ℕ → List ℕ → journal.Event
+sent_event moment place to bytes = record { moment = moment; what = told.Sent place to bytes }
+
+-- ## A call
+
+same-sent : (k m place to : ℕ) (xs bytes : List ℕ) → told.Sent k m xs ≡ told.Sent place to bytes → ◌≡◌ {A = ℕ × List ℕ} (m, xs) (to, bytes)
+same-sent k m place to xs bytes e = cc
+
+in-sendings : (k : ℕ) (sent : List (ℕ × List ℕ)) (place to : ℕ) (bytes : List ℕ) → In (sendings k sent) (told.Sent place to bytes) → In sent (to, bytes)
+in-sendings k [] place to bytes i = absurd i
+in-sendings k ((m, xs) ∷ sent) place to bytes (inl e) = inl (same-sent k m place to xs bytes e)
+in-sendings k (d ∷ sent) place to bytes (inr i) = inr (in-sendings (k + 1) sent place to bytes i)
+
+-- what is reported as sent is sent
+sent-in : (c : Call) (moment place to : ℕ) (bytes : List ℕ) → TellsSendings c → In c.told (sent_event moment place to bytes) → In c.sent (to, bytes)
+sent-in c moment place to bytes tells i =
+    let among = In-filter (λ (e : journal.Event). is_sent e.what) c.told (sent_event moment place to bytes) i refl in
+    in-sendings 0 c.sent place to bytes
+    (subst (λ (ws : List whats.What). In ws (told.Sent place to bytes)) tells (in-map (λ (e : journal.Event). e.what) (told_that is_sent c) (sent_event moment place to bytes) among))
+
+-- ## A course
+
+sends-by : (s : Setting) (start : ServeState) (acts before behind : List Act) (i : Input) (fails_at : Option ℕ) (moment place to : ℕ) (bytes : List ℕ) → acts ≡ before ++ Calls i ∷ behind
+    → In (called s (node_behind s start before) i fails_at).told (sent_event moment place to bytes) → Sends s start acts moment to bytes
+sends-by s start acts before behind i fails_at moment place to bytes split among =
+    let c : Call = called s (node_behind s start before) i fails_at in
+    record {
+      before = before;
+      input = i;
+      behind = behind;
+      calls = split;
+      fails_at = fails_at;
+      place = place;
+      sent = Contains-from_In c.told (sent_event moment place to bytes) among;
+      goes_out = Contains-from_In c.sent (to, bytes) (sent-in c moment place to bytes (called-sendings s (node_behind s start before) i fails_at) among);
+    }
+
+-- what a call among the acts reports as sent is sent
+pub sends : (s : Setting) (start : ServeState) (acts before behind : List Act) (i : Input) (moment place to : ℕ) (bytes : List ℕ) → acts ≡ before ++ Calls i ∷ behind
+    → In (call_of s (node_behind s start before) i).told (sent_event moment place to bytes) → Sends s start acts moment to bytes
+sends s start acts before behind i moment place to bytes split among =
+    let n = node_behind s start before in
+    sends-by s start acts before behind i None moment place to bytes split (subst (λ (c : Call). In c.told (sent_event moment place to bytes)) (sym (whole-calls s n i).whole) among)
+
+-- and so is what one sends in which the disk fails
+pub cut-sends : (s : Setting) (start : ServeState) (acts before behind : List Act) (i : Input) (c : Call) (moment place to : ℕ) (bytes : List ℕ) → acts ≡ before ++ Calls i ∷ behind
+    → IsCut s (node_behind s start before) i c → In c.told (sent_event moment place to bytes) → Sends s start acts moment to bytes
+cut-sends s start acts before behind i c moment place to bytes split cut among =
+    sends-by s start acts before behind i (Some cut.put) moment place to bytes split (subst (λ (x : Call). In x.told (sent_event moment place to bytes)) cut.is among)
+
+-- ## The start
+
+pub sent-no-start : (moment place to : ℕ) (bytes : List ℕ) → IsOfNoStart (sent_event moment place to bytes)
+sent-no-start moment place to bytes = record { no_step = λ g events x other i. none-in-report _ _ (sent_event moment place to bytes) refl i; unspent = λ k n e. spent-not k n e }
+  where
+    spent-not : (k : ℕ) (n : NoteBody) → told.Spent k (Note n) ≡ told.Sent place to bytes → ⊥
+    spent-not k n e = cc
