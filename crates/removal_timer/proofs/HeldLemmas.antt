@@ -1,5 +1,5 @@
 -- The queue of the filled slots: when one is emptied, when one is filled, and which is due first.
-use Rattle.std.proofs.Common.{◌≡◌, ℕ, ◌+◌, ◌-◌, ◌<◌, ◌≤◌, Bool, true, false, cond, not, ◌&&◌, ◌||◌, eqb, List, [], ◌∷◌, ◌++◌, Option, Some, None, IfSome, is_some, length, get_or, set, filter, map, refl, sym, ap, ◌∙◌, subst, arith, get_or-set_same, get_or-set_other}
+use Rattle.std.proofs.Common.{◌≡◌, ℕ, zero, suc, ◌+◌, ◌-◌, ◌<◌, ◌≤◌, Bool, true, false, cond, not, ◌&&◌, ◌||◌, eqb, List, [], ◌∷◌, ◌++◌, Option, Some, None, IfSome, is_some, length, get_or, set, filter, map, refl, sym, ap, ◌∙◌, subst, arith, get_or-set_same, get_or-set_other}
 use Rattle.std.proofs.Math.ListN.{length-set}
 use Rattle.std.specs.Prelude.{nat_le}
 use Rattle.std.specs.Bool.{OnTrue}
@@ -104,11 +104,10 @@ All-until slots n p (m ∷ order) lt apart until =
 
 -- ---- a slot is emptied, or filled
 
-pub AreQueued-emptied : (slots : Slots) (order : List ℕ) (n : ℕ) → AreQueued slots order → n < END → AreQueued (set slots n None) (without n order)
-AreQueued-emptied slots order n h low =
-    let lt : n < length slots = omega (arith, h.long) in
+pub AreQueued-emptied : (slots : Slots) (order : List ℕ) (n : ℕ) → AreQueued slots order → n < length slots → AreQueued (set slots n None) (without n order)
+AreQueued-emptied slots order n h lt =
     record {
-      long = length-set slots n None ∙ h.long;
+      few = omega (arith, length-set slots n None, h.few);
       own = λ m. own_by lt m (eqb m n) refl;
       filled = λ m. queued_without n m order ∙ filled_by lt m (eqb m n) refl;
       in_time = AreInTime-set slots n None (without n order) (Apart-without n order) (AreInTime-without slots n order h.in_time);
@@ -127,12 +126,11 @@ AreQueued-emptied slots order n h low =
     filled_by lt m false other =
         ap (λ b. is_queued order m && not b) other ∙ and-true (is_queued order m) ∙ h.filled m ∙ sym (ap is_some (get_or-set_other slots n m None None (eqb-false m n other)))
 
-pub AreQueued-filled : (slots : Slots) (order : List ℕ) (n : ℕ) (p : Entry) → AreQueued slots order → n < END → get_or slots n None ≡ None → IsOwn n p → AreUntil p.1 (entries_in slots) → AreQueued (set slots n (Some p)) (order ++ n ∷ [])
-AreQueued-filled slots order n p h low free own until =
-    let lt : n < length slots = omega (arith, h.long) in
+pub AreQueued-filled : (slots : Slots) (order : List ℕ) (n : ℕ) (p : Entry) → AreQueued slots order → n < length slots → get_or slots n None ≡ None → IsOwn n p → AreUntil p.1 (entries_in slots) → AreQueued (set slots n (Some p)) (order ++ n ∷ [])
+AreQueued-filled slots order n p h lt free own until =
     let away : Apart n order = Apart-absent n order (h.filled n ∙ ap is_some free) in
     record {
-      long = length-set slots n (Some p) ∙ h.long;
+      few = omega (arith, length-set slots n (Some p), h.few);
       own = λ m. own_by lt m (eqb m n) refl;
       filled = λ m. queued_more n m order ∙ filled_by lt m (eqb m n) refl;
       in_time = AreInTime-more (set slots n (Some p)) n order (All-until slots n p order lt away until) (AreInTime-set slots n (Some p) order away h.in_time);
@@ -153,8 +151,57 @@ AreQueued-filled slots order n p h low free own until =
         let e : eqb n m ≡ false = grind (arith, nat_tests) in
         ap (λ b. is_queued order m || b) e ∙ or-false (is_queued order m) ∙ h.filled m ∙ sym (ap is_some (get_or-set_other slots n m (Some p) None (eqb-false m n other)))
 
-pub AreQueued-none : (slots : Slots) → length slots ≡ END → ((n : ℕ) → get_or slots n None ≡ None) → AreQueued slots []
-AreQueued-none slots long none = record { long = long; own = λ n. rw (none n) tt; filled = λ n. sym (ap is_some (none n)); in_time = tt }
+pub AreQueued-none : AreQueued [] []
+AreQueued-none = record { few = omega arith; own = λ n. tt; filled = λ n. refl; in_time = tt }
+
+-- ---- the slots reach further
+
+entries_in-same : (slots after : Slots) → ((n : ℕ) → get_or after n None ≡ get_or slots n None) → entries_in after ≡ entries_in slots
+entries_in-same [] [] h = refl
+entries_in-same [] (None ∷ after) h = entries_in-same [] after (λ n. h (suc n))
+entries_in-same [] (Some q ∷ after) h = absurd (true≢false (ap is_some (h 0)))
+entries_in-same (None ∷ slots) [] h = entries_in-same slots [] (λ n. h (suc n))
+entries_in-same (Some p ∷ slots) [] h = absurd (true≢false (sym (ap is_some (h 0))))
+entries_in-same (None ∷ slots) (None ∷ after) h = entries_in-same slots after (λ n. h (suc n))
+entries_in-same (None ∷ slots) (Some q ∷ after) h = absurd (true≢false (ap is_some (h 0)))
+entries_in-same (Some p ∷ slots) (None ∷ after) h = absurd (true≢false (sym (ap is_some (h 0))))
+entries_in-same (Some p ∷ slots) (Some q ∷ after) h =
+    let first : Some q ≡ Some p = h 0 in
+    let same : q ≡ p = cc in
+    ap (λ x. x ∷ entries_in after) same ∙ ap (λ xs. p ∷ xs) (entries_in-same slots after (λ n. h (suc n)))
+
+All-since_same : (slots after : Slots) (k : ℕ) (order : List ℕ) → ((n : ℕ) → get_or after n None ≡ get_or slots n None) → AllByRecursion (λ m. since_at slots k ≤ since_at slots m) order → AllByRecursion (λ m. since_at after k ≤ since_at after m) order
+All-since_same slots after k [] same h = tt
+All-since_same slots after k (m ∷ order) same h =
+    let since : (n : ℕ) → since_at after n ≡ since_at slots n = λ n. ap (λ (o : Option Entry). option_map_or (λ p. p.1) o 0) (same n) in
+    (omega (arith, since k, since m, h.0), All-since_same slots after k order same h.1)
+
+AreInTime-same : (slots after : Slots) (order : List ℕ) → ((n : ℕ) → get_or after n None ≡ get_or slots n None) → AreInTime slots order → AreInTime after order
+AreInTime-same slots after [] same h = tt
+AreInTime-same slots after (k ∷ order) same h = (All-since_same slots after k order same h.0, AreInTime-same slots after order same h.1)
+
+pub push-none : (slots : Slots) (n : ℕ) → get_or (slots ++ None ∷ []) n None ≡ get_or slots n None
+push-none [] zero = refl
+push-none [] (suc n) = refl
+push-none (x ∷ slots) zero = refl
+push-none (x ∷ slots) (suc n) = push-none slots n
+
+-- what the slots hold that reach further
+pub record IsReached (slots after : Slots) (order : List ℕ) : Type 0 where
+  pub queued : AreQueued after order
+  pub entries : entries_in after ≡ entries_in slots
+
+pub IsReached-of : (slots after : Slots) (order : List ℕ) → AreQueued slots order → length after ≤ END → ((n : ℕ) → get_or after n None ≡ get_or slots n None) → IsReached slots after order
+IsReached-of slots after order h few same =
+    record {
+      queued = record {
+        few = few;
+        own = λ n. subst (λ (o : Option Entry). IfSome o (IsOwn n)) (sym (same n)) (h.own n);
+        filled = λ n. h.filled n ∙ ap is_some (sym (same n));
+        in_time = AreInTime-same slots after order same h.in_time;
+      };
+      entries = entries_in-same slots after same;
+    }
 
 -- ---- the first of them
 
@@ -242,7 +289,7 @@ pub record IsSet (slots : Slots) (order : List ℕ) (n : ℕ) (p : Entry) : Type
   pub queued : AreQueued (set slots n (Some p)) (order ++ n ∷ [])
   pub entries : entries_in (set slots n (Some p)) ≡ with_kept p (entries_in slots)
 
-pub IsSet-free : (slots : Slots) (order : List ℕ) (n : ℕ) (p : Entry) → AreQueued slots order → n ≡ pair_number p.0.accused p.0.ring.0 → n < END → p.0.ring.0 < MAX_RINGS → entry_at p.0.accused p.0.ring.0 (entries_in slots) ≡ None → AreUntil p.1 (entries_in slots) → IsSet slots order n p
+pub IsSet-free : (slots : Slots) (order : List ℕ) (n : ℕ) (p : Entry) → AreQueued slots order → n ≡ pair_number p.0.accused p.0.ring.0 → n < length slots → p.0.ring.0 < MAX_RINGS → entry_at p.0.accused p.0.ring.0 (entries_in slots) ≡ None → AreUntil p.1 (entries_in slots) → IsSet slots order n p
 IsSet-free slots order n p h number low ring free until =
     let at = entry_at-slot p.0.accused p.0.ring.0 slots h.own ring in
     let empty : get_or slots n None ≡ None = ap (λ k. get_or slots k None) number ∙ sym at ∙ free in
@@ -250,14 +297,16 @@ IsSet-free slots order n p h number low ring free until =
     record {
       absent = h.filled n ∙ ap is_some empty;
       queued = AreQueued-filled slots order n p h low empty own until;
-      entries = entries_in-filled slots n p h.own empty (omega (arith, low, h.long)) own;
+      entries = entries_in-filled slots n p h.own empty low own;
     }
 
--- the same, where the timers are seen whole
-pub IsSet-of : (rings timeout : ℕ) (slots : Slots) (order : List ℕ) (k : Kept) (n : ℕ) (p : Entry) → IsHeld rings slots order → record { rings = rings; timeout = timeout; entries = entries_in slots } ≡ k → n ≡ pair_number p.0.accused p.0.ring.0 → (p.0.ring.0 < MAX_RINGS → n < END) → entry_at p.0.accused p.0.ring.0 k.entries ≡ None → p.0.ring.0 < k.rings → AreUntil p.1 k.entries → IsSet slots order n p
-IsSet-of rings timeout slots order k n p held view number low free within until =
+-- the same, where the timers are seen whole, and the slots were made to reach the number
+pub IsSet-of : (rings timeout room : ℕ) (slots after : Slots) (order : List ℕ) (k : Kept) (n : ℕ) (p : Entry) → IsHeld rings slots order room → record { rings = rings; timeout = timeout; entries = entries_in slots } ≡ k → length after ≤ END → ((n : ℕ) → get_or after n None ≡ get_or slots n None) → n ≡ pair_number p.0.accused p.0.ring.0 → n < length after → entry_at p.0.accused p.0.ring.0 k.entries ≡ None → p.0.ring.0 < k.rings → AreUntil p.1 k.entries → IsSet after order n p × (entries_in after ≡ k.entries)
+IsSet-of rings timeout room slots after order k n p held view few alike number low free within until =
     let ring : p.0.ring.0 < MAX_RINGS = omega (arith, within, ap (λ (k : Kept). k.rings) view, held.few) in
-    IsSet-free slots order n p held.queued number (low ring) ring (ap (λ (k : Kept). entry_at p.0.accused p.0.ring.0 k.entries) view ∙ free) (subst (λ (k : Kept). AreUntil p.1 k.entries) (sym view) until)
+    let reached = IsReached-of slots after order held.queued few alike in
+    let same : entries_in after ≡ k.entries = reached.entries ∙ ap (λ (k : Kept). k.entries) view in
+    (IsSet-free after order n p reached.queued number low ring (ap (entry_at p.0.accused p.0.ring.0) same ∙ free) (subst (λ (es : List Entry). AreUntil p.1 es) (sym same) until), same)
 
 -- the entries that were due are taken one after another
 pub record IsTaking (timeout now : ℕ) (start slots : Slots) (order : List ℕ) (before after : List AccBody) : Type 0 where

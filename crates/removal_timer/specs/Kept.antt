@@ -72,14 +72,16 @@ abbrev pub AreInTime : List (Option (AccBody × ℕ)) → List ℕ → Type 0
 AreInTime slots [] = Unit {0}
 AreInTime slots (n ∷ order) = AllByRecursion (λ m. since_at slots n ≤ since_at slots m) order × AreInTime slots order
 
--- There is a slot for each member and ring, and the numbers of those that are filled are queued, in order of the time
+-- There are slots up to that of some member and ring, and the numbers of those that are filled are queued, in order of the time
 -- since when their entries stand.
 pub record AreQueued (slots : List (Option (AccBody × ℕ))) (order : List ℕ) : Type 0 where
-  pub long : length slots ≡ END
+  pub few : length slots ≤ END
   pub own : (n : ℕ) → IfSome (slot_at slots n) (IsOwn n)
   pub filled : (n : ℕ) → is_queued order n ≡ is_some (slot_at slots n)
   pub in_time : AreInTime slots order
 
-pub record IsHeld (rings : ℕ) (slots : List (Option (AccBody × ℕ))) (order : List ℕ) : Type 0 where
+-- The slots have room for each member and ring.
+pub record IsHeld (rings : ℕ) (slots : List (Option (AccBody × ℕ))) (order : List ℕ) (capacity : ℕ) : Type 0 where
   pub few : rings ≤ MAX_RINGS
+  pub room : END ≤ capacity
   pub queued : AreQueued slots order

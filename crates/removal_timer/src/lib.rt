@@ -32,13 +32,14 @@ type Entry = (AccBody, u64);
 pub struct Timers {
     rings: u8,
     timeout: u32,
-    /// By the number of the member and the ring.
+    /// By the number of the member and the ring, up to the greatest at which something stood.
     slots: Vec<Option<Entry>>,
     /// The numbers of the filled slots, in order of the time since when their entries stand.
     queue: Queue,
 }
 
 impl Model for Timers {
+    ghost use Rattle.std.specs.Prelude.{vec_capacity};
     ghost use Rattle.removal_timer.specs.Kept.{Kept, IsHeld, entries_in};
 
     ghost Value = { Kept };
@@ -46,7 +47,7 @@ impl Model for Timers {
     ghost view = { λ x. record
         { rings = x.rings; timeout = x.timeout; entries = entries_in x.slots.items } };
 
-    ghost invariant = { λ x. IsHeld x.rings x.slots.items x.queue };
+    ghost invariant = { λ x. IsHeld x.rings x.slots.items x.queue (vec_capacity x.slots) };
 }
 
 /// The number of the member and the ring among all pairs of them.
@@ -63,6 +64,35 @@ fn is_due(entry: &Entry, timeout: u32, now: u64) -> bool
     u64::from(timeout) <= now.saturating_sub(entry.1)
 }
 
+/// What is in the slot of this number.
+fn kept_in(slots: &[Option<Entry>], number: u16) -> Option<Entry>
+    ensures value { result ≡ slot_at slots.now number }
+    ensures reached { is_some result ≡ true → number < length slots.now }
+{
+    let index = number as usize;
+    if index < slots.len() {
+        slots[index]
+    } else {
+        None
+    }
+}
+
+/// Makes the slots reach this one, for which they have room. Those that are new are empty: the memory of numbers greater than
+/// any at which something stood stays untouched.
+fn reach(slots: &mut Vec<Option<Entry>>, number: u16)
+    requires number { number < END }
+    requires few { length slots.old.items ≤ END }
+    requires room { END ≤ vec_capacity slots.old }
+    ensures reached { number < length slots.new.items }
+    ensures few { length slots.new.items ≤ END }
+    ensures room { END ≤ vec_capacity slots.new }
+    ensures same { (n : ℕ) → slot_at slots.new.items n ≡ slot_at slots.old.items n }
+{
+    'growing: while slots.len() <= number as usize {
+        slots.push_reserved(None);
+    }
+}
+
 /// Empties the slot of this number, and gives what was in it.
 fn take_out(slots: &mut [Option<Entry>], queue: &mut Queue, number: u16) -> Option<Entry>
     requires queued { AreQueued slots.old queue.old }
@@ -72,7 +102,7 @@ fn take_out(slots: &mut [Option<Entry>], queue: &mut Queue, number: u16) -> Opti
     ensures left { queue.new ≡ without number queue.old }
     ensures queued { AreQueued slots.new queue.new }
 {
-    match slots[number as usize] {
+    match kept_in(slots, number) {
         Some(entry) => {
             slots[number as usize] = None;
             queue.remove(number);
@@ -103,7 +133,7 @@ fn first_due(slots: &[Option<Entry>], queue: &Queue, timeout: u32, now: u64) -> 
     ensures none { IsNone result → filter (is_due timeout now) (entries_in slots.now) ≡ [] }
 {
     let number = queue.first()?;
-    let entry = slots[number as usize]?;
+    let entry = kept_in(slots, number)?;
     if is_due(&entry, timeout, now) {
         Some(number)
     } else {
@@ -121,7 +151,7 @@ fn first_since(slots: &[Option<Entry>], queue: &Queue) -> Option<u64>
         (λ since. list_any (λ p. p.1 == since) (entries_in slots.now) ≡ true) }
 {
     let number = queue.first()?;
-    let entry = slots[number as usize]?;
+    let entry = kept_in(slots, number)?;
     Some(entry.1)
 }
 
@@ -184,14 +214,10 @@ impl Timers {
             (λ x. x ≡ record
             { rings = ring_count group.now.t; timeout = group.now.timeout; entries = [] }) }
     {
-        let mut slots = Vec::with_capacity(alloc, END as usize)?;
-        for _number in 0..END {
-            slots.push_reserved(None);
-        }
         Ok(Timers {
             rings: 2 * group.t + 1,
             timeout: group.timeout,
-            slots,
+            slots: Vec::with_capacity(alloc, END as usize)?,
             queue: Queue::new(alloc)?,
         })
     }
@@ -204,6 +230,7 @@ impl Timers {
         ensures { self.new ≡ record self.old { entries = with_kept (acc, now) self.old.entries } }
     {
         let number = number_of(acc.accused, acc.ring);
+        reach(&mut self.slots, number);
         self.slots[number as usize] = Some((acc, now));
         self.queue.push(number);
     }
@@ -273,7 +300,7 @@ impl Timers {
         ensures { result ≡ entry_at accused ring.0 self.now.entries }
     {
         if ring.0 < MAX_RINGS {
-            self.slots[number_of(accused, ring) as usize]
+            kept_in(&self.slots, number_of(accused, ring))
         } else {
             None
         }

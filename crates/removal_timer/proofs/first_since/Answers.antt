@@ -1,7 +1,5 @@
-use Rattle.std.proofs.Common.{◌≡◌, ◌<◌, Some, None, sym, ◌∙◌, arith, rules}
-use Rattle.std.proofs.lemmas.List.{get_or_default}
+use Rattle.std.proofs.Common.{◌≡◌, Some, None, sym, ◌∙◌}
 use Rattle.removal_timer.specs.Queue.{first_number}
-use Rattle.removal_timer.specs.declared.queue.TheConstants.{END}
 use Rattle.removal_timer.proofs.HeldLemmas.{nothing_filled}
 use Rattle.removal_timer.proofs.WaitLemmas.{first-since, there-since}
 use Rattle.removal_timer.proofs.first_since.Goals as goal
@@ -14,12 +12,8 @@ returns-in_err-number-clause-none c = λ none.
 pub returns-clause-first : goal.returns-clause-first
 returns-clause-first c =
     let first : first_number c.args.queue.now ≡ Some c.in_ok-number.number = cc in
-    let below : c.in_ok-number.number < END = search rules in
-    let read = c.index-slots-number.is ∙ get_or_default c.args.slots.now c.in_ok-number.number c.index-slots-number.result None (omega (arith, below, c.requires.long)) in
-    first-since c.args.slots.now c.args.queue.now c.in_ok-number.number c.in_ok-entry.entry c.requires first (sym read ∙ c.in_ok-entry.was)
+    first-since c.args.slots.now c.args.queue.now c.in_ok-number.number c.in_ok-entry.entry c.requires first (sym c.kept_in.ensures.value ∙ c.in_ok-entry.was)
 
 pub returns-clause-there : goal.returns-clause-there
 returns-clause-there c =
-    let below : c.in_ok-number.number < END = search rules in
-    let read = c.index-slots-number.is ∙ get_or_default c.args.slots.now c.in_ok-number.number c.index-slots-number.result None (omega (arith, below, c.requires.long)) in
-    there-since c.args.slots.now c.in_ok-number.number c.in_ok-entry.entry (sym read ∙ c.in_ok-entry.was)
+    there-since c.args.slots.now c.in_ok-number.number c.in_ok-entry.entry (sym c.kept_in.ensures.value ∙ c.in_ok-entry.was)

@@ -1,8 +1,7 @@
-use Rattle.std.proofs.Common.{◌<◌, ◌≤◌, None, get_or, length, sym, ap, ◌∙◌, arith}
-use Rattle.std.proofs.lemmas.List.{get_or_default}
+use Rattle.std.proofs.Common.{◌<◌, ◌≤◌, None, get_or, sym, ap, ◌∙◌, arith}
 use Rattle.ff_ids.specs.declared.TheConstants.{MAX_RINGS}
 use Rattle.removal_timer.specs.Kept.{Kept, entry_at}
-use Rattle.removal_timer.proofs.SlotLemmas.{entry_at-slot, nothing_at}
+use Rattle.removal_timer.proofs.SlotLemmas.{Slots, entry_at-slot, nothing_at}
 use Rattle.removal_timer.proofs.Timers.standing.Goals as goal
 
 pub returns-then-ring-lt-MAX_RINGS : goal.returns-then-ring-lt-MAX_RINGS
@@ -10,8 +9,7 @@ returns-then-ring-lt-MAX_RINGS c =
     let slots = c.self.inside.slots.items in
     let ring : c.args.ring.0 < MAX_RINGS = c.if-ring-lt-MAX_RINGS.true in
     let queued = c.self.invariant.queued in
-    let below : c.number_of.result < length slots = omega (arith, c.number_of.ensures.range ring, queued.long) in
-    c.index.ensures ∙ get_or_default slots c.number_of.result c.index.result.now None below
+    c.kept_in.ensures.value ∙ ap (λ (xs : Slots). get_or xs c.number_of.result None) c.deref.ensures.value
     ∙ ap (λ n. get_or slots n None) c.number_of.ensures.value ∙ sym (entry_at-slot c.args.accused c.args.ring.0 slots queued.own ring)
     ∙ ap (λ (k : Kept). entry_at c.args.accused c.args.ring.0 k.entries) c.self.view_is
 
