@@ -1,6 +1,6 @@
 -- What is kept of the joined members once one joins or leaves, or all leave.
-use Rattle.std.proofs.Common.{◌≡◌, ◌≢◌, ℕ, suc, ◌+◌, ◌<◌, ◌≤◌, Bool, true, false, cond, inl, inr, List, [], ◌∷◌, ◌++◌, Option, Some, None, length, map, take, drop, get_or, set, refl, sym, ap, ◌∙◌, subst, arith, length-set, get_or-set_other, get_or-set_same}
-use Rattle.std.specs.Prelude.{is_some}
+use Rattle.std.proofs.Common.{◌≡◌, ◌≢◌, ℕ, suc, ◌+◌, ◌-◌, ◌^◌, ◌<◌, ◌≤◌, Bool, true, false, ◌&&◌, cond, inl, inr, List, [], ◌∷◌, ◌++◌, Option, Some, None, length, map, take, drop, get_or, set, refl, sym, ap, ◌∙◌, subst, arith, length-set, get_or-set_other, get_or-set_same}
+use Rattle.std.specs.Prelude.{is_some, nat_lt}
 use Rattle.std.specs.List.{All, AllWithin, insert, remove, range_with_len}
 use Rattle.std.specs.Option.{IfSome}
 use Rattle.std.proofs.Math.Seq.{take-append_seam, map-set_same}
@@ -35,8 +35,8 @@ numbers-few slots numbers m same free number long =
 
 -- ---- one row
 
-pub joined_row : (slots : Slots) (ring : ℕ) (order hints after : List ℕ) (row : RingOrder) (places : List (List ℕ)) (place m capacity : ℕ) (done : Bool) → record { ring = ring; order = order; hints = hints } ≡ row → IsRow slots row → IsBetween slots row (key_at row.ring places m) place place → places_at slots m ≡ None → m < MEMBERS → length slots ≡ MEMBERS → row.ring < length places → after ≡ cond done (insert order place m) order → MEMBERS ≤ capacity → (length order < capacity → done ≡ true) → length hints ≡ MEMBERS → IsRow (set slots m (Some places)) (record { ring = ring; order = after; hints = set hints m (hint_on ring places) })
-joined_row slots ring order hints after row places place m capacity done view h between free number long placed is room succeeds all =
+pub joined_row : (slots : Slots) (ring : ℕ) (order hints after : List ℕ) (told : Bool) (row : RingOrder) (places : List (List ℕ)) (place m capacity : ℕ) (done : Bool) → record { ring = ring; order = order; hints = hints; told = told } ≡ row → IsRow slots row → IsBetween slots row (key_at row.ring places m) place place → places_at slots m ≡ None → m < MEMBERS → length slots ≡ MEMBERS → row.ring < length places → after ≡ cond done (insert order place m) order → MEMBERS ≤ capacity → (length order < capacity → done ≡ true) → length hints ≡ MEMBERS → IsRow (set slots m (Some places)) (record { ring = ring; order = after; hints = set hints m (hint_on ring places); told = told && nat_lt (hint_on ring places) (2 ^ 32 - 1) })
+joined_row slots ring order hints after told row places place m capacity done view h between free number long placed is room succeeds all =
     let same : length order ≡ length row.order = ap (λ (r : RingOrder). length r.order) view in
     let in' : m < length slots = omega arith in
     let below = length-members_below 0 slots m free in' in
@@ -45,17 +45,17 @@ joined_row slots ring order hints after row places place m capacity done view h 
     let in_hints : m < length row.hints = omega (arith, number, all, ap (λ (r : RingOrder). length r.hints) view) in
     let joined = IsRow-joined slots row places place m h between free in' placed in_hints in
     let P : RingOrder → Type 0 = λ r. IsRow (set slots m (Some places)) r in
-    subst P (ap (λ (r : RingOrder). record r { order = insert r.order place m; hints = set r.hints m (hint_on r.ring places) }) (sym view) ∙ ap (λ (o : List ℕ). record { ring = ring; order = o; hints = set hints m (hint_on ring places) }) (sym put)) joined
+    subst P (ap (λ (r : RingOrder). record r { order = insert r.order place m; hints = set r.hints m (hint_on r.ring places); told = r.told && nat_lt (hint_on r.ring places) (2 ^ 32 - 1) }) (sym view) ∙ ap (λ (o : List ℕ). record { ring = ring; order = o; hints = set hints m (hint_on ring places); told = told && nat_lt (hint_on ring places) (2 ^ 32 - 1) }) (sym put)) joined
 
-pub left_row : (slots : Slots) (ring : ℕ) (order hints after : List ℕ) (row : RingOrder) (places : List (List ℕ)) (place m : ℕ) → record { ring = ring; order = order; hints = hints } ≡ row → IsRow slots row → IsBetween slots row (key_at row.ring places m) place place → places_at slots m ≡ Some places → m < MEMBERS → length slots ≡ MEMBERS → after ≡ remove order place → IsRow (set slots m None) (record { ring = ring; order = after; hints = hints })
-left_row slots ring order hints after row places place m view h between there number long is =
+pub left_row : (slots : Slots) (ring : ℕ) (order hints after : List ℕ) (told : Bool) (row : RingOrder) (places : List (List ℕ)) (place m : ℕ) → record { ring = ring; order = order; hints = hints; told = told } ≡ row → IsRow slots row → IsBetween slots row (key_at row.ring places m) place place → places_at slots m ≡ Some places → m < MEMBERS → length slots ≡ MEMBERS → after ≡ remove order place → IsRow (set slots m None) (record { ring = ring; order = after; hints = hints; told = told })
+left_row slots ring order hints after told row places place m view h between there number long is =
     let in' : m < length slots = omega arith in
     let left = (IsRow-left slots row places place m h between there in').1 in
     let P : RingOrder → Type 0 = λ r. IsRow (set slots m None) r in
-    subst P (ap (λ (r : RingOrder). record r { order = remove r.order place }) (sym view) ∙ ap (λ (o : List ℕ). record { ring = ring; order = o; hints = hints }) (sym is)) left
+    subst P (ap (λ (r : RingOrder). record r { order = remove r.order place }) (sym view) ∙ ap (λ (o : List ℕ). record { ring = ring; order = o; hints = hints; told = told }) (sym is)) left
 
-pub left_within : (slots : Slots) (ring : ℕ) (order hints : List ℕ) (row : RingOrder) (places : List (List ℕ)) (place m : ℕ) → record { ring = ring; order = order; hints = hints } ≡ row → IsRow slots row → IsBetween slots row (key_at row.ring places m) place place → places_at slots m ≡ Some places → m < MEMBERS → length slots ≡ MEMBERS → place < length order
-left_within slots ring order hints row places place m view h between there number long =
+pub left_within : (slots : Slots) (ring : ℕ) (order hints : List ℕ) (told : Bool) (row : RingOrder) (places : List (List ℕ)) (place m : ℕ) → record { ring = ring; order = order; hints = hints; told = told } ≡ row → IsRow slots row → IsBetween slots row (key_at row.ring places m) place place → places_at slots m ≡ Some places → m < MEMBERS → length slots ≡ MEMBERS → place < length order
+left_within slots ring order hints told row places place m view h between there number long =
     let within = (IsRow-left slots row places place m h between there (omega arith)).0 in
     let same : length order ≡ length row.order = ap (λ (r : RingOrder). length r.order) view in
     omega arith

@@ -1,5 +1,5 @@
 -- The order of keys on a ring, and what a search among keys in order has come to.
-use Rattle.std.proofs.Common.{◌≡◌, ℕ, ◌+◌, ◌<◌, ◌≤◌, Bool, true, false, List, Option, Some, None, [], length, get_or, inl, inr, refl, sym, ap, ◌∙◌, subst, arith}
+use Rattle.std.proofs.Common.{◌≡◌, ℕ, ◌+◌, ◌-◌, ◌*◌, ◌/◌, ◌^◌, ◌<◌, ◌≤◌, Bool, cond, true, false, List, Option, Some, None, [], length, get_or, inl, inr, refl, sym, ap, ◌∙◌, subst, arith}
 use Rattle.std.specs.Ordering.{is_lt}
 use Rattle.std.specs.Option.{unwrap_or, IfSome, IsSomeAnd}
 use Rattle.std.specs.declared.cmp.Ordering.{Ordering}
@@ -68,15 +68,25 @@ IsBetween-below slots row q low middle high h between le lt above =
           ];
     }
 
+-- what holds of those between two indexes holds up to a later one
+pub IsBetween-wider : (slots : List (Option (List (List ℕ)))) (row : RingOrder) (q : Key) (low high from upto : ℕ) → IsBetween slots row q low high → from ≡ low → high ≤ upto → upto ≤ length row.order → IsBetween slots row q from upto
+IsBetween-wider slots row q low high from upto between same le within =
+    record {
+      ordered = omega (arith, between.ordered);
+      within = within;
+      below = λ i up. between.below i (omega arith);
+      above = λ i behind in'. between.above i (omega arith) in';
+    }
+
 -- the number that was read at an index of a ring
 pub number_here : (order : List ℕ) (row : RingOrder) (middle other : ℕ) → order ≡ row.order → middle < length row.order → other ≡ get_or order middle other → get_or row.order middle 0 ≡ other
 number_here order row middle other view lt read =
     get_or_default row.order middle 0 other lt ∙ ap (λ (o : List ℕ). get_or o middle other) (sym view) ∙ sym read
 
 -- what a comparison with the number at an index of a ring says
-pub narrowed_key : (slots : List (Option (List (List ℕ)))) (order : List ℕ) (row : RingOrder) (places : List (List ℕ)) (member other middle : ℕ) (answer b : Bool) → order ≡ row.order → middle < length row.order → other ≡ get_or order middle other → answer ≡ is_below (key_in slots row.ring other) (key_at row.ring places member) → answer ≡ b → is_below (key_of_index slots row middle) (key_at row.ring places member) ≡ b
-narrowed_key slots order row places member other middle answer b view lt read says is =
-    ap (λ n. is_below (key_in slots row.ring n) (key_at row.ring places member)) (number_here order row middle other view lt read) ∙ sym says ∙ is
+pub key_behind : (slots : List (Option (List (List ℕ)))) (order : List ℕ) (row : RingOrder) (q : Key) (other index : ℕ) (answer : Bool) → order ≡ row.order → index < length row.order → other ≡ get_or order index other → answer ≡ is_below (key_in slots row.ring other) q → answer ≡ is_below (key_of_index slots row index) q
+key_behind slots order row q other index answer view lt read says =
+    says ∙ ap (λ n. is_below (key_in slots row.ring n) q) (sym (number_here order row index other view lt read))
 
 hint_in : (ring x : ℕ) (o : Option (List (List ℕ))) → IfSome o (λ places. x ≡ hint_on ring places) → IsSomeAnd o (λ places. ring < length places) → x ≡ hint_on ring (unwrap_or o [])
 hint_in ring x None h some = absurd some
@@ -86,3 +96,27 @@ hint_in ring x (Some places) h some = h
 pub hint_here : (slots : List (Option (List (List ℕ)))) (hints : List ℕ) (row : RingOrder) (index other x : ℕ) → hints ≡ row.hints → index ≡ other → other < length hints → x ≡ get_or hints index x → IsRow slots row → IsSomeAnd (places_at slots other) (λ places. row.ring < length places) → x ≡ hint_on row.ring (unwrap_or (places_at slots other) [])
 hint_here slots hints row index other x view same lt read h some =
     read ∙ ap (λ i. get_or hints i x) same ∙ sym (get_or_default hints other 0 x lt) ∙ ap (λ (l : List ℕ). get_or l other 0) view ∙ hint_in row.ring (get_or row.hints other 0) (places_at slots other) (h.hinted other) some
+
+tells_in : (ring x : ℕ) (o : Option (List (List ℕ))) → IfSome o (λ places. hint_on ring places < 2 ^ 32 - 1) → x ≡ hint_on ring (unwrap_or o []) → IsSomeAnd o (λ places. ring < length places) → x < 2 ^ 32 - 1
+tells_in ring x None h is some = absurd some
+tells_in ring x (Some places) h is some = omega (arith, is, h)
+
+-- the hint of a member that has joined, where all tell
+pub tells_here : (slots : List (Option (List (List ℕ)))) (row : RingOrder) (other x : ℕ) → IsRow slots row → row.told ≡ true → x ≡ hint_on row.ring (unwrap_or (places_at slots other) []) → IsSomeAnd (places_at slots other) (λ places. row.ring < length places) → x < 2 ^ 32 - 1
+tells_here slots row other x h told is some = tells_in row.ring x (places_at slots other) (h.telling other told) is some
+
+pub times_one : (n : ℕ) (b : Bool) → n * cond b 1 0 ≡ cond b n 0
+times_one n true = omega arith
+times_one n false = omega arith
+
+-- a search goes on behind the middle one of those that are left, or nowhere
+pub IsBetween-halved : (slots : List (Option (List (List ℕ)))) (row : RingOrder) (q : Key) (low left more : ℕ) (b : Bool) → IsRow slots row → IsBetween slots row q low (low + left) → 0 < left → is_below (key_of_index slots row (low + (left - left / 2) - 1)) q ≡ b → more ≡ cond b (left - left / 2) 0 → IsBetween slots row q (low + more) (low + more + left / 2)
+IsBetween-halved slots row q low left more true h between some is goes =
+    let middle = low + (left - left / 2) - 1 in
+    let lt : middle < low + left = omega arith in
+    IsBetween-wider slots row q (middle + 1) (low + left) (low + more) (low + more + left / 2) (IsBetween-above slots row q low middle (low + left) h between lt is) (omega (arith, goes)) (omega (arith, goes)) (omega (arith, goes, between.within))
+IsBetween-halved slots row q low left more false h between some is goes =
+    let middle = low + (left - left / 2) - 1 in
+    let le : low ≤ middle = omega arith in
+    let lt : middle < low + left = omega arith in
+    IsBetween-wider slots row q low middle (low + more) (low + more + left / 2) (IsBetween-below slots row q low middle (low + left) h between le lt is) (omega (arith, goes)) (omega (arith, goes)) (omega (arith, goes, between.within))

@@ -1,9 +1,10 @@
 -- A ring in order once a member is put in at its place, or taken out.
-use Rattle.std.proofs.Common.{◌≡◌, ◌≢◌, ℕ, ◌+◌, ◌-◌, ◌<◌, ◌≤◌, true, false, not, ◌⊎◌, inl, inr, List, [], Option, Some, None, length, get_or, set, sym, ap, ◌∙◌, subst, arith, get_or-set_other, get_or-set_same}
-use Rattle.std.specs.Prelude.{is_some}
+use Rattle.std.proofs.Common.{◌≡◌, ◌≢◌, ℕ, ◌+◌, ◌-◌, ◌^◌, ◌<◌, ◌≤◌, Bool, true, false, not, ◌&&◌, ◌⊎◌, inl, inr, List, [], Option, Some, None, length, get_or, set, sym, ap, ◌∙◌, subst, arith, get_or-set_other, get_or-set_same}
+use Rattle.std.specs.Prelude.{is_some, nat_lt}
 use Rattle.std.specs.List.{Contains, insert, remove}
 use Rattle.std.specs.Option.{unwrap_or, IsSomeAnd, IfSome}
 use Rattle.std.proofs.lemmas.Bool.{cases_lt, cases_eq, true≢false}
+use Rattle.std.proofs.lemmas.Bool.Decides.{nat_tests}
 use Rattle.std.proofs.lemmas.List.{get_or_default}
 use Rattle.std.proofs.lemmas.List.Edits.{length-insert, get_or-insert_below, get_or-insert_at, get_or-insert_above, length-remove, get_or-remove_below, get_or-remove_above}
 use Rattle.ff_ids.specs.Rings.{Key, is_below}
@@ -130,7 +131,31 @@ hinted_left slots row m n h in' =
       | inr apart ↦ subst P (sym (get_or-set_other slots m n None None apart)) (h.hinted n)
     ]
 
-pub IsRow-joined : (slots : Slots) (row : RingOrder) (places : List (List ℕ)) (place m : ℕ) → IsRow slots row → IsBetween slots row (key_at row.ring places m) place place → places_at slots m ≡ None → m < length slots → row.ring < length places → m < length row.hints → IsRow (set slots m (Some places)) (record row { order = insert row.order place m; hints = set row.hints m (hint_on row.ring places) })
+both_true : (b c : Bool) → b && c ≡ true → (b ≡ true) × (c ≡ true)
+both_true b c h = grind (arith, nat_tests, h)
+
+telling_joined : (slots : Slots) (row : RingOrder) (places : List (List ℕ)) (m n : ℕ) → IsRow slots row → m < length slots → row.told && nat_lt (hint_on row.ring places) (2 ^ 32 - 1) ≡ true → IfSome (places_at (set slots m (Some places)) n) (λ p. hint_on row.ring p < 2 ^ 32 - 1)
+telling_joined slots row places m n h in' all =
+    let both = both_true row.told (nat_lt (hint_on row.ring places) (2 ^ 32 - 1)) all in
+    let P : Option (List (List ℕ)) → Type 0 = λ o. IfSome o (λ p. hint_on row.ring p < 2 ^ 32 - 1) in
+    elim (cases_eq n m) [
+      | inl own ↦
+          let at : places_at (set slots m (Some places)) n ≡ Some places = ap (λ k. get_or (set slots m (Some places)) k None) own ∙ get_or-set_same slots m (Some places) None in' in
+          subst P (sym at) (grind (arith, nat_tests, both.1))
+      | inr apart ↦ subst P (sym (get_or-set_other slots m n (Some places) None apart)) (h.telling n both.0)
+    ]
+
+telling_left : (slots : Slots) (row : RingOrder) (m n : ℕ) → IsRow slots row → m < length slots → row.told ≡ true → IfSome (places_at (set slots m None) n) (λ p. hint_on row.ring p < 2 ^ 32 - 1)
+telling_left slots row m n h in' all =
+    let P : Option (List (List ℕ)) → Type 0 = λ o. IfSome o (λ p. hint_on row.ring p < 2 ^ 32 - 1) in
+    elim (cases_eq n m) [
+      | inl own ↦
+          let at : places_at (set slots m None) n ≡ None = ap (λ k. get_or (set slots m None) k None) own ∙ get_or-set_same slots m None None in' in
+          subst P (sym at) tt
+      | inr apart ↦ subst P (sym (get_or-set_other slots m n None None apart)) (h.telling n all)
+    ]
+
+pub IsRow-joined : (slots : Slots) (row : RingOrder) (places : List (List ℕ)) (place m : ℕ) → IsRow slots row → IsBetween slots row (key_at row.ring places m) place place → places_at slots m ≡ None → m < length slots → row.ring < length places → m < length row.hints → IsRow (set slots m (Some places)) (record row { order = insert row.order place m; hints = set row.hints m (hint_on row.ring places); told = row.told && nat_lt (hint_on row.ring places) (2 ^ 32 - 1) })
 IsRow-joined slots row places place m h between free in' long in_hints =
     let le = between.within in
     let more = length-insert row.order place m le in
@@ -141,6 +166,7 @@ IsRow-joined slots row places place m h between free in' long in_hints =
       listed = λ n some. inserted_listed slots row places place m n h le some;
       count = more ∙ ap (λ x. x + 1) h.count ∙ sym (ap length (members_from-filled 0 slots m places free in') ∙ length-with_member (record { number = 0 + m; places = places }) (members_from 0 slots));
       hinted = λ n. hinted_joined slots row places m n h in' in_hints;
+      telling = λ n all. telling_joined slots row places m n h in' all;
     }
 
 -- ---- taken out
@@ -233,6 +259,7 @@ IsRow-left slots row places place m h between there in' =
         listed = λ n some. removed_listed slots row m place n h at (λ e. true≢false (sym some ∙ ap (λ k. is_some (places_at (set slots m None) k)) e ∙ gone)) some;
         count = omega (arith, fewer, h.count, length-emptied 0 slots m places there);
         hinted = λ n. hinted_left slots row m n h in';
+        telling = λ n all. telling_left slots row m n h in' all;
       },
     )
 
@@ -245,4 +272,5 @@ IsRow-empty slots row none nobody =
       listed = λ n some. absurd (true≢false (sym some ∙ ap is_some (none n)));
       count = sym (ap length nobody);
       hinted = λ n. subst (λ (o : Option (List (List ℕ))). IfSome o (λ p. get_or row.hints n 0 ≡ hint_on row.ring p)) (sym (none n)) tt;
+      telling = λ n all. subst (λ (o : Option (List (List ℕ))). IfSome o (λ p. hint_on row.ring p < 2 ^ 32 - 1)) (sym (none n)) tt;
     }

@@ -1,5 +1,5 @@
 -- How many steps a search by halving takes.
-use Rattle.std.proofs.Common.{◌≡◌, ◌⊎◌, inl, inr, ℕ, suc, ◌+◌, ◌-◌, ◌*◌, ◌^◌, ◌<◌, ◌≤◌, ap, ◌∙◌, arith}
+use Rattle.std.proofs.Common.{◌≡◌, ℕ, suc, ◌+◌, ◌-◌, ◌*◌, ◌^◌, ◌<◌, ◌≤◌, ap, ◌∙◌, arith}
 use Rattle.std.proofs.Math.Nat.{pow-succ', mul-le-mul_left, mul_assoc, mul_comm}
 
 pub power_more : (a b : ℕ) → a ≤ b → 2 ^ (b + 1 - a) ≡ 2 * 2 ^ (b - a)
@@ -19,26 +19,8 @@ most_more p s n h some =
     let a : p * 1 ≤ p * s = mul-le-mul_left p some in
     omega arith
 
-pub least_more : (p s s' n : ℕ) → n + 2 ≤ p * (s + 2) → s ≤ 2 * s' + 2 → n + 2 ≤ (2 * p) * (s' + 2)
+pub least_more : (p s s' n : ℕ) → n < p * (s + 1) → s ≤ 2 * s' + 1 → n < (2 * p) * (s' + 1)
 least_more p s s' n h half =
-    let a : p * (s + 2) ≤ p * (2 * (s' + 2)) = mul-le-mul_left p (omega arith) in
-    let b : (2 * p) * (s' + 2) ≡ p * (2 * (s' + 2)) = ap (λ x. x * (s' + 2)) (mul_comm 2 p) ∙ mul_assoc p 2 (s' + 2) in
+    let a : p * (s + 1) ≤ p * (2 * (s' + 1)) = mul-le-mul_left p (omega arith) in
+    let b : (2 * p) * (s' + 1) ≡ p * (2 * (s' + 1)) = ap (λ x. x * (s' + 1)) (mul_comm 2 p) ∙ mul_assoc p 2 (s' + 1) in
     omega arith
-
--- the part behind the middle index, or that up to it
-pub record IsHalved (low high : ℕ) (part : ℕ × ℕ) : Type 0 where
-  pub most : 2 * (part.1 - part.0) ≤ high - low
-  pub least : high - low ≤ 2 * (part.1 - part.0) + 2
-
-pub halved : (low middle high : ℕ) (part : ℕ × ℕ) → low ≤ middle → 2 * (middle - low) ≤ high - low → high - low ≤ 2 * (middle - low) + 1 → (part ≡ (middle + 1, high)) ⊎ (part ≡ (low, middle)) → IsHalved low high part
-halved low middle high part from lower upper is =
-    elim is [
-      | inl behind ↦
-          let first : part.0 ≡ middle + 1 = ap (λ (q : ℕ × ℕ). q.0) behind in
-          let second : part.1 ≡ high = ap (λ (q : ℕ × ℕ). q.1) behind in
-          record { most = omega arith; least = omega arith }
-      | inr up ↦
-          let first : part.0 ≡ low = ap (λ (q : ℕ × ℕ). q.0) up in
-          let second : part.1 ≡ middle = ap (λ (q : ℕ × ℕ). q.1) up in
-          record { most = omega arith; least = omega arith }
-    ]

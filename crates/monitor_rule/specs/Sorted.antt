@@ -1,6 +1,6 @@
 -- How the joined members are kept: the places of each by its number, and on each ring the numbers of all in order of
 -- their keys.
-use Rattle.std.specs.Prelude.{◌≡◌, ℕ, ◌+◌, ◌<◌, ◌≤◌, true, false, List, [], ◌∷◌, Option, Some, None, length, map, is_some, unwrap_or, slice_index, slice_index_or, All, Contains}
+use Rattle.std.specs.Prelude.{◌≡◌, ℕ, ◌+◌, ◌-◌, ◌^◌, ◌<◌, ◌≤◌, Bool, true, false, List, [], ◌∷◌, Option, Some, None, length, map, is_some, unwrap_or, slice_index, slice_index_or, All, Contains}
 use Rattle.std.specs.List.{range_with_len}
 use Rattle.std.specs.Option.{IsSomeAnd, IfSome}
 use Rattle.ff_ids.specs.declared.TheConstants.{MAX_RINGS, MEMBERS}
@@ -22,15 +22,17 @@ members_from n (Some places ∷ slots) = record { number = n; places = places } 
 abbrev pub key_in : List (Option (List (List ℕ))) → ℕ → ℕ → Key
 key_in slots ring n = key_at ring (unwrap_or (places_at slots n) []) n
 
--- A ring, the numbers of those on it, and by number the hints of their places there.
+-- A ring, the numbers of those on it, by number the hints of their places there, and whether it is known that all of
+-- these tell.
 pub record RingOrder : Type 0 where
   pub ring : ℕ
   pub order : List ℕ
   pub hints : List ℕ
+  pub told : Bool
 
 -- The ring without anybody.
 abbrev pub emptied : RingOrder → RingOrder
-emptied row = record row { order = [] }
+emptied row = record row { order = []; told = true }
 
 -- The key of the number at an index of a ring.
 abbrev pub key_of_index : List (Option (List (List ℕ))) → RingOrder → ℕ → Key
@@ -47,6 +49,7 @@ pub record IsRow (slots : List (Option (List (List ℕ)))) (row : RingOrder) : T
   pub listed : (n : ℕ) → is_some (places_at slots n) ≡ true → Contains row.order n
   pub count : length row.order ≡ length (members_from 0 slots)
   pub hinted : (n : ℕ) → IfSome (places_at slots n) (λ places. slice_index_or row.hints n 0 ≡ hint_on row.ring places)
+  pub telling : (n : ℕ) → row.told ≡ true → IfSome (places_at slots n) (λ places. hint_on row.ring places < 2 ^ 32 - 1)
 
 -- Those before the first index are below the key, and those from the second on aren't.
 pub record IsBetween (slots : List (Option (List (List ℕ)))) (row : RingOrder) (q : Key) (low high : ℕ) : Type 0 where

@@ -1,17 +1,17 @@
 //! One ring: the joined members in order of their keys there, found by halving.
 
-ghost use Rattle.std.specs.Prelude.{◌≡◌, ◌⊎◌, ℕ, List, Option, ◌+◌, ◌-◌, ◌*◌, ◌^◌, ◌<◌, ◌≤◌, ◌==◌, true, None, Some, [], length, is_some, slice_index, slice_set, IfOk, if◌then◌else◌};
+ghost use Rattle.std.specs.Prelude.{◌≡◌, ℕ, List, Option, ◌+◌, ◌-◌, ◌*◌, ◌/◌, ◌^◌, ◌<◌, ◌≤◌, ◌==◌, true, None, Some, [], length, is_some, slice_index, slice_set, IfOk, if◌then◌else◌};
 ghost use Rattle.std.specs.Option.{IsSomeAnd};
 ghost use Rattle.ff_ids.specs.declared.TheConstants.{MEMBERS};
 ghost use Rattle.ff_ids.specs.Rings.{Key, is_below, nearest_before as number_before, nearest_after as number_after};
 ghost use Rattle.ff_ids.specs.Views.{key_at};
 ghost use Rattle.monitor_rule.specs.Joined.{keys_on};
-ghost use Rattle.monitor_rule.specs.Sorted.{places_at, members_from, key_in, hint_on, IsRow, IsBetween};
+ghost use Rattle.monitor_rule.specs.Sorted.{places_at, members_from, key_in, key_of_index, hint_on, IsRow, IsBetween};
 
 use crate::by_number::places_of;
 use ff_ids::{MEMBERS, MemberId, RingNo};
 use ring_order::steps::Steps;
-use ring_order::{Places, hint_before, key_order};
+use ring_order::{Places, hint_before, is_telling, key_before};
 use std::alloc::{AllocError, Global};
 use std::marker::{Brand, Model};
 use std::sync::ledger::{Blank, Ledger};
@@ -23,6 +23,8 @@ pub struct Row {
     order: Vec<MemberId>,
     /// By number the hint of the member's place, for each that has joined.
     hints: Vec<u32>,
+    /// Whether each of these hints tells.
+    told: bool,
     /// Where in the order the last member joined.
     near: usize,
 }
@@ -34,19 +36,10 @@ impl Model for Row {
 
     ghost Value = { RingOrder };
 
-    ghost view = { λ r. record { ring = r.ring.0; order = r.order.items; hints = r.hints.items } };
+    ghost view = { λ r. record
+        { ring = r.ring.0; order = r.order.items; hints = r.hints.items; told = r.told } };
 
     ghost invariant = { λ r. (MEMBERS ≤ vec_capacity r.order) × (length r.hints.items ≡ MEMBERS) };
-}
-
-/// The index in the middle of those from `low` on and before `high`.
-fn middle_of(low: usize, high: usize) -> usize
-    requires { low < high }
-    ensures from { low ≤ result }
-    ensures lower { 2 * (result - low) ≤ high - low }
-    ensures upper { high - low ≤ 2 * (result - low) + 1 }
-{
-    low + (high - low) / 2
 }
 
 impl Row {
@@ -59,6 +52,7 @@ impl Row {
             ring,
             order: Vec::with_capacity(alloc, MEMBERS as usize)?,
             hints: vec![in alloc; 0; MEMBERS as usize]?,
+            told: true,
             near: 0,
         })
     }
@@ -74,8 +68,10 @@ impl Row {
         ensures ring { self.new.ring ≡ self.old.ring }
     {
         let place = self.place_of(slots, member, places);
+        let hint = places.hint(self.ring);
         let _ = self.order.insert(place, member);
-        self.hints[member.get() as usize] = places.hint(self.ring);
+        self.hints[member.get() as usize] = hint;
+        self.told &= is_telling(hint);
         self.near = place;
     }
 
@@ -93,9 +89,10 @@ impl Row {
 
     /// Takes out everybody.
     pub fn clear(&mut self)
-        ensures { self.new ≡ record self.old { order = [] } }
+        ensures { self.new ≡ record self.old { order = []; told = true } }
     {
         self.order.clear();
+        self.told = true;
     }
 
     /// The nearest joined member before this one, or none where no other has joined.
@@ -288,13 +285,8 @@ impl Row {
         ensures least { length self.now.order + 2 ≤ 2 * 2 ^ (steps.new - steps.old) }
     {
         let hint = places.hint(self.ring);
-        let mut low = 0;
-        let mut high = self.order.len();
-        while low < high {
-            let middle = middle_of(low, high);
-            (low, high) = self.narrow(slots, low, middle, high, member, places, hint, steps);
-        }
-        low
+        let count = self.order.len();
+        self.halve(slots, 0, count, member, places, hint, steps)
     }
 
     /// As `search`. Two steps are enough where this index is the place.
@@ -313,29 +305,175 @@ impl Row {
             result }
     {
         let hint = places.hint(self.ring);
-        let (low, high) = (0, self.order.len());
-        let (low, high) = self.narrow_at(
-            slots,
-            low,
-            near.saturating_sub(1),
-            high,
-            member,
-            places,
-            hint,
-            steps,
-        );
-        let (mut first, mut last) = self.narrow_at(
-            slots, low, near, high, member, places, hint, steps,
-        );
-        while first < last {
-            let middle = middle_of(first, last);
-            (first, last) = self.narrow(slots, first, middle, last, member, places, hint, steps);
-        }
-        first
+        let before = near.saturating_sub(1);
+        let count = self.order.len();
+        let (low, high) = self.split_at(slots, 0, before, count, member, places, hint, steps);
+        let (low, high) = self.split_at(slots, low, near, high, member, places, hint, steps);
+        self.halve(slots, low, high - low, member, places, hint, steps)
     }
 
-    /// As `narrow`, where the index is one between the two.
-    fn narrow_at<L: Ledger>(
+    /// How many of the ring's members come before this one: those up to an index do, and of those behind it so many at
+    /// most. How many steps it takes is told by how many these are, and not by which of them do.
+    fn halve<L: Ledger>(
+        &self,
+        slots: &[Option<Places>],
+        from: usize,
+        count: usize,
+        member: MemberId,
+        places: &Places,
+        hint: u32,
+        steps: &mut Steps<L>,
+    ) -> usize
+        requires in_order { IsRow slots.now self.now }
+        requires long { length slots.now ≡ MEMBERS }
+        requires placed { self.now.ring < length places.now }
+        requires hinted { hint ≡ hint_on self.now.ring places.now }
+        requires between { IsBetween slots.now self.now (key_at self.now.ring places.now member)
+            from (from + count) }
+        ensures place { IsBetween slots.now self.now (key_at self.now.ring places.now member) result
+            result }
+        ensures counted { steps.old ≤ steps.new }
+        ensures most { 2 ^ (steps.new - steps.old) ≤ 2 * count + 1 }
+        ensures least { count < 2 ^ (steps.new - steps.old) }
+    {
+        if self.told && is_telling(hint) {
+            self.halve_by_hints(slots, from, count, member, places, hint, steps)
+        } else {
+            self.halve_by_places(slots, from, count, member, places, hint, steps)
+        }
+    }
+
+    /// As `halve`, where hints tell.
+    fn halve_by_hints<L: Ledger>(
+        &self,
+        slots: &[Option<Places>],
+        from: usize,
+        count: usize,
+        member: MemberId,
+        places: &Places,
+        hint: u32,
+        steps: &mut Steps<L>,
+    ) -> usize
+        requires in_order { IsRow slots.now self.now }
+        requires long { length slots.now ≡ MEMBERS }
+        requires hinted { hint ≡ hint_on self.now.ring places.now }
+        requires told { self.now.told ≡ true }
+        requires tells { hint < 2 ^ 32 - 1 }
+        requires between { IsBetween slots.now self.now (key_at self.now.ring places.now member)
+            from (from + count) }
+        ensures place { IsBetween slots.now self.now (key_at self.now.ring places.now member) result
+            result }
+        ensures counted { steps.old ≤ steps.new }
+        ensures most { 2 ^ (steps.new - steps.old) ≤ 2 * count + 1 }
+        ensures least { count < 2 ^ (steps.new - steps.old) }
+    {
+        let mut low = from;
+        let mut left = count;
+        while 0 < left {
+            low += self.skipped_by_hints(slots, low, left, member, places, hint, steps);
+            left /= 2;
+        }
+        low
+    }
+
+    /// As `halve`, where some hints may not tell.
+    fn halve_by_places<L: Ledger>(
+        &self,
+        slots: &[Option<Places>],
+        from: usize,
+        count: usize,
+        member: MemberId,
+        places: &Places,
+        hint: u32,
+        steps: &mut Steps<L>,
+    ) -> usize
+        requires in_order { IsRow slots.now self.now }
+        requires long { length slots.now ≡ MEMBERS }
+        requires placed { self.now.ring < length places.now }
+        requires hinted { hint ≡ hint_on self.now.ring places.now }
+        requires between { IsBetween slots.now self.now (key_at self.now.ring places.now member)
+            from (from + count) }
+        ensures place { IsBetween slots.now self.now (key_at self.now.ring places.now member) result
+            result }
+        ensures counted { steps.old ≤ steps.new }
+        ensures most { 2 ^ (steps.new - steps.old) ≤ 2 * count + 1 }
+        ensures least { count < 2 ^ (steps.new - steps.old) }
+    {
+        let mut low = from;
+        let mut left = count;
+        while 0 < left {
+            low += self.skipped_by_places(slots, low, left, member, places, hint, steps);
+            left /= 2;
+        }
+        low
+    }
+
+    /// How far the search goes on, of so many members from an index on among which the place is: behind the middle one of
+    /// them, or nowhere. Then half as many are left.
+    #[inline]
+    fn skipped_by_hints<L: Ledger>(
+        &self,
+        slots: &[Option<Places>],
+        low: usize,
+        left: usize,
+        member: MemberId,
+        places: &Places,
+        hint: u32,
+        steps: &mut Steps<L>,
+    ) -> usize
+        requires in_order { IsRow slots.now self.now }
+        requires long { length slots.now ≡ MEMBERS }
+        requires hinted { hint ≡ hint_on self.now.ring places.now }
+        requires told { self.now.told ≡ true }
+        requires tells { hint < 2 ^ 32 - 1 }
+        requires between { IsBetween slots.now self.now (key_at self.now.ring places.now member) low
+            (low + left) }
+        requires some { 0 < left }
+        ensures between { IsBetween slots.now self.now (key_at self.now.ring places.now member)
+            (low + result) (low + result + left / 2) }
+        ensures fits { low + result < 2 ^ 64 }
+        ensures step { steps.new ≡ steps.old + 1 }
+    {
+        // A list of members is short enough for the sum.
+        let _ = &self.order;
+        let half = left - left / 2;
+        half * self.is_behind_by_hint(slots, low + half - 1, member, places, hint, steps)
+    }
+
+    /// As `skipped_by_hints`, where some hints may not tell.
+    fn skipped_by_places<L: Ledger>(
+        &self,
+        slots: &[Option<Places>],
+        low: usize,
+        left: usize,
+        member: MemberId,
+        places: &Places,
+        hint: u32,
+        steps: &mut Steps<L>,
+    ) -> usize
+        requires in_order { IsRow slots.now self.now }
+        requires long { length slots.now ≡ MEMBERS }
+        requires placed { self.now.ring < length places.now }
+        requires hinted { hint ≡ hint_on self.now.ring places.now }
+        requires between { IsBetween slots.now self.now (key_at self.now.ring places.now member) low
+            (low + left) }
+        requires some { 0 < left }
+        ensures between { IsBetween slots.now self.now (key_at self.now.ring places.now member)
+            (low + result) (low + result + left / 2) }
+        ensures fits { low + result < 2 ^ 64 }
+        ensures step { steps.new ≡ steps.old + 1 }
+    {
+        let _ = &self.order;
+        let half = left - left / 2;
+        if self.is_behind(slots, low + half - 1, member, places, hint, steps) {
+            half
+        } else {
+            0
+        }
+    }
+
+    /// As `part_at`, where the index is one between the two.
+    fn split_at<L: Ledger>(
         &self,
         slots: &[Option<Places>],
         low: usize,
@@ -356,18 +494,18 @@ impl Row {
             result.1 }
     {
         if low <= index && index < high {
-            self.narrow(slots, low, index, high, member, places, hint, steps)
+            self.part_at(slots, low, index, high, member, places, hint, steps)
         } else {
             (low, high)
         }
     }
 
-    /// The part in which the member's place is, of those between the two indexes: behind the middle one, or up to it.
-    fn narrow<L: Ledger>(
+    /// The part in which the member's place is, of those between the two: behind the index, or up to it.
+    fn part_at<L: Ledger>(
         &self,
         slots: &[Option<Places>],
         low: usize,
-        middle: usize,
+        index: usize,
         high: usize,
         member: MemberId,
         places: &Places,
@@ -380,26 +518,23 @@ impl Row {
         requires hinted { hint ≡ hint_on self.now.ring places.now }
         requires between { IsBetween slots.now self.now (key_at self.now.ring places.now member) low
             high }
-        requires from { low ≤ middle }
-        requires until { middle < high }
+        requires from { low ≤ index }
+        requires until { index < high }
         ensures between { IsBetween slots.now self.now (key_at self.now.ring places.now member)
             result.0 result.1 }
-        ensures step { steps.new ≡ steps.old + 1 }
-        ensures part { (result ≡ (middle + 1, high)) ⊎ (result ≡ (low, middle)) }
     {
-        let other = self.order[middle];
-        if self.is_before(slots, other, member, places, hint, steps) {
-            (middle + 1, high)
+        if self.is_behind(slots, index, member, places, hint, steps) {
+            (index + 1, high)
         } else {
-            (low, middle)
+            (low, index)
         }
     }
 
-    /// Whether a joined member comes before this one: its places are looked at where the hints don't tell.
-    fn is_before<L: Ledger>(
+    /// Whether the member at the index comes before this one: the places are looked at where the hints don't tell.
+    fn is_behind<L: Ledger>(
         &self,
         slots: &[Option<Places>],
-        other: MemberId,
+        index: usize,
         member: MemberId,
         places: &Places,
         hint: u32,
@@ -407,17 +542,47 @@ impl Row {
     ) -> bool
         requires in_order { IsRow slots.now self.now }
         requires long { length slots.now ≡ MEMBERS }
-        requires joined { IsSomeAnd (places_at slots.now other) (λ p. self.now.ring < length p) }
         requires placed { self.now.ring < length places.now }
         requires hinted { hint ≡ hint_on self.now.ring places.now }
+        requires within { index < length self.now.order }
         ensures value { result
-            ≡ is_below (key_in slots.now self.now.ring other)
+            ≡ is_below (key_of_index slots.now self.now index)
             (key_at self.now.ring places.now member) }
         ensures step { steps.new ≡ steps.old + 1 }
     {
-        match hint_before(self.hints[other.get() as usize], hint, steps) {
-            Some(before) => before,
-            None => key_order(self.ring, places_of(slots, other), other, places, member),
+        if self.told && is_telling(hint) {
+            0 < self.is_behind_by_hint(slots, index, member, places, hint, steps)
+        } else {
+            let other = self.order[index];
+            let other_places = places_of(slots, other);
+            key_before(self.ring, other_places, other, places, member, steps)
         }
+    }
+
+    /// 1 where the member at the index comes before this one, and else 0, where hints tell.
+    #[inline]
+    fn is_behind_by_hint<L: Ledger>(
+        &self,
+        slots: &[Option<Places>],
+        index: usize,
+        member: MemberId,
+        places: &Places,
+        hint: u32,
+        steps: &mut Steps<L>,
+    ) -> usize
+        requires in_order { IsRow slots.now self.now }
+        requires long { length slots.now ≡ MEMBERS }
+        requires hinted { hint ≡ hint_on self.now.ring places.now }
+        requires told { self.now.told ≡ true }
+        requires tells { hint < 2 ^ 32 - 1 }
+        requires within { index < length self.now.order }
+        ensures value { result
+            ≡ (if is_below (key_of_index slots.now self.now index)
+            (key_at self.now.ring places.now member) then 1 else 0) }
+        ensures step { steps.new ≡ steps.old + 1 }
+    {
+        let other = self.order[index];
+        let other_hint = self.hints[other.get() as usize];
+        hint_before(other_hint, other, hint, member, steps)
     }
 }

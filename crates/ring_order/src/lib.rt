@@ -2,8 +2,9 @@
 //! nearest to whom. No call takes memory. The crates of the rules call it, and a node for the places of its members.
 #![tactic(auto)]
 
-ghost use Rattle.std.specs.Prelude.{◌≡◌, ◌<◌, ◌≤◌, ◌+◌, ◌*◌, ◌-◌, [], ◌∷◌, ◌++◌, ◌↔◌, length, map, All, IsNone, IfSome, option_map, get_or};
+ghost use Rattle.std.specs.Prelude.{◌≡◌, ◌<◌, ◌≤◌, ◌+◌, ◌*◌, ◌-◌, ◌^◌, nat_lt, [], ◌∷◌, ◌++◌, ◌↔◌, length, map, All, IsNone, IfSome, option_map, get_or, if◌then◌else◌};
 ghost use Rattle.ff_ids.specs.declared.TheConstants.{MAX_RINGS};
+ghost use Rattle.ring_order.specs.declared.TheConstants.{RANKS};
 ghost use Rattle.ff_ids.specs.Rings.{Key, is_below, is_between, others, nearest_before as number_before, nearest_after as number_after};
 ghost use Rattle.ff_ids.specs.Views.{key_at};
 ghost use Rattle.ring_order.specs.Rows.{place_of_number, is_plain, tail_of, hint_of};
@@ -259,19 +260,45 @@ pub fn key_before<L: Ledger>(
     key_order(ring, a_places, a, b_places, b)
 }
 
-/// Whether the place with hint `a` comes before that with hint `b`, whose numbers then don't matter, where their hints
-/// tell. It counts one step.
-pub fn hint_before<L: Ledger>(a: u32, b: u32, steps: &mut Steps<L>) -> Option<bool>
-    ensures value { (j k : Key) → a ≡ hint_of j.place → b ≡ hint_of k.place
-        → IfSome result (λ before. before ≡ is_below j k) }
+/// Each rank is below this.
+const RANKS: u64 = 1 << 48;
+
+/// The hint and the number in one number, in the order of keys whose hints tell.
+#[inline]
+fn rank(hint: u32, number: MemberId) -> u64
+    ensures value { result ≡ hint * 2 ^ 16 + number }
+    ensures range { result < RANKS }
+{
+    u64::from(hint) * 65_536 + u64::from(number.get())
+}
+
+/// Whether the hint tells: only that of a place which no number stands for doesn't, and that of the greatest number.
+#[inline]
+pub fn is_telling(hint: u32) -> bool
+    ensures { result ≡ nat_lt hint (2 ^ 32 - 1) }
+{
+    hint < NO_HINT
+}
+
+/// 1 where the member of the first number, whose place has hint `a`, comes before that of the second, whose place has hint
+/// `b`, and else 0. It counts one step. The answer is a difference and no branch: which way a search goes can't be foretold.
+#[inline]
+pub fn hint_before<L: Ledger>(
+    a: u32,
+    first: MemberId,
+    b: u32,
+    second: MemberId,
+    steps: &mut Steps<L>,
+) -> usize
+    requires a_tells { a < 2 ^ 32 - 1 }
+    requires b_tells { b < 2 ^ 32 - 1 }
+    ensures value { (j k : Key) → a ≡ hint_of j.place → first ≡ j.number → b ≡ hint_of k.place
+        → second ≡ k.number → result ≡ (if is_below j k then 1 else 0) }
+    ensures range { result ≤ 1 }
     ensures step { steps.new ≡ steps.old + 1 }
 {
     steps.add_one();
-    if a == b || a == NO_HINT || b == NO_HINT {
-        None
-    } else {
-        Some(a < b)
-    }
+    ((rank(b, second) + (RANKS - 1) - rank(a, first)) / RANKS) as usize
 }
 
 /// On which side of a member to look.

@@ -1,6 +1,7 @@
 use Rattle.std.proofs.Common.{arith}
-use Rattle.ring_order.proofs.HintLemmas.{hinted_order}
+use Rattle.ring_order.proofs.HintLemmas.{hinted_count}
 use Rattle.ring_order.proofs.hint_before.Goals as goal
 
-pub returns-else-b-eq-NO_HINT-clause-value : goal.returns-else-b-eq-NO_HINT-clause-value
-returns-else-b-eq-NO_HINT-clause-value g c = λ j k own other. hinted_order c.args.a c.args.b j k own other (omega arith) (omega arith) (omega arith)
+pub returns-clause-value : goal.returns-clause-value
+returns-clause-value g c = λ j k own number other other_number.
+    hinted_count c.args.a c.args.b c.args.first c.args.second c.rank-2.result c.rank.result j k c.rank-2.ensures.value c.rank.ensures.value own number other other_number (omega arith) (omega arith) c.requires.a_tells c.requires.b_tells
