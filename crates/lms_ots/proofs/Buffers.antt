@@ -1,29 +1,35 @@
 -- Writes into a buffer.
-use Rattle.std.proofs.Common.{◌≡◌, ℕ, ◌+◌, ◌*◌, ◌<◌, List, ◌∷◌, ◌++◌, length, take, set, refl, sym, ◌∙◌, ap, arith, length-take, append_assoc}
-use Rattle.std.proofs.lemmas.List.{take_at}
-use Rattle.std.proofs.lemmas.Grind.{take-set_at}
+use Rattle.std.proofs.Common.{◌≡◌, ℕ, ◌+◌, ◌*◌, ◌≤◌, List, ◌∷◌, ◌++◌, length, take, drop, set, sym, ◌∙◌, ap, arith, length-take, take-take, drop_at}
+use Rattle.std.proofs.lemmas.List.{set_split, take-append-le}
 use Rattle.lms_ots.proofs.Chains.{take_whole}
 
--- byte 22 is set to j, and the 32 bytes after it to the value
-pub record IsStepped (old new : List ℕ) (j : ℕ) (value : List ℕ) : Type 0 where
+-- the 32 bytes from byte 23 on are set to the value
+pub record IsFilled (old new value : List ℕ) : Type 0 where
   pub old_long : length old ≡ 55
   pub new_long : length new ≡ 55
   pub value_long : length value ≡ 32
-  pub written : take (23 + length value) new ≡ take 23 (set old 22 j) ++ value
+  pub written : take (23 + length value) new ≡ take 23 old ++ value
 
-pub stepped-is : {old new value : List ℕ} {j : ℕ} → IsStepped old new j value
-    → new ≡ take 22 old ++ j ∷ value
-stepped-is {old} {new} {value} {j} s =
-    let far : length new ≡ 23 + length value = omega (arith, s.new_long, s.value_long) in
-    let inside : 22 < length old = omega (arith, s.old_long) in
-    sym (take_whole new (23 + length value) far) ∙ s.written
-    ∙ rw (take-set_at old 22 23 j refl inside, append_assoc) refl
+filled-is : {old new value : List ℕ} → IsFilled old new value → new ≡ take 23 old ++ value
+filled-is {old} {new} {value} f =
+    let far : length new ≡ 23 + length value = omega (arith, f.new_long, f.value_long) in
+    sym (take_whole new (23 + length value) far) ∙ f.written
 
-pub take-stepped : {old new value : List ℕ} {j : ℕ} → IsStepped old new j value
-    → take 22 new ≡ take 22 old
-take-stepped {old} {new} {value} {j} s =
-    let head : length (take 22 old) ≡ 22 = simp length-take (omega (arith, s.old_long)) in
-    ap (take 22) (stepped-is s) ∙ take_at (take 22 old) (j ∷ value) 22 head
+head-long : {old new value : List ℕ} → IsFilled old new value → length (take 23 old) ≡ 23
+head-long f = simp length-take (omega (arith, f.old_long))
+
+pub take-filled : {old new value : List ℕ} → IsFilled old new value → take 22 new ≡ take 22 old
+take-filled {old} {new} {value} f =
+    let inside : 22 ≤ length (take 23 old) = omega (arith, head-long f) in
+    ap (take 22) (filled-is f) ∙ take-append-le 22 (take 23 old) value inside ∙ take-take 22 23 old (omega arith)
+
+pub drop-filled : {old new value : List ℕ} → IsFilled old new value → drop 23 new ≡ value
+drop-filled {old} {new} {value} f =
+    ap (drop 23) (filled-is f) ∙ drop_at (take 23 old) value 23 (head-long f)
+
+-- what is hashed where byte 22 is j
+pub stepping-is : (bytes : List ℕ) (j : ℕ) → length bytes ≡ 55 → set bytes 22 j ≡ take 22 bytes ++ j ∷ drop 23 bytes
+stepping-is bytes j long = set_split bytes 22 j (omega (arith, long))
 
 -- the first two parts of a signature: 4 bytes and 32
 pub head_written : (kind randomizer first second : List ℕ) → length kind ≡ 4 → length randomizer ≡ 32

@@ -122,9 +122,10 @@ fn message_hash(id: &[u8; 16], q: u32, c: &[u8], message: &[u8]) -> [u8; 32]
 fn public_end(kind: OtsKind, id: &[u8; 16], q: u32, seed: &[u8; 32], index: u16) -> [u8; 32]
     ensures { result ≡ public_end kind id.now q seed.now index }
 {
-    let mut chain = Chain::new(id, q, index);
-    let secret = chain.step(0xff, seed);
-    chain.walk(0, kind.greatest_digit(), secret)
+    let mut chain = Chain::new(id, q, index, seed);
+    chain.step(0xff);
+    chain.walk(0, kind.greatest_digit());
+    chain.value()
 }
 
 // The value of a chain in a signature.
@@ -141,9 +142,10 @@ fn signature_value(
     ensures { result ≡ chain (hash_prefix id.now q index) 0 (coef digits.now index (width kind))
         (secret id.now q seed.now index) }
 {
-    let mut chain = Chain::new(id, q, index);
-    let secret = chain.step(0xff, seed);
-    chain.walk(0, digit(kind, digits, usize::from(index)), secret)
+    let mut chain = Chain::new(id, q, index, seed);
+    chain.step(0xff);
+    chain.walk(0, digit(kind, digits, usize::from(index)));
+    chain.value()
 }
 
 // The end of a chain, from its value in a signature.
@@ -160,10 +162,12 @@ fn candidate_end(
     ensures { let first = coef digits.now index (width kind) in
         result ≡ chain (hash_prefix id.now q index) first (greatest_digit kind - first) value.now }
 {
-    let mut start = [0; 32];
-    start.copy_from_slice(value);
-    let first = digit(kind, digits, usize::from(index));
-    Chain::new(id, q, index).walk(first, kind.greatest_digit(), start)
+    let mut chain = Chain::new(id, q, index, value);
+    chain.walk(
+        digit(kind, digits, usize::from(index)),
+        kind.greatest_digit(),
+    );
+    chain.value()
 }
 
 // The public hash to which a signature of the kind's length and type opens.
