@@ -44,6 +44,8 @@ struct Bound {
     datagram: Vec<u8>,
     /// The reading of the clock at which the socket was emptied last.
     emptied: u64,
+    /// How many milliseconds a read of the socket waits, 0 where that was not set.
+    timeout: u64,
 }
 
 /// A UDP socket of 127.0.0.1. Its content is not modelled. Before a `bind` that was `Done` the other calls fail. A receive
@@ -96,6 +98,7 @@ fn bind_at<R: Net>(alloc: Global, net: &R, port: u16) -> Result<Bound, BindFault
             queues,
             datagram,
             emptied: 0,
+            timeout: 0,
         }),
         Err(_) => Err(BindFault::Socket),
     }
@@ -134,10 +137,19 @@ impl Bound {
         Ok(())
     }
 
+    /// A read of the socket waits for so many milliseconds.
+    fn set_timeout(&mut self, millis: u64) -> io::Result<()> {
+        if millis != self.timeout {
+            self.socket
+                .set_read_timeout(Some(Duration::from_millis(millis)))?;
+            self.timeout = millis;
+        }
+        Ok(())
+    }
+
     /// Waits for a datagram for so many milliseconds.
     fn wait(&mut self, millis: u64) -> io::Result<()> {
-        self.socket
-            .set_read_timeout(Some(Duration::from_millis(millis)))?;
+        self.set_timeout(millis)?;
         self.socket.set_nonblocking(false)?;
         let came = self.take_in();
         self.socket.set_nonblocking(true)?;
@@ -184,6 +196,10 @@ fn receive<C: Clock>(bound: &mut Bound, clock: &mut C, buf: &mut [u8]) -> io::Re
         }
         bound.wait(PATIENCE - waited)?;
         now = clock.now();
+        // What came may be handed on before another look, which the next receive takes.
+        if let Some(count) = bound.queues.next(now, buf) {
+            return Ok(Some(count));
+        }
     }
     Ok(None)
 }
