@@ -1,6 +1,6 @@
 //! The queues of a link, and whose turn it is.
 
-ghost use Rattle.std.specs.Prelude.{◌≡◌, ◌<◌, ◌≤◌, min, length, replicate, IfOk, IfSome};
+ghost use Rattle.std.specs.Prelude.{◌≡◌, ◌%◌, ◌<◌, ◌≤◌, min, length, replicate, IfOk, IfSome};
 ghost use Rattle.std.specs.Option.{option_map};
 ghost use Rattle.link_queues.specs.Waiting.{filled};
 ghost use Rattle.link_queues.specs.Queues.{after_handing, empty_queue, expecting, handed_on, is_due, lost_after, next_due, nothing_yet, put, ready_after};
@@ -64,6 +64,18 @@ fn empty_queues(alloc: Global, count: usize, sizes: &Sizes) -> Result<Vec<Queue>
         queues.push_reserved(Queue::new(alloc, sizes.slots, sizes.room)?);
     }
     Ok(queues)
+}
+
+/// The remainder of a place that is less than twice the count, in most calls without a division.
+fn wrapped(place: usize, count: usize) -> usize
+    requires { 0 < count }
+    ensures { result ≡ place % count }
+{
+    if place < count {
+        return place;
+    }
+    let past = place - count;
+    if past < count { past } else { past % count }
 }
 
 impl Queues {
@@ -136,7 +148,7 @@ impl Queues {
     {
         let count = self.expected.len() + 1;
         for step in 0..count {
-            let place = (self.last + 1 + step) % count;
+            let place = wrapped(self.last + 1 + step, count);
             if self.is_due(now, place) {
                 return Some(place);
             }

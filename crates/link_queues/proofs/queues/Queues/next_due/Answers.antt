@@ -9,4 +9,5 @@ loop-step-preserved c =
     let count : ℕ = c.len-count.result + 1 in
     let step : ℕ = c.loop-step.step in
     let here = ap (λ k. is_due c.args.now s ((k + 1 + step) % count)) (sym (ap (λ q. q.last) c.self.view_is)) in
-    c.loop-step.invariant ∙ due-later c.args.now s count step c.loop-step-test.true (here ∙ sym c.is_due.ensures ∙ c.if-is_due.false)
+    let there = ap (λ k. is_due c.args.now s k) (sym c.wrapped-place.ensures) in
+    c.loop-step.invariant ∙ due-later c.args.now s count step c.loop-step-test.true (here ∙ there ∙ sym c.is_due.ensures ∙ c.if-is_due.false)
