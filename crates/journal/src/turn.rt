@@ -9,6 +9,7 @@ ghost use Rattle.journal.specs.Turns.{FindsTurn, GivesTurn, HeardTakesMemory, Is
 use crate::fault::EventFault;
 use crate::hex_word::{HexWord, digits_or_dash};
 use crate::words::{Misread, Words, end, literal, number};
+use crate::writing::{ROOM, room_of_digits};
 use fields::{Bytes, NoMemory};
 use life_events::{add_of_digits, add_of_number, write_bytes};
 use std::alloc::Global;
@@ -208,11 +209,20 @@ fn add_turn(turn: &Turn, out: &mut Vec<u8>) -> Result<(), NoMemory>
     Ok(())
 }
 
+/// As many bytes as a turn's line has at most, and its line feed.
+fn room_of(heard: &Heard) -> usize {
+    match heard {
+        Heard::Got(bytes) => room_of_digits(bytes.as_slice()),
+        Heard::Nothing | Heard::Failed => ROOM,
+    }
+}
+
 /// Adds the turn's line, as `turn 3 nothing ticks 2`, without a line feed. Where memory is refused, `out` is as it was.
 pub fn write_turn(turn: &Turn, out: &mut Vec<u8>) -> Result<(), NoMemory>
     ensures ok { OnOk result (out.new.items ≡ out.old.items ++ turn_text turn.now) }
     ensures refused { OnErr result (out.new.items ≡ out.old.items) }
 {
+    out.reserve(room_of(&turn.heard))?;
     let held = out.len();
     let written = add_turn(turn, out);
     if written.is_err() {

@@ -13,6 +13,14 @@ use life_events::{
 };
 use records::{Body, CertBody};
 
+/// Room for most lines without digits of bytes, taken at once so that a line grows in one step.
+pub(crate) const ROOM: usize = 64;
+
+/// Room for a line with the digits of these bytes.
+pub(crate) fn room_of_digits(bytes: &[u8]) -> usize {
+    bytes.len().saturating_mul(2).saturating_add(ROOM)
+}
+
 /// Adds a certificate. Where memory is refused, `out` begins with what it held.
 #[tactic(auto, using(life_events::proofs::TextLemmas::begins, life_events::proofs::TextLemmas::begins_so, life_events::proofs::TextLemmas::begins_on, life_events::proofs::TextLemmas::begins_then))]
 fn add_certificate(certificate: &CertBody, out: &mut Vec<u8>) -> Result<(), NoMemory>
@@ -204,6 +212,7 @@ pub fn write_event(event: &Event, out: &mut Vec<u8>) -> Result<(), NoMemory>
     ensures ok { OnOk result (out.new.items ≡ out.old.items ++ event_text event.now) }
     ensures refused { OnErr result (out.new.items ≡ out.old.items) }
 {
+    out.reserve(ROOM)?;
     let held = out.len();
     let written = add_event(event, out);
     if written.is_err() {
@@ -244,6 +253,7 @@ pub fn write_sent(
         (record { moment = moment; what = kinds.Sent number to bytes.now })) }
     ensures refused { OnErr result (out.new.items ≡ out.old.items) }
 {
+    out.reserve(room_of_digits(bytes))?;
     let held = out.len();
     let written = add_sent_event(moment, number, to, bytes, out);
     if written.is_err() {
