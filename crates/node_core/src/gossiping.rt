@@ -76,7 +76,7 @@ impl Node {
             nonce,
         };
         match bytes_of(alloc, &ping) {
-            Ok(bytes) => self.send(alloc, &bytes, to),
+            Ok(bytes) => self.send(alloc, bytes, to),
             Err(_) => self.telling.fail(),
         }
     }

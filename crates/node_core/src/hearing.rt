@@ -95,7 +95,7 @@ impl Node {
             nonce,
         };
         match bytes_of(alloc, &pong) {
-            Ok(bytes) => self.send(alloc, &bytes, to),
+            Ok(bytes) => self.send(alloc, bytes, to),
             Err(_) => self.telling.fail(),
         }
     }
@@ -170,7 +170,7 @@ impl Node {
         ensures signs_nothing { SignsNothing self.old self.new }
     {
         match lacking_bytes(alloc, &self.records, self.me, theirs) {
-            Ok(Some(bytes)) => self.send(alloc, &bytes, to),
+            Ok(Some(bytes)) => self.send(alloc, bytes, to),
             Ok(None) => {}
             Err(_) => self.telling.fail(),
         }
@@ -201,7 +201,7 @@ impl Node {
         ensures signs_nothing { SignsNothing self.old self.new }
     {
         match page_bytes(alloc, &self.records, self.me, flag, page) {
-            Ok(bytes) => self.send(alloc, &bytes, to),
+            Ok(bytes) => self.send(alloc, bytes, to),
             Err(_) => self.telling.fail(),
         }
     }

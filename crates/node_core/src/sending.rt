@@ -77,7 +77,19 @@ fn is_listed(listed: &[Option<MemberId>], member: MemberId) -> bool
 
 impl Node {
     /// Sends the datagram to the member.
-    pub(crate) fn send(&mut self, alloc: Global, bytes: &[u8], to: MemberId)
+    pub(crate) fn send(&mut self, alloc: Global, bytes: Vec<u8>, to: MemberId)
+        ensures plays { (s : Setting) (es : List journal.Event) (os : List (ℕ × List ℕ)) (c : Call)
+            (d : Sending) → Plays s es os self.old c
+            → bytes.items ≡ datagram_bytes d → Plays s es os self.new (sends s d c to) }
+        ensures grows { Grows self.old self.new }
+        ensures signs_nothing { SignsNothing self.old self.new }
+        ensures frame { self.new ≡ record self.old { telling = self.new.telling } }
+    {
+        self.telling.send(alloc, self.membership.now(), bytes, to);
+    }
+
+    /// Sends a copy of the datagram to the member.
+    fn send_copy(&mut self, alloc: Global, bytes: &[u8], to: MemberId)
         ensures plays { (s : Setting) (es : List journal.Event) (os : List (ℕ × List ℕ)) (c : Call)
             (d : Sending) → Plays s es os self.old c
             → bytes.now ≡ datagram_bytes d → Plays s es os self.new (sends s d c to) }
@@ -85,7 +97,10 @@ impl Node {
         ensures signs_nothing { SignsNothing self.old self.new }
         ensures frame { self.new ≡ record self.old { telling = self.new.telling } }
     {
-        self.telling.send(alloc, self.membership.now(), bytes, to);
+        match Vec::from_slice(alloc, bytes) {
+            Ok(copy) => self.send(alloc, copy, to),
+            Err(_) => self.telling.fail(),
+        }
     }
 
     /// Sends the datagram to the member, if it is listed.
@@ -106,7 +121,7 @@ impl Node {
         ensures frame { self.new ≡ record self.old { telling = self.new.telling } }
     {
         if is_listed(listed, to) {
-            self.send(alloc, bytes, to);
+            self.send_copy(alloc, bytes, to);
         }
     }
 

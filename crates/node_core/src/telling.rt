@@ -137,33 +137,32 @@ impl CallOutput {
         &mut self,
         alloc: Global,
         moment: u64,
-        bytes: &[u8],
+        bytes: Vec<u8>,
         to: MemberId,
     ) -> Result<(), NoMemory>
-        ensures sent { OnOk result (self.new ≡ with_sent moment bytes.now to self.old) }
+        ensures sent { OnOk result (self.new ≡ with_sent moment bytes.items to self.old) }
         ensures events { IsPrefix self.old.events self.new.events }
         ensures front { IsPrefix self.old.sent self.new.sent }
         ensures events_due { IsPrefix self.new.events
-            (with_sent moment bytes.now to self.old).events }
-        ensures sent_due { IsPrefix self.new.sent (with_sent moment bytes.now to self.old).sent }
+            (with_sent moment bytes.items to self.old).events }
+        ensures sent_due { IsPrefix self.new.sent (with_sent moment bytes.items to self.old).sent }
         ensures before { self.new.before ≡ self.old.before }
         ensures failed { self.new.failed ≡ self.old.failed }
     {
-        let told = Bytes::from_vec(bytes.to_vec(alloc)?);
-        let kept = Bytes::from_vec(bytes.to_vec(alloc)?);
+        let told = Bytes::from_vec(Vec::from_slice(alloc, &bytes)?);
         let what = What::Sent {
             number: (self.sent.len() - self.before) as u64,
             to,
             bytes: told,
         };
         self.events.push(Event { moment, what })?;
-        self.sent.push((to, kept))?;
+        self.sent.push((to, Bytes::from_vec(bytes)))?;
         Ok(())
     }
 
-    /// Adds the datagram, and the event that it went to the member.
-    pub fn send(&mut self, alloc: Global, moment: u64, bytes: &[u8], to: MemberId)
-        ensures { Adds (with_sent moment bytes.now to) self.old self.new }
+    /// Adds the datagram, and the event that it went to the member. Its bytes are copied once: for the event.
+    pub fn send(&mut self, alloc: Global, moment: u64, bytes: Vec<u8>, to: MemberId)
+        ensures { Adds (with_sent moment bytes.items to) self.old self.new }
     {
         if self.failed {
             return;

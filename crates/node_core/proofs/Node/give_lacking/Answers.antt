@@ -1,4 +1,4 @@
-use Rattle.std.proofs.Common.{subst, sym, ◌∙◌}
+use Rattle.std.proofs.Common.{subst, sym}
 use Rattle.node_rules.specs.Pages.{lacking}
 use Rattle.node_rules.specs.Deliveries.{gives}
 use Rattle.node_core.specs.Exchanging.{IsLacking}
@@ -15,7 +15,7 @@ returns-in-Ok-Some-clause-plays c = λ s es os call p.
     let p0 = subst (λ v. Plays s es os v call) (sym c.self.view_is) p in
     let given = subst (λ o. IsLacking c.self.inside.me c.self.inside.records c.args.theirs.now o) c.in-Ok-Some.field-0-is c.in-Ok-Some.ensures in
     given-at s es os v c.send.new.self call c.args.to c.args.theirs.now c.in-Ok-Some.bytes.items p0 (subst (λ (w : Kept). Grows w c.send.new.self) (sym c.self.view_is) c.send.ensures.grows) given
-    (λ d e. c.send.ensures.plays s es os call d p (c.deref.ensures.value ∙ e))
+    (λ d e. c.send.ensures.plays s es os call d p e)
 
 pub returns-in-Ok-None-clause-plays : goal.returns-in-Ok-None-clause-plays
 returns-in-Ok-None-clause-plays c = λ s es os call p.

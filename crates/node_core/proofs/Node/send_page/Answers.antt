@@ -1,4 +1,4 @@
-use Rattle.std.proofs.Common.{subst, sym, ◌∙◌}
+use Rattle.std.proofs.Common.{subst, sym}
 use Rattle.node_core.specs.Playing.{Kept, Plays, Grows}
 use Rattle.node_core.specs.contracts.Node.{the_view}
 use Rattle.node_core.proofs.ExchangeLemmas.{page-at}
@@ -15,7 +15,7 @@ returns-in-Ok-clause-plays c = λ s es os call p.
     let v : Kept = the_view c.self.inside in
     let p0 = subst (λ v. Plays s es os v call) (sym c.self.view_is) p in
     page-at s es os v c.send.new.self call c.args.to c.args.flag c.args.page c.in-Ok.bytes.items p0 (subst (λ (w : Kept). Grows w c.send.new.self) (sym c.self.view_is) c.send.ensures.grows) c.in-Ok.ensures
-    (λ d e. c.send.ensures.plays s es os call d p (c.deref.ensures.value ∙ e))
+    (λ d e. c.send.ensures.plays s es os call d p e)
 
 pub returns-in-Err-clause-plays : goal.returns-in-Err-clause-plays
 returns-in-Err-clause-plays c = λ s es os call p.
