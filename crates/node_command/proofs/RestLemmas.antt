@@ -22,6 +22,7 @@ use Rattle.node_core.specs.Begins.{IsVouchable}
 use Rattle.node_core.specs.Rolls.{recs_of}
 use Rattle.journal.specs.declared.event.What.TheVariants as happened
 use Rattle.node_rules.proofs.OwnKey.{key-started}
+use Rattle.node_rules.proofs.SentRecords.{sent-authentic}
 use Rattle.node_command.specs.declared.halt.NodeHalt.{NodeHalt}
 use Rattle.node_command.specs.declared.halt.NodeHalt.TheVariants as halt
 use Rattle.node_command.specs.declared.kit.Member.{Member}
@@ -48,6 +49,7 @@ founded m stored feed v =
       sign = v.signatures;
       vouched = key-started (setting_for m) (public_of m.own.key) seed recs stored v.kit.all v.kit.own v.certified v.left;
       unaccused = start-unaccused (setting_for m) seed recs stored v.kit.all;
+      upright = record { sends = λ inputs i fails_at. sent-authentic (setting_for m) (public_of m.own.key) seed recs stored inputs i fails_at v.rings.some v.kit v.certified v.signatures v.left };
     }
 
 tells-start : (m : Member) (stored : Stored) (feed : NetInputs) → TellsOf (setting_for m) (first_of m stored feed) (acts_of m feed) (start_of m stored).told

@@ -1,8 +1,8 @@
--- What a call reports of the datagrams that it sends.
+-- What a call reports of the datagrams that it sends, and that their records verify.
 use Rattle.std.proofs.Common.{◌≡◌, ℕ, ◌+◌, true, List, [], ◌∷◌, ◌++◌, map, Option, Some, None, inl, inr, refl, ap, sym, ◌∙◌, subst}
 use Rattle.ff_ids.specs.declared.NoteBody.{NoteBody}
 use Rattle.records.specs.declared.Body.TheVariants.{Note}
-use Rattle.life_laws.proofs.Lists.{Contains-from_In, In, In-filter}
+use Rattle.life_laws.proofs.Lists.{All-at, Contains-from_In, In, In-filter}
 use Rattle.trace.proofs.JustifiedLemmas.{in-map}
 use Rattle.journal.specs.declared.event.Event as journal
 use Rattle.journal.specs.declared.event.What as whats
@@ -10,7 +10,8 @@ use Rattle.journal.specs.declared.event.What.TheVariants as told
 use Rattle.node_rules.specs.Nodes.{Setting, Node}
 use Rattle.node_rules.specs.Calls.{Call}
 use Rattle.node_rules.specs.OnDisks.{IsCut, called}
-use Rattle.node_rules.specs.Lives.{Input, call_of}
+use Rattle.node_rules.specs.Lives.{Input, after_calls, call_of}
+use Rattle.node_rules.specs.Vouching.{IsOfAuthentic, SendsAuthentic}
 use Rattle.node_rules.specs.Sending.{TellsSendings, is_sent, sendings}
 use Rattle.node_rules.specs.Verdicts.{told_that}
 use Rattle.node_rules.proofs.Sendings.{called-sendings}
@@ -19,6 +20,7 @@ use Rattle.node_loop.specs.Turns.{Act, Calls}
 use Rattle.node_loop.specs.Courses.{ServeState}
 use Rattle.node_command.specs.Removals.{node_behind}
 use Rattle.node_command.specs.Sendings.{Sends}
+use Rattle.node_command.proofs.OriginLemmas.{node-served}
 use Rattle.node_command.proofs.RemovalLemmas.{IsOfNoStart}
 use Rattle.node_command.proofs.ReplyLemmas.{none-in-report}
 
@@ -44,10 +46,27 @@ sent-in c moment place to bytes tells i =
 
 -- ## A course
 
-sends-by : (s : Setting) (start : ServeState) (acts before behind : List Act) (i : Input) (fails_at : Option ℕ) (moment place to : ℕ) (bytes : List ℕ) → acts ≡ before ++ Calls i ∷ behind
+-- Whatever calls the node answers next, each record that it sends verifies.
+pub record IsUpright (s : Setting) (n : Node) : Type 0 where
+  pub sends : (inputs : List Input) (i : Input) (fails_at : Option ℕ) → SendsAuthentic s (called s (after_calls s n inputs) i fails_at)
+
+-- a call keeps this, and so does a course
+upright-called : (s : Setting) (n : Node) (i : Input) → IsUpright s n → IsUpright s (call_of s n i).node
+upright-called s n i h = record { sends = λ inputs next fails_at. h.sends (i ∷ inputs) next fails_at }
+
+upright-behind : (s : Setting) (start : ServeState) (before : List Act) → IsUpright s start.node → IsUpright s (node_behind s start before)
+upright-behind s start before h = node-served s (IsUpright s) (upright-called s) before start h
+
+-- what such a node sends
+upright-sends : (s : Setting) (n : Node) (i : Input) (fails_at : Option ℕ) (to : ℕ) (bytes : List ℕ) → IsUpright s n → In (called s n i fails_at).sent (to, bytes) → IsOfAuthentic s (called s n i fails_at).node bytes
+upright-sends s n i fails_at to bytes h among =
+    All-at (λ (d : ℕ × List ℕ). IsOfAuthentic s (called s n i fails_at).node d.1) (called s n i fails_at).sent (to, bytes) (h.sends [] i fails_at) among
+
+sends-by : (s : Setting) (start : ServeState) (acts before behind : List Act) (i : Input) (fails_at : Option ℕ) (moment place to : ℕ) (bytes : List ℕ) → IsUpright s start.node → acts ≡ before ++ Calls i ∷ behind
     → In (called s (node_behind s start before) i fails_at).told (sent_event moment place to bytes) → Sends s start acts moment to bytes
-sends-by s start acts before behind i fails_at moment place to bytes split among =
+sends-by s start acts before behind i fails_at moment place to bytes upright split among =
     let c : Call = called s (node_behind s start before) i fails_at in
+    let out = sent-in c moment place to bytes (called-sendings s (node_behind s start before) i fails_at) among in
     record {
       before = before;
       input = i;
@@ -56,21 +75,22 @@ sends-by s start acts before behind i fails_at moment place to bytes split among
       fails_at = fails_at;
       place = place;
       sent = Contains-from_In c.told (sent_event moment place to bytes) among;
-      goes_out = Contains-from_In c.sent (to, bytes) (sent-in c moment place to bytes (called-sendings s (node_behind s start before) i fails_at) among);
+      goes_out = Contains-from_In c.sent (to, bytes) out;
+      authentic = upright-sends s (node_behind s start before) i fails_at to bytes (upright-behind s start before upright) out;
     }
 
 -- what a call among the acts reports as sent is sent
-pub sends : (s : Setting) (start : ServeState) (acts before behind : List Act) (i : Input) (moment place to : ℕ) (bytes : List ℕ) → acts ≡ before ++ Calls i ∷ behind
+pub sends : (s : Setting) (start : ServeState) (acts before behind : List Act) (i : Input) (moment place to : ℕ) (bytes : List ℕ) → IsUpright s start.node → acts ≡ before ++ Calls i ∷ behind
     → In (call_of s (node_behind s start before) i).told (sent_event moment place to bytes) → Sends s start acts moment to bytes
-sends s start acts before behind i moment place to bytes split among =
+sends s start acts before behind i moment place to bytes upright split among =
     let n = node_behind s start before in
-    sends-by s start acts before behind i None moment place to bytes split (subst (λ (c : Call). In c.told (sent_event moment place to bytes)) (sym (whole-calls s n i).whole) among)
+    sends-by s start acts before behind i None moment place to bytes upright split (subst (λ (c : Call). In c.told (sent_event moment place to bytes)) (sym (whole-calls s n i).whole) among)
 
 -- and so is what one sends in which the disk fails
-pub cut-sends : (s : Setting) (start : ServeState) (acts before behind : List Act) (i : Input) (c : Call) (moment place to : ℕ) (bytes : List ℕ) → acts ≡ before ++ Calls i ∷ behind
+pub cut-sends : (s : Setting) (start : ServeState) (acts before behind : List Act) (i : Input) (c : Call) (moment place to : ℕ) (bytes : List ℕ) → IsUpright s start.node → acts ≡ before ++ Calls i ∷ behind
     → IsCut s (node_behind s start before) i c → In c.told (sent_event moment place to bytes) → Sends s start acts moment to bytes
-cut-sends s start acts before behind i c moment place to bytes split cut among =
-    sends-by s start acts before behind i (Some cut.put) moment place to bytes split (subst (λ (x : Call). In x.told (sent_event moment place to bytes)) cut.is among)
+cut-sends s start acts before behind i c moment place to bytes upright split cut among =
+    sends-by s start acts before behind i (Some cut.put) moment place to bytes upright split (subst (λ (x : Call). In x.told (sent_event moment place to bytes)) cut.is among)
 
 -- ## The start
 

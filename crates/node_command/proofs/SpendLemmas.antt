@@ -36,7 +36,7 @@ use Rattle.node_command.specs.Halts.{IsServed, halt_of, halt_served}
 use Rattle.node_command.specs.Journal.{end_line}
 use Rattle.node_command.specs.Members.{IsMember, kit_judging, tag_of}
 use Rattle.node_command.specs.Opening.{Begins, Ends, EndsFronts, IsBegun, IsFound, IsUnstarted, start_of}
-use Rattle.node_command.specs.Spendings.{IsSpentFrom, LifeSpends, MayFindNone, Spends, SpendsBehind, SpendsFrom, SpendsNothing, WritesJournal, is_unbound}
+use Rattle.node_command.specs.Spendings.{IsSpentFrom, LifeSpends, MayFindNone, Spends, SpendsBehind, SpendsFrom, SpendsNone, SpendsNothing, WritesJournal, is_unbound}
 use Rattle.node_command.proofs.RestLemmas.{silent-unread}
 use Rattle.node_command.proofs.RunLemmas.{spent-from}
 
@@ -146,15 +146,21 @@ begun-spends m stored node events before after old mid new i j result b l =
       link = l.link;
     }
 
+-- the disk is as it was
+none-spends : (was now : Option (List ℕ)) (disk : OfDisk) → Appends was now [] → SpendsNone was now disk disk
+none-spends was now disk unwritten = record { unwritten = unwritten; any_moment = λ tag image spent ends. Since-same (EndsLives tag image spent) disk.moments; ends = λ tag image spent ends. ends }
+
 pub same-spends : (taken : Option (List ℕ)) (disk : OfDisk) (i j : ℕ) (result : Answer) → j ≡ counted (is_unbound result) i → SpendsNothing taken taken disk disk i j result
-same-spends taken disk i j result link = record { unwritten = Appends-nil taken; link = link; any_moment = λ tag image spent ends. Since-same (EndsLives tag image spent) disk.moments; ends = λ tag image spent ends. ends }
+same-spends taken disk i j result link = record { none = none-spends taken taken disk (Appends-nil taken); link = link }
 
 failed-spends : (taken : Option (List ℕ)) (old new : OfDisk) (i : ℕ) (result : Answer) → is_unbound result ≡ false → Fails stays old.moments new.moments → SpendsNothing taken taken old new i i result
 failed-spends taken old new i result bound fails = record {
-  unwritten = Appends-nil taken;
+  none = record {
+    unwritten = Appends-nil taken;
+    any_moment = λ tag image spent ends. (kept_by_opening tag image spent old.moments new.moments ends fails).0;
+    ends = λ tag image spent ends. (kept_by_opening tag image spent old.moments new.moments ends fails).1;
+  };
   link = sym (ap (λ (b : Bool). counted b i) bound);
-  any_moment = λ tag image spent ends. (kept_by_opening tag image spent old.moments new.moments ends fails).0;
-  ends = λ tag image spent ends. (kept_by_opening tag image spent old.moments new.moments ends fails).1;
 }
 
 -- nothing was spent of a store that was found
@@ -211,7 +217,7 @@ read-spends was between now m old new i j result read h =
     elim h [
       | inl none ↦
           let nothing = none.1 in
-          inl (none.0, record { unwritten = behind-text was.taken between.taken now.taken [] read.whole.wrote nothing.unwritten; any_moment = nothing.any_moment; ends = nothing.ends; link = nothing.link })
+          inl (none.0, record { none = record { unwritten = behind-text was.taken between.taken now.taken [] read.whole.wrote nothing.none.unwritten; any_moment = nothing.none.any_moment; ends = nothing.none.ends }; link = nothing.link })
       | inr some ↦ inr (record {
         member = m;
         between = between;
@@ -246,9 +252,9 @@ bound-still stop.OutOfMemory = refl
 
 pub cut-spends : (was now : IoState) (disk : OfDisk) (count : ℕ) (s : Stop BadWord) → IsUnfinished kit_judging kit.Start was now s → Spends was now disk disk count count (Err (halt_of s))
 cut-spends was now disk count s h =
-    inl (may-cut was now s h, record { unwritten = silent-unread kit_judging kit.Start was now s h; link = sym (ap (λ (b : Bool). counted b count) (bound-still s)); any_moment = λ tag image spent ends. Since-same (EndsLives tag image spent) disk.moments; ends = λ tag image spent ends. ends })
+    inl (may-cut was now s h, record { none = none-spends was.taken now.taken disk (silent-unread kit_judging kit.Start was now s h); link = sym (ap (λ (b : Bool). counted b count) (bound-still s)) })
 
 -- memory was refused for what it sets up
 pub ungathered-spends : (was now : IoState) (lines : List KitLine) (disk : OfDisk) (count : ℕ) → IsWhole kit_judging kit.Start was now lines → Spends was now disk disk count count (Err halt.OutOfMemory)
 ungathered-spends was now lines disk count h =
-    inl (tt, record { unwritten = h.wrote; link = refl; any_moment = λ tag image spent ends. Since-same (EndsLives tag image spent) disk.moments; ends = λ tag image spent ends. ends })
+    inl (tt, record { none = none-spends was.taken now.taken disk h.wrote; link = refl })

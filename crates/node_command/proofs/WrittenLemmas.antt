@@ -45,7 +45,7 @@ use Rattle.node_command.proofs.LineLemmas.{AreLines, accepted-event, expiry-even
 use Rattle.node_command.proofs.OriginLemmas.{acts-behind}
 use Rattle.node_command.proofs.RemovalLemmas.{TellsNow, called-told, cut-told, removal, removal-of-ticks, removes, ticks-away}
 use Rattle.node_command.proofs.ReplyLemmas.{accepts, called-taken, cut-taken, expires, expiry, expiry-of-ticks}
-use Rattle.node_command.proofs.SentLemmas.{cut-sends, sends}
+use Rattle.node_command.proofs.SentLemmas.{IsUpright, cut-sends, sends}
 use Rattle.node_command.proofs.SignedLemmas.{called-signed, cut-signed, signs}
 
 -- ## The lines of events
@@ -167,6 +167,7 @@ pub record IsFounded (s : Setting) (own : PublicKey) (start : ServeState) : Type
   pub sign : OwnSignaturesVerify s own
   pub vouched : KeepsKey s own start.node
   pub unaccused : (place : ℕ) (a : AccBody) → slice_get start.node.lived place ≡ Some (Accuses a) → ⊥
+  pub upright : IsUpright s start.node
 
 removes-now : (s : Setting) (own : PublicKey) (start : ServeState) (acts done later : List Act) (i : Input) (at m : ℕ) → IsFounded s own start → acts ≡ done ++ Calls i ∷ later → TellsNow s (node_behind s start done) i (removal at m) → Removes s start acts at m
 removes-now s own start acts done later i at m f split now =
@@ -180,7 +181,7 @@ called-of s own start acts done later i f split at (told.Removed m) among = remo
 called-of s own start acts done later i f split at (told.Expired a) among = expires-now s start acts done later i at a split (called-told s (node_behind s start done) i (expiry at a) (expiry-of-ticks at a) among)
 called-of s own start acts done later i f split at (told.Took body None) among = accepts s start acts done later i at body split (called-taken s (node_behind s start done) i at body among)
 called-of s own start acts done later i f split at (told.Spent index (Accusation a)) among = signs s start acts done later i at index a split (called-signed s (node_behind s start done) i at index a among)
-called-of s own start acts done later i f split at (told.Sent place to bytes) among = sends s start acts done later i at place to bytes split among
+called-of s own start acts done later i f split at (told.Sent place to bytes) among = sends s start acts done later i at place to bytes f.upright split among
 called-of s own start acts done later i f split at _ among = tt
 
 cut-of : (s : Setting) (own : PublicKey) (start : ServeState) (acts done later : List Act) (i : Input) (c : Call) → IsFounded s own start → acts ≡ done ++ Calls i ∷ later → IsCut s (node_behind s start done) i c → TellsOf s start acts c.told
@@ -188,7 +189,7 @@ cut-of s own start acts done later i c f split cut at (told.Removed m) among = r
 cut-of s own start acts done later i c f split cut at (told.Expired a) among = expires-now s start acts done later i at a split (cut-told s (node_behind s start done) i c (expiry at a) (expiry-of-ticks at a) cut among)
 cut-of s own start acts done later i c f split cut at (told.Took body None) among = accepts s start acts done later i at body split (cut-taken s (node_behind s start done) i c at body cut among)
 cut-of s own start acts done later i c f split cut at (told.Spent index (Accusation a)) among = signs s start acts done later i at index a split (cut-signed s (node_behind s start done) i c at index a cut among)
-cut-of s own start acts done later i c f split cut at (told.Sent place to bytes) among = cut-sends s start acts done later i c at place to bytes split cut among
+cut-of s own start acts done later i c f split cut at (told.Sent place to bytes) among = cut-sends s start acts done later i c at place to bytes f.upright split cut among
 cut-of s own start acts done later i c f split cut at _ among = tt
 
 lines-act : (s : Setting) (own : PublicKey) (start : ServeState) (acts done later : List Act) (act : Act) → IsFounded s own start → acts ≡ done ++ act ∷ later → IsOfTurn act → AreLines (Gives s start acts) (served s done start).text

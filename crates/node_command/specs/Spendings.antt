@@ -90,16 +90,19 @@ abbrev pub is_unbound : Result (Unit {0}) NodeHalt → Bool
 is_unbound (Err halt.LinkFault) = true
 is_unbound other = false
 
--- Nothing was written, and nothing of any key spent: each crash ends lives as before, now and at each moment between. The link
--- failed where the port could not be bound, and nowhere else.
-pub record SpendsNothing (before after : Option (List ℕ)) (old new : OfDisk) (count faults : ℕ)
-    (result : Result (Unit {0}) NodeHalt) : Type 0 where
+-- Nothing was written, and nothing of any key spent: each crash ends lives as before, now and at each moment between.
+pub record SpendsNone (before after : Option (List ℕ)) (old new : OfDisk) : Type 0 where
   pub unwritten : Appends before after []
-  pub link : faults ≡ counted (is_unbound result) count
   pub any_moment : (tag image : List ℕ) (spent : List Spent) → EndsNow tag image spent old.moments
       → Since (EndsLives tag image spent) old.moments new.moments
   pub ends : (tag image : List ℕ) (spent : List Spent) → EndsNow tag image spent old.moments
       → EndsNow tag image spent new.moments
+
+-- Nothing was written or spent, and the link failed where the port could not be bound, and nowhere else.
+pub record SpendsNothing (before after : Option (List ℕ)) (old new : OfDisk) (count faults : ℕ)
+    (result : Result (Unit {0}) NodeHalt) : Type 0 where
+  pub none : SpendsNone before after old new
+  pub link : faults ≡ counted (is_unbound result) count
 
 -- A run may end so without a store of its key: the text was cut off, the port not bound, the store not opened or broken, or memory
 -- was refused.
