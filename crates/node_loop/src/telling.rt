@@ -1,6 +1,6 @@
 //! What a call reported is written, line by line, and each of its datagrams is sent behind its line.
 
-ghost use Rattle.std.specs.Prelude.{◌≡◌, ◌≢◌, true, All, List, [], Some, None, MatchOption, IfErr, unwrap_or};
+ghost use Rattle.std.specs.Prelude.{◌≡◌, ◌≢◌, true, All, List, [], Some, None, MatchOption, IfErr, IfOk, unwrap_or};
 ghost use Rattle.std.specs.Option.{option_map};
 ghost use Rattle.ports.specs.Count.{counted};
 ghost use Rattle.ports.specs.Disk.{Moment};
@@ -8,12 +8,13 @@ ghost use Rattle.node_core.specs.Spending.{spent_by, spent_told};
 ghost use Rattle.node_core.specs.Told.{IsNoLoss};
 ghost use Rattle.validate.specs.Certified.{certificate_of as kept_certificate};
 ghost use Rattle.journal.specs.declared.event.What.TheVariants as kinds;
+ghost use Rattle.journal.specs.Texts.{event_text};
 ghost use Rattle.node_loop.specs.Courses.{ServeState, datagram_in, line_of, sends_one, tells, tells_all};
 ghost use Rattle.node_loop.specs.Lines.{WritesSpent};
 ghost use Rattle.node_loop.specs.Writing.{Before, Extends, HandsOver, IsAt, IsBehindLine, Tells, WritesLine, is_lost, is_open_after, is_write_fault, standing};
 
 use crate::fault::ServeFault;
-use crate::writing::write_told;
+use crate::writing::{write_line, write_told};
 use ff_ids::MemberId;
 use fields::{Bytes, NoMemory};
 use journal::{Event, What};
@@ -54,6 +55,22 @@ fn hand_over<L: Link>(
     }
 }
 
+/// The text of the event that the datagram of this number went to the member.
+fn sent_text(
+    alloc: Global,
+    moment: u64,
+    number: u64,
+    to: MemberId,
+    bytes: &[u8],
+) -> Result<Vec<u8>, NoMemory>
+    ensures { IfOk result (λ text. text.items
+        ≡ event_text (record { moment = moment; what = kinds.Sent number to bytes.now })) }
+{
+    let mut text = Vec::new(alloc);
+    journal::write_sent(moment, number, to, bytes, &mut text)?;
+    Ok(text)
+}
+
 /// Writes that the datagram of this number went to the member.
 fn write_sent<O: Sink>(
     alloc: Global,
@@ -71,15 +88,10 @@ fn write_sent<O: Sink>(
     ensures wrote { WritesLine (O.state out.old).taken (O.state out.new).taken
         (line_of (record { moment = moment; what = kinds.Sent number to bytes.now })) result }
 {
-    let Ok(copy) = bytes.to_vec(alloc) else {
-        return Err(ServeFault::OutOfMemory);
-    };
-    let what = What::Sent {
-        number,
-        to,
-        bytes: Bytes::from_vec(copy),
-    };
-    write_told(alloc, out, &Event { moment, what })
+    match sent_text(alloc, moment, number, to, bytes) {
+        Ok(text) => write_line(out, text),
+        Err(NoMemory) => Err(ServeFault::OutOfMemory),
+    }
 }
 
 /// Writes the line of a datagram, which has the number of those sent before it, and sends it; where that fails, it
