@@ -3,7 +3,7 @@ use Rattle.std.proofs.Common.{◌≡◌, ℕ, zero, suc, replicate, get_or, take
 use Rattle.std.specs.Prelude.{nat_lt, slice_index_or, IfSome}
 use Rattle.std.specs.List.{list_any, filter, insert, prefix_len, AllByRecursion}
 use Rattle.std.specs.Option.{option_map_or}
-use Rattle.std.proofs.lemmas.Bool.{eqb-true}
+use Rattle.std.proofs.lemmas.Bool.{eqb-true, true≢false}
 use Rattle.std.proofs.lemmas.Bool.Decides.{nat_tests}
 use Rattle.std.proofs.lemmas.List.Edits.{length-insert}
 use Rattle.std.proofs.lemmas.List.Filters.{length-filter_both}
@@ -240,6 +240,42 @@ Ends-then rings f g first kept last told fell fallen h i = λ entries ended befo
       told = after.told ∙ ap (map (λ p. p.0)) (filter_agree_on (λ p. (ended p || f p) || g p) (λ p. ended p || (f p || g p)) entries each);
     }
 
+-- where one test has picked what it could, a test that says the same of the rest picks no more
+none_more : (f g by : Entry → Bool) (ended : Entry → Bool) (entries : List Entry) → AllByRecursion (λ p. g p ≡ (f p || by p)) (filter (λ p. not (ended p)) entries) → list_any by (filter (λ p. not (ended p || f p)) entries) ≡ false → AllByRecursion (λ p. (ended p || f p) ≡ (ended p || g p)) entries
+none_more f g by ended [] same none = tt
+none_more f g by ended (p ∷ entries) same none = by_end (ended p) same none (none_more f g by ended entries)
+  where
+    by_pick : (b : Bool) → f p ≡ b → g p ≡ (b || by p) → list_any by (cond (not b) (p ∷ filter (λ p. not (ended p || f p)) entries) (filter (λ p. not (ended p || f p)) entries)) ≡ false → (b ≡ g p) × (list_any by (filter (λ p. not (ended p || f p)) entries) ≡ false)
+    by_pick true picked is none = (sym is, none)
+    by_pick false picked is none =
+        let parts = neither_one (by p) (list_any by (filter (λ p. not (ended p || f p)) entries)) none in
+        (sym (is ∙ parts.0), parts.1)
+      where
+        neither_one : (b c : Bool) → (b || c) ≡ false → (b ≡ false) × (c ≡ false)
+        neither_one true c h = absurd (true≢false h)
+        neither_one false c h = (refl, h)
+
+    by_end : (b : Bool) → AllByRecursion (λ p. g p ≡ (f p || by p)) (cond (not b) (p ∷ filter (λ p. not (ended p)) entries) (filter (λ p. not (ended p)) entries)) → list_any by (cond (not (b || f p)) (p ∷ filter (λ p. not (ended p || f p)) entries) (filter (λ p. not (ended p || f p)) entries)) ≡ false → (AllByRecursion (λ p. g p ≡ (f p || by p)) (filter (λ p. not (ended p)) entries) → list_any by (filter (λ p. not (ended p || f p)) entries) ≡ false → AllByRecursion (λ p. (ended p || f p) ≡ (ended p || g p)) entries) → ((b || f p) ≡ (b || g p)) × AllByRecursion (λ p. (ended p || f p) ≡ (ended p || g p)) entries
+    by_end true same none rest = (refl, rest same none)
+    by_end false same none rest =
+        let here = by_pick (f p) refl same.0 none in
+        (here.0, rest same.1 here.1)
+
+pub Ends-no_more : (rings : ℕ) (f g by : Entry → Bool) (kept kept' : List Entry) (fell fell' : List AccBody) → AllByRecursion (λ p. g p ≡ (f p || by p)) kept → list_any by kept' ≡ false → Ends rings f kept fell kept' fell' → Ends rings g kept fell kept' fell'
+Ends-no_more rings f g by kept kept' fell fell' same none h = λ entries ended before.
+    let after = h entries ended before in
+    let each : AllByRecursion (λ p. (ended p || f p) ≡ (ended p || g p)) entries = none_more f g by ended entries (subst (λ ks. AllByRecursion (λ p. g p ≡ (f p || by p)) ks) before.left same) (subst (λ ks. list_any by ks ≡ false) after.left none) in
+    record {
+      in_order = before.in_order;
+      left = after.left ∙ filter_agree_on (λ p. not (ended p || f p)) (λ p. not (ended p || g p)) entries (AllBy-then (λ p. (ended p || f p) ≡ (ended p || g p)) (λ p. not (ended p || f p) ≡ not (ended p || g p)) (λ p e. ap not e) entries each);
+      told = after.told ∙ ap (map (λ p. p.0)) (filter_agree_on (λ p. ended p || f p) (λ p. ended p || g p) entries each);
+    }
+
+-- where nothing is kept, nothing ends
+pub Ends-nothing_kept : (rings : ℕ) (f : Entry → Bool) (kept : List Entry) (fell : List AccBody) → kept ≡ [] → Ends rings f kept fell kept fell
+Ends-nothing_kept rings f kept fell none =
+    subst (λ ks. Ends rings f ks fell ks fell) (sym none) (Ends-no_more rings (λ p. false) f (λ p. false) [] [] fell fell tt refl (Ends-none rings [] fell))
+
 -- from the start on
 pub record Ended (f : Entry → Bool) (kept kept' : List Entry) (fell' : List AccBody) : Type 0 where
   pub left : kept' ≡ filter (λ p. not (f p)) kept
@@ -276,7 +312,7 @@ named_at named k p t = ap (λ r. is_number (slice_index_or named r None) p.0.acc
 at_end : (r k : ℕ) → eqb r k ≡ true → (nat_lt r k ≡ false) × (nat_lt r (k + 1) ≡ true)
 at_end r k t = (grind (arith, nat_tests), grind (arith, nat_tests))
 
-swap_eqb : (x y : ℕ) → eqb x y ≡ eqb y x
+pub swap_eqb : (x y : ℕ) → eqb x y ≡ eqb y x
 swap_eqb x y = grind (arith, nat_tests)
 
 and_true : (b : Bool) → b ≡ (b && true)

@@ -1,10 +1,10 @@
 -- What a tick changes.
-use Rattle.std.proofs.Common.{◌≡◌, ◌≢◌, ℕ, zero, suc, ◌+◌, ◌<◌, ◌≤◌, max, Bool, true, false, cond, not, ◌&&◌, eqb, List, [], ◌∷◌, ◌++◌, map, length, ⊎_elim, None, refl, ap, sym, ◌∙◌, subst, arith}
-use Rattle.std.specs.List.{filter, range_with_len, AllByRecursion}
+use Rattle.std.proofs.Common.{◌≡◌, ◌≢◌, ℕ, zero, suc, ◌+◌, ◌<◌, ◌≤◌, max, Bool, true, false, cond, not, ◌&&◌, ◌||◌, eqb, List, [], ◌∷◌, ◌++◌, map, length, ⊎_elim, None, refl, ap, sym, ◌∙◌, subst, arith}
+use Rattle.std.specs.List.{All, filter, range_with_len, AllByRecursion}
 use Rattle.std.specs.FinMap.{get}
 use Rattle.std.proofs.lemmas.Bool.{eqb-true, eqb-false, false≢true}
 use Rattle.std.proofs.lemmas.Bool.Decides.{nat_tests}
-use Rattle.std.proofs.lemmas.List.Elements.{filter_agree, filter_passes}
+use Rattle.std.proofs.lemmas.List.Elements.{All-nil, All-cons, filter_agree, filter_passes}
 use Rattle.ff_ids.specs.declared.TheConstants.{MEMBERS}
 use Rattle.ff_ids.specs.declared.AccBody.{AccBody}
 use Rattle.ff_ids.specs.declared.NoteBody.{NoteBody}
@@ -15,13 +15,13 @@ use Rattle.removal_timer.specs.Kept.{IsInOrder}
 use Rattle.removal_timer.proofs.KeptLemmas.{IsInOrder-filter, All-filter}
 use Rattle.membership.specs.Kept.{ByNumber, expired_at, is_live, is_live_at, takes_out, raise, raised, leavers}
 use Rattle.membership.specs.Life.{Life}
-use Rattle.membership.specs.Ends.{Entry, is_of_any}
+use Rattle.membership.specs.Ends.{Entry, AreTheirs, is_of, is_of_any}
 use Rattle.membership.specs.Holds.{Holds, greatest_epoch}
 use Rattle.membership.proofs.NumberLemmas.{either_bool, all_length, AtEach, AtEach-here, AtEach-next, filter-filter, filter-range_agree, filter-range_none}
 use Rattle.membership.proofs.HoldLemmas.{HoldsEach, each_held, in_view-each}
 use Rattle.membership.proofs.ExpireLemmas.{takes_out-is, live_fewer, live_same, live_raised, out_parts, same_live, expired_at-raise, expired_at-other}
 use Rattle.membership.specs.Touched.{IsUpheld}
-use Rattle.membership.proofs.TouchLemmas.{with_expired, fewer-expired, stands-of_any}
+use Rattle.membership.proofs.TouchLemmas.{IsStanding-from, with_expired, fewer-expired, by_successor, stands-of_any}
 use Rattle.membership.proofs.NoteLemmas.{AllBy-upheld, Decides, only_before-none, stands-left, stands-fell}
 use Rattle.membership.proofs.EndLemmas.{AllBy-then, Ended}
 
@@ -213,6 +213,21 @@ decides-ticked l s h noted ordered =
     let upheld = AllBy-upheld (ring_count l.group.t) l s h ordered in
     let due = All-filter (IsUpheld s) (is_due l.group.timeout (l.moment + 1)) l.kept upheld in
     subst (λ ds. AllByRecursion (λ p. stands (with_expired s ds) p.0 ≡ not (is_of_any l (due_of l) p)) (ticked l).kept) (sym (due_same l s h)) (AllBy-then (IsUpheld s) (λ p. stands (with_expired s (due_of l)) p.0 ≡ not (is_of_any l (due_of l) p)) (λ p u. stands-of_any l s p (filter (is_due l.group.timeout (l.moment + 1)) l.kept) (each_held l s h) noted u due) (ticked l).kept (All-filter (IsUpheld s) (λ p. not (is_due l.group.timeout (l.moment + 1) p)) l.kept upheld))
+
+-- who is accused of those that stand is accused by its monitor
+theirs_of : (l : Life) (s : State) (a : AccBody) (es : List Entry) → HoldsEach l s → ((k : ℕ) → get l.places k ≡ None → get l.notes k ≡ None) → a.accused < MEMBERS → in_view s a.accused ≡ true → AllByRecursion (IsUpheld s) es → AreTheirs l a.accused es
+theirs_of l s a es h noted below is each =
+    AllBy-then (IsUpheld s) (λ p. is_of l a.accused p ≡ (eqb a.accused p.0.accused || eqb a.accused p.0.accuser)) (λ p u. by_successor l s p a.accused h noted u below is) es each
+
+theirs_each : (l : Life) (s : State) (es due : List Entry) → HoldsEach l s → ((k : ℕ) → get l.places k ≡ None → get l.notes k ≡ None) → AllByRecursion (IsUpheld s) es → AllByRecursion (IsUpheld s) due → All (λ a. AreTheirs l a.accused es) (map (λ p. p.0) due)
+theirs_each l s es [] h noted upheld each = All-nil (λ a. AreTheirs l a.accused es)
+theirs_each l s es (p ∷ due) h noted upheld each =
+    All-cons (λ a. AreTheirs l a.accused es) p.0 (map (λ p. p.0) due) (theirs_of l s p.0 es h noted each.0.number (IsStanding-from s p.0 each.0.standing).viewed upheld) (theirs_each l s es due h noted upheld each.1)
+
+pub theirs-due : (l : Life) (s : State) → Holds l s → ((k : ℕ) → get l.places k ≡ None → get l.notes k ≡ None) → IsInOrder (ring_count l.group.t) l.kept → All (λ a. AreTheirs l a.accused (ticked l).kept) (due_of l)
+theirs-due l s h noted ordered =
+    let upheld = AllBy-upheld (ring_count l.group.t) l s h ordered in
+    theirs_each l s (ticked l).kept (filter (is_due l.group.timeout (l.moment + 1)) l.kept) (each_held l s h) noted (All-filter (IsUpheld s) (λ p. not (is_due l.group.timeout (l.moment + 1) p)) l.kept upheld) (All-filter (IsUpheld s) (is_due l.group.timeout (l.moment + 1)) l.kept upheld)
 
 same_report : (expired expired' fell fell' : List AccBody) (removed removed' entered entered' : List ℕ) → expired ≡ expired' → removed ≡ removed' → entered ≡ entered' → fell ≡ fell' → ◌≡◌ {A = Report} (record { expired = expired; removed = removed; entered = entered; fell = fell }) (record { expired = expired'; removed = removed'; entered = entered'; fell = fell' })
 same_report expired expired' fell fell' removed removed' entered entered' a b c d = rw (a, b, c, d) refl

@@ -163,7 +163,7 @@ has_joined-viewed l s m h noted is = by_places (get l.places m) refl
     by_places (Some x) e = refl
 
 -- against a member's successor is by the member
-by_successor : (l : Life) (s : State) (p : Entry) (m : ℕ) → HoldsEach l s → ((k : ℕ) → get l.places k ≡ None → get l.notes k ≡ None) → IsUpheld s p → m < MEMBERS → in_view s m ≡ true → is_of l m p ≡ (eqb m p.0.accused || eqb m p.0.accuser)
+pub by_successor : (l : Life) (s : State) (p : Entry) (m : ℕ) → HoldsEach l s → ((k : ℕ) → get l.places k ≡ None → get l.notes k ≡ None) → IsUpheld s p → m < MEMBERS → in_view s m ≡ true → is_of l m p ≡ (eqb m p.0.accused || eqb m p.0.accuser)
 by_successor l s p m h noted u below is =
     let a = p.0 in
     let parts = IsStanding-from s a u.standing in

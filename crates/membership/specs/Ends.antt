@@ -36,6 +36,10 @@ is_of l m p = (m == p.0.accused) || is_against_next l m p
 abbrev pub is_of_any : Life → List AccBody → Entry → Bool
 is_of_any l expired p = list_any (λ a. is_of l a.accused p) expired
 
+-- Of these accusations those against the member's successors are those by the member.
+abbrev pub AreTheirs : Life → ℕ → List Entry → Type 0
+AreTheirs l m kept = AllByRecursion (λ p. is_of l m p ≡ ((m == p.0.accused) || (m == p.0.accuser))) kept
+
 -- The accusation at the index is against the member of the one before it.
 abbrev pub IsAgain : List AccBody → ℕ → Type 0
 IsAgain expired n = (0 < n) × ((d : AccBody) → (slice_index_or expired (n - 1) d).accused ≡ (slice_index_or expired n d).accused)

@@ -1,13 +1,13 @@
 //! Which kept accusations a step ends: only those that it touches are looked at.
 
-ghost use Rattle.std.specs.Prelude.{◌≡◌, ℕ, ◌<◌, ◌≤◌, ◌+◌, ◌||◌, true, not, [], List, None, Some, length, if◌then◌else◌, map, filter, slice_index_or};
+ghost use Rattle.std.specs.Prelude.{◌≡◌, ℕ, ◌<◌, ◌≤◌, ◌+◌, ◌||◌, true, not, [], List, None, Some, All, length, if◌then◌else◌, map, filter, slice_index_or};
 ghost use Rattle.std.specs.Option.{option_map_or};
 ghost use Rattle.std.specs.Bool.{OnTrue};
 ghost use Rattle.ff_ids.specs.declared.TheConstants.{MAX_RINGS};
 ghost use Rattle.ff_ids.specs.Masks.{ring_count};
 ghost use Rattle.ff_ids.specs.Views.{is_unanswered_by as note_leaves};
 ghost use Rattle.membership.specs.declared.report.TheConstants.{ACCUSATIONS};
-ghost use Rattle.membership.specs.Ends.{AreNamed, Entry, Ends, HasEnded, IsAgain, next_of, answered_on, is_on, is_named, is_of, is_of_any, with_fallen};
+ghost use Rattle.membership.specs.Ends.{AreNamed, AreTheirs, Entry, Ends, HasEnded, IsAgain, next_of, answered_on, is_on, is_named, is_of, is_of_any, with_fallen};
 ghost use Rattle.removal_timer.specs.Kept.{is_at, entry_at, IsInOrder};
 
 use crate::Membership;
@@ -117,7 +117,7 @@ impl Membership {
         }
     }
 
-    /// Ends what is kept on each ring against the member that is named for it.
+    /// Ends what is kept on each ring against the member that is named for it. Where nothing is kept no ring is looked at.
     pub(crate) fn end_named(
         &mut self,
         named: &[Option<MemberId>; MAX_RINGS as usize],
@@ -130,23 +130,29 @@ impl Membership {
         ensures report { out.new ≡ record out.old { fell = out.new.fell } }
         ensures room { length out.new.fell + length self.new.kept ≤ ACCUSATIONS }
     {
+        if self.timers.is_empty() {
+            return;
+        }
         for ring in 0..2 * self.group.t + 1 {
             self.end_on(named[ring as usize], RingNo(ring), out);
         }
     }
 
-    /// Ends what is kept against the member, and against its successors.
+    /// Ends what is kept against the member, and against its successors: where it accuses nobody the rings aren't looked at,
+    /// since who is accused is accused by its monitor.
     fn end_of(&mut self, member: MemberId, out: &mut Changes)
         requires { length out.old.fell + length self.old.kept ≤ ACCUSATIONS }
-        ensures ends { Ends (ring_count self.old.group.t) (is_of self.old member) self.old.kept
-            out.old.fell self.new.kept out.new.fell }
+        ensures ends { AreTheirs self.old member self.old.kept → Ends (ring_count self.old.group.t)
+            (is_of self.old member) self.old.kept out.old.fell self.new.kept out.new.fell }
         ensures rest { self.new ≡ record self.old { kept = self.new.kept } }
         ensures report { out.new ≡ record out.old { fell = out.new.fell } }
         ensures room { length out.new.fell + length self.new.kept ≤ ACCUSATIONS }
     {
-        let next = self.next_after(member);
         self.end_named(&[Some(member); MAX_RINGS as usize], out);
-        self.end_named(&next, out);
+        if self.timers.is_accuser(member) {
+            let next = self.next_after(member);
+            self.end_named(&next, out);
+        }
     }
 
     /// Ends what is kept against the members that the expired accusations take out, and against their successors: once
@@ -155,14 +161,14 @@ impl Membership {
         requires room { length self.old.kept ≤ ACCUSATIONS }
         requires empty { out.old.fell ≡ [] }
         requires in_order { IsInOrder (ring_count self.old.group.t) self.old.kept }
-        ensures kept { self.new
-            ≡ record self.old
-            { kept = filter (λ p. not (is_of_any self.old out.old.expired p)) self.old.kept } }
-        ensures fell { out.new
-            ≡ record out.old {
-              fell = map (λ p. p.0)
-                  (filter (is_of_any self.old out.old.expired) self.old.kept);
-            } }
+        ensures kept { All (λ a. AreTheirs self.old a.accused self.old.kept) out.old.expired
+            → self.new.kept ≡ filter (λ p. not (is_of_any self.old out.old.expired p))
+            self.old.kept }
+        ensures fell { All (λ a. AreTheirs self.old a.accused self.old.kept) out.old.expired
+            → out.new.fell ≡ map (λ p. p.0) (filter (is_of_any self.old out.old.expired)
+            self.old.kept) }
+        ensures rest { self.new ≡ record self.old { kept = self.new.kept } }
+        ensures report { out.new ≡ record out.old { fell = out.new.fell } }
     {
         if self.timers.is_empty() {
             return;

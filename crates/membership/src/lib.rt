@@ -121,7 +121,8 @@ impl Membership {
         ensures value { (s : State) → Holds self.now s → result ≡ member_of_state s member }
         ensures joined { result ≡ has_joined self.now member }
     {
-        self.places.contains(member)
+        // Who has a note has joined, and notes lie close together.
+        self.notes.contains(member) || self.places.contains(member)
     }
 
     /// Whether the member is in the view.

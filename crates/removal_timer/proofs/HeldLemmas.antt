@@ -18,6 +18,7 @@ use Rattle.std.proofs.lemmas.List.Sorted.{length_permutation, IsPermutation-refl
 use Rattle.ff_ids.specs.Steps.{is_due, with_kept}
 use Rattle.removal_timer.specs.declared.queue.TheConstants.{END}
 use Rattle.removal_timer.specs.Queue.{first_number, is_queued, without}
+use Rattle.removal_timer.specs.declared.tally.Tallies.{Tallies}
 use Rattle.removal_timer.specs.Kept.{Kept, entry_at, entries_in, since_at, pair_number, HasGained, IsOwn, AreInTime, AreQueued, AreUntil, IsHeld}
 use Rattle.removal_timer.proofs.QueueLemmas.{Apart, Apart-absent, All-without, All-more}
 use Rattle.removal_timer.proofs.SlotLemmas.{Entry, Slots, slots_all, all_slots, none_filled, some_filled, none_due, entry_at-slot, entries_in-filled, due_taken, due_left, all_left}
@@ -285,6 +286,7 @@ nothing_due timeout now slots order n p h first there late =
 
 -- an entry was set that wasn't there
 pub record IsSet (slots : Slots) (order : List ℕ) (n : ℕ) (p : Entry) : Type 0 where
+  pub free : get_or slots n None ≡ None
   pub absent : is_queued order n ≡ false
   pub queued : AreQueued (set slots n (Some p)) (order ++ n ∷ [])
   pub entries : entries_in (set slots n (Some p)) ≡ with_kept p (entries_in slots)
@@ -295,14 +297,15 @@ IsSet-free slots order n p h number low ring free until =
     let empty : get_or slots n None ≡ None = ap (λ k. get_or slots k None) number ∙ sym at ∙ free in
     let own : IsOwn n p = record { ring = ring; number = sym number } in
     record {
+      free = empty;
       absent = h.filled n ∙ ap is_some empty;
       queued = AreQueued-filled slots order n p h low empty own until;
       entries = entries_in-filled slots n p h.own empty low own;
     }
 
 -- the same, where the timers are seen whole, and the slots were made to reach the number
-pub IsSet-of : (rings timeout room : ℕ) (slots after : Slots) (order : List ℕ) (k : Kept) (n : ℕ) (p : Entry) → IsHeld rings slots order room → record { rings = rings; timeout = timeout; entries = entries_in slots } ≡ k → length after ≤ END → ((n : ℕ) → get_or after n None ≡ get_or slots n None) → n ≡ pair_number p.0.accused p.0.ring.0 → n < length after → entry_at p.0.accused p.0.ring.0 k.entries ≡ None → p.0.ring.0 < k.rings → AreUntil p.1 k.entries → IsSet after order n p × (entries_in after ≡ k.entries)
-IsSet-of rings timeout room slots after order k n p held view few alike number low free within until =
+pub IsSet-of : (rings timeout room : ℕ) (slots after : Slots) (order : List ℕ) (tallies : Tallies) (k : Kept) (n : ℕ) (p : Entry) → IsHeld rings slots order tallies room → record { rings = rings; timeout = timeout; entries = entries_in slots } ≡ k → length after ≤ END → ((n : ℕ) → get_or after n None ≡ get_or slots n None) → n ≡ pair_number p.0.accused p.0.ring.0 → n < length after → entry_at p.0.accused p.0.ring.0 k.entries ≡ None → p.0.ring.0 < k.rings → AreUntil p.1 k.entries → IsSet after order n p × (entries_in after ≡ k.entries)
+IsSet-of rings timeout room slots after order tallies k n p held view few alike number low free within until =
     let ring : p.0.ring.0 < MAX_RINGS = omega (arith, within, ap (λ (k : Kept). k.rings) view, held.few) in
     let reached = IsReached-of slots after order held.queued few alike in
     let same : entries_in after ≡ k.entries = reached.entries ∙ ap (λ (k : Kept). k.entries) view in

@@ -3,4 +3,5 @@ mod QueueLemmas
 mod SlotLemmas
 mod HeldLemmas
 mod SortLemmas
+mod TallyLemmas
 mod WaitLemmas

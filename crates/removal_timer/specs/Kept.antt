@@ -8,6 +8,8 @@ use Rattle.ff_ids.specs.declared.AccBody.{AccBody}
 use Rattle.ff_ids.specs.Steps.{precedes}
 use Rattle.removal_timer.specs.declared.queue.TheConstants.{END}
 use Rattle.removal_timer.specs.Queue.{is_queued}
+use Rattle.removal_timer.specs.Tally.{AreTallied}
+use Rattle.removal_timer.specs.declared.tally.Tallies.{Tallies}
 
 -- What the timers of one group keep: how many rings it has, for how many ticks an accusation stands before it
 -- is due, and the accusations with the ticks of their acceptance.
@@ -80,8 +82,9 @@ pub record AreQueued (slots : List (Option (AccBody × ℕ))) (order : List ℕ)
   pub filled : (n : ℕ) → is_queued order n ≡ is_some (slot_at slots n)
   pub in_time : AreInTime slots order
 
--- The slots have room for each member and ring.
-pub record IsHeld (rings : ℕ) (slots : List (Option (AccBody × ℕ))) (order : List ℕ) (capacity : ℕ) : Type 0 where
+-- The slots have room for each member and ring, and what is in them is counted.
+pub record IsHeld (rings : ℕ) (slots : List (Option (AccBody × ℕ))) (order : List ℕ) (tallies : Tallies) (capacity : ℕ) : Type 0 where
   pub few : rings ≤ MAX_RINGS
   pub room : END ≤ capacity
   pub queued : AreQueued slots order
+  pub tallied : AreTallied (entries_in slots) tallies

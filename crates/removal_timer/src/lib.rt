@@ -13,14 +13,17 @@ ghost use Rattle.ff_ids.specs.Masks.{ring_count};
 ghost use Rattle.ff_ids.specs.Steps.{is_due, with_kept};
 ghost use Rattle.removal_timer.specs.Kept.{entry_at, is_at, entries_in, slot_at, pair_number, AreQueued, AreRising, AreUntil, HasGained};
 ghost use Rattle.removal_timer.specs.Queue.{is_queued, without};
+ghost use Rattle.removal_timer.specs.Tally.{is_by, AreTallied};
 
 mod queue;
+mod tally;
 
 use ff_ids::{AccBody, Group, MAX_RINGS, MemberId, RingNo};
 use fields::NoMemory;
 use queue::{END, Queue};
 use std::alloc::Global;
 use std::marker::Model;
+use tally::Tallies;
 
 /// An accusation, and the tick since when it stands.
 type Entry = (AccBody, u64);
@@ -36,6 +39,8 @@ pub struct Timers {
     slots: Vec<Option<Entry>>,
     /// The numbers of the filled slots, in order of the time since when their entries stand.
     queue: Queue,
+    /// How many of the entries are against each member, and by it: who has none is found without a look at the slots.
+    tallies: Tallies,
 }
 
 impl Model for Timers {
@@ -47,7 +52,8 @@ impl Model for Timers {
     ghost view = { λ x. record
         { rings = x.rings; timeout = x.timeout; entries = entries_in x.slots.items } };
 
-    ghost invariant = { λ x. IsHeld x.rings x.slots.items x.queue (vec_capacity x.slots) };
+    ghost invariant = { λ x. IsHeld x.rings x.slots.items x.queue x.tallies
+        (vec_capacity x.slots) };
 }
 
 /// The number of the member and the ring among all pairs of them.
@@ -94,18 +100,26 @@ fn reach(slots: &mut Vec<Option<Entry>>, number: u16)
 }
 
 /// Empties the slot of this number, and gives what was in it.
-fn take_out(slots: &mut [Option<Entry>], queue: &mut Queue, number: u16) -> Option<Entry>
+fn take_out(
+    slots: &mut [Option<Entry>],
+    queue: &mut Queue,
+    tallies: &mut Tallies,
+    number: u16,
+) -> Option<Entry>
     requires queued { AreQueued slots.old queue.old }
+    requires tallied { AreTallied (entries_in slots.old) tallies.old }
     requires range { number < END }
     ensures value { result ≡ slot_at slots.old number }
     ensures emptied { slots.new ≡ slice_set slots.old number None }
     ensures left { queue.new ≡ without number queue.old }
     ensures queued { AreQueued slots.new queue.new }
+    ensures tallied { AreTallied (entries_in slots.new) tallies.new }
 {
     match kept_in(slots, number) {
         Some(entry) => {
             slots[number as usize] = None;
             queue.remove(number);
+            tallies.take(&entry.0);
             Some(entry)
         }
         None => None,
@@ -113,13 +127,15 @@ fn take_out(slots: &mut [Option<Entry>], queue: &mut Queue, number: u16) -> Opti
 }
 
 /// Empties each slot that is filled.
-fn take_all(slots: &mut [Option<Entry>], queue: &mut Queue)
-    requires { AreQueued slots.old queue.old }
+fn take_all(slots: &mut [Option<Entry>], queue: &mut Queue, tallies: &mut Tallies)
+    requires queued { AreQueued slots.old queue.old }
+    requires tallied { AreTallied (entries_in slots.old) tallies.old }
     ensures none { entries_in slots.new ≡ [] }
     ensures queued { AreQueued slots.new queue.new }
+    ensures tallied { AreTallied (entries_in slots.new) tallies.new }
 {
     while let Some(number) = queue.first() {
-        take_out(slots, queue, number);
+        take_out(slots, queue, tallies, number);
     }
 }
 
@@ -174,11 +190,13 @@ fn ticks_before(timeout: u32, since: u64, now: u64, most: u32) -> u32
 fn take_due(
     slots: &mut [Option<Entry>],
     queue: &mut Queue,
+    tallies: &mut Tallies,
     timeout: u32,
     now: u64,
     out: &mut Vec<AccBody>,
 )
     requires queued { AreQueued slots.old queue.old }
+    requires tallied { AreTallied (entries_in slots.old) tallies.old }
     requires room { vec_len out.old + length
         (filter (is_due timeout now) (entries_in slots.old)) ≤ vec_capacity out.old }
     ensures taken { HasGained out.old.items out.new.items
@@ -186,10 +204,11 @@ fn take_due(
     ensures left { entries_in slots.new
         ≡ filter (λ p. not (is_due timeout now p)) (entries_in slots.old) }
     ensures queued { AreQueued slots.new queue.new }
+    ensures tallied { AreTallied (entries_in slots.new) tallies.new }
     ensures capacity { vec_capacity out.old ≤ vec_capacity out.new }
 {
     while let Some(number) = first_due(slots, queue, timeout, now) {
-        if let Some((acc, _since)) = take_out(slots, queue, number) {
+        if let Some((acc, _since)) = take_out(slots, queue, tallies, number) {
             out.push_reserved(acc);
         }
     }
@@ -219,6 +238,7 @@ impl Timers {
             timeout: group.timeout,
             slots: Vec::with_capacity(alloc, END as usize)?,
             queue: Queue::new(alloc)?,
+            tallies: Tallies::new(alloc)?,
         })
     }
 
@@ -231,6 +251,7 @@ impl Timers {
     {
         let number = number_of(acc.accused, acc.ring);
         reach(&mut self.slots, number);
+        self.tallies.add(&acc);
         self.slots[number as usize] = Some((acc, now));
         self.queue.push(number);
     }
@@ -242,7 +263,12 @@ impl Timers {
             { entries = filter (λ p. not (is_at accused ring.0 p)) self.old.entries } }
     {
         if ring.0 < MAX_RINGS {
-            take_out(&mut self.slots, &mut self.queue, number_of(accused, ring));
+            take_out(
+                &mut self.slots,
+                &mut self.queue,
+                &mut self.tallies,
+                number_of(accused, ring),
+            );
         }
     }
 
@@ -250,7 +276,7 @@ impl Timers {
     pub fn clear_all(&mut self)
         ensures { self.new ≡ record self.old { entries = [] } }
     {
-        take_all(&mut self.slots, &mut self.queue);
+        take_all(&mut self.slots, &mut self.queue, &mut self.tallies);
     }
 
     /// Takes out the accusations that have stood for the timeout, and appends them to `out`, in order. No other is
@@ -267,7 +293,14 @@ impl Timers {
         ensures capacity { vec_capacity out.old ≤ vec_capacity out.new }
     {
         let from = out.len();
-        take_due(&mut self.slots, &mut self.queue, self.timeout, now, out);
+        take_due(
+            &mut self.slots,
+            &mut self.queue,
+            &mut self.tallies,
+            self.timeout,
+            now,
+            out,
+        );
         sort_behind(out, from);
     }
 
@@ -299,10 +332,20 @@ impl Timers {
     pub fn standing(&self, accused: MemberId, ring: RingNo) -> Option<(AccBody, u64)>
         ensures { result ≡ entry_at accused ring.0 self.now.entries }
     {
+        if !self.tallies.against.is_any(accused) {
+            return None;
+        }
         if ring.0 < MAX_RINGS {
             kept_in(&self.slots, number_of(accused, ring))
         } else {
             None
         }
+    }
+
+    /// Whether an accusation by the member stands. No entry is looked at.
+    pub fn is_accuser(&self, member: MemberId) -> bool
+        ensures { result ≡ list_any (is_by member) self.now.entries }
+    {
+        self.tallies.by.is_any(member)
     }
 }

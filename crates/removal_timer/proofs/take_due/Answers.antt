@@ -32,6 +32,7 @@ loop-number-preserved-in-Some-take_out c =
     record {
       taking = rw (c.take_out.ensures.emptied, c.take_out.ensures.left, c.push_reserved.ensures.items) more;
       room = omega (arith, left, fewer, c.push_reserved.ensures.len, c.push_reserved.ensures.capacity, c.loop-number.invariant.room);
+      tallied = c.take_out.ensures.tallied;
       capacity = omega (arith, c.push_reserved.ensures.capacity, c.loop-number.invariant.capacity);
     }
 

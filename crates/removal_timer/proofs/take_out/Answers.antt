@@ -1,12 +1,32 @@
-use Rattle.std.proofs.Common.{◌≡◌, None, is_some, sym, ap, ◌∙◌, rules}
+use Rattle.std.proofs.Common.{◌≡◌, true, Some, None, is_some, get_or, eqb, sym, ap, ◌∙◌, arith}
+use Rattle.std.proofs.lemmas.Bool.Decides.{nat_tests}
 use Rattle.removal_timer.specs.Kept.{slot_at}
+use Rattle.removal_timer.specs.Tally.{is_against, is_by}
 use Rattle.removal_timer.proofs.QueueLemmas.{without_absent, Apart-absent}
 use Rattle.removal_timer.proofs.HeldLemmas.{AreQueued-emptied}
+use Rattle.removal_timer.proofs.TallyLemmas.{AreTallied-less, some-counted}
 use Rattle.removal_timer.proofs.take_out.Goals as goal
+
+pub take-requires-clause-against : goal.take-requires-clause-against
+take-requires-clause-against c = λ lt.
+    let there : get_or c.args.slots.now c.args.number None ≡ Some c.in-Some.entry = sym c.kept_in.ensures.value ∙ c.in-Some.is in
+    let own : eqb c.in-Some.entry.0.accused c.in-Some.entry.0.accused ≡ true = grind (arith, nat_tests) in
+    omega (arith, c.requires.tallied.against c.in-Some.entry.0.accused lt, some-counted (is_against c.in-Some.entry.0.accused) c.args.slots.now c.args.number c.in-Some.entry there own)
+
+pub take-requires-clause-by : goal.take-requires-clause-by
+take-requires-clause-by c = λ lt.
+    let there : get_or c.args.slots.now c.args.number None ≡ Some c.in-Some.entry = sym c.kept_in.ensures.value ∙ c.in-Some.is in
+    let own : eqb c.in-Some.entry.0.accuser c.in-Some.entry.0.accuser ≡ true = grind (arith, nat_tests) in
+    omega (arith, c.requires.tallied.by c.in-Some.entry.0.accuser lt, some-counted (is_by c.in-Some.entry.0.accuser) c.args.slots.now c.args.number c.in-Some.entry there own)
 
 pub returns-in-Some-clause-queued : goal.returns-in-Some-clause-queued
 returns-in-Some-clause-queued c =
     rw c.remove.ensures (AreQueued-emptied c.args.slots.now c.args.queue.now c.args.number c.requires.queued (c.kept_in.ensures.reached (ap is_some c.in-Some.is)))
+
+pub returns-in-Some-clause-tallied : goal.returns-in-Some-clause-tallied
+returns-in-Some-clause-tallied c =
+    let there : get_or c.args.slots.now c.args.number None ≡ Some c.in-Some.entry = sym c.kept_in.ensures.value ∙ c.in-Some.is in
+    rw c.take.ensures.value (AreTallied-less c.args.slots.now c.args.number c.in-Some.entry c.args.tallies.now c.requires.tallied there c.take.ensures.accused c.take.ensures.accuser)
 
 pub returns-in-None-clause-left : goal.returns-in-None-clause-left
 returns-in-None-clause-left c =

@@ -1,10 +1,10 @@
-use Rattle.std.proofs.Common.{◌∙◌, ◌+◌, ◌<◌, ◌≤◌, ◌||◌, ap, subst, None, arith, length, get_or}
+use Rattle.std.proofs.Common.{◌∙◌, ◌+◌, ◌<◌, ◌≤◌, ◌||◌, ap, sym, subst, None, arith, length, get_or}
 use Rattle.std.proofs.lemmas.List.{get_or_default}
 use Rattle.ff_ids.specs.Masks.{ring_count}
 use Rattle.ff_ids.specs.Steps.{Report}
 use Rattle.membership.specs.Life.{Life}
 use Rattle.membership.specs.Ends.{Ends, is_on, is_named}
-use Rattle.membership.proofs.EndLemmas.{is_named_below, Ends-agree, Ends-then, named_more, named_all}
+use Rattle.membership.proofs.EndLemmas.{is_named_below, Ends-agree, Ends-then, Ends-nothing_kept, named_more, named_all}
 use Rattle.membership.proofs.Membership.end_named.Goals as goal
 
 pub loop-ring-preserved : goal.loop-ring-preserved
@@ -25,6 +25,11 @@ loop-ring-preserved c =
       report = c.end_on.ensures.report ∙ ap (λ (r : Report). record r { fell = c.end_on.new.out.fell }) before.report;
       room = c.end_on.ensures.room;
     }
+
+pub returns-then-is_empty-clause-ends : goal.returns-then-is_empty-clause-ends
+returns-then-is_empty-clause-ends c =
+    let none = sym (ap (λ (l : Life). l.kept) c.self.view_is) ∙ c.if-is_empty.ensures.empty in
+    Ends-nothing_kept (ring_count c.args.self.now.group.t) (is_named c.args.named.now) c.args.self.now.kept c.args.out.now.fell none
 
 pub returns-clause-ends : goal.returns-clause-ends
 returns-clause-ends c =

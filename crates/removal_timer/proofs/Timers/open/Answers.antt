@@ -1,2 +1,0 @@
-use Rattle.removal_timer.proofs.HeldLemmas.{AreQueued-none}
-use Rattle.removal_timer.proofs.Timers.open.Goals as goal

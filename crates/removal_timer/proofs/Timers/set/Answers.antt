@@ -1,23 +1,42 @@
-use Rattle.std.proofs.Common.{◌≡◌, List, vec_capacity, ap, ◌∙◌}
+use Rattle.std.proofs.Common.{◌≡◌, List, Some, set, vec_capacity, ap, sym, subst, ◌∙◌, arith}
 use Rattle.ff_ids.specs.Steps.{with_kept}
 use Rattle.removal_timer.specs.Kept.{Kept, entries_in}
+use Rattle.removal_timer.specs.Tally.{is_against, is_by, AreTallied}
 use Rattle.removal_timer.proofs.SlotLemmas.{Entry}
+use Rattle.removal_timer.proofs.TallyLemmas.{count-few, AreTallied-more}
 use Rattle.removal_timer.proofs.HeldLemmas.{IsSet, IsSet-of}
 use Rattle.removal_timer.proofs.Timers.set.Goals as goal
 
 pub push-requires-clause-absent : goal.push-requires-clause-absent
 push-requires-clause-absent c =
     let s = c.self.inside in
-    (IsSet-of s.rings s.timeout (vec_capacity s.slots) s.slots.items c.reach.new.slots.items s.queue c.args.self.now c.number_of-number.result (c.args.acc, c.args.now) c.self.invariant c.self.view_is c.reach.ensures.few c.reach.ensures.same c.number_of-number.ensures.value c.reach.ensures.reached c.requires.free c.requires.ring c.requires.in_time).0.absent
+    (IsSet-of s.rings s.timeout (vec_capacity s.slots) s.slots.items c.reach.new.slots.items s.queue s.tallies c.args.self.now c.number_of-number.result (c.args.acc, c.args.now) c.self.invariant c.self.view_is c.reach.ensures.few c.reach.ensures.same c.number_of-number.ensures.value c.reach.ensures.reached c.requires.free c.requires.ring c.requires.in_time).0.absent
 
 is_set : (c : goal.After-push) → IsSet c.reach.new.slots.items c.self.inside.queue c.number_of-number.result (c.args.acc, c.args.now) × (entries_in c.reach.new.slots.items ≡ c.args.self.now.entries)
 is_set c =
     let s = c.self.inside in
-    IsSet-of s.rings s.timeout (vec_capacity s.slots) s.slots.items c.reach.new.slots.items s.queue c.args.self.now c.number_of-number.result (c.args.acc, c.args.now) c.self.invariant c.self.view_is c.reach.ensures.few c.reach.ensures.same c.number_of-number.ensures.value c.reach.ensures.reached c.requires.free c.requires.ring c.requires.in_time
+    IsSet-of s.rings s.timeout (vec_capacity s.slots) s.slots.items c.reach.new.slots.items s.queue s.tallies c.args.self.now c.number_of-number.result (c.args.acc, c.args.now) c.self.invariant c.self.view_is c.reach.ensures.few c.reach.ensures.same c.number_of-number.ensures.value c.reach.ensures.reached c.requires.free c.requires.ring c.requires.in_time
+
+pub add-requires-clause-against : goal.add-requires-clause-against
+add-requires-clause-against c = λ lt.
+    let s = c.self.inside in
+    omega (arith, c.self.invariant.tallied.against c.args.acc.accused lt, count-few (is_against c.args.acc.accused) s.slots.items, c.self.invariant.queued.few)
+
+pub add-requires-clause-by : goal.add-requires-clause-by
+add-requires-clause-by c = λ lt.
+    let s = c.self.inside in
+    omega (arith, c.self.invariant.tallied.by c.args.acc.accuser lt, count-few (is_by c.args.acc.accuser) s.slots.items, c.self.invariant.queued.few)
+
+is_tallied : (c : goal.After-push) → AreTallied (entries_in (set c.reach.new.slots.items c.number_of-number.result (Some (c.args.acc, c.args.now)))) c.add.new.self
+is_tallied c =
+    let s = c.self.inside in
+    let is = is_set c in
+    let before : AreTallied (entries_in c.reach.new.slots.items) s.tallies = subst (λ (es : List Entry). AreTallied es s.tallies) (sym (is.1 ∙ sym (ap (λ (k : Kept). k.entries) c.self.view_is))) c.self.invariant.tallied in
+    rw c.add.ensures.value (AreTallied-more c.reach.new.slots.items c.number_of-number.result (c.args.acc, c.args.now) s.tallies before is.0.free c.reach.ensures.reached c.add.ensures.accused c.add.ensures.accuser)
 
 pub invariant_of-self : goal.invariant_of-self
 invariant_of-self c =
-    record { few = c.self.invariant.few; room = c.reach.ensures.room; queued = rw c.push.ensures (is_set c).0.queued }
+    record { few = c.self.invariant.few; room = c.reach.ensures.room; queued = rw c.push.ensures (is_set c).0.queued; tallied = is_tallied c }
 
 pub returns : goal.returns
 returns c =
