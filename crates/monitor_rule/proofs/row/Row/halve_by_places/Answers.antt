@@ -1,4 +1,4 @@
-use Rattle.std.proofs.Common.{◌≡◌, ◌+◌, ◌-◌, ◌*◌, ◌/◌, ◌^◌, ◌<◌, ◌≤◌, ap, ◌∙◌, arith}
+use Rattle.std.proofs.Common.{◌≡◌, ◌-◌, ◌*◌, ◌/◌, ◌^◌, ◌<◌, ap, ◌∙◌, arith}
 use Rattle.monitor_rule.proofs.StepLemmas.{power_more, left_more, most_more, least_more}
 use Rattle.monitor_rule.proofs.row.Row.halve_by_places.Goals as goal
 

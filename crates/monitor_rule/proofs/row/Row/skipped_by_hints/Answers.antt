@@ -1,4 +1,4 @@
-use Rattle.std.proofs.Common.{◌≡◌, ◌+◌, ◌-◌, ◌*◌, ◌/◌, length, refl, ap, ◌∙◌, arith}
+use Rattle.std.proofs.Common.{◌+◌, ◌-◌, ◌*◌, ◌/◌, length, refl, ap, ◌∙◌, arith}
 use Rattle.ff_ids.specs.Rings.{is_below}
 use Rattle.ff_ids.specs.Views.{key_at}
 use Rattle.monitor_rule.specs.Sorted.{RingOrder, key_of_index}

@@ -1,4 +1,4 @@
-use Rattle.std.proofs.Common.{◌≡◌, ◌-◌, ◌/◌, true, false, length, refl, ap, sym, ◌∙◌, arith}
+use Rattle.std.proofs.Common.{◌-◌, ◌/◌, true, false, length, refl, ap, sym, ◌∙◌, arith}
 use Rattle.ff_ids.specs.Views.{key_at}
 use Rattle.monitor_rule.specs.Sorted.{RingOrder}
 use Rattle.monitor_rule.proofs.OrderLemmas.{IsBetween-halved}
