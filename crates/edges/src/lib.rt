@@ -20,6 +20,7 @@ mod absent;
 mod file_disk;
 mod line_part;
 mod real_clock;
+mod socket;
 mod udp_link;
 
 pub use absent::{Absent, NoClock};
