@@ -19,6 +19,10 @@ pub record UdpState : Type 0 where
 abbrev pub sizes : Sizes
 sizes = record { members = 1024; slots = 64; room = 65538; gap = 100 }
 
+-- how many bytes are taken of a datagram: one more than the longest has
+abbrev pub bytes_taken : ℕ
+bytes_taken = 32769
+
 -- after a bind: nothing waits behind one that is done, and any other leaves what was bound
 abbrev pub after_bind : opened.Opened → UdpState → UdpState
 after_bind opened.TheVariants.Done link = record link { queues = Some (nothing_yet sizes) }

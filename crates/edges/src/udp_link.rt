@@ -8,7 +8,7 @@ ghost use Rattle.link_queues.specs.Waiting.{filled};
 ghost use Rattle.link_queues.specs.Queues.{after_handing, handed_on, nothing_yet};
 ghost use Rattle.edges.specs.Sockets.{FoundAtMost};
 ghost use Rattle.edges.specs.Looks.{Empties, Looks, Reaches, answer_of, kept_found};
-ghost use Rattle.edges.specs.UdpLinks.{HandsNext, AfterReceive, after_bind, after_expect, after_send, lost_in, sizes};
+ghost use Rattle.edges.specs.UdpLinks.{HandsNext, AfterReceive, after_bind, after_expect, after_send, bytes_taken, lost_in, sizes};
 
 use crate::RealClock;
 use crate::socket::{Found, PortSocket, Socket};
@@ -81,13 +81,15 @@ enum BindFault {
 
 /// Room for what comes.
 fn room(alloc: Global) -> Result<(Queues, Vec<u8>), NoMemory>
-    ensures { IfOk result (λ r. r.0 ≡ nothing_yet sizes) }
+    ensures queues { IfOk result (λ r. r.0 ≡ nothing_yet sizes) }
+    ensures datagram { IfOk result (λ r. length r.1.items ≡ bytes_taken) }
 {
     Ok((Queues::new(alloc, &SIZES)?, vec![in alloc; 0u8; ROOM]?))
 }
 
 fn bind_at<R: Net>(alloc: Global, net: &R, port: u16) -> Result<Bound<PortSocket>, BindFault>
-    ensures { IfOk result (λ b. b.queues ≡ nothing_yet sizes) }
+    ensures queues { IfOk result (λ b. b.queues ≡ nothing_yet sizes) }
+    ensures datagram { IfOk result (λ b. length b.datagram.items ≡ bytes_taken) }
 {
     let Ok((queues, datagram)) = room(alloc) else {
         return Err(BindFault::Memory);
