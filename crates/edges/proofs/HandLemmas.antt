@@ -5,8 +5,9 @@ use Rattle.std.proofs.lemmas.Bool.{true≢false}
 use Rattle.ports.specs.declared.Failed.{Failed}
 use Rattle.link_queues.specs.Waiting.{filled}
 use Rattle.link_queues.specs.Queues.{QueuesState, after_handing, handed_on}
-use Rattle.edges.specs.Looks.{Reaches}
-use Rattle.edges.specs.UdpLinks.{HandsNext, HandsNothing}
+use Rattle.edges.specs.Sockets.{Arrival}
+use Rattle.edges.specs.Looks.{Empties, Reaches}
+use Rattle.edges.specs.UdpLinks.{EmptiesFirst, HandsNext, HandsNothing}
 use Rattle.edges.proofs.LookLemmas.{reaches-next, reaches-refl, reaches-same, reaches-trans}
 
 hands-by : (s mid t : QueuesState) (now : ℕ) (buffer after : List ℕ) (got : Option ℕ) (d : Option (List ℕ)) → handed_on now mid ≡ d → Reaches s mid → got ≡ option_map (λ x. min (length x) (length buffer)) d
@@ -76,3 +77,19 @@ pub so-far : (s first t : QueuesState) (now : ℕ) (b : Bool) (buffer between af
 so-far s first t now b buffer between after got none counted lies left reached same =
     nothing-then s first t buffer between after (reaches-none s first buffer between (Ok got) (ap Ok none) (at-once s first now b buffer between got counted lies left))
     (record { reached = reached; same = same })
+
+-- ---- over a socket that is modelled
+
+pub empties-next : (room now : ℕ) (coming later : Option (List Arrival)) (s mid t : QueuesState) (buffer after : List ℕ) (got : Option ℕ) → Empties room coming later s mid (Ok tt)
+    → got ≡ option_map (λ d. min (length d) (length buffer)) (handed_on now mid) → after ≡ filled (handed_on now mid) buffer → t ≡ after_handing now mid
+    → EmptiesFirst room now coming later s t buffer after (Ok got)
+empties-next room now None later s mid t buffer after got h counted lies left = h
+empties-next room now (Some coming) later s mid t buffer after got h counted lies left =
+    record { left = h.later; is = h.left; between = mid; looks = h.is; hands = (counted, lies, left) }
+
+pub empties-none : (room now : ℕ) (coming later : Option (List Arrival)) (s t : QueuesState) (buffer after : List ℕ) (e : Failed) (answer : Result (Option ℕ) Failed) → IsErr answer
+    → Empties room coming later s t (Err e) → after ≡ buffer → EmptiesFirst room now coming later s t buffer after answer
+empties-none room now coming later s t buffer after e (Ok got) failed h same = absurd (true≢false (sym failed))
+empties-none room now None later s t buffer after e (Err f) failed h same = h
+empties-none room now (Some coming) later s t buffer after e (Err f) failed h same =
+    record { left = h.later; is = h.left; between = t; looks = h.is; hands = (same, refl) }

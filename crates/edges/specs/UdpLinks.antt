@@ -1,5 +1,5 @@
 -- A UDP link, as contracts see it: its queues, and how many calls failed.
-use Rattle.std.specs.Prelude.{◌≡◌, ℕ, min, Bool, List, Option, None, Some, Result, Ok, Err, length}
+use Rattle.std.specs.Prelude.{◌≡◌, ℕ, min, Bool, List, Option, None, Some, Result, Ok, Err, length, true, false}
 use Rattle.std.specs.Option.{option_map}
 use Rattle.ports.specs.declared.Opened as opened
 use Rattle.ports.specs.declared.Received as received
@@ -8,7 +8,8 @@ use Rattle.ports.specs.Count.{counted, next_count}
 use Rattle.link_queues.specs.declared.queues.Sizes.{Sizes}
 use Rattle.link_queues.specs.Waiting.{filled}
 use Rattle.link_queues.specs.Queues.{QueuesState, after_handing, expecting, handed_on, nothing_yet}
-use Rattle.edges.specs.Looks.{Reaches}
+use Rattle.edges.specs.Sockets.{Arrival}
+use Rattle.edges.specs.Looks.{Reaches, batch, emptied, left_with}
 
 -- what came and waits, once a port is bound; and how many calls failed
 pub record UdpState : Type 0 where
@@ -85,3 +86,25 @@ QueuesAfter (Some s) after buffer filled answer = ReceivesInTurn s after buffer 
 
 abbrev pub AfterReceive : UdpState → UdpState → List ℕ → List ℕ → received.Received → Type 0
 AfterReceive link after buffer filled answer = QueuesAfter link.queues after.queues buffer filled answer
+
+-- What is handed on next, by the queues between.
+abbrev pub HandsFrom : ℕ → QueuesState → QueuesState → List ℕ → List ℕ → Result (Option ℕ) Failed → Type 0
+HandsFrom now between t buffer after (Ok got) =
+    (got ≡ option_map (λ d. min (length d) (length buffer)) (handed_on now between)) × (after ≡ filled (handed_on now between) buffer) × (t ≡ after_handing now between)
+HandsFrom now between t buffer after (Err failed) = (after ≡ buffer) × (t ≡ between)
+
+abbrev pub no_fault : Result (Option ℕ) Failed → Bool
+no_fault (Ok got) = true
+no_fault (Err failed) = false
+
+-- The socket was emptied, and then what is next was handed on.
+pub record EmptiedFirst (room now : ℕ) (coming : List Arrival) (later : Option (List Arrival)) (s t : QueuesState) (buffer after : List ℕ) (answer : Result (Option ℕ) Failed) : Type 0 where
+  pub left : List Arrival
+  pub is : later ≡ Some left
+  pub between : QueuesState
+  pub looks : emptied room batch coming s ≡ left_with left between (no_fault answer)
+  pub hands : HandsFrom now between t buffer after answer
+
+abbrev pub EmptiesFirst : ℕ → ℕ → Option (List Arrival) → Option (List Arrival) → QueuesState → QueuesState → List ℕ → List ℕ → Result (Option ℕ) Failed → Type 0
+EmptiesFirst room now None later s t buffer after answer = later ≡ None
+EmptiesFirst room now (Some coming) later s t buffer after answer = EmptiedFirst room now coming later s t buffer after answer

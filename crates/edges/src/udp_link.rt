@@ -8,7 +8,7 @@ ghost use Rattle.link_queues.specs.Waiting.{filled};
 ghost use Rattle.link_queues.specs.Queues.{after_handing, handed_on, nothing_yet};
 ghost use Rattle.edges.specs.Sockets.{FoundAtMost};
 ghost use Rattle.edges.specs.Looks.{Empties, Looks, Reaches, answer_of, kept_found};
-ghost use Rattle.edges.specs.UdpLinks.{HandsNext, AfterReceive, after_bind, after_expect, after_send, bytes_taken, lost_in, sizes};
+ghost use Rattle.edges.specs.UdpLinks.{AfterReceive, EmptiesFirst, HandsNext, after_bind, after_expect, after_send, bytes_taken, lost_in, sizes};
 
 use crate::RealClock;
 use crate::socket::{Found, PortSocket, Socket};
@@ -187,6 +187,9 @@ impl<S: Socket + Drop> Bound<S> {
     fn next_emptied(&mut self, now: u64, buf: &mut [u8]) -> Result<Option<usize>, Failed>
         ensures fits { IfOk result (λ got. IfSome got (λ n. n ≤ length buf.old)) }
         ensures hands { HandsNext self.old.queues self.new.queues buf.old buf.new result }
+        ensures empties { EmptiesFirst (length self.old.datagram.items) now
+            (S.coming self.old.socket) (S.coming self.new.socket) self.old.queues self.new.queues
+            buf.old buf.new result }
         ensures time { OnOk result (self.new.emptied ≡ now) }
         ensures room { length self.new.datagram.items ≡ length self.old.datagram.items }
     {
