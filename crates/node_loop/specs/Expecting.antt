@@ -1,5 +1,5 @@
 -- Whom a link is told of: each member that has a certificate, with the port in it, one after another.
-use Rattle.std.specs.Prelude.{◌≡◌, ℕ, zero, suc, List, [], ◌∷◌, ◌++◌, Option, None, Some, option_map, option_to_list}
+use Rattle.std.specs.Prelude.{◌≡◌, ℕ, zero, suc, List, [], ◌++◌, Option, None, Some, option_map, option_to_list}
 use Rattle.std.specs.List.{flat_map}
 use Rattle.records.specs.declared.Body.TheVariants as body
 use Rattle.journal.specs.declared.event.Event.{Event}
