@@ -1,1 +1,3 @@
 mod PartLemmas
+mod LookLemmas
+mod HandLemmas

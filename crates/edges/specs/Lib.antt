@@ -1,2 +1,5 @@
 pub mod Device
 pub mod Parts
+pub mod Sockets
+pub mod Looks
+pub mod UdpLinks

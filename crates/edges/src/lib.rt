@@ -4,7 +4,7 @@
 //!
 //! The source and the sink reveal what their reader and writer reveal: over the toolchain's own standard input and
 //! output that is nothing. A file, a socket and the clock reveal nothing: their clauses say when a call fails and is
-//! counted, and tests move real bytes.
+//! counted, those of the link what becomes of its queues, and tests move real bytes.
 #![tactic(auto)]
 
 ghost use Rattle.std.specs.Prelude.{◌≡◌, ◌+◌, ◌<◌, ◌≤◌, true, false, length, IfOk, vec_len, vec_capacity};
@@ -20,6 +20,7 @@ mod absent;
 mod file_disk;
 mod line_part;
 mod real_clock;
+mod socket;
 mod udp_link;
 
 pub use absent::{Absent, NoClock};

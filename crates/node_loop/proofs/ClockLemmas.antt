@@ -1,18 +1,16 @@
 -- How many ticks the turns of a life make, and what its clock gives.
-use Rattle.std.proofs.Common.{◌≡◌, ℕ, zero, suc, ◌+◌, ◌-◌, ◌/◌, ◌*◌, ◌≤◌, ◌<◌, min, List, [], ◌∷◌, ◌++◌, length, drop, refl, ap, sym, ◌∙◌, subst, arith}
-use Rattle.std.specs.Prelude.{filter, replicate}
+use Rattle.std.proofs.Common.{◌≡◌, ℕ, zero, suc, ◌+◌, ◌-◌, ◌/◌, ◌≤◌, ◌<◌, min, List, [], ◌∷◌, ◌++◌, length, drop, refl, ap, ◌∙◌, arith}
+use Rattle.std.specs.Prelude.{filter}
 use Rattle.std.proofs.Math.Nat.{div-mul-le_self}
 use Rattle.std.proofs.lemmas.List.{length-append}
 use Rattle.std.proofs.lemmas.List.Elements.{filter-append}
 use Rattle.std.proofs.lemmas.Nat.{le-div}
-use Rattle.ports.specs.declared.link.LinkAnswer.{LinkAnswer}
 use Rattle.ports.specs.Clock.{next_reading}
 use Rattle.ports.specs.MemoryClock.{NeverFalls}
 use Rattle.journal.specs.declared.turn.Heard.{Heard}
 use Rattle.journal.specs.declared.turn.Heard.TheVariants as heard
 use Rattle.journal.specs.declared.turn.Turn.{Turn}
-use Rattle.node_rules.specs.Lives.{Ticks}
-use Rattle.node_loop.specs.Turns.{Act, Calls, LivesFollowTheClock, Outlook, after_turn, delivery_of, is_tick, life_acts, most_ticks, reading_behind, reading_of, ticks_among, ticks_due, ticks_in, ticks_of, ticks_owed, turn_acts, turn_in, turns_from}
+use Rattle.node_loop.specs.Turns.{Act, LivesFollowTheClock, Outlook, after_turn, delivery_of, is_tick, life_acts, most_ticks, reading_behind, reading_of, ticks_among, ticks_in, ticks_of, turn_acts, turn_in, turns_from}
 
 -- ---- ticks among acts
 

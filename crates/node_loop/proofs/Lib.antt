@@ -7,4 +7,5 @@ pub mod LineLemmas
 pub mod CallLemmas
 pub mod TurnLemmas
 pub mod ClockLemmas
+mod ExpectLemmas
 mod Rows

@@ -3,3 +3,4 @@ pub mod Courses
 pub mod Writing
 pub mod Lines
 pub mod Serving
+pub mod Expecting

@@ -23,7 +23,7 @@ returns-clause-spends g c =
     let older = (g.D.Disk.state c.args.disk.now).moments in
     let newer = (g.D.Disk.state c.deliver-done.new.disk).moments in
     let spends = subst (λ (es : List journal.Event). SpendsIn done c.args.node.now.signer v.signer older newer es events) c.new-events.ensures c.deliver-done.ensures.spends in
-    goes-to _ _ _ _ _ _ _ _ _ c.settle-settled.result (ap (λ (l : OfLink). l.faults) c.expect_newly_certified.ensures)
+    goes-to _ _ _ _ _ _ _ _ _ c.settle-settled.result (ap (λ (l : OfLink). l.faults) c.expect_newly_certified.ensures.same)
     (goes-by done c.args.node.now.signer v.signer older newer events (g.O.Sink.state c.args.out.now).taken (g.O.Sink.state c.settle-settled.new.out).taken _ _ c.settle-settled.result spends c.settle-settled.ensures.answers c.settle-settled.ensures.spent)
 
 pub returns-clause-serves : goal.returns-clause-serves
@@ -36,6 +36,6 @@ returns-clause-serves g c = λ s before r at.
     let newer = (g.D.Disk.state c.deliver-done.new.disk).moments in
     let step = lent-none (λ (l : CallerBuffers). GivesCall s r.node (Delivers c.args.bytes.now) v l (lent events out) done) c.new-events.result c.new-outbox.result c.new-events.ensures c.new-outbox.ensures (c.deliver-done.ensures.step s r.node at.node c.requires.going) in
     let spends = subst (λ (es : List journal.Event). SpendsIn done c.args.node.now.signer v.signer older newer es events) c.new-events.ensures c.deliver-done.ensures.spends in
-    subst (λ (k : OfLink). Serves s before (Calls (Delivers c.args.bytes.now) ∷ []) r (standing v k.contents (g.O.Sink.state c.settle-settled.new.out).taken newer c.settle-settled.new.sent) c.settle-settled.result) (sym c.expect_newly_certified.ensures)
+    subst (λ (k : OfLink). Serves s before (Calls (Delivers c.args.bytes.now) ∷ []) r (standing v k.contents (g.O.Sink.state c.settle-settled.new.out).taken newer c.settle-settled.new.sent) c.settle-settled.result) (sym c.expect_newly_certified.ensures.same)
     (serves-call s before c.args.node.now v (g.L.Link.state c.args.link.now).contents (g.L.Link.state c.settle-settled.new.link).contents (g.O.Sink.state c.args.out.now).taken (g.O.Sink.state c.settle-settled.new.out).taken older newer c.args.sent.now c.settle-settled.new.sent r (Delivers c.args.bytes.now)
     events out done c.settle-settled.result at refl step c.deliver-done.ensures.kept c.deliver-done.ensures.ended spends c.settle-settled.ensures.answers c.settle-settled.ensures.extends (λ r1 at1. c.settle-settled.ensures.settles before newer r1 at1))

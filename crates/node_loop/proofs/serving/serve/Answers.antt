@@ -87,13 +87,13 @@ returns-in_err-turn-clause-store_fault g c =
 pub returns-in_err-turn-clause-spends : goal.returns-in_err-turn-clause-spends
 returns-in_err-turn-clause-spends g c =
     let e : ServeFault = c.in_err-turn.field-0.0 in
-    let count = ap (λ (l : OfLink). l.faults) c.expect_certified.ensures in
+    let count = ap (λ (l : OfLink). l.faults) c.expect_certified.ensures.same in
     let goes = goes-trans _ _ _ _ _ _ _ _ _ _ _ _ (Err e) c.loop-done.invariant.goes c.in_err-turn.ensures.spends in
     goes-as _ _ _ _ _ _ _ _ c.from_residual.result (Err e) (thrown c.from_residual.result e c.from_residual.ensures.1)
     (goes-from _ _ _ _ _ _ _ _ _ (Err e) count goes)
 
 pub returns-clause-spends : goal.returns-clause-spends
-returns-clause-spends g c = goes-from _ _ _ _ _ _ _ _ _ (Ok tt) (ap (λ (l : OfLink). l.faults) c.expect_certified.ensures) c.loop-done.invariant.goes
+returns-clause-spends g c = goes-from _ _ _ _ _ _ _ _ _ (Ok tt) (ap (λ (l : OfLink). l.faults) c.expect_certified.ensures.same) c.loop-done.invariant.goes
 
 pub returns-in_err-turn-clause-serves : goal.returns-in_err-turn-clause-serves
 returns-in_err-turn-clause-serves g c = λ s n link_told readings is link_is coming_is.
@@ -104,7 +104,7 @@ returns-in_err-turn-clause-serves g c = λ s n link_told readings is link_is com
     let taken = (g.O.Sink.state c.args.out.now).taken in
     let moments = (g.D.Disk.state c.args.disk.now).moments in
     let link = (g.L.Link.state c.expect_certified.new.link).contents in
-    let told = ap (λ (l : OfLink). l.contents) c.expect_certified.ensures ∙ link_is in
+    let told = ap (λ (l : OfLink). l.contents) c.expect_certified.ensures.same ∙ link_is in
     let later = (g.C.Clock.state c.now-base.new.self).coming in
     let read = base-read last (g.C.Clock.state c.args.clock.now).coming later readings base coming_is c.now-base.ensures.reads in
     let before : Before = before_all taken c.args.node.now.signer moments in
@@ -131,7 +131,7 @@ returns-clause-serves g c = λ s n link_told readings is link_is coming_is.
     let taken = (g.O.Sink.state c.args.out.now).taken in
     let moments = (g.D.Disk.state c.args.disk.now).moments in
     let link = (g.L.Link.state c.expect_certified.new.link).contents in
-    let told = ap (λ (l : OfLink). l.contents) c.expect_certified.ensures ∙ link_is in
+    let told = ap (λ (l : OfLink). l.contents) c.expect_certified.ensures.same ∙ link_is in
     let later = (g.C.Clock.state c.now-base.new.self).coming in
     let read = base-read last (g.C.Clock.state c.args.clock.now).coming later readings base coming_is c.now-base.ensures.reads in
     let before : Before = before_all taken c.args.node.now.signer moments in
