@@ -35,7 +35,8 @@ use Rattle.authority.specs.Enrolling.{AreEnrolled, Enrols, IsEnough, Spends, Spe
 use Rattle.node_command.proofs.RestLemmas.{silent-unread}
 use Rattle.command_line.specs.Causes.{status_of_halt}
 use Rattle.command_line.specs.Ends.{Tells}
-use Rattle.command_line.specs.Enrolment.{Enrolment, SpendsCerts, SpendsNone, WritesCerts, cert_lines}
+use Rattle.node_command.specs.Spendings.{SpendsNone}
+use Rattle.command_line.specs.Enrolment.{Enrolment, SpendsCerts, WritesCerts, cert_lines}
 use Rattle.command_line.specs.declared.status.Status.{Status}
 use Rattle.command_line.proofs.EnrollLemmas.{split-within}
 

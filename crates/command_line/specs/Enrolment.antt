@@ -19,6 +19,7 @@ use Rattle.authority.specs.Lines.{signed_lines}
 use Rattle.authority.specs.Settings.{asked_in, key_of, tag_of}
 use Rattle.authority.specs.Texts.{IsRoster}
 use Rattle.authority.specs.Enrolling.{Spends, SpendsFronts}
+use Rattle.node_command.specs.Spendings.{SpendsNone}
 use Rattle.command_line.specs.Causes.{status_of_halt}
 use Rattle.command_line.specs.Ends.{Tells}
 use Rattle.command_line.specs.declared.status.Status.{Status}
@@ -60,14 +61,6 @@ pub record SpendsOnce (was now : IoState) (old new : OfDisk) : Type 0 where
       (indexes (spent_by opened (map Certificate certs)))
   pub lives : Spends setting opened certs old new
   pub any_moment : SpendsFronts setting opened certs old new
-
--- Nothing was written, and nothing of any key spent: each crash ends lives as before, now and at each moment between.
-pub record SpendsNone (before after : Option (List ℕ)) (old new : OfDisk) : Type 0 where
-  pub unwritten : Appends before after []
-  pub any_moment : (tag image : List ℕ) (spent : List Spent) → EndsNow tag image spent old.moments
-      → Since (EndsLives tag image spent) old.moments new.moments
-  pub ends : (tag image : List ℕ) (spent : List Spent) → EndsNow tag image spent old.moments
-      → EndsNow tag image spent new.moments
 
 -- It spends nothing, and writes nothing; or the indexes from the next one of the store that it found, each once.
 abbrev pub SpendsCerts : IoState → IoState → OfDisk → OfDisk → Type 0

@@ -102,7 +102,8 @@ impl Model for Node {
 impl Node {
     /// What the node knows of the group: one life of the rules of membership.
     pub fn membership(&self) -> &Membership
-        ensures { result.now ≡ self.now.membership }
+        ensures kept { result.now ≡ self.now.membership }
+        ensures group { result.now.group ≡ self.now.group }
     {
         &self.membership
     }

@@ -101,6 +101,7 @@ holds-called s c before v m at x place call sent kept h is own new sends counts 
       ots = h.ots;
       tree = h.tree;
       world = h.world;
+      ranges = h.ranges;
       authority = h.authority;
       issued = ap (map (λ y. y.body)) (still-issued m w.signed call.told) ∙ h.issued;
       apart = h.apart;

@@ -122,6 +122,7 @@ holds-changed s w told v m at x place h is own new =
       ots = h.ots;
       tree = h.tree;
       world = h.world;
+      ranges = h.ranges;
       authority = h.authority;
       issued = h.issued;
       apart = h.apart;

@@ -149,6 +149,7 @@ holds-lied s w told v key at x later body name named h is found lied under =
       ots = h.ots;
       tree = h.tree;
       world = h.world;
+      ranges = h.ranges;
       authority = h.authority;
       issued = ap (map (λ y. y.body)) (signs_other None signed w.signed refl) ∙ h.issued;
       apart = h.apart;

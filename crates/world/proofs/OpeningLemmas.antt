@@ -17,6 +17,7 @@ use Rattle.records.specs.declared.Body.{Body}
 use Rattle.records.specs.declared.Body.TheVariants.{Certificate}
 use Rattle.records.specs.Signing.{CheckedRecord}
 use Rattle.membership.proofs.NumberLemmas.{all_length}
+use Rattle.node_core.specs.Begins.{IsGroup}
 use Rattle.node_core.specs.Rolls.{recs_of}
 use Rattle.node_rules.specs.Nodes.{in_order}
 use Rattle.signer.specs.Lives.{Spent}
@@ -307,13 +308,14 @@ unfolding by_authority begun_world
 first-issued s = bodies-issued s 0 (members s)
 
 -- What is built of all members is the world that is begun.
-pub holds-built : (s : Setting) (ots : OtsKind) (tree : TreeKind) (n : ℕ) (signing : LeavesOf) (v : Kept) → n ≡ MEMBERS → IsWorld s v.authority.group ots tree → ((m : ℕ) → is_node s m ≡ true → is_liar s m ≡ false) → Builds s ots tree n signing v → Holds s (begun_world s) [] v
+pub holds-built : (s : Setting) (ots : OtsKind) (tree : TreeKind) (n : ℕ) (signing : LeavesOf) (v : Kept) → n ≡ MEMBERS → IsWorld s v.authority.group ots tree → IsGroup v.authority.group → ((m : ℕ) → is_node s m ≡ true → is_liar s m ≡ false) → Builds s ots tree n signing v → Holds s (begun_world s) [] v
 unfolding begun_world
-holds-built s ots tree n signing v all world apart h =
+holds-built s ots tree n signing v all world ranges apart h =
     record {
       ots = ots;
       tree = tree;
       world = world;
+      ranges = ranges;
       authority = record { key = h.authority; certified = h.certified ∙ sym (all-certified s n all) };
       issued = first-issued s;
       apart = apart;

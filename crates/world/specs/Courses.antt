@@ -1,8 +1,10 @@
 -- A line of a world so far: what is kept and what is written of it.
-use Rattle.std.specs.Prelude.{◌≡◌, ℕ, Bool, true, false, not, ◌==◌, if◌then◌else◌, List, [], ◌∷◌, ◌++◌, Option, Some, None, is_some, Result, Ok, Err, IfSome, map}
+use Rattle.std.specs.Prelude.{◌≡◌, ℕ, ◌<◌, Bool, true, false, not, ◌==◌, if◌then◌else◌, List, [], ◌∷◌, ◌++◌, Option, Some, None, is_some, Result, Ok, Err, IfSome, map}
 use Rattle.std.specs.List.{position, slice_get}
 use Rattle.std.specs.Option.{option_map, option_map_or}
+use Rattle.ff_ids.specs.Masks.{ring_count}
 use Rattle.lms_tree.specs.Leaves.{index_count}
+use Rattle.validate.specs.Certified.{certificate_of}
 use Rattle.records.specs.declared.Body.{Body}
 use Rattle.records.specs.declared.Body.TheVariants.{Note, Accusation}
 use Rattle.fields.specs.declared.NoMemory.{NoMemory}
@@ -190,3 +192,29 @@ HasLeafAt v (Some at) = IfSome (slice_get v.liars at) (λ x. (x.key.next == inde
 -- The liar whose key is to sign has a leaf left.
 abbrev pub CanSign : Kept → WorldLine → Type 0
 CanSign v line = IfSome (key_named line) (λ key. HasLeafAt v (liar_place_of v key))
+
+-- ---- questions
+
+-- The ring that a line asks about is one of the group's.
+abbrev pub HasItsRing : Kept → WorldLine → Type 0
+HasItsRing v (lines.Monitor m ring of) = ring.0 < ring_count v.authority.group.t
+HasItsRing v line = Unit {0}
+
+-- Where the member has its host.
+abbrev pub place_of : Kept → ℕ → Option ℕ
+place_of v m = position (λ x. x.member == m) v.hosts
+
+-- The node there, if one runs, has the certificate of this member.
+abbrev pub KnowsAt : Kept → ℕ → Option ℕ → Type 0
+KnowsAt v of None = Unit {0}
+KnowsAt v of (Some at) = IfSome (slice_get v.hosts at) (λ x. IfSome x.node (λ n. is_some (certificate_of n.roster of) ≡ true))
+
+-- The node that is asked, if it runs, has the certificate of the member that it is asked about.
+abbrev pub CanTell : Kept → WorldLine → Type 0
+CanTell v (lines.Monitor m ring of) = KnowsAt v of (place_of v m)
+CanTell v line = Unit {0}
+
+-- The same of the node there.
+abbrev pub CanTellAt : Kept → ℕ → WorldLine → Type 0
+CanTellAt v at (lines.Monitor m ring of) = KnowsAt v of (Some at)
+CanTellAt v at line = Unit {0}

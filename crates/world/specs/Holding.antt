@@ -4,6 +4,7 @@ use Rattle.std.specs.List.{AllByRecursion}
 use Rattle.std.specs.Option.{option_map}
 use Rattle.lms_ots.specs.declared.OtsKind.{OtsKind}
 use Rattle.lms_tree.specs.declared.TreeKind.{TreeKind}
+use Rattle.node_core.specs.Begins.{IsGroup}
 use Rattle.node_rules.specs.Nodes.{in_order}
 use Rattle.world_rules.specs.Settings.{Setting, certificates, is_liar, is_node, nodes}
 use Rattle.world_rules.specs.Keys.{owner_key}
@@ -50,12 +51,14 @@ pub record HoldsLiar (s : Setting) (ots : OtsKind) (tree : TreeKind) (w : ModelW
   pub next : x.key.next ≡ next_of_liar w x.member
   pub signed : x.signed.items ≡ map (λ y. y.body) (spent_of w (Some x.member))
 
--- What is kept stands for this world, after these events were reported. Nobody is both a node and a liar, nobody runs who is no
--- node, nobody signs who is neither a node nor a liar, and the authority signs nothing but certificates.
+-- What is kept stands for this world, after these events were reported. The group's numbers are in their ranges. Nobody is
+-- both a node and a liar, nobody runs who is no node, nobody signs who is neither a node nor a liar, and the authority signs
+-- nothing but certificates.
 pub record Holds (s : Setting) (w : ModelWorld) (told : List NodeEvent) (v : Kept) : Type 0 where
   pub ots : OtsKind
   pub tree : TreeKind
   pub world : IsWorld s v.authority.group ots tree
+  pub ranges : IsGroup v.authority.group
   pub authority : Certifies s v.authority
   pub issued : map (λ y. y.body) (spent_of w None) ≡ map (λ r. r.body) (certificates s)
   pub apart : (m : ℕ) → is_node s m ≡ true → is_liar s m ≡ false
@@ -70,3 +73,10 @@ pub record Holds (s : Setting) (w : ModelWorld) (told : List NodeEvent) (v : Kep
   pub named : (name : List ℕ) → given_under v.named name ≡ option_map given_bytes (named_so w name)
   pub tested : AllByRecursion (IsClean s w) v.tested
   pub counts : AreKept v.counts (counts_of s told)
+
+-- What is kept stands for some world.
+pub record StandsForWorld (v : Kept) : Type 0 where
+  pub setting : Setting
+  pub world : ModelWorld
+  pub told : List NodeEvent
+  pub holds : Holds setting world told v

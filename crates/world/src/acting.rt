@@ -8,7 +8,7 @@ ghost use Rattle.world_rules.specs.Steps.{Execution, NodeEvent, calls};
 ghost use Rattle.world_rules.specs.Worlds.{World as ModelWorld, is_running};
 ghost use Rattle.world.specs.Counting.{AreKept, removes_node as removes_of};
 ghost use Rattle.world.specs.Courses.{At, Goes, IsPlace, Replies, WritesLines, WritesText, began_text, starts_if_left};
-ghost use Rattle.world.specs.Holding.{Holds, numbers};
+ghost use Rattle.world.specs.Holding.{Holds, StandsForWorld, numbers};
 ghost use Rattle.world.specs.Telling.{call_lines};
 
 use crate::telling::add_events;
@@ -135,7 +135,8 @@ impl World {
 
     /// The line `start`, of a node that doesn't run.
     pub(crate) fn start(&mut self, at: usize, out: &mut Vec<u8>) -> Result<(), WorldFault>
-        requires { at < length self.old.hosts }
+        requires host { at < length self.old.hosts }
+        requires stands { StandsForWorld self.old }
         ensures numbers { numbers self.new ≡ numbers self.old }
         ensures starts { (s : Setting) (w : ModelWorld) (before : List NodeEvent) (m : ℕ)
             → Holds s w before self.old → IsPlace self.old at m → is_running w m ≡ false

@@ -10,7 +10,8 @@ ghost use Rattle.world_rules.specs.Worlds.{World as ModelWorld};
 ghost use Rattle.world_laws.specs.Texts.{IsPlayed};
 ghost use Rattle.world.specs.Answers.{Steps, StepsLawfully};
 ghost use Rattle.world.specs.Counting.{AreKept};
-ghost use Rattle.world.specs.Holding.{Holds};
+ghost use Rattle.world.specs.Courses.{HasItsRing};
+ghost use Rattle.world.specs.Holding.{Holds, StandsForWorld};
 
 mod acting;
 mod counts;
@@ -81,8 +82,10 @@ impl Model for World {
 impl World {
     /// Plays a line that stands behind `begin`, and appends its trace: the line, its verdict, and what its nodes report.
     /// `Forged` comes where the line hands over a record that is forged; the first one is given. After a fault `out` is as it
-    /// was, and the world is over. A ring that the group lacks, which no schedule has, is answered by want of memory.
+    /// was, and the world is over. A line that asks about a ring asks about one of the group's.
     pub fn step(&mut self, line: &WorldLine, out: &mut Vec<u8>) -> Result<(), WorldFault>
+        requires stands { StandsForWorld self.old }
+        requires ring { HasItsRing self.old line.now }
         ensures steps { (s : Setting) (w : ModelWorld) (told : List NodeEvent)
             → Holds s w told self.old
             → Steps s w told line.now self.new out.old.items out.new.items result }

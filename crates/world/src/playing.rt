@@ -1,10 +1,7 @@
 //! A line that is played.
 
-ghost use Rattle.std.specs.Prelude.{◌≡◌, ◌<◌, ◌≤◌, ◌++◌, ◌∷◌, [], ℕ, List, true, Ok, Some, None, IfOk, IfErr, IfSome, OnOk, OnErr, length};
+ghost use Rattle.std.specs.Prelude.{◌≡◌, ◌<◌, ◌++◌, ◌∷◌, [], ℕ, List, true, Ok, Some, None, IfErr, OnOk, OnErr, length};
 ghost use Rattle.ff_ids.specs.Masks.{ring_count};
-ghost use Rattle.ff_ids.specs.Views.{State, monitor as monitor_in, view};
-ghost use Rattle.membership.specs.Life.{has_joined};
-ghost use Rattle.membership.specs.Holds.{Holds as Stands};
 ghost use Rattle.world_rules.specs.Refusals.{node_named as node_in, why_not as refusal};
 ghost use Rattle.world_rules.specs.Settings.{Setting, is_liar};
 ghost use Rattle.world_rules.specs.Steps.{Execution, NodeEvent, answered, asks, begun, does, flows, gives_each, monitored, step, ticks as ticks_of, viewed};
@@ -13,39 +10,17 @@ ghost use Rattle.world_rules.specs.Worlds.{World as ModelWorld, named_so, runnin
 ghost use Rattle.world_text.specs.Lines.{Began};
 ghost use Rattle.world.specs.declared.fault.WorldFault.TheVariants as faults;
 ghost use Rattle.world.specs.Answers.{PlaysLine};
-ghost use Rattle.world.specs.Courses.{At, CanSign, CanStart, Goes, HasLeafAt, IsPlace, NamesLiar, Replies, before_opening, body_in, course_of, does_or_opens, liar_place_of, signs};
-ghost use Rattle.world.specs.Holding.{Holds, numbers};
+ghost use Rattle.world.specs.Courses.{At, CanSign, CanStart, CanTell, CanTellAt, Goes, HasItsRing, HasLeafAt, IsPlace, KnowsAt, NamesLiar, Replies, before_opening, body_in, course_of, does_or_opens, liar_place_of, signs};
+ghost use Rattle.world.specs.Holding.{Holds, StandsForWorld, numbers};
 
 use crate::refusing::node_named;
 use crate::{World, WorldFault};
 use ff_ids::{MemberId, RingNo};
 use fields::{Name, NoMemory};
-use membership::Membership;
 use schedule_world::WorldLine;
 use std::alloc::Global;
 use world_rules::{MemberList, Verdict};
 use world_text::{write_line, write_verdict};
-
-/// The monitor of the member on the ring. Whoever has a certificate has joined, and lines have no other ring than the
-/// group's: else the answer is that memory was refused.
-fn monitor_of(
-    membership: &Membership,
-    ring: RingNo,
-    member: MemberId,
-) -> Result<Option<MemberId>, NoMemory>
-    ensures value { IfOk result
-        (λ monitor. (st : State) → Stands membership.now st
-        → monitor ≡ monitor_in st ring.0 member) }
-    ensures refused { OnErr result (has_joined membership.now member ≡ true
-        → ring_count membership.now.group.t ≤ ring.0) }
-{
-    let rings = 2 * u16::from(membership.group().t) + 1;
-    if membership.is_member(member) && u16::from(ring.0) < rings {
-        Ok(membership.monitor(ring, member))
-    } else {
-        Err(NoMemory)
-    }
-}
 
 fn end_line(out: &mut Vec<u8>) -> Result<(), WorldFault>
     ensures ok { OnOk result (out.new.items ≡ out.old.items ++ 10 ∷ []) }
@@ -116,7 +91,7 @@ impl World {
         }
     }
 
-    /// The line `monitor`.
+    /// The line `monitor`, of a member whose certificate the node has that runs.
     fn see_monitor(
         &self,
         at: usize,
@@ -124,7 +99,10 @@ impl World {
         of: MemberId,
         out: &mut Vec<u8>,
     ) -> Result<(), WorldFault>
-        requires { at < length self.now.hosts }
+        requires host { at < length self.now.hosts }
+        requires stands { StandsForWorld self.now }
+        requires ring { ring.0 < ring_count self.now.authority.group.t }
+        requires known { KnowsAt self.now of (Some at) }
         ensures { (s : Setting) (w : ModelWorld) (before : List NodeEvent) (m : ℕ)
             → Holds s w before self.now → IsPlace self.now at m
             → Replies s before self.now out.old.items out.new.items
@@ -132,7 +110,7 @@ impl World {
     {
         match self.hosts[at].node() {
             Some(node) => {
-                let monitor = monitor_of(node.membership(), ring, of)?;
+                let monitor = node.membership().monitor(ring, of);
                 self.answer(&Verdict::MonitoredBy(monitor), out)
             }
             None => end_line(out),
@@ -187,7 +165,10 @@ impl World {
 
     /// What a line does that names this host's node.
     fn do_at(&mut self, at: usize, line: &WorldLine, out: &mut Vec<u8>) -> Result<(), WorldFault>
-        requires { at < length self.old.hosts }
+        requires host { at < length self.old.hosts }
+        requires stands { StandsForWorld self.old }
+        requires ring { HasItsRing self.old line.now }
+        requires known { CanTellAt self.old at line.now }
         ensures numbers { numbers self.new ≡ numbers self.old }
         ensures does { (s : Setting) (w : ModelWorld) (before : List NodeEvent) (m : ℕ)
             → Holds s w before self.old → IsPlace self.old at m → node_in line.now ≡ Some m
@@ -275,7 +256,10 @@ impl World {
 
     /// What a line does that can be done.
     fn do_line(&mut self, line: &WorldLine, out: &mut Vec<u8>) -> Result<(), WorldFault>
-        requires { CanSign self.old line.now }
+        requires left { CanSign self.old line.now }
+        requires stands { StandsForWorld self.old }
+        requires ring { HasItsRing self.old line.now }
+        requires known { CanTell self.old line.now }
         ensures numbers { numbers self.new ≡ numbers self.old }
         ensures does { (s : Setting) (w : ModelWorld) (before : List NodeEvent)
             → Holds s w before self.old → before_opening line.now (refusal s w line.now) ≡ None
@@ -292,6 +276,8 @@ impl World {
 
     /// Answers the line, whose own text is written.
     fn do_or_refuse(&mut self, line: &WorldLine, out: &mut Vec<u8>) -> Result<(), WorldFault>
+        requires stands { StandsForWorld self.old }
+        requires ring { HasItsRing self.old line.now }
         ensures numbers { numbers self.new ≡ numbers self.old }
         ensures steps { (s : Setting) (w : ModelWorld) (before : List NodeEvent)
             → Holds s w before self.old
@@ -305,6 +291,8 @@ impl World {
 
     /// Plays the line, and appends its trace.
     pub(crate) fn play(&mut self, line: &WorldLine, out: &mut Vec<u8>) -> Result<(), WorldFault>
+        requires stands { StandsForWorld self.old }
+        requires ring { HasItsRing self.old line.now }
         ensures numbers { numbers self.new ≡ numbers self.old }
         ensures plays { (s : Setting) (w : ModelWorld) (before : List NodeEvent)
             → Holds s w before self.old

@@ -6,7 +6,7 @@ ghost use Rattle.world_rules.specs.Refusals.{asks_for_unknown as asks_in, datagr
 ghost use Rattle.world_rules.specs.Settings.{Setting, is_liar, is_node};
 ghost use Rattle.world_rules.specs.Steps.{NodeEvent};
 ghost use Rattle.world_rules.specs.Worlds.{World as ModelWorld, is_running as runs, named_so};
-ghost use Rattle.world.specs.Courses.{CanSign, HasLeafAt, before_opening, key_used_up, last_rows, liar_place_of};
+ghost use Rattle.world.specs.Courses.{CanSign, CanTell, HasLeafAt, before_opening, key_used_up, last_rows, liar_place_of};
 ghost use Rattle.world.specs.Holding.{Holds};
 
 use crate::World;
@@ -198,8 +198,9 @@ impl World {
     }
 
     fn asks_for_unknown(&self, line: &WorldLine) -> bool
-        ensures { (s : Setting) (w : ModelWorld) (told : List NodeEvent) → Holds s w told self.now
-            → result ≡ asks_in w line.now }
+        ensures known { result ≡ false → CanTell self.now line.now }
+        ensures value { (s : Setting) (w : ModelWorld) (told : List NodeEvent)
+            → Holds s w told self.now → result ≡ asks_in w line.now }
     {
         let WorldLine::Monitor { member, of, .. } = line else {
             return false;
@@ -216,6 +217,7 @@ impl World {
     /// Why the line can't be done, as far as the last rows of the table say.
     fn why_not_signed(&self, line: &WorldLine) -> Option<RefusalReason>
         ensures left { IfNone result (CanSign self.now line.now) }
+        ensures known { IfNone result (CanTell self.now line.now) }
         ensures value { (s : Setting) (w : ModelWorld) (told : List NodeEvent)
             → Holds s w told self.now
             → holds_of (λ key. not (is_liar s key)) (key_in line.now) ≡ false
@@ -236,6 +238,7 @@ impl World {
     /// Why the line can't be done, if it can't. Whether a node's key is used up shows once its store is open.
     pub(crate) fn why_not(&self, line: &WorldLine) -> Option<RefusalReason>
         ensures left { IfNone result (CanSign self.now line.now) }
+        ensures known { IfNone result (CanTell self.now line.now) }
         ensures value { (s : Setting) (w : ModelWorld) (told : List NodeEvent)
             → Holds s w told self.now
             → result ≡ before_opening line.now (refusal s w line.now) }

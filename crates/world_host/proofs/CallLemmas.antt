@@ -1,6 +1,7 @@
 -- A node's call over its disk, and how it leaves its place.
 use Rattle.std.proofs.Common.{◌≡◌, ℕ, true, false, List, [], ◌∷◌, ◌++◌, length, Option, Some, None, Result, Ok, Err, refl, sym, ap, ◌∙◌, subst, arith, length-append}
-use Rattle.std.specs.Prelude.{IfErr, IfSome, OnOk, is_err, option_to_list}
+use Rattle.std.specs.Prelude.{IfSome, OnOk, is_err, is_some, option_to_list}
+use Rattle.std.specs.Option.{option_map}
 use Rattle.std.proofs.lemmas.Bool.{false≢true}
 use Rattle.fields.specs.declared.NoMemory.{NoMemory}
 use Rattle.ff_ids.specs.declared.Group.{Group}
@@ -13,7 +14,10 @@ use Rattle.journal.specs.declared.event.Event as journal
 use Rattle.node_rules.specs.Nodes.{Node}
 use Rattle.node_rules.specs.Nodes as rules
 use Rattle.node_rules.specs.Calls.{Call}
-use Rattle.node_rules.specs.Lives.{Input, call_of}
+use Rattle.node_rules.specs.Lives.{Input, after_calls, call_of}
+use Rattle.node_rules.specs.OneExchange as node_life
+use Rattle.node_rules.specs.OneExchange.{IsCorrect, WhatIsHeldIsTheLife, node_after}
+use Rattle.node_rules.specs.Starting.{started}
 use Rattle.node_rules.specs.OnDisks as over
 use Rattle.node_core.specs.declared.NodeFault.{NodeFault}
 use Rattle.node_core.specs.declared.NodeFault.TheVariants as faults
@@ -28,9 +32,9 @@ use Rattle.world_rules.specs.Settings.{Setting, setting_of}
 use Rattle.world_rules.specs.Disks.{Disk, seat_of}
 use Rattle.world_rules.specs.Worlds.{Life, Host}
 use Rattle.world_rules.specs.Steps.{host_after, with_input}
-use Rattle.world_host.specs.Answers.{Calls, CallsRunning, Ends, MayStop, bodies_in, call_on, spent_in}
+use Rattle.world_host.specs.Answers.{Calls, CallsRunning, Ends, bodies_in, call_on, spent_in}
 use Rattle.world_host.specs.Holding.{HoldsCurrent, HoldsLife, HoldsHost, IsWorld}
-use Rattle.world_host.specs.Hosts.{HostState, IsGoing}
+use Rattle.world_host.specs.Hosts.{HaveJoined, HostState, IsGoing}
 use Rattle.world_host.proofs.SpentLemmas.{signed-behind}
 use Rattle.world_host.proofs.WorldLemmas.{few-indexes, few-rings, tag-is}
 
@@ -189,24 +193,40 @@ called-so s g ots tree i place spent x after last v now d old new called answer 
     (subst (λ (y : HostState). Calls s ots tree i place spent r.life y old.sent new.sent new.events) (sym kept)
     (answered s g ots tree i place spent r.life x after v now d old new called answer w h r.is r.holds none follows over free ends fine))
 
--- ---- what a call may answer
+-- ---- a node that goes on
 
--- A node that is going ends in no other way.
-of-call : (s : rules.Setting) (n : Node) (i : Input) (v : Kept) (old new : CallerBuffers) (fault : NodeFault) → GivesCall s n i v old new (Err fault) → MayStop fault
-of-call s n i v old new faults.StoreFault gives = tt
-of-call s n i v old new faults.OutOfMemory gives = tt
-of-call s n i v old new (faults.Exhausted next) gives = absurd gives
-of-call s n i v old new faults.Ended gives = absurd gives
+after-one : (s : rules.Setting) (n : Node) (inputs : List Input) (i : Input) → after_calls s n (inputs ++ i ∷ []) ≡ (call_of s (after_calls s n inputs) i).node
+after-one s n [] i = refl
+after-one s n (x ∷ inputs) i = after-one s (call_of s n x).node inputs i
 
-pub err-of-call : (s : rules.Setting) (n : Node) (i : Input) (v : Kept) (old new : CallerBuffers) (called : Result (Unit {0}) NodeFault) → GivesCall s n i v old new called → IfErr called MayStop
-err-of-call s n i v old new (Ok done) gives = tt
-err-of-call s n i v old new (Err fault) gives = of-call s n i v old new fault gives
-
--- It stands for a node again.
-pub going-on : (s : rules.Setting) (n : Node) (i : Input) (v : Kept) (old new : CallerBuffers) (called : Result (Unit {0}) NodeFault) → GivesCall s n i v old new called → v.ended ≡ is_err called → OnOk called (IsGoing v)
-going-on s n i v old new (Ok done) gives over = record { setting = s; node = (call_of s n i).node; is = gives.is; going = over }
-going-on s n i v old new (Err fault) gives over = tt
+-- It stands for what its life has come to by one call more.
+pub going-on : (l : node_life.Life) (inputs : List Input) (i : Input) (v : Kept) (old new : CallerBuffers) (called : Result (Unit {0}) NodeFault) → IsCorrect l → GivesCall l.setting (node_after l inputs) i v old new called → v.ended ≡ is_err called → OnOk called (IsGoing v)
+going-on l inputs i v old new (Ok done) correct gives over =
+    record {
+      life = l;
+      inputs = inputs ++ i ∷ [];
+      correct = correct;
+      is = subst (IsNode l.setting v) (sym (after-one l.setting (started l.setting l.seed l.certificates l.stored).node inputs i)) gives.is;
+      going = over;
+    }
+going-on l inputs i v old new (Err fault) correct gives over = tt
 
 pub some-going : (o : Option Kept) (v : Kept) → IfSome o IsGoing → o ≡ Some v → IsGoing v
-some-going None v h is = cc
-some-going (Some k) v h is = subst IsGoing (some-same k v is) h
+some-going o v h is = subst (λ (p : Option Kept). IfSome p IsGoing) is h
+
+-- ---- who has joined
+
+joined-so : (v : Kept) → WhatIsHeldIsTheLife → IsGoing v → HaveJoined v
+joined-so v law g = λ m has.
+    let n : Node = node_after g.life g.inputs in
+    let held = law g.life g.inputs g.correct in
+    sym (g.is.holds.at_number m).member ∙ sym (held.members m) ∙ ap is_some (sym (g.is.roster m)) ∙ has
+
+pub joined-in : (o : Option Kept) → WhatIsHeldIsTheLife → IfSome o IsGoing → IfSome o HaveJoined
+joined-in None law g = tt
+joined-in (Some v) law g = joined-so v law g
+
+-- What holds of each that is mapped holds of what it comes of.
+pub mapped-so : {X Y : Type 0} (f : X → Y) (P : Y → Type 0) (r : Option X) (o : Option Y) → option_map f r ≡ o → IfSome o P → IfSome r (λ x. P (f x))
+mapped-so f P None o is h = tt
+mapped-so {Y = Y} f P (Some x) o is h = subst (λ (q : Option Y). IfSome q P) (sym is) h

@@ -6,11 +6,7 @@ use Rattle.std.proofs.lemmas.Bool.Decides.{nat_tests}
 use Rattle.std.proofs.lemmas.List.Folds.{list_any-append}
 use Rattle.ff_ids.specs.declared.TheConstants.{MEMBERS}
 use Rattle.ff_ids.specs.Views.{all_numbers}
-use Rattle.lms_ots.specs.declared.OtsKind.{OtsKind}
-use Rattle.lms_tree.specs.declared.TreeKind.{TreeKind}
 use Rattle.lms_tree.specs.declared.key.PublicKey.{PublicKey}
-use Rattle.lms_tree.specs.declared.secret.Secret.{Secret}
-use Rattle.lms_tree.specs.Lms.{public_of}
 use Rattle.records.specs.declared.CertBody.{CertBody}
 use Rattle.records.specs.declared.Body.TheVariants.{Certificate}
 use Rattle.records.specs.declared.Record.{Record}
@@ -19,10 +15,9 @@ use Rattle.node_rules.specs.Lives.{is_certificate_for}
 use Rattle.node_core.specs.Begins.{AreCertificatesOf, HasKey, IsCheckedIn, IsGroup, IsKit}
 use Rattle.node_core.specs.Rolls.{AreApart, IsOfOther, recs_of}
 use Rattle.node_core.specs.declared.kit.Kit.{Kit}
-use Rattle.world_rules.specs.Keys.{owner_key}
 use Rattle.world_rules.specs.Settings.{Setting, by_authority, certificate, certificates, certified_from, is_node, members, record_of}
-use Rattle.world_host.specs.Certifying.{Certifying, IsKitOf}
-use Rattle.world_host.specs.Holding.{Certifies, IsWorld}
+use Rattle.world_host.specs.Certifying.{Certifying}
+use Rattle.world_host.specs.Holding.{IsPlaceOf}
 use Rattle.world_host.proofs.WorldLemmas.{own-public}
 
 -- certificates of these members, from this index on
@@ -104,18 +99,19 @@ each P [] h = tt
 each {X = X} P (x ∷ xs) h = (h 0 x (omega arith), each P xs (λ k d lt. h (suc k) d (omega (arith, lt))))
 
 -- The kit of a node of a world is sound for its key.
-pub kit-sound : (s : Setting) (ots : OtsKind) (tree : TreeKind) (a : Certifying) (m next : ℕ) (key : Secret) (kit : Kit) → m < MEMBERS → IsWorld s a.group ots tree → Certifies s a → IsGroup a.group → is_node s m ≡ true → key ≡ owner_key a.group ots tree (Some m)
-    → IsKitOf a m next kit → All (IsCheckedIn kit.group kit.authority) kit.certificates.items → All IsChecked kit.certificates.items → IsKit kit (public_of key)
-kit-sound s ots tree a m next key kit low w c group node own k checked verify =
-    let recs : recs_of kit.certificates.items ≡ certificates s = ap recs_of k.certificates ∙ c.certified in
-    let public : public_of key ≡ s.key (Some m) = ap public_of own ∙ sym (own-public s a.group ots tree m w) in
+pub kit-sound : (a : Certifying) (m : ℕ) (own : PublicKey) (kit : Kit) → m < MEMBERS → IsPlaceOf a m own → kit.group ≡ a.group → kit.me ≡ m → kit.certificates.items ≡ a.certificates
+    → All (IsCheckedIn kit.group kit.authority) kit.certificates.items → All IsChecked kit.certificates.items → IsKit kit own
+kit-sound a m own kit low p group me same checked verify =
+    let s : Setting = p.setting in
+    let recs : recs_of kit.certificates.items ≡ certificates s = ap recs_of same ∙ p.authority.certified in
+    let public : own ≡ s.key (Some m) = p.public ∙ sym (own-public s a.group p.ots p.tree m p.world) in
     record {
-      group = subst IsGroup (sym k.group) group;
+      group = subst IsGroup (sym group) p.group;
       checked = checked;
-      certificates = subst (λ (j : ℕ). AreCertificatesOf j (public_of key) kit.certificates.items) (sym k.me) (record {
+      certificates = subst (λ (j : ℕ). AreCertificatesOf j own kit.certificates.items) (sym me) (record {
         apart = subst AreApart (sym recs) (kit-apart s);
-        among = subst (λ (rs : List Record). list_any (λ r. is_certificate_for m r.body) rs ≡ true) (sym recs) (kit-among s m low node);
-        keys = subst (λ (rs : List Record). AllByRecursion (HasKey m (public_of key)) rs) (sym recs) (kit-keys s m (public_of key) public);
+        among = subst (λ (rs : List Record). list_any (λ r. is_certificate_for m r.body) rs ≡ true) (sym recs) (kit-among s m low p.node);
+        keys = subst (λ (rs : List Record). AllByRecursion (HasKey m own) rs) (sym recs) (kit-keys s m own public);
         verify = each IsChecked kit.certificates.items verify;
       });
     }

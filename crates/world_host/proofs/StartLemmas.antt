@@ -25,6 +25,7 @@ use Rattle.node_rules.specs.Nodes as node
 use Rattle.node_rules.specs.Starting.{started}
 use Rattle.node_core.specs.declared.NodeFault.{NodeFault}
 use Rattle.node_core.specs.declared.NodeFault.TheVariants as faults
+use Rattle.node_core.specs.Answers.{MayStop}
 use Rattle.node_core.specs.Begins.{IsVouchable, MayRefuse, Starts}
 use Rattle.node_core.specs.OnDisks.{PutsFirst, kept_first}
 use Rattle.node_core.specs.Playing.{Kept}
@@ -39,7 +40,7 @@ use Rattle.world_rules.specs.Steps.{first_call, first_life, with_disk}
 use Rattle.world_rules.proofs.Once.{one-started}
 use Rattle.world_host.specs.declared.starting.Started.{Started}
 use Rattle.world_host.specs.declared.starting.Started.TheVariants as starts
-use Rattle.world_host.specs.Answers.{Begins, BeginsAt, BeginsLife, BeginsNode, FailsToBegin, IsStart, MayStop, StartsNode, StopsAt, bodies_in, opened_place}
+use Rattle.world_host.specs.Answers.{Begins, BeginsAt, BeginsLife, BeginsNode, FailsToBegin, IsStart, StartsNode, StopsAt, bodies_in, opened_place}
 use Rattle.world_host.specs.Holding.{HoldsCurrent, HoldsHost, IsWorld, tag_of}
 use Rattle.world_host.specs.Hosts.{HostState, IsGoing}
 use Rattle.world_host.proofs.SpentLemmas.{signed-behind}
@@ -137,15 +138,23 @@ answer-is s tag m e d events (Err (faults.Exhausted next)) answer h is = absurd 
 answer-is s tag m e d events (Err faults.Ended) answer h is = absurd is
 
 -- What starts is going.
-pub start-going : (x : node.Setting) (seed : List ℕ) (records : List Record) (stored : Stored) (before after : List journal.Event) (came : Result Kept NodeFault) (answer : Result (Option Kept) NoMemory) → IfOk came (λ v. (t : node.Setting) → t ≡ x → Starts t seed records stored v before after)
+pub start-going : (x : node.Setting) (own : PublicKey) (seed : List ℕ) (records : List Record) (stored : Stored) (before after : List journal.Event) (came : Result Kept NodeFault) (answer : Result (Option Kept) NoMemory)
+    → IfOk came (λ v. (t : node.Setting) → t ≡ x → Starts t seed records stored v before after) → IfOk came (λ v. (t : node.Setting) → t ≡ x → IsVouchable t own records stored)
     → IfOk came (λ v. v.ended ≡ false) → IsStart came answer → IfOk answer (λ o. IfSome o IsGoing)
-start-going x seed records stored before after (Ok v) answer starts going is =
-    subst (λ (a : Result (Option Kept) NoMemory). IfOk a (λ o. IfSome o IsGoing)) (sym is) (record { setting = x; node = (started x seed records stored).node; is = (starts x refl).is; going = going })
-start-going x seed records stored before after (Err faults.StoreFault) answer starts going is = subst (λ (a : Result (Option Kept) NoMemory). IfOk a (λ o. IfSome o IsGoing)) (sym is) tt
-start-going x seed records stored before after (Err faults.OutOfMemory) (Ok o) starts going is = cc
-start-going x seed records stored before after (Err faults.OutOfMemory) (Err refused) starts going is = tt
-start-going x seed records stored before after (Err (faults.Exhausted next)) answer starts going is = absurd is
-start-going x seed records stored before after (Err faults.Ended) answer starts going is = absurd is
+start-going x own seed records stored before after (Ok v) answer starts vouched going is =
+    let w = vouched x refl in
+    subst (λ (a : Result (Option Kept) NoMemory). IfOk a (λ o. IfSome o IsGoing)) (sym is) (record {
+      life = record { setting = x; own = own; seed = seed; certificates = records; stored = stored };
+      inputs = [];
+      correct = record { rings = w.rings; kit = w.kit; certified = w.certified; signs = w.signatures; left = w.left };
+      is = (starts x refl).is;
+      going = going;
+    })
+start-going x own seed records stored before after (Err faults.StoreFault) answer starts vouched going is = subst (λ (a : Result (Option Kept) NoMemory). IfOk a (λ o. IfSome o IsGoing)) (sym is) tt
+start-going x own seed records stored before after (Err faults.OutOfMemory) (Ok o) starts vouched going is = cc
+start-going x own seed records stored before after (Err faults.OutOfMemory) (Err refused) starts vouched going is = tt
+start-going x own seed records stored before after (Err (faults.Exhausted next)) answer starts vouched going is = absurd is
+start-going x own seed records stored before after (Err faults.Ended) answer starts vouched going is = absurd is
 
 -- A key with an index left isn't used up.
 pub of-start : (s : SignerState) (fault : NodeFault) → s.state.next < index_count s.key → MayRefuse s fault → MayStop fault

@@ -82,6 +82,11 @@ kept-key s g ots tree place spent x k w h is =
     some-so None h is = cc
     some-so (Some y) h is = let same : y ≡ k = cc in sym same ∙ h
 
+-- Its public half is the one that is kept.
+pub kept-public : (o : Option Secret) (public : PublicKey) (k : Secret) → IfSome o (λ y. public_of y ≡ public) → o ≡ Some k → public_of k ≡ public
+kept-public None public k h is = cc
+kept-public (Some y) public k h is = let same : y ≡ k = cc in subst (λ (z : Secret). public_of z ≡ public) same h
+
 -- It has as many indexes as its public half says.
 pub kept-indexes : (o : Option Secret) (public : PublicKey) (k : Secret) → IfSome o (λ y. public_of y ≡ public) → o ≡ Some k → index_count k ≡ leaf_count public.tree
 unfolding public_of
@@ -95,6 +100,17 @@ made-key s g ots tree place spent x (Err refused) w h made = tt
 made-key s g ots tree place spent x (Ok k) w h made =
     made ∙ ap (λ (o : OtsKind). key_from o x.public.tree (world_secret g.tag x.member)) (ots-is s g ots tree place spent x w h)
     ∙ ap (λ (t : TreeKind). key_from ots t (world_secret g.tag x.member)) (tree-is s g ots tree place spent x w h)
+
+-- It has the public half that the member's key has.
+pub made-public : (g : Group) (ots : OtsKind) (tree : TreeKind) (public : PublicKey) (m : ℕ) (r : Result Secret NoMemory) → public ≡ public_of (owner_key g ots tree (Some m))
+    → IfOk r (λ k. k ≡ key_from public.ots public.tree (world_secret g.tag m)) → IfOk r (λ k. public_of k ≡ public)
+made-public g ots tree public m (Err refused) is made = tt
+made-public g ots tree public m (Ok k) is made =
+    let kind : public.ots ≡ ots = ap (λ (p : PublicKey). p.ots) is ∙ own-ots g ots tree m in
+    let height : public.tree ≡ tree = ap (λ (p : PublicKey). p.tree) is ∙ own-tree g ots tree m in
+    let own : k ≡ owner_key g ots tree (Some m) =
+    made ∙ ap (λ (o : OtsKind). key_from o public.tree (world_secret g.tag m)) kind ∙ ap (λ (t : TreeKind). key_from ots t (world_secret g.tag m)) height in
+    ap public_of own ∙ sym is
 
 -- A node's kit and key, as they are opened together.
 pub own-kit : (s : Setting) (g other : Group) (ots : OtsKind) (tree : TreeKind) (m me : ℕ) (authority : PublicKey) (key : Secret) → IsWorld s g ots tree → authority ≡ s.key None → other ≡ g → me ≡ m → key ≡ owner_key g ots tree (Some m)

@@ -61,13 +61,6 @@ abbrev pub CallsNode : Setting → OtsKind → TreeKind → Input → Host → L
 CallsNode s ots tree i place spent old new before after (Ok events) = CallsRunning s ots tree i place spent place.current old new before after events
 CallsNode s ots tree i place spent old new before after (Err refused) = Unit {0}
 
--- What may stop a call of a node that is going, or the start of one whose key isn't used up.
-abbrev pub MayStop : NodeFault → Type 0
-MayStop faults.StoreFault = Unit {0}
-MayStop faults.OutOfMemory = Unit {0}
-MayStop (faults.Exhausted next) = ⊥
-MayStop faults.Ended = ⊥
-
 -- How the place is left, by the answer of its node.
 abbrev pub Ends : HostState → Kept → HostState → Result (Unit {0}) NodeFault → Result (Unit {0}) NoMemory → Type 0
 Ends old v new (Ok done) answer = (answer ≡ Ok tt) × (new ≡ record old { node = Some v })

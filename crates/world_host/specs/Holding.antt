@@ -1,17 +1,19 @@
 -- Which place of the rules a node's place stands for.
-use Rattle.std.specs.Prelude.{◌≡◌, ℕ, ◌≤◌, false, List, [], ◌++◌, Option, Some, None, IfSome, length, map, option_to_list}
+use Rattle.std.specs.Prelude.{◌≡◌, ℕ, ◌≤◌, true, false, List, [], ◌++◌, Option, Some, None, IfSome, length, map, option_to_list}
 use Rattle.ff_ids.specs.declared.TheConstants.{MAX_TOLERANCE}
 use Rattle.ff_ids.specs.Masks.{all_rings}
 use Rattle.ff_ids.specs.declared.Group.{Group}
 use Rattle.lms_ots.specs.declared.OtsKind.{OtsKind}
 use Rattle.lms_tree.specs.declared.TreeKind.{TreeKind}
+use Rattle.lms_tree.specs.declared.key.PublicKey.{PublicKey}
+use Rattle.lms_tree.specs.Lms.{public_of}
 use Rattle.secrets.specs.Secrets.{store_tag}
 use Rattle.signer.specs.Lives.{Spent}
-use Rattle.ff_ids.specs.Masks.{all_rings}
+use Rattle.node_core.specs.Begins.{IsGroup}
 use Rattle.node_core.specs.Playing as node
 use Rattle.node_core.specs.Rolls.{recs_of}
 use Rattle.world_host.specs.Held.{HoldsDisk}
-use Rattle.world_rules.specs.Settings.{Setting, certificates, setting_of}
+use Rattle.world_rules.specs.Settings.{Setting, certificates, is_node, setting_of}
 use Rattle.world_rules.specs.Keys.{owner_key, setting_for}
 use Rattle.world_rules.specs.Disks.{Disk, made_disk, seat_of}
 use Rattle.world_rules.specs.Worlds.{Life, Host}
@@ -27,6 +29,18 @@ pub record IsWorld (s : Setting) (g : Group) (ots : OtsKind) (tree : TreeKind) :
 pub record Certifies (s : Setting) (a : Certifying) : Type 0 where
   pub key : a.key ≡ s.key None
   pub certified : recs_of a.certificates ≡ certificates s
+
+-- The member is a node of a world that the authority has certified, whose group's numbers are in their ranges, and this is
+-- the public half of its key.
+pub record IsPlaceOf (a : Certifying) (m : ℕ) (own : PublicKey) : Type 0 where
+  pub setting : Setting
+  pub ots : OtsKind
+  pub tree : TreeKind
+  pub world : IsWorld setting a.group ots tree
+  pub authority : Certifies setting a
+  pub group : IsGroup a.group
+  pub node : is_node setting m ≡ true
+  pub public : own ≡ public_of (owner_key a.group ots tree (Some m))
 
 -- A place of which no life has begun.
 abbrev pub made_place : Setting → Host

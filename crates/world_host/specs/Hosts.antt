@@ -1,10 +1,13 @@
 -- What is kept of a node's place in a world.
-use Rattle.std.specs.Prelude.{◌≡◌, ℕ, false, List, Option}
+use Rattle.std.specs.Prelude.{◌≡◌, ℕ, true, false, List, Option, is_some}
 use Rattle.lms_tree.specs.declared.key.PublicKey.{PublicKey}
 use Rattle.lms_tree.specs.declared.secret.Secret.{Secret}
 use Rattle.ports.specs.MemoryDisk.{DiskState}
 use Rattle.records.specs.declared.Body.{Body}
-use Rattle.node_rules.specs.Nodes.{Node, Setting}
+use Rattle.membership.specs.Life.{has_joined}
+use Rattle.validate.specs.Certified.{certificate_of}
+use Rattle.node_rules.specs.Lives.{Input}
+use Rattle.node_rules.specs.OneExchange.{IsCorrect, Life, node_after}
 use Rattle.node_core.specs.Playing.{Kept, IsNode}
 
 -- Whose place it is, the public half of the key, the key if no life has taken it, the mark of the store, the disk, how many
@@ -19,9 +22,14 @@ pub record HostState : Type 0 where
   pub node : Option Kept
   pub signed : List Body
 
--- What is kept stands for some node of the rules, and no call of it has failed.
+-- What is kept stands for what some correct life of the rules has come to by these calls, and none of them has failed.
 pub record IsGoing (v : Kept) : Type 0 where
-  pub setting : Setting
-  pub node : Node
-  pub is : IsNode setting v node
+  pub life : Life
+  pub inputs : List Input
+  pub correct : IsCorrect life
+  pub is : IsNode life.setting v (node_after life inputs)
   pub going : v.ended ≡ false
+
+-- Whoever has a certificate there has joined.
+abbrev pub HaveJoined : Kept → Type 0
+HaveJoined v = (m : ℕ) → is_some (certificate_of v.roster m) ≡ true → has_joined v.membership m ≡ true

@@ -1,10 +1,12 @@
 //! The authority of a world, which certifies all its members as the world begins.
 
 ghost use Rattle.std.specs.Prelude.{◌≡◌, ◌++◌, ◌∷◌, [], All, map, IfOk, OnOk};
-ghost use Rattle.node_core.specs.Begins.{IsCheckedIn};
+ghost use Rattle.lms_tree.specs.declared.key.PublicKey.{PublicKey as Public};
+ghost use Rattle.node_core.specs.Begins.{IsCheckedIn, IsKit};
 ghost use Rattle.records.specs.Signing.{IsChecked};
 ghost use Rattle.secrets.specs.Secrets.{nonce_seed as seed_of_life, world_secret as secret_in_world};
 ghost use Rattle.world_host.specs.Bodies.{is_among as is_one_of};
+ghost use Rattle.world_host.specs.Holding.{IsPlaceOf};
 
 use crate::bodies::is_same;
 use ff_ids::{Group, MemberId};
@@ -130,13 +132,16 @@ impl Authority {
         ensures seed { IfOk result
             (λ kit. kit.nonce_seed
             ≡ seed_of_life (secret_in_world self.now.group.tag me) next) }
+        ensures sound { (own : Public) → IsPlaceOf self.now me own
+            → IfOk result (λ kit. IsKit kit own) }
     {
         let secret = world_secret(&self.group.tag, me.get());
+        let certificates = copies_of(alloc, &self.group, &self.key, &self.certificates)?;
         Ok(Kit {
             group: self.group,
             me,
             authority: self.key,
-            certificates: copies_of(alloc, &self.group, &self.key, &self.certificates)?,
+            certificates,
             nonce_seed: nonce_seed(&secret, next),
         })
     }

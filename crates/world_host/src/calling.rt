@@ -4,12 +4,13 @@ ghost use Rattle.std.specs.Prelude.{◌≡◌, ◌++◌, IfErr, OnOk};
 ghost use Rattle.lms_ots.specs.declared.OtsKind.{OtsKind};
 ghost use Rattle.lms_tree.specs.declared.TreeKind.{TreeKind};
 ghost use Rattle.ff_ids.specs.declared.Group.{Group};
+ghost use Rattle.node_core.specs.Answers.{MayStop};
 ghost use Rattle.node_rules.specs.Lives as inputs;
 ghost use Rattle.world_rules.specs.Settings.{Setting};
 ghost use Rattle.world_rules.specs.Worlds.{Host as Place};
 ghost use Rattle.signer.specs.Lives.{Spent};
 ghost use Rattle.std.specs.Prelude.{List};
-ghost use Rattle.world_host.specs.Answers.{CallsNode, Ends, MayStop, bodies_in, body_in};
+ghost use Rattle.world_host.specs.Answers.{CallsNode, Ends, bodies_in, body_in};
 ghost use Rattle.world_host.specs.Hosts.{IsGoing};
 ghost use Rattle.world_host.specs.Holding.{HoldsHost, IsWorld};
 

@@ -1,6 +1,6 @@
 //! What lasts of a node: its key, its disk, and what it has signed.
 
-ghost use Rattle.std.specs.Prelude.{◌≡◌, ◌≤◌, [], IfOk, None, Some, filter_map, is_some};
+ghost use Rattle.std.specs.Prelude.{◌≡◌, ◌≤◌, [], IfOk, IfSome, None, Some, filter_map, is_some};
 ghost use Rattle.std.specs.Option.{option_map, option_map_or};
 ghost use Rattle.ff_ids.specs.declared.TheConstants.{MAX_TOLERANCE};
 ghost use Rattle.ff_ids.specs.Masks.{ring_count};
@@ -14,6 +14,7 @@ ghost use Rattle.world_rules.specs.Keys.{owner_key};
 ghost use Rattle.world_rules.specs.Refusals.{epoch_of_note, greatest};
 ghost use Rattle.world_rules.specs.Settings.{Setting};
 ghost use Rattle.world_host.specs.Holding.{HoldsHost, IsWorld, made_place};
+ghost use Rattle.world_host.specs.Hosts.{HaveJoined};
 
 use crate::{is_among, newest_of};
 use epoch_store::{make, store_len};
@@ -22,6 +23,7 @@ use fields::NoMemory;
 use lms_tree::{PublicKey, SecretKey};
 use membership::Membership;
 use node_core::Node;
+use node_rules::what_is_held_is_the_life;
 use ports::MemoryDisk;
 use records::Body;
 use secrets::store_tag;
@@ -173,8 +175,10 @@ impl Host {
 
     /// The node that runs, if one does.
     pub fn node(&self) -> Option<&Node>
-        ensures { option_map (λ n. n.now) result ≡ self.now.node }
+        ensures same { option_map (λ n. n.now) result ≡ self.now.node }
+        ensures joined { IfSome result (λ n. HaveJoined n.now) }
     {
+        what_is_held_is_the_life();
         self.node.as_ref()
     }
 

@@ -1,22 +1,21 @@
 //! Lives that begin.
 
-ghost use Rattle.std.specs.Prelude.{◌≡◌, ◌<◌, ◌≤◌, ℕ, List, [], None, Some, IfErr, IfOk, IfSome, false, is_some, true};
+ghost use Rattle.std.specs.Prelude.{◌≡◌, ◌<◌, ◌≤◌, ℕ, List, [], None, Some, IfErr, IfOk, IfSome, false};
 ghost use Rattle.lms_ots.specs.declared.OtsKind.{OtsKind};
 ghost use Rattle.lms_tree.specs.declared.TreeKind.{TreeKind};
 ghost use Rattle.lms_tree.specs.Kinds.{leaf_count};
 ghost use Rattle.lms_tree.specs.Leaves.{index_count};
 ghost use Rattle.lms_tree.specs.Lms.{public_of};
 ghost use Rattle.signer.specs.Lives.{Spent};
-ghost use Rattle.node_core.specs.Begins.{IsGroup, IsKit};
+ghost use Rattle.node_core.specs.Answers.{MayStop};
 ghost use Rattle.world_rules.specs.Disks.{Disk, seat_of};
 ghost use Rattle.world_rules.specs.Keys.{owner_key};
-ghost use Rattle.world_rules.specs.Settings.{Setting, is_node};
+ghost use Rattle.world_rules.specs.Settings.{Setting};
 ghost use Rattle.world_rules.specs.Worlds.{Host as Place};
 ghost use Rattle.world_host.specs.Held.{HoldsDisk};
-ghost use Rattle.world_host.specs.Answers.{BeginsLife, BeginsNode, IsStart, MayStop, OpensStore, StartsNode};
-ghost use Rattle.world_host.specs.Certifying.{IsKitOf};
+ghost use Rattle.world_host.specs.Answers.{BeginsLife, BeginsNode, IsStart, OpensStore, StartsNode};
 ghost use Rattle.world_host.specs.Hosts.{IsGoing};
-ghost use Rattle.world_host.specs.Holding.{Certifies, HoldsHost, IsWorld, tag_of};
+ghost use Rattle.world_host.specs.Holding.{Certifies, HoldsHost, IsPlaceOf, IsWorld, tag_of};
 
 use crate::host::{FILE, Host};
 use crate::{Authority, Kinds, key_of};
@@ -24,7 +23,7 @@ use epoch_store::{Store, StoreError};
 use ff_ids::{Group, MemberId};
 use fields::NoMemory;
 use lms_tree::SecretKey;
-use node_core::{Events, Kit, Node, NodeFault};
+use node_core::{Events, Node, NodeFault};
 use ports::MemoryDisk;
 use signer::Signer;
 use std::alloc::Global;
@@ -80,6 +79,9 @@ impl Host {
             → HoldsHost s ots tree place spent self.old
             → IfOk result (λ key. key ≡ owner_key group.now ots tree (Some self.old.member)) }
         ensures indexes { IfOk result (λ key. index_count key ≡ leaf_count self.old.public.tree) }
+        ensures own { (ots : OtsKind) (tree : TreeKind)
+            → self.old.public ≡ public_of (owner_key group.now ots tree (Some self.old.member))
+            → IfOk result (λ key. public_of key ≡ self.old.public) }
         ensures frame { self.new ≡ record self.old { key = None } }
     {
         if let Some(key) = self.key.take() {
@@ -106,33 +108,8 @@ fn start_of(started: Result<Node, NodeFault>) -> Result<Option<Node>, NoMemory>
     }
 }
 
-/// What a life of the member's node with this key begins with, its store's next index being `next`; none where that is not
-/// sound, which it is for each node of a world whose group's numbers are in their ranges.
-fn kit_for(
-    alloc: Global,
-    authority: &Authority,
-    member: MemberId,
-    key: &SecretKey,
-    next: u32,
-) -> Result<Option<Kit>, NoMemory>
-    ensures kit { IfOk result (λ kit. IfSome kit (IsKitOf authority.now member next)) }
-    ensures own { IfOk result (λ kit. IfSome kit (λ k. IsKit k (public_of key.now))) }
-    ensures sound { (s : Setting) (ots : OtsKind) (tree : TreeKind)
-        → IsWorld s authority.now.group ots tree → Certifies s authority.now
-        → IsGroup authority.now.group → is_node s member ≡ true
-        → key.now ≡ owner_key authority.now.group ots tree (Some member)
-        → IfOk result (λ kit. is_some kit ≡ true) }
-{
-    let kit = authority.kit(alloc, member, next)?;
-    if kit.is_sound(&key.public()) {
-        Ok(Some(kit))
-    } else {
-        Ok(None)
-    }
-}
-
 /// The life of a member's node begins over its store, which is open: its first note is signed; none where the disk stops in
-/// that. Where the kit is not sound, the answer is that memory was refused.
+/// that.
 fn begin_node(
     alloc: Global,
     authority: &Authority,
@@ -144,6 +121,7 @@ fn begin_node(
 ) -> Result<Option<Node>, NoMemory>
     requires runs { store.failed ≡ false }
     requires left { store.state.next < index_count key }
+    requires place { IsPlaceOf authority.now member (public_of key) }
     ensures going { IfOk result (λ node. IfSome node IsGoing) }
     ensures begins { (s : Setting) (ots : OtsKind) (tree : TreeKind) (tag : List ℕ) (e : Disk)
         → IsWorld s authority.now.group ots tree → Certifies s authority.now
@@ -152,9 +130,7 @@ fn begin_node(
         → tag ≡ tag_of s member → HoldsDisk tag s.indexes disk.old e → events.old ≡ []
         → BeginsNode s tag member e disk.new events.new result }
 {
-    let Some(kit) = kit_for(alloc, authority, member, &key, store.state().next)? else {
-        return Err(NoMemory);
-    };
+    let kit = authority.kit(alloc, member, store.state().next)?;
     let signer = open_signer(*authority.group(), key, store);
     start_of(Node::start(alloc, kit, signer, disk, events))
 }
@@ -169,6 +145,7 @@ impl Host {
     ) -> Result<Started, NoMemory>
         requires runs { store.failed ≡ false }
         requires left { store.state.next < leaf_count self.old.public.tree }
+        requires place { IsPlaceOf authority.now self.old.member self.old.public }
         ensures member { self.new.member ≡ self.old.member }
         ensures begins { (s : Setting) (ots : OtsKind) (tree : TreeKind) (place : Place)
             (spent : List Spent) → IsWorld s authority.now.group ots tree
@@ -204,9 +181,11 @@ impl Host {
         }
     }
 
-    /// Starts the node, which doesn't run: opens its store and begins a life, whose number and events are given. A stop of
-    /// the disk in the middle, or a key that is used up, begins none. Once memory is refused, nothing is said of the place.
+    /// Starts the node, which is one of the authority's world and doesn't run: opens its store and begins a life, whose number
+    /// and events are given. A stop of the disk in the middle, or a key that is used up, begins none. Once memory is refused,
+    /// nothing is said of the place.
     pub fn start(&mut self, alloc: Global, authority: &Authority) -> Result<Started, NoMemory>
+        requires { IsPlaceOf authority.now self.old.member self.old.public }
         ensures member { self.new.member ≡ self.old.member }
         ensures starts { (s : Setting) (ots : OtsKind) (tree : TreeKind) (place : Place)
             (spent : List Spent) → IsWorld s authority.now.group ots tree

@@ -12,18 +12,22 @@ use Rattle.schedule_world.specs.declared.line.WorldLine.{WorldLine}
 use Rattle.schedule_world.specs.declared.line.WorldLine.TheVariants as lines
 use Rattle.schedule_world.specs.declared.text.WorldText.{WorldText}
 use Rattle.schedule_world.specs.declared.text.WorldText.TheVariants as form
-use Rattle.schedule_world.specs.Rows.{has_node, is_body, is_grouped, is_headed, is_roster, is_start}
+use Rattle.schedule_world.specs.Rows.{has_node, is_body, is_grouped, is_headed, is_roster, is_start, tolerance}
 use Rattle.schedule_world.specs.Grammar.{InRange, Stands, after, behind, judge}
 use Rattle.schedule_world.proofs.GrammarLemmas.{height-low, newcomer-in, world-in_range, world-stands}
+use Rattle.world_rules.specs.Keys.{setting_for}
 use Rattle.world_rules.specs.Settings.{Setting}
 use Rattle.world_rules.specs.Forgeries.{Forgery}
 use Rattle.world_rules.specs.Steps.{Answer, NodeEvent, step}
 use Rattle.world_rules.specs.Walk.{Brought, Lists, Plays, Roster, Stage, brought, listed, no_roster, setting_in, stepped}
+use Rattle.world.specs.Courses.{HasItsRing}
+use Rattle.world.specs.Holding.{Kept as World}
 use Rattle.world.specs.Opening.{IsApart}
+use Rattle.world.proofs.LookLemmas.{authority-group}
 use Rattle.world_replay.specs.declared.stage.Stage.{Stage as Kept}
 use Rattle.world_replay.specs.declared.stage.Stage.TheVariants as kept_stages
-use Rattle.world_replay.specs.Stages.{CanBegin, CanTake, HoldsStage, IsReady}
-use Rattle.world_replay.specs.Rosters.{AreNamed, Fits, IsRead, is_listed}
+use Rattle.world_replay.specs.Stages.{CanBegin, CanList, CanTake, HoldsStage}
+use Rattle.world_replay.specs.Rosters.{AreNamed, Fits, IsPlaying, IsRead, is_listed}
 use Rattle.world_replay.specs.Unfed.{line-is}
 
 -- ---- one more member
@@ -94,6 +98,7 @@ group-line form.Headed r g stands range h = (
     missed = range.1.1.1.0.0;
     misses = range.1.1.1.0.1;
   },
+  refl,
 )
 group-line _ r g stands range h = absurd (false≢true stands)
 
@@ -102,16 +107,8 @@ kinds-line (form.Grouped t) r ots tree stands range h =
     let nobody : (m : ℕ) → is_listed r.correct m ≡ true → ⊥ = λ m is. false≢true (ap (λ (xs : List ℕ). is_listed xs m) (sym h.0.nodes) ∙ is) in
     let no_liar : (m : ℕ) → is_listed r.liars m ≡ true → ⊥ = λ m is. false≢true (ap (λ (xs : List ℕ). is_listed xs m) (sym h.0.liars) ∙ is) in
     record {
-      group = record {
-        some = h.1.some;
-        few = h.1.few;
-        waits = h.1.waits;
-        ends = h.1.ends;
-        period = h.1.period;
-        often = h.1.often;
-        missed = h.1.missed;
-        misses = h.1.misses;
-      };
+      group = h.1;
+      tolerance = h.2;
       kinds = height-low (form.Grouped t) ots tree range;
       some = λ node. absurd (false≢true node);
       count = omega (arith, ap (λ (xs : List ℕ). length xs) h.0.nodes, ap (λ (xs : List ℕ). length xs) h.0.liars);
@@ -127,6 +124,7 @@ node-line (form.Roster t names node) r m stands range h =
     let newcomer = newcomer-in (form.Roster t names node) m range in
     record {
       group = h.group;
+      tolerance = h.tolerance;
       kinds = h.kinds;
       some = λ is. omega (arith, length-append r.correct (m ∷ []));
       count = omega (arith, h.count, length-append r.correct (m ∷ []), length-append names (m ∷ []));
@@ -142,6 +140,7 @@ liar-line (form.Roster t names node) r m stands range h =
     let newcomer = newcomer-in (form.Roster t names node) m range in
     record {
       group = h.group;
+      tolerance = h.tolerance;
       kinds = h.kinds;
       some = λ is. h.some (same-node node is);
       count = omega (arith, h.count, length-append r.liars (m ∷ []), length-append names (m ∷ []));
@@ -160,20 +159,44 @@ no-body : (w : WorldText) (r : Roster) → IsTrue (is_body w) → IsRead w r →
 no-body (form.Body t ticks) r stands h = h
 no-body _ r stands h = absurd (false≢true stands)
 
+begin-plays : (w : WorldText) (r : Roster) → IsTrue (has_node w) → IsRead w r → IsPlaying (form.Body (tolerance w) 0) (setting_in r)
+unfolding setting_for
+begin-plays (form.Roster t names node) r stands h = h.tolerance
+begin-plays _ r stands h = absurd (false≢true stands)
+
 listed-fits : (w : WorldText) (r : Roster) (l : WorldLine) → Stands w l → InRange w l → IsRead w r → Fits (after w l) (listed setting_in r l)
 listed-fits w r lines.Header stands range h = header-line w r stands h
 listed-fits w r (lines.Group g) stands range h = group-line w r g stands range h
 listed-fits w r (lines.Kinds ots tree) stands range h = kinds-line w r ots tree stands range h
 listed-fits w r (lines.Node m) stands range h = node-line w r m stands range h
 listed-fits w r (lines.Liar m) stands range h = liar-line w r m stands range h
-listed-fits w r lines.Begin stands range h = tt
+listed-fits w r lines.Begin stands range h = begin-plays w r stands h
 listed-fits w r l stands range h = absurd (no-body w r stands h)
 
 -- ---- any line
 
-stepped-fits : (w : WorldText) (s : Setting) (r : Result Answer Forgery) (b : Brought) → stepped s r ≡ Ok b → Fits w b.stage
-stepped-fits w s (Err found) b is = cc
-stepped-fits w s (Ok a) b is = subst (λ (x : Brought). Fits w x.stage) (ok-is _ b is) tt
+still-playing : (w : WorldText) (s : Setting) (l : WorldLine) → Stands w l → IsPlaying w s → IsPlaying (after w l) s
+still-playing (form.Body t ticks) s lines.Header stands h = absurd (false≢true stands)
+still-playing (form.Body t ticks) s (lines.Group g) stands h = absurd (false≢true stands)
+still-playing (form.Body t ticks) s (lines.Kinds ots tree) stands h = absurd (false≢true stands)
+still-playing (form.Body t ticks) s (lines.Node m) stands h = absurd (false≢true stands)
+still-playing (form.Body t ticks) s (lines.Liar m) stands h = absurd (false≢true stands)
+still-playing (form.Body t ticks) s lines.Begin stands h = absurd (false≢true stands)
+still-playing (form.Body t ticks) s lines.End stands h = tt
+still-playing (form.Body t ticks) s l stands h = h
+still-playing form.Ended s lines.Header stands h = absurd (false≢true stands)
+still-playing form.Ended s (lines.Group g) stands h = absurd (false≢true stands)
+still-playing form.Ended s (lines.Kinds ots tree) stands h = absurd (false≢true stands)
+still-playing form.Ended s (lines.Node m) stands h = absurd (false≢true stands)
+still-playing form.Ended s (lines.Liar m) stands h = absurd (false≢true stands)
+still-playing form.Ended s lines.Begin stands h = absurd (false≢true stands)
+still-playing form.Ended s lines.End stands h = tt
+still-playing form.Ended s l stands h = h
+still-playing w s l stands h = absurd h
+
+stepped-fits : (w : WorldText) (s : Setting) (r : Result Answer Forgery) (b : Brought) → stepped s r ≡ Ok b → IsPlaying w s → Fits w b.stage
+stepped-fits w s (Err found) b is h = cc
+stepped-fits w s (Ok a) b is h = subst (λ (x : Brought). Fits w x.stage) (ok-is _ b is) h
   where
     ok-is : (x y : Brought) → (let r : Result Brought Forgery = Ok x in r) ≡ Ok y → x ≡ y
     ok-is x y e = cc
@@ -186,7 +209,9 @@ fits-behind p bytes l (Lists r) b judged is h =
   where
     ok-is : (x y : Brought) → (let r : Result Brought Forgery = Ok x in r) ≡ Ok y → x ≡ y
     ok-is x y e = cc
-fits-behind p bytes l (Plays s w) b judged is h = stepped-fits (after p.form l) s (step s w l) b is
+fits-behind p bytes l (Plays s w) b judged is h =
+    let line = line-is p bytes l judged in
+    stepped-fits (after p.form l) s (step s w l) b is (still-playing p.form s l (world-stands p.form (line.first ∷ line.others) l line.spells) h)
 
 -- ---- the line `begin`
 
@@ -195,21 +220,32 @@ can-begin (form.Roster t names node) r stands h =
     record { group = h.group; some = h.some stands; few = omega (arith, h.count, h.few); kinds = h.kinds; apart = h.apart }
 can-begin _ r stands h = absurd (false≢true stands)
 
-ready : (w : WorldText) (stage : Stage) (told : List NodeEvent) (kept : Kept) → IsTrue (has_node w) → HoldsStage stage told kept → Fits w stage → IsReady kept
-ready w (Lists r) told (kept_stages.Lists kept) stands holds fits = subst CanBegin (sym holds.0) (can-begin w r stands fits)
-ready w (Plays s world) told (kept_stages.Plays kept) stands holds fits = tt
-ready w (Lists r) told (kept_stages.Plays kept) stands holds fits = absurd holds
-ready w (Plays s world) told (kept_stages.Lists kept) stands holds fits = absurd holds
+can-list : (w : WorldText) (l : WorldLine) (r kept : Roster) → Stands w l → kept ≡ r → IsRead w r → CanList kept l
+can-list w lines.Begin r kept stands same h = subst CanBegin (sym same) (can-begin w r stands h)
+can-list w l r kept stands same h = tt
 
-can-take : (w : WorldText) (l : WorldLine) (stage : Stage) (told : List NodeEvent) (kept : Kept) → Stands w l → HoldsStage stage told kept → Fits w stage → CanTake kept l
-can-take w lines.Begin stage told kept stands holds fits = ready w stage told kept stands holds fits
-can-take w l stage told kept stands holds fits = tt
+-- ---- a line that is played
+
+has-ring : (w : WorldText) (l : WorldLine) (s : Setting) (kept : World) → Stands w l → InRange w l → IsPlaying w s → kept.authority.group ≡ s.group → HasItsRing kept l
+has-ring (form.Body t ticks) (lines.Monitor m ring of) s kept stands range h group =
+    let same : kept.authority.group.t ≡ t = ap (λ (g : Group). g.t) group ∙ h in
+    omega (arith, same, range.1.0.1)
+has-ring w (lines.Monitor m ring of) s kept stands range h group = absurd (false≢true stands)
+has-ring w l s kept stands range h group = tt
+
+can-take : (w : WorldText) (l : WorldLine) (stage : Stage) (told : List NodeEvent) (kept : Kept) → Stands w l → InRange w l → HoldsStage stage told kept → Fits w stage → CanTake kept l
+can-take w l (Lists r) told (kept_stages.Lists kept) stands range holds fits = can-list w l r kept stands holds.0 fits
+can-take w l (Plays s world) told (kept_stages.Plays kept) stands range holds fits =
+    (record { setting = s; world = world; told = told; holds = holds }, has-ring w l s kept stands range fits (authority-group s world told kept holds))
+can-take w l (Lists r) told (kept_stages.Plays kept) stands range holds fits = absurd holds
+can-take w l (Plays s world) told (kept_stages.Lists kept) stands range holds fits = absurd holds
 
 -- A line that is one may be taken.
 pub taken-of : (p : Progress WorldText) (bytes : List ℕ) (l : WorldLine) (stage : Stage) (told : List NodeEvent) (kept : Kept) → judge p bytes ≡ Ok l → HoldsStage stage told kept → Fits p.form stage → CanTake kept l
 taken-of p bytes l stage told kept judged holds fits =
     let line = line-is p bytes l judged in
-    can-take p.form l stage told kept (world-stands p.form (line.first ∷ line.others) l line.spells) holds fits
+    let words = line.first ∷ line.others in
+    can-take p.form l stage told kept (world-stands p.form words l line.spells) (world-in_range p.form words l line.spells) holds fits
 
 pub nothing-read : Fits form.Start (Lists no_roster)
 nothing-read = record { nodes = refl; liars = refl }

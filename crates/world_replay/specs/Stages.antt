@@ -9,7 +9,8 @@ use Rattle.world_rules.specs.Walk as walk
 use Rattle.world_rules.specs.Walk.{Brought, Lists, Plays, behind_line, brought, setting_in}
 use Rattle.world_text.specs.Lines.{line_text}
 use Rattle.world.specs.Telling.{told_lines}
-use Rattle.world.specs.Holding.{Holds, Kept}
+use Rattle.world.specs.Courses.{HasItsRing}
+use Rattle.world.specs.Holding.{Holds, Kept, StandsForWorld}
 use Rattle.world.specs.Opening.{IsApart}
 use Rattle.world.specs.declared.fault.WorldFault.{WorldFault}
 use Rattle.world.specs.declared.fault.WorldFault.TheVariants as faults
@@ -29,15 +30,10 @@ abbrev pub CanList : walk.Roster → WorldLine → Type 0
 CanList r lines.Begin = CanBegin r
 CanList r line = Unit {0}
 
--- A world may begin with what was read, if it is a roster.
-abbrev pub IsReady : Stage → Type 0
-IsReady (stages.Lists r) = CanBegin r
-IsReady (stages.Plays world) = Unit {0}
-
--- The line may be taken: `begin` where a world may begin, and any other.
+-- The line may be taken: by the roster; or by what stands for a world, if the ring that it asks about is one of the group's.
 abbrev pub CanTake : Stage → WorldLine → Type 0
-CanTake stage lines.Begin = IsReady stage
-CanTake stage line = Unit {0}
+CanTake (stages.Lists r) line = CanList r line
+CanTake (stages.Plays world) line = StandsForWorld world × HasItsRing world line
 
 -- This has come of a roster: it is the one that is kept, or the world that began with it is.
 abbrev pub IsBehind : walk.Stage → walk.Roster → Option Kept → Type 0

@@ -13,7 +13,7 @@ returns-then-now-eq18446744073709551615-clause-spends g c = goes-same c.args.nod
 
 pub returns-then-now-eq18446744073709551615-clause-serves : goal.returns-then-now-eq18446744073709551615-clause-serves
 returns-then-now-eq18446744073709551615-clause-serves g c = λ s before r at.
-    let moment = ap (λ x. x.moment) c.membership.ensures in
+    let moment = ap (λ x. x.moment) c.membership.ensures.kept in
     no-tick s before _ r (may-not s before _ r at (omega (arith, moment, c.now.ensures.moment, c.if-now-eq18446744073709551615.true))) at
 
 pub settle-requires-clause-cause : goal.settle-requires-clause-cause
@@ -39,7 +39,7 @@ returns-clause-serves g c = λ s before r at.
     let newer = (g.D.Disk.state c.tick-done.new.disk).moments in
     let step = lent-none (λ (l : CallerBuffers). GivesCall s r.node Ticks v l (lent events out) done) c.new-events.result c.new-outbox.result c.new-events.ensures c.new-outbox.ensures (c.tick-done.ensures.step s r.node at.node c.requires.going) in
     let spends = subst (λ (es : List journal.Event). SpendsIn done c.args.node.now.signer v.signer older newer es events) c.new-events.ensures c.tick-done.ensures.spends in
-    let moment = ap (λ x. x.moment) c.membership.ensures in
+    let moment = ap (λ x. x.moment) c.membership.ensures.kept in
     let may = may-count s before _ r at (omega (arith, moment, c.now.ensures.moment, c.if-now-eq18446744073709551615.false, c.now.type_inv)) in
     serves-call s before c.args.node.now v (g.L.Link.state c.args.link.now).contents (g.L.Link.state c.settle.new.link).contents (g.O.Sink.state c.args.out.now).taken (g.O.Sink.state c.settle.new.out).taken older newer c.args.sent.now c.settle.new.sent r Ticks
     events out done c.settle.result at (tick-acted s r may) step c.tick-done.ensures.kept c.tick-done.ensures.ended spends c.settle.ensures.answers c.settle.ensures.extends (λ r1 at1. c.settle.ensures.settles before newer r1 at1)

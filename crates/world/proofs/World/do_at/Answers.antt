@@ -6,7 +6,7 @@ use Rattle.schedule_world.specs.declared.line.WorldLine.{WorldLine}
 use Rattle.ff_ids.specs.declared.RingNo.{RingNo}
 use Rattle.world_rules.specs.Refusals.{node_named}
 use Rattle.world_rules.specs.Steps.{answered, begun}
-use Rattle.world.specs.Courses.{CanStart, Replies, course_of, does_or_opens}
+use Rattle.world.specs.Courses.{CanStart, CanTellAt, HasItsRing, Replies, course_of, does_or_opens}
 use Rattle.world.proofs.World.do_at.Goals as goal
 
 same-number : (a b : ℕ) → Some a ≡ Some b → a ≡ b
@@ -57,3 +57,9 @@ returns-in_default c = record {
       (sym (opens-course s w m c.args.line.now c.in_default.not-Start c.in_default.not-View c.in_default.not-Monitor named))
       (c.end_and_go.ensures.goes s w before m h place named);
 }
+
+pub see_monitor-requires-clause-ring : goal.see_monitor-requires-clause-ring
+see_monitor-requires-clause-ring c = subst (HasItsRing c.args.self.now) c.in-Monitor.is c.requires.ring
+
+pub see_monitor-requires-clause-known : goal.see_monitor-requires-clause-known
+see_monitor-requires-clause-known c = subst (CanTellAt c.args.self.now c.args.at) c.in-Monitor.is c.requires.known

@@ -3,6 +3,7 @@ use Rattle.world_rules.specs.Refusals.{node_named}
 use Rattle.world_rules.specs.Steps.{does, step}
 use Rattle.world.specs.Courses.{does_or_opens}
 use Rattle.world.proofs.AnswerLemmas.{replies-same}
+use Rattle.world.proofs.LookLemmas.{tells-at}
 use Rattle.world.proofs.StepLemmas.{can-start, names-liar, names-node, step-node, step-other}
 use Rattle.world.proofs.World.do_line.Goals as goal
 
@@ -23,3 +24,7 @@ returns-clause-does c = λ s w before h none.
     let named : node_named c.args.line.now ≡ None = sym c.node_named.ensures ∙ unnamed in
     replies-same s before c.do_other.new.self c.args.out.now.items c.do_other.new.out.items (step s w c.args.line.now) (does s w c.args.line.now) c.do_other.result (step-other s w c.args.line.now none named)
     (c.do_other.ensures.does s w before h named (names-liar s w c.args.line.now none))
+
+pub do_at-requires-clause-known : goal.do_at-requires-clause-known
+do_at-requires-clause-known c =
+    tells-at c.args.self.now c.args.line.now c.in-Some.member c.in-Some-host_of.at (sym c.in-Some.ensures) c.in-Some-host_of.ensures.exact c.requires.known

@@ -3,6 +3,7 @@ use Rattle.ff_ids.specs.declared.TheConstants.{MEMBERS}
 use Rattle.ff_ids.specs.declared.Group.{Group}
 use Rattle.lms_ots.specs.declared.OtsKind.{OtsKind}
 use Rattle.lms_tree.specs.declared.TreeKind.{TreeKind}
+use Rattle.node_core.specs.Begins.{IsGroup}
 use Rattle.world_rules.specs.Keys.{setting_for}
 use Rattle.world_rules.specs.Settings.{Setting}
 use Rattle.world_host.specs.Holding.{IsWorld}
@@ -67,4 +68,4 @@ returns c =
     let so = c.loop-number.invariant in
     let all : c.loop-number.number ≡ MEMBERS = omega (arith, c.loop-number-test.false, c.loop-number.auto) in
     let world : IsWorld s v.authority.group ots tree = subst (λ (z : Group). IsWorld s z ots tree) (sym so.1) (is-world g ots tree correct liars s refl c.requires.group.few) in
-    holds-built s ots tree c.loop-number.number c.loop-number.signing v all world (is-apart g ots tree correct liars s refl c.requires.apart) so.2
+    holds-built s ots tree c.loop-number.number c.loop-number.signing v all world (subst IsGroup (sym so.1) c.requires.group) (is-apart g ots tree correct liars s refl c.requires.apart) so.2

@@ -1,11 +1,13 @@
-use Rattle.std.proofs.Common.{◌≡◌, ℕ, ◌<◌, Option, Some, None, length, refl, ap, sym, subst}
+use Rattle.std.proofs.Common.{◌≡◌, ℕ, ◌<◌, true, ◌∙◌, Option, Some, None, length, refl, ap, sym, subst}
 use Rattle.std.specs.Prelude.{Ok}
 use Rattle.std.specs.List.{slice_get}
 use Rattle.std.proofs.lemmas.Option.{slice_get_read}
 use Rattle.world.specs.contracts.World.{the_view}
 use Rattle.world_host.specs.Hosts.{HostState}
 use Rattle.world.specs.Holding.{Holds, Kept}
-use Rattle.world.specs.Courses.{IsPlace}
+use Rattle.world.specs.Courses.{IsPlace, KnowsAt}
+use Rattle.ff_ids.specs.declared.Group.{Group}
+use Rattle.ff_ids.specs.Masks.{ring_count}
 use Rattle.membership.specs.Holds.{Holds as Stands}
 use Rattle.membership.specs.Life as life
 use Rattle.node_core.specs.Playing as node
@@ -16,23 +18,23 @@ use Rattle.world_rules.specs.declared.verdict.Verdict.{Verdict}
 use Rattle.world_rules.specs.declared.verdict.Verdict.TheVariants as verdicts
 use Rattle.world_host.specs.Holding.{HoldsCurrent}
 use Rattle.world.proofs.AnswerLemmas.{ok_answer, asks-none, asks-some, ends-replies, replies-same, says-replies}
-use Rattle.world.proofs.LookLemmas.{current-at}
+use Rattle.world.proofs.LookLemmas.{current-at, known-there, node-group}
 use Rattle.world.proofs.World.see_monitor.Goals as goal
 
-pub returns-in_ok-monitor-in-Some : goal.returns-in_ok-monitor-in-Some
-returns-in_ok-monitor-in-Some c = λ s w before m h place.
+pub returns-in-Some : goal.returns-in-Some
+returns-in-Some c = λ s w before m h place.
     let v : Kept = the_view c.self.inside in
     let x : HostState = c.index.result.now in
     let held : Holds s w before v = subst (Holds s w before) (sym c.self.view_is) h in
-    let within : c.args.at < length v.hosts = subst (λ (z : Kept). c.args.at < length z.hosts) (sym c.self.view_is) c.requires in
+    let within : c.args.at < length v.hosts = subst (λ (z : Kept). c.args.at < length z.hosts) (sym c.self.view_is) c.requires.host in
     let found : slice_get v.hosts c.args.at ≡ Some x = slice_get_read v.hosts (length v.hosts) c.args.at x refl within c.index.ensures in
     let there : IsPlace v c.args.at m = subst (λ (z : Kept). IsPlace z c.args.at m) (sym c.self.view_is) place in
     let now = current-at s w before v m c.args.at x held there found in
     let n : node.Kept = c.in-Some.node.now in
-    let runs : HoldsCurrent s (w.hosts m).disk m (Some n) (w.hosts m).current = subst (λ (o : Option node.Kept). HoldsCurrent s (w.hosts m).disk m o (w.hosts m).current) (sym c.in-Some.ensures) now in
-    let said : Verdict = verdicts.MonitoredBy c.in_ok-monitor-in-Some.monitor in
+    let runs : HoldsCurrent s (w.hosts m).disk m (Some n) (w.hosts m).current = subst (λ (o : Option node.Kept). HoldsCurrent s (w.hosts m).disk m o (w.hosts m).current) (sym c.in-Some.ensures.same) now in
+    let said : Verdict = verdicts.MonitoredBy c.monitor-monitor.result in
     replies-same s before c.args.self.now c.args.out.now.items c.answer.new.out.items (Ok (asks s m (monitored c.args.ring.0 c.args.of) w)) (Ok (says said w)) c.answer.result
-    (ap (λ (a : Answer). ok_answer a) (asks-some s (w.hosts m).disk m n (w.hosts m).current (monitored c.args.ring.0 c.args.of) said w runs (λ one is. ap (λ (o : Option ℕ). verdicts.MonitoredBy o) (sym (c.in_ok-monitor-in-Some.ensures.value (state_of (setting_of s m) one.node) (subst (λ (z : life.Life). Stands z (state_of (setting_of s m) one.node)) (sym c.membership.ensures) is.is.holds))))))
+    (ap (λ (a : Answer). ok_answer a) (asks-some s (w.hosts m).disk m n (w.hosts m).current (monitored c.args.ring.0 c.args.of) said w runs (λ one is. ap (λ (o : Option ℕ). verdicts.MonitoredBy o) (sym (c.monitor-monitor.ensures.value (state_of (setting_of s m) one.node) (subst (λ (z : life.Life). Stands z (state_of (setting_of s m) one.node)) (sym c.membership.ensures.kept) is.is.holds))))))
     (says-replies s w before c.args.self.now c.args.out.now.items c.answer.new.out.items said c.answer.result h c.answer.ensures.ok c.answer.ensures.refused c.answer.ensures.cause)
 
 pub returns-in-None : goal.returns-in-None
@@ -40,11 +42,33 @@ returns-in-None c = λ s w before m h place.
     let v : Kept = the_view c.self.inside in
     let x : HostState = c.index.result.now in
     let held : Holds s w before v = subst (Holds s w before) (sym c.self.view_is) h in
-    let within : c.args.at < length v.hosts = subst (λ (z : Kept). c.args.at < length z.hosts) (sym c.self.view_is) c.requires in
+    let within : c.args.at < length v.hosts = subst (λ (z : Kept). c.args.at < length z.hosts) (sym c.self.view_is) c.requires.host in
     let found : slice_get v.hosts c.args.at ≡ Some x = slice_get_read v.hosts (length v.hosts) c.args.at x refl within c.index.ensures in
     let there : IsPlace v c.args.at m = subst (λ (z : Kept). IsPlace z c.args.at m) (sym c.self.view_is) place in
     let now = current-at s w before v m c.args.at x held there found in
-    let idle : HoldsCurrent s (w.hosts m).disk m None (w.hosts m).current = subst (λ (o : Option node.Kept). HoldsCurrent s (w.hosts m).disk m o (w.hosts m).current) (sym c.in-None.ensures) now in
+    let idle : HoldsCurrent s (w.hosts m).disk m None (w.hosts m).current = subst (λ (o : Option node.Kept). HoldsCurrent s (w.hosts m).disk m o (w.hosts m).current) (sym c.in-None.ensures.same) now in
     replies-same s before c.args.self.now c.args.out.now.items c.end_line.new.out.items (Ok (asks s m (monitored c.args.ring.0 c.args.of) w)) (Ok (quiet (begun w))) c.end_line.result
     (ap (λ (a : Answer). ok_answer a) (asks-none s (w.hosts m).disk m (w.hosts m).current (monitored c.args.ring.0 c.args.of) w idle))
     (ends-replies s w before c.args.self.now c.args.out.now.items c.end_line.new.out.items c.end_line.result h c.end_line.ensures.ok c.end_line.ensures.refused c.end_line.ensures.cause)
+
+pub monitor-monitor-requires-clause-ring : goal.monitor-monitor-requires-clause-ring
+monitor-monitor-requires-clause-ring c =
+    let v : Kept = the_view c.self.inside in
+    let x : HostState = c.index.result.now in
+    let within : c.args.at < length v.hosts = subst (λ (z : Kept). c.args.at < length z.hosts) (sym c.self.view_is) c.requires.host in
+    let found : slice_get v.hosts c.args.at ≡ Some x = slice_get_read v.hosts (length v.hosts) c.args.at x refl within c.index.ensures in
+    let stands = c.requires.stands in
+    let held : Holds stands.setting stands.world stands.told v = subst (Holds stands.setting stands.world stands.told) (sym c.self.view_is) stands.holds in
+    let same = node-group stands.setting stands.world stands.told v c.args.at x c.in-Some.node.now held found c.in-Some.ensures.same in
+    let group : c.membership.result.now.group ≡ c.args.self.now.authority.group = c.membership.ensures.group ∙ same ∙ ap (λ (z : Kept). z.authority.group) c.self.view_is in
+    subst (λ (g : Group). c.args.ring.0 < ring_count g.t) (sym group) c.requires.ring
+
+pub monitor-monitor-requires-clause-member : goal.monitor-monitor-requires-clause-member
+monitor-monitor-requires-clause-member c =
+    let v : Kept = the_view c.self.inside in
+    let x : HostState = c.index.result.now in
+    let within : c.args.at < length v.hosts = subst (λ (z : Kept). c.args.at < length z.hosts) (sym c.self.view_is) c.requires.host in
+    let found : slice_get v.hosts c.args.at ≡ Some x = slice_get_read v.hosts (length v.hosts) c.args.at x refl within c.index.ensures in
+    let known : KnowsAt v c.args.of (Some c.args.at) = subst (λ (z : Kept). KnowsAt z c.args.of (Some c.args.at)) (sym c.self.view_is) c.requires.known in
+    let joined = c.in-Some.ensures.joined c.args.of (known-there v c.args.of c.args.at x c.in-Some.node.now known found c.in-Some.ensures.same) in
+    subst (λ (z : life.Life). life.has_joined z c.args.of ≡ true) (sym c.membership.ensures.kept) joined

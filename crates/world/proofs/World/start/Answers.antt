@@ -30,6 +30,7 @@ use Rattle.world.specs.Courses.{Replies, starts_if_left}
 use Rattle.world.proofs.AnswerLemmas.{replies-same, says-replies}
 use Rattle.world.proofs.BeginLemmas.{begun-replies}
 use Rattle.world.proofs.ChangeLemmas.{holds-changed}
+use Rattle.world.proofs.LookLemmas.{is-place}
 use Rattle.world.proofs.World.start.Goals as goal
 
 none-runs : (current : Option Life) → is_some current ≡ false → current ≡ None
@@ -81,12 +82,21 @@ stops-so s w before v m at x later h there own (inr o) =
           (subst (λ (k : ℕ). HoldsHost s h.ots h.tree (put m) (spent_of w (Some k)) later) (sym own) (subst (λ (k : ℕ). HoldsHost s h.ots h.tree (put k) (spent_of w (Some m)) later) own o.1.holds));
     }
 
+pub start-requires : goal.start-requires
+start-requires c =
+    let v : Kept = the_view c.self.inside in
+    let x : HostState = c.index_mut.result.now in
+    let within : c.args.at < length v.hosts = subst (λ (z : Kept). c.args.at < length z.hosts) (sym c.self.view_is) c.requires.host in
+    let found : slice_get v.hosts c.args.at ≡ Some x = slice_get_read v.hosts (length v.hosts) c.args.at x refl within c.index_mut.ensures.value in
+    let stands = c.requires.stands in
+    is-place stands.setting stands.world stands.told v c.args.at x (subst (Holds stands.setting stands.world stands.told) (sym c.self.view_is) stands.holds) found
+
 pub returns-in_err-life-clause-numbers : goal.returns-in_err-life-clause-numbers
 returns-in_err-life-clause-numbers c =
     let v : Kept = the_view c.self.inside in
     let x : HostState = c.index_mut.result.now in
     let later : HostState = c.start.new.self in
-    let within : c.args.at < length v.hosts = subst (λ (z : Kept). c.args.at < length z.hosts) (sym c.self.view_is) c.requires in
+    let within : c.args.at < length v.hosts = subst (λ (z : Kept). c.args.at < length z.hosts) (sym c.self.view_is) c.requires.host in
     let found : slice_get v.hosts c.args.at ≡ Some x = slice_get_read v.hosts (length v.hosts) c.args.at x refl within c.index_mut.ensures.value in
     numbers-kept v.hosts c.args.at x later found c.start.ensures.member ∙ ap numbers c.self.view_is
 
@@ -95,7 +105,7 @@ returns-in-Began-clause-numbers c =
     let v : Kept = the_view c.self.inside in
     let x : HostState = c.index_mut.result.now in
     let later : HostState = c.start.new.self in
-    let within : c.args.at < length v.hosts = subst (λ (z : Kept). c.args.at < length z.hosts) (sym c.self.view_is) c.requires in
+    let within : c.args.at < length v.hosts = subst (λ (z : Kept). c.args.at < length z.hosts) (sym c.self.view_is) c.requires.host in
     let found : slice_get v.hosts c.args.at ≡ Some x = slice_get_read v.hosts (length v.hosts) c.args.at x refl within c.index_mut.ensures.value in
     ap numbers c.tell_began.ensures.frame ∙ numbers-kept v.hosts c.args.at x later found c.start.ensures.member ∙ ap numbers c.self.view_is
 
@@ -104,7 +114,7 @@ returns-in-Began-clause-starts c = λ s w before m h place stands.
     let v : Kept = the_view c.self.inside in
     let x : HostState = c.index_mut.result.now in
     let later : HostState = c.start.new.self in
-    let within : c.args.at < length v.hosts = subst (λ (z : Kept). c.args.at < length z.hosts) (sym c.self.view_is) c.requires in
+    let within : c.args.at < length v.hosts = subst (λ (z : Kept). c.args.at < length z.hosts) (sym c.self.view_is) c.requires.host in
     let found : slice_get v.hosts c.args.at ≡ Some x = slice_get_read v.hosts (length v.hosts) c.args.at x refl within c.index_mut.ensures.value in
     let held : Holds s w before v = subst (Holds s w before) (sym c.self.view_is) h in
     let there : IsPlace v c.args.at m = subst (λ (z : Kept). IsPlace z c.args.at m) (sym c.self.view_is) place in
@@ -124,7 +134,7 @@ returns-in-DiskStopped-clause-numbers c =
     let v : Kept = the_view c.self.inside in
     let x : HostState = c.index_mut.result.now in
     let later : HostState = c.start.new.self in
-    let within : c.args.at < length v.hosts = subst (λ (z : Kept). c.args.at < length z.hosts) (sym c.self.view_is) c.requires in
+    let within : c.args.at < length v.hosts = subst (λ (z : Kept). c.args.at < length z.hosts) (sym c.self.view_is) c.requires.host in
     let found : slice_get v.hosts c.args.at ≡ Some x = slice_get_read v.hosts (length v.hosts) c.args.at x refl within c.index_mut.ensures.value in
     numbers-kept v.hosts c.args.at x later found c.start.ensures.member ∙ ap numbers c.self.view_is
 
@@ -133,7 +143,7 @@ returns-in-DiskStopped-clause-starts c = λ s w before m h place stands.
     let v : Kept = the_view c.self.inside in
     let x : HostState = c.index_mut.result.now in
     let later : HostState = c.start.new.self in
-    let within : c.args.at < length v.hosts = subst (λ (z : Kept). c.args.at < length z.hosts) (sym c.self.view_is) c.requires in
+    let within : c.args.at < length v.hosts = subst (λ (z : Kept). c.args.at < length z.hosts) (sym c.self.view_is) c.requires.host in
     let found : slice_get v.hosts c.args.at ≡ Some x = slice_get_read v.hosts (length v.hosts) c.args.at x refl within c.index_mut.ensures.value in
     let held : Holds s w before v = subst (Holds s w before) (sym c.self.view_is) h in
     let there : IsPlace v c.args.at m = subst (λ (z : Kept). IsPlace z c.args.at m) (sym c.self.view_is) place in
@@ -151,7 +161,7 @@ returns-in-UsedUp-clause-numbers c =
     let v : Kept = the_view c.self.inside in
     let x : HostState = c.index_mut.result.now in
     let later : HostState = c.start.new.self in
-    let within : c.args.at < length v.hosts = subst (λ (z : Kept). c.args.at < length z.hosts) (sym c.self.view_is) c.requires in
+    let within : c.args.at < length v.hosts = subst (λ (z : Kept). c.args.at < length z.hosts) (sym c.self.view_is) c.requires.host in
     let found : slice_get v.hosts c.args.at ≡ Some x = slice_get_read v.hosts (length v.hosts) c.args.at x refl within c.index_mut.ensures.value in
     numbers-kept v.hosts c.args.at x later found c.start.ensures.member ∙ ap numbers c.self.view_is
 
@@ -160,7 +170,7 @@ returns-in-UsedUp-clause-starts c = λ s w before m h place stands.
     let v : Kept = the_view c.self.inside in
     let x : HostState = c.index_mut.result.now in
     let later : HostState = c.start.new.self in
-    let within : c.args.at < length v.hosts = subst (λ (z : Kept). c.args.at < length z.hosts) (sym c.self.view_is) c.requires in
+    let within : c.args.at < length v.hosts = subst (λ (z : Kept). c.args.at < length z.hosts) (sym c.self.view_is) c.requires.host in
     let found : slice_get v.hosts c.args.at ≡ Some x = slice_get_read v.hosts (length v.hosts) c.args.at x refl within c.index_mut.ensures.value in
     let held : Holds s w before v = subst (Holds s w before) (sym c.self.view_is) h in
     let there : IsPlace v c.args.at m = subst (λ (z : Kept). IsPlace z c.args.at m) (sym c.self.view_is) place in

@@ -17,11 +17,11 @@ returns-then-asks_for_unknown-clause-value c = λ s w told h fine.
     let noted : c.means_no_note.result ≡ false = search rules in
     let left : c.signer_used_up.result ≡ None = search rules in
     let is : c.asks_for_unknown.result ≡ true = search rules in
-    sym (last-unknown s w c.args.line.now (sym (c.means_no_note.ensures s w told h) ∙ noted) (sym (c.signer_used_up.ensures.value s w told h fine) ∙ left) (sym (c.asks_for_unknown.ensures s w told h) ∙ is))
+    sym (last-unknown s w c.args.line.now (sym (c.means_no_note.ensures s w told h) ∙ noted) (sym (c.signer_used_up.ensures.value s w told h fine) ∙ left) (sym (c.asks_for_unknown.ensures.value s w told h) ∙ is))
 
 pub returns-clause-value : goal.returns-clause-value
 returns-clause-value c = λ s w told h fine.
     let noted : c.means_no_note.result ≡ false = search rules in
     let left : c.signer_used_up.result ≡ None = search rules in
     let known : c.asks_for_unknown.result ≡ false = search rules in
-    sym (last-none s w c.args.line.now (sym (c.means_no_note.ensures s w told h) ∙ noted) (sym (c.signer_used_up.ensures.value s w told h fine) ∙ left) (sym (c.asks_for_unknown.ensures s w told h) ∙ known))
+    sym (last-none s w c.args.line.now (sym (c.means_no_note.ensures s w told h) ∙ noted) (sym (c.signer_used_up.ensures.value s w told h fine) ∙ left) (sym (c.asks_for_unknown.ensures.value s w told h) ∙ known))

@@ -1,36 +1,41 @@
-use Rattle.std.proofs.Common.{◌≡◌, Option, Some, sym, ap, ◌∙◌, subst}
-use Rattle.std.specs.Prelude.{IfSome}
+use Rattle.std.proofs.Common.{◌≡◌, Some, sym, ap, ◌∙◌, subst}
 use Rattle.ff_ids.specs.declared.Group.{Group}
+use Rattle.lms_tree.specs.declared.secret.Secret.{Secret}
 use Rattle.lms_tree.specs.Leaves.{index_count}
 use Rattle.lms_tree.specs.Lms.{public_of}
 use Rattle.epoch_store.specs.declared.Stored.{Stored}
 use Rattle.epoch_store.specs.Calls.{StoreState}
 use Rattle.secrets.specs.Secrets.{nonce_seed, world_secret}
 use Rattle.signer.specs.Signing.{SignerState}
+use Rattle.node_core.specs.Begins.{IsKit}
 use Rattle.node_core.specs.declared.kit.Kit.{Kit}
 use Rattle.node_core.specs.Playing as node
 use Rattle.node_core.specs.Rolls.{recs_of}
-use Rattle.world_host.specs.Certifying.{IsKitOf}
 use Rattle.world_rules.specs.Disks.{seat_of}
 use Rattle.world_rules.specs.Keys.{owner_key}
 use Rattle.world_host.proofs.StartLemmas.{answer-is, begins-by, nonces-are, start-going}
 use Rattle.world_host.proofs.WorldLemmas.{indexes-are, own-kit}
 use Rattle.world_host.proofs.starting.begin_node.Goals as goal
 
+pub start-requires-clause-kit : goal.start-requires-clause-kit
+start-requires-clause-kit c =
+    let key : c.open_signer-signer.result.key ≡ c.args.key = ap (λ (x : SignerState). x.key) c.open_signer-signer.ensures in
+    subst (λ (k : Secret). IsKit c.in_ok-kit.kit (public_of k)) (sym key) (c.in_ok-kit.ensures.sound (public_of c.args.key) c.requires.place)
+
 pub returns-clause-going : goal.returns-clause-going
 returns-clause-going c =
-    let kit : Kit = c.in-Some.kit in
+    let kit : Kit = c.in_ok-kit.kit in
     let signer : SignerState = c.open_signer-signer.result in
-    start-going (node.setting_of kit.group kit.me kit.authority signer.key) kit.nonce_seed (recs_of kit.certificates.items) signer.state c.args.events.now c.start.new.events c.start.result c.start_of.result
-    c.start.ensures.starts c.start.ensures.going c.start_of.ensures
+    start-going (node.setting_of kit.group kit.me kit.authority signer.key) (public_of signer.key) kit.nonce_seed (recs_of kit.certificates.items) signer.state c.args.events.now c.start.new.events c.start.result c.start_of.result
+    c.start.ensures.starts c.start.ensures.vouchable c.start.ensures.going c.start_of.ensures
 
 pub returns-clause-begins : goal.returns-clause-begins
 returns-clause-begins c = λ s ots tree tag e w certified key_is store_is mark h none.
     let g : Group = c.args.authority.now.group in
     let m = c.args.member in
-    let kit : Kit = c.in-Some.kit in
+    let kit : Kit = c.in_ok-kit.kit in
     let signer : SignerState = c.open_signer-signer.result in
-    let kit_is : IsKitOf c.args.authority.now m c.state.result.next kit = subst (λ (o : Option Kit). IfSome o (IsKitOf c.args.authority.now m c.state.result.next)) c.in-Some.is c.in_ok-kit.ensures.kit in
+    let kit_is = c.in_ok-kit.ensures in
     let opened = c.open_signer-signer.ensures in
     let stored : c.state.result ≡ e.state = c.state.ensures.value ∙ ap (λ (x : StoreState). x.state) store_is in
     let state : signer.state ≡ e.state = ap (λ (x : SignerState). x.state) opened ∙ ap (λ (x : StoreState). x.state) store_is in

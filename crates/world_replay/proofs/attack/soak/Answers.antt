@@ -5,7 +5,7 @@ use Rattle.world_text.specs.Lines.{line_text}
 use Rattle.world_laws.proofs.Walking.{texts-lawful}
 use Rattle.world_replay.specs.Soaking.{spelled_lines}
 use Rattle.world_replay.proofs.SoakMakingLemmas.{workload-made}
-use Rattle.world_replay.proofs.SoakWalkLemmas.{begins, goes-on, not-many, stops-so}
+use Rattle.world_replay.proofs.SoakWalkLemmas.{begins, goes-on, may-turn, not-many, stops-so}
 use Rattle.world_replay.proofs.attack.soak.Goals as goal
 
 pub lines-init : goal.lines-init
@@ -14,6 +14,9 @@ lines-init c =
     record {
       goes = begins (workload c.args.seed c.args.nodes c.args.rounds) c.in-Ok.left c.new-stage.result c.in-Ok.ensures.lines c.new-stage.ensures c.in-Ok.ensures.schedule (workload-made c.args.seed c.args.nodes c.args.rounds) (omega (arith, few, c.in-Ok.ensures.many));
     }
+
+pub turn-requires : goal.turn-requires
+turn-requires c = may-turn (workload c.args.seed c.args.nodes c.args.rounds) c.lines.number c.lines.left c.lines.stage c.lines.invariant.goes
 
 pub lines-preserved : goal.lines-preserved
 lines-preserved c =

@@ -1,15 +1,27 @@
 use Rattle.std.proofs.Common.{rules, ◌≡◌, ℕ, ◌+◌, List, ◌++◌, Option, None, Some, Ok, subst, sym, ap, ◌∙◌}
 use Rattle.ff_ids.specs.declared.Group.{Group}
+use Rattle.lms_tree.specs.Lms.{public_of}
 use Rattle.journal.specs.declared.event.Event as journal
 use Rattle.node_core.specs.Playing.{Kept}
 use Rattle.world_host.specs.Held.{HoldsDisk, crashed}
 use Rattle.world_rules.specs.Keys.{owner_key}
 use Rattle.world_host.specs.Answers.{Begins, BeginsAt, BeginsNode, FailsToBegin, StopsAt, bodies_in}
-use Rattle.world_host.specs.Holding.{IsWorld, tag_of}
+use Rattle.world_host.specs.Certifying.{Certifying}
+use Rattle.world_host.specs.Holding.{IsPlaceOf, IsWorld, tag_of}
 use Rattle.world_host.specs.Hosts.{HostState}
 use Rattle.world_host.proofs.StartLemmas.{begun-at, stopped-at}
 use Rattle.world_host.proofs.WorldLemmas.{tag-is}
 use Rattle.world_host.proofs.host.Host.begin_life.Goals as goal
+
+pub begin_node-requires-clause-place : goal.begin_node-requires-clause-place
+begin_node-requires-clause-place c =
+    let a : Certifying = c.args.authority.now in
+    let x : HostState = c.args.self.now in
+    let place : IsPlaceOf a x.member x.public = c.requires.place in
+    let group = ap (λ (g : Group). public_of (owner_key g place.ots place.tree (Some x.member))) (sym c.group.ensures) in
+    let public = c.in_ok-key.ensures.own place.ots place.tree (place.public ∙ group) in
+    let seen = c.self-2.view_is ∙ c.take_key.ensures.frame in
+    subst (λ (m : ℕ). IsPlaceOf a m (public_of c.in_ok-key.key)) (sym (ap (λ (y : HostState). y.member) seen)) (subst (IsPlaceOf a x.member) (sym public) place)
 
 pub returns-in_ok-keep_bodies-in-Some-clause-begins : goal.returns-in_ok-keep_bodies-in-Some-clause-begins
 returns-in_ok-keep_bodies-in-Some-clause-begins c = λ s ots tree place spent w certified h idle store_is.

@@ -1,6 +1,7 @@
 use Rattle.std.proofs.Common.{rules, ◌≡◌, false, List, ◌++◌, Option, None, Some, refl, subst, sym, ap, ◌∙◌}
 use Rattle.std.specs.Prelude.{is_err}
 use Rattle.journal.specs.declared.event.Event as journal
+use Rattle.node_rules.specs.OneExchange.{node_after}
 use Rattle.node_rules.specs.Lives.{Ticks}
 use Rattle.node_core.specs.Answers.{CallerBuffers}
 use Rattle.node_core.specs.Playing.{Kept}
@@ -8,7 +9,7 @@ use Rattle.world_rules.specs.Settings.{setting_of}
 use Rattle.world_host.specs.Answers.{CallsRunning, Ends, bodies_in}
 use Rattle.world_host.specs.Holding.{HoldsHost}
 use Rattle.world_host.specs.Hosts.{HostState, IsGoing}
-use Rattle.world_host.proofs.CallLemmas.{called-so, err-of-call, going-on, some-going}
+use Rattle.world_host.proofs.CallLemmas.{called-so, going-on, some-going}
 use Rattle.world_host.proofs.host.Host.tick.Goals as goal
 
 pub end_call-requires-clause-going : goal.end_call-requires-clause-going
@@ -17,15 +18,12 @@ end_call-requires-clause-going c =
     let g : IsGoing c.in-Some.node = some-going c.self.inside.node c.in-Some.node c.self.invariant.1 runs in
     let old : CallerBuffers = record { events = c.new-events.result; sent = c.args.out.now } in
     let new : CallerBuffers = record { events = c.tick-called.new.events; sent = c.tick-called.new.out } in
-    going-on g.setting g.node Ticks c.tick-called.new.self old new c.tick-called.result (c.tick-called.ensures.step g.setting g.node g.is g.going) c.tick-called.ensures.ended
+    going-on g.life g.inputs Ticks c.tick-called.new.self old new c.tick-called.result g.correct (c.tick-called.ensures.step g.life.setting (node_after g.life g.inputs) g.is g.going) c.tick-called.ensures.ended
 
 pub end_call-requires-clause-cause : goal.end_call-requires-clause-cause
 end_call-requires-clause-cause c =
     let runs : c.self.inside.node ≡ Some c.in-Some.node = search rules in
-    let g : IsGoing c.in-Some.node = some-going c.self.inside.node c.in-Some.node c.self.invariant.1 runs in
-    let old : CallerBuffers = record { events = c.new-events.result; sent = c.args.out.now } in
-    let new : CallerBuffers = record { events = c.tick-called.new.events; sent = c.tick-called.new.out } in
-    err-of-call g.setting g.node Ticks c.tick-called.new.self old new c.tick-called.result (c.tick-called.ensures.step g.setting g.node g.is g.going)
+    c.tick-called.ensures.stops (some-going c.self.inside.node c.in-Some.node c.self.invariant.1 runs).going
 
 pub returns-clause-calls : goal.returns-clause-calls
 returns-clause-calls c = λ s g ots tree place spent w h.

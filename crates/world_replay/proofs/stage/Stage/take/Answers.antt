@@ -1,4 +1,6 @@
-use Rattle.std.proofs.Common.{Some, None}
+use Rattle.std.proofs.Common.{Some, None, subst}
+use Rattle.world_replay.specs.declared.stage.Stage.{Stage}
+use Rattle.world_replay.specs.Stages.{CanTake}
 use Rattle.world_replay.proofs.TakeLemmas.{takes-listed, takes-played}
 use Rattle.world_replay.proofs.stage.Stage.take.Goals as goal
 
@@ -20,3 +22,12 @@ returns-in-Ok-Some c = λ stage told h.
     let written = rw c.in-Ok-Some.is at c.take_listed-begun.ensures.ok in
     takes-listed stage told c.args.line.now c.in-Lists.roster c.take_listed-begun.new.roster (Some c.in-Ok-Some.world) c.args.out.now.items c.take_listed-begun.new.out.items behind written
     (rw c.in-Lists.is at h)
+
+pub step-requires-clause-stands : goal.step-requires-clause-stands
+step-requires-clause-stands c = (subst (λ (s : Stage). CanTake s c.args.line.now) c.in-Plays.is c.requires).0
+
+pub step-requires-clause-ring : goal.step-requires-clause-ring
+step-requires-clause-ring c = (subst (λ (s : Stage). CanTake s c.args.line.now) c.in-Plays.is c.requires).1
+
+pub take_listed-begun-requires : goal.take_listed-begun-requires
+take_listed-begun-requires c = subst (λ (s : Stage). CanTake s c.args.line.now) c.in-Lists.is c.requires
