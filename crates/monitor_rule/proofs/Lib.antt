@@ -1,6 +1,7 @@
 pub mod OrderLemmas
 pub mod StepLemmas
 pub mod SlotLemmas
+pub mod SlotsLemmas
 pub mod NeighbourLemmas
 pub mod RowLemmas
 pub mod KeptLemmas

@@ -1,3 +1,4 @@
 pub mod Joined
 pub mod Sorted
 pub mod Listed
+pub mod Slots

@@ -10,17 +10,17 @@ ghost use Rattle.ff_ids.specs.Views.{key_at};
 ghost use Rattle.monitor_rule.specs.Joined.{with_member, without_member, is_joined, keys_on};
 ghost use Rattle.monitor_rule.specs.Sorted.{places_at, emptied, IsRow};
 
-pub mod by_number;
 mod numbers;
 mod row;
+mod slots;
 
-use by_number::{forget_each, none_yet};
 use ff_ids::{Group, MemberId, RingNo};
 use fields::NoMemory;
 use numbers::Numbers;
 use ring_order::Places;
 use ring_order::steps::Steps;
 use row::Row;
+use slots::Slots;
 use std::alloc::Global;
 use std::marker::{Brand, Model};
 use std::sync::ledger::{Blank, Ledger};
@@ -29,7 +29,7 @@ use std::sync::ledger::{Blank, Ledger};
 /// members with their places, in order of number.
 #[derive(Drop)]
 pub struct Rings {
-    slots: Vec<Option<Places>>,
+    slots: Slots,
     /// Those of the slots that are filled.
     numbers: Numbers,
     rows: Vec<Row>,
@@ -43,10 +43,10 @@ impl Model for Rings {
     ghost Value = { Joined };
 
     ghost view = { λ r. record
-        { rings = length r.rows.items; members = members_from 0 r.slots.items } };
+        { rings = length r.rows.items; members = members_from 0 r.slots } };
 
-    ghost invariant = { λ r. IsKept r.slots.items r.rows.items
-        × (r.numbers ≡ numbers_in r.slots.items) };
+    ghost invariant = { λ r. IsKept r.slots r.rows.items
+        × (r.numbers ≡ numbers_in r.slots) };
 }
 
 impl Rings {
@@ -61,7 +61,7 @@ impl Rings {
             rows.push(Row::open(alloc, RingNo(ring))?)?;
         }
         Ok(Rings {
-            slots: none_yet(alloc)?,
+            slots: Slots::new(alloc)?,
             numbers: Numbers::new(alloc)?,
             rows,
         })
@@ -77,9 +77,8 @@ impl Rings {
                   self.old.members;
             } }
     {
-        let index = member.get() as usize;
         join_each(&mut self.rows, &self.slots, member, places);
-        self.slots[index] = Some(*places);
+        self.slots.fill(member, places);
         self.numbers.put(member);
     }
 
@@ -89,9 +88,9 @@ impl Rings {
         ensures { self.new
             ≡ record self.old { members = without_member member self.old.members } }
     {
-        let index = member.get() as usize;
-        leave_each(&mut self.rows, &self.slots, member);
-        self.slots[index] = None;
+        let places = self.slots.places_of(member);
+        leave_each(&mut self.rows, &self.slots, member, &places);
+        self.slots.empty(member);
         self.numbers.take_out(member);
     }
 
@@ -100,7 +99,7 @@ impl Rings {
         ensures { self.new ≡ record self.old { members = [] } }
     {
         clear_each(&mut self.rows);
-        forget_each(&mut self.slots, self.numbers.all());
+        self.slots.forget(self.numbers.all());
         self.numbers.clear();
     }
 
@@ -285,7 +284,7 @@ impl Rings {
 }
 
 /// Puts the member on each ring. The slots are those before it joins.
-fn join_each(rows: &mut [Row], slots: &[Option<Places>], member: MemberId, places: &Places)
+fn join_each(rows: &mut [Row], slots: &Slots, member: MemberId, places: &Places)
     requires in_order { All (IsRow slots.now) rows.old }
     requires long { length slots.now ≡ MEMBERS }
     requires number { member < MEMBERS }
@@ -300,15 +299,16 @@ fn join_each(rows: &mut [Row], slots: &[Option<Places>], member: MemberId, place
 }
 
 /// Takes the member off each ring. The slots are those before it leaves.
-fn leave_each(rows: &mut [Row], slots: &[Option<Places>], member: MemberId)
+fn leave_each(rows: &mut [Row], slots: &Slots, member: MemberId, places: &Places)
     requires in_order { All (IsRow slots.now) rows.old }
     requires long { length slots.now ≡ MEMBERS }
-    requires filled { is_some (places_at slots.now member) ≡ true }
+    requires number { member < MEMBERS }
+    requires there { places_at slots.now member ≡ Some places.now }
     ensures in_order { All (IsRow (slice_set slots.now member None)) rows.new }
     ensures rings { map (λ r. r.ring) rows.new ≡ map (λ r. r.ring) rows.old }
 {
     for row in rows.iter_mut() {
-        row.leave(slots, member);
+        row.leave(slots, member, places);
     }
 }
 

@@ -8,10 +8,10 @@ ghost use Rattle.ff_ids.specs.Views.{key_at};
 ghost use Rattle.monitor_rule.specs.Joined.{keys_on};
 ghost use Rattle.monitor_rule.specs.Sorted.{places_at, members_from, key_in, key_of_index, hint_on, IsRow, IsBetween};
 
-use crate::by_number::places_of;
+use crate::slots::Slots;
 use ff_ids::{MEMBERS, MemberId, RingNo};
 use ring_order::steps::Steps;
-use ring_order::{Places, hint_before, is_telling, key_before};
+use ring_order::{Places, hint_before, is_telling};
 use std::alloc::{AllocError, Global};
 use std::marker::{Brand, Model};
 use std::sync::ledger::{Blank, Ledger};
@@ -58,7 +58,7 @@ impl Row {
     }
 
     /// Puts in a member that isn't there, at its place. The slots are those before it joins.
-    pub fn join(&mut self, slots: &[Option<Places>], member: MemberId, places: &Places)
+    pub fn join(&mut self, slots: &Slots, member: MemberId, places: &Places)
         requires in_order { IsRow slots.now self.old }
         requires long { length slots.now ≡ MEMBERS }
         requires number { member < MEMBERS }
@@ -76,14 +76,15 @@ impl Row {
     }
 
     /// Takes out a member that is there. The slots are those before it leaves.
-    pub fn leave(&mut self, slots: &[Option<Places>], member: MemberId)
+    pub fn leave(&mut self, slots: &Slots, member: MemberId, places: &Places)
         requires in_order { IsRow slots.now self.old }
         requires long { length slots.now ≡ MEMBERS }
-        requires filled { is_some (places_at slots.now member) ≡ true }
+        requires number { member < MEMBERS }
+        requires there { places_at slots.now member ≡ Some places.now }
         ensures in_order { IsRow (slice_set slots.now member None) self.new }
         ensures ring { self.new.ring ≡ self.old.ring }
     {
-        let place = self.place_of(slots, member, places_of(slots, member));
+        let place = self.place_of(slots, member, places);
         let _ = self.order.remove(place);
     }
 
@@ -98,7 +99,7 @@ impl Row {
     /// The nearest joined member before this one, or none where no other has joined.
     pub fn before<L: Ledger>(
         &self,
-        slots: &[Option<Places>],
+        slots: &Slots,
         member: MemberId,
         places: &Places,
         steps: &mut Steps<L>,
@@ -124,7 +125,7 @@ impl Row {
     /// The nearest joined member after this one, or none where no other has joined.
     pub fn after<L: Ledger>(
         &self,
-        slots: &[Option<Places>],
+        slots: &Slots,
         member: MemberId,
         places: &Places,
         steps: &mut Steps<L>,
@@ -146,7 +147,7 @@ impl Row {
     /// As `after`, of which no step counts. The member's place is looked for where it was last, and told.
     pub fn after_near<L: Ledger>(
         &self,
-        slots: &[Option<Places>],
+        slots: &Slots,
         member: MemberId,
         places: &Places,
         near: &mut usize,
@@ -166,7 +167,7 @@ impl Row {
     /// As `after`, of which no step counts. The member's place is looked for first where the last member joined.
     pub fn after_last<L: Ledger>(
         &self,
-        slots: &[Option<Places>],
+        slots: &Slots,
         member: MemberId,
         places: &Places,
         steps: &mut Steps<L>,
@@ -238,7 +239,7 @@ impl Row {
     }
 
     /// How many of the ring's members come before this one, found in a ledger of its own.
-    fn place_of(&self, slots: &[Option<Places>], member: MemberId, places: &Places) -> usize
+    fn place_of(&self, slots: &Slots, member: MemberId, places: &Places) -> usize
         requires in_order { IsRow slots.now self.now }
         requires long { length slots.now ≡ MEMBERS }
         requires placed { self.now.ring < length places.now }
@@ -251,7 +252,7 @@ impl Row {
     fn place_in<L: Ledger>(
         &self,
         blank: Blank,
-        slots: &[Option<Places>],
+        slots: &Slots,
         member: MemberId,
         places: &Places,
     ) -> usize
@@ -270,7 +271,7 @@ impl Row {
     /// How many of the ring's members come before this one. Each step halves what is left.
     fn search<L: Ledger>(
         &self,
-        slots: &[Option<Places>],
+        slots: &Slots,
         member: MemberId,
         places: &Places,
         steps: &mut Steps<L>,
@@ -292,7 +293,7 @@ impl Row {
     /// As `search`. Two steps are enough where this index is the place.
     fn search_near<L: Ledger>(
         &self,
-        slots: &[Option<Places>],
+        slots: &Slots,
         near: usize,
         member: MemberId,
         places: &Places,
@@ -316,7 +317,7 @@ impl Row {
     /// most. How many steps it takes is told by how many these are, and not by which of them do.
     fn halve<L: Ledger>(
         &self,
-        slots: &[Option<Places>],
+        slots: &Slots,
         from: usize,
         count: usize,
         member: MemberId,
@@ -346,7 +347,7 @@ impl Row {
     /// As `halve`, where hints tell.
     fn halve_by_hints<L: Ledger>(
         &self,
-        slots: &[Option<Places>],
+        slots: &Slots,
         from: usize,
         count: usize,
         member: MemberId,
@@ -379,7 +380,7 @@ impl Row {
     /// As `halve`, where some hints may not tell.
     fn halve_by_places<L: Ledger>(
         &self,
-        slots: &[Option<Places>],
+        slots: &Slots,
         from: usize,
         count: usize,
         member: MemberId,
@@ -413,7 +414,7 @@ impl Row {
     #[inline]
     fn skipped_by_hints<L: Ledger>(
         &self,
-        slots: &[Option<Places>],
+        slots: &Slots,
         low: usize,
         left: usize,
         member: MemberId,
@@ -443,7 +444,7 @@ impl Row {
     /// As `skipped_by_hints`, where some hints may not tell.
     fn skipped_by_places<L: Ledger>(
         &self,
-        slots: &[Option<Places>],
+        slots: &Slots,
         low: usize,
         left: usize,
         member: MemberId,
@@ -475,7 +476,7 @@ impl Row {
     /// As `part_at`, where the index is one between the two.
     fn split_at<L: Ledger>(
         &self,
-        slots: &[Option<Places>],
+        slots: &Slots,
         low: usize,
         index: usize,
         high: usize,
@@ -503,7 +504,7 @@ impl Row {
     /// The part in which the member's place is, of those between the two: behind the index, or up to it.
     fn part_at<L: Ledger>(
         &self,
-        slots: &[Option<Places>],
+        slots: &Slots,
         low: usize,
         index: usize,
         high: usize,
@@ -533,7 +534,7 @@ impl Row {
     /// Whether the member at the index comes before this one: the places are looked at where the hints don't tell.
     fn is_behind<L: Ledger>(
         &self,
-        slots: &[Option<Places>],
+        slots: &Slots,
         index: usize,
         member: MemberId,
         places: &Places,
@@ -553,9 +554,7 @@ impl Row {
         if self.told && is_telling(hint) {
             0 < self.is_behind_by_hint(slots, index, member, places, hint, steps)
         } else {
-            let other = self.order[index];
-            let other_places = places_of(slots, other);
-            key_before(self.ring, other_places, other, places, member, steps)
+            slots.is_before(self.ring, self.order[index], member, places, steps)
         }
     }
 
@@ -563,7 +562,7 @@ impl Row {
     #[inline]
     fn is_behind_by_hint<L: Ledger>(
         &self,
-        slots: &[Option<Places>],
+        slots: &Slots,
         index: usize,
         member: MemberId,
         places: &Places,

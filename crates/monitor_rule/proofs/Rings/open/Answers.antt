@@ -16,9 +16,9 @@ loop-ring-preserved c =
 
 pub invariant_of-result : goal.invariant_of-result
 invariant_of-result c =
-    (IsKept-nobody c.in_ok-none_yet.field-0.items c.loop-ring.rows.items (omega (arith, c.loop-ring.invariant.long, c.requires)) c.in_ok-none_yet.ensures.long c.in_ok-none_yet.ensures.none (c.loop-ring.invariant.numbered ∙ ap (range_with_len 0) (sym c.loop-ring.invariant.long)) c.loop-ring.invariant.empty, numbers-none c.in_ok-none_yet.field-0.items c.in_ok-new.field-0 c.in_ok-none_yet.ensures.none c.in_ok-new.ensures)
+    (IsKept-nobody c.in_ok-new.field-0 c.loop-ring.rows.items (omega (arith, c.loop-ring.invariant.long, c.requires)) c.in_ok-new.ensures.long c.in_ok-new.ensures.none (c.loop-ring.invariant.numbered ∙ ap (range_with_len 0) (sym c.loop-ring.invariant.long)) c.loop-ring.invariant.empty, numbers-none c.in_ok-new.field-0 c.in_ok-new-2.field-0 c.in_ok-new.ensures.none c.in_ok-new-2.ensures)
 
 pub returns : goal.returns
 returns c =
     let rings : length c.loop-ring.rows.items ≡ ring_count c.args.group.now.t = omega (arith, c.loop-ring.invariant.long) in
-    ap (λ (n : ℕ). record { rings = n; members = members_from 0 c.in_ok-none_yet.field-0.items }) rings ∙ ap (λ ms. record { rings = ring_count c.args.group.now.t; members = ms }) (members_from-none 0 c.in_ok-none_yet.field-0.items c.in_ok-none_yet.ensures.none)
+    ap (λ (n : ℕ). record { rings = n; members = members_from 0 c.in_ok-new.field-0 }) rings ∙ ap (λ ms. record { rings = ring_count c.args.group.now.t; members = ms }) (members_from-none 0 c.in_ok-new.field-0 c.in_ok-new.ensures.none)

@@ -16,6 +16,6 @@ pub returns : goal.returns
 returns g c =
     let rings : length c.self.inside.rows.items ≡ c.args.self.now.rings = ap (λ (j : Joined). j.rings) c.self.view_is in
     let ring = ring_at c.self.inside.rows.items c.args.ring.0 c.index.result.now c.self.invariant.0.numbered (omega (arith, c.requires.ring)) c.index.ensures in
-    let members : members_from 0 c.deref.result.now ≡ c.args.self.now.members = ap (members_from 0) c.deref.ensures.value ∙ ap (λ (j : Joined). j.members) c.self.view_is in
+    let members : members_from 0 c.self.inside.slots ≡ c.args.self.now.members = ap (λ (j : Joined). j.members) c.self.view_is in
     let answer = λ (r : ℕ) (ms : List Member). nearest_after (keys_on r ms) (key_at r c.args.places.now c.args.member) in
-    c.after_last.ensures ∙ ap (λ r. answer r (members_from 0 c.deref.result.now)) ring ∙ ap (answer c.args.ring.0) members
+    c.after_last.ensures ∙ ap (λ r. answer r (members_from 0 c.self.inside.slots)) ring ∙ ap (answer c.args.ring.0) members
