@@ -139,3 +139,28 @@ last_epoch : (note_fault 1 (state_of (tied ++ Notes (note 5 18446744073709551615
     × (note_fault 1 (state_of (tied ++ Notes (note 5 18446744073709551615 7) ∷ [])) (note 5 1 7) ≡ Some (faults.Older 18446744073709551615 (record { 0 = 7 })))
 unfolding all_numbers in_view_by
 last_epoch = (refl, refl)
+
+-- a member leaves: it is out at once, with no accusation; what stood by it falls, and its place on the rings is free
+abbrev leaving : List Event
+leaving = accused_once ++ Notes (note 1 2 0) ∷ []
+
+leaves : (told accused_once (Notes (note 1 2 0)) ≡ ([], 1 ∷ [], [], acc 1 2 1 0 ∷ [])) × (view (state_of leaving) ≡ 2 ∷ 3 ∷ []) × (monitor (state_of leaving) 0 2 ≡ Some 3)
+    × (accusation_fault 1 (state_of leaving) (acc 3 1 2 0) ≡ Some faults.NotInView)
+unfolding all_numbers in_view_by
+leaves = (refl, refl, refl, refl)
+
+-- an accusation of it falls as well, so none expires
+accused_leaves : (told accused_once (Notes (note 2 2 0)) ≡ ([], 2 ∷ [], [], acc 1 2 1 0 ∷ [])) × (told (accused_once ++ Notes (note 2 2 0) ∷ ticks 2) Ticks ≡ nothing)
+unfolding all_numbers in_view_by
+accused_leaves = (refl, refl)
+
+-- by a greater note it returns; a leaving note of the newest epoch is the lesser, and one with a mask of the same epoch the greater
+returns : (told leaving (Notes (note 1 3 7)) ≡ ([], [], 1 ∷ [], [])) × (told leaving (Notes (note 1 2 7)) ≡ ([], [], 1 ∷ [], []))
+    × (note_fault 1 (state_of three) (note 2 1 0) ≡ Some (faults.Older 1 (record { 0 = 7 }))) × (note_fault 1 (state_of leaving) (note 1 2 0) ≡ Some faults.Known)
+unfolding all_numbers in_view_by
+returns = (refl, refl, refl, refl)
+
+-- a first note may be a leaving one, and brings nothing
+first_leaves : (told without_note (Notes (note 2 1 0)) ≡ nothing) × (view (state_of (without_note ++ Notes (note 2 1 0) ∷ [])) ≡ 1 ∷ 3 ∷ [])
+unfolding all_numbers in_view_by
+first_leaves = (refl, refl)

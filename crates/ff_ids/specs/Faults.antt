@@ -7,7 +7,7 @@ use Rattle.ff_ids.specs.declared.NoteBody.{NoteBody}
 use Rattle.ff_ids.specs.declared.AccBody.{AccBody}
 use Rattle.ff_ids.specs.declared.Fault.{Fault}
 use Rattle.ff_ids.specs.declared.Fault.TheVariants as faults
-use Rattle.ff_ids.specs.Masks.{ring_count, enables, good_mask}
+use Rattle.ff_ids.specs.Masks.{ring_count, enables, note_mask}
 use Rattle.ff_ids.specs.Notes.{note_cmp, newest}
 use Rattle.ff_ids.specs.Views.{State, is_member, in_view, monitor, is_number}
 
@@ -25,7 +25,7 @@ fault_after (Some kept) n = fault_beside kept (note_cmp n kept)
 abbrev pub note_fault_by : ℕ → Bool → Option NoteBody → NoteBody → Option Fault
 note_fault_by t has_joined kept n =
     if not has_joined then Some faults.UnknownMember
-    else (if not (good_mask t n.mask.0) then Some faults.BadMask
+    else (if not (note_mask t n.mask.0) then Some faults.BadMask
     else fault_after kept n)
 
 -- The first fault of a note in a state, or none.

@@ -1,8 +1,12 @@
 -- Notes: their order, and the newest of a member.
-use Rattle.std.specs.Prelude.{ℕ, ◌==◌, if◌then◌else◌, List, [], ◌∷◌, Option, Some, None}
+use Rattle.std.specs.Prelude.{ℕ, Bool, ◌==◌, if◌then◌else◌, List, [], ◌∷◌, Option, Some, None}
 use Rattle.std.specs.Ordering.{nat_cmp, ordering_then, is_lt}
 use Rattle.std.specs.declared.cmp.Ordering.{Ordering}
 use Rattle.ff_ids.specs.declared.NoteBody.{NoteBody}
+
+-- By this note its member leaves: it enables no ring.
+abbrev pub is_leaving : NoteBody → Bool
+is_leaving n = n.mask.0 == 0
 
 -- Notes are ordered by epoch, and those of one epoch by mask.
 abbrev pub note_cmp : NoteBody → NoteBody → Ordering

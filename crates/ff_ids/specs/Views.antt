@@ -6,7 +6,7 @@ use Rattle.ff_ids.specs.declared.TheConstants.{MEMBERS}
 use Rattle.ff_ids.specs.declared.NoteBody.{NoteBody}
 use Rattle.ff_ids.specs.declared.AccBody.{AccBody}
 use Rattle.ff_ids.specs.Masks.{enables}
-use Rattle.ff_ids.specs.Notes.{newest}
+use Rattle.ff_ids.specs.Notes.{is_leaving, newest}
 use Rattle.ff_ids.specs.Rings.{Key, nearest_before, nearest_after}
 
 -- A member that has joined: its number, and its place on each ring, as bytes.
@@ -37,9 +37,10 @@ abbrev pub has_expired : List AccBody → NoteBody → Bool
 has_expired expired n = list_any (λ a. (a.accused == n.member) && nat_le n.epoch a.epoch) expired
 
 -- Whether a member is in the view, given its newest note and whether an accusation at the epoch of that note or a
--- later one has expired. `proofs/ViewLemmas` has its laws: no proof elsewhere unfolds it.
+-- later one has expired: it hasn't left by that note, and none has. `proofs/ViewLemmas` has its laws: no proof elsewhere
+-- unfolds it.
 unfoldable pub in_view_by : NoteBody → Bool → Bool
-in_view_by n expired = not expired
+in_view_by n expired = not (is_leaving n) && not expired
 
 -- The same by what expired and the newest note of the member, if there is one: else the member isn't in the view.
 abbrev pub viewed_by : List AccBody → Option NoteBody → Bool

@@ -3,7 +3,8 @@
 #![tactic(auto)]
 
 ghost use Rattle.std.specs.Prelude.{◌≡◌, ◌<◌, ◌≤◌, ◌^◌, length};
-ghost use Rattle.ff_ids.specs.Masks.{enables, enabled, good_mask as is_good, all_rings as mask_of_all};
+ghost use Rattle.ff_ids.specs.Masks.{enables, enabled, good_mask as is_good, note_mask as is_allowed, all_rings as mask_of_all};
+ghost use Rattle.ff_ids.specs.Notes.{is_leaving as leaves_by};
 ghost use Rattle.ff_ids.specs.Views.{in_view_by};
 
 mod digits;
@@ -163,7 +164,7 @@ pub enum Fault {
     AlreadyMember,
     /// The member of the note, the accuser or the accused has not joined.
     UnknownMember,
-    /// The mask enables a ring at or above 2t+1, or fewer than t+1 rings.
+    /// The mask enables a ring at or above 2t+1, or from 1 to t rings.
     BadMask,
     /// This certificate is kept, or this note is the newest of its member.
     Known,
@@ -194,12 +195,20 @@ pub enum Fault {
 }
 
 impl NoteBody {
+    /// Whether its member leaves by it: its mask is 0.
+    pub fn is_leaving(&self) -> bool
+        ensures { result ≡ leaves_by self.now }
+    {
+        self.mask.0 == 0
+    }
+
     /// Whether its member is in the view where this is its newest note, given whether an accusation at its epoch
     /// or a later one has expired.
+    #[tactic(auto, unfolding(crate::specs::Views::in_view_by))]
     pub fn in_view(&self, has_expired: bool) -> bool
         ensures { result ≡ in_view_by self.now has_expired }
     {
-        !has_expired
+        !self.is_leaving() && !has_expired
     }
 }
 
@@ -227,7 +236,7 @@ fn enabled_below(mask: Mask, rings: u8) -> u8
     count
 }
 
-/// Whether a note may carry this mask in a group of tolerance `t`: no ring at or above 2t+1 is enabled,
+/// Whether a member may be monitored under this mask in a group of tolerance `t`: no ring at or above 2t+1 is enabled,
 /// and at least t+1 rings are.
 pub fn good_mask(t: u8, mask: Mask) -> bool
     requires { t ≤ MAX_TOLERANCE }
@@ -235,6 +244,14 @@ pub fn good_mask(t: u8, mask: Mask) -> bool
 {
     let rings = 2 * t + 1;
     mask.0 < (1 as Bits) << rings && enabled_below(mask, rings) > t
+}
+
+/// Whether a note may carry this mask in a group of tolerance `t`: a good one, or 0, by which its member leaves.
+pub fn note_mask(t: u8, mask: Mask) -> bool
+    requires { t ≤ MAX_TOLERANCE }
+    ensures { result ≡ is_allowed t mask.0 }
+{
+    mask.0 == 0 || good_mask(t, mask)
 }
 
 /// The mask that enables all rings of a group of tolerance `t`.

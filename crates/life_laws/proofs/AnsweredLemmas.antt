@@ -9,13 +9,13 @@ use Rattle.ff_ids.specs.declared.NoteBody.{NoteBody}
 use Rattle.ff_ids.specs.declared.AccBody.{AccBody}
 use Rattle.ff_ids.specs.declared.Group.{Group}
 use Rattle.ff_ids.specs.declared.Fault.{Fault}
-use Rattle.ff_ids.specs.Masks.{good_mask}
+use Rattle.ff_ids.specs.Masks.{note_mask}
 use Rattle.ff_ids.specs.Notes.{note_cmp, greater_note, newest}
 use Rattle.ff_ids.specs.Views.{State, is_member, is_unanswered_by, stands}
 use Rattle.ff_ids.specs.Faults.{note_fault, accusation_fault, fault_after, fault_beside}
 use Rattle.ff_ids.specs.Steps.{Event, Joins, Notes, Accuses, Ticks, is_due, after_note, after_accusation, after_tick, unless_fault, unchanged, step}
-use Rattle.ff_ids.specs.Lives.{state_at, IsAcceptedAt}
-use Rattle.life_laws.specs.Removals.{IsNoteAcceptedAt, ExpiresAt, IsOlderThan}
+use Rattle.ff_ids.specs.Lives.{state_at, IsAcceptedAt, IsNoteAcceptedAt}
+use Rattle.life_laws.specs.Removals.{ExpiresAt, IsOlderThan}
 use Rattle.life_laws.proofs.Lists.{In, In-from_filter, In-from_map, In-from_Contains}
 use Rattle.life_laws.proofs.NoteLemmas.{below, below-back}
 use Rattle.life_laws.proofs.ViewLemmas.{IsStanding-from, not_below-epoch}
@@ -197,7 +197,7 @@ newest_after n (Some k) f = newest_beside n k (note_cmp n k) refl f
 pub newest-accepted : (t : ℕ) (s : State) (n : NoteBody) → note_fault t s n ≡ None → newest (n ∷ s.notes) n.member ≡ Some n
 newest-accepted t s n fine =
     let member = passed (not (is_member s n.member)) _ _ fine in
-    let mask = passed (not (good_mask t n.mask.0)) _ _ member.1 in
+    let mask = passed (not (note_mask t n.mask.0)) _ _ member.1 in
     newest-itself n s.notes ∙ ap (λ x. Some x) (newest_after n (newest s.notes n.member) mask.1)
 
 pub left_unanswered : (t : ℕ) (s : State) (n : NoteBody) → note_fault t s n ≡ None → (q : AccBody × ℕ) → In (after_note s n).state.kept q → q.0.accused ≡ n.member → is_unanswered_by q.0 n ≡ true

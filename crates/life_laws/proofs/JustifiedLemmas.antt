@@ -1,4 +1,4 @@
--- What is kept was accepted at a place, and has stood since.
+-- What is kept was accepted at a place, and has stood since; and what each removal has for its cause.
 use Rattle.std.proofs.Common.{◌≡◌, ℕ, zero, suc, ◌+◌, ◌<◌, ◌≤◌, true, List, Some, length, ◌⊎◌, inl, inr, ap, sym, ◌∙◌, subst, arith}
 use Rattle.std.specs.List.{slice_get}
 use Rattle.std.proofs.lemmas.Bool.{cases_lt}
@@ -6,10 +6,10 @@ use Rattle.ff_ids.specs.declared.AccBody.{AccBody}
 use Rattle.ff_ids.specs.declared.Group.{Group}
 use Rattle.ff_ids.specs.Views.{Member, State, stands}
 use Rattle.ff_ids.specs.Steps.{Event}
-use Rattle.ff_ids.specs.Lives.{opening, state_at, IsAcceptedAt, IsJustified}
+use Rattle.ff_ids.specs.Lives.{opening, state_at, Departs, ByNote, ByAccusation, IsAcceptedAt, IsJustified}
 use Rattle.life_laws.proofs.Lists.{In}
 use Rattle.life_laws.proofs.ViewLemmas.{AllJoined}
-use Rattle.life_laws.proofs.StepLemmas.{HowKept, before, accepted, Steps, AllStand, steps}
+use Rattle.life_laws.proofs.StepLemmas.{HowKept, before, accepted, TakesOut, leaves, expires, Steps, AllStand, steps}
 use Rattle.life_laws.proofs.LifeLemmas.{state_at-next, event_at}
 
 -- the pair kept before the event at place j was accepted at a place before it, and has stood since
@@ -77,22 +77,30 @@ sound g members events (suc j) within =
     let more : j + 1 ≡ suc j = omega arith in
     subst (Sound g (opening members) events) more here
 
+departs : (g : Group) (s : State) (events : List Event) (j m : ℕ) (e : Event) → slice_get events j ≡ Some e → Sound g s events j
+    → Steps g (state_at g s events j) e (state_at g s events (j + 1)) → TakesOut g (state_at g s events j) e (state_at g s events (j + 1)) m → Departs g s events j m
+departs g s events j m e at so_far next (leaves n is with fine) =
+    ByNote n
+    record {
+      of_member = with.of_member;
+      leaving = with.leaving;
+      accepted = record { event = at ∙ ap (λ x. Some x) is; no_fault = fine };
+    }
+departs g s events j m e at so_far next (expires is q i against passed) =
+    let u = so_far.upheld q i in
+    ByAccusation u.place q.0
+    record {
+      tick = at ∙ ap (λ x. Some x) is;
+      earlier = u.earlier;
+      against = against;
+      accepted = u.accepted_there;
+      stood = u.stood;
+      timeout = omega (arith, u.since, u.passed, next.later, passed);
+    }
+
 pub justified : (g : Group) (members : List Member) (events : List Event) → IsJustified g (opening members) events
 justified g members events j m within removed =
     let so_far = sound g members events j (omega arith) in
     let e = event_at events j within in
     let next = step_at g (opening members) events j e.0 e.1 so_far in
-    let r = next.removed m removed.before removed.later in
-    let q = r.1.0 in
-    let u = so_far.upheld q r.1.1.0 in (
-      u.place,
-      q.0,
-      record {
-        tick = e.1 ∙ ap (λ x. Some x) r.0;
-        earlier = u.earlier;
-        against = r.1.1.1;
-        accepted = u.accepted_there;
-        stood = u.stood;
-        timeout = omega (arith, u.since, u.passed, next.later, r.1.1.2);
-      },
-    )
+    departs g (opening members) events j m e.0 e.1 so_far next (next.removed m removed.before removed.later)

@@ -9,7 +9,7 @@ use Rattle.ff_ids.specs.declared.NoteBody.{NoteBody}
 use Rattle.ff_ids.specs.declared.Group.{Group}
 use Rattle.ff_ids.specs.declared.Fault.{Fault}
 use Rattle.ff_ids.specs.declared.Fault.TheVariants as faults
-use Rattle.ff_ids.specs.Masks.{good_mask}
+use Rattle.ff_ids.specs.Masks.{note_mask}
 use Rattle.ff_ids.specs.Notes.{note_cmp, greater_note, newest}
 use Rattle.ff_ids.specs.Views.{Member, State, is_member}
 use Rattle.ff_ids.specs.Faults.{note_fault, fault_after, fault_beside}
@@ -75,11 +75,11 @@ came_after : (s : State) (n : NoteBody) (m : ℕ) (o : Option NoteBody) → newe
 came_after s n m None e = refl
 came_after s n m (Some k) e = came_beside s n k m (note_cmp n k) e refl
 
--- a member's note with a good mask counts, whether it is accepted or not, and another doesn't
-pub came : (g : Group) (s : State) (n : NoteBody) (m : ℕ) → newest (step g s (Notes n)).state.notes m ≡ newest (cond (is_member s n.member && good_mask g.t n.mask.0) (n ∷ s.notes) s.notes) m
+-- a member's note with an allowed mask counts, whether it is accepted or not, and another doesn't
+pub came : (g : Group) (s : State) (n : NoteBody) (m : ℕ) → newest (step g s (Notes n)).state.notes m ≡ newest (cond (is_member s n.member && note_mask g.t n.mask.0) (n ∷ s.notes) s.notes) m
 came g s n m =
-    elim (is_member s n.member) as (λ b. newest (unless_fault (cond (not b) (Some faults.UnknownMember) (cond (not (good_mask g.t n.mask.0)) (Some faults.BadMask) (fault_after (newest s.notes n.member) n))) s (after_note s n)).state.notes m ≡ newest (cond (b && good_mask g.t n.mask.0) (n ∷ s.notes) s.notes) m) [
-      | true ↦ elim (good_mask g.t n.mask.0) as (λ b. newest (unless_fault (cond (not b) (Some faults.BadMask) (fault_after (newest s.notes n.member) n)) s (after_note s n)).state.notes m ≡ newest (cond b (n ∷ s.notes) s.notes) m) [
+    elim (is_member s n.member) as (λ b. newest (unless_fault (cond (not b) (Some faults.UnknownMember) (cond (not (note_mask g.t n.mask.0)) (Some faults.BadMask) (fault_after (newest s.notes n.member) n))) s (after_note s n)).state.notes m ≡ newest (cond (b && note_mask g.t n.mask.0) (n ∷ s.notes) s.notes) m) [
+      | true ↦ elim (note_mask g.t n.mask.0) as (λ b. newest (unless_fault (cond (not b) (Some faults.BadMask) (fault_after (newest s.notes n.member) n)) s (after_note s n)).state.notes m ≡ newest (cond b (n ∷ s.notes) s.notes) m) [
         | true ↦ came_after s n m (newest s.notes n.member) refl
         | false ↦ refl
       ]
@@ -90,16 +90,16 @@ members_stay : (s : State) (n : NoteBody) (f : Option Fault) → (unless_fault f
 members_stay s n None = refl
 members_stay s n (Some f) = refl
 
-abbrev good_of : ℕ → List Member → NoteBody → Bool
-good_of t members n = list_any (λ x. x.number == n.member) members && good_mask t n.mask.0
+abbrev allowed_of : ℕ → List Member → NoteBody → Bool
+allowed_of t members n = list_any (λ x. x.number == n.member) members && note_mask t n.mask.0
 
-pub newest-came : (g : Group) (ns : List NoteBody) (s : State) (earlier : List NoteBody) → ((m : ℕ) → newest s.notes m ≡ newest earlier m) → (m : ℕ) → newest (after g s (map Notes ns)).notes m ≡ newest (pushed (good_of g.t s.members) ns earlier) m
+pub newest-came : (g : Group) (ns : List NoteBody) (s : State) (earlier : List NoteBody) → ((m : ℕ) → newest s.notes m ≡ newest earlier m) → (m : ℕ) → newest (after g s (map Notes ns)).notes m ≡ newest (pushed (allowed_of g.t s.members) ns earlier) m
 newest-came g [] s earlier h m = h m
 newest-came g (n ∷ ns) s earlier h m =
     let next = (step g s (Notes n)).state in
-    let kept : (v : ℕ) → newest next.notes v ≡ newest (cond (good_of g.t s.members n) (n ∷ earlier) earlier) v = λ v. came g s n v ∙ with_same v (good_of g.t s.members n) in
-    newest-came g ns next (cond (good_of g.t s.members n) (n ∷ earlier) earlier) kept m
-    ∙ ap (λ members. newest (pushed (good_of g.t members) ns (cond (good_of g.t s.members n) (n ∷ earlier) earlier)) m) (members_stay s n (note_fault g.t s n))
+    let kept : (v : ℕ) → newest next.notes v ≡ newest (cond (allowed_of g.t s.members n) (n ∷ earlier) earlier) v = λ v. came g s n v ∙ with_same v (allowed_of g.t s.members n) in
+    newest-came g ns next (cond (allowed_of g.t s.members n) (n ∷ earlier) earlier) kept m
+    ∙ ap (λ members. newest (pushed (allowed_of g.t members) ns (cond (allowed_of g.t s.members n) (n ∷ earlier) earlier)) m) (members_stay s n (note_fault g.t s n))
   where
     with_same : (v : ℕ) (b : Bool) → newest (cond b (n ∷ s.notes) s.notes) v ≡ newest (cond b (n ∷ earlier) earlier) v
     with_same v true = ap (λ o. cond (eqb n.member v) (Some (greater_note n o)) o) (h v)

@@ -10,8 +10,8 @@ use Rattle.ff_ids.specs.Notes.{newest}
 use Rattle.ff_ids.specs.Views.{Member, State, all_numbers, has_expired, in_view, in_view_by, is_member, view, viewed_by}
 use Rattle.ff_ids.specs.Faults.{note_fault, accusation_fault}
 use Rattle.ff_ids.specs.Steps.{Event, Joins, Notes, Accuses, Ticks, is_due, joined, after_note, after_accusation, unless_fault, unchanged, step}
-use Rattle.ff_ids.specs.Lives.{after, opening}
-use Rattle.life_laws.specs.Removals.{IsNoteAcceptedAt, ExpiresAt}
+use Rattle.ff_ids.specs.Lives.{after, opening, IsNoteAcceptedAt}
+use Rattle.life_laws.specs.Removals.{ExpiresAt}
 use Rattle.life_laws.specs.Sameness.{Accepts, Expires, HaveSameRecords, HasSameElements}
 use Rattle.life_laws.proofs.Lists.{In, In-from_Contains, Contains-from_In, In-append_cases, In-append_left, In-append_right, same_any}
 use Rattle.life_laws.proofs.NoteLemmas.{same_newest}

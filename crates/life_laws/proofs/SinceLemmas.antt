@@ -10,11 +10,11 @@ use Rattle.ff_ids.specs.declared.Fault.{Fault}
 use Rattle.ff_ids.specs.declared.Group.{Group}
 use Rattle.ff_ids.specs.declared.NoteBody.{NoteBody}
 use Rattle.ff_ids.specs.Faults.{accusation_fault, note_fault}
-use Rattle.ff_ids.specs.Lives.{opening, state_at}
+use Rattle.ff_ids.specs.Lives.{opening, state_at, IsNoteAcceptedAt}
 use Rattle.ff_ids.specs.Notes.{newest}
 use Rattle.ff_ids.specs.Steps.{Accuses, Event, Joins, Notes, Report, Stepped, Ticks, after_accusation, after_note, is_due, step, unchanged, unless_fault}
 use Rattle.ff_ids.specs.Views.{Member, State, is_member, is_unanswered_by, stands}
-use Rattle.life_laws.specs.Removals.{IsNoteAcceptedAt, Revokes, StoodSince}
+use Rattle.life_laws.specs.Removals.{Revokes, StoodSince}
 use Rattle.life_laws.proofs.AnsweredLemmas.{newest-accepted}
 use Rattle.life_laws.proofs.JustifiedLemmas.{Upheld, sound}
 use Rattle.life_laws.proofs.LifeLemmas.{reports-at, state_at-next}

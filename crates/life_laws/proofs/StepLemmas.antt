@@ -12,7 +12,7 @@ use Rattle.ff_ids.specs.Faults.{note_fault, accusation_fault, facts_of}
 use Rattle.ff_ids.proofs.FaultLemmas.{passed, passes}
 use Rattle.ff_ids.specs.Steps.{Event, Joins, Notes, Accuses, Ticks, joined, with_kept, precedes, is_due, after_note, after_accusation, after_tick, unless_fault, unchanged, step}
 use Rattle.life_laws.proofs.Lists.{In, In-from_filter, In-from_map, In-append_cases, some_passes, any_from_In}
-use Rattle.life_laws.proofs.ViewLemmas.{IsViewed-from, in_view-noted, AllJoined, stands-joined, stands-from}
+use Rattle.life_laws.proofs.ViewLemmas.{IsViewed-from, LeavesWith, left-noted, AllJoined, stands-joined, stands-from}
 use Rattle.life_laws.proofs.NoteLemmas.{newest-fits}
 use Rattle.ff_ids.proofs.ViewLemmas.{expired-since, not_expired}
 
@@ -39,13 +39,19 @@ pub data HowKept (g : Group) (s : State) (e : Event) (q : AccBody × ℕ) : Type
   before : In s.kept q → HowKept g s e q
   accepted : e ≡ Accuses q.0 → accusation_fault g.t s q.0 ≡ None → q.1 ≡ s.moment → HowKept g s e q
 
+-- why an event takes the member out of the view: it is a note without a fault by which the member leaves; or a tick, and an
+-- accusation of the member was kept for the timeout
+pub data TakesOut (g : Group) (s : State) (e : Event) (next : State) (m : ℕ) : Type 0 where
+  leaves : (n : NoteBody) → e ≡ Notes n → LeavesWith n m → note_fault g.t s n ≡ None → TakesOut g s e next m
+  expires : e ≡ Ticks → (q : AccBody × ℕ) → In s.kept q → q.0.accused ≡ m → g.timeout ≤ next.moment - q.1 → TakesOut g s e next m
+
 -- one event's step, as far as lives need it
 pub record Steps (g : Group) (s : State) (e : Event) (next : State) : Type 0 where
   pub later : s.moment ≤ next.moment
   pub all_joined : AllJoined next
   pub kept : (q : AccBody × ℕ) → In next.kept q → (stands next q.0 ≡ true) × HowKept g s e q
   pub since : (q : AccBody × ℕ) → e ≡ Accuses q.0 → next.moment ≡ s.moment
-  pub removed : (m : ℕ) → in_view s m ≡ true → in_view next m ≡ false → (e ≡ Ticks) × ((q : AccBody × ℕ) × (In s.kept q × (q.0.accused ≡ m) × (g.timeout ≤ next.moment - q.1)))
+  pub removed : (m : ℕ) → in_view s m ≡ true → in_view next m ≡ false → TakesOut g s e next m
 
 abbrev pub AllStand : State → Type 0
 AllStand s = (q : AccBody × ℕ) → In s.kept q → stands s q.0 ≡ true
@@ -78,7 +84,7 @@ steps-noted g s n fine known =
       all_joined = λ x i. elim i [ inl e ↦ subst (λ y. is_member s y.member ≡ true) e of_member | inr j ↦ known x j ];
       kept = λ q i. let r = In-from_filter (λ p. stands (record s { notes = n ∷ s.notes }) p.0) s.kept q i in (r.1, before r.0);
       since = λ q f. refl;
-      removed = λ m yes no. absurd (false≢true (sym no ∙ in_view-noted s n m yes));
+      removed = λ m yes no. leaves n refl (left-noted s n m yes no) fine;
     }
 
 steps-accused : (g : Group) (s : State) (a : AccBody) → accusation_fault g.t s a ≡ None → AllJoined s → AllStand s → Steps g s (Accuses a) (after_accusation s a)
@@ -121,7 +127,8 @@ steps-ticked g s known =
       removed = λ m yes no.
           let v = IsViewed-from s m yes in
           let shown = sym (ap (viewed_by next.expired) v.is_newest) ∙ no in
-          (refl, due_against g s m v.note v.is_newest (not_expired v.note _ v.shown) (expired-since v.note _ _ v.shown shown));
+          let d = due_against g s m v.note v.is_newest (not_expired v.note _ v.shown) (expired-since v.note _ _ v.shown shown) in
+          expires refl d.0 d.1.0 d.1.1 d.1.2;
     }
 
 pub steps : (g : Group) (s : State) (e : Event) → AllJoined s → AllStand s → Steps g s e (step g s e).state

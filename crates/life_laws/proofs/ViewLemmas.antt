@@ -1,11 +1,11 @@
 -- What a join and a note leave of the view and of the monitors.
-use Rattle.std.proofs.Common.{◌≡◌, ℕ, ◌≤◌, true, false, eqb, List, ◌∷◌, Option, Some, None, map, refl, ap, sym, ◌∙◌, subst, arith}
+use Rattle.std.proofs.Common.{◌≡◌, ℕ, ◌≤◌, true, false, eqb, List, ◌∷◌, Option, Some, None, inl, inr, map, refl, ap, sym, ◌∙◌, subst, arith}
 use Rattle.std.specs.Option.{option_map_or}
-use Rattle.std.proofs.lemmas.Bool.{cond_both, eqb-true, leb-true, le-leb, eq-eqb, false≢true, and_parts, and_from, false_from_ne_true}
+use Rattle.std.proofs.lemmas.Bool.{cases_Bool, cond_both, eqb-true, leb-true, le-leb, eq-eqb, false≢true, and_parts, and_from, false_from_ne_true}
 use Rattle.std.proofs.lemmas.Bool.Decides.{nat_tests}
 use Rattle.ff_ids.specs.declared.NoteBody.{NoteBody}
 use Rattle.ff_ids.specs.declared.AccBody.{AccBody}
-use Rattle.ff_ids.specs.Notes.{greater_note, newest}
+use Rattle.ff_ids.specs.Notes.{greater_note, is_leaving, newest}
 use Rattle.ff_ids.specs.Rings.{nearest_before}
 use Rattle.ff_ids.specs.Views.{State, places_of, is_member, has_expired, in_view_by, viewed_by, in_view, view, all_numbers, key_at, key_of, monitor, is_number, is_unanswered_by, stands}
 use Rattle.ff_ids.specs.Steps.{joined}
@@ -91,9 +91,9 @@ expired-older expired o n e le alive =
 pub not_below-epoch : (n o : NoteBody) → below n o ≡ false → o.epoch ≤ n.epoch
 not_below-epoch n o e = grind (arith, nat_tests)
 
--- a further note removes nobody
-pub in_view-noted : (s : State) (n : NoteBody) (m : ℕ) → in_view s m ≡ true → in_view (record s { notes = n ∷ s.notes }) m ≡ true
-in_view-noted s n m h =
+-- a further note removes nobody but its member, and that only where it leaves by it
+pub in_view-noted : (s : State) (n : NoteBody) (m : ℕ) → (n.member ≡ m → is_leaving n ≡ false) → in_view s m ≡ true → in_view (record s { notes = n ∷ s.notes }) m ≡ true
+in_view-noted s n m stays h =
     let v = IsViewed-from s m h in
     let g = newest-fits s.notes m v.note v.is_newest in
     let T : Option NoteBody → Type 0 = λ o. viewed_by s.expired o ≡ true in
@@ -101,5 +101,20 @@ in_view-noted s n m h =
     (λ yes. rw v.is_newest
     (cond_both (below n v.note) v.note n (λ x. in_view_by x (has_expired s.expired x) ≡ true)
     (λ older. v.shown)
-    (λ newer. ap (in_view_by n) (expired-older s.expired v.note n (g.1 ∙ sym (eqb-true n.member m yes)) (not_below-epoch n v.note newer) (not_expired v.note _ v.shown)) ∙ in_view_by-fresh n)))
+    (λ newer. ap (in_view_by n) (expired-older s.expired v.note n (g.1 ∙ sym (eqb-true n.member m yes)) (not_below-epoch n v.note newer) (not_expired v.note _ v.shown)) ∙ in_view_by-fresh n (stays (eqb-true n.member m yes)))))
     (λ no. h)
+
+-- whom a further note takes out of the view leaves by it
+pub record LeavesWith (n : NoteBody) (m : ℕ) : Type 0 where
+  pub of_member : n.member ≡ m
+  pub leaving : is_leaving n ≡ true
+
+pub left-noted : (s : State) (n : NoteBody) (m : ℕ) → in_view s m ≡ true → in_view (record s { notes = n ∷ s.notes }) m ≡ false → LeavesWith n m
+left-noted s n m was is =
+    elim (cases_Bool (eqb n.member m)) [
+      | inl of ↦ elim (cases_Bool (is_leaving n)) [
+        | inl leaving ↦ record { of_member = eqb-true n.member m of; leaving = leaving }
+        | inr stays ↦ absurd (false≢true (sym is ∙ in_view-noted s n m (λ e. stays) was))
+      ]
+      | inr other ↦ absurd (false≢true (sym is ∙ in_view-noted s n m (λ e. absurd (false≢true (sym other ∙ eq-eqb n.member m e))) was))
+    ]

@@ -3,7 +3,7 @@ use Rattle.std.specs.Prelude.{◌≡◌, ◌≢◌, ℕ, Bool, true, false, ◌&
 use Rattle.std.specs.Ordering.{is_lt}
 use Rattle.ff_ids.specs.declared.NoteBody.{NoteBody}
 use Rattle.ff_ids.specs.declared.Group.{Group}
-use Rattle.ff_ids.specs.Masks.{good_mask}
+use Rattle.ff_ids.specs.Masks.{note_mask}
 use Rattle.ff_ids.specs.Notes.{note_cmp, newest}
 use Rattle.ff_ids.specs.Views.{Member, State, is_member}
 use Rattle.ff_ids.specs.Steps.{Notes}
@@ -19,15 +19,15 @@ pub record IsGreatest (notes : List NoteBody) (m : ℕ) (n : NoteBody) : Type 0 
 abbrev pub NewestIsGreatest : Type 0
 NewestIsGreatest = (notes : List NoteBody) (m : ℕ) → MatchOption (newest notes m) (All (λ n. n.member ≢ m) notes) (IsGreatest notes m)
 
--- The member has joined, and the mask is good.
-abbrev pub is_good_note : ℕ → State → NoteBody → Bool
-is_good_note t s n = is_member s n.member && good_mask t n.mask.0
+-- The member has joined, and a note may carry the mask.
+abbrev pub is_allowed : ℕ → State → NoteBody → Bool
+is_allowed t s n = is_member s n.member && note_mask t n.mask.0
 
 -- However notes are ordered and repeated that come one by one after the opening, the newest note kept of
--- each member is the greatest of all that have a good mask and whose member has joined.
+-- each member is the greatest of all that are allowed.
 abbrev pub OrderOfNotes : Type 0
-OrderOfNotes = (g : Group) (members : List Member) (notes : List NoteBody) (m : ℕ) → newest (after g (opening members) (map Notes notes)).notes m ≡ newest (filter (is_good_note g.t (opening members)) notes) m
+OrderOfNotes = (g : Group) (members : List Member) (notes : List NoteBody) (m : ℕ) → newest (after g (opening members) (map Notes notes)).notes m ≡ newest (filter (is_allowed g.t (opening members)) notes) m
 
--- The same where each note has a good mask and its member has joined.
-abbrev pub OrderOfGoodNotes : Type 0
-OrderOfGoodNotes = (g : Group) (members : List Member) (notes : List NoteBody) (m : ℕ) → All (λ n. is_good_note g.t (opening members) n ≡ true) notes → newest (after g (opening members) (map Notes notes)).notes m ≡ newest notes m
+-- The same where each note is allowed.
+abbrev pub OrderOfAllowedNotes : Type 0
+OrderOfAllowedNotes = (g : Group) (members : List Member) (notes : List NoteBody) (m : ℕ) → All (λ n. is_allowed g.t (opening members) n ≡ true) notes → newest (after g (opening members) (map Notes notes)).notes m ≡ newest notes m

@@ -1,21 +1,16 @@
--- Removals: what each rests on, and what an answer rules out.
+-- Removals: what each has for its cause, and what an answer rules out.
 use Rattle.std.specs.Prelude.{◌≡◌, ℕ, ◌+◌, ◌<◌, ◌≤◌, true, false, List, Some, None, All, Contains, slice_get}
 use Rattle.ff_ids.specs.declared.NoteBody.{NoteBody}
 use Rattle.ff_ids.specs.declared.AccBody.{AccBody}
 use Rattle.ff_ids.specs.declared.Group.{Group}
 use Rattle.ff_ids.specs.Views.{Member, State, is_unanswered_by, stands}
 use Rattle.ff_ids.specs.Faults.{note_fault}
-use Rattle.ff_ids.specs.Steps.{Event, Notes, Report, after_note}
-use Rattle.ff_ids.specs.Lives.{opening, reports, state_at, IsAcceptedAt, IsJustified}
+use Rattle.ff_ids.specs.Steps.{Event, Report, after_note}
+use Rattle.ff_ids.specs.Lives.{opening, reports, state_at, IsAcceptedAt, IsJustified, IsNoteAcceptedAt}
 
--- In every life each removal rests on an accusation.
+-- In every life each removal has a leaving note or an accusation for its cause.
 abbrev pub EachLifeIsJustified : Type 0
 EachLifeIsJustified = (g : Group) (members : List Member) (events : List Event) → IsJustified g (opening members) events
-
--- The event at place i is this note, and it is accepted.
-pub record IsNoteAcceptedAt (g : Group) (s : State) (events : List Event) (i : ℕ) (n : NoteBody) : Type 0 where
-  pub event : slice_get events i ≡ Some (Notes n)
-  pub no_fault : note_fault g.t (state_at g s events i) n ≡ None
 
 -- The event at place j reports that the accusation expired.
 pub record ExpiresAt (g : Group) (s : State) (events : List Event) (j : ℕ) (a : AccBody) : Type 0 where

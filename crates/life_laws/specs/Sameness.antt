@@ -5,8 +5,8 @@ use Rattle.ff_ids.specs.declared.AccBody.{AccBody}
 use Rattle.ff_ids.specs.declared.Group.{Group}
 use Rattle.ff_ids.specs.Views.{Member, State, view}
 use Rattle.ff_ids.specs.Steps.{Event}
-use Rattle.ff_ids.specs.Lives.{after, opening}
-use Rattle.life_laws.specs.Removals.{ExpiresAt, IsNoteAcceptedAt}
+use Rattle.ff_ids.specs.Lives.{after, opening, IsNoteAcceptedAt}
+use Rattle.life_laws.specs.Removals.{ExpiresAt}
 
 -- Each element of either list is in the other, whatever their order and repeats.
 pub record HasSameElements {X : Type 0} (xs ys : List X) : Type 0 where

@@ -2,7 +2,7 @@
 //! function that does nothing. The theorems on traces, nodes and worlds cite them.
 #![tactic(auto)]
 
-ghost use Rattle.life_laws.specs.Newest.{NewestIsGreatest, OrderOfNotes, OrderOfGoodNotes};
+ghost use Rattle.life_laws.specs.Newest.{NewestIsGreatest, OrderOfNotes, OrderOfAllowedNotes};
 ghost use Rattle.life_laws.specs.Sameness.{OneView, OneViewOfLives};
 ghost use Rattle.life_laws.specs.Removals.{AnswerEndsAcceptance, AnswersHold, AnswersRevoke, EachLifeIsJustified};
 
@@ -12,10 +12,10 @@ pub fn newest_is_greatest()
 {}
 
 /// Whatever the order and the repeats in which notes come, the newest kept note of each member is the
-/// greatest of those that have a good mask and whose member has joined.
+/// greatest of those that have an allowed mask and whose member has joined.
 pub fn order_of_notes()
     ensures all { OrderOfNotes }
-    ensures good { OrderOfGoodNotes }
+    ensures allowed { OrderOfAllowedNotes }
 {}
 
 /// Two states with the same notes and the same expired accusations have the same view. So have two lives of a group that
@@ -25,8 +25,8 @@ pub fn one_view()
     ensures lives { OneViewOfLives }
 {}
 
-/// In every life each member that leaves the view does so at a tick, and an accusation accepted earlier
-/// against it stood in each state between, for the timeout at least.
+/// In every life each member that goes out of the view does so by an accepted note of its own that leaves, or at a tick, and
+/// then an accusation accepted earlier against it stood in each state between, for the timeout at least.
 pub fn each_life_is_justified()
     ensures { EachLifeIsJustified }
 {}
