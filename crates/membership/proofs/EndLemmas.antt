@@ -16,7 +16,7 @@ use Rattle.ff_ids.specs.Views.{is_number, is_unanswered_by}
 use Rattle.ff_ids.specs.Steps.{precedes}
 use Rattle.removal_timer.specs.Kept.{is_at, entry_at, IsInOrder}
 use Rattle.membership.specs.Life.{Life}
-use Rattle.membership.specs.Ends.{IsAgain, AreNamed, is_of, is_of_any, Entry, Ends, with_fallen, is_on, is_named, is_answered, answered_on}
+use Rattle.membership.specs.Ends.{IsAgain, is_of, is_of_any, Entry, Ends, with_fallen, is_on, is_named, is_answered, answered_on}
 use Rattle.membership.proofs.NumberLemmas.{filter-filter}
 
 -- ---- facts of each entry
@@ -271,6 +271,15 @@ Ends-no_more rings f g by kept kept' fell fell' same none h = λ entries ended b
       told = after.told ∙ ap (map (λ p. p.0)) (filter_agree_on (λ p. ended p || f p) (λ p. ended p || g p) entries each);
     }
 
+nobody : (xs : List Entry) → list_any (λ p. false) xs ≡ false
+nobody [] = refl
+nobody (x ∷ xs) = nobody xs
+
+-- what the tests say of what is kept alone
+pub Ends-kept : (rings : ℕ) (f g : Entry → Bool) (kept kept' : List Entry) (fell fell' : List AccBody) → AllByRecursion (λ p. g p ≡ f p) kept → Ends rings f kept fell kept' fell' → Ends rings g kept fell kept' fell'
+Ends-kept rings f g kept kept' fell fell' same h =
+    Ends-no_more rings f g (λ p. false) kept kept' fell fell' (AllBy-then (λ p. g p ≡ f p) (λ p. g p ≡ (f p || false)) (λ p e. e ∙ sym (or_false (f p))) kept same) (nobody kept') h
+
 -- where nothing is kept, nothing ends
 pub Ends-nothing_kept : (rings : ℕ) (f : Entry → Bool) (kept : List Entry) (fell : List AccBody) → kept ≡ [] → Ends rings f kept fell kept fell
 Ends-nothing_kept rings f kept fell none =
@@ -366,14 +375,14 @@ answered_by l n p found = by_member (eqb p.0.accused n.member) refl
     by_member false t = other (entry_at n.member p.0.ring.0 l.kept) (swap_eqb n.member p.0.accused ∙ t) ∙ sym (ap (λ b. b && not (is_unanswered_by p.0 n)) t)
 
 -- of the kept, those that are named are those that are answered
-pub named-answered : (rings : ℕ) (l : Life) (n : NoteBody) (named : List (Option ℕ)) → IsInOrder rings l.kept → AreNamed named (answered_on l n) l.kept → AllByRecursion (λ p. is_named named p ≡ is_answered n p) l.kept
-named-answered rings l n named ordered each =
-    AllBy-both (λ p. is_named named p ≡ is_number (answered_on l n p.0.ring.0) p.0.accused) (λ p. entry_at p.0.accused p.0.ring.0 l.kept ≡ Some p) (λ p. is_named named p ≡ is_answered n p) (λ p same found. same ∙ answered_by l n p found) l.kept each (entry_at-itself rings l.kept ordered)
+pub answered-each : (rings : ℕ) (l : Life) (n : NoteBody) → IsInOrder rings l.kept → AllByRecursion (λ p. is_answered n p ≡ is_number (answered_on l n p.0.ring.0) p.0.accused) l.kept
+answered-each rings l n ordered =
+    AllBy-then (λ p. entry_at p.0.accused p.0.ring.0 l.kept ≡ Some p) (λ p. is_answered n p ≡ is_number (answered_on l n p.0.ring.0) p.0.accused) (λ p found. sym (answered_by l n p found)) l.kept (entry_at-itself rings l.kept ordered)
 
--- what is named for each ring is named for the ring of each entry
-pub AreNamed-each : (rings : ℕ) (named : List (Option ℕ)) (of : ℕ → Option ℕ) (kept : List Entry) → IsInOrder rings kept → ((ring : ℕ) → ring < rings → slice_index_or named ring None ≡ of ring) → AreNamed named of kept
-AreNamed-each rings named of kept ordered each =
-    AllBy-then (IsEntry rings) (λ p. is_named named p ≡ is_number (of p.0.ring.0) p.0.accused) (λ p e. ap (λ o. is_number o p.0.accused) (each p.0.ring.0 e.ring)) kept (AllBy-entries rings kept ordered)
+-- what is named for each ring is named for the ring of an entry
+pub Ends-each : (rings : ℕ) (named : List (Option ℕ)) (of : ℕ → Option ℕ) (kept kept' : List Entry) (fell fell' : List AccBody) → ((ring : ℕ) → ring < rings → slice_index_or named ring None ≡ of ring) → Ends rings (is_named named) kept fell kept' fell' → Ends rings (λ p. is_number (of p.0.ring.0) p.0.accused) kept fell kept' fell'
+Ends-each rings named of kept kept' fell fell' each h =
+    Ends-agree rings (is_named named) (λ p. is_number (of p.0.ring.0) p.0.accused) kept kept' fell fell' (λ p below. ap (λ o. is_number o p.0.accused) (each p.0.ring.0 below)) h
 
 -- one more accusation against the same member tells no more
 pub is_of-again : (l : Life) (due : List AccBody) (i : ℕ) (p : Entry) → IsAgain due i → i < length due → is_of_any l (take i due) p ≡ is_of_any l (take (i + 1) due) p

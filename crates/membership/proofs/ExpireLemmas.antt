@@ -1,7 +1,6 @@
 -- What accusations that expire change.
-use Rattle.std.proofs.Common.{◌≡◌, ◌≢◌, ℕ, ◌<◌, max, Bool, true, false, cond, not, ◌&&◌, List, map, Option, Some, None, refl, ap, sym, ◌∙◌, subst, arith, is_some, unwrap_or}
+use Rattle.std.proofs.Common.{◌≡◌, ◌≢◌, ℕ, ◌<◌, max, Bool, true, false, cond, not, ◌&&◌, List, Option, Some, None, refl, ap, sym, ◌∙◌, arith, is_some, unwrap_or}
 use Rattle.std.specs.Prelude.{nat_le}
-use Rattle.std.specs.List.{filter}
 use Rattle.std.specs.FinMap.{get}
 use Rattle.std.proofs.lemmas.Bool.{false≢true}
 use Rattle.std.proofs.lemmas.Bool.Decides.{nat_tests}
@@ -11,10 +10,9 @@ use Rattle.ff_ids.specs.declared.AccBody.{AccBody}
 use Rattle.ff_ids.specs.declared.NoteBody.{NoteBody}
 use Rattle.ff_ids.specs.Masks.{ring_count}
 use Rattle.monitor_rule.specs.Joined.{Joined, without_member, is_joined}
-use Rattle.membership.specs.Kept.{ByNumber, expired_at, is_live, is_live_at, member_at, live_members, takes_out, raise}
+use Rattle.membership.specs.Kept.{ByNumber, expired_at, is_live, is_live_at, live_members, takes_out, raise}
 use Rattle.membership.specs.Life.{IsSound}
-use Rattle.membership.proofs.NumberLemmas.{all_length, AtEach, AtEach-all, Numbered, without_member-range}
-use Rattle.membership.proofs.SoundLemmas.{get_here, get_other, by_number, number_below, is_joined-live, live_members-same, same_rings, same_members}
+use Rattle.membership.proofs.SoundLemmas.{get_here, get_other, by_number, number_below, is_joined-live, live_members-same, live_members-leaves, same_rings, same_members}
 use Rattle.ff_ids.specs.Views.{in_view_by}
 use Rattle.ff_ids.proofs.ViewLemmas.{in_view_by-either}
 use Rattle.std.proofs.lemmas.Bool.{and_parts}
@@ -68,15 +66,6 @@ stays_same true false h e = absurd (false≢true (sym e))
 stays_same false true h e = sym (h refl)
 stays_same false false h e = refl
 
--- the live members, where one is taken out
-live_members-leaves : (places : ByNumber (List (List ℕ))) (notes : ByNumber NoteBody) (expired expired' : ByNumber ℕ) (m : ℕ) → m < MEMBERS → is_live_at notes expired m ≡ true → is_live_at notes expired' m ≡ false → ((k : ℕ) → k ≢ m → is_live_at notes expired' k ≡ is_live_at notes expired k) → live_members places notes expired' ≡ without_member m (live_members places notes expired)
-live_members-leaves places notes expired expired' m below before after others =
-    let all = all_length in
-    let numbered : Numbered (member_at places) = record { number = λ m. refl } in
-    let agree : AtEach 0 all.0 (λ k. k ≢ m → is_live_at notes expired' k ≡ is_live_at notes expired k) = AtEach-all all.0 _ all.1.long (λ k _. others k) in
-    let counted = without_member-range (member_at places) numbered (is_live_at notes expired) (is_live_at notes expired') m 0 all.0 (omega arith) (omega (arith, all.1.long)) before after agree in
-    sym (subst (λ xs. without_member m (map (member_at places) (filter (is_live_at notes expired) xs)) ≡ map (member_at places) (filter (is_live_at notes expired') xs)) (sym all.1.are) counted)
-
 -- who is not live can't be taken out
 pub same_live : (notes : ByNumber NoteBody) (expired : ByNumber ℕ) (a : AccBody) → takes_out (expired_at expired a.accused) (get notes a.accused) a ≡ false → (k : ℕ) → is_live_at notes (raise expired a) k ≡ is_live_at notes expired k
 same_live notes expired a e =
@@ -93,7 +82,7 @@ taken_below group places notes expired view m sound live = by_places (get places
 live_members-expired : (group : Group) (places : ByNumber (List (List ℕ))) (notes : ByNumber NoteBody) (expired : ByNumber ℕ) (view : Joined) (a : AccBody) → IsSound group places notes expired view → (leaves : Bool) → leaves ≡ takes_out (expired_at expired a.accused) (get notes a.accused) a → live_members places notes (raise expired a) ≡ cond leaves (without_member a.accused (live_members places notes expired)) (live_members places notes expired)
 live_members-expired group places notes expired view a sound true e =
     let parts = out_parts _ _ (sym (e ∙ takes_out-is (expired_at expired a.accused) (get notes a.accused) a)) in
-    live_members-leaves places notes expired (raise expired a) a.accused (taken_below group places notes expired view a.accused sound parts.0) parts.0 (live_raised notes expired a ∙ parts.1) (live_same notes expired a)
+    live_members-leaves places notes notes expired (raise expired a) a.accused (taken_below group places notes expired view a.accused sound parts.0) parts.0 (live_raised notes expired a ∙ parts.1) (live_same notes expired a)
 live_members-expired group places notes expired view a sound false e =
     live_members-same places places notes notes expired (raise expired a) (same_live notes expired a (sym e)) (λ k _. refl)
 

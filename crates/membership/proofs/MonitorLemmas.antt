@@ -241,6 +241,17 @@ pub record ComesIn (p q : ℕ → Bool) (m : ℕ) : Type 0 where
   pub is : q m ≡ true
   pub others : (w : ℕ) → w ≢ m → q w ≡ p w
 
+-- m goes out, and nothing else changes
+pub record GoesOut (p q : ℕ → Bool) (m : ℕ) : Type 0 where
+  pub was : p m ≡ true
+  pub is : q m ≡ false
+  pub others : (w : ℕ) → w ≢ m → q w ≡ p w
+
+-- then all who are left were there before
+pub fewer-out : (p q : ℕ → Bool) (m : ℕ) → GoesOut p q m → (w : ℕ) → q w ≡ true → p w ≡ true
+fewer-out p q m out w is =
+    ⊎_elim (λ t. absurd (false≢true (sym out.is ∙ ap q (sym (eqb-true w m t)) ∙ is))) (λ t. sym (out.others w (eqb-false w m t)) ∙ is) (either_bool (eqb w m))
+
 entered_between : (f : ℕ → Key) → Keyed f → (p q : ℕ → Bool) (x v m : ℕ) → IsMonitor f p x v → ComesIn p q m → x ≢ m → v ≢ m → is_between (f v) (f m) (f x) ≡ true → (w : ℕ) → w < MEMBERS → q w ≡ true → w ≢ x → is_between (f m) (f w) (f x) ≡ false
 entered_between f keyed p q x v m h enters apart v_apart between w below is w_apart =
     ⊎_elim (λ t.
@@ -304,3 +315,14 @@ successor-of_monitor f keyed p x v h x_below x_is m m_below m_is =
     let tied = near_tied (f x) (f v) (f m) (keyed_apart f keyed v x h.other) (keyed_apart f keyed m x m_other) (h.nearest m m_below m_is m_other) (after.nearest v h.below h.passes (λ k. apart (sym k))) in
     apart (sym (sym (keyed.number v) ∙ tied ∙ keyed.number m))) ∙ sym t)
     (either_bool (eqb m v))
+
+-- whether a member is in the view itself is nothing to its successor
+same_successor : (f : ℕ → Key) (p q : ℕ → Bool) (m x : ℕ) → ((w : ℕ) → w ≢ m → q w ≡ p w) → IsSuccessor f p m x → IsSuccessor f q m x
+same_successor f p q m x others h =
+    record { below = h.below; passes = others x h.other ∙ h.passes; other = h.other; nearest = λ w below is apart. h.nearest w below (sym (others w apart) ∙ is) apart }
+
+pub successor-others : (f : ℕ → Key) → Keyed f → (p q : ℕ → Bool) (m x : ℕ) → ((w : ℕ) → w ≢ m → q w ≡ p w) → is_number (nearest_after (keys_where f q) (f m)) x ≡ is_number (nearest_after (keys_where f p) (f m)) x
+successor-others f keyed p q m x others =
+    ⊎_elim (λ t. is_number-is _ x (IsSuccessor-is f keyed q m x (same_successor f p q m x others (IsSuccessor-some f keyed p m x (is_number-some _ x t)))) ∙ sym t)
+    (λ t. not_number _ x (λ e. absurd (false≢true (sym t ∙ is_number-is _ x (IsSuccessor-is f keyed p m x (same_successor f q p m x (λ w apart. sym (others w apart)) (IsSuccessor-some f keyed q m x e)))))) ∙ sym t)
+    (either_bool (is_number (nearest_after (keys_where f p) (f m)) x))

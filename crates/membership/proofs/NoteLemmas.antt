@@ -1,31 +1,35 @@
 -- What an accepted note changes.
-use Rattle.std.proofs.Common.{◌≡◌, ◌≢◌, ℕ, ◌<◌, Bool, true, false, cond, not, ◌&&◌, eqb, List, [], ◌∷◌, map, ⊎_elim, Option, Some, None, refl, ap, sym, ◌∙◌, subst, arith}
+use Rattle.std.proofs.Common.{◌≡◌, ◌≢◌, ℕ, ◌<◌, Bool, true, false, cond, not, ◌&&◌, ◌||◌, eqb, nat_le, List, [], ◌∷◌, map, ⊎_elim, Option, Some, None, refl, ap, sym, ◌∙◌, subst, arith}
 use Rattle.std.specs.List.{filter, AllByRecursion, All}
 use Rattle.std.specs.Ordering.{is_lt}
 use Rattle.std.specs.declared.cmp.Ordering.{Ordering}
 use Rattle.std.specs.FinMap.{get, insert}
-use Rattle.std.proofs.lemmas.Bool.{eqb-true, eqb-false, eq-eqb}
+use Rattle.std.proofs.lemmas.Bool.{eqb-true, eqb-false, eq-eqb, false≢true}
 use Rattle.std.proofs.lemmas.List.Elements.{filter_passes, recursion_from_All}
 use Rattle.ff_ids.specs.declared.TheConstants.{MEMBERS}
 use Rattle.ff_ids.specs.declared.AccBody.{AccBody}
 use Rattle.ff_ids.specs.declared.NoteBody.{NoteBody}
 use Rattle.ff_ids.specs.Masks.{ring_count}
-use Rattle.ff_ids.specs.Notes.{newest, greater_note, note_cmp}
+use Rattle.ff_ids.specs.Notes.{is_leaving, newest, greater_note, note_cmp}
 use Rattle.ff_ids.specs.Faults.{fault_after, fault_beside}
-use Rattle.ff_ids.specs.Views.{State, in_view, all_numbers, stands, is_number, viewed_by}
+use Rattle.ff_ids.specs.Views.{State, in_view, in_view_by, has_expired, all_numbers, stands, is_number, viewed_by}
 use Rattle.ff_ids.specs.Steps.{Report, only_before, after_note}
 use Rattle.removal_timer.specs.Kept.{IsInOrder}
-use Rattle.membership.specs.Kept.{expired_at, is_live, is_live_at}
-use Rattle.membership.specs.Life.{Life, has_joined, live_successor, is_newcomer, with_note}
-use Rattle.membership.specs.Ends.{AreNamed, Entry, is_named, is_answered, answered_on, next_of}
+use Rattle.ff_ids.proofs.ViewLemmas.{in_view_by-left, in_view_by-expired, in_view_by-fresh, not_expired}
+use Rattle.membership.specs.declared.kept.NoteEffect.{NoteEffect}
+use Rattle.membership.specs.declared.kept.NoteEffect.TheVariants.{Enters, Leaves, Stays}
+use Rattle.membership.specs.Kept.{expired_at, is_live, is_live_at, effect_between}
+use Rattle.membership.specs.Life.{Life, has_joined, live_successor, effect_in, with_note}
+use Rattle.membership.specs.Ends.{AreTheirs, Entry, is_against_next, is_answered, is_ended_by, is_of}
+use Rattle.membership.specs.Reports.{Moves, enters_by, leaves_by, told_of}
 use Rattle.membership.specs.Holds.{Holds, HoldsAt}
 use Rattle.membership.proofs.NumberLemmas.{either_bool, all_length, AtEach, AtEach-all, filter-filter, filter-range_one}
-use Rattle.membership.proofs.HoldLemmas.{HoldsEach, in_view-each, in_view-at, live_successor-each}
-use Rattle.membership.proofs.SoundLemmas.{beside, by_number, get_here, get_other, live_here, live_same, comes_in_parts}
-use Rattle.membership.proofs.MonitorLemmas.{ComesIn}
+use Rattle.membership.proofs.HoldLemmas.{HoldsEach, has_expired-greatest, in_view-each, in_view-at, live_successor-each}
+use Rattle.membership.proofs.SoundLemmas.{beside, by_number, get_here, get_other, live_here, live_same, stays_live, was_in, was_out}
+use Rattle.membership.proofs.MonitorLemmas.{ComesIn, GoesOut, fewer-out}
 use Rattle.membership.specs.Touched.{IsUpheld}
-use Rattle.membership.proofs.TouchLemmas.{with_accepted, newest_other, stands-entered, stands-answered}
-use Rattle.membership.proofs.EndLemmas.{AllBy-then, AllBy-both, IsEntry, AllBy-entries, filter_agree_on, Ended, named-answered}
+use Rattle.membership.proofs.TouchLemmas.{with_accepted, newest_other, by_leaver, stands-entered, stands-left_by, stands-answered}
+use Rattle.membership.proofs.EndLemmas.{AllBy-then, AllBy-both, IsEntry, AllBy-entries, filter_agree_on, Ended}
 
 -- ---- what is kept
 
@@ -95,12 +99,65 @@ only_before-one s other m below is was others =
     let here : (in_view s m && not (in_view other m)) ≡ true = rw (is, was) refl in
     filter-filter (λ k. not (in_view other k)) (in_view s) all_numbers ∙ subst (λ xs. filter (λ k. in_view s k && not (in_view other k)) xs ≡ m ∷ []) (sym all.1.are) (filter-range_one _ 0 all.0 m (omega arith) (omega (arith, below, all.1.long)) here rest)
 
+-- ---- what a note does
+
+viewed_then : (n : NoteBody) (expired : Bool) → in_view_by n expired ≡ (not (is_leaving n) && not expired)
+viewed_then n expired = by_mask (is_leaving n) expired refl
+  where
+    by_mask : (b c : Bool) → is_leaving n ≡ b → in_view_by n c ≡ (not (is_leaving n) && not c)
+    by_mask true c e = in_view_by-left n c e ∙ ap (λ b. not b && not c) (sym e)
+    by_mask false true e = in_view_by-expired n ∙ ap (λ b. not b && false) (sym e)
+    by_mask false false e = in_view_by-fresh n e ∙ ap (λ b. not b && true) (sym e)
+
+-- a note's member is out by what expired, by what is kept as in the state
+expired_then : (l : Life) (s : State) (n : NoteBody) → Holds l s → Accepts l n → nat_le n.epoch (expired_at l.expired n.member) ≡ has_expired s.expired n
+expired_then l s n h a = sym (has_expired-greatest s.expired n a.positive ∙ ap (nat_le n.epoch) (h.at_number n.member).greatest)
+
+-- what it does, by the state
+effect-is : (l : Life) (s : State) (n : NoteBody) → Holds l s → Accepts l n → effect_in l n ≡ effect_between (in_view s n.member) (not (is_leaving n) && not (has_expired s.expired n))
+effect-is l s n h a =
+    ap (λ was. effect_between was (is_live (expired_at l.expired n.member) (Some n))) (sym (in_view-at l s n.member h))
+    ∙ ap (effect_between (in_view s n.member)) (viewed_then n (nat_le n.epoch (expired_at l.expired n.member)) ∙ ap (λ b. not (is_leaving n) && not b) (expired_then l s n h a))
+
+pub effect-enters : (l : Life) (s : State) (n : NoteBody) → Holds l s → Accepts l n → enters_by s n ≡ true → effect_in l n ≡ Enters
+effect-enters l s n h a by = effect-is l s n h a ∙ by_tests (in_view s n.member) (is_leaving n) (has_expired s.expired n) by
+  where
+    by_tests : (was leaves gone : Bool) → (not was && not leaves && not gone) ≡ true → effect_between was (not leaves && not gone) ≡ Enters
+    by_tests true leaves gone e = cc
+    by_tests false true gone e = cc
+    by_tests false false true e = cc
+    by_tests false false false e = refl
+
+pub effect-leaves : (l : Life) (s : State) (n : NoteBody) → Holds l s → Accepts l n → leaves_by s n ≡ true → effect_in l n ≡ Leaves
+effect-leaves l s n h a by = effect-is l s n h a ∙ by_tests (in_view s n.member) (is_leaving n) (has_expired s.expired n) by
+  where
+    by_tests : (was leaves gone : Bool) → (was && leaves) ≡ true → effect_between was (not leaves && not gone) ≡ Leaves
+    by_tests true true gone e = refl
+    by_tests true false gone e = cc
+    by_tests false leaves gone e = cc
+
+-- who was in the view and doesn't leave stays, since the note is newer
+stays_fresh : (l : Life) (s : State) (n : NoteBody) → Holds l s → Accepts l n → in_view s n.member ≡ true → is_leaving n ≡ false → has_expired s.expired n ≡ false
+stays_fresh l s n h a was stays =
+    sym (expired_then l s n h a) ∙ not_expired n (nat_le n.epoch (expired_at l.expired n.member)) (stays_live (expired_at l.expired n.member) (get l.notes n.member) n a.newer stays (sym (in_view-at l s n.member h) ∙ was))
+
+pub effect-stays : (l : Life) (s : State) (n : NoteBody) → Holds l s → Accepts l n → enters_by s n ≡ false → leaves_by s n ≡ false → effect_in l n ≡ Stays
+effect-stays l s n h a e f = effect-is l s n h a ∙ by_tests (in_view s n.member) (is_leaving n) (has_expired s.expired n) e f (stays_fresh l s n h a)
+  where
+    by_tests : (was leaves gone : Bool) → (not was && not leaves && not gone) ≡ false → (was && leaves) ≡ false → (was ≡ true → leaves ≡ false → gone ≡ false) → effect_between was (not leaves && not gone) ≡ Stays
+    by_tests true true gone e f fresh = cc
+    by_tests true false true e f fresh = absurd (false≢true (sym (fresh refl refl)))
+    by_tests true false false e f fresh = refl
+    by_tests false true gone e f fresh = refl
+    by_tests false false true e f fresh = refl
+    by_tests false false false e f fresh = cc
+
 -- ---- the step
 
 -- the member comes in
-entering : (l : Life) (s : State) (n : NoteBody) → Holds l s → Accepts l n → is_newcomer l n ≡ true → ComesIn (in_view s) (in_view (with_accepted s n)) n.member
+entering : (l : Life) (s : State) (n : NoteBody) → Holds l s → Accepts l n → effect_in l n ≡ Enters → ComesIn (in_view s) (in_view (with_accepted s n)) n.member
 entering l s n h a e =
-    let parts = comes_in_parts (is_live_at l.notes l.expired n.member) (is_live (expired_at l.expired n.member) (Some n)) e in
+    let parts = was_out (is_live_at l.notes l.expired n.member) (is_live (expired_at l.expired n.member) (Some n)) e in
     record {
       below = a.below;
       was = in_view-at l s n.member h ∙ parts.0;
@@ -108,10 +165,20 @@ entering l s n h a e =
       others = λ w apart. ap (viewed_by s.expired) (newest_other s.notes n w apart);
     }
 
+-- it goes out
+leaving : (l : Life) (s : State) (n : NoteBody) → Holds l s → Accepts l n → effect_in l n ≡ Leaves → GoesOut (in_view s) (in_view (with_accepted s n)) n.member
+leaving l s n h a e =
+    let parts = was_in (is_live_at l.notes l.expired n.member) (is_live (expired_at l.expired n.member) (Some n)) e in
+    record {
+      was = in_view-at l s n.member h ∙ parts.0;
+      is = in_view-each (with_note l n) (with_accepted s n) n.member (HoldsEach-noted l s n h a) ∙ live_here l.notes l.expired n ∙ parts.1;
+      others = λ w apart. ap (viewed_by s.expired) (newest_other s.notes n w apart);
+    }
+
 -- or the view is the same
-staying : (l : Life) (s : State) (n : NoteBody) → Holds l s → Accepts l n → is_newcomer l n ≡ false → (k : ℕ) → in_view (with_accepted s n) k ≡ in_view s k
+staying : (l : Life) (s : State) (n : NoteBody) → Holds l s → Accepts l n → effect_in l n ≡ Stays → (k : ℕ) → in_view (with_accepted s n) k ≡ in_view s k
 staying l s n h a e k =
-    in_view-each (with_note l n) (with_accepted s n) k (HoldsEach-noted l s n h a) ∙ live_same l.notes l.expired n a.newer e k ∙ sym (in_view-at l s k h)
+    in_view-each (with_note l n) (with_accepted s n) k (HoldsEach-noted l s n h a) ∙ live_same l.notes l.expired n e k ∙ sym (in_view-at l s k h)
 
 pub AllBy-upheld : (rings : ℕ) (l : Life) (s : State) → Holds l s → IsInOrder rings l.kept → AllByRecursion (IsUpheld s) l.kept
 AllBy-upheld rings l s h ordered =
@@ -132,47 +199,70 @@ pub stands-fell : (after : State) (ended : Entry → Bool) (kept kept' : List En
 stands-fell after ended kept kept' fell decides h =
     ap (map (λ p. p.0)) (filter_agree_on (λ p. not (stands after p.0)) ended kept (AllBy-then (λ p. stands after p.0 ≡ not (ended p)) (λ p. not (stands after p.0) ≡ ended p) (λ p e. not_not (stands after p.0) (ended p) e) kept decides)) ∙ sym h.told
 
--- what is named by ring once the note is accepted
-abbrev pub named_on : Bool → Life → NoteBody → ℕ → Option ℕ
-named_on enters l n ring = cond enters (next_of l n.member ring) (answered_on l n ring)
+-- what is kept against the successors of a member that leaves is kept by it
+pub theirs-noted : (l : Life) (s : State) (n : NoteBody) → Holds l s → Accepts l n → has_joined l n.member ≡ true → IsInOrder (ring_count l.group.t) l.kept → effect_in l n ≡ Leaves → AreTheirs (with_note l n) n.member l.kept
+theirs-noted l s n h a joined ordered e =
+    AllBy-then (IsUpheld s) (λ p. is_of (with_note l n) n.member p ≡ (eqb n.member p.0.accused || eqb n.member p.0.accuser)) (λ p u. by_leaver (with_note l n) s n p (HoldsEach-noted l s n h a) joined u a.below (leaving l s n h a e)) l.kept (AllBy-upheld (ring_count l.group.t) l s h ordered)
 
-decides-noted : (l : Life) (s : State) (n : NoteBody) (named : List (Option ℕ)) (enters : Bool) → Holds l s → Accepts l n → has_joined l n.member ≡ true → IsInOrder (ring_count l.group.t) l.kept → enters ≡ is_newcomer l n → AreNamed named (named_on enters (with_note l n) n) l.kept → Decides (with_accepted s n) (is_named named) l.kept
-decides-noted l s n named true h a joined ordered e each =
-    let enters = entering l s n h a (sym e) in
+decides-noted : (l : Life) (s : State) (n : NoteBody) (effect : NoteEffect) → Holds l s → Accepts l n → has_joined l n.member ≡ true → IsInOrder (ring_count l.group.t) l.kept → effect_in l n ≡ effect → Decides (with_accepted s n) (is_ended_by (with_note l n) n effect) l.kept
+decides-noted l s n Enters h a joined ordered e =
+    let enters = entering l s n h a e in
     let held = HoldsEach-noted l s n h a in
-    AllBy-both (λ p. is_named named p ≡ is_number (named_on true (with_note l n) n p.0.ring.0) p.0.accused) (IsUpheld s) (λ p. stands (with_accepted s n) p.0 ≡ not (is_named named p)) (λ p same u.
-    stands-entered s n p u enters ∙ ap (λ o. not (is_number o p.0.accused)) (sym (live_successor-each (with_note l n) (with_accepted s n) p.0.ring.0 n.member held) ∙ ap (λ b. cond b (live_successor (with_note l n) p.0.ring.0 n.member) None) (sym joined)) ∙ ap not (sym same)) l.kept each (AllBy-upheld (ring_count l.group.t) l s h ordered)
-decides-noted l s n named false h a joined ordered e each =
-    AllBy-both (IsUpheld s) (λ p. is_named named p ≡ is_answered n p) (λ p. stands (with_accepted s n) p.0 ≡ not (is_named named p)) (λ p u same.
-    stands-answered s n p u (newest_here s.notes n (get l.notes n.member) (h.at_number n.member).newest_note a.newer) (staying l s n h a (sym e)) ∙ ap not (sym same)) l.kept (AllBy-upheld (ring_count l.group.t) l s h ordered) (named-answered (ring_count l.group.t) l n named ordered each)
+    AllBy-then (IsUpheld s) (λ p. stands (with_accepted s n) p.0 ≡ not (is_against_next (with_note l n) n.member p)) (λ p u.
+    stands-entered s n p u enters ∙ ap (λ o. not (is_number o p.0.accused)) (sym (live_successor-each (with_note l n) (with_accepted s n) p.0.ring.0 n.member held) ∙ ap (λ b. cond b (live_successor (with_note l n) p.0.ring.0 n.member) None) (sym joined))) l.kept (AllBy-upheld (ring_count l.group.t) l s h ordered)
+decides-noted l s n Leaves h a joined ordered e =
+    let out = leaving l s n h a e in
+    let held = HoldsEach-noted l s n h a in
+    AllBy-then (IsUpheld s) (λ p. stands (with_accepted s n) p.0 ≡ not (is_of (with_note l n) n.member p)) (λ p u.
+    stands-left_by s n p u out ∙ ap not (sym (by_leaver (with_note l n) s n p held joined u a.below out))) l.kept (AllBy-upheld (ring_count l.group.t) l s h ordered)
+decides-noted l s n Stays h a joined ordered e =
+    AllBy-then (IsUpheld s) (λ p. stands (with_accepted s n) p.0 ≡ not (is_answered n p)) (λ p u.
+    stands-answered s n p u (newest_here s.notes n (get l.notes n.member) (h.at_number n.member).newest_note a.newer) (staying l s n h a e)) l.kept (AllBy-upheld (ring_count l.group.t) l s h ordered)
 
 -- the life after the step, and its report
-pub record Noted (l : Life) (s : State) (n : NoteBody) (enters : Bool) (kept : List Entry) (fell : List AccBody) : Type 0 where
+pub record Noted (l : Life) (s : State) (n : NoteBody) (effect : NoteEffect) (kept : List Entry) (fell : List AccBody) : Type 0 where
   pub holds : Holds (record (with_note l n) { kept = kept }) (after_note s n).state
-  pub report : record { expired = []; removed = []; entered = cond enters (n.member ∷ []) []; fell = fell } ≡ (after_note s n).report
+  pub report : record (told_of effect n.member) { fell = fell } ≡ (after_note s n).report
 
-same_report : (removed removed' entered entered' : List ℕ) (fell fell' : List AccBody) → removed ≡ removed' → entered ≡ entered' → fell ≡ fell' → ◌≡◌ {A = Report} (record { expired = []; removed = removed; entered = entered; fell = fell }) (record { expired = []; removed = removed'; entered = entered'; fell = fell' })
-same_report removed removed' entered entered' fell fell' a b c = rw (a, b, c) refl
+same_report : (expired expired' fell fell' : List AccBody) (removed removed' entered entered' : List ℕ) → expired ≡ expired' → removed ≡ removed' → entered ≡ entered' → fell ≡ fell' → ◌≡◌ {A = Report} (record { expired = expired; removed = removed; entered = entered; fell = fell }) (record { expired = expired'; removed = removed'; entered = entered'; fell = fell' })
+same_report expired expired' fell fell' removed removed' entered entered' a b c d = rw (a, b, c, d) refl
 
-view_noted : (l : Life) (s : State) (n : NoteBody) (enters : Bool) → Holds l s → Accepts l n → enters ≡ is_newcomer l n → (only_before s (with_accepted s n) ≡ []) × (only_before (with_accepted s n) s ≡ cond enters (n.member ∷ []) [])
-view_noted l s n true h a e =
-    let enters = entering l s n h a (sym e) in
+none_expired : (effect : NoteEffect) (m : ℕ) → (told_of effect m).expired ≡ []
+none_expired Enters m = refl
+none_expired Leaves m = refl
+none_expired Stays m = refl
+
+view_noted : (l : Life) (s : State) (n : NoteBody) (effect : NoteEffect) → Holds l s → Accepts l n → effect_in l n ≡ effect → (only_before s (with_accepted s n) ≡ (told_of effect n.member).removed) × (only_before (with_accepted s n) s ≡ (told_of effect n.member).entered)
+view_noted l s n Enters h a e =
+    let enters = entering l s n h a e in
     (only_before-none s (with_accepted s n) (λ k is. ⊎_elim (λ t. subst (λ m. in_view (with_accepted s n) m ≡ true) (sym (eqb-true k n.member t)) enters.is) (λ t. enters.others k (eqb-false k n.member t) ∙ is) (either_bool (eqb k n.member))), only_before-one (with_accepted s n) s n.member enters.below enters.is enters.was enters.others)
-view_noted l s n false h a e =
-    let same = staying l s n h a (sym e) in
+view_noted l s n Leaves h a e =
+    let out = leaving l s n h a e in
+    (only_before-one s (with_accepted s n) n.member a.below out.was out.is (λ k apart. sym (out.others k apart)), only_before-none (with_accepted s n) s (λ k is. fewer-out (in_view s) (in_view (with_accepted s n)) n.member out k is))
+view_noted l s n Stays h a e =
+    let same = staying l s n h a e in
     (only_before-none s (with_accepted s n) (λ k is. same k ∙ is), only_before-none (with_accepted s n) s (λ k is. sym (same k) ∙ is))
 
-pub Noted-by : (l : Life) (s : State) (n : NoteBody) (named : List (Option ℕ)) (enters : Bool) (kept : List Entry) (fell : List AccBody) → Holds l s → Accepts l n → has_joined l n.member ≡ true → IsInOrder (ring_count l.group.t) l.kept → enters ≡ is_newcomer l n → AreNamed named (named_on enters (with_note l n) n) l.kept → Ended (is_named named) l.kept kept fell → Noted l s n enters kept fell
-Noted-by l s n named enters kept fell h a joined ordered e each ended =
-    let decides = decides-noted l s n named enters h a joined ordered e each in
+pub Noted-by : (l : Life) (s : State) (n : NoteBody) (effect : NoteEffect) (kept : List Entry) (fell : List AccBody) → Holds l s → Accepts l n → has_joined l n.member ≡ true → IsInOrder (ring_count l.group.t) l.kept → effect_in l n ≡ effect → Ended (is_ended_by (with_note l n) n effect) l.kept kept fell → Noted l s n effect kept fell
+Noted-by l s n effect kept fell h a joined ordered e ended =
+    let picks = is_ended_by (with_note l n) n effect in
+    let decides = decides-noted l s n effect h a joined ordered e in
     let held = HoldsEach-noted l s n h a in
-    let views = view_noted l s n enters h a e in
+    let views = view_noted l s n effect h a e in
     record {
       holds = record {
         moment_same = h.moment_same;
-        kept_same = ap (filter (λ p. stands (with_accepted s n) p.0)) h.kept_same ∙ stands-left (with_accepted s n) (is_named named) l.kept kept fell decides ended;
+        kept_same = ap (filter (λ p. stands (with_accepted s n) p.0)) h.kept_same ∙ stands-left (with_accepted s n) picks l.kept kept fell decides ended;
         at_number = λ m. let at = held.at_number m in record { member = at.member; places = at.places; newest_note = at.newest_note; greatest = at.greatest; positive = at.positive };
         standing = filter_passes (λ p. stands (with_accepted s n) p.0) s.kept;
       };
-      report = same_report _ _ _ _ _ _ (sym views.0) (sym views.1) (sym (ap (λ ks. map (λ p. p.0) (filter (λ p. not (stands (with_accepted s n) p.0)) ks)) h.kept_same ∙ stands-fell (with_accepted s n) (is_named named) l.kept kept fell decides ended));
+      report = same_report _ _ _ _ _ _ _ _ (none_expired effect n.member) (sym views.0) (sym views.1) (sym (ap (λ ks. map (λ p. p.0) (filter (λ p. not (stands (with_accepted s n) p.0)) ks)) h.kept_same ∙ stands-fell (with_accepted s n) picks l.kept kept fell decides ended));
+    }
+
+-- who entered and who was removed, by what is told
+pub Moves-told : (r : Report) (effect is : NoteEffect) (m : ℕ) (fell : List AccBody) → r ≡ record (told_of effect m) { fell = fell } → effect ≡ is → Moves r (told_of is m).entered (told_of is m).removed
+Moves-told r effect is m fell told e =
+    record {
+      all_entered = ap (λ (r : Report). r.entered) told ∙ ap (λ e. (told_of e m).entered) e;
+      all_removed = ap (λ (r : Report). r.removed) told ∙ ap (λ e. (told_of e m).removed) e;
     }

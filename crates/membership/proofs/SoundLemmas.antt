@@ -1,5 +1,5 @@
 -- What stands between what is kept and the rings.
-use Rattle.std.proofs.Common.{◌≡◌, ◌≢◌, ℕ, ◌<◌, ◌≤◌, Bool, true, false, cond, not, ◌&&◌, eqb, List, [], ◌∷◌, map, ⊎_elim, Option, Some, None, refl, ap, sym, ◌∙◌, subst, arith, is_some, nat_le}
+use Rattle.std.proofs.Common.{◌≡◌, ◌≢◌, ℕ, ◌<◌, ◌≤◌, Bool, true, false, cond, not, eqb, List, [], ◌∷◌, map, ⊎_elim, Option, Some, None, refl, ap, sym, ◌∙◌, subst, arith, is_some, nat_le}
 use Rattle.std.specs.Prelude.{IfSome}
 use Rattle.std.specs.Ordering.{nat_cmp, ordering_then, eq_by_cmp}
 use Rattle.std.specs.Cmp.{nat_cmp_total}
@@ -14,14 +14,16 @@ use Rattle.ff_ids.specs.declared.Group.{Group}
 use Rattle.ff_ids.specs.declared.NoteBody.{NoteBody}
 use Rattle.ff_ids.specs.declared.Fault.{Fault}
 use Rattle.ff_ids.specs.declared.Fault.TheVariants as faults
-use Rattle.ff_ids.specs.Masks.{ring_count, good_mask}
-use Rattle.ff_ids.specs.Notes.{note_cmp}
+use Rattle.ff_ids.specs.Masks.{ring_count, note_mask}
+use Rattle.ff_ids.specs.Notes.{is_leaving, note_cmp}
 use Rattle.ff_ids.specs.Faults.{fault_after, fault_beside, note_fault_by}
 use Rattle.ff_ids.specs.Views.{Member, all_numbers}
-use Rattle.monitor_rule.specs.Joined.{Joined, with_member, is_joined}
-use Rattle.membership.specs.Kept.{ByNumber, places_at, expired_at, is_live, is_live_at, member_at, live_members, comes_in}
-use Rattle.membership.specs.Life.{Life, IsSound, IsPlaced, has_joined, note_fault_in, is_newcomer}
-use Rattle.membership.proofs.NumberLemmas.{either_bool, all_length, AtEach, AtEach-all, Numbered, with_member-range, is_joined-range, map-filter_range_agree}
+use Rattle.monitor_rule.specs.Joined.{Joined, with_member, without_member, is_joined}
+use Rattle.membership.specs.Kept.{ByNumber, places_at, expired_at, is_live, is_live_at, member_at, live_members, effect_between, effect_by}
+use Rattle.membership.specs.declared.kept.NoteEffect.{NoteEffect}
+use Rattle.membership.specs.declared.kept.NoteEffect.TheVariants.{Enters, Leaves, Stays}
+use Rattle.membership.specs.Life.{Life, IsSound, IsPlaced, has_joined, note_fault_in, effect_in}
+use Rattle.membership.proofs.NumberLemmas.{either_bool, all_length, AtEach, AtEach-all, Numbered, with_member-range, without_member-range, is_joined-range, map-filter_range_agree}
 use Rattle.ff_ids.specs.Views.{in_view_by}
 use Rattle.ff_ids.proofs.ViewLemmas.{in_view_by-fresh, not_expired}
 
@@ -65,6 +67,14 @@ live_members-enters places notes notes' expired m below before after others =
     let counted = with_member-range (member_at places) (member_at-numbered places) (is_live_at notes expired) (is_live_at notes' expired) m 0 all.0 (omega arith) (omega (arith, all.1.long)) before after agree in
     sym (subst (λ xs. with_member (member_at places m) (map (member_at places) (filter (is_live_at notes expired) xs)) ≡ map (member_at places) (filter (is_live_at notes' expired) xs)) (sym all.1.are) counted)
 
+-- the live members, where one is taken out
+pub live_members-leaves : (places : ByNumber (List (List ℕ))) (notes notes' : ByNumber NoteBody) (expired expired' : ByNumber ℕ) (m : ℕ) → m < MEMBERS → is_live_at notes expired m ≡ true → is_live_at notes' expired' m ≡ false → ((k : ℕ) → k ≢ m → is_live_at notes' expired' k ≡ is_live_at notes expired k) → live_members places notes' expired' ≡ without_member m (live_members places notes expired)
+live_members-leaves places notes notes' expired expired' m below before after others =
+    let all = all_length in
+    let agree : AtEach 0 all.0 (λ k. k ≢ m → is_live_at notes' expired' k ≡ is_live_at notes expired k) = AtEach-all all.0 _ all.1.long (λ k _. others k) in
+    let counted = without_member-range (member_at places) (member_at-numbered places) (is_live_at notes expired) (is_live_at notes' expired') m 0 all.0 (omega arith) (omega (arith, all.1.long)) before after agree in
+    sym (subst (λ xs. without_member m (map (member_at places) (filter (is_live_at notes expired) xs)) ≡ map (member_at places) (filter (is_live_at notes' expired') xs)) (sym all.1.are) counted)
+
 -- the live members, where the same are live and their places are the same
 pub live_members-same : (places places' : ByNumber (List (List ℕ))) (notes notes' : ByNumber NoteBody) (expired expired' : ByNumber ℕ) → ((k : ℕ) → is_live_at notes' expired' k ≡ is_live_at notes expired k) → ((k : ℕ) → is_live_at notes' expired' k ≡ true → places_at places' k ≡ places_at places k) → live_members places' notes' expired' ≡ live_members places notes expired
 live_members-same places places' notes notes' expired expired' live at =
@@ -106,7 +116,7 @@ pub no_fault : (l : Life) (n : NoteBody) → note_fault_in l n ≡ None → NoFa
 no_fault l n h = by_member (has_joined l n.member) refl h
   where
     by_member : (b : Bool) → has_joined l n.member ≡ b → note_fault_by l.group.t b (get l.notes n.member) n ≡ None → NoFault l n
-    by_member true joined h = record { joined = joined; newer = unmasked (not (good_mask l.group.t n.mask.0)) faults.BadMask (fault_after (get l.notes n.member) n) h }
+    by_member true joined h = record { joined = joined; newer = unmasked (not (note_mask l.group.t n.mask.0)) faults.BadMask (fault_after (get l.notes n.member) n) h }
     by_member false joined h = cc
 
 pub beside : (kept : NoteBody) (o : Ordering) → fault_beside kept o ≡ None → o ≡ Greater
@@ -120,20 +130,31 @@ later a b o h = grind (arith, nat_tests)
 later_than : (e a b : ℕ) → a ≤ b → nat_le a e ≡ false → nat_le b e ≡ false
 later_than e a b le h = grind (arith, nat_tests)
 
--- it is of no smaller epoch than the kept one, so a live member stays live
-pub stays_live : (expired : ℕ) (kept : Option NoteBody) (n : NoteBody) → fault_after kept n ≡ None → is_live expired kept ≡ true → is_live expired (Some n) ≡ true
-stays_live expired None n h live = absurd (false≢true live)
-stays_live expired (Some kept) n h live =
+-- it is of no smaller epoch than the kept one, so a live member stays live, unless it leaves
+pub stays_live : (expired : ℕ) (kept : Option NoteBody) (n : NoteBody) → fault_after kept n ≡ None → is_leaving n ≡ false → is_live expired kept ≡ true → is_live expired (Some n) ≡ true
+stays_live expired None n h stays live = absurd (false≢true live)
+stays_live expired (Some kept) n h stays live =
     let fresh = not_expired kept (nat_le kept.epoch expired) live in
-    ap (in_view_by n) (later_than expired kept.epoch n.epoch (later n.epoch kept.epoch _ (beside kept (note_cmp n kept) h)) fresh) ∙ in_view_by-fresh n
+    ap (in_view_by n) (later_than expired kept.epoch n.epoch (later n.epoch kept.epoch _ (beside kept (note_cmp n kept) h)) fresh) ∙ in_view_by-fresh n stays
 
-comes_in_or_same : (was is : Bool) → (was ≡ true → is ≡ true) → (not was && is) ≡ false → is ≡ was
-comes_in_or_same true is stays h = stays refl
-comes_in_or_same false is stays h = h
+-- what a note did says where its member was, and where it is
+pub was_out : (was is : Bool) → effect_between was is ≡ Enters → (was ≡ false) × (is ≡ true)
+was_out true true h = cc
+was_out true false h = cc
+was_out false true h = (refl, refl)
+was_out false false h = cc
 
-pub comes_in_parts : (was is : Bool) → (not was && is) ≡ true → (was ≡ false) × (is ≡ true)
-comes_in_parts true is h = absurd (false≢true h)
-comes_in_parts false is h = (refl, h)
+pub was_in : (was is : Bool) → effect_between was is ≡ Leaves → (was ≡ true) × (is ≡ false)
+was_in true true h = cc
+was_in true false h = (refl, refl)
+was_in false true h = cc
+was_in false false h = cc
+
+pub was_so : (was is : Bool) → effect_between was is ≡ Stays → is ≡ was
+was_so true true h = refl
+was_so true false h = cc
+was_so false true h = cc
+was_so false false h = refl
 
 pub live_here : (notes : ByNumber NoteBody) (expired : ByNumber ℕ) (n : NoteBody) → is_live_at (insert notes n.member n) expired n.member ≡ is_live (expired_at expired n.member) (Some n)
 live_here notes expired n = ap (is_live (expired_at expired n.member)) (get_here notes n.member n)
@@ -141,44 +162,62 @@ live_here notes expired n = ap (is_live (expired_at expired n.member)) (get_here
 pub others_live : (notes : ByNumber NoteBody) (expired : ByNumber ℕ) (n : NoteBody) (k : ℕ) → k ≢ n.member → is_live_at (insert notes n.member n) expired k ≡ is_live_at notes expired k
 others_live notes expired n k apart = ap (is_live (expired_at expired k)) (get_other notes n.member k n apart)
 
--- who is live then, where the member doesn't come in
-pub live_same : (notes : ByNumber NoteBody) (expired : ByNumber ℕ) (n : NoteBody) → fault_after (get notes n.member) n ≡ None → comes_in (expired_at expired n.member) (get notes n.member) n ≡ false → (k : ℕ) → is_live_at (insert notes n.member n) expired k ≡ is_live_at notes expired k
-live_same notes expired n newer e =
-    by_number (λ k. is_live_at (insert notes n.member n) expired k ≡ is_live_at notes expired k) n.member (live_here notes expired n ∙ comes_in_or_same (is_live_at notes expired n.member) (is_live (expired_at expired n.member) (Some n)) (stays_live (expired_at expired n.member) (get notes n.member) n newer) e) (others_live notes expired n)
+-- who is live then, where the member stays where it was
+pub live_same : (notes : ByNumber NoteBody) (expired : ByNumber ℕ) (n : NoteBody) → effect_by (expired_at expired n.member) (get notes n.member) n ≡ Stays → (k : ℕ) → is_live_at (insert notes n.member n) expired k ≡ is_live_at notes expired k
+live_same notes expired n e =
+    by_number (λ k. is_live_at (insert notes n.member n) expired k ≡ is_live_at notes expired k) n.member (live_here notes expired n ∙ was_so (is_live_at notes expired n.member) (is_live (expired_at expired n.member) (Some n)) e) (others_live notes expired n)
+
+-- the members on the rings, by what the note did
+abbrev pub members_then : NoteEffect → Member → List Member → List Member
+members_then Enters x members = with_member x members
+members_then Leaves x members = without_member x.number members
+members_then Stays x members = members
 
 -- the live members after it
-live_members-noted : (places : ByNumber (List (List ℕ))) (notes : ByNumber NoteBody) (expired : ByNumber ℕ) (n : NoteBody) → n.member < MEMBERS → fault_after (get notes n.member) n ≡ None → (enters : Bool) → enters ≡ comes_in (expired_at expired n.member) (get notes n.member) n → live_members places (insert notes n.member n) expired ≡ cond enters (with_member (member_at places n.member) (live_members places notes expired)) (live_members places notes expired)
-live_members-noted places notes expired n below newer true e =
-    let parts = comes_in_parts (is_live_at notes expired n.member) (is_live (expired_at expired n.member) (Some n)) (sym e) in
+live_members-noted : (places : ByNumber (List (List ℕ))) (notes : ByNumber NoteBody) (expired : ByNumber ℕ) (n : NoteBody) → n.member < MEMBERS → (effect : NoteEffect) → effect_by (expired_at expired n.member) (get notes n.member) n ≡ effect → live_members places (insert notes n.member n) expired ≡ members_then effect (member_at places n.member) (live_members places notes expired)
+live_members-noted places notes expired n below Enters e =
+    let parts = was_out (is_live_at notes expired n.member) (is_live (expired_at expired n.member) (Some n)) e in
     live_members-enters places notes (insert notes n.member n) expired n.member below parts.0 (live_here notes expired n ∙ parts.1) (others_live notes expired n)
-live_members-noted places notes expired n below newer false e =
-    live_members-same places places notes (insert notes n.member n) expired expired (live_same notes expired n newer (sym e)) (λ k _. refl)
+live_members-noted places notes expired n below Leaves e =
+    let parts = was_in (is_live_at notes expired n.member) (is_live (expired_at expired n.member) (Some n)) e in
+    live_members-leaves places notes (insert notes n.member n) expired expired n.member below parts.0 (live_here notes expired n ∙ parts.1) (others_live notes expired n)
+live_members-noted places notes expired n below Stays e =
+    live_members-same places places notes (insert notes n.member n) expired expired (live_same notes expired n e) (λ k _. refl)
 
 -- the number of a member
 pub number_below : (rings m : ℕ) (o : Option (List (List ℕ))) → IfSome o (IsPlaced rings m) → is_some o ≡ true → m < MEMBERS
 number_below rings m None h e = absurd (false≢true e)
 number_below rings m (Some p) h e = h.number
 
--- it keeps everything sound, with its member on the rings where it comes in
-pub IsSound-noted : (l : Life) (view view' : Joined) (n : NoteBody) (enters : Bool) → IsSound l.group l.places l.notes l.expired view → note_fault_in l n ≡ None → enters ≡ is_newcomer l n → view' ≡ cond enters (record view { members = with_member (member_at l.places n.member) view.members }) view → IsSound l.group l.places (insert l.notes n.member n) l.expired view'
-IsSound-noted l view view' n enters sound fault e at =
+-- it keeps everything sound, with its member on the rings where it enters, and off them where it leaves
+pub IsSound-noted : (l : Life) (view view' : Joined) (n : NoteBody) (effect : NoteEffect) → IsSound l.group l.places l.notes l.expired view → note_fault_in l n ≡ None → effect ≡ effect_in l n → view' ≡ record view { members = members_then effect (member_at l.places n.member) view.members } → IsSound l.group l.places (insert l.notes n.member n) l.expired view'
+IsSound-noted l view view' n effect sound fault e at =
     let fine = no_fault l n fault in
     let below = number_below (ring_count l.group.t) n.member (get l.places n.member) (sound.placed n.member) fine.joined in
-    let live = live_members-noted l.places l.notes l.expired n below fine.newer enters e in
+    let live = live_members-noted l.places l.notes l.expired n below effect (sym e) in
     record {
       tolerance = sound.tolerance;
       placed = sound.placed;
       noted = by_number (λ k. get l.places k ≡ None → get (insert l.notes n.member n) k ≡ None) n.member (λ gone. absurd (false≢true (sym (ap is_some gone) ∙ fine.joined))) (λ k apart gone. get_other l.notes n.member k n apart ∙ sound.noted k gone);
-      rings = rw at (same_rings enters view (with_member (member_at l.places n.member) view.members) _ sound.rings);
-      viewed = rw at (same_members enters view (with_member (member_at l.places n.member) view.members) ∙ ap (λ ms. cond enters (with_member (member_at l.places n.member) ms) ms) sound.viewed ∙ sym live);
+      rings = rw at sound.rings;
+      viewed = rw at (ap (members_then effect (member_at l.places n.member)) sound.viewed ∙ sym live);
     }
 
--- a member that comes in is not on the rings yet
-pub absent_before : (l : Life) (view : Joined) (n : NoteBody) → IsSound l.group l.places l.notes l.expired view → note_fault_in l n ≡ None → is_newcomer l n ≡ true → is_joined view.members n.member ≡ false
-absent_before l view n sound fault e =
-    let parts = comes_in_parts (is_live_at l.notes l.expired n.member) (is_live (expired_at l.expired n.member) (Some n)) e in
+-- the member is on the rings where it is live
+on_rings : (l : Life) (view : Joined) (n : NoteBody) → IsSound l.group l.places l.notes l.expired view → note_fault_in l n ≡ None → is_joined view.members n.member ≡ is_live_at l.notes l.expired n.member
+on_rings l view n sound fault =
     let below = number_below (ring_count l.group.t) n.member (get l.places n.member) (sound.placed n.member) (no_fault l n fault).joined in
-    ap (λ ms. is_joined ms n.member) sound.viewed ∙ is_joined-live l.places l.notes l.expired n.member below ∙ parts.0
+    ap (λ ms. is_joined ms n.member) sound.viewed ∙ is_joined-live l.places l.notes l.expired n.member below
+
+-- a member that enters is not on the rings yet
+pub absent_before : (l : Life) (view : Joined) (n : NoteBody) → IsSound l.group l.places l.notes l.expired view → note_fault_in l n ≡ None → effect_in l n ≡ Enters → is_joined view.members n.member ≡ false
+absent_before l view n sound fault e =
+    on_rings l view n sound fault ∙ (was_out (is_live_at l.notes l.expired n.member) (is_live (expired_at l.expired n.member) (Some n)) e).0
+
+-- one that leaves is
+pub present_before : (l : Life) (view : Joined) (n : NoteBody) → IsSound l.group l.places l.notes l.expired view → note_fault_in l n ≡ None → effect_in l n ≡ Leaves → is_joined view.members n.member ≡ true
+present_before l view n sound fault e =
+    on_rings l view n sound fault ∙ (was_in (is_live_at l.notes l.expired n.member) (is_live (expired_at l.expired n.member) (Some n)) e).0
 
 -- nobody is on the rings where all notes are gone
 pub IsSound-cleared : (group : Group) (places : ByNumber (List (List ℕ))) (notes : ByNumber NoteBody) (expired : ByNumber ℕ) (view view' : Joined) → IsSound group places notes expired view → view' ≡ record view { members = [] } → IsSound group places empty empty view'

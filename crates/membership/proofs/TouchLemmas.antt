@@ -1,16 +1,18 @@
 -- What stands after a step, by what the step touched.
-use Rattle.std.proofs.Common.{◌≡◌, ◌≢◌, ℕ, ◌<◌, Bool, true, false, cond, not, ◌&&◌, ◌||◌, eqb, List, [], ◌∷◌, ◌++◌, map, ⊎_elim, Option, Some, None, refl, ap, sym, ◌∙◌, subst, is_some, arith}
+use Rattle.std.proofs.Common.{◌≡◌, ◌≢◌, ℕ, ◌<◌, ◌≤◌, Bool, true, false, cond, not, ◌&&◌, ◌||◌, eqb, List, [], ◌∷◌, ◌++◌, map, ⊎_elim, Option, Some, None, refl, ap, sym, ◌∙◌, subst, is_some, arith}
 use Rattle.std.specs.Prelude.{nat_le, IfSome}
 use Rattle.std.specs.List.{list_any, AllByRecursion}
 use Rattle.std.specs.Option.{option_map_or}
+use Rattle.std.specs.Ordering.{nat_cmp, ordering_then, is_lt}
+use Rattle.std.specs.declared.cmp.Ordering.{Ordering}
 use Rattle.std.specs.FinMap.{get}
-use Rattle.std.proofs.lemmas.Bool.{eqb-true, eqb-false, false≢true, and_parts}
+use Rattle.std.proofs.lemmas.Bool.{eqb-true, eqb-false, eq-eqb, false≢true, and_parts}
 use Rattle.std.proofs.lemmas.Bool.Decides.{nat_tests}
 use Rattle.std.proofs.lemmas.List.Elements.{filter_agree}
 use Rattle.ff_ids.specs.declared.TheConstants.{MEMBERS}
 use Rattle.ff_ids.specs.declared.AccBody.{AccBody}
 use Rattle.ff_ids.specs.declared.NoteBody.{NoteBody}
-use Rattle.ff_ids.specs.Notes.{newest}
+use Rattle.ff_ids.specs.Notes.{is_leaving, newest, greater_note, note_cmp}
 use Rattle.ff_ids.specs.Rings.{nearest_before}
 use Rattle.ff_ids.specs.Masks.{enables}
 use Rattle.ff_ids.specs.Views.{State, in_view, in_view_by, viewed_by, has_expired, view, monitor, successor, key_of, stands, is_unanswered_by, is_number, all_numbers}
@@ -19,9 +21,9 @@ use Rattle.membership.specs.Life.{Life, has_joined, live_successor}
 use Rattle.membership.specs.Ends.{Entry, is_answered, is_of, is_of_any, next_of}
 use Rattle.membership.specs.Touched.{IsUpheld}
 use Rattle.membership.proofs.NumberLemmas.{either_bool}
-use Rattle.membership.proofs.MonitorLemmas.{Keyed, IsMonitor-some, ComesIn, monitor-leaving, monitor-entering, successor-of_monitor, is_number-some}
+use Rattle.membership.proofs.MonitorLemmas.{Keyed, IsMonitor-some, ComesIn, GoesOut, fewer-out, monitor-leaving, monitor-entering, successor-of_monitor, successor-others, is_number-some}
 use Rattle.membership.proofs.HoldLemmas.{HoldsEach, in_view-each, live_successor-each, newest-member}
-use Rattle.ff_ids.proofs.ViewLemmas.{in_view_by-either}
+use Rattle.ff_ids.proofs.ViewLemmas.{in_view_by-either, in_view_by-fresh, not_expired}
 
 -- an accusation that stands, part by part
 pub record IsStanding (s : State) (a : AccBody) : Type 0 where
@@ -62,6 +64,27 @@ stands-entered s n p u enters =
     let before = IsMonitor-some (key_of s a.ring.0) (keyed s a.ring.0) (in_view s) a.accused a.accuser parts.monitored in
     all_three _ _ _ _ (enters.others a.accused apart ∙ parts.viewed) unanswered (monitor-entering (key_of s a.ring.0) (keyed s a.ring.0) (in_view s) (in_view (with_accepted s n)) a.accused a.accuser n.member before enters u.number parts.viewed)
 
+-- a leaver ends what is kept against it or by it, and nothing else
+pub stands-left_by : (s : State) (n : NoteBody) (p : Entry) → IsUpheld s p → GoesOut (in_view s) (in_view (with_accepted s n)) n.member → stands (with_accepted s n) p.0 ≡ not (eqb n.member p.0.accused || eqb n.member p.0.accuser)
+stands-left_by s n p u out =
+    let a = p.0 in
+    let after = with_accepted s n in
+    let parts = IsStanding-from s a u.standing in
+    let before = IsMonitor-some (key_of s a.ring.0) (keyed s a.ring.0) (in_view s) a.accused a.accuser parts.monitored in
+    let monitored = monitor-leaving (key_of s a.ring.0) (keyed s a.ring.0) (in_view s) (in_view after) a.accused a.accuser before (λ w _ is. fewer-out (in_view s) (in_view after) n.member out w is) in
+    ⊎_elim (λ t.
+    let gone : in_view after a.accused ≡ false = ap (in_view after) (sym (eqb-true n.member a.accused t)) ∙ out.is in
+    ap (λ b. b && option_map_or (is_unanswered_by a) (newest after.notes a.accused) false && is_number (monitor after a.ring.0 a.accused) a.accuser) gone ∙ ap (λ b. not (b || eqb n.member a.accuser)) (sym t))
+    (λ t.
+    let apart : a.accused ≢ n.member = λ e. eqb-false n.member a.accused t (sym e) in
+    let unanswered : option_map_or (is_unanswered_by a) (newest (n ∷ s.notes) a.accused) false ≡ true = ap (λ o. option_map_or (is_unanswered_by a) o false) (newest_other s.notes n a.accused apart) ∙ parts.unanswered in
+    all_three _ _ _ _ (out.others a.accused apart ∙ parts.viewed) unanswered (monitored ∙ left (eqb n.member a.accuser) refl before.passes) ∙ ap (λ b. not (b || eqb n.member a.accuser)) (sym t))
+    (either_bool (eqb n.member a.accused))
+  where
+    left : (b : Bool) → eqb n.member p.0.accuser ≡ b → in_view s p.0.accuser ≡ true → in_view (with_accepted s n) p.0.accuser ≡ not (eqb n.member p.0.accuser)
+    left true t is = ap (in_view (with_accepted s n)) (sym (eqb-true n.member p.0.accuser t)) ∙ out.is ∙ ap not (sym t)
+    left false t is = out.others p.0.accuser (λ e. eqb-false n.member p.0.accuser t (sym e)) ∙ is ∙ ap not (sym t)
+
 unanswered-noted : (s : State) (n : NoteBody) (p : Entry) → newest (n ∷ s.notes) n.member ≡ Some n → IsStanding s p.0 → option_map_or (is_unanswered_by p.0) (newest (n ∷ s.notes) p.0.accused) false ≡ not (is_answered n p)
 unanswered-noted s n p newer parts =
     ⊎_elim (λ t. ap (λ o. option_map_or (is_unanswered_by p.0) o false) (ap (newest (n ∷ s.notes)) (eqb-true p.0.accused n.member t) ∙ newer) ∙ twice (is_unanswered_by p.0 n) ∙ ap (λ b. not (b && not (is_unanswered_by p.0 n))) (sym t))
@@ -79,14 +102,64 @@ middle b c d e f g h = rw (f, g) (last c ∙ h)
     last true = refl
     last false = refl
 
+no_later : (a b : ℕ) (o : Ordering) → is_lt (ordering_then (nat_cmp a b) o) ≡ false → b ≤ a
+no_later a b o h = grind (arith, nat_tests)
+
+-- a greater note is of no smaller epoch
+epoch_after : (n kept : NoteBody) → Some (greater_note n (Some kept)) ≡ Some n → kept.epoch ≤ n.epoch
+epoch_after n kept h = by_order (is_lt (note_cmp n kept)) refl h
+  where
+    by_order : (b : Bool) → is_lt (note_cmp n kept) ≡ b → Some (cond b kept n) ≡ Some n → kept.epoch ≤ n.epoch
+    by_order true e same = let one : kept ≡ n = cc in omega (arith, ap (λ (x : NoteBody). x.epoch) one)
+    by_order false e same = no_later n.epoch kept.epoch _ e
+
+fewer_of : (of : Bool) (p q e : ℕ) → p ≤ q → (of && nat_le p e) ≡ false → (of && nat_le q e) ≡ false
+fewer_of true p q e le h = grind (arith, nat_tests)
+fewer_of false p q e le h = refl
+
+neither_of : (b c : Bool) → (b || c) ≡ false → (b ≡ false) × (c ≡ false)
+neither_of true c h = absurd (false≢true (sym h))
+neither_of false c h = (refl, h)
+
+-- so fewer have expired for it
+none_expired : (expired : List AccBody) (n kept : NoteBody) → kept.member ≡ n.member → kept.epoch ≤ n.epoch → has_expired expired kept ≡ false → has_expired expired n ≡ false
+none_expired [] n kept own le h = refl
+none_expired (a ∷ expired) n kept own le h =
+    let parts = neither_of _ _ h in
+    let here : (eqb a.accused n.member && nat_le n.epoch a.epoch) ≡ false = fewer_of (eqb a.accused n.member) kept.epoch n.epoch a.epoch le (ap (λ m. eqb a.accused m && nat_le kept.epoch a.epoch) (sym own) ∙ parts.0) in
+    ap (λ b. b || has_expired expired n) here ∙ none_expired expired n kept own le parts.1
+
+-- a member in the view stays there by a newer note by which it doesn't leave
+pub viewed-newer : (s : State) (n : NoteBody) → newest (n ∷ s.notes) n.member ≡ Some n → is_leaving n ≡ false → in_view s n.member ≡ true → in_view (with_accepted s n) n.member ≡ true
+viewed-newer s n newer stays was = ap (viewed_by s.expired) newer ∙ ap (in_view_by n) (by_note (newest s.notes n.member) refl (newest-member s.notes n.member)) ∙ in_view_by-fresh n stays
+  where
+    by_note : (o : Option NoteBody) → newest s.notes n.member ≡ o → IfSome o (λ k. k.member ≡ n.member) → has_expired s.expired n ≡ false
+    by_note None note own = absurd (false≢true (sym (ap (viewed_by s.expired) note) ∙ was))
+    by_note (Some kept) note own =
+        let greater : Some (greater_note n (Some kept)) ≡ Some n = sym (ap (λ b. cond b (Some (greater_note n (newest s.notes n.member))) (newest s.notes n.member)) (eq-eqb n.member n.member refl) ∙ ap (λ o. Some (greater_note n o)) note) ∙ newer in
+        none_expired s.expired n kept own (epoch_after n kept greater) (not_expired kept (has_expired s.expired kept) (sym (ap (viewed_by s.expired) note) ∙ was))
+
+-- where the view is the same, so are the monitors
+same_monitor : (s : State) (n : NoteBody) (a : AccBody) → ((k : ℕ) → in_view (with_accepted s n) k ≡ in_view s k) → is_number (monitor (with_accepted s n) a.ring.0 a.accused) a.accuser ≡ is_number (monitor s a.ring.0 a.accused) a.accuser
+same_monitor s n a same =
+    let views : view (with_accepted s n) ≡ view s = filter_agree (in_view (with_accepted s n)) (in_view s) same all_numbers in
+    ap (λ v. is_number (nearest_before (map (key_of s a.ring.0) v) (key_of s a.ring.0 a.accused)) a.accuser) views
+
+-- a note of a member that is out of the view and stays out ends nothing
+pub stands-outside : (s : State) (n : NoteBody) (p : Entry) → IsUpheld s p → in_view s n.member ≡ false → ((k : ℕ) → in_view (with_accepted s n) k ≡ in_view s k) → stands (with_accepted s n) p.0 ≡ true
+stands-outside s n p u out same =
+    let a = p.0 in
+    let parts = IsStanding-from s a u.standing in
+    let apart : a.accused ≢ n.member = λ e. false≢true (sym out ∙ ap (in_view s) (sym e) ∙ parts.viewed) in
+    let unanswered : option_map_or (is_unanswered_by a) (newest (n ∷ s.notes) a.accused) false ≡ true = ap (λ o. option_map_or (is_unanswered_by a) o false) (newest_other s.notes n a.accused apart) ∙ parts.unanswered in
+    all_three _ _ _ _ (same a.accused ∙ parts.viewed) unanswered (same_monitor s n a same ∙ (and_parts _ _ u.standing).1)
+
 -- a note that changes no view ends what it answers, and nothing else
 pub stands-answered : (s : State) (n : NoteBody) (p : Entry) → IsUpheld s p → newest (n ∷ s.notes) n.member ≡ Some n → ((k : ℕ) → in_view (with_accepted s n) k ≡ in_view s k) → stands (with_accepted s n) p.0 ≡ not (is_answered n p)
 stands-answered s n p u newer same =
     let a = p.0 in
     let parts = IsStanding-from s a u.standing in
-    let views : view (with_accepted s n) ≡ view s = filter_agree (in_view (with_accepted s n)) (in_view s) same all_numbers in
-    let monitored : is_number (monitor (with_accepted s n) a.ring.0 a.accused) a.accuser ≡ is_number (monitor s a.ring.0 a.accused) a.accuser = ap (λ v. is_number (nearest_before (map (key_of s a.ring.0) v) (key_of s a.ring.0 a.accused)) a.accuser) views in
-    middle _ _ _ _ (same a.accused ∙ parts.viewed) (monitored ∙ (and_parts _ _ u.standing).1) (unanswered-noted s n p newer parts)
+    middle _ _ _ _ (same a.accused ∙ parts.viewed) (same_monitor s n a same ∙ (and_parts _ _ u.standing).1) (unanswered-noted s n p newer parts)
 
 -- ---- what expires
 
@@ -170,6 +243,16 @@ by_successor l s p m h noted u below is =
     let before = IsMonitor-some (key_of s a.ring.0) (keyed s a.ring.0) (in_view s) a.accused a.accuser parts.monitored in
     let next : next_of l m a.ring.0 ≡ successor s a.ring.0 m = ap (λ b. cond b (live_successor l a.ring.0 m) None) (has_joined-viewed l s m h noted is) ∙ live_successor-each l s a.ring.0 m h in
     ap (λ b. eqb m a.accused || b) (ap (λ o. is_number o a.accused) next ∙ successor-of_monitor (key_of s a.ring.0) (keyed s a.ring.0) (in_view s) a.accused a.accuser before u.number parts.viewed m below is)
+
+-- so it is of a member that left by a note
+pub by_leaver : (l : Life) (s : State) (n : NoteBody) (p : Entry) → HoldsEach l (with_accepted s n) → has_joined l n.member ≡ true → IsUpheld s p → n.member < MEMBERS → GoesOut (in_view s) (in_view (with_accepted s n)) n.member → is_of l n.member p ≡ (eqb n.member p.0.accused || eqb n.member p.0.accuser)
+by_leaver l s n p h joined u below out =
+    let a = p.0 in
+    let m = n.member in
+    let parts = IsStanding-from s a u.standing in
+    let before = IsMonitor-some (key_of s a.ring.0) (keyed s a.ring.0) (in_view s) a.accused a.accuser parts.monitored in
+    let next : next_of l m a.ring.0 ≡ successor (with_accepted s n) a.ring.0 m = ap (λ b. cond b (live_successor l a.ring.0 m) None) joined ∙ live_successor-each l (with_accepted s n) a.ring.0 m h in
+    ap (λ b. eqb m a.accused || b) (ap (λ o. is_number o a.accused) next ∙ successor-others (key_of s a.ring.0) (keyed s a.ring.0) (in_view s) (in_view (with_accepted s n)) m a.accused out.others ∙ successor-of_monitor (key_of s a.ring.0) (keyed s a.ring.0) (in_view s) a.accused a.accuser before u.number parts.viewed m below out.was)
 
 any_by : (l : Life) (s : State) (p : Entry) (es : List Entry) → HoldsEach l s → ((k : ℕ) → get l.places k ≡ None → get l.notes k ≡ None) → IsUpheld s p → AllByRecursion (IsUpheld s) es → is_of_any l (map (λ p. p.0) es) p ≡ (list_any (λ a. eqb a.accused p.0.accused) (map (λ p. p.0) es) || list_any (λ a. eqb a.accused p.0.accuser) (map (λ p. p.0) es))
 any_by l s p [] h noted u each = refl

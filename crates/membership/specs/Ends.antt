@@ -8,6 +8,8 @@ use Rattle.ff_ids.specs.Views.{is_number, is_unanswered_by}
 use Rattle.ff_ids.specs.Steps.{precedes}
 use Rattle.removal_timer.specs.Kept.{IsInOrder, entry_at}
 use Rattle.membership.specs.Life.{Life, has_joined, live_successor}
+use Rattle.membership.specs.declared.kept.NoteEffect.{NoteEffect}
+use Rattle.membership.specs.declared.kept.NoteEffect.TheVariants.{Enters, Leaves, Stays}
 
 abbrev pub Entry : Type 0
 Entry = AccBody × ℕ
@@ -36,6 +38,13 @@ is_of l m p = (m == p.0.accused) || is_against_next l m p
 abbrev pub is_of_any : Life → List AccBody → Entry → Bool
 is_of_any l expired p = list_any (λ a. is_of l a.accused p) expired
 
+-- What an accepted note ends, by what it did: what is kept against the successors of a member that entered, and against a
+-- member that left and its successors; else what the note answers.
+abbrev pub is_ended_by : Life → NoteBody → NoteEffect → Entry → Bool
+is_ended_by l n Enters p = is_against_next l n.member p
+is_ended_by l n Leaves p = is_of l n.member p
+is_ended_by l n Stays p = is_answered n p
+
 -- Of these accusations those against the member's successors are those by the member.
 abbrev pub AreTheirs : Life → ℕ → List Entry → Type 0
 AreTheirs l m kept = AllByRecursion (λ p. is_of l m p ≡ ((m == p.0.accused) || (m == p.0.accuser))) kept
@@ -51,10 +60,6 @@ is_on accused ring p = (p.0.ring.0 == ring) && is_number accused p.0.accused
 -- It is against the member that is named for its ring.
 abbrev pub is_named : List (Option ℕ) → Entry → Bool
 is_named named p = is_number (slice_index_or named p.0.ring.0 None) p.0.accused
-
--- The list names for the ring of each entry the same of its accused as the function does.
-abbrev pub AreNamed : List (Option ℕ) → (ℕ → Option ℕ) → List Entry → Type 0
-AreNamed named of kept = AllByRecursion (λ p. is_named named p ≡ is_number (of p.0.ring.0) p.0.accused) kept
 
 -- The list with one more accusation that fell, in order of the accused, then of the ring.
 abbrev pub with_fallen : AccBody → List AccBody → List AccBody

@@ -1,12 +1,14 @@
 -- What is kept of each member: its places, its newest note, and the greatest epoch of an accusation against it
 -- that expired.
-use Rattle.std.specs.Prelude.{ℕ, Bool, false, ◌&&◌, not, nat_le, max, if◌then◌else◌, List, [], ◌∷◌, Option, Some, unwrap_or, map, filter}
+use Rattle.std.specs.Prelude.{ℕ, Bool, true, false, ◌&&◌, nat_le, max, if◌then◌else◌, List, [], ◌∷◌, Option, Some, unwrap_or, map, filter}
 use Rattle.std.specs.Option.{option_map_or}
 use Rattle.std.specs.Ordering.{nat_cmp}
 use Rattle.std.specs.FinMap.{FinMap, get, insert}
 use Rattle.ff_ids.specs.declared.NoteBody.{NoteBody}
 use Rattle.ff_ids.specs.declared.AccBody.{AccBody}
 use Rattle.ff_ids.specs.Views.{Member, all_numbers, in_view_by}
+use Rattle.membership.specs.declared.kept.NoteEffect.{NoteEffect}
+use Rattle.membership.specs.declared.kept.NoteEffect.TheVariants.{Enters, Leaves, Stays}
 
 -- By the number of the member.
 abbrev pub ByNumber : Type 0 → Type 0
@@ -33,9 +35,16 @@ member_at places m = record { number = m; places = places_at places m }
 abbrev pub live_members : ByNumber (List (List ℕ)) → ByNumber NoteBody → ByNumber ℕ → List Member
 live_members places notes expired = map (member_at places) (filter (is_live_at notes expired) all_numbers)
 
--- The note brings its member in.
-abbrev pub comes_in : ℕ → Option NoteBody → NoteBody → Bool
-comes_in expired kept n = not (is_live expired kept) && is_live expired (Some n)
+-- What a note did, by whether its member was in the view before it, and whether it is after.
+abbrev pub effect_between : Bool → Bool → NoteEffect
+effect_between false true = Enters
+effect_between true false = Leaves
+effect_between false false = Stays
+effect_between true true = Stays
+
+-- What a note does that takes the place of the newest, if there is one.
+abbrev pub effect_by : ℕ → Option NoteBody → NoteBody → NoteEffect
+effect_by expired kept n = effect_between (is_live expired kept) (is_live expired (Some n))
 
 -- The accusation takes its member out of the view: its note is live, and of no greater epoch.
 abbrev pub takes_out : ℕ → Option NoteBody → AccBody → Bool

@@ -12,7 +12,8 @@ use Rattle.ff_ids.specs.Views.{key_at}
 use Rattle.ff_ids.specs.Faults.{Facts, note_fault_by, accusation_fault_by}
 use Rattle.monitor_rule.specs.Joined.{Joined, keys_on}
 use Rattle.removal_timer.specs.Kept.{Kept as Timed, IsInOrder, AreUntil, entry_at}
-use Rattle.membership.specs.Kept.{ByNumber, places_at, expired_at, is_live_at, live_members, comes_in}
+use Rattle.membership.specs.Kept.{ByNumber, places_at, expired_at, is_live_at, live_members, effect_by}
+use Rattle.membership.specs.declared.kept.NoteEffect.{NoteEffect}
 
 -- What is kept: the group, the ticks so far, by number the places, the newest note and the greatest epoch that
 -- expired, and the accusations kept, each with the tick of its acceptance.
@@ -88,9 +89,9 @@ facts_in l a =
 abbrev pub accusation_fault_in : Life → AccBody → Option Fault
 accusation_fault_in l a = accusation_fault_by l.group.t (facts_in l a) a
 
--- The note brings its member into the view.
-abbrev pub is_newcomer : Life → NoteBody → Bool
-is_newcomer l n = comes_in (expired_at l.expired n.member) (get l.notes n.member) n
+-- What the note does to its member's place in the view.
+abbrev pub effect_in : Life → NoteBody → NoteEffect
+effect_in l n = effect_by (expired_at l.expired n.member) (get l.notes n.member) n
 
 -- The life with the note as the newest of its member.
 abbrev pub with_note : Life → NoteBody → Life

@@ -1,39 +1,46 @@
 //! Which kept accusations a step ends: only those that it touches are looked at.
 
-ghost use Rattle.std.specs.Prelude.{◌≡◌, ℕ, ◌<◌, ◌≤◌, ◌+◌, ◌||◌, true, not, [], List, None, Some, All, length, if◌then◌else◌, map, filter, slice_index_or};
+ghost use Rattle.std.specs.Prelude.{◌≡◌, ℕ, ◌<◌, ◌≤◌, ◌+◌, ◌||◌, true, not, [], List, None, Some, All, length, map, filter, slice_index_or};
 ghost use Rattle.std.specs.Option.{option_map_or};
 ghost use Rattle.std.specs.Bool.{OnTrue};
 ghost use Rattle.ff_ids.specs.declared.TheConstants.{MAX_RINGS};
 ghost use Rattle.ff_ids.specs.Masks.{ring_count};
 ghost use Rattle.ff_ids.specs.Views.{is_unanswered_by as note_leaves};
 ghost use Rattle.membership.specs.declared.report.TheConstants.{ACCUSATIONS};
-ghost use Rattle.membership.specs.Ends.{AreNamed, AreTheirs, Entry, Ends, HasEnded, IsAgain, next_of, answered_on, is_on, is_named, is_of, is_of_any, with_fallen};
+ghost use Rattle.membership.specs.Ends.{AreTheirs, Entry, Ends, HasEnded, IsAgain, next_of, answered_on, is_ended_by, is_on, is_named, is_of, is_of_any, with_fallen};
+ghost use Rattle.membership.specs.declared.kept.NoteEffect.TheVariants as effects;
 ghost use Rattle.removal_timer.specs.Kept.{is_at, entry_at, IsInOrder};
 
 use crate::Membership;
-use crate::kept::{successors, successors_of_last};
+use crate::kept::{NoteEffect, successors, successors_of_last};
 use crate::report::Changes;
 use ff_ids::{AccBody, MAX_RINGS, MemberId, NoteBody, RingNo};
 
 impl Membership {
-    /// For each ring the member, if there is one, against which a kept accusation ends after this note was
-    /// accepted: the successor of a member that entered, else the member itself where the note answers. Where
-    /// nothing is kept no ring is looked at.
-    pub(crate) fn ended_by(
-        &self,
-        note: &NoteBody,
-        enters: bool,
-    ) -> [Option<MemberId>; MAX_RINGS as usize]
-        ensures { AreNamed result
-            (λ ring. if enters then next_of self.now note.now.member ring else answered_on
-            self.now note.now ring) self.now.kept }
+    /// Ends what an accepted note ends: of a member that entered what is kept against its successors, of one that left
+    /// what is kept against it or by it, else what the note answers. Where nothing is kept no ring is looked at.
+    pub(crate) fn end_by_note(&mut self, note: &NoteBody, effect: NoteEffect, out: &mut Changes)
+        requires { length out.old.fell + length self.old.kept ≤ ACCUSATIONS }
+        ensures ends { (effect ≡ effects.Leaves
+            → AreTheirs self.old note.now.member self.old.kept)
+            → Ends (ring_count self.old.group.t) (is_ended_by self.old note.now effect)
+            self.old.kept out.old.fell self.new.kept out.new.fell }
+        ensures rest { self.new ≡ record self.old { kept = self.new.kept } }
+        ensures report { out.new ≡ record out.old { fell = out.new.fell } }
     {
         if self.timers.is_empty() {
-            [None; MAX_RINGS as usize]
-        } else if enters {
-            self.next_after_last(note.member)
-        } else {
-            self.answered_by(note)
+            return;
+        }
+        match effect {
+            NoteEffect::Enters => {
+                let successors = self.next_after_last(note.member);
+                self.end_named(&successors, out);
+            }
+            NoteEffect::Leaves => self.end_of(note.member, out),
+            NoteEffect::Stays => {
+                let answered = self.answered_by(note);
+                self.end_named(&answered, out);
+            }
         }
     }
 

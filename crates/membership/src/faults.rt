@@ -9,7 +9,7 @@ ghost use Rattle.membership.specs.Holds.{Holds};
 
 use crate::Membership;
 use crate::kept::{fault_beside, is_live};
-use ff_ids::{AccBody, Fault, NoteBody, good_mask};
+use ff_ids::{AccBody, Fault, NoteBody, note_mask};
 use ring_order::steps::Steps;
 use std::marker::Brand;
 use std::sync::ledger::{Blank, Ledger};
@@ -40,7 +40,7 @@ impl Membership {
         if !self.is_member(note.member) {
             return Some(Fault::UnknownMember);
         }
-        if !good_mask(self.group.t, note.mask) {
+        if !note_mask(self.group.t, note.mask) {
             return Some(Fault::BadMask);
         }
         match self.notes.get(note.member) {

@@ -2,19 +2,31 @@
 
 ghost use Rattle.std.specs.Prelude.{◌≡◌, ℕ, ◌<◌, ◌≤◌, ◌&&◌, not, nat_lt, max, None, Some, length, slice_index_or};
 ghost use Rattle.std.specs.FinMap.{get};
+ghost use Rattle.std.specs.Option.{option_copied};
 ghost use Rattle.ff_ids.specs.declared.TheConstants.{MAX_RINGS};
 ghost use Rattle.ff_ids.specs.Notes.{note_cmp};
 ghost use Rattle.ff_ids.specs.Faults.{fault_beside as note_fault_beside};
 ghost use Rattle.ff_ids.specs.Rings.{nearest_after as number_after};
 ghost use Rattle.ff_ids.specs.Views.{key_at};
 ghost use Rattle.monitor_rule.specs.Joined.{keys_on};
-ghost use Rattle.membership.specs.Kept.{expired_at, is_live as is_live_by, is_live_at, comes_in, takes_out as acc_takes_out, raise as raised_by};
+ghost use Rattle.membership.specs.Kept.{expired_at, is_live as is_live_by, is_live_at, effect_by, takes_out as acc_takes_out, raise as raised_by};
 
 use crate::ByMember;
 use ff_ids::{AccBody, Epoch, Fault, MAX_RINGS, MemberId, NoteBody, RingNo};
 use monitor_rule::Rings;
 use ring_order::Places;
 use std::cmp::Ordering;
+
+/// What an accepted note does to its member's place in the view.
+#[derive(Clone, Copy)]
+pub enum NoteEffect {
+    /// The member was out of the view, and is in it now.
+    Enters,
+    /// The member was in the view, and left it by the note.
+    Leaves,
+    /// The member is in the view, or out of it, as before.
+    Stays,
+}
 
 /// The greatest epoch of an accusation against the member that expired, 0 for none.
 fn expired_epoch(expired: &ByMember<Epoch>, member: MemberId) -> u64
@@ -26,21 +38,21 @@ fn expired_epoch(expired: &ByMember<Epoch>, member: MemberId) -> u64
     }
 }
 
-/// Whether the note, as the newest of its member, has it in the view, given the greatest epoch that expired.
-fn is_viewed(note: &NoteBody, expired: u64) -> bool
-    ensures { result ≡ is_live_by expired (Some note.now) }
+/// Whether the newest note, if there is one, has its member in the view, given the greatest epoch that expired.
+fn is_viewed(newest: Option<&NoteBody>, expired: u64) -> bool
+    ensures { result ≡ is_live_by expired (option_copied newest.entry) }
 {
-    note.in_view(note.epoch.get() <= expired)
+    match newest {
+        Some(note) => note.in_view(note.epoch.get() <= expired),
+        None => false,
+    }
 }
 
 /// Whether the member is in the view.
 pub fn is_live(notes: &ByMember<NoteBody>, expired: &ByMember<Epoch>, member: MemberId) -> bool
     ensures { result ≡ is_live_at notes.now expired.now member }
 {
-    match notes.get(member) {
-        Some(note) => is_viewed(note, expired_epoch(expired, member)),
-        None => false,
-    }
+    is_viewed(notes.get(member), expired_epoch(expired, member))
 }
 
 /// How the note compares with the newest: a smaller one is older, an equal one is known.
@@ -58,13 +70,25 @@ pub fn fault_beside(kept: &NoteBody, note: &NoteBody) -> Option<Fault>
     }
 }
 
-/// Whether the note brings its member into the view.
-pub fn brings_in(notes: &ByMember<NoteBody>, expired: &ByMember<Epoch>, note: &NoteBody) -> bool
+/// What the note does to its member's place in the view, where it is accepted.
+pub fn effect_of(
+    notes: &ByMember<NoteBody>,
+    expired: &ByMember<Epoch>,
+    note: &NoteBody,
+) -> NoteEffect
     ensures { result
-        ≡ comes_in (expired_at expired.now note.now.member) (get notes.now note.now.member)
+        ≡ effect_by (expired_at expired.now note.now.member) (get notes.now note.now.member)
         note.now }
 {
-    !is_live(notes, expired, note.member) && is_viewed(note, expired_epoch(expired, note.member))
+    let epoch = expired_epoch(expired, note.member);
+    match (
+        is_viewed(notes.get(note.member), epoch),
+        is_viewed(Some(note), epoch),
+    ) {
+        (false, true) => NoteEffect::Enters,
+        (true, false) => NoteEffect::Leaves,
+        _ => NoteEffect::Stays,
+    }
 }
 
 /// Whether the accusation takes its member out of the view.
@@ -75,7 +99,7 @@ pub fn takes_out(notes: &ByMember<NoteBody>, expired: &ByMember<Epoch>, acc: &Ac
 {
     match notes.get(acc.accused) {
         Some(note) => {
-            is_viewed(note, expired_epoch(expired, acc.accused))
+            is_viewed(Some(note), expired_epoch(expired, acc.accused))
                 && note.epoch.get() <= acc.epoch.get()
         }
         None => false,

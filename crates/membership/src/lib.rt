@@ -4,7 +4,7 @@
 //! the replay of plain records.
 #![tactic(auto)]
 
-ghost use Rattle.std.specs.Prelude.{◌≡◌, ℕ, ◌<◌, ◌≤◌, ◌+◌, ◌-◌, ◌*◌, ◌^◌, true, not, [], Option, None, Some, length, if◌then◌else◌, map, filter, slice_index_or, IfOk, IfSome, OnOk, OnErr};
+ghost use Rattle.std.specs.Prelude.{◌≡◌, ℕ, ◌<◌, ◌≤◌, ◌+◌, ◌-◌, ◌*◌, ◌^◌, true, false, not, [], ◌∷◌, Option, None, Some, length, if◌then◌else◌, map, filter, slice_index_or, IfOk, IfSome, OnOk, OnErr};
 ghost use Rattle.std.specs.Ordering.{nat_cmp};
 ghost use Rattle.std.specs.FinMap.{get, insert, empty};
 ghost use Rattle.ff_ids.specs.declared.TheConstants.{MEMBERS, MAX_RINGS, MAX_TOLERANCE};
@@ -15,10 +15,10 @@ ghost use Rattle.ff_ids.specs.Faults.{note_fault as note_fault_of, accusation_fa
 ghost use Rattle.ff_ids.specs.Steps.{after_note, after_accusation, with_kept, after_tick, joined, is_due, nothing};
 ghost use Rattle.ff_ids.specs.Lives.{opening};
 ghost use Rattle.membership.specs.Kept.{expired_at, is_live_at, takes_out as acc_takes_out, raise as raise_by, raised, leavers};
-ghost use Rattle.membership.specs.Life.{has_joined, live_monitor, live_count, note_fault_in, accusation_fault_in, is_newcomer, with_note};
+ghost use Rattle.membership.specs.Life.{has_joined, live_monitor, live_count, note_fault_in, accusation_fault_in, effect_in, with_note};
 ghost use Rattle.membership.specs.Ends.{Ends, next_of, answered_on, is_named, is_of, is_of_any, with_fallen};
 ghost use Rattle.membership.specs.Holds.{Holds};
-ghost use Rattle.membership.specs.Reports.{Answers, kept_against};
+ghost use Rattle.membership.specs.Reports.{Answers, Moves, enters_by, leaves_by, kept_against};
 ghost use Rattle.membership.specs.Ticks.{after_ticks};
 ghost use Rattle.removal_timer.specs.Kept.{IsInOrder};
 
@@ -33,7 +33,7 @@ mod report;
 pub use by_member::ByMember;
 use ff_ids::{AccBody, Epoch, Fault, Group, MemberId, NoteBody, RingNo};
 use fields::NoMemory;
-use kept::{brings_in, is_live};
+use kept::{NoteEffect, effect_of, is_live};
 pub use laws::only_the_touched_end;
 use monitor_rule::Rings;
 use removal_timer::Timers;
@@ -239,6 +239,12 @@ impl Membership {
             → OnOk result (Holds self.new (after_note s note).state) }
         ensures changes { (s : State) → Holds self.old s
             → OnOk result (out.new ≡ (after_note s note).report) }
+        ensures enters { (s : State) → Holds self.old s → enters_by s note ≡ true
+            → OnOk result (Moves out.new (note.member ∷ []) []) }
+        ensures leaves { (s : State) → Holds self.old s → leaves_by s note ≡ true
+            → OnOk result (Moves out.new [] (note.member ∷ [])) }
+        ensures stays { (s : State) → Holds self.old s → enters_by s note ≡ false
+            → leaves_by s note ≡ false → OnOk result (Moves out.new [] []) }
         ensures same { OnErr result (self.new ≡ self.old) }
         ensures emptied { OnErr result (out.new ≡ nothing) }
         ensures group { self.new.group ≡ self.old.group }
@@ -249,10 +255,9 @@ impl Membership {
         if let Some(fault) = self.fault_of_note(&note) {
             return Err(fault);
         }
-        let enters = self.accept(&note);
-        out.report_entered(enters, note.member);
-        let ended = self.ended_by(&note, enters);
-        self.end_named(&ended, out);
+        let effect = self.accept(&note);
+        out.report_effect(effect, note.member);
+        self.end_by_note(&note, effect, out);
         Ok(())
     }
 
@@ -376,24 +381,28 @@ impl Membership {
         self.timers.set(acc, self.moment);
     }
 
-    /// Makes a note without a fault the newest of its member. The answer is whether that brings the member into
-    /// the view.
-    fn accept(&mut self, note: &NoteBody) -> bool
+    /// Makes a note without a fault the newest of its member, and puts the member on the rings or takes it off them.
+    /// The answer is what the note does.
+    fn accept(&mut self, note: &NoteBody) -> NoteEffect
         requires { note_fault_in self.old note.now ≡ None }
-        ensures value { result ≡ is_newcomer self.old note.now }
+        ensures value { result ≡ effect_in self.old note.now }
         ensures kept { self.new ≡ with_note self.old note.now }
         ensures positive { 0 < note.now.epoch }
         ensures range { note.now.member < MEMBERS }
         ensures in_order { IsInOrder (ring_count self.old.group.t) self.old.kept }
         ensures few { ring_count self.old.group.t ≤ MAX_RINGS }
     {
-        let enters = brings_in(&self.notes, &self.expired, note);
+        let effect = effect_of(&self.notes, &self.expired, note);
         let _epoch = note.epoch.get();
         self.notes.set(note.member, *note);
-        if enters {
-            let places = self.places.get(note.member).unwrap();
-            self.rings.join(note.member, places);
+        match effect {
+            NoteEffect::Enters => {
+                let places = self.places.get(note.member).unwrap();
+                self.rings.join(note.member, places);
+            }
+            NoteEffect::Leaves => self.rings.leave(note.member),
+            NoteEffect::Stays => {}
         }
-        enters
+        effect
     }
 }

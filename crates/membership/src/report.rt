@@ -1,10 +1,12 @@
 //! What one step reports.
 
-ghost use Rattle.std.specs.Prelude.{◌≡◌, [], ◌∷◌, ◌++◌, length, ◌≤◌, ◌<◌, not, map, filter, if◌then◌else◌, IfOk};
+ghost use Rattle.std.specs.Prelude.{◌≡◌, [], ◌∷◌, ◌++◌, length, ◌≤◌, ◌<◌, not, map, filter, IfOk};
 ghost use Rattle.std.specs.List.{prefix_len};
 ghost use Rattle.ff_ids.specs.Steps.{precedes as acc_comes_first, is_due, nothing};
 ghost use Rattle.membership.specs.Ends.{with_fallen};
+ghost use Rattle.membership.specs.Reports.{told_of};
 
+use crate::kept::NoteEffect;
 use ff_ids::{AccBody, MAX_ACCUSATIONS, MEMBERS, MemberId};
 use fields::NoMemory;
 use removal_timer::Timers;
@@ -92,14 +94,15 @@ impl Changes {
         self.fell.clear();
     }
 
-    /// Reports that the member entered, if it did.
-    pub(crate) fn report_entered(&mut self, enters: bool, member: MemberId)
-        requires { self.old.entered ≡ [] }
-        ensures { self.new
-            ≡ record self.old { entered = (if enters then member ∷ [] else []) } }
+    /// Reports what a note did to its member's place in the view.
+    pub(crate) fn report_effect(&mut self, effect: NoteEffect, member: MemberId)
+        requires { self.old ≡ nothing }
+        ensures { self.new ≡ told_of effect member }
     {
-        if enters {
-            self.entered.push_reserved(member);
+        match effect {
+            NoteEffect::Enters => self.entered.push_reserved(member),
+            NoteEffect::Leaves => self.removed.push_reserved(member),
+            NoteEffect::Stays => {}
         }
     }
 
