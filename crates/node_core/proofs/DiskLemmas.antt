@@ -1,5 +1,5 @@
 -- A node over a disk whose state is modelled: steps, and then calls.
-use Rattle.std.proofs.Common.{◌≡◌, ℕ, suc, ◌+◌, Bool, true, false, eqb, cond, not, Option, Some, None, List, [], ◌∷◌, refl, sym, ap, ◌∙◌, subst, arith, eq-eqb, inl, inr, Result, Ok, Err}
+use Rattle.std.proofs.Common.{◌≡◌, ℕ, ◌+◌, Bool, true, false, eqb, cond, not, Option, Some, None, List, [], ◌∷◌, refl, sym, ap, ◌∙◌, subst, arith, eq-eqb, inl, inr, Result, Ok, Err}
 use Rattle.std.specs.Prelude.{fold, ◌++◌, OnOk, IfErr, is_err}
 use Rattle.std.specs.Option.{option_map}
 use Rattle.datagram.specs.declared.Datagram.TheVariants as kinds
@@ -13,7 +13,7 @@ use Rattle.epoch_store.specs.declared.Stored.{Stored}
 use Rattle.epoch_store.specs.declared.seat.Seat.{Seat}
 use Rattle.epoch_store.specs.Seat.{next_seat}
 use Rattle.epoch_store.specs.Asked.{put_calls}
-use Rattle.epoch_store.specs.Placed.{PlacedStore, put_on, put_passes, after_put}
+use Rattle.epoch_store.specs.Placed.{PlacedStore, put_on, put_passes}
 use Rattle.records.specs.declared.Body.{Body}
 use Rattle.records.specs.declared.Record.{Record}
 use Rattle.records.specs.Signing.{CheckedRecord}

@@ -1,13 +1,12 @@
 -- Whom a node gossips with, and of which page.
-use Rattle.std.proofs.Common.{◌≡◌, ℕ, ◌+◌, ◌%◌, ◌<◌, Bool, true, false, cond, List, [], ◌∷◌, ◌++◌, Option, Some, None, is_some, filter, length, get_or, take, refl, ap, sym, ◌∙◌}
+use Rattle.std.proofs.Common.{◌≡◌, ℕ, ◌+◌, ◌<◌, Bool, cond, List, [], ◌∷◌, ◌++◌, Option, Some, None, is_some, filter, length, get_or, take, refl, ap, sym, ◌∙◌}
 use Rattle.std.specs.Prelude.{unwrap_or}
 use Rattle.std.specs.List.{last_or, range_with_len}
-use Rattle.std.specs.Option.{option_or}
 use Rattle.std.proofs.lemmas.Bool.{cond_both}
 use Rattle.std.proofs.lemmas.List.{take_more}
 use Rattle.ff_ids.specs.declared.Group.{Group}
 use Rattle.ff_ids.specs.Masks.{ring_count}
-use Rattle.ff_ids.specs.Views.{all_numbers, successor}
+use Rattle.ff_ids.specs.Views.{all_numbers}
 use Rattle.validate.specs.Certified.{certificate_of as kept_certificate}
 use Rattle.gossip.specs.Partners as gossip
 use Rattle.node_rules.specs.Nodes.{Setting, Node, state_of, certified}

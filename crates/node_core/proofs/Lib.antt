@@ -18,4 +18,5 @@ pub mod AccusingLemmas
 pub mod TickLemmas
 pub mod DiskLemmas
 pub mod TickDiskLemmas
+pub mod LeaveLemmas
 pub mod StartLemmas

@@ -14,7 +14,7 @@ use Rattle.ff_ids.specs.declared.summary.RecordKey.{RecordKey}
 use Rattle.ff_ids.specs.declared.summary.RecordKey.TheVariants as keys
 use Rattle.ff_ids.specs.Lives.{opening}
 use Rattle.ff_ids.specs.Steps.{Event, Notes, Report, Stepped, after_note, step, unless_fault}
-use Rattle.ff_ids.specs.Masks.{enables, good_mask}
+use Rattle.ff_ids.specs.Masks.{enables, note_mask}
 use Rattle.ff_ids.specs.Notes.{greater_note, newest, note_cmp}
 use Rattle.ff_ids.specs.Views.{State, is_member}
 use Rattle.ff_ids.specs.declared.Fault.{Fault}
@@ -223,7 +223,7 @@ one-more : (st : State) (n : NoteBody) → fault_after (newest st.notes n.member
 one-more st n after = rw (eq-eqb n.member n.member refl) (ap (λ (x : NoteBody). Some x) (greater-after n (newest st.notes n.member) after))
 
 after-fine : (t : ℕ) (joined : Bool) (kept : Option NoteBody) (n : NoteBody) → note_fault_by t joined kept n ≡ None → fault_after kept n ≡ None
-after-fine t joined kept n fine = (passed (not (good_mask t n.mask.0)) faults.BadMask _ (passed (not joined) faults.UnknownMember _ fine).1).1
+after-fine t joined kept n fine = (passed (not (note_mask t n.mask.0)) faults.BadMask _ (passed (not joined) faults.UnknownMember _ fine).1).1
 
 unless-none : (fault : Option Fault) (st : State) (next : Stepped) → fault ≡ None → unless_fault fault st next ≡ next
 unless-none fault st next h = rw h refl

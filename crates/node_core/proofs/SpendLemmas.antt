@@ -18,7 +18,7 @@ use Rattle.node_core.specs.declared.NodeFault.TheVariants as faults
 use Rattle.node_core.specs.Told.{Tellings, Adds, IsPrefix, with_event, with_report, with_sent}
 use Rattle.node_core.specs.Playing.{Kept, Grows}
 use Rattle.node_core.specs.Spending.{spent_by, spent_told, LivesOn, SignsNothing, IsAllButLast, TellsOf, TellsSpent, Spends, TellsSo, SpendsIn, SpendsUntold, StartSpends}
-use Rattle.node_core.proofs.TellingLemmas.{nil-right, front-trans, append-cancel, map-append}
+use Rattle.node_core.proofs.TellingLemmas.{nil-right, append-cancel, map-append}
 
 -- ---- what events report
 

@@ -1,5 +1,5 @@
 -- A tick over a disk whose state is modelled.
-use Rattle.std.proofs.Common.{◌≡◌, ℕ, Bool, true, false, Option, Some, List, refl, sym, ap, ◌∙◌, subst}
+use Rattle.std.proofs.Common.{◌≡◌, ℕ, true, false, Option, List, refl, sym, ap, ◌∙◌, subst}
 use Rattle.std.specs.Prelude.{fold}
 use Rattle.ports.specs.MemoryDisk.{DiskState}
 use Rattle.epoch_store.specs.declared.seat.Seat.{Seat}
@@ -13,7 +13,6 @@ use Rattle.node_rules.specs.Ticking.{gossips, is_due, pings_all, round_of, passe
 use Rattle.node_rules.specs.OnDisks.{OnDisk, accuses_on, due_on, ticked_on}
 use Rattle.node_rules.proofs.GoingOn.{on-pings_all, on-summary, on-probed}
 use Rattle.node_core.specs.Playing.{Kept, IsAt}
-use Rattle.node_core.specs.Spending.{SignsNothing}
 use Rattle.node_core.specs.Ticks.{seen}
 use Rattle.node_core.specs.OnDisks.{ComesTo, on_disk, storage}
 use Rattle.node_core.proofs.TickLemmas.{FindsDue, now_of}

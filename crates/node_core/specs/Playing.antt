@@ -7,7 +7,7 @@ use Rattle.std.specs.FinMap.{get}
 use Rattle.ff_ids.specs.declared.Group.{Group}
 use Rattle.ff_ids.specs.declared.NoteBody.{NoteBody}
 use Rattle.ff_ids.specs.declared.summary.RecordKey.{RecordKey}
-use Rattle.ff_ids.specs.Masks.{good_mask}
+use Rattle.ff_ids.specs.Masks.{note_mask}
 use Rattle.lms_tree.specs.declared.key.PublicKey.{PublicKey}
 use Rattle.records.specs.declared.CertBody.{CertBody}
 use Rattle.lms_tree.specs.declared.secret.Secret.{Secret}
@@ -108,7 +108,7 @@ pub record IsReady (group : Group) (me : ℕ) (membership : Life) (records : Hel
   pub detector_group : detector.group ≡ group
   pub signer_group : signer.group ≡ group
   pub joined : has_joined membership me ≡ true
-  pub good : good_mask group.t signer.state.mask.0 ≡ true
+  pub allowed : note_mask group.t signer.state.mask.0 ≡ true
   pub notes : HoldsNotes membership records
   pub newest_own : get membership.notes me ≡ own
   pub is_open : (not ended && signer.closed) ≡ false

@@ -115,7 +115,7 @@ impl Node {
         Ok(())
     }
 
-    /// One delivered record.
+    /// One delivered record. Where memory was refused none is accepted.
     pub(crate) fn handle<D: Disk>(
         &mut self,
         alloc: Global,
@@ -153,6 +153,9 @@ impl Node {
         ) {
             Ok(checked) => {
                 self.tell(What::Took { body, fault: None });
+                if self.telling.has_failed() {
+                    return Ok(());
+                }
                 self.accept(alloc, disk, checked, &body)
             }
             Err(fault) => {

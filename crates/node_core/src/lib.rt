@@ -16,6 +16,7 @@ mod gossiping;
 mod handling;
 mod hearing;
 mod kit;
+mod leaving;
 mod parts;
 mod roll;
 mod sending;

@@ -2,7 +2,7 @@
 
 ghost use Rattle.std.specs.Prelude.{◌≡◌, ℕ, ◌≤◌, ◌<◌, List, true, None, Some, IfOk, IfErr, is_err, is_some, OnOk};
 ghost use Rattle.std.specs.FinMap.{get};
-ghost use Rattle.ff_ids.specs.Masks.{ring_count, good_mask};
+ghost use Rattle.ff_ids.specs.Masks.{ring_count, note_mask};
 ghost use Rattle.ports.specs.Count.{counted};
 ghost use Rattle.journal.specs.declared.event.Event as journal;
 ghost use Rattle.records.specs.declared.Body.TheVariants as bodies;
@@ -72,7 +72,7 @@ impl Node {
         disk: &mut D,
         mask: Mask,
     ) -> Result<(), NodeFault>
-        requires good { good_mask self.old.group.t mask.0 ≡ true }
+        requires allowed { note_mask self.old.group.t mask.0 ≡ true }
         requires open { IsInCall self.old }
         ensures plays { (s : Setting) (es : List journal.Event) (os : List (ℕ × List ℕ)) (c : Call)
             → Plays s es os self.old c

@@ -59,7 +59,8 @@ impl Node {
         }
     }
 
-    /// What a due tick brings behind that of the life: the accusations, then the pings, then the summary.
+    /// What a due tick brings behind that of the life: the accusations, then the pings, then the summary. Behind a refusal of
+    /// memory none goes out.
     fn pass_due<D: Disk>(
         &mut self,
         alloc: Global,
@@ -88,6 +89,9 @@ impl Node {
     {
         let Due { silent, pings } = due;
         self.accuse_all(alloc, disk, silent)?;
+        if self.telling.has_failed() {
+            return Ok(());
+        }
         self.ping_all(alloc, &pings);
         self.gossip(alloc, round);
         Ok(())

@@ -20,6 +20,7 @@ use Rattle.node_rules.specs.Refusals.{refusal, refusal_of}
 use Rattle.node_rules.specs.Calls.{Call, begun, lives, takes, spends, signs, sends, own_record, is_used_up}
 use Rattle.node_rules.specs.Deliveries.{answer_to, answering_note}
 use Rattle.node_rules.specs.Starting.{blank, opened, started, first_note}
+use Rattle.node_rules.specs.Leaving.{leaving, leaving_note}
 use Rattle.node_rules.specs.Lives.{Input, call_of, after_calls}
 use Rattle.node_rules.specs.Vouching.{OwnSignaturesVerify}
 use Rattle.node_rules.specs.OneExchange.{Life, node_after, IsCorrect, IsSignedBy, HoldsItsLife}
@@ -107,6 +108,14 @@ accuses-accuses s own a c some sign by left h =
           h.accused;
     }
 
+accuses-leaves : (s : Setting) (own : PublicKey) (c : Call) → 1 ≤ s.group.t → OwnSignaturesVerify s own → is_used_up s c.node ≡ false → Accuses s own c.node → Accuses s own (signs s (leaving s c.node.stored) c).node
+accuses-leaves s own c some sign left h =
+    let x : NoteBody = leaving_note s c.node.stored in
+    record {
+      all = (keeping-all s own some sign).departed c left h.all;
+      accused = accused-signs s (Note x) c (follows-signs s c.node (Note x) c (note-is_none x) (follows-itself s c.node)) (λ a e. absurd (not_an_accusation x a e)) h.accused;
+    }
+
 accuses-passes : (s : Setting) (own : PublicKey) (c : Call) → 1 ≤ s.group.t → OwnSignaturesVerify s own → Accuses s own c.node → Accuses s own (lives s Ticks c).node
 accuses-passes s own c some sign h =
     let later : Node = (lives s Ticks c).node in
@@ -137,6 +146,7 @@ accusing s own some sign =
       taken = λ r c fine h. accuses-takes s own r c some sign fine h;
       answered = λ r a c fine is me left h. accuses-answers s own r a c some sign fine is me left h;
       accused = λ a c by left h. accuses-accuses s own a c some sign by left h;
+      departed = λ c left h. accuses-leaves s own c some sign left h;
       stopped = λ c h. h;
       passed = λ c h. accuses-passes s own c some sign h;
       probed = λ p c h. accuses-probed s own c p some sign h;

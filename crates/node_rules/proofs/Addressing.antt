@@ -43,11 +43,12 @@ use Rattle.node_rules.specs.Calls.{Call, begun, tells, lives, takes, spends, sig
 use Rattle.node_rules.specs.Deliveries.{answer_to, answers, judged, handles, handles_all, is_other, gives, replies, exchanges, pinged, ponged_by, hears, delivered}
 use Rattle.node_rules.specs.Ticking.{accusation_on, ring_for, has_accused, wants_accusation, accuses, accuses_all, is_due, silent_in, watched_by, pings_in, probes_after, pings_all, summary_to, round_of, passed, probed_at, due_tick, ticked}
 use Rattle.node_rules.specs.Starting.{blank, opened, started, first_note}
-use Rattle.node_rules.specs.Lives.{Input, Delivers, Ticks, call_of, after_calls}
+use Rattle.node_rules.specs.Leaving.{leaving, leaves, left}
+use Rattle.node_rules.specs.Lives.{Input, Delivers, Ticks, call_of, after_calls, Leaves}
 use Rattle.node_rules.specs.OnRings.{Succeeds}
 use Rattle.node_rules.specs.OneExchange.{Life, node_after, IsCorrect, IsWithinRanges, IsOfBytes}
 use Rattle.node_rules.specs.Addressing.{AddressesOthers, HasPort}
-use Rattle.node_rules.proofs.Called.{delivered_until, ticked_until}
+use Rattle.node_rules.proofs.Called.{delivered_until, ticked_until, left_until}
 use Rattle.node_rules.proofs.Small.{state_of-lives, state-takes, node-sends}
 use Rattle.node_rules.proofs.Accusations.{found, found-number, lively, watches, listed-viewed}
 use Rattle.node_rules.proofs.RingLemmas.{ring-lowest, neighbours-are, accused-addressed}
@@ -456,6 +457,18 @@ addresses-ticked s n h =
     (λ due. addresses-due s (silent_in s p st) (pings_in s p st) (round_of s st) (probed_at s n) (λ q i. other-probed s n q.0 (pinged-other s p q h0.members i)) h1)
     (λ never. h1)
 
+-- ---- leaving
+
+addresses-leaves : (s : Setting) (works : Bool) (c : Call) → Addresses s c → Addresses s (leaves works s c)
+unfolding leaves
+addresses-leaves s works c h =
+    let b : Body = leaving s c.node.stored in
+    addresses-wants s works b (neighbours s) c (λ h1 to i. neighbour-other s (signs s b c).node to h1.members i) h
+
+addresses-left : (s : Setting) (n : Node) → Addresses s (begun n) → Addresses s (left s n)
+unfolding left
+addresses-left s n h = addresses-leaves s true (begun n) h
+
 -- ---- calls, and lives
 
 addresses-begun : (s : Setting) (n : Node) → AreCertified s n → Addresses s (begun n)
@@ -464,6 +477,7 @@ addresses-begun s n members = record { members = members; sent = λ d i. absurd 
 addresses-call : (s : Setting) (n : Node) (i : Input) → AreCertified s n → Addresses s (call_of s n i)
 addresses-call s n (Delivers bytes) members = addresses-delivered s n bytes (addresses-begun s n members)
 addresses-call s n Ticks members = addresses-ticked s n (addresses-begun s n members)
+addresses-call s n Leaves members = addresses-left s n (addresses-begun s n members)
 
 certified-calls : (s : Setting) (n : Node) (inputs : List Input) → AreCertified s n → AreCertified s (after_calls s n inputs)
 certified-calls s n [] members = members
@@ -511,6 +525,12 @@ ticked_until-addresses s seed certificates stored inputs silent m =
     let n : Node = after_calls s (started s seed certificates stored).node inputs in
     let c : Call = accuses_all s silent (probed_at s n) in
     all-addressed s (accuses false s c m) (addresses-accuses s false c m (addresses-accuses_all s silent (probed_at s n) (addresses-probed s n (addresses-begun s n (certified-life s seed certificates stored inputs)))))
+
+pub left_until-addresses : (s : Setting) (seed : List ℕ) (certificates : List Record) (stored : Stored) (inputs : List Input) → AddressesOthers s (left_until s (after_calls s (started s seed certificates stored).node inputs))
+unfolding left_until
+left_until-addresses s seed certificates stored inputs =
+    let n : Node = after_calls s (started s seed certificates stored).node inputs in
+    all-addressed s (leaves false s (begun n)) (addresses-leaves s false (begun n) (addresses-begun s n (certified-life s seed certificates stored inputs)))
 
 -- ---- ports
 

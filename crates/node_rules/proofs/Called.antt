@@ -1,6 +1,6 @@
 -- How far a call over a disk comes, whatever that is: to its end, or to a step in which the put fails. So each is the call
 -- in which one put fails, or none.
-use Rattle.std.proofs.Common.{◌≡◌, ◌⊎◌, ℕ, zero, suc, ◌+◌, ◌-◌, Bool, true, false, eqb, cond, List, [], ◌∷◌, ◌++◌, Option, Some, None, inl, inr, refl, ap, sym, ◌∙◌, subst, arith, take}
+use Rattle.std.proofs.Common.{◌≡◌, ◌⊎◌, ℕ, zero, suc, ◌+◌, Bool, true, false, eqb, cond, List, [], ◌∷◌, ◌++◌, Option, Some, None, inl, inr, refl, ap, sym, ◌∙◌, subst, arith, take}
 use Rattle.std.specs.Prelude.{Result, Ok, Err, fold}
 use Rattle.std.specs.List.{slice_get}
 use Rattle.std.proofs.lemmas.Bool.{cases_Bool, false≢true, eq-eqb}
@@ -21,10 +21,11 @@ use Rattle.node_rules.specs.Refusals.{refusal}
 use Rattle.node_rules.specs.Calls.{Call, begun, tells, takes, signs, signs_and_sends, wants, is_used_up, own_record}
 use Rattle.node_rules.specs.Deliveries.{answer_to, answers, judged, handles, handles_all, hears, delivered}
 use Rattle.node_rules.specs.Ticking.{accusation_on, ring_for, has_accused, wants_accusation, accuses, accuses_all, gossips, is_due, passed, pings_all, pings_in, probed_at, round_of, silent_in, silent_at, ticked, due_tick}
-use Rattle.node_rules.specs.OnDisks.{Input, Delivers, Ticks, Storage, OnDisk, puts, takes_step, steps_on, handles_on, hears_on, delivered_on, accuses_on, due_on, ticked_on, called_on, counting, called, IsCut}
+use Rattle.node_rules.specs.Leaving.{leaving, leaves, left}
+use Rattle.node_rules.specs.OnDisks.{Input, Delivers, Ticks, Leaves, Storage, OnDisk, puts, takes_step, steps_on, handles_on, hears_on, delivered_on, accuses_on, due_on, ticked_on, left_on, called_on, counting, called, IsCut}
 use Rattle.node_rules.specs.Lives.{call_of}
 use Rattle.node_rules.proofs.Small.{node-sends_to_all, stored-takes, stored-signs}
-use Rattle.node_rules.proofs.GoingOn.{on-handles, on-accuses, on-hears, on-pings_all, on-summary, on-probed}
+use Rattle.node_rules.proofs.GoingOn.{on-handles, on-accuses, on-leaves, on-hears, on-pings_all, on-summary, on-probed}
 
 -- The disk fails in the answer to the record behind these.
 unfoldable pub delivered_until : Setting → Node → List Record → Record → Call
@@ -33,6 +34,10 @@ delivered_until s n records r = handles false s (handles_all s records (begun n)
 -- The disk fails in the accusation of the member behind these.
 unfoldable pub ticked_until : Setting → Node → List ℕ → ℕ → Call
 ticked_until s n accused m = accuses false s (accuses_all s accused (probed_at s n)) m
+
+-- The disk fails in the note by which the node leaves.
+unfoldable pub left_until : Setting → Node → Call
+left_until s n = leaves false s (begun n)
 
 pub chosen : {A : Type 0} (b : Bool) (x y : A) → b ≡ true → cond b x y ≡ x
 chosen true x y e = refl
@@ -111,6 +116,10 @@ step-accuses s c m =
     step-unless c (has_accused s (state_of s c.node) m) (λ works. wants_accusation works s m (ring_for s (state_of s c.node) m) (tells s (told.Silent m) c))
     (step-wants_accusation s c (tells s (told.Silent m) c) m (ring_for s (state_of s c.node) m) refl)
 
+step-leaves : (s : Setting) (c : Call) → StepIs c (λ works. leaves works s c)
+unfolding leaves
+step-leaves s c = step-wants s c c (leaving s c.node.stored) (neighbours s) refl
+
 -- The steps of a call of one kind, each of which goes on where no put fails.
 pub record AreSteps {X : Type 0} (f : Bool → Call → X → Call) : Type 0 where
   pub goes : (c : Call) (x : X) → (f true c x).ended ≡ c.ended
@@ -121,6 +130,13 @@ all-handle s = record { goes = on-handles s; each = step-handles s }
 
 pub all-accuse : (s : Setting) → AreSteps (λ works c x. accuses works s c x)
 all-accuse s = record { goes = on-accuses s; each = step-accuses s }
+
+-- Leaving is one step, whatever number it is given.
+abbrev pub leaves_once : Setting → Bool → Call → ℕ → Call
+leaves_once s works c x = leaves works s c
+
+pub all-leave : (s : Setting) → AreSteps (leaves_once s)
+all-leave s = record { goes = λ c x. on-leaves s c; each = λ c x. step-leaves s c }
 
 -- ---- one step over a disk
 
@@ -317,6 +333,11 @@ pub record IsCutAccusing (s : Setting) (n : Node) (c : Call) : Type 0 where
   pub is : c ≡ ticked_until s n (take place (silent_at s n)) at
   pub over : c.ended ≡ true
 
+-- The put failed for the note by which the node leaves.
+pub record IsCutLeaving (s : Setting) (n : Node) (c : Call) : Type 0 where
+  pub is : c ≡ left_until s n
+  pub over : c.ended ≡ true
+
 pub until-is : (s : Setting) (n : Node) (records : List Record) (r : Record) → delivered_until s n records r ≡ handles false s (handles_all s records (begun n)) r
 unfolding delivered_until
 until-is s n records r = refl
@@ -329,6 +350,7 @@ until-ticked s n silent m = refl
 abbrev pub ComesSoFar : Setting → Node → Input → Call → Type 0
 ComesSoFar s n (Delivers bytes) c = IsWhole c (delivered s n bytes) ⊎ IsCutAnswering s n bytes c
 ComesSoFar s n Ticks c = IsWhole c (ticked s n) ⊎ IsCutAccusing s n c
+ComesSoFar s n Leaves c = IsWhole c (left s n) ⊎ IsCutLeaving s n c
 
 fold-same : {A X : Type 0} (g h : A → X → A) (a : A) (xs : List X) → ((a : A) (x : X) → g a x ≡ h a x) → fold g a xs ≡ fold h a xs
 fold-same g h a [] same = refl
@@ -401,10 +423,20 @@ so_far-ticks {D} storage s n disk =
           ])
     ]
 
+so_far-leaves : {D : Type 0} (storage : Storage D) (s : Setting) (n : Node) (disk : D) → IsWhole (left_on storage s n disk).call (left s n) ⊎ IsCutLeaving s n (left_on storage s n disk).call
+unfolding left_on left left_until
+so_far-leaves {D} storage s n disk =
+    let d : OnDisk D = record { call = begun n; disk = disk } in
+    elim (one_step storage (leaves_once s) d 0 (all-leave s) refl) [
+      | inl it ↦ inl (record { is = it.0; going = it.1 })
+      | inr it ↦ inr (record { is = it.0; over = it.1 })
+    ]
+
 pub so_far : {D : Type 0} (storage : Storage D) (s : Setting) (n : Node) (i : Input) (disk : D) → ComesSoFar s n i (called_on storage s n i disk).call
 unfolding delivered_on delivered
 so_far storage s n (Delivers bytes) disk = so_far-hears storage s n bytes disk (read_of bytes) refl
 so_far storage s n Ticks disk = so_far-ticks storage s n disk
+so_far storage s n Leaves disk = so_far-leaves storage s n disk
 
 pub called-so_far : (s : Setting) (n : Node) (i : Input) (fails_at : Option ℕ) → ComesSoFar s n i (called s n i fails_at)
 unfolding called
@@ -449,11 +481,16 @@ none-ticks s n =
     on-accused s [] c = refl
     on-accused s (m ∷ silent) c = on-accused s silent (accuses true s c m) ∙ on-accuses s c m
 
+none-leaves : (s : Setting) (n : Node) → (left_on counting s n None).call ≡ left s n
+unfolding left_on left
+none-leaves s n = ap (λ (o : OnDisk (Option ℕ)). o.call) (none-fails (leaves_once s) (0 ∷ []) (begun n) (all-leave s) refl)
+
 -- the call in which no put fails is whole
 pub called-none : (s : Setting) (n : Node) (i : Input) → called s n i None ≡ call_of s n i
 unfolding called delivered_on delivered
 called-none s n (Delivers bytes) = none-hears s n (read_of bytes)
 called-none s n Ticks = none-ticks s n
+called-none s n Leaves = none-leaves s n
 
 -- The call in which a put fails, behind so many others, for the answer to a record.
 pub record IsPutAnswering (s : Setting) (n : Node) (bytes : List ℕ) (before : List Record) (at : Record) : Type 0 where
@@ -505,6 +542,14 @@ put-accusing s n before at behind is over =
     not-nothing [] e = cc
     not-nothing (x ∷ xs) e = cc
 
+-- The first put of a call to leave is for the note.
+pub put-leaving : (s : Setting) (n : Node) → (left_until s n).ended ≡ true → called s n Leaves (Some 0) ≡ left_until s n
+unfolding called left_on left_until
+put-leaving s n over =
+    let it = put-at (leaves_once s) [] 0 [] (begun n) (all-leave s) refl over in
+    let first : 0 ≡ it.put = omega (arith, it.counted) in
+    ap (λ k. (fold (steps_on counting (leaves_once s)) (counts (begun n) (Some k)) (0 ∷ [])).call) first ∙ it.comes_there
+
 -- A call that a failing put ends, as the definition counts it.
 pub cut-answering : (s : Setting) (n : Node) (bytes : List ℕ) (c : Call) → IsCutAnswering s n bytes c → IsCut s n (Delivers bytes) c
 cut-answering s n bytes c h =
@@ -518,12 +563,17 @@ cut-accusing s n c h =
     let it = put-accusing s n (take h.place (silent_at s n)) h.at split.0 split.1 (ap (λ (x : Call). x.ended) (sym h.is) ∙ h.over) in
     record { put = it.put; is = h.is ∙ sym it.is; ended = h.over }
 
+pub cut-leaving : (s : Setting) (n : Node) (c : Call) → IsCutLeaving s n c → IsCut s n Leaves c
+cut-leaving s n c h = record { put = 0; is = h.is ∙ sym (put-leaving s n (ap (λ (x : Call). x.ended) (sym h.is) ∙ h.over)); ended = h.over }
+
 -- A call that is whole or cut is the one in which some put fails, or none.
 pub is-called : (s : Setting) (n : Node) (i : Input) (c : Call) → ComesSoFar s n i c → (fails_at : Option ℕ) × (c ≡ called s n i fails_at)
 is-called s n (Delivers bytes) c (inl whole) = (None, whole.is ∙ sym (called-none s n (Delivers bytes)))
 is-called s n (Delivers bytes) c (inr cut) = let it = cut-answering s n bytes c cut in (Some it.put, it.is)
 is-called s n Ticks c (inl whole) = (None, whole.is ∙ sym (called-none s n Ticks))
 is-called s n Ticks c (inr cut) = let it = cut-accusing s n c cut in (Some it.put, it.is)
+is-called s n Leaves c (inl whole) = (None, whole.is ∙ sym (called-none s n Leaves))
+is-called s n Leaves c (inr cut) = let it = cut-leaving s n c cut in (Some it.put, it.is)
 
 -- Over whatever disk, a call is the one in which some put fails, or none.
 pub called-over : {D : Type 0} (storage : Storage D) (s : Setting) (n : Node) (i : Input) (disk : D) → (fails_at : Option ℕ) × ((called_on storage s n i disk).call ≡ called s n i fails_at)
@@ -531,11 +581,13 @@ called-over storage s n i disk = is-called s n i (called_on storage s n i disk).
 
 -- What holds of the whole call, and of each that a failing put ends, holds of each.
 pub holds-called : (s : Setting) (n : Node) (P : Input → Call → Type 0) → ((i : Input) → P i (call_of s n i)) → ((bytes : List ℕ) (records : List Record) (r : Record) → P (Delivers bytes) (delivered_until s n records r))
-    → ((silent : List ℕ) (m : ℕ) → P Ticks (ticked_until s n silent m)) → (i : Input) (fails_at : Option ℕ) → P i (called s n i fails_at)
-holds-called s n P whole answering accusing i fails_at = by i (called s n i fails_at) (called-so_far s n i fails_at)
+    → ((silent : List ℕ) (m : ℕ) → P Ticks (ticked_until s n silent m)) → P Leaves (left_until s n) → (i : Input) (fails_at : Option ℕ) → P i (called s n i fails_at)
+holds-called s n P whole answering accusing departing i fails_at = by i (called s n i fails_at) (called-so_far s n i fails_at)
   where
     by : (i : Input) (c : Call) → ComesSoFar s n i c → P i c
     by (Delivers bytes) c (inl h) = subst (P (Delivers bytes)) (sym h.is) (whole (Delivers bytes))
     by (Delivers bytes) c (inr h) = subst (P (Delivers bytes)) (sym h.is) (answering bytes (take h.place h.records) h.at)
     by Ticks c (inl h) = subst (P Ticks) (sym h.is) (whole Ticks)
     by Ticks c (inr h) = subst (P Ticks) (sym h.is) (accusing (take h.place (silent_at s n)) h.at)
+    by Leaves c (inl h) = subst (P Leaves) (sym h.is) (whole Leaves)
+    by Leaves c (inr h) = subst (P Leaves) (sym h.is) departing

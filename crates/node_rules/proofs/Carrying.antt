@@ -23,8 +23,9 @@ use Rattle.node_rules.specs.Calls.{Call, begun, tells, lives, takes, signs, sign
 use Rattle.node_rules.specs.Deliveries.{answer_to, answers, judged, handles, handles_all, is_other, gives, replies, exchanges, pinged, ponged_by, hears, delivered}
 use Rattle.node_rules.specs.Ticking.{accusation_on, ring_for, has_accused, wants_accusation, accuses, accuses_all, is_due, silent_in, pings_in, probes_after, pings_all, summary_to, round_of, passed, probed_at, due_tick, ticked}
 use Rattle.node_rules.specs.Verdicts.{is_apart}
-use Rattle.node_rules.specs.Lives.{Input, Delivers, Ticks as Tick, call_of}
-use Rattle.node_rules.proofs.Called.{delivered_until, ticked_until}
+use Rattle.node_rules.specs.Leaving.{leaving, leaves, left}
+use Rattle.node_rules.specs.Lives.{Input, Delivers, Ticks as Tick, Leaves, call_of}
+use Rattle.node_rules.proofs.Called.{delivered_until, ticked_until, left_until}
 
 -- Told apart from the life and from datagrams, and no signature.
 abbrev pub is_beside : whats.What → Bool
@@ -42,6 +43,7 @@ pub record Carries (s : Setting) (P : Call → Type 0) : Type 0 where
   pub taken : (r : Record) (c : Call) → refusal s c.node r ≡ None → P c → P (takes s r c)
   pub answered : (r : Record) (a : AccBody) (c : Call) → refusal s c.node r ≡ None → r.body ≡ Accusation a → eqb a.accused s.me ≡ true → is_used_up s (takes s r c).node ≡ false → P c → P (signs s (answer_to s (takes s r c).node.stored a) (takes s r c))
   pub accused : (a : AccBody) (c : Call) → a.accuser ≡ s.me → is_used_up s c.node ≡ false → P c → P (signs s (Accusation a) c)
+  pub departed : (c : Call) → is_used_up s c.node ≡ false → P c → P (signs s (leaving s c.node.stored) c)
   pub stopped : (c : Call) → P c → P (stops s c)
   pub passed : (c : Call) → P c → P (lives s Ticks c)
   pub probed : (h : History) (c : Call) → P c → P (record c { node = record c.node { probes = h } })
@@ -187,8 +189,23 @@ unfolding ticked_until
 carries-ticked_until s P k n silent m h =
     carries-accuses s P k false (accuses_all s silent (probed_at s n)) m (carries-accuses_all s P k silent (probed_at s n) (carries-probed_at s P k n h))
 
+-- ---- leaving
+
+carries-leaves : (s : Setting) (P : Call → Type 0) → Carries s P → (works : Bool) (c : Call) → P c → P (leaves works s c)
+unfolding leaves
+carries-leaves s P k works c h = carries-wants s P k works (leaving s c.node.stored) (neighbours s) c h (λ left. k.departed c left h)
+
+carries-left : (s : Setting) (P : Call → Type 0) → Carries s P → (n : Node) → P (begun n) → P (left s n)
+unfolding left
+carries-left s P k n h = carries-leaves s P k true (begun n) h
+
+pub carries-left_until : (s : Setting) (P : Call → Type 0) → Carries s P → (n : Node) → P (begun n) → P (left_until s n)
+unfolding left_until
+carries-left_until s P k n h = carries-leaves s P k false (begun n) h
+
 -- ---- calls
 
 pub carries-call : (s : Setting) (P : Call → Type 0) → Carries s P → (n : Node) (i : Input) → P (begun n) → P (call_of s n i)
 carries-call s P k n (Delivers bytes) h = carries-delivered s P k n bytes h
 carries-call s P k n Tick h = carries-ticked s P k n h
+carries-call s P k n Leaves h = carries-left s P k n h

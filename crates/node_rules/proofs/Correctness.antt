@@ -9,7 +9,7 @@ use Rattle.ff_ids.specs.declared.AccBody.{AccBody}
 use Rattle.ff_ids.specs.declared.NoteBody.{NoteBody}
 use Rattle.ff_ids.specs.declared.Fault.TheVariants as faults
 use Rattle.ff_ids.specs.declared.summary.RecordKey.TheVariants as keys
-use Rattle.ff_ids.specs.Masks.{all_rings, good_mask}
+use Rattle.ff_ids.specs.Masks.{all_rings, good_mask, note_mask}
 use Rattle.ff_ids.specs.Notes.{newest}
 use Rattle.ff_ids.specs.Views.{is_member}
 use Rattle.ff_ids.specs.Faults.{note_fault, note_fault_by}
@@ -31,11 +31,13 @@ use Rattle.node_rules.specs.Replies.{first_mask}
 use Rattle.node_rules.specs.Calls.{Call, begun, lives, takes, spends, signs, sends, own_record, is_used_up}
 use Rattle.node_rules.specs.Deliveries.{answer_to, answering_note}
 use Rattle.node_rules.specs.Starting.{blank, opened, started}
+use Rattle.node_rules.specs.Leaving.{leaving, leaving_note}
+use Rattle.node_rules.proofs.Allowed.{good-allowed}
 use Rattle.node_rules.specs.Lives.{KeepsOwnNote, Input, call_of, after_calls, is_certificate_for}
 use Rattle.node_rules.specs.Vouching.{OwnSignaturesVerify, IsCertifiedBy}
 use Rattle.node_rules.specs.OneExchange.{Life, node_after, IsCorrect, IsSignedBy}
 use Rattle.node_rules.proofs.Small.{stored-takes, stored-signs}
-use Rattle.node_rules.proofs.OwnNote.{option_or-none, stored-lives, keeping, own-started, becomes_member, answer-fine}
+use Rattle.node_rules.proofs.OwnNote.{option_or-none, stored-lives, keeping, own-started, becomes_member, answer-fine, next_own-fine}
 use Rattle.rebuttal.proofs.Masks.{all_rings-good}
 use Rattle.node_rules.proofs.Keeping.{Keeps, keeps-call}
 use Rattle.node_rules.proofs.OwnKey.{key-started}
@@ -94,7 +96,7 @@ upholds-spends s b c h =
       members = h.members;
       certificates = h.certificates;
       signed = λ m r is. let k = h.signed m r is in record { key = k.key; author_is = k.author_is; verifies = k.verifies };
-      good = h.good;
+      allowed = h.allowed;
     }
 
 pub signed-spends : (s : Setting) (b : Body) (c : Call) (m : ℕ) (r : Record) → IsSignedBy s c.node m r → IsSignedBy s (spends s b c).node m r
@@ -180,6 +182,17 @@ all-accuses s own a c some by left h =
       upholds = upholds-signs_accusation s a c h.upholds;
     }
 
+all-leaves : (s : Setting) (own : PublicKey) (c : Call) → 1 ≤ s.group.t → OwnSignaturesVerify s own → is_used_up s c.node ≡ false → KeepsAll s own c.node → KeepsAll s own (signs s (leaving s c.node.stored) c).node
+all-leaves s own c some sign left h =
+    let x : NoteBody = leaving_note s c.node.stored in
+    let index : c.node.stored.next < s.indexes = index-left s c.node left h.within in
+    record {
+      own_note = (keeping s some).departed c left h.own_note;
+      own_key = ap (option_map (λ c. c.key)) (certificate-signs s (Note x) c s.me (note-is_none x)) ∙ h.own_key;
+      within = within-signs s (Note x) c index;
+      upholds = upholds-signs_note s own x c refl sign index h.own_key (next_own-fine s c.node 0 h.own_note refl) h.upholds;
+    }
+
 all-ticks : (s : Setting) (own : PublicKey) (c : Call) → 1 ≤ s.group.t → KeepsAll s own c.node → KeepsAll s own (lives s Ticks c).node
 all-ticks s own c some h =
     record {
@@ -208,7 +221,7 @@ all-probed s own c p some h =
             members = u.members;
             certificates = u.certificates;
             signed = λ m r is. let k = u.signed m r is in record { key = k.key; author_is = k.author_is; verifies = k.verifies };
-            good = u.good;
+            allowed = u.allowed;
           };
     }
 
@@ -220,6 +233,7 @@ keeping-all s own some sign =
       taken = λ r c fine h. all-takes s own r c some fine h;
       answered = λ r a c fine is me left h. all-answers s own r a c some sign fine is me left h;
       accused = λ a c by left h. all-accuses s own a c some by left h;
+      departed = λ c left h. all-leaves s own c some sign left h;
       stopped = λ c h. h;
       passed = λ c h. all-ticks s own c some h;
       probed = λ p c h. all-probed s own c p some h;
@@ -248,7 +262,7 @@ blank-opened s seed stored =
             members = λ m. refl;
             certificates = λ m r is. absurd (none_some r is);
             signed = λ m r is. absurd (none_some r is);
-            good = tt;
+            allowed = tt;
           };
       no_notes = λ m. refl;
     }
@@ -272,7 +286,7 @@ kit-opened s own (r ∷ records) c all good h =
 pub first-good : (t stored : ℕ) → good_mask t (first_mask t stored) ≡ true
 first-good t stored = cond_both (good_mask t stored) stored (all_rings t) (λ m. good_mask t m ≡ true) (λ it. it) (λ other. all_rings-good t)
 
-first-fine : (t : ℕ) (joined : Bool) (newest_note : Option NoteBody) (n : NoteBody) → joined ≡ true → good_mask t n.mask.0 ≡ true → newest_note ≡ None → note_fault_by t joined newest_note n ≡ None
+first-fine : (t : ℕ) (joined : Bool) (newest_note : Option NoteBody) (n : NoteBody) → joined ≡ true → note_mask t n.mask.0 ≡ true → newest_note ≡ None → note_fault_by t joined newest_note n ≡ None
 first-fine t joined newest_note n j g h = rw (j, g, h) refl
 
 pub all-started : (s : Setting) (own : PublicKey) (seed : List ℕ) (certificates : List Record) (stored : Stored) → AllByRecursion Certifies certificates → list_any (λ r. is_certificate_for s.me r.body) certificates ≡ true
@@ -289,7 +303,7 @@ all-started s own seed certificates stored all mine good sign left =
     let joined : is_member (state_of s c.node) s.me ≡ true = becomes_member s certificates (begun (blank s seed stored)) all mine in
     let none : newest (state_of s c.node).notes s.me ≡ None = sym (o.upholds.notes s.me) ∙ ap (option_and_then (λ r. note_of_body r.body)) (o.no_notes s.me) in
     let fine : note_fault s.group.t (state_of s c.node) x ≡ None =
-    first-fine s.group.t (is_member (state_of s c.node) s.me) (newest (state_of s c.node).notes s.me) x joined (first-good s.group.t stored.mask.0) none in
+    first-fine s.group.t (is_member (state_of s c.node) s.me) (newest (state_of s c.node).notes s.me) x joined (good-allowed s.group.t (first_mask s.group.t stored.mask.0) (first-good s.group.t stored.mask.0)) none in
     record {
       own_note = own-started s seed certificates stored (all_rings-good s.group.t) all mine;
       own_key = v.own_key;

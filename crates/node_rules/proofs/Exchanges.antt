@@ -13,7 +13,7 @@ use Rattle.ff_ids.specs.declared.Fault.{Fault}
 use Rattle.ff_ids.specs.declared.Fault.TheVariants as faults
 use Rattle.ff_ids.specs.declared.summary.RecordKey.{RecordKey}
 use Rattle.ff_ids.specs.declared.summary.RecordKey.TheVariants as keys
-use Rattle.ff_ids.specs.Masks.{good_mask}
+use Rattle.ff_ids.specs.Masks.{note_mask}
 use Rattle.ff_ids.specs.Notes.{note_cmp, greater_note, newest}
 use Rattle.ff_ids.specs.Views.{State, is_member}
 use Rattle.ff_ids.specs.Faults.{note_fault, note_fault_by, fault_after, fault_beside}
@@ -266,9 +266,9 @@ pub record IsNoteOf (s : Setting) (other : Node) (r : Record) (x : NoteBody) : T
   pub cert : CertBody
   pub certified : certificate_of other x.member ≡ Some cert
   pub verifies : s.verifies cert.key r ≡ true
-  pub good : good_mask s.group.t x.mask.0 ≡ true
+  pub allowed : note_mask s.group.t x.mask.0 ≡ true
 
-note_fault-fine : (t : ℕ) (joined : Bool) (newest_note : Option NoteBody) (n : NoteBody) → joined ≡ true → good_mask t n.mask.0 ≡ true → fault_after newest_note n ≡ None → note_fault_by t joined newest_note n ≡ None
+note_fault-fine : (t : ℕ) (joined : Bool) (newest_note : Option NoteBody) (n : NoteBody) → joined ≡ true → note_mask t n.mask.0 ≡ true → fault_after newest_note n ≡ None → note_fault_by t joined newest_note n ≡ None
 note_fault-fine t joined newest_note n j g h = rw (j, g) h
 
 own_ahead-fine : (me : ℕ) (o : Option NoteBody) (n : NoteBody) → (eqb n.member me ≡ true → ⊥) → own_ahead me o n ≡ None
@@ -305,7 +305,7 @@ notes s own other earlier c r x of h certified own_known =
           has-follows x.member st.notes (state_of s (handles true s c r).node).notes x ((follows-handles s c r).notes x.member) (record { kept = kept; is_newest = e; not_less = most })
       | greater later ↦
           let joined : is_member st x.member ≡ true = sym (h.all.upholds.members x.member) ∙ certified in
-          let fine : note_fault s.group.t st x ≡ None = note_fault-fine s.group.t (is_member st x.member) (newest st.notes x.member) x joined of.good later in
+          let fine : note_fault s.group.t st x ≡ None = note_fault-fine s.group.t (is_member st x.member) (newest st.notes x.member) x joined of.allowed later in
           let author : public_key_of c.node x.member ≡ Some of.cert.key = key (certificate_of c.node x.member) refl in
           let ahead : own_ahead s.me (newest st.notes s.me) x ≡ None = own_ahead-fine s.me (newest st.notes s.me) x (λ mine. not_own later (eqb-true x.member s.me mine)) in
           let accepted : refusal s c.node r ≡ None = note-fine s c.node r x of.cert.key of.is fine author of.verifies ahead in

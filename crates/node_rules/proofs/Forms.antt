@@ -6,12 +6,12 @@ use Rattle.std.specs.Ordering.{eq_by_cmp}
 use Rattle.std.proofs.lemmas.Bool.{cases_Bool}
 use Rattle.ff_ids.proofs.MaskLemmas.{good_mask-fits}
 use Rattle.std.proofs.lemmas.List.Elements.{recursion_from_All}
-use Rattle.ff_ids.specs.declared.TheConstants.{MASK_BITS, MAX_TOLERANCE, MEMBERS}
+use Rattle.ff_ids.specs.declared.TheConstants.{MAX_TOLERANCE, MEMBERS}
 use Rattle.ff_ids.specs.declared.AccBody.{AccBody}
 use Rattle.ff_ids.specs.declared.NoteBody.{NoteBody}
 use Rattle.ff_ids.specs.declared.summary.RecordKey.{RecordKey}
 use Rattle.ff_ids.specs.declared.summary.RecordKey.TheVariants as keys
-use Rattle.ff_ids.specs.Masks.{ring_count, good_mask}
+use Rattle.ff_ids.specs.Masks.{note_mask}
 use Rattle.ff_ids.specs.Notes.{newest}
 use Rattle.ff_ids.specs.Views.{State}
 use Rattle.ff_ids.specs.Steps.{Event, Ticks, step}
@@ -37,7 +37,9 @@ use Rattle.node_rules.specs.Deliveries.{answer_to, answering_note}
 use Rattle.node_rules.specs.Ticking.{accusation_on, ring_for, monitored_rings}
 use Rattle.node_rules.specs.Replies.{first_mask}
 use Rattle.node_rules.specs.Starting.{blank, opened, started}
-use Rattle.node_rules.specs.Lives.{is_certificate_for, Input, Delivers, Ticks as Tick}
+use Rattle.node_rules.specs.Leaving.{leaving, leaving_note}
+use Rattle.node_rules.proofs.Allowed.{allowed-fits}
+use Rattle.node_rules.specs.Lives.{is_certificate_for, Input, Delivers, Ticks as Tick, Leaves}
 use Rattle.node_rules.specs.Vouching.{OwnSignaturesVerify, IsCertifiedBy}
 use Rattle.node_rules.specs.OneExchange.{Life, node_after, IsCorrect, IsWithinRanges, IsOfBytes}
 use Rattle.node_rules.proofs.Small.{stored-takes, stored-signs}
@@ -103,13 +105,13 @@ formed-takes_given s own r c some sign given fine h =
     }
 
 -- the next own note
-next-formed : (s : Setting) (n : Node) (mask : ℕ) → IsRanged s → n.stored.epoch ≤ n.stored.next → n.stored.next < s.indexes → good_mask s.group.t mask ≡ true → IsBody (Note (record { member = s.me; epoch = n.stored.epoch + 1; mask = record { 0 = mask } }))
-next-formed s n mask ranged le left good =
+next-formed : (s : Setting) (n : Node) (mask : ℕ) → IsRanged s → n.stored.epoch ≤ n.stored.next → n.stored.next < s.indexes → note_mask s.group.t mask ≡ true → IsBody (Note (record { member = s.me; epoch = n.stored.epoch + 1; mask = record { 0 = mask } }))
+next-formed s n mask ranged le left allowed =
     record {
       member_number = ranged.me;
       has_epoch = omega arith;
       epoch_fits = omega (arith, ranged.indexes, le, left);
-      mask_fits = good_mask-fits s.group.t mask ranged.few good;
+      mask_fits = allowed-fits s.group.t mask ranged.few allowed;
     }
 
 formed-answers : (s : Setting) (own : PublicKey) (r : Record) (a : AccBody) (c : Call) → IsRanged s → 1 ≤ s.group.t → OwnSignaturesVerify s own → IsSignedRecord r → refusal s c.node r ≡ None → r.body ≡ Accusation a → eqb a.accused s.me ≡ true
@@ -119,12 +121,23 @@ formed-answers s own r a c ranged some sign given fine is me left h =
     let h1 : Formed s own c1.node = formed-takes_given s own r c some sign given fine h in
     let x : NoteBody = answering_note s c1.node.stored a in
     let all : KeepsAll s own (signs s (Note x) c1).node = (keeping-all s own some sign).answered r a c fine is me left h.all in
-    let good : good_mask s.group.t x.mask.0 ≡ true = sym (ap (λ (k : Stored). good_mask s.group.t k.mask.0) (stored-signs s (Note x) c1)) ∙ all.own_note.good in
+    let allowed : note_mask s.group.t x.mask.0 ≡ true = sym (ap (λ (k : Stored). note_mask s.group.t k.mask.0) (stored-signs s (Note x) c1)) ∙ all.own_note.allowed in
     let index : c1.node.stored.next < s.indexes = index-left s c1.node left h1.all.within in
     record {
       all = all;
-      held = formed-signs s (Note x) c1 (own-signed s own (Note x) c1.node ranged sign index (next-formed s c1.node x.mask.0 ranged h1.epoch index good)) h1.held;
+      held = formed-signs s (Note x) c1 (own-signed s own (Note x) c1.node ranged sign index (next-formed s c1.node x.mask.0 ranged h1.epoch index allowed)) h1.held;
       epoch = subst (λ k. k.epoch ≤ k.next) (sym (stored-signs s (Note x) c1)) (epoch-note c1.node.stored x refl h1.epoch);
+    }
+
+-- the note by which the node leaves
+formed-leaves : (s : Setting) (own : PublicKey) (c : Call) → IsRanged s → 1 ≤ s.group.t → OwnSignaturesVerify s own → is_used_up s c.node ≡ false → Formed s own c.node → Formed s own (signs s (leaving s c.node.stored) c).node
+formed-leaves s own c ranged some sign left h =
+    let x : NoteBody = leaving_note s c.node.stored in
+    let index : c.node.stored.next < s.indexes = index-left s c.node left h.all.within in
+    record {
+      all = (keeping-all s own some sign).departed c left h.all;
+      held = formed-signs s (Note x) c (own-signed s own (Note x) c.node ranged sign index (next-formed s c.node 0 ranged h.epoch index refl)) h.held;
+      epoch = subst (λ k. k.epoch ≤ k.next) (sym (stored-signs s (Note x) c)) (epoch-note c.node.stored x refl h.epoch);
     }
 
 -- ---- own accusations
@@ -170,6 +183,7 @@ keeping-formed s own ranged some sign =
       taken = λ r c given fine h. formed-takes_given s own r c some sign given fine h;
       answered = λ r a c given fine is me left h. formed-answers s own r a c ranged some sign given fine is me left h;
       accused = λ m ring c found left h. formed-accuses s own m ring c ranged some sign found left h;
+      departed = λ c left h. formed-leaves s own c ranged some sign left h;
       passed = λ c h.
           record {
             all = (keeping-all s own some sign).passed c h.all;
@@ -222,6 +236,7 @@ inputs-formed : (inputs : List Input) → AllByRecursion IsOfBytes inputs → Al
 inputs-formed [] all = tt
 inputs-formed (Delivers bytes ∷ inputs) all = (read-formed bytes all.0, inputs-formed inputs all.1)
 inputs-formed (Tick ∷ inputs) all = (tt, inputs-formed inputs all.1)
+inputs-formed (Leaves ∷ inputs) all = (tt, inputs-formed inputs all.1)
 
 pub formed-life : (l : Life) (inputs : List Input) → IsCorrect l → IsWithinRanges l → AllByRecursion IsOfBytes inputs → Formed l.setting l.own (node_after l inputs)
 formed-life l inputs is within bytes =

@@ -39,7 +39,7 @@ lived-signs : (s : Setting) (body : Body) (c : Call) → ComesTo (c.node.lived +
 unfolding signs takes lives
 lived-signs s body c = record { lived_so = refl; probes_so = refl }
 
-lived-wants : (s : Setting) (body : Body) (addressees : State → List ℕ) (c : Call) → ComesTo (c.node.lived ++ cond (eqb c.node.stored.next s.indexes) [] (event_of s body ∷ [])) c.node.probes (wants true s body addressees c)
+pub lived-wants : (s : Setting) (body : Body) (addressees : State → List ℕ) (c : Call) → ComesTo (c.node.lived ++ cond (eqb c.node.stored.next s.indexes) [] (event_of s body ∷ [])) c.node.probes (wants true s body addressees c)
 lived-wants s body addressees c =
     let signed = lived-signs s body c in
     let node = node-wants true s body addressees c in

@@ -34,10 +34,11 @@ use Rattle.node_rules.specs.Calls.{Call, begun, tells, lives, takes, spends, sig
 use Rattle.node_rules.specs.Deliveries.{answer_to, answers, judged, handles, handles_all, is_other, gives, replies, exchanges, pinged, ponged_by, hears, delivered}
 use Rattle.node_rules.specs.Ticking.{accusation_on, ring_for, has_accused, wants_accusation, accuses, accuses_all, is_due, silent_in, pings_in, pings_all, summary_to, round_of, passed, probed_at, due_tick, ticked}
 use Rattle.node_rules.specs.Starting.{blank, opened, started, first_note}
-use Rattle.node_rules.specs.Lives.{Input, Delivers, Ticks, call_of, after_calls}
+use Rattle.node_rules.specs.Leaving.{leaving, leaves, left}
+use Rattle.node_rules.specs.Lives.{Input, Delivers, Ticks, call_of, after_calls, Leaves}
 use Rattle.node_rules.specs.Verdicts.{records_in, when_handled}
 use Rattle.node_rules.specs.Known.{made_by, signed_in, accepted_of, accepted_in, gathered, records_of, IsOfKnown, SendsKnown}
-use Rattle.node_rules.proofs.Called.{delivered_until, ticked_until}
+use Rattle.node_rules.proofs.Called.{delivered_until, ticked_until, left_until}
 use Rattle.node_rules.proofs.Accusations.{In-from_filter_map}
 use Rattle.node_rules.proofs.Handling.{node-handles}
 
@@ -348,6 +349,16 @@ knows-ticked s known base n h =
     (λ due. knows-due s known base (silent_in s p st) (pings_in s p st) (round_of s st) (probed_at s n) h1)
     (λ never. h1)
 
+-- ---- leaving
+
+knows-leaves : (s : Setting) (known base : List Record) (works : Bool) (c : Call) → Knows s known base c → Knows s known base (leaves works s c)
+unfolding leaves
+knows-leaves s known base works c h = knows-wants s known base works (leaving s c.node.stored) (neighbours s) c h
+
+knows-left : (s : Setting) (known base : List Record) (n : Node) → Knows s known base (begun n) → Knows s known base (left s n)
+unfolding left
+knows-left s known base n h = knows-leaves s known base true (begun n) h
+
 -- ---- calls, and lives
 
 knows-begun : (s : Setting) (known base : List Record) (n : Node) → HeldIn known n → ((r : Record) → In known r → In base r) → Knows s known base (begun n)
@@ -358,6 +369,7 @@ knows-call s known n (Delivers bytes) held =
     let accepted : List Record = accepted_of s n (records_in (read_of bytes)) in
     knows-delivered s known (known ++ accepted) bytes n held (λ r i. In-append_right known accepted r i) (knows-begun s known (known ++ accepted) n held (λ r i. In-append_left known accepted r i))
 knows-call s known n Ticks held = knows-ticked s known (known ++ []) n (knows-begun s known (known ++ []) n held (λ r i. In-append_left known [] r i))
+knows-call s known n Leaves held = knows-left s known (known ++ []) n (knows-begun s known (known ++ []) n held (λ r i. In-append_left known [] r i))
 
 pub in-both : (xs : List Record) (s : Setting) (c : Call) (r : Record) → IsIn xs s c r → In (xs ++ signed_in s c) r
 in-both xs s c r h = elim h [ inl i ↦ In-append_left xs (signed_in s c) r i | inr i ↦ In-append_right xs (signed_in s c) r i ]
@@ -425,3 +437,7 @@ ticked_until-sends s known n silent m held =
     let begins : Knows s known known (begun n) = knows-begun s known known n held (λ x i. i) in
     let front : Knows s known known (accuses_all s silent (probed_at s n)) = knows-accuses_all s known known silent (probed_at s n) (knows-probed s known known n begins) in
     sends-known s known known (accuses false s (accuses_all s silent (probed_at s n)) m) (knows-accuses s known known false (accuses_all s silent (probed_at s n)) m front)
+
+pub left_until-sends : (s : Setting) (known : List Record) (n : Node) → HeldIn known n → SendsKnown s known (left_until s n)
+unfolding left_until
+left_until-sends s known n held = sends-known s known known (leaves false s (begun n)) (knows-leaves s known known false (begun n) (knows-begun s known known n held (λ x i. i)))

@@ -17,7 +17,8 @@ use Rattle.node_rules.specs.Refusals.{refusal}
 use Rattle.node_rules.specs.Calls.{Call, begun, tells, lives, takes, signs, signs_and_sends, wants, sends, sends_to_all, is_used_up, own_record}
 use Rattle.node_rules.specs.Deliveries.{answer_to, answers, judged, handles, handles_all, is_other, gives, replies, hears, delivered}
 use Rattle.node_rules.specs.Ticking.{accusation_on, ring_for, has_accused, wants_accusation, accuses, accuses_all, is_due, silent_in, pings_in, round_of, pings_all, summary_to, passed, probed_at, due_tick, ticked}
-use Rattle.node_rules.specs.Lives.{Input, Delivers, Ticks, call_of}
+use Rattle.node_rules.specs.Leaving.{leaving, leaves, left}
+use Rattle.node_rules.specs.Lives.{Input, Delivers, Ticks, Leaves, call_of}
 
 -- The life goes on in the second where it does in the first.
 abbrev pub GoesOn : Call → Call → Type 0
@@ -135,6 +136,17 @@ on-ticked s n =
     let due_one : Call = due_tick s (silent_in s p st) (pings_in s p st) (round_of s st) (probed_at s n) in
     cond_both (is_due s st) due_one (probed_at s n) (λ c. c.ended ≡ false) (λ due. on-due s (silent_in s p st) (pings_in s p st) (round_of s st) (probed_at s n) ∙ on-probed s n) (λ never. on-probed s n)
 
+-- ---- leaving
+
+pub on-leaves : (s : Setting) (c : Call) → GoesOn c (leaves true s c)
+unfolding leaves
+on-leaves s c = on-wants s (leaving s c.node.stored) (neighbours s) c
+
+on-left : (s : Setting) (n : Node) → (left s n).ended ≡ false
+unfolding left
+on-left s n = on-leaves s (begun n)
+
 pub whole-goes_on : (s : Setting) (n : Node) (i : Input) → (call_of s n i).ended ≡ false
 whole-goes_on s n (Delivers bytes) = on-delivered s n bytes
 whole-goes_on s n Ticks = on-ticked s n
+whole-goes_on s n Leaves = on-left s n

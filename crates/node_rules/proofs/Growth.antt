@@ -27,6 +27,7 @@ use Rattle.node_rules.specs.Nodes.{Setting, Node, Holding, state_of, event_of, w
 use Rattle.node_rules.specs.Refusals.{refusal, refusal_of}
 use Rattle.node_rules.specs.Calls.{Call, lives, takes, spends, signs, sends, own_record}
 use Rattle.node_rules.specs.Deliveries.{answer_to}
+use Rattle.node_rules.specs.Leaving.{leaving}
 use Rattle.node_rules.specs.Lives.{Input, call_of, after_calls}
 use Rattle.node_rules.specs.OneExchange.{IsKnownAmong}
 use Rattle.node_rules.proofs.Small.{state_of-lives, state-takes, state-signs}
@@ -200,6 +201,7 @@ following s earlier =
           let c1 : Call = takes s r c in
           follows-signs s earlier (answer_to s c1.node.stored a) c1 (λ x e. note-is_none _ x e) (follows-takes s earlier r c fine h);
       accused = λ a c by left h. follows-signs s earlier (Accusation a) c (accusation-is_none a) h;
+      departed = λ c left h. follows-signs s earlier (leaving s c.node.stored) c (λ x e. note-is_none _ x e) h;
       stopped = λ c h. h;
       passed = λ c h. follows-ticks s earlier c h;
       probed = λ p c h. follows-probed s earlier c.node p h;

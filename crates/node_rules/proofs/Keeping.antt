@@ -16,10 +16,11 @@ use Rattle.node_rules.specs.Refusals.{refusal}
 use Rattle.node_rules.specs.Calls.{Call, begun, tells, lives, takes, signs, wants, stops, sends, sends_to_all, is_used_up}
 use Rattle.node_rules.specs.Deliveries.{answer_to, handles, handles_all, delivered}
 use Rattle.node_rules.specs.Ticking.{accuses, accuses_all, probed_at, ticked}
+use Rattle.node_rules.specs.Leaving.{leaving}
 use Rattle.node_rules.specs.Lives.{is_of_life, Input, call_of}
 use Rattle.node_rules.specs.Verdicts.{is_apart}
-use Rattle.node_rules.proofs.Called.{delivered_until, ticked_until}
-use Rattle.node_rules.proofs.Carrying.{Carries, beside-apart, carries-sends_to_all, carries-wants, carries-handles, carries-handles_all, carries-delivered, carries-delivered_until, carries-accuses, carries-accuses_all, carries-probed_at, carries-ticked, carries-ticked_until, carries-call}
+use Rattle.node_rules.proofs.Called.{delivered_until, ticked_until, left_until}
+use Rattle.node_rules.proofs.Carrying.{Carries, beside-apart, carries-sends_to_all, carries-wants, carries-handles, carries-handles_all, carries-delivered, carries-delivered_until, carries-accuses, carries-accuses_all, carries-probed_at, carries-ticked, carries-ticked_until, carries-left_until, carries-call}
 
 -- Each step of a call keeps it.
 pub record Keeps (s : Setting) (P : Call → Type 0) : Type 0 where
@@ -28,6 +29,7 @@ pub record Keeps (s : Setting) (P : Call → Type 0) : Type 0 where
   pub taken : (r : Record) (c : Call) → refusal s c.node r ≡ None → P c → P (takes s r c)
   pub answered : (r : Record) (a : AccBody) (c : Call) → refusal s c.node r ≡ None → r.body ≡ Accusation a → eqb a.accused s.me ≡ true → is_used_up s (takes s r c).node ≡ false → P c → P (signs s (answer_to s (takes s r c).node.stored a) (takes s r c))
   pub accused : (a : AccBody) (c : Call) → a.accuser ≡ s.me → is_used_up s c.node ≡ false → P c → P (signs s (Accusation a) c)
+  pub departed : (c : Call) → is_used_up s c.node ≡ false → P c → P (signs s (leaving s c.node.stored) c)
   pub stopped : (c : Call) → P c → P (stops s c)
   pub passed : (c : Call) → P c → P (lives s Ticks c)
   pub probed : (h : History) (c : Call) → P c → P (record c { node = record c.node { probes = h } })
@@ -48,6 +50,7 @@ carries s P k =
       taken = k.taken;
       answered = k.answered;
       accused = k.accused;
+      departed = k.departed;
       stopped = k.stopped;
       passed = k.passed;
       probed = k.probed;
@@ -85,6 +88,9 @@ keeps-ticked s P k n h = carries-ticked s P (carries s P k) n h
 
 pub keeps-ticked_until : (s : Setting) (P : Call → Type 0) → Keeps s P → (n : Node) (silent : List ℕ) (m : ℕ) → P (begun n) → P (ticked_until s n silent m)
 keeps-ticked_until s P k n silent m h = carries-ticked_until s P (carries s P k) n silent m h
+
+pub keeps-left_until : (s : Setting) (P : Call → Type 0) → Keeps s P → (n : Node) → P (begun n) → P (left_until s n)
+keeps-left_until s P k n h = carries-left_until s P (carries s P k) n h
 
 pub keeps-call : (s : Setting) (P : Call → Type 0) → Keeps s P → (n : Node) (i : Input) → P (begun n) → P (call_of s n i)
 keeps-call s P k n i h = carries-call s P (carries s P k) n i h

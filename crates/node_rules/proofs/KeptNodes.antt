@@ -28,7 +28,8 @@ use Rattle.node_rules.specs.Calls.{Call, begun, tells, lives, takes, spends, sig
 use Rattle.node_rules.specs.Deliveries.{answer_to, answers, judged, handles, handles_all, hears, delivered}
 use Rattle.node_rules.specs.Ticking.{accusation_on, ring_for, has_accused, wants_accusation, accuses, accuses_all, is_due, silent_in, pings_in, probes_after, pings_all, round_of, passed, probed_at, due_tick, silent_at, ticked}
 use Rattle.node_rules.specs.Starting.{blank, opened, started, first_note}
-use Rattle.node_rules.specs.Lives.{Input, Delivers, Ticks, call_of, after_calls}
+use Rattle.node_rules.specs.Leaving.{leaving, leaves, left}
+use Rattle.node_rules.specs.Lives.{Input, Delivers, Ticks, call_of, after_calls, Leaves}
 use Rattle.node_rules.specs.Accusing.{MayAccuse}
 use Rattle.node_rules.specs.OneExchange.{HoldsAccusation}
 use Rattle.node_rules.proofs.Small.{state_of-lives, state-takes}
@@ -192,11 +193,20 @@ agrees-ticked s n m =
     (λ due. agrees-due s (silent_in s p st) (pings_in s p st) (round_of s st) (probed_at s n) (λ x i. ap (λ (y : State). is_watched s.group.t y s.me x) (state-probed s n) ∙ silent-watched s n x i) h)
     (λ never. h)
 
+-- ---- leaving
+
+agrees-left : (s : Setting) (n : Node) → Agrees s n → Agrees s (left s n).node
+unfolding left leaves
+agrees-left s n m =
+    let c : Call = begun n in
+    node-wants true s (leaving s n.stored) (neighbours s) c (Agrees s) m (λ left. agrees-signs s (leaving s n.stored) c tt m)
+
 -- ---- lives
 
 agrees-call : (s : Setting) (n : Node) (i : Input) → Agrees s n → Agrees s (call_of s n i).node
 agrees-call s n (Delivers bytes) m = agrees-delivered s n bytes m
 agrees-call s n Ticks m = agrees-ticked s n m
+agrees-call s n Leaves m = agrees-left s n m
 
 agrees-calls : (s : Setting) (n : Node) (inputs : List Input) → Agrees s n → Agrees s (after_calls s n inputs)
 agrees-calls s n [] m = m

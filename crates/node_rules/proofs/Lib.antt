@@ -16,6 +16,8 @@ pub mod RingLemmas
 pub mod GoingOn
 pub mod Called
 pub mod Stopping
+pub mod Leaving
+pub mod Allowed
 mod Growth
 mod Upholding
 mod Correctness
@@ -32,4 +34,5 @@ mod Sendable
 mod Addressing
 pub mod ExchangeRows
 mod WideRows
+mod LeavingRows
 pub mod SentRecords

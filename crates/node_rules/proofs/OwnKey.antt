@@ -24,6 +24,7 @@ use Rattle.node_rules.specs.Deliveries.{answer_to}
 use Rattle.node_rules.specs.Refusals.{refusal, refusal_of}
 use Rattle.detector.specs.Silence.{History}
 use Rattle.node_rules.specs.Starting.{blank, opened, started, first_note}
+use Rattle.node_rules.specs.Leaving.{leaving}
 use Rattle.node_rules.specs.Lives.{is_certificate_for, Input, call_of, after_calls}
 use Rattle.node_rules.specs.Vouching.{IsCertifiedBy}
 use Rattle.node_rules.proofs.OwnNote.{option_or-none, or-second, stored-lives}
@@ -157,6 +158,7 @@ keeping-key s own =
       taken = λ r c fine h. key-takes s own r c fine h;
       answered = λ r a c fine is me left h. key-signs s own (answer_to s (takes s r c).node.stored a) (takes s r c) refl left (key-takes s own r c fine h);
       accused = λ a c by left h. key-signs s own (Accusation a) c by left h;
+      departed = λ c left h. key-signs s own (leaving s c.node.stored) c refl left h;
       stopped = λ c h. h;
       passed = λ c h. key-ticks s own c h;
       probed = λ p c h. key-probed s own c.node p h;
@@ -245,6 +247,7 @@ staying-within s =
       taken = λ r c fine h. within-takes s r c h;
       answered = λ r a c fine is me left h. within-signs s (answer_to s (takes s r c).node.stored a) (takes s r c) left (within-takes s r c h);
       accused = λ a c by left h. within-signs s (Accusation a) c left h;
+      departed = λ c left h. within-signs s (leaving s c.node.stored) c left h;
       stopped = λ c h. h;
       passed = λ c h. subst (λ k. k.next ≤ s.indexes) (sym (stored-lives s Ticks c)) h;
       probed = λ p c h. h;

@@ -10,7 +10,7 @@ use Rattle.std.specs.Ordering.{nat_cmp}
 use Rattle.std.specs.Cmp.{nat_cmp_is}
 use Rattle.std.specs.declared.cmp.Ordering.{Ordering}
 use Rattle.std.specs.declared.cmp.Ordering.TheVariants.{Greater}
-use Rattle.ff_ids.specs.Masks.{all_rings, good_mask, enables}
+use Rattle.ff_ids.specs.Masks.{all_rings, good_mask, note_mask, enables}
 use Rattle.ff_ids.specs.Notes.{newest, note_cmp, greater_note}
 use Rattle.ff_ids.specs.Views.{State, is_member}
 use Rattle.ff_ids.specs.Faults.{note_fault, accusation_fault, fault_beside, fault_after, note_fault_by, facts_of}
@@ -31,9 +31,11 @@ use Rattle.rebuttal.proofs.Answering.{IsAsked}
 use Rattle.rebuttal.specs.Rebuttals.{answering_mask}
 use Rattle.node_rules.specs.Replies.{first_mask}
 use Rattle.node_rules.specs.Deliveries.{answering_note, answer_to}
+use Rattle.node_rules.specs.Leaving.{leaving}
 use Rattle.node_rules.specs.Starting.{blank, opened, started}
 use Rattle.node_rules.specs.Lives.{is_certificate_for, stored_note, KeepsOwnNote, Input, call_of, after_calls}
 use Rattle.rebuttal.proofs.Masks.{answering-good}
+use Rattle.node_rules.proofs.Allowed.{good-allowed, good-enabling}
 use Rattle.node_rules.proofs.Keeping.{Keeps, keeps-call}
 use Rattle.ff_ids.proofs.FaultLemmas.{passes}
 use Rattle.node_rules.proofs.Small.{state_of-lives, state-takes, state-signs, stored-signs, stored-takes}
@@ -78,15 +80,15 @@ next_own s kept mask = record { member = s.me; epoch = kept.epoch + 1; mask = re
 beside : (kept n : NoteBody) (o : Ordering) → nat_cmp n.epoch kept.epoch ≡ o → o ≡ Greater → fault_beside kept (note_cmp n kept) ≡ None
 beside kept n o e g = rw (e ∙ g) refl
 
-fault_by-none : (t : ℕ) (joined : Bool) (newest_note : Option NoteBody) (n : NoteBody) → joined ≡ true → good_mask t n.mask.0 ≡ true → fault_after newest_note n ≡ None → note_fault_by t joined newest_note n ≡ None
+fault_by-none : (t : ℕ) (joined : Bool) (newest_note : Option NoteBody) (n : NoteBody) → joined ≡ true → note_mask t n.mask.0 ≡ true → fault_after newest_note n ≡ None → note_fault_by t joined newest_note n ≡ None
 fault_by-none t joined newest_note n j g h = rw (j, g) h
 
 -- the node's note of the next epoch is accepted
-pub next_own-fine : (s : Setting) (n : Node) (mask : ℕ) → KeepsOwnNote s n → good_mask s.group.t mask ≡ true → note_fault s.group.t (state_of s n) (next_own s n.stored mask) ≡ None
-next_own-fine s n mask h good =
+pub next_own-fine : (s : Setting) (n : Node) (mask : ℕ) → KeepsOwnNote s n → note_mask s.group.t mask ≡ true → note_fault s.group.t (state_of s n) (next_own s n.stored mask) ≡ None
+next_own-fine s n mask h allowed =
     let note : NoteBody = next_own s n.stored mask in
     let later : fault_after (newest (state_of s n).notes s.me) note ≡ None = ap (λ o. fault_after o note) h.own ∙ beside (stored_note s n.stored) note Greater (cmp-next n.stored.epoch) refl in
-    fault_by-none s.group.t (is_member (state_of s n) s.me) (newest (state_of s n).notes s.me) note h.joined good later
+    fault_by-none s.group.t (is_member (state_of s n) s.me) (newest (state_of s n).notes s.me) note h.joined allowed later
 
 greater-next : (s : Setting) (kept : Stored) (mask : ℕ) → greater_note (next_own s kept mask) (Some (stored_note s kept)) ≡ next_own s kept mask
 greater-next s kept mask = rw (cmp-next kept.epoch) refl
@@ -124,7 +126,7 @@ transported s n m h same stored =
     record {
       joined = same.member h.joined;
       own = same.note ∙ h.own ∙ ap (λ k. Some (stored_note s k)) (sym stored);
-      good = ap (λ k. good_mask s.group.t k.mask.0) stored ∙ h.good;
+      allowed = ap (λ k. note_mask s.group.t k.mask.0) stored ∙ h.allowed;
     }
 
 by_step : (s : Setting) (e : Event) (c : Call) → IsNotOwn s.me e → SameOwn s.me (state_of s c.node) (state_of s (lives s e c).node)
@@ -143,30 +145,34 @@ own-sends s d c to h = h
 
 own-takes : (s : Setting) (r : Record) (c : Call) → IsNotOwn s.me (event_of s r.body) → KeepsOwnNote s c.node → KeepsOwnNote s (takes s r c).node
 unfolding takes state_of
-own-takes s r c other h = let k = own-lives s (event_of s r.body) c other h in record { joined = k.joined; own = k.own; good = k.good }
+own-takes s r c other h = let k = own-lives s (event_of s r.body) c other h in record { joined = k.joined; own = k.own; allowed = k.allowed }
 
 -- a signed accusation leaves the own note
 own-accuses : (s : Setting) (a : AccBody) (c : Call) → KeepsOwnNote s c.node → KeepsOwnNote s (signs s (Accusation a) c).node
 unfolding signs state_of
-own-accuses s a c h = own-takes s (own_record s c.node (Accusation a)) (spends s (Accusation a) c) tt (record { joined = h.joined; own = h.own; good = h.good })
+own-accuses s a c h = own-takes s (own_record s c.node (Accusation a)) (spends s (Accusation a) c) tt (record { joined = h.joined; own = h.own; allowed = h.allowed })
 
 unless-none : (fault : Option Fault) (st : State) (next : Stepped) → fault ≡ None → unless_fault fault st next ≡ next
 unless-none fault st next h = rw h refl
 
 -- the own note of the next epoch takes its place
-pub own-signs_note : (s : Setting) (mask : ℕ) (c : Call) → KeepsOwnNote s c.node → good_mask s.group.t mask ≡ true → KeepsOwnNote s (signs s (Note (next_own s c.node.stored mask)) c).node
-own-signs_note s mask c h good =
+pub own-signs_note : (s : Setting) (mask : ℕ) (c : Call) → KeepsOwnNote s c.node → note_mask s.group.t mask ≡ true → KeepsOwnNote s (signs s (Note (next_own s c.node.stored mask)) c).node
+own-signs_note s mask c h allowed =
     let note : NoteBody = next_own s c.node.stored mask in
     let st : State = state_of s c.node in
-    let fine : note_fault s.group.t st note ≡ None = next_own-fine s c.node mask h good in
+    let fine : note_fault s.group.t st note ≡ None = next_own-fine s c.node mask h allowed in
     let at : state_of s (signs s (Note note) c).node ≡ (step s.group st (Notes note)).state = state-signs s (Note note) c in
     let step-is : (step s.group st (Notes note)).state ≡ (after_note st note).state = ap (λ x. x.state) (unless-none (note_fault s.group.t st note) st (after_note st note) fine) in
     let whole = at ∙ step-is in
     record {
       joined = ap (λ x. is_member x s.me) whole ∙ h.joined;
       own = ap (λ x. newest x.notes s.me) whole ∙ newest-next s c.node mask h.own ∙ ap (λ k. Some (stored_note s k)) (sym (stored-signs s (Note note) c));
-      good = ap (λ k. good_mask s.group.t k.mask.0) (stored-signs s (Note note) c) ∙ good;
+      allowed = ap (λ k. note_mask s.group.t k.mask.0) (stored-signs s (Note note) c) ∙ allowed;
     }
+
+-- the note by which the node leaves is one of them
+pub own-leaves : (s : Setting) (c : Call) → KeepsOwnNote s c.node → KeepsOwnNote s (signs s (leaving s c.node.stored) c).node
+own-leaves s c h = own-signs_note s 0 c h refl
 
 -- ---- an accusation against the node, and its answer
 
@@ -183,7 +189,8 @@ accused-asks s n r a some own fine is me =
     let who : a.accused ≡ s.me = eqb-true _ _ me in
     let note-is : p.note ≡ stored_note s n.stored = some-injective _ _ (sym p.newest ∙ ap (newest st.notes) who ∙ own.own) in
     let lit : enables p.note.mask.0 a.ring.0 ≡ true = (and_parts _ _ p.unanswered).1 in
-    record { some = some; good = own.good; on = sym (ap (λ (x : NoteBody). enables x.mask.0 a.ring.0) note-is) ∙ lit }
+    let on : enables n.stored.mask.0 a.ring.0 ≡ true = sym (ap (λ (x : NoteBody). enables x.mask.0 a.ring.0) note-is) ∙ lit in
+    record { some = some; good = good-enabling s.group.t n.stored.mask.0 a.ring.0 own.allowed on; on = on }
 
 pub own-answers : (s : Setting) (r : Record) (a : AccBody) (c : Call) → 1 ≤ s.group.t → refusal s c.node r ≡ None → r.body ≡ Accusation a → eqb a.accused s.me ≡ true → KeepsOwnNote s c.node
     → KeepsOwnNote s (signs s (answer_to s (takes s r c).node.stored a) (takes s r c)).node
@@ -193,7 +200,7 @@ own-answers s r a c some fine is me h =
     let h1 : KeepsOwnNote s c1.node = own-takes s r c (event-is_other s c.node r r.body h refl fine) h in
     let good : good_mask s.group.t (answering_mask s.group.t c1.node.stored.mask.0 a.ring.0) ≡ true =
     ap (λ k. good_mask s.group.t (answering_mask s.group.t k.mask.0 a.ring.0)) (stored-takes s r c) ∙ answering-good s.group.t c.node.stored.mask.0 a.ring.0 asked in
-    own-signs_note s (answering_mask s.group.t c1.node.stored.mask.0 a.ring.0) c1 h1 good
+    own-signs_note s (answering_mask s.group.t c1.node.stored.mask.0 a.ring.0) c1 h1 (good-allowed s.group.t (answering_mask s.group.t c1.node.stored.mask.0 a.ring.0) good)
 
 pub answer-fine : (s : Setting) (r : Record) (a : AccBody) (c : Call) → 1 ≤ s.group.t → refusal s c.node r ≡ None → r.body ≡ Accusation a → eqb a.accused s.me ≡ true → KeepsOwnNote s c.node
     → note_fault s.group.t (state_of s (takes s r c).node) (answering_note s (takes s r c).node.stored a) ≡ None
@@ -203,13 +210,13 @@ answer-fine s r a c some fine is me h =
     let h1 : KeepsOwnNote s c1.node = own-takes s r c (event-is_other s c.node r r.body h refl fine) h in
     let good : good_mask s.group.t (answering_mask s.group.t c1.node.stored.mask.0 a.ring.0) ≡ true =
     ap (λ k. good_mask s.group.t (answering_mask s.group.t k.mask.0 a.ring.0)) (stored-takes s r c) ∙ answering-good s.group.t c.node.stored.mask.0 a.ring.0 asked in
-    next_own-fine s c1.node (answering_mask s.group.t c1.node.stored.mask.0 a.ring.0) h1 good
+    next_own-fine s c1.node (answering_mask s.group.t c1.node.stored.mask.0 a.ring.0) h1 (good-allowed s.group.t _ good)
 
 -- ---- calls
 
 with_probes : (s : Setting) (n : Node) (p : History) → KeepsOwnNote s n → KeepsOwnNote s (record n { probes = p })
 unfolding state_of
-with_probes s n p h = record { joined = h.joined; own = h.own; good = h.good }
+with_probes s n p h = record { joined = h.joined; own = h.own; allowed = h.allowed }
 
 pub keeping : (s : Setting) → 1 ≤ s.group.t → Keeps s (λ c. KeepsOwnNote s c.node)
 keeping s some =
@@ -219,6 +226,7 @@ keeping s some =
       taken = λ r c fine h. own-takes s r c (event-is_other s c.node r r.body h refl fine) h;
       answered = λ r a c fine is me left h. own-answers s r a c some fine is me h;
       accused = λ a c by left h. own-accuses s a c h;
+      departed = λ c left h. own-leaves s c h;
       stopped = λ c h. h;
       passed = λ c h. own-lives s Ticks c tt h;
       probed = λ p c h. with_probes s c.node p h;
@@ -279,7 +287,7 @@ stored-takes_all : (s : Setting) (records : List Record) (c : Call) → (takes_a
 stored-takes_all s [] c = refl
 stored-takes_all s (r ∷ records) c = stored-takes_all s records (takes s r c) ∙ stored-takes s r c
 
-fault-none : (t : ℕ) (joined : Bool) (newest_note : Option NoteBody) (n : NoteBody) → joined ≡ true → good_mask t n.mask.0 ≡ true → newest_note ≡ None → note_fault_by t joined newest_note n ≡ None
+fault-none : (t : ℕ) (joined : Bool) (newest_note : Option NoteBody) (n : NoteBody) → joined ≡ true → note_mask t n.mask.0 ≡ true → newest_note ≡ None → note_fault_by t joined newest_note n ≡ None
 fault-none t joined newest_note n j g h = rw (j, g, h) refl
 
 first-good : (t stored : ℕ) → good_mask t (all_rings t) ≡ true → good_mask t (first_mask t stored) ≡ true
@@ -294,8 +302,8 @@ own-started s seed certificates stored all_good all mine =
     let st : State = state_of s c.node in
     let none : st.notes ≡ [] = no_notes s certificates (begun (blank s seed stored)) all (blank-notes s seed stored) in
     let joined : is_member st s.me ≡ true = becomes_member s certificates (begun (blank s seed stored)) all mine in
-    let good : good_mask s.group.t (first_mask s.group.t stored.mask.0) ≡ true = first-good s.group.t stored.mask.0 all_good in
-    let fine : note_fault s.group.t st note ≡ None = fault-none s.group.t (is_member st s.me) (newest st.notes s.me) note joined good (ap (λ ns. newest ns s.me) none) in
+    let allowed : note_mask s.group.t (first_mask s.group.t stored.mask.0) ≡ true = good-allowed s.group.t (first_mask s.group.t stored.mask.0) (first-good s.group.t stored.mask.0 all_good) in
+    let fine : note_fault s.group.t st note ≡ None = fault-none s.group.t (is_member st s.me) (newest st.notes s.me) note joined allowed (ap (λ ns. newest ns s.me) none) in
     let at : state_of s (signs s (Note note) c).node ≡ (step s.group st (Notes note)).state = state-signs s (Note note) c in
     let step-is : (step s.group st (Notes note)).state ≡ (after_note st note).state = ap (λ x. x.state) (unless-none (note_fault s.group.t st note) st (after_note st note) fine) in
     let whole = at ∙ step-is in
@@ -303,7 +311,7 @@ own-started s seed certificates stored all_good all mine =
     record {
       joined = ap (λ x. is_member x s.me) whole ∙ joined;
       own = ap (λ x. newest x.notes s.me) whole ∙ one ∙ ap (λ k. Some (stored_note s k)) (sym (stored-signs s (Note note) c));
-      good = ap (λ k. good_mask s.group.t k.mask.0) (stored-signs s (Note note) c) ∙ good;
+      allowed = ap (λ k. note_mask s.group.t k.mask.0) (stored-signs s (Note note) c) ∙ allowed;
     }
   where
     blank-notes : (s : Setting) (seed : List ℕ) (stored : Stored) → (state_of s (blank s seed stored)).notes ≡ []

@@ -143,7 +143,7 @@ unfolding all_numbers in_view_by started signs signs_and_sends wants takes lives
 stopped = (refl, refl, refl)
 
 -- The key is used up: no answer is signed, and the life goes on.
-abbrev last_life : Call
+abbrev pub last_life : Call
 last_life = started (setting 1) seed (certificate 1 ∷ certificate 2 ∷ []) (record { next = 31; epoch = 31; mask = record { 0 = 7 } })
 
 used_up : ((delivered (setting 1) (delivered (setting 1) last_life.node (given (note 2 1 7))).node (given (acc 2 1 32 0))).told

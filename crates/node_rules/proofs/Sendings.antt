@@ -20,13 +20,14 @@ use Rattle.node_rules.specs.Nodes.{Setting, Node, state_of, event_of}
 use Rattle.node_rules.specs.Pages.{page, lacking}
 use Rattle.node_rules.specs.Calls.{Call, begun, tells, lives, takes, spends, signs, sends, own_record}
 use Rattle.node_rules.specs.Deliveries.{answer_to, is_other, gives, replies, delivered}
+use Rattle.node_rules.specs.Leaving.{leaving}
 use Rattle.node_rules.specs.Lives.{is_of_life, Input, call_of}
 use Rattle.node_rules.specs.Verdicts.{all_at, told_that, is_apart}
 use Rattle.node_rules.specs.Sending.{is_sent, sendings, TellsSendings, SentIsTold, Brings, given, reply}
-use Rattle.node_rules.proofs.Called.{delivered_until, holds-called, ticked_until}
+use Rattle.node_rules.proofs.Called.{delivered_until, holds-called, ticked_until, left_until}
 use Rattle.node_rules.proofs.Small.{node-sends}
 use Rattle.node_rules.proofs.Handling.{nil-right, that-tells, unlived, map-append, apart-over, that-sends}
-use Rattle.node_rules.proofs.Carrying.{Carries, beside-apart, carries-call, carries-delivered_until, carries-ticked_until}
+use Rattle.node_rules.proofs.Carrying.{Carries, beside-apart, carries-call, carries-delivered_until, carries-ticked_until, carries-left_until}
 
 -- ---- what is reported as sent
 
@@ -89,6 +90,7 @@ sending s =
       taken = λ r c fine h. sendings-takes s r c h;
       answered = λ r a c fine is me left h. sendings-signs s (answer_to s (takes s r c).node.stored a) (takes s r c) (sendings-takes s r c h);
       accused = λ a c by left h. sendings-signs s (Accusation a) c h;
+      departed = λ c left h. sendings-signs s (leaving s c.node.stored) c h;
       stopped = λ c h. sendings-tells s told.Stopped c refl h;
       passed = λ c h. sendings-lives s Ticks c h;
       probed = λ p c h. h;
@@ -103,8 +105,11 @@ delivered_until-sendings s n records r = carries-delivered_until s TellsSendings
 pub ticked_until-sendings : (s : Setting) (n : Node) (silent : List ℕ) (m : ℕ) → TellsSendings (ticked_until s n silent m)
 ticked_until-sendings s n silent m = carries-ticked_until s TellsSendings (sending s) n silent m refl
 
+pub left_until-sendings : (s : Setting) (n : Node) → TellsSendings (left_until s n)
+left_until-sendings s n = carries-left_until s TellsSendings (sending s) n refl
+
 pub called-sendings : SentIsTold
-called-sendings s n = holds-called s n (λ i call. TellsSendings call) (call-sendings s n) (λ bytes. delivered_until-sendings s n) (ticked_until-sendings s n)
+called-sendings s n = holds-called s n (λ i call. TellsSendings call) (call-sendings s n) (λ bytes. delivered_until-sendings s n) (ticked_until-sendings s n) (left_until-sendings s n)
 
 -- ---- pings, pongs and summaries
 

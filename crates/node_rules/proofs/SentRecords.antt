@@ -1,13 +1,10 @@
 -- Each record that a life has come by verifies under its author's key, and so does each that is sent.
-use Rattle.std.proofs.Common.{◌≡◌, ℕ, ◌≤◌, ◌<◌, Bool, true, false, cond, inl, inr, ◌⊎◌, List, [], ◌∷◌, ◌++◌, Option, Some, None, map, refl, ap, sym, ◌∙◌, subst}
+use Rattle.std.proofs.Common.{◌≡◌, ℕ, ◌≤◌, ◌<◌, true, false, cond, inl, inr, ◌⊎◌, List, [], ◌∷◌, ◌++◌, Option, Some, None, map, refl, ap, sym, ◌∙◌, subst}
 use Rattle.std.specs.Prelude.{Result, Ok, Err, is_some, filter_map, Contains}
 use Rattle.std.specs.List.{AllByRecursion}
 use Rattle.std.proofs.lemmas.Bool.{false≢true}
 use Rattle.std.proofs.lemmas.List.Elements.{filter_map-append}
-use Rattle.ff_ids.specs.declared.AccBody.{AccBody}
-use Rattle.ff_ids.specs.declared.NoteBody.{NoteBody}
 use Rattle.ff_ids.specs.declared.Fault.{Fault}
-use Rattle.ff_ids.specs.declared.summary.Summary.{Summary}
 use Rattle.ff_ids.specs.Faults.{note_fault, accusation_fault}
 use Rattle.ff_ids.specs.Steps.{Event, Ticks as Passes, Report, step}
 use Rattle.life_laws.proofs.Lists.{In, In-from_Contains, All-at, All-from_In, In-append_cases, In-from_map}
@@ -26,22 +23,23 @@ use Rattle.journal.specs.declared.event.What.TheVariants as told
 use Rattle.validate.specs.Table.{certificate_fault, signature_fault}
 use Rattle.node_rules.specs.Nodes.{Setting, Node, state_of, event_of, certificate_of, public_key_of}
 use Rattle.node_rules.specs.Refusals.{refusal, refusal_of}
-use Rattle.node_rules.specs.Calls.{Call, begun, tells, told_of, whats_of, lives, takes, spends, signs, sends, stops, is_used_up, own_record}
+use Rattle.node_rules.specs.Calls.{Call, begun, tells, told_of, whats_of, lives, takes, spends, signs, sends, is_used_up, own_record}
 use Rattle.node_rules.specs.Deliveries.{answer_to, handles, handles_all, hears, delivered}
 use Rattle.node_rules.specs.Starting.{blank, first_note, opened, started}
-use Rattle.node_rules.specs.Lives.{Input, Delivers, Ticks, IsKit, call_of, after_calls, life_of}
+use Rattle.node_rules.specs.Leaving.{leaving}
+use Rattle.node_rules.specs.Lives.{Input, Delivers, Ticks, IsKit, call_of, after_calls, life_of, Leaves}
 use Rattle.node_rules.specs.OnDisks.{called}
 use Rattle.node_rules.specs.Verdicts.{records_in, when_handled}
 use Rattle.node_rules.specs.Known.{SendsKnown, IsOfKnown, accepted_in, accepted_of, gathered, known_in, made_by, records_of, signed_in}
 use Rattle.node_rules.specs.Vouching.{IsAuthentic, IsCertifiedBy, IsOfAuthentic, OwnSignaturesVerify, SendsAuthentic, author_key}
 use Rattle.node_rules.proofs.Accusations.{In-from_filter_map}
-use Rattle.node_rules.proofs.Called.{delivered_until, holds-called, ticked_until}
-use Rattle.node_rules.proofs.Carrying.{Carries, carries-call, carries-delivered_until, carries-ticked_until, is_beside}
+use Rattle.node_rules.proofs.Called.{delivered_until, holds-called, ticked_until, left_until}
+use Rattle.node_rules.proofs.Carrying.{Carries, carries-call, carries-delivered_until, carries-ticked_until, is_beside, carries-left_until}
 use Rattle.node_rules.proofs.Correctness.{Certifies, KeepsAll, Verifies, all-started, index-left, key-follows, keeping-all, takes_all, verified}
-use Rattle.node_rules.proofs.Gathering.{call-sends, delivered_until-sends, held-life, ticked_until-sends}
-use Rattle.node_rules.proofs.Growth.{Follows, accusation-is_none, certificate-signs, follows-itself, follows-signs, following, note-is_none}
+use Rattle.node_rules.proofs.Gathering.{call-sends, delivered_until-sends, held-life, ticked_until-sends, left_until-sends}
+use Rattle.node_rules.proofs.Growth.{Follows, accusation-is_none, follows-itself, follows-signs, following, note-is_none}
 use Rattle.node_rules.proofs.Handling.{node-handles}
-use Rattle.node_rules.proofs.Keeping.{keeps-call, keeps-delivered_until, keeps-handles_all, keeps-ticked_until}
+use Rattle.node_rules.proofs.Keeping.{keeps-call, keeps-delivered_until, keeps-handles_all, keeps-ticked_until, keeps-left_until}
 use Rattle.node_rules.proofs.OwnKey.{stored-opened}
 use Rattle.node_rules.proofs.OwnNote.{option_or-none}
 use Rattle.node_rules.proofs.Upholding.{none_some}
@@ -189,6 +187,7 @@ carrying s own some sign =
           let h1 : Good s own c1 = good-then s own c c1 (k.taken r c fine h.all) ((following s c.node).taken r c fine (follows-itself s c.node)) (signed-takes s r c) h in
           good-signs s own (answer_to s c1.node.stored a) c1 sign refl (λ x e. note-is_none _ x e) left (k.answered r a c fine is me left h.all) h1;
       accused = λ a c by left h. good-signs s own (Accusation a) c sign (ap (public_key_of c.node) by) (accusation-is_none a) left (k.accused a c by left h.all) h;
+      departed = λ c left h. good-signs s own (leaving s c.node.stored) c sign refl (λ x e. note-is_none _ x e) left (k.departed c left h.all) h;
       stopped = λ c h. record { all = k.stopped c h.all; signed = λ r i. h.signed r (signed-tells s told.Stopped c r refl i) };
       passed = λ c h. good-then s own c (lives s Passes c) (k.passed c h.all) ((following s c.node).passed c (follows-itself s c.node)) (signed-lives s Passes c) h;
       probed = λ p c h. good-then s own c (record c { node = record c.node { probes = p } }) (k.probed p c h.all) ((following s c.node).probed p c (follows-itself s c.node)) (λ r i. i) h;
@@ -229,6 +228,7 @@ call-accepts : (s : Setting) (n : Node) (i : Input) (r : Record) → In (accepte
 unfolding delivered
 call-accepts s n (Delivers bytes) r i = hears-authentic s n (read_of bytes) r i
 call-accepts s n Ticks r i = absurd i
+call-accepts s n Leaves r i = absurd i
 
 -- ---- lives
 
@@ -321,4 +321,6 @@ sent-authentic s own seed certificates stored inputs i fails_at some kit good si
     (carries-delivered_until s (Good s own) k n records r begins) (delivered_until-sends s known n records r held))
     (λ silent m. sends-authentic s own known n (ticked_until s n silent m) life.1 (keeps-ticked_until s (λ y. Follows s n y.node) (following s n) n silent m same)
     (carries-ticked_until s (Good s own) k n silent m begins) (ticked_until-sends s known n silent m held))
+    (sends-authentic s own known n (left_until s n) life.1 (keeps-left_until s (λ y. Follows s n y.node) (following s n) n same)
+    (carries-left_until s (Good s own) k n begins) (left_until-sends s known n held))
     i fails_at

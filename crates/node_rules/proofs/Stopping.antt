@@ -1,5 +1,6 @@
--- Calls that a failing put ends: in the answer to a record or in the accusation of a silent member, and nowhere else.
-use Rattle.std.proofs.Common.{◌≡◌, ℕ, ◌+◌, ◌-◌, Bool, true, false, eqb, List, ◌∷◌, ◌++◌, Option, Some, None, inl, inr, refl, ap, sym, ◌∙◌, subst, arith}
+-- Calls that a failing put ends: in the answer to a record, in the accusation of a silent member or in the note by which the
+-- node leaves, and nowhere else.
+use Rattle.std.proofs.Common.{◌≡◌, ℕ, ◌+◌, ◌-◌, Bool, true, false, eqb, List, [], ◌∷◌, ◌++◌, Option, Some, None, inl, inr, refl, ap, sym, ◌∙◌, subst, arith}
 use Rattle.std.specs.Prelude.{Result, Ok, Err, fold}
 use Rattle.std.proofs.lemmas.Bool.{cases_Bool}
 use Rattle.ff_ids.specs.declared.AccBody.{AccBody}
@@ -15,21 +16,22 @@ use Rattle.datagram.specs.Grammar.{read_of}
 use Rattle.journal.specs.declared.event.What.TheVariants as told
 use Rattle.node_rules.specs.Nodes.{Setting, Node, state_of, neighbours, neighbours_and}
 use Rattle.node_rules.specs.Refusals.{refusal}
-use Rattle.node_rules.specs.Calls.{Call, begun, lives, tells, takes, wants, is_used_up}
+use Rattle.node_rules.specs.Calls.{Call, begun, lives, tells, takes, wants, stops, is_used_up}
 use Rattle.node_rules.specs.Deliveries.{answer_to, answers, judged, handles, handles_all}
 use Rattle.node_rules.specs.Ticking.{accusation_on, ring_for, has_accused, wants_accusation, accuses, accuses_all, gossips, is_due, passed, pings_all, pings_in, probed_at, round_of, silent_in, silent_at}
-use Rattle.node_rules.specs.OnDisks.{Input, Delivers, Ticks, OnDisk, hears_on, delivered_on, accuses_on, due_on, ticked_on, counting, called}
+use Rattle.node_rules.specs.Leaving.{leaving, leaves}
+use Rattle.node_rules.specs.OnDisks.{Input, Delivers, Ticks, Leaves, OnDisk, hears_on, delivered_on, accuses_on, due_on, ticked_on, left_on, counting, called}
 use Rattle.node_rules.specs.Lives.{call_of}
 use Rattle.node_rules.specs.Verdicts.{when_all_handled, told_that, is_took}
 use Rattle.node_rules.specs.Answering.{accusation_to_answer}
 use Rattle.node_rules.specs.Outgoing.{at_tick}
-use Rattle.node_rules.specs.Stopping.{WantsAnswer, StopsAnswering, StopsAccusing, StopsBehind, StoppedDeliveryEnds, StoppedVerdictsAreTold, StoppedTickEnds, OnlySignaturesStop, WholeCallsGoOn}
+use Rattle.node_rules.specs.Stopping.{WantsAnswer, StopsAnswering, StopsAccusing, StopsLeaving, StopsAtOnce, StopsBehind, StoppedDeliveryEnds, StoppedVerdictsAreTold, StoppedTickEnds, StoppedLeavingEnds, OnlySignaturesStop, WholeCallsGoOn}
 use Rattle.node_rules.proofs.Small.{stored-takes}
 use Rattle.node_rules.proofs.GoingOn.{on-hears, on-probed, whole-goes_on}
-use Rattle.node_rules.proofs.Handling.{delivery-ends, node-all, until-told}
+use Rattle.node_rules.proofs.Handling.{delivery-ends, node-all, until-told, wants-failing}
 use Rattle.node_rules.proofs.Ticks.{Stands, stands-behind, starts, stored-probed, tick-ends}
 use Rattle.node_rules.proofs.OwnNote.{stored-lives}
-use Rattle.node_rules.proofs.Called.{ComesSoFar, accused-on, all-accuse, all-handle, called-none, called-so_far, chosen, counts, delivered_until, ended-apart, handled-on, on-gossips, other, put-accusing, put-answering, stopped-at}
+use Rattle.node_rules.proofs.Called.{ComesSoFar, accused-on, all-accuse, all-handle, all-leave, called-none, called-so_far, chosen, counts, delivered_until, ended-apart, handled-on, leaves_once, left_until, on-gossips, other, put-accusing, put-answering, put-leaving, stopped-at}
 
 less : (n k put : ℕ) → put ≡ (n + k) - n → put ≡ k
 less n k put e = omega (arith, e)
@@ -201,18 +203,49 @@ only-ticks s n put over =
           ])
     ]
 
+-- ---- leaving
+
+left-over : (s : Setting) (n : Node) → is_used_up s n ≡ false → left_until s n ≡ stops s (begun n)
+unfolding left_until leaves
+left-over s n index = wants-failing s (leaving s n.stored) (neighbours s) (begun n) index
+
+pub leaving-stops : StoppedLeavingEnds
+leaving-stops s n put stop =
+    let ends : left_until s n ≡ stops s (begun n) = left-over s n stop.left in
+    let over : (left_until s n).ended ≡ true = ap (λ (c : Call). c.ended) ends in
+    subst (StopsAtOnce s n) (sym (ap (λ k. called s n Leaves (Some k)) stop.first ∙ put-leaving s n over ∙ ends)) (record { told = refl; sent_so = refl; node_so = refl; over = refl })
+
+one-left : (s : Setting) (n : Node) (before : List ℕ) (at : ℕ) (behind : List ℕ) (put : ℕ) → 0 ∷ [] ≡ before ++ at ∷ behind → (fold (leaves_once s true) (begun n) before).node.stored.next ≡ n.stored.next + put
+    → (leaves_once s false (fold (leaves_once s true) (begun n) before) at).ended ≡ true → StopsLeaving s n put
+unfolding leaves
+one-left s n [] at behind put split counted over = record { left = wants-left s (leaving s n.stored) (neighbours s) (begun n) refl over; first = omega (arith, counted) }
+one-left s n (x ∷ before) at behind put split counted over = absurd (no_more before split)
+  where
+    no_more : (xs : List ℕ) → 0 ∷ [] ≡ x ∷ (xs ++ at ∷ behind) → ⊥
+    no_more [] e = cc
+    no_more (y ∷ ys) e = cc
+
+only-leaves : (s : Setting) (n : Node) (put : ℕ) → (left_on counting s n (Some put)).call.ended ≡ true → StopsLeaving s n put
+unfolding left_on
+only-leaves s n put over =
+    let h = stopped-at (leaves_once s) (0 ∷ []) (begun n) put (all-leave s) refl over in
+    one-left s n h.before h.at h.behind put h.split h.counted h.over
+
 -- ---- which puts end calls
 
 pub only-signatures : OnlySignaturesStop
 unfolding called delivered_on
 only-signatures s n (Delivers bytes) put over = only-hears s n bytes put (read_of bytes) refl over
 only-signatures s n Ticks put over = only-ticks s n put over
+only-signatures s n Leaves put over = only-leaves s n put over
 
 going-whole : (s : Setting) (n : Node) (i : Input) (c : Call) → ComesSoFar s n i c → c.ended ≡ false → c ≡ call_of s n i
 going-whole s n (Delivers bytes) c (inl whole) going = whole.is
 going-whole s n (Delivers bytes) c (inr cut) going = absurd (ended-apart c.ended cut.over going)
 going-whole s n Ticks c (inl whole) going = whole.is
 going-whole s n Ticks c (inr cut) going = absurd (ended-apart c.ended cut.over going)
+going-whole s n Leaves c (inl whole) going = whole.is
+going-whole s n Leaves c (inr cut) going = absurd (ended-apart c.ended cut.over going)
 
 pub whole-calls : WholeCallsGoOn
 whole-calls s n i = record {

@@ -17,8 +17,9 @@ use Rattle.journal.specs.declared.event.What.TheVariants as told
 use Rattle.node_rules.specs.Nodes.{Setting, Node, state_of, event_of}
 use Rattle.node_rules.specs.Calls.{Call, begun, tells, lives, takes, signs, sends, told_of}
 use Rattle.node_rules.specs.Lives.{is_of_life, told_by, TellsItsLife, EachCallTellsItsLife, Input, call_of}
-use Rattle.node_rules.proofs.Called.{delivered_until, holds-called, ticked_until}
-use Rattle.node_rules.proofs.Keeping.{Keeps, keeps-call, keeps-delivered_until, keeps-ticked_until}
+use Rattle.node_rules.specs.Leaving.{leaving}
+use Rattle.node_rules.proofs.Called.{delivered_until, holds-called, ticked_until, left_until}
+use Rattle.node_rules.proofs.Keeping.{Keeps, keeps-call, keeps-delivered_until, keeps-ticked_until, keeps-left_until}
 
 abbrev of_life : List journal.Event → List journal.Event
 of_life told = filter (λ e. is_of_life e.what) told
@@ -121,6 +122,7 @@ telling s n =
       taken = λ r c fine h. tells-takes s n r c h;
       answered = λ r a c fine is me left h. tells-signs s n _ _ (tells-takes s n r c h);
       accused = λ a c by left h. tells-signs s n (Accusation a) c h;
+      departed = λ c left h. tells-signs s n (leaving s c.node.stored) c h;
       stopped = λ c h. let k = tells-other s n told.Stopped c refl h in record { more = k.more; grew = k.grew; told_so = k.told_so };
       passed = λ c h. tells-lives s n Ticks c h;
       probed = λ p c h. record { more = h.more; grew = h.grew; told_so = h.told_so };
@@ -135,5 +137,8 @@ delivered_until-tells s n records r = keeps-delivered_until s (TellsItsLife s n)
 pub ticked_until-tells : (s : Setting) (n : Node) (silent : List ℕ) (m : ℕ) → TellsItsLife s n (ticked_until s n silent m)
 ticked_until-tells s n silent m = keeps-ticked_until s (TellsItsLife s n) (telling s n) n silent m (begins s n)
 
+pub left_until-tells : (s : Setting) (n : Node) → TellsItsLife s n (left_until s n)
+left_until-tells s n = keeps-left_until s (TellsItsLife s n) (telling s n) n (begins s n)
+
 pub called-tells : EachCallTellsItsLife
-called-tells s n = holds-called s n (λ i call. TellsItsLife s n call) (call-tells s n) (λ bytes. delivered_until-tells s n) (ticked_until-tells s n)
+called-tells s n = holds-called s n (λ i call. TellsItsLife s n call) (call-tells s n) (λ bytes. delivered_until-tells s n) (ticked_until-tells s n) (left_until-tells s n)

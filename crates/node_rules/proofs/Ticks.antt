@@ -25,11 +25,12 @@ use Rattle.datagram.specs.Spelling.{datagram_bytes}
 use Rattle.journal.specs.declared.event.Event as journal
 use Rattle.journal.specs.declared.event.What as whats
 use Rattle.journal.specs.declared.event.What.TheVariants as told
-use Rattle.node_rules.specs.Nodes.{Setting, Node, state_of, neighbours_and}
+use Rattle.node_rules.specs.Nodes.{Setting, Node, state_of, neighbours_and, neighbours}
 use Rattle.node_rules.specs.Pages.{page, partner, page_number}
 use Rattle.node_rules.specs.Calls.{Call, begun, tells, lives, signs, wants, stops, sends, is_used_up}
 use Rattle.node_rules.specs.Ticking.{ring_for, accusation_on, is_by, has_accused, accuses, accuses_all, is_due, silent_in, pings_in, round_of, pings_all, summary_to, passed, probed_at, due_tick, ticked, silent_at}
-use Rattle.node_rules.specs.Lives.{Input, Delivers, Ticks as Tick, call_of}
+use Rattle.node_rules.specs.Leaving.{leaving, leaves, left}
+use Rattle.node_rules.specs.Lives.{Input, Delivers, Ticks as Tick, Leaves, call_of}
 use Rattle.node_rules.specs.Verdicts.{all_at, told_that, is_apart}
 use Rattle.node_rules.specs.Answering.{to_each}
 use Rattle.node_rules.specs.Accusing.{MayAccuse, AccusesTheSilent, TellsAccusation}
@@ -534,6 +535,27 @@ accuses-ticked s n moment index a i =
     let listed = In-from_filter (λ x. not (has_accused s st x)) (silent_in s p st) m.0 m.1.0 in
     accuses-silent s n a m.0 listed.0 (not-true _ listed.1) m.1.1
 
+-- a node that leaves signs a note
+leaving-accuses : (s : Setting) (n : Node) (moment index : ℕ) (a : AccBody) → In (left s n).told (record { moment = moment; what = told.Spent index (Accusation a) }) → ⊥
+unfolding left leaves
+leaving-accuses s n moment index a i =
+    let e : journal.Event = record { moment = moment; what = told.Spent index (Accusation a) } in
+    let c : Call = begun n in
+    let body : Body = leaving s n.stored in
+    let j : In (told_that is_apart (left s n)) e = In-filter (λ (x : journal.Event). is_apart x.what) (left s n).told e i refl in
+    by_case (eqb n.stored.next s.indexes) (subst (λ xs. In xs e) (that-wants is_apart true s body (neighbours s) c apart-over) j)
+  where
+    exhausted : told.Exhausted n.stored.next ≡ told.Spent index (Accusation a) → ⊥
+    exhausted e = cc
+
+    spent : told.Spent n.stored.next (leaving s n.stored) ≡ told.Spent index (Accusation a) → ⊥
+    spent e = cc
+
+    by_case : (up : Bool) → In (picked is_apart (state_of s n).moment (cond up (told.Exhausted n.stored.next) (told.Spent n.stored.next (leaving s n.stored)) ∷ [])) (record { moment = moment; what = told.Spent index (Accusation a) }) → ⊥
+    by_case true k = elim k [ inl e ↦ exhausted (ap (λ (x : journal.Event). x.what) e) | inr none ↦ none ]
+    by_case false k = elim k [ inl e ↦ spent (ap (λ (x : journal.Event). x.what) e) | inr none ↦ none ]
+
 pub only-silent : (s : Setting) (n : Node) (i : Input) (a : AccBody) → TellsAccusation (call_of s n i) a → (i ≡ Tick) × AccusesTheSilent s n a
 only-silent s n (Delivers bytes) a t = absurd (accuses-nobody s n bytes t.0 t.1 a (In-from_Contains _ _ t.2))
 only-silent s n Tick a t = (refl, accuses-ticked s n t.0 t.1 a (In-from_Contains _ _ t.2))
+only-silent s n Leaves a t = absurd (leaving-accuses s n t.0 t.1 a (In-from_Contains _ _ t.2))

@@ -15,7 +15,7 @@ use Rattle.ff_ids.specs.declared.Fault.{Fault}
 use Rattle.ff_ids.specs.declared.Fault.TheVariants as faults
 use Rattle.ff_ids.specs.declared.summary.RecordKey.{RecordKey}
 use Rattle.ff_ids.specs.declared.summary.RecordKey.TheVariants as keys
-use Rattle.ff_ids.specs.Masks.{good_mask}
+use Rattle.ff_ids.specs.Masks.{note_mask}
 use Rattle.ff_ids.specs.Notes.{note_cmp, greater_note, newest}
 use Rattle.ff_ids.specs.Views.{State, is_member}
 use Rattle.ff_ids.specs.Faults.{note_fault, fault_after, fault_beside, accusation_fault}
@@ -37,17 +37,17 @@ use Rattle.node_rules.proofs.Growth.{held-lives, held-takes, certificate-takes}
 
 -- ---- what a step leaves of notes and members
 
--- The note is accepted: it is a member's, its mask is good, and it is greater than the newest.
+-- The note is accepted: it is a member's, it may carry its mask, and it is greater than the newest.
 pub record IsAccepted (t : ℕ) (st : State) (n : NoteBody) : Type 0 where
   pub member : is_member st n.member ≡ true
-  pub good : good_mask t n.mask.0 ≡ true
+  pub allowed : note_mask t n.mask.0 ≡ true
   pub after : fault_after (newest st.notes n.member) n ≡ None
 
 pub accepted-from : (t : ℕ) (st : State) (n : NoteBody) → note_fault t st n ≡ None → IsAccepted t st n
 accepted-from t st n fine =
     let joined = passed (not (is_member st n.member)) faults.UnknownMember _ fine in
-    let good = passed (not (good_mask t n.mask.0)) faults.BadMask _ joined.1 in
-    record { member = not-false _ joined.0; good = not-false _ good.0; after = good.1 }
+    let allowed = passed (not (note_mask t n.mask.0)) faults.BadMask _ joined.1 in
+    record { member = not-false _ joined.0; allowed = not-false _ allowed.0; after = allowed.1 }
 
 greater-beside : (n kept : NoteBody) (o : Ordering) → note_cmp n kept ≡ o → fault_beside kept o ≡ None → greater_note n (Some kept) ≡ n
 greater-beside n kept Less e h = cc
@@ -183,8 +183,8 @@ accusation-note r held a m is = ap (λ b. cond (eq_by_cmp key_cmp (keys.Note m) 
 
 -- ---- what is upheld
 
-abbrev pub AreGood : ℕ → List NoteBody → Type 0
-AreGood t notes = AllByRecursion (λ n. good_mask t n.mask.0 ≡ true) notes
+abbrev pub AreAllowed : ℕ → List NoteBody → Type 0
+AreAllowed t notes = AllByRecursion (λ n. note_mask t n.mask.0 ≡ true) notes
 
 pub record Upholds (s : Setting) (n : Node) : Type 0 where
   pub filed : IsFiled n.held
@@ -192,7 +192,7 @@ pub record Upholds (s : Setting) (n : Node) : Type 0 where
   pub members : (m : ℕ) → is_certified n m ≡ is_member (state_of s n) m
   pub certificates : (m : ℕ) (r : Record) → n.held (keys.Certificate m) ≡ Some r → s.verifies s.authority r ≡ true
   pub signed : (m : ℕ) (r : Record) → n.held (keys.Note m) ≡ Some r → IsSignedBy s n m r
-  pub good : AreGood s.group.t (state_of s n).notes
+  pub allowed : AreAllowed s.group.t (state_of s n).notes
 
 -- Why a record may be taken.
 abbrev pub MayTake : Setting → Node → Record → Body → Type 0
@@ -213,7 +213,7 @@ upholds-same s n later filed same certificates notes h =
       signed = λ m r is.
           let k = h.signed m r (sym (notes m) ∙ is) in
           record { key = k.key; author_is = ap (λ o. option_map (λ c. c.key) (option_and_then (λ r. certificate_in r.body) o)) (certificates m) ∙ k.author_is; verifies = k.verifies };
-      good = subst (AreGood s.group.t) (sym same.notes) h.good;
+      allowed = subst (AreAllowed s.group.t) (sym same.notes) h.allowed;
     }
 
 upholds-accusation : (s : Setting) (r : Record) (a : AccBody) (c : Call) → r.body ≡ Accusation a → Upholds s c.node → Upholds s (takes s r c).node
@@ -263,7 +263,7 @@ upholds-certificate s r x c is verifies free h =
           let k = h.signed m y (sym (notes m) ∙ e) in
           let other : x.member ≡ m → ⊥ = λ who. none_some y (sym (ap (λ k. n.held (keys.Note k)) (sym who) ∙ free) ∙ sym (notes m) ∙ e) in
           record { key = k.key; author_is = ap (option_map (λ c. c.key)) (certificate-takes s r c m (λ z body who. other (ap (λ (q : CertBody). q.member) (certificate_is x z (sym is ∙ body)) ∙ who))) ∙ k.author_is; verifies = k.verifies };
-      good = subst (AreGood s.group.t) (sym joins.notes) h.good;
+      allowed = subst (AreAllowed s.group.t) (sym joins.notes) h.allowed;
     }
   where
     certificate_is : (x z : CertBody) → Certificate x ≡ Certificate z → x ≡ z
@@ -301,7 +301,7 @@ upholds-note s r x c is fine by h =
       members = λ m. ap (λ o. is_some (option_and_then (λ r. certificate_in r.body) o)) (certificates m) ∙ h.members m ∙ sym (ap (λ y. is_member y m) at);
       certificates = λ m y e. h.certificates m y (sym (certificates m) ∙ e);
       signed = λ m y e. by_place m y (stays m) (sym (notes m) ∙ e);
-      good = subst (λ (y : State). AreGood s.group.t y.notes) (sym at) (accepted.good, h.good);
+      allowed = subst (λ (y : State). AreAllowed s.group.t y.notes) (sym at) (accepted.allowed, h.allowed);
     }
   where
     by_place : (m : ℕ) (y : Record) → ((z : Record) → IsSignedBy s c.node m z → IsSignedBy s (takes s r c).node m z) → cond (eqb x.member m) (Some r) (c.node.held (keys.Note m)) ≡ Some y → IsSignedBy s (takes s r c).node m y

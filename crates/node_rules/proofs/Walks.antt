@@ -22,7 +22,8 @@ use Rattle.node_rules.specs.Refusals.{refusal}
 use Rattle.node_rules.specs.Calls.{Call, begun, tells, lives, takes, signs, wants, sends, is_used_up}
 use Rattle.node_rules.specs.Deliveries.{answer_to, answers, judged, handles, handles_all, is_other, gives, replies, exchanges, pinged, hears, delivered}
 use Rattle.node_rules.specs.Ticking.{accusation_on, ring_for, has_accused, wants_accusation, accuses, accuses_all, is_due, silent_in, pings_in, probes_after, pings_all, summary_to, round_of, passed, probed_at, due_tick, ticked}
-use Rattle.node_rules.specs.Lives.{Input, Delivers, Ticks as Tick, call_of, after_calls}
+use Rattle.node_rules.specs.Leaving.{leaving, leaves, left}
+use Rattle.node_rules.specs.Lives.{Input, Delivers, Ticks as Tick, Leaves, call_of, after_calls}
 use Rattle.node_rules.proofs.Small.{node-sends}
 use Rattle.node_rules.proofs.Exchanges.{node-wants}
 
@@ -31,6 +32,7 @@ pub record KeepsNode (s : Setting) (Given : Record → Type 0) (P : Node → Typ
   pub answered : (r : Record) (a : AccBody) (c : Call) → Given r → refusal s c.node r ≡ None → r.body ≡ Accusation a → eqb a.accused s.me ≡ true → is_used_up s (takes s r c).node ≡ false
       → P c.node → P (signs s (answer_to s (takes s r c).node.stored a) (takes s r c)).node
   pub accused : (m ring : ℕ) (c : Call) → ring_for s (state_of s c.node) m ≡ Some ring → is_used_up s c.node ≡ false → P c.node → P (signs s (accusation_on s (state_of s c.node) m ring) c).node
+  pub departed : (c : Call) → is_used_up s c.node ≡ false → P c.node → P (signs s (leaving s c.node.stored) c).node
   pub passed : (c : Call) → P c.node → P (lives s Ticks c).node
   pub probed : (h : History) (c : Call) → P c.node → P (record c.node { probes = h })
 
@@ -148,15 +150,25 @@ walk-ticked s Given P k n h =
     (λ yes. walk-due s Given P k (silent_in s p st) (pings_in s p st) (round_of s st) (probed_at s n) h1)
     (λ no. h1)
 
+-- ---- leaving
+
+walk-left : (s : Setting) (Given : Record → Type 0) (P : Node → Type 0) → KeepsNode s Given P → (n : Node) → P n → P (left s n).node
+unfolding left leaves
+walk-left s Given P k n h =
+    let c : Call = begun n in
+    node-wants true s (leaving s n.stored) (neighbours s) c P h (λ left. k.departed c left h)
+
 -- ---- calls
 
 abbrev pub IsInput : (Record → Type 0) → Input → Type 0
 IsInput Given (Delivers bytes) = HasGiven Given (read_of bytes)
 IsInput Given Tick = Unit {0}
+IsInput Given Leaves = Unit {0}
 
 walk-call : (s : Setting) (Given : Record → Type 0) (P : Node → Type 0) → KeepsNode s Given P → (n : Node) (i : Input) → IsInput Given i → P n → P (call_of s n i).node
 walk-call s Given P k n (Delivers bytes) given h = walk-delivered s Given P k n bytes given h
 walk-call s Given P k n Tick given h = walk-ticked s Given P k n h
+walk-call s Given P k n Leaves given h = walk-left s Given P k n h
 
 pub walk-calls : (s : Setting) (Given : Record → Type 0) (P : Node → Type 0) → KeepsNode s Given P → (n : Node) (inputs : List Input) → AllByRecursion (IsInput Given) inputs → P n → P (after_calls s n inputs)
 walk-calls s Given P k n [] all h = h

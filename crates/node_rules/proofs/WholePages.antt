@@ -13,7 +13,7 @@ use Rattle.ff_ids.specs.declared.NoteBody.{NoteBody}
 use Rattle.ff_ids.specs.declared.summary.RecordKey.{RecordKey}
 use Rattle.ff_ids.specs.declared.summary.RecordKey.TheVariants as keys
 use Rattle.ff_ids.specs.declared.summary.SummaryEntry.{SummaryEntry}
-use Rattle.ff_ids.specs.Masks.{good_mask}
+use Rattle.ff_ids.specs.Masks.{note_mask}
 use Rattle.ff_ids.specs.Notes.{note_cmp, newest}
 use Rattle.ff_ids.specs.Summaries.{page_of_member}
 use Rattle.life_laws.proofs.Lists.{In, In-filter, In-from_filter, In-from_map, All-at}
@@ -237,13 +237,13 @@ verdict a b key r one h = sym (ap (λ f. f key r) one.verdicts) ∙ h
 
 note-of : (a b : Setting) (own : PublicKey) (n : Node) (note : NoteBody) → AreOfOneGroup a b → KeepsAll a own n → newest (state_of a n).notes note.member ≡ Some note → (w : Author a n note) → IsNoteOf b n w.holds.rec note
 note-of a b own n note one h is w =
-    let good : good_mask a.group.t note.mask.0 ≡ true = All-at (λ (x : NoteBody). good_mask a.group.t x.mask.0 ≡ true) (state_of a n).notes note h.upholds.good (newest-fits (state_of a n).notes note.member note is).0 in
+    let allowed : note_mask a.group.t note.mask.0 ≡ true = All-at (λ (x : NoteBody). note_mask a.group.t x.mask.0 ≡ true) (state_of a n).notes note h.upholds.allowed (newest-fits (state_of a n).notes note.member note is).0 in
     record {
       is = w.holds.is;
       cert = w.cert;
       certified = w.certified;
       verifies = verdict a b w.cert.key w.holds.rec one w.verifies;
-      good = sym (ap (λ g. good_mask g.t note.mask.0) one.group) ∙ good;
+      allowed = sym (ap (λ g. note_mask g.t note.mask.0) one.group) ∙ allowed;
     }
 
 brings-certificate : (a b : Setting) (own other_own : PublicKey) (n earlier : Node) (c d : Call) (note : NoteBody) (records : List Record) → Meets a b own other_own n earlier c → (w : Author a n note)

@@ -9,7 +9,6 @@ use Rattle.records.specs.Grammar.{key_at, certificate_at, note_at, accusation_at
 use Rattle.lms_tree.specs.Lms.{key_bytes}
 use Rattle.datagram.specs.Spelling.{head_bytes, entry_bytes, summary_bytes, records_bytes}
 use Rattle.datagram.specs.Grammar.{head_at, counted_at, entry_at, entries_at, summary_at, records_at, content_at, datagram_at, items_at, whole_of, read_of}
-use Rattle.epoch_store.specs.declared.Stored.{Stored}
 use Rattle.journal.specs.declared.event.What.TheVariants as told
 use Rattle.rebuttal.specs.Rebuttals.{answering_mask}
 use Rattle.node_rules.specs.Nodes.{Setting, Node, state_of, certificate_of, neighbours}

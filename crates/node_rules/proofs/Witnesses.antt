@@ -33,7 +33,8 @@ use Rattle.node_rules.specs.Deliveries.{answer_to, answers, judged, handles, han
 use Rattle.node_rules.specs.Ticking.{accusation_on, ring_for, has_accused, wants_accusation, accuses, accuses_all, is_due, silent_in, pings_in, probes_after, pings_all, summary_to, round_of, passed, probed_at, due_tick, ticked}
 use Rattle.node_rules.specs.Replies.{first_mask}
 use Rattle.node_rules.specs.Starting.{blank, opened, started}
-use Rattle.node_rules.specs.Lives.{is_certificate_for, Input, Delivers, Ticks, call_of, after_calls}
+use Rattle.node_rules.specs.Leaving.{leaving, leaves, left}
+use Rattle.node_rules.specs.Lives.{is_certificate_for, Input, Delivers, Ticks, call_of, after_calls, Leaves}
 use Rattle.node_rules.specs.Vouching.{IsVouchedAmong, IsVouched, OwnSignaturesVerify, IsCertifiedBy}
 use Rattle.node_rules.specs.Verdicts.{records_in, when_handled}
 use Rattle.node_rules.specs.Known.{made_by, signed_in, accepted_of, accepted_in, gathered}
@@ -351,6 +352,19 @@ vouched-ticked s own base k n h =
     (λ due. vouched-due s own base k (silent_in s p st) (pings_in s p st) (round_of s st) (probed_at s n) h1)
     (λ never. h1)
 
+-- ---- leaving
+
+own-leaving : (s : Setting) (stored : Stored) → IsOwnBody s (leaving s stored)
+unfolding IsOwnBody
+own-leaving s stored = refl
+
+vouched-left : (s : Setting) (own : PublicKey) (base : List Record) → Signs s own → (n : Node) → Vouched s own base (begun n) → Vouched s own base (left s n)
+unfolding left leaves
+vouched-left s own base k n h =
+    let c : Call = begun n in
+    let b : Body = leaving s n.stored in
+    vouched-wants s own base k b (neighbours s) c (λ left. vouched-signs s own base k b c (own-leaving s n.stored) left ((keeping-all s own k.some k.sign).departed c left h.all) h) h
+
 -- ---- lives
 
 -- A correct node, of whose life each event comes of one of these records.
@@ -406,6 +420,7 @@ vouched-call s own known k n (Delivers bytes) h =
     let accepted : List Record = accepted_of s n (records_in (read_of bytes)) in
     vouched-delivered s own (known ++ accepted) k n bytes (λ r i. In-append_right known accepted r i) (vouched-begun s own known (known ++ accepted) n (λ r i. In-append_left known accepted r i) h)
 vouched-call s own known k n Ticks h = vouched-ticked s own (known ++ []) k n (vouched-begun s own known (known ++ []) n (λ r i. In-append_left known [] r i) h)
+vouched-call s own known k n Leaves h = vouched-left s own (known ++ []) k n (vouched-begun s own known (known ++ []) n (λ r i. In-append_left known [] r i) h)
 
 comes-calls : (s : Setting) (own : PublicKey) (known : List Record) → Signs s own → (n : Node) (inputs : List Input) → Comes s own known n → Comes s own (gathered s n known inputs) (after_calls s n inputs)
 comes-calls s own known k n [] h = h

@@ -14,6 +14,7 @@ use Rattle.node_rules.specs.Refusals.{refusal}
 use Rattle.node_rules.specs.Calls.{Call, is_used_up}
 use Rattle.node_rules.specs.Deliveries.{answering_note, delivered}
 use Rattle.node_rules.specs.Ticking.{is_due, watched_by, ticked}
+use Rattle.node_rules.specs.Leaving.{left, leaving_note}
 use Rattle.node_rules.specs.Verdicts.{when_handled}
 use Rattle.node_rules.specs.Answering.{asked_by}
 use Rattle.node_rules.specs.Outgoing.{at_tick, to_accuse, accusation_of}
@@ -56,3 +57,13 @@ accusation_events s st index (m ∷ accused) = if index == s.indexes then [] els
 abbrev pub TicksAreLived : Type 0
 TicksAreLived = (s : Setting) (n : Node) → let p = at_tick s n in let st = state_of s p in
     ComesTo (n.lived ++ Ticks ∷ [] ++ accusation_events s st p.stored.next (to_accuse s p st)) (probed n.probes (is_due s st) (watched_by s st)) (ticked s n)
+
+-- ---- leaving
+
+-- The leaving note, where the key has an index for it.
+abbrev pub leaving_event : Setting → Node → List Event
+leaving_event s n = if is_used_up s n then [] else Notes (leaving_note s n.stored) ∷ []
+
+-- Leaving adds it to the life, and nothing else; the probes don't see it.
+abbrev pub LeavingIsLived : Type 0
+LeavingIsLived = (s : Setting) (n : Node) → ComesTo (n.lived ++ leaving_event s n) n.probes (left s n)

@@ -14,7 +14,7 @@ use Rattle.node_rules.specs.Refusals.{refusal}
 use Rattle.node_rules.specs.Calls.{Call}
 use Rattle.node_rules.specs.OnDisks.{called}
 use Rattle.node_rules.specs.Starting.{started}
-use Rattle.node_rules.specs.Lives.{Input, Delivers, Ticks, call_of, life_of}
+use Rattle.node_rules.specs.Lives.{Input, Delivers, Ticks, Leaves, call_of, life_of}
 use Rattle.node_rules.specs.Verdicts.{records_in, when_handled}
 
 -- ---- what a life comes by
@@ -36,6 +36,7 @@ accepted_of s n (r ∷ records) = (if is_some (refusal s n r) then [] else r ∷
 abbrev pub accepted_in : Setting → Node → Input → List Record
 accepted_in s n (Delivers bytes) = accepted_of s n (records_in (read_of bytes))
 accepted_in s n Ticks = []
+accepted_in s n Leaves = []
 
 -- These, and what the calls have accepted and signed.
 abbrev pub gathered : Setting → Node → List Record → List Input → List Record

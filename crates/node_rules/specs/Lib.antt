@@ -5,6 +5,7 @@ pub mod Refusals
 pub mod Calls
 pub mod Deliveries
 pub mod Ticking
+pub mod Leaving
 pub mod OnDisks
 pub mod Starting
 pub mod Lives

@@ -4,9 +4,9 @@ use Rattle.std.specs.List.{list_any, AllByRecursion}
 use Rattle.ff_ids.specs.declared.TheConstants.{MAX_TOLERANCE}
 use Rattle.ff_ids.specs.declared.Group.{Group}
 use Rattle.ff_ids.specs.declared.NoteBody.{NoteBody}
-use Rattle.ff_ids.specs.Masks.{good_mask}
+use Rattle.ff_ids.specs.Masks.{note_mask}
 use Rattle.ff_ids.specs.Notes.{newest}
-use Rattle.ff_ids.specs.Views.{State, is_member, view}
+use Rattle.ff_ids.specs.Views.{State, in_view, is_member, view}
 use Rattle.ff_ids.specs.declared.AccBody.{AccBody}
 use Rattle.ff_ids.specs.Faults.{note_fault}
 use Rattle.ff_ids.specs.Steps.{Event, step}
@@ -22,12 +22,13 @@ use Rattle.journal.specs.declared.event.Event as journal
 use Rattle.journal.specs.declared.event.What as whats
 use Rattle.journal.specs.declared.event.What.TheVariants as told
 use Rattle.node_rules.specs.Nodes.{Setting, Node, state_of}
-use Rattle.node_rules.specs.Calls.{Call, takes, told_of}
+use Rattle.node_rules.specs.Calls.{Call, is_used_up, takes, told_of}
 use Rattle.node_rules.specs.Refusals.{refusal}
 use Rattle.node_rules.specs.Deliveries.{answering_note, delivered}
 use Rattle.node_rules.specs.Ticking.{ticked}
+use Rattle.node_rules.specs.Leaving.{left, leaving_note}
 use Rattle.node_rules.specs.OnDisks.{called}
-pub use Rattle.node_rules.specs.OnDisks.{Input, Delivers, Ticks}
+pub use Rattle.node_rules.specs.OnDisks.{Input, Delivers, Ticks, Leaves}
 use Rattle.node_rules.specs.Starting.{started}
 
 -- ---- calls
@@ -36,6 +37,7 @@ use Rattle.node_rules.specs.Starting.{started}
 abbrev pub call_of : Setting → Node → Input → Call
 call_of s n (Delivers bytes) = delivered s n bytes
 call_of s n Ticks = ticked s n
+call_of s n Leaves = left s n
 
 -- What the node has come to when the calls have been answered.
 abbrev pub after_calls : Setting → Node → List Input → Node
@@ -76,11 +78,11 @@ pub record TellsItsLife (s : Setting) (n : Node) (c : Call) : Type 0 where
 abbrev pub stored_note : Setting → Stored → NoteBody
 stored_note s kept = record { member = s.me; epoch = kept.epoch; mask = kept.mask }
 
--- The node has joined, its newest note is the one that its store keeps, and the mask of that is good.
+-- The node has joined, its newest note is the one that its store keeps, and a note may carry the mask of that.
 pub record KeepsOwnNote (s : Setting) (n : Node) : Type 0 where
   pub joined : is_member (state_of s n) s.me ≡ true
   pub own : newest (state_of s n).notes s.me ≡ Some (stored_note s n.stored)
-  pub good : good_mask s.group.t n.stored.mask.0 ≡ true
+  pub allowed : note_mask s.group.t n.stored.mask.0 ≡ true
 
 -- ---- laws
 
@@ -120,6 +122,14 @@ OwnNoteIsKept = (s : Setting) (seed : List ℕ) (certificates : List Record) (st
 abbrev pub OwnAnswersAreAccepted : Type 0
 OwnAnswersAreAccepted = (s : Setting) (r : Record) (a : AccBody) (c : Call) → HasRings s → KeepsOwnNote s c.node → refusal s c.node r ≡ None → r.body ≡ Accusation a → a.accused ≡ s.me
     → note_fault s.group.t (state_of s (takes s r c).node) (answering_note s (takes s r c).node.stored a) ≡ None
+
+-- The note by which a node leaves has no fault; where the key has an index for it, the node is out of its own view behind it.
+pub record LeavesItsView (s : Setting) (n : Node) : Type 0 where
+  pub no_fault : note_fault s.group.t (state_of s n) (leaving_note s n.stored) ≡ None
+  pub out : is_used_up s n ≡ false → in_view (state_of s (left s n).node) s.me ≡ false
+
+abbrev pub OwnLeavingIsAccepted : Type 0
+OwnLeavingIsAccepted = (s : Setting) (n : Node) → KeepsOwnNote s n → LeavesItsView s n
 
 -- Two nodes of a group whose lives accept the same notes, and report the same accusations as expired, have the same view.
 abbrev pub EqualRecordsGiveOneView : Type 0

@@ -10,11 +10,13 @@ use Rattle.node_rules.specs.Nodes.{Setting, Node, state_of}
 use Rattle.node_rules.specs.Calls.{Call, begun}
 use Rattle.node_rules.specs.Deliveries.{handles, hears}
 use Rattle.node_rules.specs.Ticking.{accuses, gossips, is_due, passed, pings_all, pings_in, probed_at, round_of, silent_in}
+use Rattle.node_rules.specs.Leaving.{leaves}
 
--- What a node is called with.
+-- What a node is called with: a datagram, a tick, or to leave.
 pub data Input : Type 0 where
   Delivers : (bytes : List ℕ) → Input
   Ticks : Input
+  Leaves : Input
 
 -- How a disk takes what the store is to keep: whether the put succeeds, and the disk behind it, whether it does or not.
 pub record Storage (D : Type 0) : Type 0 where
@@ -73,10 +75,16 @@ ticked_on storage s n disk =
     let d : OnDisk _ = record { call = probed_at s n; disk = disk } in
     if is_due s st then due_on storage s (silent_in s p st) (pings_in s p st) (round_of s st) d else d
 
+-- ---- leaving
+
+unfoldable pub left_on : {D : Type 0} → Storage D → Setting → Node → D → OnDisk D
+left_on storage s n disk = takes_step storage (λ works. leaves works s (begun n)) (record { call = begun n; disk = disk })
+
 -- A call of a node over a disk.
 abbrev pub called_on : {D : Type 0} → Storage D → Setting → Node → Input → D → OnDisk D
 called_on storage s n (Delivers bytes) disk = delivered_on storage s n bytes disk
 called_on storage s n Ticks disk = ticked_on storage s n disk
+called_on storage s n Leaves disk = left_on storage s n disk
 
 -- ---- one put that fails, or none
 

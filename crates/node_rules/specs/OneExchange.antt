@@ -26,7 +26,7 @@ use Rattle.record_set.specs.Held.{key_of}
 use Rattle.node_rules.specs.Nodes.{Setting, Node, state_of, key_of_accusation, certificate_of, is_certified, public_key_of}
 use Rattle.node_rules.specs.Pages.{page, note_held, lacking}
 use Rattle.node_rules.specs.Deliveries.{is_other, delivered}
-use Rattle.node_rules.specs.Lives.{HasRings, IsKit, Input, Delivers, Ticks, life_of}
+use Rattle.node_rules.specs.Lives.{HasRings, IsKit, Input, Delivers, Ticks, Leaves, life_of}
 use Rattle.node_rules.specs.Vouching.{OwnSignaturesVerify, IsCertifiedBy}
 
 -- ---- lives
@@ -69,6 +69,7 @@ pub record IsWithinRanges (l : Life) : Type 0 where
 abbrev pub IsOfBytes : Input → Type 0
 IsOfBytes (Delivers bytes) = (i : ℕ) → slice_index bytes i < 256
 IsOfBytes Ticks = Unit {0}
+IsOfBytes Leaves = Unit {0}
 
 -- ---- what is held, and what of it goes out
 

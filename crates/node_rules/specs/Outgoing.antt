@@ -1,4 +1,5 @@
--- What goes out at a tick, and what is reported of its accusations: computed from the state after the tick of the life.
+-- What goes out at a tick, and what is reported of its accusations: computed from the state after the tick of the life. And what
+-- goes out as a node leaves.
 use Rattle.std.specs.Prelude.{◌≡◌, ℕ, ◌+◌, false, not, ◌==◌, if◌then◌else◌, List, [], ◌∷◌, ◌++◌, filter, map, unwrap_or}
 use Rattle.std.specs.Option.{option_map_or}
 use Rattle.ff_ids.specs.Views.{State}
@@ -8,9 +9,11 @@ use Rattle.datagram.specs.declared.Datagram.TheVariants as kinds
 use Rattle.datagram.specs.Spelling.{datagram_bytes}
 use Rattle.journal.specs.declared.event.What as whats
 use Rattle.journal.specs.declared.event.What.TheVariants as told
-use Rattle.node_rules.specs.Nodes.{Setting, Node, state_of, neighbours_and}
+use Rattle.node_rules.specs.Nodes.{Setting, Node, state_of, neighbours, neighbours_and}
 use Rattle.node_rules.specs.Pages.{page, partner, page_number}
 use Rattle.node_rules.specs.Ticking.{ring_for, accusation_on, has_accused, is_due, silent_in, pings_in, round_of, passed, ticked}
+use Rattle.node_rules.specs.Calls.{is_used_up, own_record}
+use Rattle.node_rules.specs.Leaving.{leaving, left}
 use Rattle.node_rules.specs.Verdicts.{all_at, told_that, is_apart}
 use Rattle.node_rules.specs.Answering.{to_each}
 
@@ -73,3 +76,16 @@ accusing_told s st index (m ∷ accused) =
 abbrev pub TickTells : Type 0
 TickTells = (s : Setting) (n : Node) → let p = at_tick s n in let st = state_of s p in
     told_that is_apart (ticked s n) ≡ all_at st.moment (accusing_told s st p.stored.next (to_accuse s p st))
+
+-- ---- leaving
+
+-- The note goes to each of the neighbours of the node as it is behind it, where the key has an index for it.
+abbrev pub LeavingSends : Type 0
+LeavingSends = (s : Setting) (n : Node) → (left s n).sent
+    ≡ (if is_used_up s n then []
+    else to_each (neighbours s (state_of s (left s n).node)) (kinds.Records s.me (own_record s n (leaving s n.stored) ∷ [])))
+
+-- The next index is spent on it; where the key is used up, that is reported. Beside the life and the datagrams nothing else is.
+abbrev pub LeavingTells : Type 0
+LeavingTells = (s : Setting) (n : Node) → told_that is_apart (left s n)
+    ≡ all_at (state_of s n).moment ((if is_used_up s n then told.Exhausted n.stored.next else told.Spent n.stored.next (leaving s n.stored)) ∷ [])

@@ -9,7 +9,7 @@ use Rattle.journal.specs.declared.event.What.TheVariants as told
 use Rattle.node_rules.specs.Nodes.{Setting, Node, state_of}
 use Rattle.node_rules.specs.Calls.{Call, is_used_up}
 use Rattle.node_rules.specs.Ticking.{has_accused, accuses_all, probed_at, silent_at}
-use Rattle.node_rules.specs.OnDisks.{Input, Delivers, Ticks, called}
+use Rattle.node_rules.specs.OnDisks.{Input, Delivers, Ticks, Leaves, called}
 use Rattle.node_rules.specs.Lives.{call_of}
 use Rattle.node_rules.specs.Verdicts.{all_at, told_that, is_apart, is_took, when_all_handled, verdict_on, verdicts}
 use Rattle.node_rules.specs.Answering.{asked_by, records_told, answers_sent}
@@ -73,10 +73,27 @@ StoppedTickEnds = (s : Setting) (n : Node) (put : ℕ) (stop : StopsAccusing s n
     StopsBehind st.moment (accusing_told s st p.stored.next (unaccused s st stop.before) ++ told.Silent stop.at ∷ [])
     (accusations_out s st p.stored.next (unaccused s st stop.before)) (called s n Ticks (Some put))
 
+-- The put for the note by which the node leaves, which is the only one of its call.
+pub record StopsLeaving (s : Setting) (n : Node) (put : ℕ) : Type 0 where
+  pub left : is_used_up s n ≡ false
+  pub first : put ≡ 0
+
+-- Nothing is reported but that the node stopped, nothing is sent, the node is as it was, and its life is over.
+pub record StopsAtOnce (s : Setting) (n : Node) (c : Call) : Type 0 where
+  pub told : c.told ≡ all_at (state_of s n).moment (told.Stopped ∷ [])
+  pub sent_so : c.sent ≡ []
+  pub node_so : c.node ≡ n
+  pub over : c.ended ≡ true
+
+-- So it is where that put fails.
+abbrev pub StoppedLeavingEnds : Type 0
+StoppedLeavingEnds = (s : Setting) (n : Node) (put : ℕ) → StopsLeaving s n put → StopsAtOnce s n (called s n Leaves (Some put))
+
 -- A call that a failing put ends, ends so.
 abbrev pub StopsIn : Setting → Node → Input → ℕ → Type 0
 StopsIn s n (Delivers bytes) put = StopsAnswering s n bytes put
 StopsIn s n Ticks put = StopsAccusing s n put
+StopsIn s n Leaves put = StopsLeaving s n put
 
 abbrev pub OnlySignaturesStop : Type 0
 OnlySignaturesStop = (s : Setting) (n : Node) (i : Input) (put : ℕ) → (called s n i (Some put)).ended ≡ true → StopsIn s n i put

@@ -3,22 +3,22 @@
 //! nothing. The contracts of all nodes and worlds cite it.
 #![tactic(auto)]
 
-ghost use Rattle.node_rules.specs.Lives.{EqualRecordsGiveOneView, EachLifeIsJustified, AnswersHoldInLives, AnswersRevokeInLives, EachCallTellsItsLife, OwnNoteIsKept, OwnAnswersAreAccepted};
+ghost use Rattle.node_rules.specs.Lives.{EqualRecordsGiveOneView, EachLifeIsJustified, AnswersHoldInLives, AnswersRevokeInLives, EachCallTellsItsLife, OwnNoteIsKept, OwnAnswersAreAccepted, OwnLeavingIsAccepted};
 ghost use Rattle.node_rules.specs.Vouching.{LivesAreVouchedFor, NoIndexBeyondTheKey, SentRecordsVerify};
 ghost use Rattle.node_rules.specs.Accusing.{HasAccusedIsKept, OwnAccusationsAreAccepted, OnlyTheSilentAreAccused};
 ghost use Rattle.node_rules.specs.Verdicts.{VerdictsAreTold, BadFormsAreTold};
 ghost use Rattle.node_rules.specs.Answering.{AnswersAreTold, RecordsAreTold, AnswersAreSent};
-ghost use Rattle.node_rules.specs.Outgoing.{TickSends, TickTells};
-ghost use Rattle.node_rules.specs.Stopping.{StoppedDeliveryEnds, StoppedVerdictsAreTold, StoppedTickEnds, OnlySignaturesStop, WholeCallsGoOn};
+ghost use Rattle.node_rules.specs.Outgoing.{LeavingSends, LeavingTells, TickSends, TickTells};
+ghost use Rattle.node_rules.specs.Stopping.{StoppedDeliveryEnds, StoppedVerdictsAreTold, StoppedTickEnds, StoppedLeavingEnds, OnlySignaturesStop, WholeCallsGoOn};
 ghost use Rattle.node_rules.specs.Sending.{SentIsTold, PingsBring, PongsBring, SummariesBring};
-ghost use Rattle.node_rules.specs.Gaining.{RecordsAreLived, TicksAreLived};
+ghost use Rattle.node_rules.specs.Gaining.{LeavingIsLived, RecordsAreLived, TicksAreLived};
 ghost use Rattle.node_rules.specs.OnRings.{RingForIsLowest, NeighboursAreSuccessors, AccusedAreAddressed};
 ghost use Rattle.node_rules.specs.OneExchange.{WhatIsHeldIsTheLife, WhatIsHeldCanBeSent, SummariesAreAnswered, OneExchangeIsEnough, NothingLackingIsEnough};
 ghost use Rattle.node_rules.specs.Known.{OnlyKnownIsSent};
 ghost use Rattle.node_rules.specs.Addressing.{OnlyCertifiedAreAddressed, AddresseesHavePorts};
 
-/// In every life of a node each member that leaves the view does so at a tick, and an accusation accepted earlier
-/// against it stood in each state between, for the timeout at least.
+/// In every life of a node each member that goes out of the view does so by an accepted note of its own that leaves, or at a
+/// tick, and then an accusation accepted earlier against it stood in each state between, for the timeout at least.
 pub fn each_life_is_justified()
     ensures { EachLifeIsJustified }
 {}
@@ -45,6 +45,11 @@ pub fn own_note_is_kept()
 /// The note that answers an accepted accusation is always accepted.
 pub fn own_answers_are_accepted()
     ensures { OwnAnswersAreAccepted }
+{}
+
+/// The note by which a node leaves is always accepted, and takes the node out of its own view.
+pub fn own_leaving_is_accepted()
+    ensures { OwnLeavingIsAccepted }
 {}
 
 /// A life that starts with an index of its key left never spends one that the key doesn't have.
@@ -114,11 +119,20 @@ pub fn ticks_go_out()
     ensures told { TickTells }
 {}
 
-/// Where the put for an answer or for an accusation fails, what comes before it is reported and sent as ever, nothing behind
-/// it is, and the life is over. No other put ends a call, and a call that none ends is whole and ends no life.
+/// As a node leaves, an index is spent on a note of the next epoch with no ring, and it goes to each of the node's
+/// neighbours; or it is reported that the key is used up.
+pub fn leaving_goes_out()
+    ensures sent { LeavingSends }
+    ensures told { LeavingTells }
+{}
+
+/// Where the put for an answer, for an accusation or for a leaving note fails, what comes before it is reported and sent as
+/// ever, nothing behind it is, and the life is over. No other put ends a call, and a call that none ends is whole and ends no
+/// life.
 pub fn stopped_calls_end()
     ensures delivery { StoppedDeliveryEnds }
     ensures tick { StoppedTickEnds }
+    ensures leaving { StoppedLeavingEnds }
     ensures only { OnlySignaturesStop }
     ensures others { WholeCallsGoOn }
 {}
@@ -159,10 +173,12 @@ pub fn what_probes_and_summaries_bring()
 {}
 
 /// Delivered records add to the life what is accepted of them, in order, each with the note that answers it behind it.
-/// A tick adds itself and the accusations that are made at it, and the probes see it. Neither adds anything else.
+/// A tick adds itself and the accusations that are made at it, and the probes see it. A node that leaves adds its leaving note,
+/// where the key has an index for it. None adds anything else.
 pub fn what_lives_gain()
     ensures records { RecordsAreLived }
     ensures tick { TicksAreLived }
+    ensures leaving { LeavingIsLived }
 {}
 
 /// A member is accused on the lowest ring of those that its newest note enables and on which the node is its monitor.

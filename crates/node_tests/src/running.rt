@@ -10,7 +10,7 @@ use journal::{Event, EventFault, Turn, read_event, read_turn, write_event, write
 use line_text::BadWord;
 use lms_ots::OtsKind;
 use lms_tree::{PublicKey, TreeKind};
-use node_command::{NodeHalt, run_node};
+use node_command::{NodeHalt, Stay, run_node};
 use ports::{LinkAnswer, MemoryClock, MemoryDisk, MemoryLink, MemorySink};
 use records::{Body, CertBody};
 use secrets::{store_tag, world_secret};
@@ -38,6 +38,10 @@ const HEAD: &str = "fireflies 1 kit\ngroup 1 4 1 2 00000000000000000000000000000
 /// The journal of a life that hears nothing and is alone, in two turns, without its last line.
 const ALONE: &[u8] =
     b"at 0 spent 0 note 1 1 7\nat 0 entered 1\nturn 1 nothing ticks 0\nturn 2 nothing ticks 2\n";
+
+/// The same of one that leaves behind them, with its last line.
+const LEFT: &[u8] =
+    b"at 0 spent 0 note 1 1 7\nat 0 entered 1\nturn 1 nothing ticks 0\nturn 2 nothing ticks 2\nat 2 spent 1 note 1 2 0\nat 2 removed 1\nend\n";
 
 /// The digits of the authority's signature under the certificate of this member, which has this key, and the port 20,000 and
 /// its number.
@@ -151,15 +155,15 @@ struct Ran {
     out: MemorySink,
 }
 
-/// Runs member 1 for two turns. The clock reads 0, 50 and 250.
-fn run(alloc: Global, text: &str, host: &mut Host) -> Result<Ran, Fail> {
+/// Runs member 1 for two turns, behind which it may leave. The clock reads 0, 50 and 250.
+fn run_to(alloc: Global, leave: bool, text: &str, host: &mut Host) -> Result<Ran, Fail> {
     let mut clock = MemoryClock::new([0u64, 50, 250].to_vec(alloc)?);
     let mut input = failing_source(alloc, text, 4096, &[])?;
     let mut out = sink(alloc, 4000)?;
     let done = run_node(
         alloc,
         NAME,
-        2,
+        Stay { turns: 2, leave },
         &mut input,
         &mut out,
         &mut host.disk,
@@ -167,6 +171,11 @@ fn run(alloc: Global, text: &str, host: &mut Host) -> Result<Ran, Fail> {
         &mut clock,
     );
     Ok(Ran { done, out })
+}
+
+/// Runs member 1 for two turns, and it stays.
+fn run(alloc: Global, text: &str, host: &mut Host) -> Result<Ran, Fail> {
+    run_to(alloc, false, text, host)
 }
 
 /// Runs member 1 for two turns, with the certificates of so many others.
@@ -189,6 +198,22 @@ fn is_alone(rt: &impl Abort, alloc: Global, host: &mut Host) -> Result<(), Fail>
 fn a_member_alone_writes_its_journal(rt: HostRuntime) -> Result<(), Fail> {
     let mut host = host_of(rt.alloc(), &key_of_1(rt.alloc())?, &[], &[], false)?;
     let done = is_alone(&rt, rt.alloc(), &mut host);
+    drop(host);
+    done
+}
+
+fn is_left(rt: &impl Abort, alloc: Global, host: &mut Host) -> Result<(), Fail> {
+    let ran = run_to(alloc, true, &kit(alloc, 0)?, host)?;
+    assert_eq!(rt; ran.done, Ok(()));
+    assert_eq!(rt; ran.out.bytes(), LEFT);
+    assert_eq!(rt; host.link.sent().len(), 0);
+    Ok(())
+}
+
+#[test]
+fn a_member_alone_leaves_behind_its_turns(rt: HostRuntime) -> Result<(), Fail> {
+    let mut host = host_of(rt.alloc(), &key_of_1(rt.alloc())?, &[], &[], false)?;
+    let done = is_left(&rt, rt.alloc(), &mut host);
     drop(host);
     done
 }

@@ -153,6 +153,7 @@ fn serve_node(
         &mut journal,
         100,
         with.turns,
+        false,
     );
     let now = node.membership().now();
     Ok(Served {

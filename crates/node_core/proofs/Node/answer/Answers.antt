@@ -17,7 +17,8 @@ use Rattle.node_core.proofs.SpendLemmas.{nothing-same, spends-none}
 use Rattle.node_core.proofs.DiskLemmas.{stores-none, fails-same}
 use Rattle.std.proofs.Common.{rules, Some, ap, ◌∙◌}
 use Rattle.std.proofs.lemmas.Bool.{false≢true}
-use Rattle.ff_ids.specs.Masks.{good_mask}
+use Rattle.ff_ids.specs.Masks.{good_mask, note_mask}
+use Rattle.node_rules.proofs.Allowed.{good-allowed, good-enabling}
 use Rattle.ff_ids.specs.declared.NoteBody.{NoteBody}
 use Rattle.rebuttal.specs.Rebuttals.{IsAgainst}
 use Rattle.node_core.specs.Noted.{own_note}
@@ -77,4 +78,8 @@ pub answer_mask-requires-clause-good : goal.answer_mask-requires-clause-good
 answer_mask-requires-clause-good g c =
     let some : c.note_of.result ≡ Some c.in-Some.own = search rules in
     let own : c.in-Some.own ≡ own_note c.self.inside.me c.self.inside.signer.state = some_is _ _ (sym some ∙ c.note_of.ensures.kept ∙ c.self.invariant.newest_own) in
-    subst (λ (n : NoteBody). good_mask c.self.inside.group.t n.mask.0 ≡ true) (sym own) c.self.invariant.good
+    let allowed : note_mask c.self.inside.group.t c.in-Some.own.mask.0 ≡ true = subst (λ (n : NoteBody). note_mask c.self.inside.group.t n.mask.0 ≡ true) (sym own) c.self.invariant.allowed in
+    good-enabling c.self.inside.group.t c.in-Some.own.mask.0 c.args.acc.now.ring.0 allowed (c.must_answer.ensures.0 c.if-not-must_answer.false).ring
+
+pub want_note-requires-clause-allowed : goal.want_note-requires-clause-allowed
+want_note-requires-clause-allowed g c = good-allowed c.args.self.now.group.t c.answer_mask.result.0 (subst (λ (v : Kept). good_mask v.group.t c.answer_mask.result.0 ≡ true) c.self.view_is c.answer_mask.ensures.good)

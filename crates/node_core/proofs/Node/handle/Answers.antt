@@ -5,12 +5,12 @@ use Rattle.node_rules.specs.Nodes.{state_of}
 use Rattle.node_rules.specs.Refusals.{refusal}
 use Rattle.node_rules.specs.Calls.{Call, tells, takes}
 use Rattle.node_rules.specs.Deliveries.{answers, handles}
-use Rattle.node_core.specs.Playing.{Kept, IsNode, Plays}
+use Rattle.node_core.specs.Playing.{Extends, Kept, IsNode, Plays}
 use Rattle.node_core.specs.contracts.Node.{the_view}
 use Rattle.node_core.proofs.HandleLemmas.{handles-accepts, handles-refuses}
 use Rattle.node_core.proofs.PlayLemmas.{grows-trans}
-use Rattle.node_core.proofs.ExtendLemmas.{extends-handles}
-use Rattle.node_core.proofs.DueLemmas.{from-fine, runs-from-fine, runs-same}
+use Rattle.node_core.proofs.ExtendLemmas.{extends-answers, extends-handles, extends-takes, extends-trans}
+use Rattle.node_core.proofs.DueLemmas.{from-fine, plays-stuck, runs-from-fine, runs-same}
 use Rattle.node_core.proofs.RefusalLemmas.{refusal-is}
 use Rattle.node_core.proofs.SpendLemmas.{open-further, still-failed, spends-none, spends-after}
 use Rattle.signer.specs.Signing.{SignerState}
@@ -31,8 +31,29 @@ returns-in-Err-clause-plays g c = λ s es os call p.
     let fault = refusal-is s v call.node c.args.rec (Some c.in-Err.fault) n (c.in-Err.ensures.fault (state_of s call.node) n.holds) in
     subst (Plays s es os c.tell-in-Err.new.self) (sym (handles-refuses true s call c.args.rec c.in-Err.fault (sym fault))) (c.tell-in-Err.ensures.plays s es os call p))
 
-pub returns-in-Ok-clause-plays : goal.returns-in-Ok-clause-plays
-returns-in-Ok-clause-plays g c = λ s es os call p.
+pub returns-then-has_failed-clause-plays : goal.returns-then-has_failed-clause-plays
+returns-then-has_failed-clause-plays g c = λ s es os call p.
+    let v : Kept = the_view c.self.inside in
+    let w : Kept = c.tell.new.self in
+    let rec : Record = c.args.rec in
+    let failed : w.telling.failed ≡ true = ap (λ (k : Kept). k.telling.failed) (sym c.self-in-Ok.view_is) ∙ sym c.has_failed.ensures ∙ c.if-has_failed.true in
+    let after : Call = tells s (told.Took rec.body None) call in
+    let taken : Call = takes s rec after in
+    let accepted : Call = answers true s rec.body taken in
+    let further : Extends after accepted = extends-trans after taken accepted (extends-takes s rec after) (extends-answers s rec.body taken) in
+    from-fine s es os c.args.self.now w call (handles true s call rec) p c.tell.ensures.grows (extends-handles s call rec) (λ h.
+    let n = subst (λ v. IsNode s v call.node) (sym c.self.view_is) h.is in
+    let none = sym (refusal-is s v call.node rec None n (c.in-Ok.ensures.fault (state_of s call.node) n.holds)) in
+    plays-stuck s es os w after (handles true s call rec) failed (c.tell.ensures.plays s es os call p) (subst (Extends after) (sym (handles-accepts true s call rec none)) further))
+
+pub returns-then-has_failed-clause-spends : goal.returns-then-has_failed-clause-spends
+returns-then-has_failed-clause-spends g c = spends-none c.args.self.now c.tell.new.self _ c.tell.ensures.signs_nothing
+
+pub returns-then-has_failed-clause-stores : goal.returns-then-has_failed-clause-stores
+returns-then-has_failed-clause-stores g c = stores-none c.args.self.now.signer c.tell.new.self.signer (g.D.Disk.state c.args.disk.now).model c.tell.ensures.signs_nothing.signer
+
+pub returns-else-has_failed-clause-plays : goal.returns-else-has_failed-clause-plays
+returns-else-has_failed-clause-plays g c = λ s es os call p.
     let v : Kept = the_view c.self.inside in
     let grows = grows-trans c.args.self.now c.tell.new.self c.accept.new.self c.tell.ensures.grows c.accept.ensures.grows in
     let handled : Bool → Call = λ works. handles works s call c.args.rec in
@@ -48,21 +69,21 @@ returns-in-Ok-clause-plays g c = λ s es os call p.
 pub returns-in-Err-clause-spends : goal.returns-in-Err-clause-spends
 returns-in-Err-clause-spends g c = spends-none c.args.self.now c.tell-in-Err.new.self _ c.tell-in-Err.ensures.signs_nothing
 
-pub returns-in-Ok-clause-spends : goal.returns-in-Ok-clause-spends
-returns-in-Ok-clause-spends g c = spends-after c.args.self.now c.tell.new.self c.accept.new.self _ _ c.tell.ensures.signs_nothing (still-failed c.args.self.now c.tell.new.self c.tell.ensures.grows) c.accept.ensures.spends
+pub returns-else-has_failed-clause-spends : goal.returns-else-has_failed-clause-spends
+returns-else-has_failed-clause-spends g c = spends-after c.args.self.now c.tell.new.self c.accept.new.self _ _ c.tell.ensures.signs_nothing (still-failed c.args.self.now c.tell.new.self c.tell.ensures.grows) c.accept.ensures.spends
 
-pub returns-in-Ok-clause-closed : goal.returns-in-Ok-clause-closed
-returns-in-Ok-clause-closed g c = open-further c.accept.result _ _ _ c.accept.ensures.closed (ap (λ (s : SignerState). s.closed) c.tell.ensures.signs_nothing.signer)
+pub returns-else-has_failed-clause-closed : goal.returns-else-has_failed-clause-closed
+returns-else-has_failed-clause-closed g c = open-further c.accept.result _ _ _ c.accept.ensures.closed (ap (λ (s : SignerState). s.closed) c.tell.ensures.signs_nothing.signer)
 
 pub returns-in-Err-clause-stores : goal.returns-in-Err-clause-stores
 returns-in-Err-clause-stores g c = stores-none c.args.self.now.signer c.tell-in-Err.new.self.signer (g.D.Disk.state c.args.disk.now).model c.tell-in-Err.ensures.signs_nothing.signer
 
-pub returns-in-Ok-clause-stores : goal.returns-in-Ok-clause-stores
-returns-in-Ok-clause-stores g c =
+pub returns-else-has_failed-clause-stores : goal.returns-else-has_failed-clause-stores
+returns-else-has_failed-clause-stores g c =
     stored-behind c.args.self.now c.tell.new.self c.accept.new.self (g.D.Disk.state c.args.disk.now).model (g.D.Disk.state c.accept.new.disk).model c.accept.result c.tell.ensures.signs_nothing c.accept.ensures.stores
 
-pub returns-in-Ok-clause-fails : goal.returns-in-Ok-clause-fails
-returns-in-Ok-clause-fails g c = λ s es os call p.
+pub returns-else-has_failed-clause-fails : goal.returns-else-has_failed-clause-fails
+returns-else-has_failed-clause-fails g c = λ s es os call p.
     let v : Kept = the_view c.self.inside in
     let x = (g.D.Disk.state c.args.disk.now).model in
     let y = (g.D.Disk.state c.accept.new.disk).model in

@@ -1,7 +1,7 @@
 use Rattle.std.proofs.Common.{ℕ, Bool, List, ap, sym, subst, ◌∙◌}
 use Rattle.node_rules.specs.Calls.{Call}
 use Rattle.node_rules.specs.Ticking.{accuses_all, pings_all, gossips}
-use Rattle.node_core.specs.Playing.{Plays}
+use Rattle.node_core.specs.Playing.{Kept, Plays}
 use Rattle.node_core.proofs.TickLemmas.{due-is, err-due}
 use Rattle.node_core.proofs.SpendLemmas.{nothing-trans, spends-before}
 use Rattle.signer.specs.Signing.{SignerState}
@@ -11,7 +11,9 @@ use Rattle.epoch_store.specs.Placed.{PlacedStore}
 use Rattle.node_rules.specs.OnDisks.{OnDisk, accuses_on, due_on}
 use Rattle.node_core.specs.Playing.{IsAt}
 use Rattle.node_core.specs.OnDisks.{ComesTo, on_disk, storage}
-use Rattle.node_core.proofs.DueLemmas.{plays-at}
+use Rattle.node_core.proofs.DueLemmas.{plays-at, plays-stuck}
+use Rattle.std.proofs.lemmas.Bool.{false≢true}
+use Rattle.node_core.proofs.ExtendLemmas.{extends-gossips, extends-pings_all, extends-trans}
 use Rattle.node_core.proofs.TickDiskLemmas.{due-comes, due-over}
 use Rattle.node_core.proofs.Node.pass_due.Goals as goal
 
@@ -62,3 +64,24 @@ returns-in_err-accuse_all-clause-follows g c = λ s es os call d p on is fine.
     let h = c.in_err-accuse_all.ensures.follows s es os call d p on is fine in
     subst (λ (failed : Bool). ComesTo s es os c.accuse_all.new.self y failed (due_on storage s silent pings c.args.round begun)) (sym c.from_residual.ensures.0)
     (subst (ComesTo s es os c.accuse_all.new.self y true) (sym (due-over s silent pings c.args.round begun o refl h.ended)) h)
+
+pub returns-then-has_failed-clause-plays : goal.returns-then-has_failed-clause-plays
+returns-then-has_failed-clause-plays g c = λ s es os call p.
+    let silent : List ℕ = c.args.due.silent.items in
+    let pings : List (ℕ × ℕ) = c.args.due.pings.items in
+    let c1 : Call = accuses_all s silent call in
+    let c2 : Call = pings_all s pings c1 in
+    let failed = ap (λ (v : Kept). v.telling.failed) (sym c.self.view_is) ∙ sym c.has_failed.ensures ∙ c.if-has_failed.true in
+    let further = extends-trans c1 c2 (gossips s c.args.round c2) (extends-pings_all s pings c1) (extends-gossips s c.args.round c2) in
+    subst (Plays s es os c.accuse_all.new.self) (sym (due-is s silent pings c.args.round call)) (plays-stuck s es os c.accuse_all.new.self c1 (gossips s c.args.round c2) failed (c.in_ok-accuse_all.ensures.plays s es os call p) further)
+
+pub returns-then-has_failed-clause-spends : goal.returns-then-has_failed-clause-spends
+returns-then-has_failed-clause-spends g c = c.in_ok-accuse_all.ensures.spends
+
+pub returns-then-has_failed-clause-closed : goal.returns-then-has_failed-clause-closed
+returns-then-has_failed-clause-closed g c = c.in_ok-accuse_all.ensures.closed
+
+pub returns-then-has_failed-clause-follows : goal.returns-then-has_failed-clause-follows
+returns-then-has_failed-clause-follows g c = λ s es os call d p on is fine.
+    let failed = ap (λ (v : Kept). v.telling.failed) (sym c.self.view_is) ∙ sym c.has_failed.ensures ∙ c.if-has_failed.true in
+    absurd (false≢true (sym fine ∙ failed))

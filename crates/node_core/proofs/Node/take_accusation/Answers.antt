@@ -32,7 +32,7 @@ invariant_of-self c =
       detector_group = i.detector_group;
       signer_group = i.signer_group;
       joined = still c.self.inside.membership c.put_accusation-fault.new.self c.self.inside.me c.put_accusation-fault.ensures.members i.joined;
-      good = i.good;
+      allowed = i.allowed;
       notes = notes-accusation c.self.inside.group (Accuses c.args.acc) c.self.inside.membership c.put_accusation-fault.new.self nothing c.self.inside.records c.put.new.self c.args.rec c.args.acc steps (λ m. tt) c.requires.accusation
           (subst (λ (v : Kept). is_some (get v.membership.notes c.args.acc.accused) ≡ true) (sym c.self.view_is) c.requires.noted) c.put.ensures.held i.notes;
       newest_own = newest-same c.self.inside.group (Accuses c.args.acc) c.self.inside.membership c.put_accusation-fault.new.self nothing c.self.inside.records c.self.inside.me steps i.notes tt ∙ i.newest_own;

@@ -1,4 +1,5 @@
 use Rattle.std.proofs.Common.{refl, ◌∙◌}
+use Rattle.node_rules.proofs.Allowed.{good-allowed}
 use Rattle.node_core.specs.Rolls.{recs_of}
 use Rattle.node_core.specs.declared.starting.Ready.{Ready}
 use Rattle.node_core.proofs.BeginLemmas.{may-begin, first-own, own-joined, own-unnoted}
@@ -19,7 +20,7 @@ returns-clause-ready g c =
       detector_group = c.in-Ok.ensures.groups.detector;
       signer_group = first.group ∙ c.requires.signer;
       joined = own-joined c.args.kit.group c.args.kit.me c.args.kit.authority c.args.signer c.args.kit.nonce_seed (recs_of c.args.kit.certificates.items) c.in-Ok.parts c.in-Ok.ensures.opened k.certificates.apart k.certificates.among;
-      good = first.good;
+      allowed = good-allowed c.args.kit.group.t c.sign_first.new.signer.state.mask.0 first.good;
       notes = c.in-Ok.ensures.notes;
       newest_own = own-unnoted c.args.kit.group c.args.kit.me c.args.kit.authority c.args.signer c.args.kit.nonce_seed (recs_of c.args.kit.certificates.items) c.in-Ok.parts c.in-Ok.ensures.opened k.certificates.apart;
       is_open = first.closed ∙ c.requires.open;
