@@ -17,7 +17,8 @@ use Rattle.signer.specs.Signing.{stored_after}
 use Rattle.node_rules.specs.Nodes.{Setting, Node, event_of, state_of}
 use Rattle.node_rules.specs.Calls.{Call, begun, lives, own_record, sends, signs, spends, takes, tells, told_of}
 use Rattle.node_rules.specs.Deliveries.{answer_to}
-use Rattle.node_rules.specs.Lives.{Input, Delivers, Ticks, call_of}
+use Rattle.node_rules.specs.Leaving.{leaving}
+use Rattle.node_rules.specs.Lives.{Input, Delivers, Ticks, Leaves, call_of}
 use Rattle.node_rules.specs.Starting.{blank, first_note, opened, started}
 use Rattle.node_rules.proofs.Carrying.{Carries, carries-call, is_beside}
 use Rattle.node_rules.proofs.OwnNote.{stored-lives}
@@ -108,6 +109,7 @@ keeping s first =
       taken = λ r c fine h. kept-takes s first r c h;
       answered = λ r a c fine is me left h. kept-signs s first (answer_to s (takes s r c).node.stored a) (takes s r c) (kept-takes s first r c h);
       accused = λ a c by left h. kept-signs s first (Accusation a) c h;
+      departed = λ c left h. kept-signs s first (leaving s c.node.stored) c h;
       stopped = λ c h. kept-tells s first told.Stopped c refl h;
       passed = λ c h. kept-passes s first c h;
       probed = λ p c h. h;
@@ -170,6 +172,7 @@ acted-kept : (s : Setting) (first : Stored) (bound : Option ℕ) (r : ServeState
 acted-kept s first bound r Receives h = record { kept = h.kept; link = h.link }
 acted-kept s first bound r (Writes line) h = record { kept = h.kept; link = h.link }
 acted-kept s first bound r (Calls (Delivers bytes)) h = gives-kept s first bound (Delivers bytes) r h
+acted-kept s first bound r (Calls Leaves) h = gives-kept s first bound Leaves r h
 acted-kept s first bound r (Calls Ticks) h =
     cond_both {A = ServeState} (may_tick s r.node) (gives (call_of s r.node Ticks) r) r (KeepsOn first bound) (λ may. gives-kept s first bound Ticks r h) (λ never. h)
 
@@ -178,7 +181,7 @@ served-kept s first bound [] r h = subst (KeepsOn first bound) (sym (served-nil 
 served-kept s first bound (act ∷ acts) r h = subst (KeepsOn first bound) (sym (served-cons s act acts r)) (served-kept s first bound acts (acted s r act) (acted-kept s first bound r act h))
 
 life-on : (m : Member) (stored : Stored) (feed : NetInputs) → KeepsOn (start_of m stored).node.stored (Some (own_port m)) (life_in m stored feed)
-life-on m stored feed = served-kept (setting_for m) (start_of m stored).node.stored (Some (own_port m)) (life_acts m.millis feed.turns feed.link.coming feed.reading feed.readings) (served_from (start_of m stored).node (bound_for m feed.link)) (record { kept = refl; link = refl })
+life-on m stored feed = served-kept (setting_for m) (start_of m stored).node.stored (Some (own_port m)) (life_acts m.millis feed.stay.turns feed.stay.leave feed.link.coming feed.reading feed.readings) (served_from (start_of m stored).node (bound_for m feed.link)) (record { kept = refl; link = refl })
 
 pub life-kept : (m : Member) (stored : Stored) (feed : NetInputs) → (life_in m stored feed).node.stored ≡ kept_behind stored (spent_told (start_of m stored).told ++ (life_in m stored feed).spent)
 life-kept m stored feed =

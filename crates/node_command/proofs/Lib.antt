@@ -9,6 +9,7 @@ pub mod RemovalLemmas
 pub mod ReplyLemmas
 pub mod SentLemmas
 pub mod SignedLemmas
+pub mod DepartureLemmas
 pub mod WrittenLemmas
 pub mod RestLemmas
 pub mod SpendLemmas

@@ -30,15 +30,17 @@ use Rattle.node_rules.specs.Refusals.{refusal, refusal_of}
 use Rattle.node_rules.specs.Calls.{lives}
 use Rattle.node_rules.specs.Deliveries.{answering_note, delivered}
 use Rattle.node_rules.specs.Ticking.{passed, ticked}
-use Rattle.node_rules.specs.Lives.{Input, Delivers, Ticks, call_of}
+use Rattle.node_rules.specs.Leaving.{leaving_note, left}
+use Rattle.node_rules.specs.Lives.{Input, Delivers, Ticks, Leaves, call_of}
 use Rattle.node_rules.specs.Verdicts.{is_apart, told_that, when_all_handled, when_handled}
 use Rattle.node_rules.specs.Answering.{asked_by}
-use Rattle.node_rules.specs.Gaining.{accepted_event, accusation_events, answer_event, gained}
+use Rattle.node_rules.specs.Gaining.{accepted_event, accusation_events, answer_event, gained, leaving_event}
 use Rattle.node_rules.specs.Outgoing.{accusation_of, accusing_told, at_tick, to_accuse}
 use Rattle.node_rules.specs.Accusing.{AccusesTheSilent}
 use Rattle.node_rules.specs.Vouching.{OwnSignaturesVerify}
 use Rattle.node_rules.proofs.Gains.{lived-delivered, lived-ticked}
 use Rattle.node_rules.proofs.Handling.{unread}
+use Rattle.node_rules.proofs.Leaving.{leaving-lived}
 use Rattle.node_rules.proofs.OwnNote.{option_or-none}
 use Rattle.node_rules.proofs.Sendings.{ping-brings, pong-brings, summary-brings}
 use Rattle.node_rules.proofs.Ticks.{only-silent, tick-tells}
@@ -297,6 +299,20 @@ ticked-in s own n place a sign v e =
       | inr new ↦ inr (made-in s own n place new.more a sign v (omega (arith, new.is, length-append n.lived (Passes ∷ []))) new.found)
     ]
 
+-- ## A node that leaves
+
+-- It brings no accusation.
+left-in : (s : Setting) (n : Node) (place : ℕ) (a : AccBody) → slice_get (left s n).node.lived place ≡ Some (Accuses a) → slice_get n.lived place ≡ Some (Accuses a)
+left-in s n place a e =
+    elim (at-append n.lived (leaving_event s n) place (Accuses a) (sym (ap (λ xs. slice_get xs place) (leaving-lived s n).lived_so) ∙ e)) [
+      | inl old ↦ old
+      | inr new ↦ by (eqb n.stored.next s.indexes) new.more new.found
+    ]
+  where
+    by : {A : Type 0} (b : Bool) (more : ℕ) → slice_get (cond b [] (Notes (leaving_note s n.stored) ∷ [])) more ≡ Some (Accuses a) → A
+    by true more e = none-at more (Accuses a) e
+    by false more e = note-not (leaving_note s n.stored) a (one-at (Notes (leaving_note s n.stored)) (Accuses a) more e).1
+
 -- ## A course
 
 pub acts-behind : (s : Setting) (start : ServeState) (acts : List Act) (act : Act) → served s (acts ++ act ∷ []) start ≡ acted s (served s acts start) act
@@ -307,6 +323,7 @@ pub node-acted : (s : Setting) (P : Node → Type 0) (r : ServeState) (act : Act
 node-acted s P r Receives h step = h
 node-acted s P r (Writes line) h step = h
 node-acted s P r (Calls (Delivers bytes)) h step = subst P (sym (node-gives (call_of s r.node (Delivers bytes)) r)) (step (Delivers bytes) refl)
+node-acted s P r (Calls Leaves) h step = subst P (sym (node-gives (call_of s r.node Leaves) r)) (step Leaves refl)
 node-acted s P r (Calls Ticks) h step =
     cond_both {A = ServeState} (may_tick s r.node) (gives (call_of s r.node Ticks) r) r (λ x. P x.node) (λ may. subst P (sym (node-gives (call_of s r.node Ticks) r)) (step Ticks refl)) (λ never. h)
 
@@ -400,6 +417,10 @@ came-act s own start acts (Calls (Delivers bytes)) place a sign v h e =
       | inl old ↦ came-earlier s start acts (Calls (Delivers bytes) ∷ []) place a (h place a old)
       | inr new ↦ came-delivered s start acts bytes place a new
     ]
+came-act s own start acts (Calls Leaves) place a sign v h e =
+    let n = node_behind s start acts in
+    let there = subst (λ (x : Node). slice_get x.lived place ≡ Some (Accuses a)) (node-gives (call_of s n Leaves) (served s acts start)) e in
+    came-earlier s start acts (Calls Leaves ∷ []) place a (h place a (left-in s n place a there))
 came-act s own start acts (Calls Ticks) place a sign v h e = by (may_tick s (node_behind s start acts)) refl e
   where
     n : Node

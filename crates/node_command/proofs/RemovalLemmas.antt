@@ -1,17 +1,18 @@
 -- What a call reports of removals, and what those rest on.
-use Rattle.std.proofs.Common.{◌≡◌, ℕ, ◌+◌, ◌<◌, zero, suc, Bool, true, false, cond, eqb, List, [], ◌∷◌, ◌++◌, length, take, Option, Some, None, inl, inr, refl, ap, sym, ◌∙◌, subst, append_assoc, append-nil, arith, map, fold}
-use Rattle.std.specs.Prelude.{Result, Ok, Err}
-use Rattle.std.specs.List.{slice_get}
-use Rattle.std.proofs.lemmas.Bool.{cond_both}
+use Rattle.std.proofs.Common.{◌≡◌, ◌⊎◌, ℕ, ◌+◌, ◌<◌, zero, suc, Bool, true, false, cond, eqb, List, [], ◌∷◌, ◌++◌, length, Option, Some, None, inl, inr, refl, ap, sym, ◌∙◌, subst, append_assoc, append-nil, arith, map, fold}
+use Rattle.std.specs.Prelude.{Result, Ok, Err, filter}
+use Rattle.std.specs.List.{range_with_len, slice_get}
+use Rattle.std.proofs.lemmas.Bool.{cond_both, eqb-true, false≢true}
 use Rattle.std.proofs.lemmas.List.{append_cancel_left, length-append, take_at}
 use Rattle.ff_ids.specs.declared.AccBody.{AccBody}
 use Rattle.ff_ids.specs.declared.Fault.{Fault}
 use Rattle.ff_ids.specs.declared.Group.{Group}
 use Rattle.ff_ids.specs.declared.NoteBody.{NoteBody}
-use Rattle.ff_ids.specs.Faults.{accusation_fault}
-use Rattle.ff_ids.specs.Views.{State, in_view, is_member}
-use Rattle.ff_ids.specs.Steps.{Event, Joins, Notes, Accuses, Ticks as Passes, Report, after_accusation, joined, step, unchanged, unless_fault}
-use Rattle.ff_ids.specs.Lives.{after, opening, state_at, IsRemovedAt, RestsOn}
+use Rattle.ff_ids.specs.Views.{State, in_view}
+use Rattle.ff_ids.specs.Steps.{Event, Notes, Accuses, Ticks as Passes, Report, step}
+use Rattle.ff_ids.specs.Lives.{after, opening, state_at, Departs, ByNote, ByAccusation, IsRemovedAt, RestsOn}
+use Rattle.ff_ids.specs.Masks.{all_rings, enabled, enables, good_mask, ring_count}
+use Rattle.ff_ids.specs.Notes.{is_leaving}
 use Rattle.life_laws.proofs.Lists.{In, In-append_cases, In-filter, In-from_map}
 use Rattle.life_laws.proofs.LifeLemmas.{state_at-next}
 use Rattle.life_laws.proofs.JustifiedLemmas.{justified}
@@ -27,16 +28,21 @@ use Rattle.datagram.specs.Grammar.{read_of}
 use Rattle.journal.specs.declared.event.Event as journal
 use Rattle.journal.specs.declared.event.What as whats
 use Rattle.journal.specs.declared.event.What.TheVariants as told
+use Rattle.rebuttal.proofs.Answering.{good_parts, none_above}
+use Rattle.rebuttal.proofs.Masks.{all_rings-good}
 use Rattle.trace.proofs.UprightLemmas.{Left, left-by}
 use Rattle.node_rules.specs.Nodes.{Setting, Node, event_of, neighbours, neighbours_and, state_of}
 use Rattle.node_rules.specs.Refusals.{refusal}
-use Rattle.node_rules.specs.Calls.{Call, begun, is_used_up, lives, signs, spends, takes, tells, told_of, wants, whats_of}
-use Rattle.node_rules.specs.Deliveries.{answer_to, answers, delivered, handles, handles_all, hears, judged}
+use Rattle.node_rules.specs.Calls.{Call, begun, is_used_up, lives, own_record, signs, spends, takes, tells, told_of, wants, whats_of}
+use Rattle.node_rules.specs.Deliveries.{answer_to, answering_note, answers, delivered, handles, handles_all, hears, judged}
+use Rattle.node_rules.specs.Leaving.{leaving, leaving_note, leaves, left}
+use Rattle.node_rules.specs.Replies.{first_mask}
 use Rattle.node_rules.specs.Ticking.{accusation_on, accuses, accuses_all, has_accused, passed, probed_at, ring_for, ticked, wants_accusation}
 use Rattle.node_rules.specs.Starting.{blank, first_note, opened, started}
 use Rattle.node_rules.specs.OnDisks.{IsCut}
-use Rattle.node_rules.proofs.Called.{delivered_until, holds-called, ticked_until}
-use Rattle.node_rules.specs.Lives.{AreCertificates, Input, Delivers, Ticks, TellsItsLife, call_of, is_of_life, told_by}
+use Rattle.node_rules.proofs.Called.{delivered_until, holds-called, left_until, ticked_until}
+use Rattle.node_rules.proofs.Small.{stored-takes}
+use Rattle.node_rules.specs.Lives.{AreCertificates, Input, Delivers, Ticks, Leaves, TellsItsLife, call_of, is_of_life, told_by}
 use Rattle.node_rules.specs.Gaining.{accusation_events}
 use Rattle.node_rules.specs.Outgoing.{accusation_of, at_tick, to_accuse}
 use Rattle.node_rules.specs.Verdicts.{when_all_handled}
@@ -44,7 +50,7 @@ use Rattle.node_rules.specs.Vouching.{OwnSignaturesVerify}
 use Rattle.node_rules.proofs.Gains.{lived-ticked}
 use Rattle.node_rules.proofs.Handling.{node-all, node-wants, unread}
 use Rattle.node_rules.proofs.Sendings.{ping-brings, pong-brings, summary-brings}
-use Rattle.node_rules.proofs.Telling.{call-tells, delivered_until-tells, ticked_until-tells}
+use Rattle.node_rules.proofs.Telling.{call-tells, delivered_until-tells, left_until-tells, ticked_until-tells}
 use Rattle.node_rules.proofs.OwnKey.{KeepsKey}
 use Rattle.node_loop.specs.Turns.{Act, Calls}
 use Rattle.node_loop.specs.Courses.{ServeState}
@@ -62,7 +68,7 @@ at-last [] e = refl
 at-last (x ∷ events) e = at-last events e
 
 -- who leaves by the last event is removed at its place
-removed-last : (g : Group) (events : List Event) (e : Event) (m : ℕ) → Left (after g (opening []) events) (step g (after g (opening []) events) e).state m → IsRemovedAt g (opening []) (events ++ e ∷ []) (length events) m
+pub removed-last : (g : Group) (events : List Event) (e : Event) (m : ℕ) → Left (after g (opening []) events) (step g (after g (opening []) events) e).state m → IsRemovedAt g (opening []) (events ++ e ∷ []) (length events) m
 removed-last g events e m left =
     let there : state_at g (opening []) (events ++ e ∷ []) (length events) ≡ after g (opening []) events = ap (after g (opening [])) (take_at events (e ∷ []) (length events) refl) in
     let next = state_at-next g (opening []) (events ++ e ∷ []) (length events) e (at-last events e) in
@@ -74,39 +80,49 @@ removed-last g events e m left =
 within-last : (events : List Event) (e : Event) → length events < length (events ++ e ∷ [])
 within-last events e = omega (arith, length-append events (e ∷ []))
 
--- What the removal of the last event rests on.
-record RestsLast (g : Group) (events : List Event) (e : Event) (m : ℕ) : Type 0 where
-  accepted : ℕ
-  accusation : AccBody
-  rests : RestsOn g (opening []) (events ++ e ∷ []) (length events) m accepted accusation
-
-rests-last : (g : Group) (events : List Event) (e : Event) (m : ℕ) → Left (after g (opening []) events) (step g (after g (opening []) events) e).state m → RestsLast g events e m
-rests-last g events e m left =
-    let r = justified g [] (events ++ e ∷ []) (length events) m (within-last events e) (removed-last g events e m left) in
-    record { accepted = r.0; accusation = r.1; rests = r.2 }
-
-none-joined : (b : Bool) (st next : State) (m : ℕ) → In (cond b (unchanged st) (unchanged next)).report.removed m → ⊥
-none-joined true st next m i = i
-none-joined false st next m i = i
-
-none-unless : (f : Option Fault) (st next : State) (m : ℕ) → In (unless_fault f st (unchanged next)).report.removed m → ⊥
-none-unless (Some fault) st next m i = i
-none-unless None st next m i = i
-
 some-is : {X : Type 0} (x y : X) → Some x ≡ Some y → x ≡ y
 some-is x y e = cc
 
--- No event but a tick removes anyone from the view of a life.
-only-ticks-remove : (g : Group) (events : List Event) (e : Event) (m : ℕ) → In (step g (after g (opening []) events) e).report.removed m → e ≡ Passes
-only-ticks-remove g events (Joins number places) m i =
-    let st = after g (opening []) events in absurd (none-joined (is_member st number) st (joined st number places) m i)
-only-ticks-remove g events (Notes n) m i =
-    let st = after g (opening []) events in
-    let r = rests-last g events (Notes n) m (left-by g st (Notes n) m i) in
-    some-is (Notes n) Passes (sym (at-last events (Notes n)) ∙ r.rests.tick)
-only-ticks-remove g events (Accuses a) m i =
-    let st = after g (opening []) events in absurd (none-unless (accusation_fault g.t st a) st (after_accusation st a) m i)
-only-ticks-remove g events Passes m i = refl
+-- The event at the last place.
+is-last : (events : List Event) (e x : Event) → slice_get (events ++ e ∷ []) (length events) ≡ Some x → e ≡ x
+is-last events e x at = some-is e x (sym (at-last events e) ∙ at)
+
+-- The event is a note by which the member leaves.
+pub record IsLeavingNote (m : ℕ) (x : Event) : Type 0 where
+  pub note : NoteBody
+  pub is : x ≡ Notes note
+  pub of_member : note.member ≡ m
+  pub leaving : is_leaving note ≡ true
+
+-- What removes the member: a tick, or such a note.
+abbrev pub IsRemoving : ℕ → Event → Type 0
+IsRemoving m x = (x ≡ Passes) ⊎ IsLeavingNote m x
+
+removing : (g : Group) (events : List Event) (x : Event) (m : ℕ) → Departs g (opening []) (events ++ x ∷ []) (length events) m → IsRemoving m x
+removing g events x m (ByNote n l) = inr (record { note = n; is = is-last events x (Notes n) l.accepted.event; of_member = l.of_member; leaving = l.leaving })
+removing g events x m (ByAccusation i a r) = inl (is-last events x Passes r.tick)
+
+-- Nothing else removes anyone from the view of a life.
+only-these-remove : (g : Group) (events : List Event) (x : Event) (m : ℕ) → In (step g (after g (opening []) events) x).report.removed m → IsRemoving m x
+only-these-remove g events x m i =
+    let left = left-by g (after g (opening []) events) x m i in
+    removing g events x m (justified g [] (events ++ x ∷ []) (length events) m (within-last events x) (removed-last g events x m left))
+
+-- What the removal of a tick rests on.
+record RestsLast (g : Group) (events : List Event) (m : ℕ) : Type 0 where
+  accepted : ℕ
+  accusation : AccBody
+  rests : RestsOn g (opening []) (events ++ Passes ∷ []) (length events) m accepted accusation
+
+resting : (g : Group) (events : List Event) (m : ℕ) → Departs g (opening []) (events ++ Passes ∷ []) (length events) m → RestsLast g events m
+resting g events m (ByNote n l) = absurd (tick-not n (is-last events Passes (Notes n) l.accepted.event))
+  where
+    tick-not : (n : NoteBody) → Passes ≡ Notes n → ⊥
+    tick-not n e = cc
+resting g events m (ByAccusation i a r) = record { accepted = i; accusation = a; rests = r }
+
+rests-last : (g : Group) (events : List Event) (m : ℕ) → Left (after g (opening []) events) (step g (after g (opening []) events) Passes).state m → RestsLast g events m
+rests-last g events m left = resting g events m (justified g [] (events ++ Passes ∷ []) (length events) m (within-last events Passes) (removed-last g events Passes m left))
 
 -- ## What is reported of it
 
@@ -148,11 +164,11 @@ removed-among r m i =
       | inr j ↦ absurd (not-among told.Fell r.fell m (fell-not m) j)
     ]
 
-record IsToldRemoved (moment : ℕ) (r : Report) (at m : ℕ) : Type 0 where
-  removed : In r.removed m
-  brings : moment ≡ at
+pub record IsToldRemoved (moment : ℕ) (r : Report) (at m : ℕ) : Type 0 where
+  pub removed : In r.removed m
+  pub brings : moment ≡ at
 
-told-removed : (moment : ℕ) (r : Report) (at m : ℕ) → In (told_of moment r) (removal at m) → IsToldRemoved moment r at m
+pub told-removed : (moment : ℕ) (r : Report) (at m : ℕ) → In (told_of moment r) (removal at m) → IsToldRemoved moment r at m
 told-removed moment r at m i =
     let x = In-from_map (λ what. let made : journal.Event = record { moment = moment; what = what } in made) (whats_of r) (removal at m) i in
     record {
@@ -164,62 +180,51 @@ told-removed moment r at m i =
 abbrev pub reported : Group → State → Event → List journal.Event
 reported g st e = told_of (step g st e).state.moment (step g st e).report
 
--- one of these events reports it
-record ToldIn (g : Group) (st : State) (events : List Event) (e : journal.Event) : Type 0 where
-  place : ℕ
-  event : Event
-  is : slice_get events place ≡ Some event
-  told : In (reported g (after g st (take place events)) event) e
+-- A step of a life that reports it is of this kind.
+pub record IsBy (Kind : Event → Type 0) (e : journal.Event) : Type 0 where
+  pub of_life : is_of_life e.what ≡ true
+  pub only : (g : Group) (events : List Event) (x : Event) → In (reported g (after g (opening []) events) x) e → Kind x
 
-told-at : (g : Group) (st : State) (events : List Event) (e : journal.Event) → In (told_by g st events) e → ToldIn g st events e
-told-at g st [] e i = absurd i
-told-at g st (x ∷ events) e i =
-    elim (In-append_cases (reported g st x) (told_by g (step g st x).state events) e i) [
-      | inl here ↦ record { place = zero; event = x; is = refl; told = here }
-      | inr later ↦ let y = told-at g (step g st x).state events e later in record { place = suc y.place; event = y.event; is = y.is; told = y.told }
-    ]
-
-told-in : (s : Setting) (n : Node) (c : Call) (h : TellsItsLife s n c) (e : journal.Event) → is_of_life e.what ≡ true → In c.told e → ToldIn s.group (state_of s n) h.more e
-told-in s n c h e of_life i =
-    told-at s.group (state_of s n) h.more e (subst (λ (es : List journal.Event). In es e) h.told_so (In-filter (λ e. is_of_life e.what) c.told e i of_life))
+abbrev pub IsPassing : Event → Type 0
+IsPassing x = x ≡ Passes
 
 -- No step of a life but a tick reports it.
-pub record IsOfTicks (e : journal.Event) : Type 0 where
-  pub of_life : is_of_life e.what ≡ true
-  pub only : (g : Group) (events : List Event) (x : Event) → In (reported g (after g (opening []) events) x) e → x ≡ Passes
+abbrev pub IsOfTicks : journal.Event → Type 0
+IsOfTicks e = IsBy IsPassing e
 
-pub removal-of-ticks : (at m : ℕ) → IsOfTicks (removal at m)
-removal-of-ticks at m = record { of_life = refl; only = λ g events x i. only-ticks-remove g events x m (told-removed _ _ at m i).removed }
+pub removal-by : (at m : ℕ) → IsBy (IsRemoving m) (removal at m)
+removal-by at m = record { of_life = refl; only = λ g events x i. only-these-remove g events x m (told-removed _ _ at m i).removed }
 
--- ## Calls that count no tick
+-- ## What a call adds to its life
 
--- Behind these events nothing is a tick.
-pub record IsTickless (base : List Event) (n : Node) : Type 0 where
+-- Each of these events is so, in the life before it.
+abbrev pub Along : (List Event → Event → Type 0) → List Event → List Event → Type 0
+Along Q life [] = Unit {0}
+Along Q life (x ∷ events) = Q life x × Along Q (life ++ x ∷ []) events
+
+along-next : (Q : List Event → Event → Type 0) (life events : List Event) (e : Event) → Q (life ++ events) e → Along Q life events → Along Q life (events ++ e ∷ [])
+along-next Q life [] e last h = (subst (λ (xs : List Event). Q xs e) (append-nil life) last, tt)
+along-next Q life (x ∷ events) e last h = (h.0, along-next Q (life ++ x ∷ []) events e (subst (λ (xs : List Event). Q xs e) (sym (append_assoc life (x ∷ []) events)) last) h.1)
+
+-- Each event of the node's life behind these is so.
+pub record IsGrown (Q : List Event → Event → Type 0) (base : List Event) (n : Node) : Type 0 where
   pub more : List Event
   pub grew : n.lived ≡ base ++ more
-  pub none : (place : ℕ) → slice_get more place ≡ Some Passes → ⊥
+  pub along : Along Q base more
 
-none-at : (place : ℕ) → slice_get [] place ≡ Some Passes → ⊥
-none-at place e = cc
+pub grown-same : (Q : List Event → Event → Type 0) (base : List Event) (n : Node) → n.lived ≡ base → IsGrown Q base n
+grown-same Q base n same = record { more = []; grew = same ∙ sym (append-nil base); along = tt }
 
-tickless-same : (base : List Event) (n : Node) → n.lived ≡ base → IsTickless base n
-tickless-same base n same = record { more = []; grew = same ∙ sym (append-nil base); none = none-at }
-
-one-not : (e : Event) (place : ℕ) → (e ≡ Passes → ⊥) → slice_get (e ∷ []) place ≡ Some Passes → ⊥
-one-not e zero other is = other (some-is e Passes is)
-one-not e (suc place) other is = none-at place is
-
-tickless-more : (base : List Event) (n next : Node) (e : Event) → next.lived ≡ n.lived ++ e ∷ [] → (e ≡ Passes → ⊥) → IsTickless base n → IsTickless base next
-tickless-more base n next e lived other h = record {
+grown-more : (Q : List Event → Event → Type 0) (base : List Event) (n next : Node) (e : Event) → next.lived ≡ n.lived ++ e ∷ [] → Q n.lived e → IsGrown Q base n → IsGrown Q base next
+grown-more Q base n next e lived new h = record {
   more = h.more ++ e ∷ [];
   grew = lived ∙ ap (λ (xs : List Event). xs ++ e ∷ []) h.grew ∙ append_assoc base h.more (e ∷ []);
-  none = λ place is. elim (at-append h.more (e ∷ []) place Passes is) [ inl old ↦ h.none place old | inr new ↦ one-not e new.more other new.found ];
+  along = along-next Q base h.more e (subst (λ (xs : List Event). Q xs e) h.grew new) h.along;
 }
 
-event-not : (s : Setting) (b : Body) → event_of s b ≡ Passes → ⊥
-event-not s (Certificate c) e = cc
-event-not s (Note n) e = cc
-event-not s (Accusation a) e = cc
+-- with the event before it
+grown-behind : (Q : List Event → Event → Type 0) (base : List Event) (x : Event) (n : Node) → Q base x → IsGrown Q (base ++ x ∷ []) n → IsGrown Q base n
+grown-behind Q base x n first h = record { more = x ∷ h.more; grew = h.grew ∙ append_assoc base (x ∷ []) h.more; along = (first, h.along) }
 
 lived-takes : (s : Setting) (r : Record) (c : Call) → (takes s r c).node.lived ≡ c.node.lived ++ event_of s r.body ∷ []
 unfolding takes lives
@@ -229,128 +234,181 @@ lived-signs : (s : Setting) (b : Body) (c : Call) → (signs s b c).node.lived �
 unfolding signs takes lives
 lived-signs s b c = refl
 
-tickless-takes : (s : Setting) (base : List Event) (r : Record) (c : Call) → IsTickless base c.node → IsTickless base (takes s r c).node
-tickless-takes s base r c h = tickless-more base c.node (takes s r c).node (event_of s r.body) (lived-takes s r c) (event-not s r.body) h
+grown-takes : (Q : List Event → Event → Type 0) (s : Setting) (base : List Event) (r : Record) (c : Call) → Q c.node.lived (event_of s r.body) → IsGrown Q base c.node → IsGrown Q base (takes s r c).node
+grown-takes Q s base r c new h = grown-more Q base c.node (takes s r c).node (event_of s r.body) (lived-takes s r c) new h
 
-tickless-wants : (works : Bool) (s : Setting) (base : List Event) (body : Body) (addressees : State → List ℕ) (c : Call) → IsTickless base c.node → IsTickless base (wants works s body addressees c).node
-tickless-wants works s base body addressees c h =
+pub grown-wants : (Q : List Event → Event → Type 0) (works : Bool) (s : Setting) (base : List Event) (body : Body) (addressees : State → List ℕ) (c : Call) → (works ≡ true → is_used_up s c.node ≡ false → Q c.node.lived (event_of s body)) → IsGrown Q base c.node
+    → IsGrown Q base (wants works s body addressees c).node
+grown-wants Q works s base body addressees c new h =
     let signed : Node = (signs s body c).node in
-    subst (IsTickless base) (sym (node-wants works s body addressees c))
-    (cond_both {A = Node} (is_used_up s c.node) c.node (cond works signed c.node) (IsTickless base) (λ up. h)
-    (λ left. cond_both {A = Node} works signed c.node (IsTickless base) (λ yes. tickless-more base c.node signed (event_of s body) (lived-signs s body c) (event-not s body) h) (λ no. h)))
+    subst (IsGrown Q base) (sym (node-wants works s body addressees c))
+    (cond_both {A = Node} (is_used_up s c.node) c.node (cond works signed c.node) (IsGrown Q base) (λ up. h)
+    (λ left. cond_both {A = Node} works signed c.node (IsGrown Q base) (λ yes. grown-more Q base c.node signed (event_of s body) (lived-signs s body c) (new yes left) h) (λ no. h)))
 
-tickless-answers : (works : Bool) (s : Setting) (base : List Event) (b : Body) (c : Call) → IsTickless base c.node → IsTickless base (answers works s b c).node
-tickless-answers works s base (Certificate x) c h = h
-tickless-answers works s base (Note x) c h = h
-tickless-answers works s base (Accusation a) c h =
-    cond_both {A = Call} (eqb a.accused s.me) (wants works s (answer_to s c.node.stored a) (neighbours s) c) c (λ x. IsTickless base x.node)
-    (λ me. tickless-wants works s base (answer_to s c.node.stored a) (neighbours s) c h) (λ other. h)
+-- What a record adds to the life, with its answer, is so.
+pub record Suits (Q : List Event → Event → Type 0) (s : Setting) (n : Node) (r : Record) : Type 0 where
+  pub taken : refusal s n r ≡ None → Q n.lived (event_of s r.body)
+  pub answered : (a : AccBody) → refusal s n r ≡ None → r.body ≡ Accusation a → eqb a.accused s.me ≡ true → Q (n.lived ++ event_of s r.body ∷ []) (Notes (answering_note s n.stored a))
 
-tickless-judged : (works : Bool) (s : Setting) (base : List Event) (f : Option Fault) (r : Record) (c : Call) → IsTickless base c.node → IsTickless base (judged works s f r c).node
-tickless-judged works s base (Some fault) r c h = h
-tickless-judged works s base None r c h =
+grown-answers : (Q : List Event → Event → Type 0) (works : Bool) (s : Setting) (base : List Event) (b : Body) (c : Call) → ((a : AccBody) → b ≡ Accusation a → eqb a.accused s.me ≡ true → Q c.node.lived (Notes (answering_note s c.node.stored a)))
+    → IsGrown Q base c.node → IsGrown Q base (answers works s b c).node
+grown-answers Q works s base (Certificate x) c new h = h
+grown-answers Q works s base (Note x) c new h = h
+grown-answers Q works s base (Accusation a) c new h =
+    cond_both {A = Call} (eqb a.accused s.me) (wants works s (answer_to s c.node.stored a) (neighbours s) c) c (λ x. IsGrown Q base x.node)
+    (λ me. grown-wants Q works s base (answer_to s c.node.stored a) (neighbours s) c (λ yes left. new a refl me) h) (λ other. h)
+
+grown-judged : (Q : List Event → Event → Type 0) (works : Bool) (s : Setting) (base : List Event) (f : Option Fault) (r : Record) (c : Call) → refusal s c.node r ≡ f → Suits Q s c.node r → IsGrown Q base c.node → IsGrown Q base (judged works s f r c).node
+grown-judged Q works s base (Some fault) r c is fits h = h
+grown-judged Q works s base None r c fine fits h =
     let c0 : Call = tells s (told.Took r.body None) c in
-    tickless-answers works s base r.body (takes s r c0) (tickless-takes s base r c0 h)
+    let c1 : Call = takes s r c0 in
+    grown-answers Q works s base r.body c1
+    (λ a is me.
+    subst (λ (xs : List Event). Q xs (Notes (answering_note s c1.node.stored a))) (sym (lived-takes s r c0))
+    (subst (λ (k : Stored). Q (c.node.lived ++ event_of s r.body ∷ []) (Notes (answering_note s k a))) (sym (stored-takes s r c0)) (fits.answered a fine is me)))
+    (grown-takes Q s base r c0 (fits.taken fine) h)
 
-tickless-handles : (works : Bool) (s : Setting) (base : List Event) (c : Call) (r : Record) → IsTickless base c.node → IsTickless base (handles works s c r).node
+pub grown-handles : (Q : List Event → Event → Type 0) (works : Bool) (s : Setting) (base : List Event) (c : Call) (r : Record) → Suits Q s c.node r → IsGrown Q base c.node → IsGrown Q base (handles works s c r).node
 unfolding handles
-tickless-handles works s base c r h = tickless-judged works s base (refusal s c.node r) r c h
+grown-handles Q works s base c r fits h = grown-judged Q works s base (refusal s c.node r) r c refl fits h
 
-tickless-all : (s : Setting) (base : List Event) (records : List Record) (c : Call) → IsTickless base c.node → IsTickless base (handles_all s records c).node
-tickless-all s base [] c h = h
-tickless-all s base (r ∷ records) c h = tickless-all s base records (handles true s c r) (tickless-handles true s base c r h)
+grown-all : (Q : List Event → Event → Type 0) (s : Setting) (base : List Event) (records : List Record) (c : Call) → ((n : Node) (r : Record) → Suits Q s n r) → IsGrown Q base c.node → IsGrown Q base (handles_all s records c).node
+grown-all Q s base [] c fits h = h
+grown-all Q s base (r ∷ records) c fits h = grown-all Q s base records (handles true s c r) fits (grown-handles Q true s base c r (fits c.node r) h)
 
-tickless-records : (s : Setting) (n : Node) (bytes : List ℕ) (from : ℕ) (records : List Record) → read_of bytes ≡ Ok (kinds.Records from records) → IsTickless n.lived (delivered s n bytes).node
+grown-records : (Q : List Event → Event → Type 0) (s : Setting) (n : Node) (bytes : List ℕ) (from : ℕ) (records : List Record) → read_of bytes ≡ Ok (kinds.Records from records) → IsGrown Q n.lived (handles_all s records (begun n)).node → IsGrown Q n.lived (delivered s n bytes).node
 unfolding delivered
-tickless-records s n bytes from records read =
-    subst (λ (came : Result Datagram ℕ). IsTickless n.lived (hears s came (begun n)).node) (sym read) (tickless-all s n.lived records (begun n) (tickless-same n.lived n refl))
+grown-records Q s n bytes from records read h = subst (λ (came : Result Datagram ℕ). IsGrown Q n.lived (hears s came (begun n)).node) (sym read) h
 
-tickless-accepted : (s : Setting) (c : Call) (r : Record) (f : Option Fault) → f ≡ None → IsTickless (c.node.lived ++ event_of s r.body ∷ []) (judged true s f r c).node
-tickless-accepted s c r (Some fault) none = absurd cc
-tickless-accepted s c r None none =
+-- what is no datagram of records adds nothing
+pub grown-heard : (Q : List Event → Event → Type 0) (s : Setting) (n : Node) (bytes : List ℕ) (came : Result Datagram ℕ) → read_of bytes ≡ came → ((from : ℕ) (records : List Record) → came ≡ Ok (kinds.Records from records) → IsGrown Q n.lived (handles_all s records (begun n)).node)
+    → IsGrown Q n.lived (delivered s n bytes).node
+grown-heard Q s n bytes (Err at) read all = grown-same Q n.lived (delivered s n bytes).node (ap (λ (x : Node). x.lived) (unread s n bytes at read).node)
+grown-heard Q s n bytes (Ok (kinds.Ping from nonce)) read all = grown-same Q n.lived (delivered s n bytes).node (ap (λ (x : Node). x.lived) (ping-brings s n bytes from nonce read).node_so)
+grown-heard Q s n bytes (Ok (kinds.Pong from nonce)) read all = grown-same Q n.lived (delivered s n bytes).node (ap (λ (x : Node). x.lived) (pong-brings s n bytes from nonce read).node_so)
+grown-heard Q s n bytes (Ok (kinds.Summary from flag theirs)) read all = grown-same Q n.lived (delivered s n bytes).node (ap (λ (x : Node). x.lived) (summary-brings s n bytes from flag theirs read).node_so)
+grown-heard Q s n bytes (Ok (kinds.Records from records)) read all = grown-records Q s n bytes from records read (all from records refl)
+
+grown-delivered : (Q : List Event → Event → Type 0) (s : Setting) (n : Node) (bytes : List ℕ) → ((n : Node) (r : Record) → Suits Q s n r) → IsGrown Q n.lived (delivered s n bytes).node
+grown-delivered Q s n bytes fits = grown-heard Q s n bytes (read_of bytes) refl (λ from records is. grown-all Q s n.lived records (begun n) fits (grown-same Q n.lived n refl))
+
+grown-until : (Q : List Event → Event → Type 0) (s : Setting) (n : Node) (records : List Record) (r : Record) → ((n : Node) (r : Record) → Suits Q s n r) → IsGrown Q n.lived (delivered_until s n records r).node
+unfolding delivered_until
+grown-until Q s n records r fits =
+    let c : Call = handles_all s records (begun n) in
+    grown-handles Q false s n.lived c r (fits c.node r) (grown-all Q s n.lived records (begun n) fits (grown-same Q n.lived n refl))
+
+-- The life goes on with a record that a delivery accepts.
+abbrev IsAny : List Event → Event → Type 0
+IsAny life x = Unit {0}
+
+any-suits : (s : Setting) (n : Node) (r : Record) → Suits IsAny s n r
+any-suits s n r = record { taken = λ fine. tt; answered = λ a fine is me. tt }
+
+grown-accepted : (s : Setting) (c : Call) (r : Record) (f : Option Fault) → f ≡ None → IsGrown IsAny (c.node.lived ++ event_of s r.body ∷ []) (judged true s f r c).node
+grown-accepted s c r (Some fault) none = absurd cc
+grown-accepted s c r None none =
     let c0 : Call = tells s (told.Took r.body None) c in
     let base : List Event = c.node.lived ++ event_of s r.body ∷ [] in
-    tickless-answers true s base r.body (takes s r c0) (tickless-same base (takes s r c0).node (lived-takes s r c0))
+    grown-answers IsAny true s base r.body (takes s r c0) (λ a is me. tt) (grown-same IsAny base (takes s r c0).node (lived-takes s r c0))
 
 all-append : (s : Setting) (xs ys : List Record) (c : Call) → handles_all s (xs ++ ys) c ≡ handles_all s ys (handles_all s xs c)
 all-append s [] ys c = refl
 all-append s (x ∷ xs) ys c = all-append s xs ys (handles true s c x)
 
--- The life goes on with a record that a delivery accepts.
-pub tickless-behind : (s : Setting) (n : Node) (bytes : List ℕ) (from : ℕ) (earlier : List Record) (taken : Record) (later : List Record) → read_of bytes ≡ Ok (kinds.Records from (earlier ++ taken ∷ later))
-    → refusal s (when_all_handled s n earlier) taken ≡ None → IsTickless ((when_all_handled s n earlier).lived ++ event_of s taken.body ∷ []) (delivered s n bytes).node
+pub grown-on : (s : Setting) (n : Node) (bytes : List ℕ) (from : ℕ) (earlier : List Record) (taken : Record) (later : List Record) → read_of bytes ≡ Ok (kinds.Records from (earlier ++ taken ∷ later))
+    → refusal s (when_all_handled s n earlier) taken ≡ None → IsGrown IsAny ((when_all_handled s n earlier).lived ++ event_of s taken.body ∷ []) (delivered s n bytes).node
 unfolding delivered handles
-tickless-behind s n bytes from earlier taken later read fine =
+grown-on s n bytes from earlier taken later read fine =
     let c : Call = handles_all s earlier (begun n) in
     let here : c.node ≡ when_all_handled s n earlier = node-all s earlier (begun n) in
     let base : List Event = (when_all_handled s n earlier).lived ++ event_of s taken.body ∷ [] in
-    let one : IsTickless base (handles true s c taken).node =
-    subst (λ (x : Node). IsTickless (x.lived ++ event_of s taken.body ∷ []) (handles true s c taken).node) here (tickless-accepted s c taken (refusal s c.node taken) (ap (λ (x : Node). refusal s x taken) here ∙ fine)) in
-    subst (λ (came : Result Datagram ℕ). IsTickless base (hears s came (begun n)).node) (sym read)
-    (subst (λ (x : Call). IsTickless base x.node) (sym (all-append s earlier (taken ∷ later) (begun n))) (tickless-all s base later (handles true s c taken) one))
+    let one : IsGrown IsAny base (handles true s c taken).node =
+    subst (λ (x : Node). IsGrown IsAny (x.lived ++ event_of s taken.body ∷ []) (handles true s c taken).node) here (grown-accepted s c taken (refusal s c.node taken) (ap (λ (x : Node). refusal s x taken) here ∙ fine)) in
+    subst (λ (came : Result Datagram ℕ). IsGrown IsAny base (hears s came (begun n)).node) (sym read)
+    (subst (λ (x : Call). IsGrown IsAny base x.node) (sym (all-append s earlier (taken ∷ later) (begun n))) (grown-all IsAny s base later (handles true s c taken) (any-suits s) one))
 
-tickless-delivered : (s : Setting) (n : Node) (bytes : List ℕ) (came : Result Datagram ℕ) → read_of bytes ≡ came → IsTickless n.lived (delivered s n bytes).node
-tickless-delivered s n bytes (Err at) read = tickless-same n.lived (delivered s n bytes).node (ap (λ (x : Node). x.lived) (unread s n bytes at read).node)
-tickless-delivered s n bytes (Ok (kinds.Ping from nonce)) read = tickless-same n.lived (delivered s n bytes).node (ap (λ (x : Node). x.lived) (ping-brings s n bytes from nonce read).node_so)
-tickless-delivered s n bytes (Ok (kinds.Pong from nonce)) read = tickless-same n.lived (delivered s n bytes).node (ap (λ (x : Node). x.lived) (pong-brings s n bytes from nonce read).node_so)
-tickless-delivered s n bytes (Ok (kinds.Summary from flag theirs)) read = tickless-same n.lived (delivered s n bytes).node (ap (λ (x : Node). x.lived) (summary-brings s n bytes from flag theirs read).node_so)
-tickless-delivered s n bytes (Ok (kinds.Records from records)) read = tickless-records s n bytes from records read
+-- ## What a tick adds
 
-tickless-until : (s : Setting) (n : Node) (records : List Record) (r : Record) → IsTickless n.lived (delivered_until s n records r).node
-unfolding delivered_until
-tickless-until s n records r = tickless-handles false s n.lived (handles_all s records (begun n)) r (tickless-all s n.lived records (begun n) (tickless-same n.lived n refl))
+along-accusations : (Q : List Event → Event → Type 0) (s : Setting) (st : State) (ms : List ℕ) (k : ℕ) (life : List Event) → ((life : List Event) (a : AccBody) → Q life (Accuses a)) → Along Q life (accusation_events s st k ms)
+along-accusations Q s st [] k life all = tt
+along-accusations Q s st (m ∷ ms) k life all =
+    let e : Event = event_of s (accusation_of s st m) in
+    cond_both {A = List Event} (eqb k s.indexes) [] (e ∷ accusation_events s st (k + 1) ms) (Along Q life) (λ up. tt) (λ left. (all life _, along-accusations Q s st ms (k + 1) (life ++ e ∷ []) all))
 
--- ## Calls that count one
-
-accusations-not : (s : Setting) (st : State) (ms : List ℕ) (k place : ℕ) → slice_get (accusation_events s st k ms) place ≡ Some Passes → ⊥
-accusations-not s st [] k place e = none-at place e
-accusations-not s st (m ∷ ms) k place e = by (accusations-not s st ms (k + 1)) (eqb k s.indexes) e
-  where
-    event : Event
-    event = event_of s (accusation_of s st m)
-
-    at : ((p : ℕ) → slice_get (accusation_events s st (k + 1) ms) p ≡ Some Passes → ⊥) → (place : ℕ) → slice_get (event ∷ accusation_events s st (k + 1) ms) place ≡ Some Passes → ⊥
-    at rest zero e = event-not s (accusation_of s st m) (some-is event Passes e)
-    at rest (suc place) e = rest place e
-
-    by : ((p : ℕ) → slice_get (accusation_events s st (k + 1) ms) p ≡ Some Passes → ⊥) → (b : Bool) → slice_get (cond b [] (event ∷ accusation_events s st (k + 1) ms)) place ≡ Some Passes → ⊥
-    by rest true e = none-at place e
-    by rest false e = at rest place e
-
-tickless-ticked : (s : Setting) (n : Node) → IsTickless (n.lived ++ Passes ∷ []) (ticked s n).node
-tickless-ticked s n =
+grown-ticked : (Q : List Event → Event → Type 0) (s : Setting) (n : Node) → ((life : List Event) (a : AccBody) → Q life (Accuses a)) → IsGrown Q (n.lived ++ Passes ∷ []) (ticked s n).node
+grown-ticked Q s n all =
     let p = at_tick s n in
     let st = state_of s p in
     record {
       more = accusation_events s st p.stored.next (to_accuse s p st);
       grew = (lived-ticked s n).lived_so;
-      none = accusations-not s st (to_accuse s p st) p.stored.next;
+      along = along-accusations Q s st (to_accuse s p st) p.stored.next (n.lived ++ Passes ∷ []) all;
     }
 
-tickless-accusation : (works : Bool) (s : Setting) (base : List Event) (m : ℕ) (ring : Option ℕ) (c : Call) → IsTickless base c.node → IsTickless base (wants_accusation works s m ring c).node
-tickless-accusation works s base m None c h = h
-tickless-accusation works s base m (Some ring) c h = tickless-wants works s base (accusation_on s (state_of s c.node) m ring) (neighbours_and s m) c h
+grown-accusation : (Q : List Event → Event → Type 0) (works : Bool) (s : Setting) (base : List Event) (m : ℕ) (ring : Option ℕ) (c : Call) → ((life : List Event) (a : AccBody) → Q life (Accuses a)) → IsGrown Q base c.node → IsGrown Q base (wants_accusation works s m ring c).node
+grown-accusation Q works s base m None c all h = h
+grown-accusation Q works s base m (Some ring) c all h = grown-wants Q works s base (accusation_on s (state_of s c.node) m ring) (neighbours_and s m) c (λ yes left. all c.node.lived _) h
 
-tickless-accuses : (works : Bool) (s : Setting) (base : List Event) (c : Call) (m : ℕ) → IsTickless base c.node → IsTickless base (accuses works s c m).node
+grown-accuses : (Q : List Event → Event → Type 0) (works : Bool) (s : Setting) (base : List Event) (c : Call) (m : ℕ) → ((life : List Event) (a : AccBody) → Q life (Accuses a)) → IsGrown Q base c.node → IsGrown Q base (accuses works s c m).node
 unfolding accuses
-tickless-accuses works s base c m h =
+grown-accuses Q works s base c m all h =
     let c1 : Call = tells s (told.Silent m) c in
     let ring : Option ℕ = ring_for s (state_of s c.node) m in
-    cond_both {A = Call} (has_accused s (state_of s c.node) m) c (wants_accusation works s m ring c1) (λ x. IsTickless base x.node) (λ yes. h) (λ no. tickless-accusation works s base m ring c1 h)
+    cond_both {A = Call} (has_accused s (state_of s c.node) m) c (wants_accusation works s m ring c1) (λ x. IsGrown Q base x.node) (λ yes. h) (λ no. grown-accusation Q works s base m ring c1 all h)
 
-tickless-accused : (s : Setting) (base : List Event) (silent : List ℕ) (c : Call) → IsTickless base c.node → IsTickless base (accuses_all s silent c).node
-tickless-accused s base [] c h = h
-tickless-accused s base (m ∷ silent) c h = tickless-accused s base silent (accuses true s c m) (tickless-accuses true s base c m h)
+grown-accused : (Q : List Event → Event → Type 0) (s : Setting) (base : List Event) (silent : List ℕ) (c : Call) → ((life : List Event) (a : AccBody) → Q life (Accuses a)) → IsGrown Q base c.node → IsGrown Q base (accuses_all s silent c).node
+grown-accused Q s base [] c all h = h
+grown-accused Q s base (m ∷ silent) c all h = grown-accused Q s base silent (accuses true s c m) all (grown-accuses Q true s base c m all h)
 
 lived-probed : (s : Setting) (n : Node) → (probed_at s n).node.lived ≡ n.lived ++ Passes ∷ []
 unfolding probed_at passed lives
 lived-probed s n = refl
 
-tickless-ticked_until : (s : Setting) (n : Node) (silent : List ℕ) (m : ℕ) → IsTickless (n.lived ++ Passes ∷ []) (ticked_until s n silent m).node
+grown-ticked_until : (Q : List Event → Event → Type 0) (s : Setting) (n : Node) (silent : List ℕ) (m : ℕ) → ((life : List Event) (a : AccBody) → Q life (Accuses a)) → IsGrown Q (n.lived ++ Passes ∷ []) (ticked_until s n silent m).node
 unfolding ticked_until
-tickless-ticked_until s n silent m =
+grown-ticked_until Q s n silent m all =
     let base = n.lived ++ Passes ∷ [] in
-    tickless-accuses false s base (accuses_all s silent (probed_at s n)) m (tickless-accused s base silent (probed_at s n) (tickless-same base (probed_at s n).node (lived-probed s n)))
+    grown-accuses Q false s base (accuses_all s silent (probed_at s n)) m all (grown-accused Q s base silent (probed_at s n) all (grown-same Q base (probed_at s n).node (lived-probed s n)))
+
+-- ## What a node adds that leaves
+
+pub grown-left : (Q : List Event → Event → Type 0) (s : Setting) (n : Node) → (is_used_up s n ≡ false → Q n.lived (Notes (leaving_note s n.stored))) → IsGrown Q n.lived (left s n).node
+unfolding left leaves
+grown-left Q s n new = grown-wants Q true s n.lived (leaving s n.stored) (neighbours s) (begun n) (λ yes index. new index) (grown-same Q n.lived n refl)
+
+pub grown-left_until : (Q : List Event → Event → Type 0) (s : Setting) (n : Node) → IsGrown Q n.lived (left_until s n).node
+unfolding left_until leaves
+grown-left_until Q s n = grown-wants Q false s n.lived (leaving s n.stored) (neighbours s) (begun n) (λ yes index. absurd (false≢true yes)) (grown-same Q n.lived n refl)
+
+-- ## What a call reports of its life
+
+-- An event that the call adds reports it.
+pub record IsFound (Q : List Event → Event → Type 0) (Kind : Event → Type 0) (s : Setting) (e : journal.Event) : Type 0 where
+  pub life : List Event
+  pub event : Event
+  pub told : In (reported s.group (after s.group (opening []) life) event) e
+  pub kind : Kind event
+  pub fits : Q life event
+
+found-along : (Q : List Event → Event → Type 0) (Kind : Event → Type 0) (s : Setting) (e : journal.Event) (events life : List Event) → IsBy Kind e → Along Q life events → In (told_by s.group (after s.group (opening []) life) events) e → IsFound Q Kind s e
+found-along Q Kind s e [] life of h i = absurd i
+found-along Q Kind s e (x ∷ events) life of h i =
+    let st = after s.group (opening []) life in
+    elim (In-append_cases (reported s.group st x) (told_by s.group (step s.group st x).state events) e i) [
+      | inl here ↦ record { life = life; event = x; told = here; kind = of.only s.group life x here; fits = h.0 }
+      | inr later ↦
+          found-along Q Kind s e events (life ++ x ∷ []) of h.1
+          (subst (λ (y : State). In (told_by s.group y events) e) (sym (after-append s.group (opening []) life (x ∷ []))) later)
+    ]
+
+pub found : (Q : List Event → Event → Type 0) (Kind : Event → Type 0) (s : Setting) (n : Node) (c : Call) (e : journal.Event) → IsBy Kind e → TellsItsLife s n c → IsGrown Q n.lived c.node → In c.told e → IsFound Q Kind s e
+unfolding state_of
+found Q Kind s n c e of h t i =
+    let among : In (told_by s.group (after s.group (opening []) n.lived) h.more) e = subst (λ (es : List journal.Event). In es e) h.told_so (In-filter (λ e. is_of_life e.what) c.told e i of.of_life) in
+    let more : h.more ≡ t.more = append_cancel_left n.lived h.more t.more (sym h.grew ∙ t.grew) in
+    found-along Q Kind s e t.more n.lived of t.along (subst (λ (xs : List Event). In (told_by s.group (after s.group (opening []) n.lived) xs) e) more among)
 
 -- ## What the tick of a call reports
 
@@ -366,68 +424,87 @@ pub record TicksAway (s : Setting) (n : Node) (at m : ℕ) : Type 0 where
 pub ticks-away : (s : Setting) (n : Node) (at m : ℕ) → TicksTell s n (removal at m) → TicksAway s n at m
 ticks-away s n at m i = let x = told-removed _ _ at m i in record { removed = x.removed; brings = x.brings }
 
-state-behind : (s : Setting) (n : Node) (events : List Event) → after s.group (state_of s n) events ≡ after s.group (opening []) (n.lived ++ events)
+-- It is the tick at the end of this life, or not of the kind.
+abbrev IsTickOr : (Event → Type 0) → List Event → List Event → Event → Type 0
+IsTickOr Kind base life x = (Kind x → ⊥) ⊎ ((life ≡ base) × (x ≡ Passes))
+
+ticks-tell : (Kind : Event → Type 0) (s : Setting) (n : Node) (e : journal.Event) → IsFound (IsTickOr Kind n.lived) Kind s e → TicksTell s n e
 unfolding state_of
-state-behind s n events = sym (after-append s.group (opening []) n.lived events)
+ticks-tell Kind s n e x =
+    elim x.fits [
+      | inl other ↦ absurd (other x.kind)
+      | inr tick ↦
+          subst (λ (y : Event). In (reported s.group (after s.group (opening []) n.lived) y) e) tick.1
+          (subst (λ (life : List Event). In (reported s.group (after s.group (opening []) life) x.event) e) tick.0 x.told)
+    ]
 
-told-is-tick : (s : Setting) (n : Node) (events : List Event) (e : journal.Event) → IsOfTicks e → (x : ToldIn s.group (state_of s n) events e) → x.event ≡ Passes
-told-is-tick s n events e of x =
-    of.only s.group (n.lived ++ take x.place events) x.event
-    (subst (λ (st : State). In (reported s.group st x.event) e) (state-behind s n (take x.place events)) x.told)
+tick-told : (Kind : Event → Type 0) (s : Setting) (n : Node) (c : Call) (e : journal.Event) → IsBy Kind e → TellsItsLife s n c → IsGrown (IsTickOr Kind n.lived) (n.lived ++ Passes ∷ []) c.node → In c.told e → TicksTell s n e
+tick-told Kind s n c e of h t i = ticks-tell Kind s n e (found (IsTickOr Kind n.lived) Kind s n c e of h (grown-behind (IsTickOr Kind n.lived) n.lived Passes c.node (inr (refl, refl)) t) i)
 
-none-told : (s : Setting) (n : Node) (c : Call) (e : journal.Event) → IsOfTicks e → TellsItsLife s n c → IsTickless n.lived c.node → In c.told e → ⊥
-none-told s n c e of h t i =
-    let x = told-in s n c h e of.of_life i in
-    let more : h.more ≡ t.more = append_cancel_left n.lived h.more t.more (sym h.grew ∙ t.grew) in
-    t.none x.place (ap (λ (xs : List Event). slice_get xs x.place) (sym more) ∙ x.is ∙ ap (λ (y : Event). Some y) (told-is-tick s n h.more e of x))
+-- whatever a tick reports of a kind that accusations aren't
+pub ticked-told : (Kind : Event → Type 0) (s : Setting) (n : Node) (e : journal.Event) → IsBy Kind e → ((a : AccBody) → Kind (Accuses a) → ⊥) → In (ticked s n).told e → TicksTell s n e
+ticked-told Kind s n e of other i = tick-told Kind s n (ticked s n) e of (call-tells s n Ticks) (grown-ticked (IsTickOr Kind n.lived) s n (λ life a. inl (other a))) i
 
-first-told : (s : Setting) (n : Node) (rest : List Event) (e : journal.Event) → IsOfTicks e → ((place : ℕ) → slice_get rest place ≡ Some Passes → ⊥) → ToldIn s.group (state_of s n) (Passes ∷ rest) e → TicksTell s n e
-first-told s n rest e of none x = by x.place x.is x.told
-  where
-    tick : x.event ≡ Passes
-    tick = told-is-tick s n (Passes ∷ rest) e of x
-
-    by : (place : ℕ) → slice_get (Passes ∷ rest) place ≡ Some x.event → In (reported s.group (after s.group (state_of s n) (take place (Passes ∷ rest))) x.event) e → TicksTell s n e
-    by zero is told = subst (λ (y : Event). In (reported s.group (state_of s n) y) e) tick told
-    by (suc place) is told = absurd (none place (is ∙ ap (λ (y : Event). Some y) tick))
-
-tick-told : (s : Setting) (n : Node) (c : Call) (e : journal.Event) → IsOfTicks e → TellsItsLife s n c → IsTickless (n.lived ++ Passes ∷ []) c.node → In c.told e → TicksTell s n e
-tick-told s n c e of h t i =
-    let more : h.more ≡ Passes ∷ t.more = append_cancel_left n.lived h.more (Passes ∷ t.more) (sym h.grew ∙ t.grew ∙ append_assoc n.lived (Passes ∷ []) t.more) in
-    first-told s n t.more e of t.none (subst (λ (xs : List Event). ToldIn s.group (state_of s n) xs e) more (told-in s n c h e of.of_life i))
+pub ticked_until-told : (Kind : Event → Type 0) (s : Setting) (n : Node) (silent : List ℕ) (m : ℕ) (e : journal.Event) → IsBy Kind e → ((a : AccBody) → Kind (Accuses a) → ⊥) → In (ticked_until s n silent m).told e → TicksTell s n e
+ticked_until-told Kind s n silent m e of other i = tick-told Kind s n (ticked_until s n silent m) e of (ticked_until-tells s n silent m) (grown-ticked_until (IsTickOr Kind n.lived) s n silent m (λ life a. inl (other a))) i
 
 -- The call is a tick, which reports it.
 pub record TellsNow (s : Setting) (n : Node) (i : Input) (e : journal.Event) : Type 0 where
   pub tick : i ≡ Ticks
   pub told : TicksTell s n e
 
+-- ## Calls that count no tick
+
+abbrev IsNoTick : List Event → Event → Type 0
+IsNoTick life x = IsPassing x → ⊥
+
+pub event-not : (s : Setting) (b : Body) → event_of s b ≡ Passes → ⊥
+event-not s (Certificate c) e = cc
+event-not s (Note n) e = cc
+event-not s (Accusation a) e = cc
+
+no-tick : (s : Setting) (n : Node) (r : Record) → Suits IsNoTick s n r
+no-tick s n r = record { taken = λ fine e. event-not s r.body e; answered = λ a fine is me e. event-not s (Note (answering_note s n.stored a)) e }
+
+accuses-not : (a : AccBody) → IsPassing (Accuses a) → ⊥
+accuses-not a e = cc
+
+none-told : (s : Setting) (n : Node) (c : Call) (e : journal.Event) → IsOfTicks e → TellsItsLife s n c → IsGrown IsNoTick n.lived c.node → In c.told e → ⊥
+none-told s n c e of h t i = let x = found IsNoTick IsPassing s n c e of h t i in x.fits x.kind
+
 pub called-told : (s : Setting) (n : Node) (i : Input) (e : journal.Event) → IsOfTicks e → In (call_of s n i).told e → TellsNow s n i e
-called-told s n (Delivers bytes) e of i = absurd (none-told s n (delivered s n bytes) e of (call-tells s n (Delivers bytes)) (tickless-delivered s n bytes (read_of bytes) refl) i)
-called-told s n Ticks e of i = record { tick = refl; told = tick-told s n (ticked s n) e of (call-tells s n Ticks) (tickless-ticked s n) i }
+called-told s n (Delivers bytes) e of i = absurd (none-told s n (delivered s n bytes) e of (call-tells s n (Delivers bytes)) (grown-delivered IsNoTick s n bytes (no-tick s)) i)
+called-told s n Leaves e of i = absurd (none-told s n (left s n) e of (call-tells s n Leaves) (grown-left IsNoTick s n (λ index e. event-not s (leaving s n.stored) e)) i)
+called-told s n Ticks e of i = record { tick = refl; told = ticked-told IsPassing s n e of accuses-not i }
 
 pub cut-told : (s : Setting) (n : Node) (i : Input) (c : Call) (e : journal.Event) → IsOfTicks e → IsCut s n i c → In c.told e → TellsNow s n i e
 cut-told s n i c e of cut among =
     holds-called s n (λ i x. In x.told e → TellsNow s n i e) (λ i. called-told s n i e of)
-    (λ bytes front r j. absurd (none-told s n (delivered_until s n front r) e of (delivered_until-tells s n front r) (tickless-until s n front r) j))
-    (λ front who j. record { tick = refl; told = tick-told s n (ticked_until s n front who) e of (ticked_until-tells s n front who) (tickless-ticked_until s n front who) j })
+    (λ bytes front r j. absurd (none-told s n (delivered_until s n front r) e of (delivered_until-tells s n front r) (grown-until IsNoTick s n front r (no-tick s)) j))
+    (λ front who j. record { tick = refl; told = ticked_until-told IsPassing s n front who e of accuses-not j })
+    (λ j. absurd (none-told s n (left_until s n) e of (left_until-tells s n) (grown-left_until IsNoTick s n) j))
     i (Some cut.put) (subst (λ (x : Call). In x.told e) cut.is among)
 
 -- ## The start
 
--- It is reported neither by the step of a record nor of a note that is signed.
+-- The event removes nobody from a view.
+abbrev pub IsStaying : Event → Type 0
+IsStaying x = (m : ℕ) → IsRemoving m x → ⊥
+
+-- It is reported neither by the step of such a record nor of a note that is signed.
 pub record IsOfNoStart (e : journal.Event) : Type 0 where
-  pub no_step : (g : Group) (events : List Event) (x : Event) → (x ≡ Passes → ⊥) → In (reported g (after g (opening []) events) x) e → ⊥
+  pub no_step : (g : Group) (events : List Event) (x : Event) → IsStaying x → In (reported g (after g (opening []) events) x) e → ⊥
   pub unspent : (index : ℕ) (n : NoteBody) → told.Spent index (Note n) ≡ e.what → ⊥
 
 abbrev IsQuiet : journal.Event → Call → Type 0
 IsQuiet e c = In c.told e → ⊥
 
-quiet-takes : (s : Setting) (e : journal.Event) (r : Record) (c : Call) → IsOfNoStart e → IsQuiet e c → IsQuiet e (takes s r c)
+quiet-takes : (s : Setting) (e : journal.Event) (r : Record) (c : Call) → IsOfNoStart e → IsStaying (event_of s r.body) → IsQuiet e c → IsQuiet e (takes s r c)
 unfolding takes lives state_of
-quiet-takes s e r c of h i =
+quiet-takes s e r c of stays h i =
     elim (In-append_cases c.told (reported s.group (after s.group (opening []) c.node.lived) (event_of s r.body)) e i) [
       | inl old ↦ h old
-      | inr new ↦ of.no_step s.group c.node.lived (event_of s r.body) (event-not s r.body) new
+      | inr new ↦ of.no_step s.group c.node.lived (event_of s r.body) stays new
     ]
 
 quiet-spends : (s : Setting) (e : journal.Event) (n : NoteBody) (c : Call) → IsOfNoStart e → IsQuiet e c → IsQuiet e (spends s (Note n) c)
@@ -439,22 +516,57 @@ quiet-spends s e n c of h i =
       | inr (inr none) ↦ none
     ]
 
-quiet-opened : (s : Setting) (e : journal.Event) (certificates : List Record) (c : Call) → IsOfNoStart e → IsQuiet e c → IsQuiet e (fold (λ x r. takes s r x) c certificates)
-quiet-opened s e [] c of h = h
-quiet-opened s e (r ∷ rs) c of h = quiet-opened s e rs (takes s r c) of (quiet-takes s e r c of h)
+joins-stay : (s : Setting) (b : Body) (x : CertBody) → b ≡ Certificate x → IsStaying (event_of s b)
+joins-stay s b x is m (inl tick) = event-not s b tick
+joins-stay s b x is m (inr note) = by b is note.note note.is
+  where
+    by : (b : Body) → b ≡ Certificate x → (n : NoteBody) → event_of s b ≡ Notes n → ⊥
+    by (Certificate c) is n e = cc
+    by (Note n) is k e = let other : Note n ≡ Certificate x = is in cc
+    by (Accusation a) is n e = cc
+
+quiet-opened : (s : Setting) (e : journal.Event) (certificates : List Record) (c : Call) → IsOfNoStart e → AreCertificates certificates → IsQuiet e c → IsQuiet e (fold (λ x r. takes s r x) c certificates)
+quiet-opened s e [] c of all h = h
+quiet-opened s e (r ∷ rs) c of all h = quiet-opened s e rs (takes s r c) of all.1 (quiet-takes s e r c of (joins-stay s r.body all.0.0 all.0.1) h)
+
+-- ---- the first note is no leaving note
+
+pub same-note : (n k : NoteBody) → Notes n ≡ Notes k → n ≡ k
+same-note n k e = cc
+
+none-enabled : (rings : List ℕ) → filter (enables 0) rings ≡ []
+none-enabled [] = refl
+none-enabled (ring ∷ rings) = rw (none_above 0 0 ring (omega arith) (omega arith)) (none-enabled rings)
+
+-- a good mask has a ring
+pub good-some : (t mask : ℕ) → good_mask t mask ≡ true → eqb mask 0 ≡ true → ⊥
+good-some t mask good zero_is =
+    let none : length (enabled (ring_count t) mask) ≡ 0 = ap (λ m. length (enabled (ring_count t) m)) (eqb-true mask 0 zero_is) ∙ ap length (none-enabled (range_with_len 0 (ring_count t))) in
+    let enough = (good_parts t mask good).enough in
+    absurd (omega (arith, none, enough))
+
+-- a note with a good mask removes nobody
+pub good-stays : (t : ℕ) (n : NoteBody) → good_mask t n.mask.0 ≡ true → IsStaying (Notes n)
+good-stays t n good m (inl tick) = absurd cc
+good-stays t n good m (inr note) = good-some t n.mask.0 good (ap is_leaving (same-note n note.note note.is) ∙ note.leaving)
+
+first-good : (t stored : ℕ) → good_mask t (first_mask t stored) ≡ true
+first-good t stored =
+    cond_both {A = ℕ} (good_mask t stored) stored (all_rings t) (λ mask. good_mask t mask ≡ true) (λ good. good) (λ bad. all_rings-good t)
 
 -- A life begins without it.
-pub start-quiet : (s : Setting) (seed : List ℕ) (certificates : List Record) (stored : Stored) (e : journal.Event) → IsOfNoStart e → In (started s seed certificates stored).told e → ⊥
+pub start-quiet : (s : Setting) (seed : List ℕ) (certificates : List Record) (stored : Stored) (e : journal.Event) → IsOfNoStart e → AreCertificates certificates → In (started s seed certificates stored).told e → ⊥
 unfolding started signs
-start-quiet s seed certificates stored e of =
+start-quiet s seed certificates stored e of all =
     let c : Call = opened s seed certificates stored in
-    let h : IsQuiet e c = quiet-opened s e certificates (begun (blank s seed stored)) of (λ none. none) in
-    quiet-takes s e _ (spends s (first_note s stored) c) of (quiet-spends s e _ c of h)
+    let h : IsQuiet e c = quiet-opened s e certificates (begun (blank s seed stored)) of all (λ none. none) in
+    let note : NoteBody = record { member = s.me; epoch = stored.epoch + 1; mask = record { 0 = first_mask s.group.t stored.mask.0 } } in
+    quiet-takes s e (own_record s c.node (Note note)) (spends s (Note note) c) of (good-stays s.group.t note (first-good s.group.t stored.mask.0)) (quiet-spends s e note c of h)
 
 pub removal-no-start : (at m : ℕ) → IsOfNoStart (removal at m)
 removal-no-start at m =
     record {
-      no_step = λ g events x other i. other (only-ticks-remove g events x m (told-removed _ _ at m i).removed);
+      no_step = λ g events x stays i. stays m (only-these-remove g events x m (told-removed _ _ at m i).removed);
       unspent = λ index n e. spent-not index (Note n) e;
     }
   where
@@ -519,7 +631,7 @@ pub removes : (s : Setting) (own : PublicKey) (start : ServeState) (acts before 
 removes s own start acts before behind at m sign v none ticks away =
     let n = node_behind s start before in
     let left = away-left s n at m away in
-    let r = rests-last s.group n.lived Passes m left in
+    let r = rests-last s.group n.lived m left in
     record {
       tick = record { before = before; behind = behind; ticks = ticks; at = ap (λ (st : State). st.moment) (state-at_tick s n) ∙ away.brings };
       removed = removed-last s.group n.lived Passes m left;

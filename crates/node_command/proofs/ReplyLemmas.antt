@@ -28,17 +28,19 @@ use Rattle.journal.specs.declared.event.What.TheVariants as told
 use Rattle.node_rules.specs.Nodes.{Setting, Node, event_of, public_key_of, state_of}
 use Rattle.node_rules.specs.Refusals.{refusal, refusal_of}
 use Rattle.node_rules.specs.Vouching.{author_key}
-use Rattle.node_rules.specs.Calls.{Call, told_of, whats_of}
+use Rattle.node_rules.specs.Calls.{Call, is_used_up, told_of, whats_of}
 use Rattle.node_rules.specs.Deliveries.{delivered}
 use Rattle.node_rules.specs.Ticking.{ticked}
 use Rattle.node_rules.specs.OnDisks.{IsCut, called}
-use Rattle.node_rules.specs.Lives.{Input, Delivers, Ticks, call_of, is_of_life}
+use Rattle.node_rules.specs.Leaving.{leaving, left}
+use Rattle.node_rules.specs.Lives.{Input, Delivers, Ticks, Leaves, call_of, is_of_life}
 use Rattle.node_rules.specs.Outgoing.{accusation_of, accusing_told, at_tick, to_accuse, unaccused}
-use Rattle.node_rules.specs.Stopping.{StopsAccusing, StopsAnswering, StopsIn}
+use Rattle.node_rules.specs.Stopping.{StopsAccusing, StopsAnswering, StopsIn, StopsLeaving}
 use Rattle.node_rules.specs.Verdicts.{all_at, is_apart, is_took, records_in, told_that, verdicts, when_all_handled, when_handled}
 use Rattle.node_rules.proofs.Handling.{took-delivered}
 use Rattle.node_rules.proofs.OwnNote.{option_or-none}
-use Rattle.node_rules.proofs.Stopping.{only-signatures, tick-stops, verdicts-stop}
+use Rattle.node_rules.proofs.Leaving.{leaving-tells}
+use Rattle.node_rules.proofs.Stopping.{leaving-stops, only-signatures, tick-stops, verdicts-stop}
 use Rattle.node_rules.proofs.Ticks.{tick-tells}
 use Rattle.node_loop.specs.Turns.{Act, Calls}
 use Rattle.node_loop.specs.Courses.{ServeState, served}
@@ -46,7 +48,7 @@ use Rattle.node_loop.proofs.CourseLemmas.{node-gives}
 use Rattle.node_command.specs.Removals.{VerifiesFor, life_behind, node_behind}
 use Rattle.node_command.specs.Replies.{Accepts, AcceptsNext, Expires}
 use Rattle.node_command.proofs.OriginLemmas.{acts-behind, signature-verifies}
-use Rattle.node_command.proofs.RemovalLemmas.{IsOfNoStart, IsOfTicks, TicksTell, at-last, state-at_tick, tickless-behind}
+use Rattle.node_command.proofs.RemovalLemmas.{IsOfNoStart, IsOfTicks, TicksTell, at-last, grown-on, state-at_tick}
 
 abbrev pub expiry : ℕ → AccBody → journal.Event
 expiry moment a = record { moment = moment; what = told.Expired a }
@@ -124,7 +126,7 @@ expiry-of-ticks at a = record { of_life = refl; only = λ g events x i. only-tic
 pub expiry-no-start : (at : ℕ) (a : AccBody) → IsOfNoStart (expiry at a)
 expiry-no-start at a =
     record {
-      no_step = λ g events x other i. other (only-ticks-expire g (after g (opening []) events) x a (told-expired _ _ at a i).expired);
+      no_step = λ g events x stays i. stays 0 (inl (only-ticks-expire g (after g (opening []) events) x a (told-expired _ _ at a i).expired));
       unspent = λ index n e. spent-not index (Note n) e;
     }
   where
@@ -170,13 +172,13 @@ expires s start acts before behind at a split tells =
 -- ## What a delivery accepts
 
 -- A record among these was accepted, behind those before it.
-record IsAmong (s : Setting) (n : Node) (records : List Record) (body : Body) : Type 0 where
-  earlier : List Record
-  taken : Record
-  later : List Record
-  split : records ≡ earlier ++ taken ∷ later
-  says : taken.body ≡ body
-  no_fault : refusal s (when_all_handled s n earlier) taken ≡ None
+pub record IsAmong (s : Setting) (n : Node) (records : List Record) (body : Body) : Type 0 where
+  pub earlier : List Record
+  pub taken : Record
+  pub later : List Record
+  pub split : records ≡ earlier ++ taken ∷ later
+  pub says : taken.body ≡ body
+  pub no_fault : refusal s (when_all_handled s n earlier) taken ≡ None
 
 took-body : (b body : Body) (f g : Option Fault) → told.Took b f ≡ told.Took body g → b ≡ body
 took-body b body f g e = cc
@@ -200,7 +202,7 @@ pub record IsAt (moment : ℕ) (ws : List whats.What) (at : ℕ) (w : whats.What
   pub among : In ws w
   pub same : moment ≡ at
 
-in-all_at : (moment : ℕ) (ws : List whats.What) (at : ℕ) (w : whats.What) → In (all_at moment ws) (record { moment = at; what = w }) → IsAt moment ws at w
+pub in-all_at : (moment : ℕ) (ws : List whats.What) (at : ℕ) (w : whats.What) → In (all_at moment ws) (record { moment = at; what = w }) → IsAt moment ws at w
 in-all_at moment ws at w i =
     let x = In-from_map (λ what. let made : journal.Event = record { moment = moment; what = what } in made) ws (record { moment = at; what = w }) i in
     record { among = subst (In ws) (ap (λ (e : journal.Event). e.what) x.1.1) x.1.0; same = ap (λ (e : journal.Event). e.moment) x.1.1 }
@@ -223,7 +225,7 @@ pub record TakesNow (s : Setting) (n : Node) (i : Input) (at : ℕ) (body : Body
   pub says : taken.body ≡ body
   pub no_fault : refusal s (when_all_handled s n earlier) taken ≡ None
 
-takes-among : (s : Setting) (n : Node) (bytes : List ℕ) (from : ℕ) (records more : List Record) (at : ℕ) (body : Body) → read_of bytes ≡ Ok (kinds.Records from (records ++ more)) → (state_of s n).moment ≡ at → IsAmong s n records body → TakesNow s n (Delivers bytes) at body
+unfoldable pub takes-among : (s : Setting) (n : Node) (bytes : List ℕ) (from : ℕ) (records more : List Record) (at : ℕ) (body : Body) → read_of bytes ≡ Ok (kinds.Records from (records ++ more)) → (state_of s n).moment ≡ at → IsAmong s n records body → TakesNow s n (Delivers bytes) at body
 takes-among s n bytes from records more at body read same x =
     record {
       bytes = bytes;
@@ -238,7 +240,7 @@ takes-among s n bytes from records more at body read same x =
       no_fault = x.no_fault;
     }
 
-nil-right : {A : Type 0} (xs : List A) → xs ++ [] ≡ xs
+pub nil-right : {A : Type 0} (xs : List A) → xs ++ [] ≡ xs
 nil-right [] = refl
 nil-right (x ∷ xs) = ap (λ ys. x ∷ ys) (nil-right xs)
 
@@ -274,11 +276,18 @@ none-accusing s st index (m ∷ ms) body (inr i) = by (none-accusing s st index 
     by up left false (inl e) = spent-not index (accusation_of s st m) body e
     by up left false (inr j) = left j
 
+none-leaving : (s : Setting) (n : Node) (body : Body) (up : Bool) → In (cond up (told.Exhausted n.stored.next) (told.Spent n.stored.next (leaving s n.stored)) ∷ []) (told.Took body None) → ⊥
+none-leaving s n body true (inl e) = used-not n.stored.next body e
+none-leaving s n body false (inl e) = spent-not n.stored.next (leaving s n.stored) body e
+none-leaving s n body up (inr none) = none
+
 -- A call that reports what it accepts is a delivery.
 pub called-taken : (s : Setting) (n : Node) (i : Input) (at : ℕ) (body : Body) → In (call_of s n i).told (taken_event at body) → TakesNow s n i at body
 called-taken s n (Delivers bytes) at body i =
     takes-heard s n bytes (read_of bytes) at body refl
     (in-told_that is_took (delivered s n bytes) (state_of s n).moment (verdicts s n (records_in (read_of bytes))) at (told.Took body None) (took-delivered s n bytes) refl i)
+called-taken s n Leaves at body i =
+    absurd (none-leaving s n body (is_used_up s n) (in-told_that is_apart (left s n) (state_of s n).moment (cond (is_used_up s n) (told.Exhausted n.stored.next) (told.Spent n.stored.next (leaving s n.stored)) ∷ []) at (told.Took body None) (leaving-tells s n) refl i).among)
 called-taken s n Ticks at body i =
     let p : Node = at_tick s n in
     let st : State = state_of s p in
@@ -312,12 +321,18 @@ cut-tick s n put at body stop i =
     let x = in-told_that is_apart (called s n Ticks (Some put)) st.moment ((ws ++ told.Silent stop.at ∷ []) ++ told.Stopped ∷ []) at (told.Took body None) (tick-stops s n put stop).told refl i in
     absurd (none-stopping ws stop.at body (none-accusing s st (at_tick s n).stored.next (unaccused s st stop.before) body) x.among)
 
+cut-leaving : {A : Type 0} (s : Setting) (n : Node) (put at : ℕ) (body : Body) → StopsLeaving s n put → In (called s n Leaves (Some put)).told (taken_event at body) → A
+cut-leaving s n put at body stop i =
+    let x = in-all_at (state_of s n).moment (told.Stopped ∷ []) at (told.Took body None) (subst (λ (es : List journal.Event). In es (taken_event at body)) (leaving-stops s n put stop).told i) in
+    elim x.among [ inl e ↦ absurd (stopped-not body e) | inr none ↦ absurd none ]
+
 pub cut-taken : (s : Setting) (n : Node) (i : Input) (c : Call) (at : ℕ) (body : Body) → IsCut s n i c → In c.told (taken_event at body) → TakesNow s n i at body
 cut-taken s n i c at body cut among = by i (only-signatures s n i cut.put (ap (λ (x : Call). x.ended) (sym cut.is) ∙ cut.ended)) (subst (λ (x : Call). In x.told (taken_event at body)) cut.is among)
   where
     by : (i : Input) → StopsIn s n i cut.put → In (called s n i (Some cut.put)).told (taken_event at body) → TakesNow s n i at body
     by (Delivers bytes) stop j = cut-delivery s n bytes cut.put at body stop j
     by Ticks stop j = cut-tick s n cut.put at body stop j
+    by Leaves stop j = cut-leaving s n cut.put at body stop j
 
 -- ## The start
 
@@ -346,7 +361,7 @@ none-in-report moment r e other i =
     false≢true (sym other ∙ sym (ap (λ (y : journal.Event). is_of_life y.what) x.1.1) ∙ reported-of-life r x.0 x.1.0)
 
 pub taken-no-start : (at : ℕ) (body : Body) → IsOfNoStart (taken_event at body)
-taken-no-start at body = record { no_step = λ g events x other i. none-in-report _ _ (taken_event at body) refl i; unspent = λ index n e. spent-not index (Note n) body e }
+taken-no-start at body = record { no_step = λ g events x stays i. none-in-report _ _ (taken_event at body) refl i; unspent = λ index n e. spent-not index (Note n) body e }
 
 -- ## What a course accepts
 
@@ -372,29 +387,29 @@ accusation-next s n r a is fine =
     } in
     (accepted, λ i note earlier noted older. none_accepted s.group (opening []) life i (length n.lived) note a earlier noted older accepted)
 
-accepts-next : (s : Setting) (n : Node) (r : Record) (body : Body) → r.body ≡ body → refusal s n r ≡ None → AcceptsNext s.group n.lived body
+pub accepts-next : (s : Setting) (n : Node) (r : Record) (body : Body) → r.body ≡ body → refusal s n r ≡ None → AcceptsNext s.group n.lived body
 accepts-next s n r (Certificate c) is fine = tt
 accepts-next s n r (Note note) is fine = note-next s n r note is fine
 accepts-next s n r (Accusation a) is fine = accusation-next s n r a is fine
 
 -- a record without a fault verifies under its author's key
-taken-verifies : (s : Setting) (n : Node) (r : Record) (body : Body) → r.body ≡ body → refusal s n r ≡ None → VerifiesFor s (author_key s n body) r
+pub taken-verifies : (s : Setting) (n : Node) (r : Record) (body : Body) → r.body ≡ body → refusal s n r ≡ None → VerifiesFor s (author_key s n body) r
 unfolding refusal
 taken-verifies s n r (Certificate c) is fine = signature-verifies s (Some s.authority) r (option_or-none _ _ (sym (ap (refusal_of s n r) is) ∙ fine)).1
 taken-verifies s n r (Note note) is fine =
     signature-verifies s (public_key_of n note.member) r (option_or-none _ _ (option_or-none _ _ (sym (ap (refusal_of s n r) is) ∙ fine)).1).0
 taken-verifies s n r (Accusation a) is fine = signature-verifies s (public_key_of n a.accuser) r (option_or-none _ _ (sym (ap (refusal_of s n r) is) ∙ fine)).1
 
-life-called : (s : Setting) (start : ServeState) (before : List Act) (bytes : List ℕ) → life_behind s start (before ++ Calls (Delivers bytes) ∷ []) ≡ (delivered s (node_behind s start before) bytes).node.lived
+pub life-called : (s : Setting) (start : ServeState) (before : List Act) (bytes : List ℕ) → life_behind s start (before ++ Calls (Delivers bytes) ∷ []) ≡ (delivered s (node_behind s start before) bytes).node.lived
 life-called s start before bytes =
     let r : ServeState = served s before start in
     ap (λ (x : ServeState). x.node.lived) (acts-behind s start before (Calls (Delivers bytes))) ∙ ap (λ (x : Node). x.lived) (node-gives (delivered s r.node bytes) r)
 
 -- What a delivery among the acts accepts no note rules out.
-pub accepts : (s : Setting) (start : ServeState) (acts before behind : List Act) (i : Input) (at : ℕ) (body : Body) → acts ≡ before ++ Calls i ∷ behind → TakesNow s (node_behind s start before) i at body → Accepts s start acts at body
+unfoldable pub accepts : (s : Setting) (start : ServeState) (acts before behind : List Act) (i : Input) (at : ℕ) (body : Body) → acts ≡ before ++ Calls i ∷ behind → TakesNow s (node_behind s start before) i at body → Accepts s start acts at body
 accepts s start acts before behind i at body split x =
     let n : Node = node_behind s start before in
-    let on = tickless-behind s n x.bytes x.from x.earlier x.taken x.later x.read x.no_fault in
+    let on = grown-on s n x.bytes x.from x.earlier x.taken x.later x.read x.no_fault in
     record {
       before = before;
       bytes = x.bytes;

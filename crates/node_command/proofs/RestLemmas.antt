@@ -13,6 +13,7 @@ use Rattle.play.specs.declared.stop.Stop.TheVariants as stop
 use Rattle.schedule_texts.specs.declared.kit.KitText.TheVariants as kit
 use Rattle.records.specs.declared.Body.TheVariants.{Accusation}
 use Rattle.secrets.specs.Secrets.{nonce_seed}
+use Rattle.rebuttal.proofs.Masks.{all_rings-good}
 use Rattle.text_trace.specs.Trace.{Refuses, Trace, Writes}
 use Rattle.trace.specs.Written.{IsLineOf}
 use Rattle.whole_text.specs.Gathered.{IsUnfinished, Judging, lines_from, nothing, owed_whole, unread}
@@ -21,7 +22,9 @@ use Rattle.whole_text.proofs.WholeLemmas.{never-unwritten}
 use Rattle.node_core.specs.Begins.{IsVouchable}
 use Rattle.node_core.specs.Rolls.{recs_of}
 use Rattle.journal.specs.declared.event.What.TheVariants as happened
+use Rattle.node_rules.specs.Lives.{AreCertificates}
 use Rattle.node_rules.proofs.OwnKey.{key-started}
+use Rattle.node_rules.proofs.OwnNote.{own-started}
 use Rattle.node_rules.proofs.SentRecords.{sent-authentic}
 use Rattle.node_command.specs.declared.halt.NodeHalt.{NodeHalt}
 use Rattle.node_command.specs.declared.halt.NodeHalt.TheVariants as halt
@@ -46,20 +49,24 @@ founded m stored feed v =
     let seed = nonce_seed m.own.secret stored.next in
     let recs = recs_of m.certificates.items in
     record {
-      sign = v.signatures;
-      vouched = key-started (setting_for m) (public_of m.own.key) seed recs stored v.kit.all v.kit.own v.certified v.left;
-      unaccused = start-unaccused (setting_for m) seed recs stored v.kit.all;
+      rooted = record {
+        some = v.rings.some;
+        sign = v.signatures;
+        vouched = key-started (setting_for m) (public_of m.own.key) seed recs stored v.kit.all v.kit.own v.certified v.left;
+        unaccused = start-unaccused (setting_for m) seed recs stored v.kit.all;
+        kept = own-started (setting_for m) seed recs stored (all_rings-good (setting_for m).group.t) v.kit.all v.kit.own;
+      };
       upright = record { sends = λ inputs i fails_at. sent-authentic (setting_for m) (public_of m.own.key) seed recs stored inputs i fails_at v.rings.some v.kit v.certified v.signatures v.left };
     }
 
-tells-start : (m : Member) (stored : Stored) (feed : NetInputs) → TellsOf (setting_for m) (first_of m stored feed) (acts_of m feed) (start_of m stored).told
-tells-start m stored feed at (happened.Removed who) i = absurd (start-quiet (setting_for m) (nonce_seed m.own.secret stored.next) (recs_of m.certificates.items) stored _ (removal-no-start at who) i)
-tells-start m stored feed at (happened.Expired a) i = absurd (start-quiet (setting_for m) (nonce_seed m.own.secret stored.next) (recs_of m.certificates.items) stored _ (expiry-no-start at a) i)
-tells-start m stored feed at (happened.Took body None) i = absurd (start-quiet (setting_for m) (nonce_seed m.own.secret stored.next) (recs_of m.certificates.items) stored _ (taken-no-start at body) i)
-tells-start m stored feed at (happened.Spent index (Accusation a)) i = absurd (start-quiet (setting_for m) (nonce_seed m.own.secret stored.next) (recs_of m.certificates.items) stored _ (accusation-no-start at index a) i)
-tells-start m stored feed at (happened.Sent place to bytes) i =
-    absurd (start-quiet (setting_for m) (nonce_seed m.own.secret stored.next) (recs_of m.certificates.items) stored _ (sent-no-start at place to bytes) i)
-tells-start m stored feed at _ i = tt
+tells-start : (m : Member) (stored : Stored) (feed : NetInputs) → AreCertificates (recs_of m.certificates.items) → TellsOf (setting_for m) (first_of m stored feed) (acts_of m feed) (start_of m stored).told
+tells-start m stored feed all at (happened.Removed who) i = absurd (start-quiet (setting_for m) (nonce_seed m.own.secret stored.next) (recs_of m.certificates.items) stored _ (removal-no-start at who) all i)
+tells-start m stored feed all at (happened.Expired a) i = absurd (start-quiet (setting_for m) (nonce_seed m.own.secret stored.next) (recs_of m.certificates.items) stored _ (expiry-no-start at a) all i)
+tells-start m stored feed all at (happened.Took body None) i = absurd (start-quiet (setting_for m) (nonce_seed m.own.secret stored.next) (recs_of m.certificates.items) stored _ (taken-no-start at body) all i)
+tells-start m stored feed all at (happened.Spent index (Accusation a)) i = absurd (start-quiet (setting_for m) (nonce_seed m.own.secret stored.next) (recs_of m.certificates.items) stored _ (accusation-no-start at index a) all i)
+tells-start m stored feed all at (happened.Sent place to bytes) i =
+    absurd (start-quiet (setting_for m) (nonce_seed m.own.secret stored.next) (recs_of m.certificates.items) stored _ (sent-no-start at place to bytes) all i)
+tells-start m stored feed all at _ i = tt
 
 -- what was written of the life
 abbrev WritesIn : Member → Stored → NetInputs → Option (List ℕ) → Option (List ℕ) → Result (Unit {0}) NodeHalt → Type 0
@@ -72,8 +79,8 @@ run-written m feed was now done h =
     let acts = acts_of m feed in
     let told = (start_of m h.stored).told in
     let text = (life_in m h.stored feed).text in
-    let first = lines-told s start acts told (tells-start m h.stored feed) in
-    let all = lines-all s (public_of m.own.key) start acts (founded m h.stored feed h.vouchable) refl (life-of m.millis feed.turns feed.link.coming feed.reading feed.readings) in
+    let first = lines-told s start acts told (tells-start m h.stored feed h.vouchable.kit.all) in
+    let all = lines-all s (public_of m.own.key) start acts (founded m h.stored feed h.vouchable) refl (life-of m.millis feed.stay.turns feed.stay.leave feed.link.coming feed.reading feed.readings) in
     writes-all s start acts was.taken now.taken (lines_of told ++ text ++ end_line) (Ok done) h.written
     (lines-behind (Gives s start acts) (lines_of told ++ text) end_line (lines-behind (Gives s start acts) (lines_of told) text first all) (end-lines s start acts)) (λ x. x)
 
@@ -81,7 +88,7 @@ out-written : (m : Member) (feed : NetInputs) (was now : Environment) (result : 
 out-written m feed was now result l =
     let stored = l.0 in
     lives-written (setting_for m) (public_of m.own.key) l.1 (first_of m stored feed) (acts_of m feed) (start_of m stored).told (record was { disk = l.2 }) now result
-    (founded m stored feed l.3.vouchable) refl (life-of m.millis feed.turns feed.link.coming feed.reading feed.readings) (tells-start m stored feed) l.4
+    (founded m stored feed l.3.vouchable) refl (life-of m.millis feed.stay.turns feed.stay.leave feed.link.coming feed.reading feed.readings) (tells-start m stored feed l.3.vouchable.kit.all) l.4
 
 -- ## The lines of a run
 

@@ -1,5 +1,5 @@
 -- What a call reports of the datagrams that it sends, and that their records verify.
-use Rattle.std.proofs.Common.{◌≡◌, ℕ, ◌+◌, true, List, [], ◌∷◌, ◌++◌, map, Option, Some, None, inl, inr, refl, ap, sym, ◌∙◌, subst}
+use Rattle.std.proofs.Common.{◌≡◌, ℕ, ◌+◌, List, [], ◌∷◌, ◌++◌, Option, Some, None, inl, inr, refl, sym, subst}
 use Rattle.ff_ids.specs.declared.NoteBody.{NoteBody}
 use Rattle.records.specs.declared.Body.TheVariants.{Note}
 use Rattle.life_laws.proofs.Lists.{All-at, Contains-from_In, In, In-filter}
@@ -95,7 +95,7 @@ cut-sends s start acts before behind i c moment place to bytes upright split cut
 -- ## The start
 
 pub sent-no-start : (moment place to : ℕ) (bytes : List ℕ) → IsOfNoStart (sent_event moment place to bytes)
-sent-no-start moment place to bytes = record { no_step = λ g events x other i. none-in-report _ _ (sent_event moment place to bytes) refl i; unspent = λ k n e. spent-not k n e }
+sent-no-start moment place to bytes = record { no_step = λ g events x stays i. none-in-report _ _ (sent_event moment place to bytes) refl i; unspent = λ k n e. spent-not k n e }
   where
     spent-not : (k : ℕ) (n : NoteBody) → told.Spent k (Note n) ≡ told.Sent place to bytes → ⊥
     spent-not k n e = cc

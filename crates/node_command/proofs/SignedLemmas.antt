@@ -28,19 +28,19 @@ use Rattle.node_rules.specs.Deliveries.{answer_to}
 use Rattle.node_rules.specs.Accusing.{AccusesTheSilent}
 use Rattle.node_rules.specs.Ticking.{has_accused, silent_at, ticked}
 use Rattle.node_rules.specs.OnDisks.{IsCut, called}
-use Rattle.node_rules.specs.Lives.{Input, Delivers, Ticks, call_of}
+use Rattle.node_rules.specs.Lives.{Input, Delivers, Ticks, Leaves, call_of}
 use Rattle.node_rules.specs.Answering.{answered_with, asked_by, records_told}
 use Rattle.node_rules.specs.Outgoing.{accusation_of, accusing_told, at_tick, to_accuse, unaccused}
-use Rattle.node_rules.specs.Stopping.{StopsAccusing, StopsAnswering, StopsIn}
+use Rattle.node_rules.specs.Stopping.{StopsAccusing, StopsAnswering, StopsIn, StopsLeaving}
 use Rattle.node_rules.specs.Verdicts.{is_apart, told_that, verdict_on, when_all_handled, when_handled}
-use Rattle.node_rules.proofs.Stopping.{delivery-stops, only-signatures, tick-stops}
+use Rattle.node_rules.proofs.Stopping.{delivery-stops, leaving-stops, only-signatures, tick-stops}
 use Rattle.node_rules.proofs.Ticks.{only-silent, tick-tells}
 use Rattle.node_loop.specs.Turns.{Act, Calls}
 use Rattle.node_loop.specs.Courses.{ServeState}
 use Rattle.node_command.specs.Removals.{node_behind}
 use Rattle.node_command.specs.Replies.{Signs}
 use Rattle.node_command.proofs.RemovalLemmas.{IsOfNoStart, at-last, state-at_tick}
-use Rattle.node_command.proofs.ReplyLemmas.{in-told_that, none-in-report, state-last}
+use Rattle.node_command.proofs.ReplyLemmas.{in-all_at, in-told_that, none-in-report, state-last}
 
 abbrev signed : ℕ → AccBody → whats.What
 signed index a = told.Spent index (Accusation a)
@@ -122,8 +122,12 @@ pub record SignsNow (s : Setting) (n : Node) (i : Input) (at index : ℕ) (a : A
 delivers-not : (bytes : List ℕ) → Delivers bytes ≡ Ticks → ⊥
 delivers-not bytes e = cc
 
+leaves-not : Leaves ≡ Ticks → ⊥
+leaves-not e = cc
+
 pub called-signed : (s : Setting) (n : Node) (i : Input) (at index : ℕ) (a : AccBody) → In (call_of s n i).told (record { moment = at; what = signed index a }) → SignsNow s n i at index a
 called-signed s n (Delivers bytes) at index a i = absurd (delivers-not bytes (only-silent s n (Delivers bytes) a (at, index, Contains-from_In _ _ i)).0)
+called-signed s n Leaves at index a i = absurd (leaves-not (only-silent s n Leaves a (at, index, Contains-from_In _ _ i)).0)
 called-signed s n Ticks at index a i =
     let p : Node = at_tick s n in
     let st : State = state_of s p in
@@ -197,6 +201,11 @@ cut-tick s n put at index a stop i =
     let x = in-told_that is_apart (called s n Ticks (Some put)) st.moment ((ws ++ told.Silent stop.at ∷ []) ++ told.Stopped ∷ []) at (signed index a) (tick-stops s n put stop).told refl i in
     called-signed s n Ticks at index a (stopping ws (told.Silent stop.at) index a (whole-tick s n put at index a stop x.same) (silent-not stop.at index a) x.among)
 
+cut-leaving : {A : Type 0} (s : Setting) (n : Node) (put at index : ℕ) (a : AccBody) → StopsLeaving s n put → In (called s n Leaves (Some put)).told (record { moment = at; what = signed index a }) → A
+cut-leaving s n put at index a stop i =
+    let x = in-all_at (state_of s n).moment (told.Stopped ∷ []) at (signed index a) (subst (λ (es : List journal.Event). In es (record { moment = at; what = signed index a })) (leaving-stops s n put stop).told i) in
+    elim x.among [ inl e ↦ absurd (stopped-not index a e) | inr none ↦ absurd none ]
+
 pub cut-signed : (s : Setting) (n : Node) (i : Input) (c : Call) (at index : ℕ) (a : AccBody) → IsCut s n i c → In c.told (record { moment = at; what = signed index a }) → SignsNow s n i at index a
 cut-signed s n i c at index a cut among =
     by i (only-signatures s n i cut.put (ap (λ (x : Call). x.ended) (sym cut.is) ∙ cut.ended)) (subst (λ (x : Call). In x.told (record { moment = at; what = signed index a })) cut.is among)
@@ -204,11 +213,12 @@ cut-signed s n i c at index a cut among =
     by : (i : Input) → StopsIn s n i cut.put → In (called s n i (Some cut.put)).told (record { moment = at; what = signed index a }) → SignsNow s n i at index a
     by (Delivers bytes) stop j = cut-delivery s n bytes cut.put at index a stop j
     by Ticks stop j = cut-tick s n cut.put at index a stop j
+    by Leaves stop j = cut-leaving s n cut.put at index a stop j
 
 -- ## The start
 
 pub accusation-no-start : (at index : ℕ) (a : AccBody) → IsOfNoStart (record { moment = at; what = signed index a })
-accusation-no-start at index a = record { no_step = λ g events x other i. none-in-report _ _ (record { moment = at; what = signed index a }) refl i; unspent = λ k n e. note-not k n index a e }
+accusation-no-start at index a = record { no_step = λ g events x stays i. none-in-report _ _ (record { moment = at; what = signed index a }) refl i; unspent = λ k n e. note-not k n index a e }
 
 -- ## What a course signs
 

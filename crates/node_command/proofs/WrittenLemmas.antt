@@ -1,13 +1,12 @@
 -- The whole lines that a life writes, and what they give.
-use Rattle.std.proofs.Common.{◌≡◌, ◌⊎◌, ℕ, ◌+◌, zero, suc, List, [], ◌∷◌, ◌++◌, take, Option, Some, None, Result, Ok, Err, inl, inr, refl, ap, sym, ◌∙◌, subst, append_assoc, append-nil, arith}
+use Rattle.std.proofs.Common.{◌≡◌, ◌⊎◌, ℕ, ◌+◌, Bool, true, false, zero, suc, List, [], ◌∷◌, ◌++◌, take, Option, Some, None, Result, Ok, Err, inl, inr, refl, ap, sym, ◌∙◌, subst, append_assoc, append-nil, arith}
 use Rattle.std.specs.Prelude.{codes, drop}
-use Rattle.std.specs.List.{AllByRecursion, slice_get}
+use Rattle.std.specs.List.{AllByRecursion}
 use Rattle.std.specs.Io.KnownBytes.{Appends}
 use Rattle.std.proofs.KnownBytes.{Appends-trans}
 use Rattle.std.proofs.lemmas.Bool.{cond_both}
 use Rattle.std.proofs.lemmas.List.{take-append-drop}
 use Rattle.ff_ids.specs.declared.AccBody.{AccBody}
-use Rattle.ff_ids.specs.Steps.{Accuses}
 use Rattle.life_laws.proofs.Lists.{In}
 use Rattle.lms_tree.specs.declared.key.PublicKey.{PublicKey}
 use Rattle.journal.specs.declared.event.Event as journal
@@ -23,12 +22,10 @@ use Rattle.node_core.specs.Told.{IsPrefix}
 use Rattle.node_rules.specs.Nodes.{Setting}
 use Rattle.node_rules.specs.Calls.{Call}
 use Rattle.node_rules.specs.OnDisks.{IsCut}
-use Rattle.node_rules.specs.Lives.{Input, Delivers, Ticks, call_of}
-use Rattle.node_rules.specs.Vouching.{OwnSignaturesVerify}
-use Rattle.node_rules.proofs.OwnKey.{KeepsKey}
+use Rattle.node_rules.specs.Lives.{Input, Delivers, Ticks, Leaves, call_of}
 use Rattle.node_loop.specs.declared.fault.ServeFault.{ServeFault}
 use Rattle.node_loop.specs.declared.fault.ServeFault.TheVariants as serve
-use Rattle.node_loop.specs.Turns.{Act, Receives, Writes, Calls, Outlook, after_turn, delivery_of, life_acts, ticks_of, turn_acts, turn_in, turns_from}
+use Rattle.node_loop.specs.Turns.{Act, Receives, Writes, Calls, Outlook, after_turn, delivery_of, leaving_acts, life_acts, ticks_of, turn_acts, turn_in, turns_from}
 use Rattle.node_loop.specs.Courses.{ServeState, acted, datagram_in, fails_next, gives, hands_over, line_of, may_tick, moves, sends_one, served, tells, tells_all, tells_what, with_feed, writes_event}
 use Rattle.node_loop.specs.Serving.{BreaksOff, IsStarved, IsStopped, IsWhole, starves}
 use Rattle.node_loop.specs.Writing.{Before, Standing}
@@ -37,13 +34,15 @@ use Rattle.node_core.specs.Playing.{Kept}
 use Rattle.node_command.specs.declared.halt.NodeHalt.{NodeHalt}
 use Rattle.node_command.specs.declared.halt.NodeHalt.TheVariants as halt
 use Rattle.node_command.specs.Journal.{Environment, IsUnserved, IsUntold, Lives, end_line, lines_of}
-use Rattle.node_command.specs.Removals.{Removes, node_behind}
+use Rattle.node_command.specs.Departures.{Departs}
+use Rattle.node_command.specs.Removals.{node_behind}
 use Rattle.node_command.specs.Replies.{Accepts, Expires, Signs}
 use Rattle.node_command.specs.Sendings.{Sends}
 use Rattle.node_command.specs.Written.{AreWholeLines, GivesOf, UnlessCut}
 use Rattle.node_command.proofs.LineLemmas.{AreLines, accepted-event, expiry-event, lines-behind, lines-none, lines-one, other-line, removal-event, sent-event, signed-event, turn-other, whole-event, whole-fed, whole-turn}
 use Rattle.node_command.proofs.OriginLemmas.{acts-behind}
-use Rattle.node_command.proofs.RemovalLemmas.{TellsNow, called-told, cut-told, removal, removal-of-ticks, removes, ticks-away}
+use Rattle.node_command.proofs.DepartureLemmas.{IsRooted, called-departs, cut-departs}
+use Rattle.node_command.proofs.RemovalLemmas.{TellsNow, called-told, cut-told}
 use Rattle.node_command.proofs.ReplyLemmas.{accepts, called-taken, cut-taken, expires, expiry, expiry-of-ticks}
 use Rattle.node_command.proofs.SentLemmas.{IsUpright, cut-sends, sends}
 use Rattle.node_command.proofs.SignedLemmas.{called-signed, cut-signed, signs}
@@ -59,7 +58,7 @@ Gives s start acts line = (moment : ℕ) (what : whats.What) → line ≡ line_o
 
 -- what is told of removals, of expiries, of what is accepted or signed, and of what is sent is of these acts
 abbrev pub IsOf : Setting → ServeState → List Act → ℕ → whats.What → Type 0
-IsOf s start acts at (told.Removed m) = Removes s start acts at m
+IsOf s start acts at (told.Removed m) = Departs s start acts at m
 IsOf s start acts at (told.Expired a) = Expires s start acts at a
 IsOf s start acts at (told.Took body None) = Accepts s start acts at body
 IsOf s start acts at (told.Spent index (Accusation a)) = Signs s start acts at index a
@@ -162,22 +161,16 @@ IsOfTurn Receives = Unit {0}
 IsOfTurn (Writes line) = (t : Turn) × (line ≡ turn_text t)
 IsOfTurn (Calls input) = Unit {0}
 
--- What a life begins with, so that its removals rest on what is delivered and made in it, and what it sends verifies.
+-- What a life begins with, so that its removals have their causes in it, and what it sends verifies.
 pub record IsFounded (s : Setting) (own : PublicKey) (start : ServeState) : Type 0 where
-  pub sign : OwnSignaturesVerify s own
-  pub vouched : KeepsKey s own start.node
-  pub unaccused : (place : ℕ) (a : AccBody) → slice_get start.node.lived place ≡ Some (Accuses a) → ⊥
+  pub rooted : IsRooted s own start
   pub upright : IsUpright s start.node
-
-removes-now : (s : Setting) (own : PublicKey) (start : ServeState) (acts done later : List Act) (i : Input) (at m : ℕ) → IsFounded s own start → acts ≡ done ++ Calls i ∷ later → TellsNow s (node_behind s start done) i (removal at m) → Removes s start acts at m
-removes-now s own start acts done later i at m f split now =
-    removes s own start acts done later at m f.sign f.vouched f.unaccused (split ∙ ap (λ (x : Input). done ++ Calls x ∷ later) now.tick) (ticks-away s (node_behind s start done) at m now.told)
 
 expires-now : (s : Setting) (start : ServeState) (acts done later : List Act) (i : Input) (at : ℕ) (a : AccBody) → acts ≡ done ++ Calls i ∷ later → TellsNow s (node_behind s start done) i (expiry at a) → Expires s start acts at a
 expires-now s start acts done later i at a split now = expires s start acts done later at a (split ∙ ap (λ (x : Input). done ++ Calls x ∷ later) now.tick) now.told
 
 called-of : (s : Setting) (own : PublicKey) (start : ServeState) (acts done later : List Act) (i : Input) → IsFounded s own start → acts ≡ done ++ Calls i ∷ later → TellsOf s start acts (call_of s (node_behind s start done) i).told
-called-of s own start acts done later i f split at (told.Removed m) among = removes-now s own start acts done later i at m f split (called-told s (node_behind s start done) i (removal at m) (removal-of-ticks at m) among)
+called-of s own start acts done later i f split at (told.Removed m) among = called-departs s own start acts done later i at m f.rooted split among
 called-of s own start acts done later i f split at (told.Expired a) among = expires-now s start acts done later i at a split (called-told s (node_behind s start done) i (expiry at a) (expiry-of-ticks at a) among)
 called-of s own start acts done later i f split at (told.Took body None) among = accepts s start acts done later i at body split (called-taken s (node_behind s start done) i at body among)
 called-of s own start acts done later i f split at (told.Spent index (Accusation a)) among = signs s start acts done later i at index a split (called-signed s (node_behind s start done) i at index a among)
@@ -185,7 +178,7 @@ called-of s own start acts done later i f split at (told.Sent place to bytes) am
 called-of s own start acts done later i f split at _ among = tt
 
 cut-of : (s : Setting) (own : PublicKey) (start : ServeState) (acts done later : List Act) (i : Input) (c : Call) → IsFounded s own start → acts ≡ done ++ Calls i ∷ later → IsCut s (node_behind s start done) i c → TellsOf s start acts c.told
-cut-of s own start acts done later i c f split cut at (told.Removed m) among = removes-now s own start acts done later i at m f split (cut-told s (node_behind s start done) i c (removal at m) (removal-of-ticks at m) cut among)
+cut-of s own start acts done later i c f split cut at (told.Removed m) among = cut-departs s own start acts done later i c at m f.rooted split cut among
 cut-of s own start acts done later i c f split cut at (told.Expired a) among = expires-now s start acts done later i at a split (cut-told s (node_behind s start done) i c (expiry at a) (expiry-of-ticks at a) cut among)
 cut-of s own start acts done later i c f split cut at (told.Took body None) among = accepts s start acts done later i at body split (cut-taken s (node_behind s start done) i c at body cut among)
 cut-of s own start acts done later i c f split cut at (told.Spent index (Accusation a)) among = signs s start acts done later i at index a split (cut-signed s (node_behind s start done) i c at index a cut among)
@@ -203,6 +196,8 @@ lines-act s own start acts done later (Writes line) f split of h =
     lines-behind P text (with_feed line) h one
 lines-act s own start acts done later (Calls (Delivers bytes)) f split of h =
     lines-gives s start acts (call_of s (node_behind s start done) (Delivers bytes)) (served s done start) (called-of s own start acts done later (Delivers bytes) f split) h
+lines-act s own start acts done later (Calls Leaves) f split of h =
+    lines-gives s start acts (call_of s (served s done start).node Leaves) (served s done start) (called-of s own start acts done later Leaves f split) h
 lines-act s own start acts done later (Calls Ticks) f split of h =
     let r = served s done start in
     let c = call_of s r.node Ticks in
@@ -269,9 +264,13 @@ turns-of millis base zero number o = tt
 turns-of millis base (suc left) number o =
     all-behind IsOfTurn (turn_acts (turn_in millis base number o)) _ (turn-of (turn_in millis base number o)) (turns-of millis base left (number + 1) (after_turn millis base o))
 
-pub life-of : (millis turns : ℕ) (coming : List LinkAnswer) (reading : ℕ) (readings : List ℕ) → AllByRecursion IsOfTurn (life_acts millis turns coming reading readings)
+leaving-of : (leave : Bool) → AllByRecursion IsOfTurn (leaving_acts leave)
+leaving-of true = (tt, tt)
+leaving-of false = tt
+
+pub life-of : (millis turns : ℕ) (leave : Bool) (coming : List LinkAnswer) (reading : ℕ) (readings : List ℕ) → AllByRecursion IsOfTurn (life_acts millis turns leave coming reading readings)
 unfolding life_acts
-life-of millis turns coming reading readings = turns-of millis _ turns 1 _
+life-of millis turns leave coming reading readings = all-behind IsOfTurn (turns_from millis _ turns 1 _) (leaving_acts leave) (turns-of millis _ turns 1 _) (leaving-of leave)
 
 -- ## What was written
 

@@ -19,6 +19,7 @@ use Rattle.node_loop.specs.Writing.{before_all, standing}
 use Rattle.node_command.specs.declared.halt.NodeHalt.{NodeHalt}
 use Rattle.node_command.specs.declared.halt.NodeHalt.TheVariants as halt
 use Rattle.node_command.specs.declared.kit.Member.{Member}
+use Rattle.node_command.specs.declared.stay.Stay.{Stay}
 use Rattle.node_command.specs.Members.{own_port}
 use Rattle.node_command.specs.Opening.{setting_for, start_of}
 use Rattle.ports.specs.Outside.{OfDisk}
@@ -40,16 +41,16 @@ end_line = with_feed (codes "end")
 abbrev pub bound_for : Member → LinkState → LinkState
 bound_for m link = record link { bound = Some (own_port m) }
 
--- The course of the member's life from its start on, over so many turns: its store keeps this, and these are the answers of
--- the link, and the readings of the clock.
-abbrev pub course_of : Member → Stored → ℕ → LinkState → ℕ → List ℕ → ServeState
-course_of m stored turns link reading readings =
-    served (setting_for m) (life_acts m.millis turns link.coming reading readings) (served_from (start_of m stored).node (bound_for m link))
+-- The course of the member's life from its start on, over so many turns, behind which it may leave: its store keeps this, and these
+-- are the answers of the link, and the readings of the clock.
+abbrev pub course_of : Member → Stored → Stay → LinkState → ℕ → List ℕ → ServeState
+course_of m stored stay link reading readings =
+    served (setting_for m) (life_acts m.millis stay.turns stay.leave link.coming reading readings) (served_from (start_of m stored).node (bound_for m link))
 
 -- The journal: what the start reports, the turns with what they report, and the line `end`.
-abbrev pub journal_of : Member → Stored → ℕ → LinkState → ℕ → List ℕ → List ℕ
-journal_of m stored turns link reading readings =
-    lines_of (start_of m stored).told ++ (course_of m stored turns link reading readings).text ++ end_line
+abbrev pub journal_of : Member → Stored → Stay → LinkState → ℕ → List ℕ → List ℕ
+journal_of m stored stay link reading readings =
+    lines_of (start_of m stored).told ++ (course_of m stored stay link reading readings).text ++ end_line
 
 -- ## How it went
 

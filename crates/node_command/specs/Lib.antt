@@ -6,5 +6,6 @@ pub mod Spendings
 pub mod Running
 pub mod Removals
 pub mod Replies
+pub mod Departures
 pub mod Sendings
 pub mod Written

@@ -1,4 +1,4 @@
--- What the removals rest on that the journal of a life gives.
+-- What the removals at ticks rest on that the journal of a life gives.
 use Rattle.std.specs.Prelude.{◌≡◌, ◌⊎◌, ℕ, ◌+◌, ◌<◌, true, List, [], ◌∷◌, ◌++◌, length, Contains, Option, Some, None, Ok}
 use Rattle.std.specs.List.{slice_get}
 use Rattle.ff_ids.specs.declared.AccBody.{AccBody}
@@ -92,10 +92,3 @@ pub record Removes (s : Setting) (start : ServeState) (acts : List Act) (moment 
 -- The line that gives a removal.
 abbrev pub removal_line : ℕ → ℕ → List ℕ
 removal_line moment m = line_of (record { moment = moment; what = told.Removed m })
-
--- The line gives a removal at one of these acts.
-pub record GivesRemoval (s : Setting) (start : ServeState) (acts : List Act) (line : List ℕ) : Type 0 where
-  pub moment : ℕ
-  pub member : ℕ
-  pub spelled : line ≡ removal_line moment member
-  pub removal : Removes s start acts moment member

@@ -3,10 +3,10 @@ use Rattle.std.specs.Prelude.{◌≡◌, ℕ, ◌+◌, ◌<◌, false, List, [],
 use Rattle.ff_ids.specs.declared.AccBody.{AccBody}
 use Rattle.ff_ids.specs.declared.Group.{Group}
 use Rattle.ff_ids.specs.declared.NoteBody.{NoteBody}
-use Rattle.ff_ids.specs.Lives.{opening, IsAcceptedAt}
+use Rattle.ff_ids.specs.Lives.{opening, IsAcceptedAt, IsNoteAcceptedAt}
 use Rattle.ff_ids.specs.Steps.{Event, Notes, Accuses, Ticks as Passes}
 use Rattle.ff_ids.specs.Views.{is_unanswered_by}
-use Rattle.life_laws.specs.Removals.{ExpiresAt, IsNoteAcceptedAt, IsOlderThan, StoodSince}
+use Rattle.life_laws.specs.Removals.{ExpiresAt, IsOlderThan, StoodSince}
 use Rattle.records.specs.declared.Body.{Body}
 use Rattle.records.specs.declared.Body.TheVariants.{Certificate, Note, Accusation}
 use Rattle.records.specs.declared.Record.{Record}

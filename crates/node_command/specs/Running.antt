@@ -23,6 +23,7 @@ use Rattle.node_loop.specs.Courses.{ServeState, served_from}
 use Rattle.node_command.specs.declared.halt.NodeHalt.{NodeHalt}
 use Rattle.node_command.specs.declared.halt.NodeHalt.TheVariants as halt
 use Rattle.node_command.specs.declared.kit.Member.{Member}
+use Rattle.node_command.specs.declared.stay.Stay.{Stay}
 use Rattle.node_command.specs.Halts.{is_write_fault}
 use Rattle.node_command.specs.Members.{IsMember, kit_judging, own_port, tag_of}
 use Rattle.node_command.specs.Opening.{Ends, IsBegun, IsBroken, IsFound, IsUnopened, IsUnstarted, IsUsedUp, OpeningFails, StartFails, Tells, setting_for, start_of}
@@ -30,16 +31,17 @@ use Rattle.ports.specs.Outside.{OfDisk}
 use Rattle.node_command.specs.Spendings.{IsSpentFrom, kept_behind}
 use Rattle.node_command.specs.Journal.{Environment, Lives, bound_for, course_of, journal_of}
 
--- The link and the clock as the run begins: what the link holds, the last reading, those to come; and how many turns are run.
+-- The link and the clock as the run begins: what the link holds, the last reading, those to come; how many turns are run, and
+-- whether the node leaves behind them.
 pub record NetInputs : Type 0 where
   pub link : LinkState
   pub reading : ℕ
   pub readings : List ℕ
-  pub turns : ℕ
+  pub stay : Stay
 
 -- the course of the member's life, where its store keeps this
 abbrev pub life_in : Member → Stored → NetInputs → ServeState
-life_in m stored feed = course_of m stored feed.turns feed.link feed.reading feed.readings
+life_in m stored feed = course_of m stored feed.stay feed.link feed.reading feed.readings
 
 -- what is around the command, once the port is bound
 abbrev pub once_bound : Member → NetInputs → Environment → Environment
@@ -51,7 +53,7 @@ once_bound m feed was = record was { link = Some (bound_for m feed.link) }
 abbrev pub LivesOut : Member → NetInputs → Environment → Environment → Result (Unit {0}) NodeHalt → Type 0
 LivesOut m feed was now result =
     (stored : Stored) × (node : Kept) × (mid : OfDisk) × IsBegun m stored node (start_of m stored).told was.disk mid
-    × Lives (setting_for m) node (start_of m stored).told (life_acts m.millis feed.turns feed.link.coming feed.reading feed.readings)
+    × Lives (setting_for m) node (start_of m stored).told (life_acts m.millis feed.stay.turns feed.stay.leave feed.link.coming feed.reading feed.readings)
     (served_from (start_of m stored).node (bound_for m feed.link)) (record was { disk = mid }) now result
 
 -- All was done: the journal was written, the link is bound to the own port and was given what the life gives it, and the store is
@@ -61,13 +63,16 @@ LivesOut m feed was now result =
 pub record HasRun (m : Member) (feed : NetInputs) (was now : Environment) : Type 0 where
   pub stored : Stored
   pub found : IsFound m stored was.disk
+  -- A law of any member that a text sets up: `found`, `written` and `given` tie it to this run.
   pub vouchable : IsVouchable (setting_for m) (public_of m.own.key) (recs_of m.certificates.items) stored
-  pub written : Appends was.taken now.taken (journal_of m stored feed.turns feed.link feed.reading feed.readings)
+  pub written : Appends was.taken now.taken (journal_of m stored feed.stay feed.link feed.reading feed.readings)
   pub given : now.link ≡ Some (life_in m stored feed).link
+  -- A law of any life: `given` ties it to the link.
   pub bound : (life_in m stored feed).link.bound ≡ Some (own_port m)
   pub faults : now.disk.faults ≡ was.disk.faults
   pub seat : Seat
   pub left : Tells was.disk.moments → IsSettled (tag_of m) (life_in m stored feed).node.stored seat now.disk.moments
+  -- A law of any life, and `once` one of any life that begins so: `written` ties them to the journal, `left` and `ends` to the disk.
   pub kept : (life_in m stored feed).node.stored ≡ kept_behind stored (spent_told (start_of m stored).told ++ (life_in m stored feed).spent)
   pub ends : Ends m (spent_told (start_of m stored).told ++ (life_in m stored feed).spent) was.disk now.disk
   pub once : Tells was.disk.moments → IsSpentFrom stored (spent_told (start_of m stored).told ++ (life_in m stored feed).spent)

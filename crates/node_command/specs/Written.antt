@@ -19,7 +19,8 @@ use Rattle.node_command.specs.Opening.{IsFound, setting_for, start_of}
 use Rattle.ports.specs.Outside.{OfDisk}
 use Rattle.node_command.specs.Journal.{bound_for}
 use Rattle.node_command.specs.Running.{NetInputs}
-use Rattle.node_command.specs.Removals.{GivesRemoval, removal_line}
+use Rattle.node_command.specs.Departures.{GivesRemoval}
+use Rattle.node_command.specs.Removals.{removal_line}
 use Rattle.node_command.specs.Replies.{GivesAccepted, GivesExpiry, GivesSigned, accepted_line, expiry_line, signed_line}
 use Rattle.node_command.specs.Sendings.{GivesSent, sent_line}
 
@@ -30,7 +31,7 @@ abbrev pub first_of : Member → Stored → NetInputs → ServeState
 first_of m stored feed = served_from (start_of m stored).node (bound_for m feed.link)
 
 abbrev pub acts_of : Member → NetInputs → List Act
-acts_of m feed = life_acts m.millis feed.turns feed.link.coming feed.reading feed.readings
+acts_of m feed = life_acts m.millis feed.stay.turns feed.stay.leave feed.link.coming feed.reading feed.readings
 
 -- A member was read from the text, a store of its key was found, and P holds of the life that this began: of its turns, which the
 -- answers of the link and the readings of the clock bring.

@@ -15,6 +15,7 @@ ghost use Rattle.node_command.specs.Journal.{IsUnsent, Lives, environment, lines
 ghost use Rattle.node_command.specs.Spendings.{LifeSpends};
 
 use crate::halt::NodeHalt;
+use crate::stay::Stay;
 use node_core::{Events, Node};
 use node_loop::{serve, tell_all};
 use ports::{Clock, Disk, Failed, Link, Sink, write_all};
@@ -25,7 +26,7 @@ use std::alloc::Global;
 pub struct Pace {
     /// The milliseconds of a tick.
     pub millis: u32,
-    pub turns: u32,
+    pub stay: Stay,
 }
 
 /// Serves the node, and writes the line `end`.
@@ -59,13 +60,24 @@ fn serve_to_end<D: Disk, L: Link, C: Clock, O: Sink>(
         → IsNode s node.old n → (L.state link.old).contents ≡ Some link_told
         → (C.state clock.old).coming ≡ Some readings
         → Appends taken (O.state out.old).taken (lines_of told)
-        → Lives s node.old told (life_acts pace.millis pace.turns link_told.coming
-        (C.state clock.old).reading readings) (served_from n link_told)
+        → Lives s node.old told (life_acts pace.millis pace.stay.turns
+        pace.stay.leave link_told.coming (C.state clock.old).reading readings)
+        (served_from n link_told)
         (environment taken was (D.state disk.old))
         (environment (O.state out.new).taken (L.state link.new).contents (D.state disk.new))
         result }
 {
-    match serve(alloc, node, link, clock, disk, out, pace.millis, pace.turns) {
+    match serve(
+        alloc,
+        node,
+        link,
+        clock,
+        disk,
+        out,
+        pace.millis,
+        pace.stay.turns,
+        pace.stay.leave,
+    ) {
         Ok(()) => match write_all(out, b"end\n") {
             Ok(()) => Ok(()),
             Err(Failed) => Err(NodeHalt::WriteFault),
@@ -105,8 +117,9 @@ pub fn live<D: Disk, L: Link, C: Clock, O: Sink>(
     ensures lives { (s : Setting) (n : RulesNode) (link_told : LinkState) (readings : List ℕ)
         → IsNode s node.old n → (L.state link.old).contents ≡ Some link_told
         → (C.state clock.old).coming ≡ Some readings
-        → Lives s node.old events.now (life_acts pace.millis pace.turns link_told.coming
-        (C.state clock.old).reading readings) (served_from n link_told)
+        → Lives s node.old events.now (life_acts pace.millis pace.stay.turns
+        pace.stay.leave link_told.coming (C.state clock.old).reading readings)
+        (served_from n link_told)
         (environment (O.state out.old).taken (L.state link.old).contents (D.state disk.old))
         (environment (O.state out.new).taken (L.state link.new).contents (D.state disk.new))
         result }

@@ -16,6 +16,7 @@ use crate::halt::NodeHalt;
 use crate::kit::{Member, member_of};
 use crate::living::{Pace, live};
 use crate::opening::begin;
+use crate::stay::Stay;
 use fields::NoMemory;
 use node_core::Events;
 use ports::{Clock, Disk, Link, Opened, Sink, Source};
@@ -27,7 +28,7 @@ use whole_text::read_whole;
 fn begin_and_live<D: Disk, L: Link, C: Clock, O: Sink>(
     alloc: Global,
     name: &str,
-    turns: u32,
+    stay: Stay,
     member: Member,
     out: &mut O,
     disk: &mut D,
@@ -53,7 +54,7 @@ fn begin_and_live<D: Disk, L: Link, C: Clock, O: Sink>(
     ensures runs { (feed : NetInputs)
         → (L.state link.old).contents ≡ Some (bound_for member feed.link)
         → (C.state clock.old).coming ≡ Some feed.readings
-        → (C.state clock.old).reading ≡ feed.reading → turns ≡ feed.turns
+        → (C.state clock.old).reading ≡ feed.reading → stay ≡ feed.stay
         → RunsOnce member feed
         (environment (O.state out.old).taken (L.state link.old).contents (D.state disk.old))
         (environment (O.state out.new).taken (L.state link.new).contents (D.state disk.new))
@@ -61,7 +62,7 @@ fn begin_and_live<D: Disk, L: Link, C: Clock, O: Sink>(
 {
     let pace = Pace {
         millis: member.millis,
-        turns,
+        stay,
     };
     let mut events = Events::new(alloc);
     match begin(alloc, name, member, disk, &mut events) {
@@ -78,7 +79,7 @@ fn begin_and_live<D: Disk, L: Link, C: Clock, O: Sink>(
 fn bind_and_live<D: Disk, L: Link, C: Clock, O: Sink>(
     alloc: Global,
     name: &str,
-    turns: u32,
+    stay: Stay,
     member: Member,
     out: &mut O,
     disk: &mut D,
@@ -106,14 +107,14 @@ fn bind_and_live<D: Disk, L: Link, C: Clock, O: Sink>(
         (L.state link.old).faults (L.state link.new).faults result }
     ensures runs { (feed : NetInputs) → (L.state link.old).contents ≡ Some feed.link
         → (C.state clock.old).coming ≡ Some feed.readings
-        → (C.state clock.old).reading ≡ feed.reading → turns ≡ feed.turns
+        → (C.state clock.old).reading ≡ feed.reading → stay ≡ feed.stay
         → RunsBehind member feed
         (environment (O.state out.old).taken (L.state link.old).contents (D.state disk.old))
         (environment (O.state out.new).taken (L.state link.new).contents (D.state disk.new))
         result }
 {
     match link.bind(member.port()) {
-        Opened::Done => begin_and_live(alloc, name, turns, member, out, disk, link, clock),
+        Opened::Done => begin_and_live(alloc, name, stay, member, out, disk, link, clock),
         Opened::Failed => Err(NodeHalt::LinkFault),
         Opened::OutOfMemory => Err(NodeHalt::OutOfMemory),
     }
@@ -123,7 +124,7 @@ fn bind_and_live<D: Disk, L: Link, C: Clock, O: Sink>(
 fn read_and_run<S: Source, O: Sink, D: Disk, L: Link, C: Clock>(
     alloc: Global,
     name: &str,
-    turns: u32,
+    stay: Stay,
     input: &mut S,
     out: &mut O,
     disk: &mut D,
@@ -153,7 +154,7 @@ fn read_and_run<S: Source, O: Sink, D: Disk, L: Link, C: Clock>(
         (L.state link.old).faults (L.state link.new).faults result }
     ensures runs { (feed : NetInputs) → (L.state link.old).contents ≡ Some feed.link
         → (C.state clock.old).coming ≡ Some feed.readings
-        → (C.state clock.old).reading ≡ feed.reading → turns ≡ feed.turns
+        → (C.state clock.old).reading ≡ feed.reading → stay ≡ feed.stay
         → Runs feed
         (io (S.state input.old) (O.state out.old))
         (io (S.state input.new) (O.state out.new))
@@ -166,18 +167,18 @@ fn read_and_run<S: Source, O: Sink, D: Disk, L: Link, C: Clock>(
         Err(stop) => return Err(NodeHalt::from(stop)),
     };
     match member_of(alloc, lines) {
-        Ok(member) => bind_and_live(alloc, name, turns, member, out, disk, link, clock),
+        Ok(member) => bind_and_live(alloc, name, stay, member, out, disk, link, clock),
         Err(NoMemory) => Err(NodeHalt::OutOfMemory),
     }
 }
 
 /// Reads the text of a member, binds its port, opens its store in the file of that name, begins a life, serves it for so many
-/// turns, and writes the line `end`: in this order, each only where what comes before it was done. What is written is the
-/// journal of the life.
+/// turns, leaves where it is to, and writes the line `end`: in this order, each only where what comes before it was done. What
+/// is written is the journal of the life.
 pub fn run_node<S: Source, O: Sink, D: Disk, L: Link, C: Clock>(
     alloc: Global,
     name: &str,
-    turns: u32,
+    stay: Stay,
     input: &mut S,
     out: &mut O,
     disk: &mut D,
@@ -202,7 +203,7 @@ pub fn run_node<S: Source, O: Sink, D: Disk, L: Link, C: Clock>(
     ensures opened { OpensFile name.now (D.state disk.old) (D.state disk.new) result }
     ensures runs { (feed : NetInputs) → (L.state link.old).contents ≡ Some feed.link
         → (C.state clock.old).coming ≡ Some feed.readings
-        → (C.state clock.old).reading ≡ feed.reading → turns ≡ feed.turns
+        → (C.state clock.old).reading ≡ feed.reading → stay ≡ feed.stay
         → Runs feed
         (io (S.state input.old) (O.state out.old))
         (io (S.state input.new) (O.state out.new))
@@ -210,11 +211,12 @@ pub fn run_node<S: Source, O: Sink, D: Disk, L: Link, C: Clock>(
         (environment (O.state out.new).taken (L.state link.new).contents (D.state disk.new))
         result }
     // Each whole line that was written and gives a removal is reported by a tick of the life, and rests on an accusation that was
-    // accepted in it, verified, and stood for the timeout. One that gives an accepted note or accusation or an expiry is so of the
-    // life, and neither these nor an own accusation are outdated by a note that the life accepted before.
+    // accepted in it, verified, and stood for the timeout; or by a delivery, which accepts a note by which the member leaves, and
+    // verifies it; or by the call to leave, whose note the node signs. One that gives an accepted note or accusation or an expiry
+    // is so of the life, and neither these nor an own accusation are outdated by a note that the life accepted before.
     ensures rests { (feed : NetInputs) → (L.state link.old).contents ≡ Some feed.link
         → (C.state clock.old).coming ≡ Some feed.readings
-        → (C.state clock.old).reading ≡ feed.reading → turns ≡ feed.turns
+        → (C.state clock.old).reading ≡ feed.reading → stay ≡ feed.stay
         → LinesRest feed
         (io (S.state input.old) (O.state out.old))
         (io (S.state input.new) (O.state out.new))
@@ -228,5 +230,5 @@ pub fn run_node<S: Source, O: Sink, D: Disk, L: Link, C: Clock>(
         (D.state disk.old) (D.state disk.new)
         (L.state link.old).faults (L.state link.new).faults result }
 {
-    read_and_run(alloc, name, turns, input, out, disk, link, clock)
+    read_and_run(alloc, name, stay, input, out, disk, link, clock)
 }

@@ -1,5 +1,5 @@
 -- How many ticks the turns of a life make, and what its clock gives.
-use Rattle.std.proofs.Common.{◌≡◌, ℕ, zero, suc, ◌+◌, ◌-◌, ◌/◌, ◌≤◌, ◌<◌, min, List, [], ◌∷◌, ◌++◌, length, drop, refl, ap, ◌∙◌, arith}
+use Rattle.std.proofs.Common.{◌≡◌, ℕ, Bool, true, false, zero, suc, ◌+◌, ◌-◌, ◌/◌, ◌≤◌, ◌<◌, min, List, [], ◌∷◌, ◌++◌, length, drop, refl, ap, ◌∙◌, arith}
 use Rattle.std.specs.Prelude.{filter}
 use Rattle.std.proofs.Math.Nat.{div-mul-le_self}
 use Rattle.std.proofs.lemmas.List.{length-append}
@@ -10,7 +10,7 @@ use Rattle.ports.specs.MemoryClock.{NeverFalls}
 use Rattle.journal.specs.declared.turn.Heard.{Heard}
 use Rattle.journal.specs.declared.turn.Heard.TheVariants as heard
 use Rattle.journal.specs.declared.turn.Turn.{Turn}
-use Rattle.node_loop.specs.Turns.{Act, LivesFollowTheClock, Outlook, after_turn, delivery_of, is_tick, life_acts, most_ticks, reading_behind, reading_of, ticks_among, ticks_in, ticks_of, turn_acts, turn_in, turns_from}
+use Rattle.node_loop.specs.Turns.{Act, LivesFollowTheClock, Outlook, after_turn, delivery_of, is_tick, leaving_acts, life_acts, most_ticks, reading_behind, reading_of, ticks_among, ticks_in, ticks_of, turn_acts, turn_in, turns_from}
 
 -- ---- ticks among acts
 
@@ -31,6 +31,17 @@ none-and n = omega arith
 
 among-turn : (turn : Turn) → ticks_among (turn_acts turn) ≡ turn.ticks
 among-turn turn = among-append (delivery_of turn.heard) (ticks_of turn.ticks) ∙ ap (λ n. n + ticks_among (ticks_of turn.ticks)) (none-delivered turn.heard) ∙ none-and (ticks_among (ticks_of turn.ticks)) ∙ among-ticks turn.ticks
+
+and-none : (n : ℕ) → n + 0 ≡ n
+and-none n = omega arith
+
+none-leaving : (leave : Bool) → ticks_among (leaving_acts leave) ≡ 0
+none-leaving true = refl
+none-leaving false = refl
+
+-- whoever leaves makes no tick by it
+among-life : (turns : List Act) (leave : Bool) → ticks_among (turns ++ leaving_acts leave) ≡ ticks_among turns
+among-life turns leave = among-append turns (leaving_acts leave) ∙ ap (λ n. ticks_among turns + n) (none-leaving leave) ∙ and-none (ticks_among turns)
 
 -- ---- readings
 
@@ -125,16 +136,23 @@ all-made millis base (suc left) number o some h fewer =
 
 pub follows-clock : LivesFollowTheClock
 unfolding life_acts
-follows-clock millis turns heard last readings some rising =
+follows-clock millis turns leave heard last readings some rising =
     let base = next_reading last readings in
     let o : Outlook = record { heard = heard; reading = base; readings = drop 1 readings; made = 0 } in
-    let first : IsWithin millis base o = record { rising = falls-never last readings rising; within = omega arith } in (
-      from-none (made_in millis base turns 1 o) (due-behind millis base turns o) (never-more millis base turns 1 o some first),
-      λ fewer. is-from-none (made_in millis base (suc turns) 1 o) (due-behind millis base (suc turns) o) (all-made millis base turns 1 o some first fewer),
+    let first : IsWithin millis base o = record { rising = falls-never last readings rising; within = omega arith } in
+    let now = among-life (turns_from millis base turns 1 o) leave in
+    let next = among-life (turns_from millis base (suc turns) 1 o) leave in (
+      no-more (made_in millis base turns 1 o) (due-behind millis base turns o) _ now (never-more millis base turns 1 o some first),
+      λ fewer.
+          as-many (made_in millis base (suc turns) 1 o) (due-behind millis base (suc turns) o) _ next
+          (all-made millis base turns 1 o some first (below-most (made_in millis base (suc turns) 1 o) (made_in millis base turns 1 o) _ _ next now fewer)),
     )
   where
-    from-none : (x y : ℕ) → 0 + x ≤ y → x ≤ y
-    from-none x y le = omega (arith, le)
+    no-more : (x y z : ℕ) → z ≡ x → 0 + x ≤ y → z ≤ y
+    no-more x y z same le = omega (arith, same, le)
 
-    is-from-none : (x y : ℕ) → 0 + x ≡ y → x ≡ y
-    is-from-none x y is = omega (arith, is)
+    as-many : (x y z : ℕ) → z ≡ x → 0 + x ≡ y → z ≡ y
+    as-many x y z same is = omega (arith, same, is)
+
+    below-most : (x y z w : ℕ) → z ≡ x → w ≡ y → z < w + 64 → x < y + 64
+    below-most x y z w same also less = omega (arith, same, also, less)

@@ -10,7 +10,7 @@ use Rattle.journal.specs.declared.event.Event as journal
 use Rattle.journal.specs.declared.event.What as whats
 use Rattle.node_rules.specs.Nodes.{Setting, Node}
 use Rattle.node_rules.specs.Calls.{Call}
-use Rattle.node_rules.specs.Lives.{Input, Delivers, Ticks, call_of}
+use Rattle.node_rules.specs.Lives.{Input, Delivers, Ticks, Leaves, call_of}
 use Rattle.node_loop.specs.Turns.{Act, Receives, Writes, Calls, delivery_of, ticks_of, turn_acts}
 use Rattle.journal.specs.Turns.{turn_text}
 use Rattle.node_loop.specs.Courses.{ServeState, with_feed, writes, writes_event, hands_over, fails_next, sends_one, datagram_in, tells_what, tells, tells_all, moves, gives, may_tick, called, acted, served}
@@ -85,6 +85,7 @@ grows-gives c r =
 
 grows-called : (s : Setting) (input : Input) (r : ServeState) → Grows r (called s input r)
 grows-called s (Delivers bytes) r = grows-gives (call_of s r.node (Delivers bytes)) r
+grows-called s Leaves r = grows-gives (call_of s r.node Leaves) r
 grows-called s Ticks r = grows-cond (may_tick s r.node) r _ r (grows-gives (call_of s r.node Ticks) r) (grows-refl r)
 
 grows-acted : (s : Setting) (r : ServeState) (act : Act) → Grows r (acted s r act)
@@ -140,6 +141,7 @@ coming-gives c r = coming-tells_all c.told (moves c r)
 
 coming-called : (s : Setting) (input : Input) (r : ServeState) → (called s input r).link.coming ≡ r.link.coming
 coming-called s (Delivers bytes) r = coming-gives (call_of s r.node (Delivers bytes)) r
+coming-called s Leaves r = coming-gives (call_of s r.node Leaves) r
 coming-called s Ticks r = coming-cond (may_tick s r.node) r.link.coming _ r (coming-gives (call_of s r.node Ticks) r) refl
 
 coming-ticks : (s : Setting) (ticks : ℕ) (r : ServeState) → (served s (ticks_of ticks) r).link.coming ≡ r.link.coming

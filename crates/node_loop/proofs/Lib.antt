@@ -4,6 +4,7 @@ pub mod TellLemmas
 pub mod SendLemmas
 pub mod ServeLemmas
 pub mod LineLemmas
+pub mod GatherLemmas
 pub mod CallLemmas
 pub mod TurnLemmas
 pub mod ClockLemmas

@@ -15,11 +15,11 @@ use Rattle.signer.specs.Signing.{SignerState}
 use Rattle.node_core.specs.declared.NodeFault.{NodeFault}
 use Rattle.node_core.specs.declared.NodeFault.TheVariants as node
 use Rattle.node_core.specs.Spending.{LivesOn, SpendsIn, spent_by, spent_told}
-use Rattle.node_core.specs.Told.{IsPrefix, is_loss}
-use Rattle.node_core.proofs.SpendLemmas.{lives-same, lives-trans, told-append}
+use Rattle.node_core.specs.Told.{IsPrefix}
+use Rattle.node_core.proofs.SpendLemmas.{lives-same, lives-trans}
 use Rattle.node_loop.specs.declared.fault.ServeFault.{ServeFault}
 use Rattle.node_loop.specs.declared.fault.ServeFault.TheVariants as faults
-use Rattle.node_loop.specs.Courses.{datagram_in, line_of}
+use Rattle.node_loop.specs.Courses.{datagram_in}
 use Rattle.node_loop.specs.Lines.{GoesOn, JournalLine, OfEvent, OfTurn, WritesLines, WritesSpent, WroteFront, bytes_of, faults_behind, is_link_fault, line_bytes, spent_in, spent_on}
 use Rattle.node_loop.specs.Writing.{Answers, WritesLine, has_failed}
 
@@ -124,6 +124,12 @@ lines-longer before after xs ys e other h = by e other h
     by faults.WriteFault other first = part first
     by faults.OutOfMemory other first = part first
 
+-- a line that broke off
+pub line-front : (before after : Option (List ℕ)) (line : List ℕ) (e : ServeFault) → WritesLine before after line (Err e) → WroteFront before after line
+line-front before after line faults.StoreFault h = absurd h
+line-front before after line faults.WriteFault h = record { text = take h.count line; front = record { more = drop h.count line; is = sym (take-append-drop h.count line) }; written = h.gained }
+line-front before after line faults.OutOfMemory is = subst (λ x. WroteFront before x line) (sym is) (front-none before line)
+
 pub one-line : (before after : Option (List ℕ)) (line : JournalLine) (answer : Answer) → WritesLine before after (line_bytes line) answer → WritesLines before after (line ∷ []) answer
 one-line before after line answer h = by answer h
   where
@@ -136,15 +142,10 @@ one-line before after line answer h = by answer h
     by : (answer : Answer) → WritesLine before after bytes answer → WritesLines before after (line ∷ []) answer
     by (Ok x) wrote = subst (Appends before after) (sym same) wrote
     by (Err faults.StoreFault) wrote = absurd wrote
-    by (Err faults.WriteFault) wrote =
-        subst (WroteFront before after) (sym same)
-        (record { text = take wrote.count bytes; front = record { more = drop wrote.count bytes; is = sym (take-append-drop wrote.count bytes) }; written = wrote.gained })
-    by (Err faults.OutOfMemory) is = subst (λ x. WroteFront before x (bytes_of (line ∷ []))) (sym is) (front-none before (bytes_of (line ∷ [])))
+    by (Err faults.WriteFault) wrote = subst (WroteFront before after) (sym same) (line-front before after bytes faults.WriteFault wrote)
+    by (Err faults.OutOfMemory) wrote = subst (WroteFront before after) (sym same) (line-front before after bytes faults.OutOfMemory wrote)
 
 -- ---- what events report
-
-pub spent-event : (before after : Option (List ℕ)) (count later : ℕ) (e : journal.Event) (answer : Answer) → WritesLine before after (line_of e) answer → later ≡ counted (is_loss e.what) count → WritesSpent (spent_by e.what) before after count later answer
-spent-event before after count later e answer wrote is = record { lines = OfEvent e ∷ []; give = append-nil (spent_by e.what); written = one-line before after (OfEvent e) answer wrote; link = is }
 
 -- an event that reports a datagram gives no signature
 pub sent-none : (what : whats.What) (d : ℕ × List ℕ) → datagram_in what ≡ Some d → spent_by what ≡ []
@@ -168,20 +169,9 @@ sent-none told.Stopped d is = refl
 pub spent-same : (xs ys : List Spent) (before after : Option (List ℕ)) (count later : ℕ) (answer : Answer) → xs ≡ ys → WritesSpent xs before after count later answer → WritesSpent ys before after count later answer
 spent-same xs ys before after count later answer is h = subst (λ (s : List Spent). WritesSpent s before after count later answer) is h
 
-pub spent-none : (taken : Option (List ℕ)) (count : ℕ) → WritesSpent [] taken taken count count (Ok tt)
-spent-none taken count = record { lines = []; give = refl; written = Appends-nil taken; link = refl }
-
 -- nothing came to be written
 pub spent-unwritten : (spent : List Spent) (taken : Option (List ℕ)) (count : ℕ) → WritesSpent spent taken taken count count (Err faults.OutOfMemory)
 spent-unwritten spent taken count = record { lines = map given spent; give = given-spent spent; written = front-none taken (bytes_of (map given spent)); link = sym (given-faults spent count) }
-
-pub spent-trans : (xs ys : List Spent) (before mid after : Option (List ℕ)) (a b c : ℕ) (answer : Answer) → WritesSpent xs before mid a b (Ok tt) → WritesSpent ys mid after b c answer → WritesSpent (xs ++ ys) before after a c answer
-spent-trans xs ys before mid after a b c answer p q = record {
-  lines = p.lines ++ q.lines;
-  give = spent-append p.lines q.lines ∙ ap (λ s. s ++ spent_in q.lines) p.give ∙ ap (λ s. xs ++ s) q.give;
-  written = lines-trans before mid after p.lines q.lines answer p.written q.written;
-  link = faults-trans p.lines q.lines a b c p.link q.link;
-}
 
 -- those that were not come to
 pub spent-longer : (xs ys : List Spent) (before after : Option (List ℕ)) (a b : ℕ) (e : ServeFault) → (e ≡ faults.StoreFault → ⊥) → WritesSpent xs before after a b (Err e) → WritesSpent (xs ++ ys) before after a b (Err e)
@@ -191,22 +181,6 @@ spent-longer xs ys before after a b e other h = record {
   written = lines-longer before after h.lines (map given ys) e other h.written;
   link = faults-longer h.lines ys a b h.link;
 }
-
--- one event more
-pub spent-next : (done all : List journal.Event) (e : journal.Event) (before mid after : Option (List ℕ)) (a b c : ℕ) → WritesSpent (spent_told done) before mid a b (Ok tt) → all ≡ done ++ e ∷ [] → WritesSpent (spent_by e.what) mid after b c (Ok tt)
-    → WritesSpent (spent_told all) before after a c (Ok tt)
-spent-next done all e before mid after a b c p is q =
-    spent-same (spent_told done ++ spent_by e.what) (spent_told all) before after a c (Ok tt)
-    (ap (λ s. spent_told done ++ s) (sym (append-nil (spent_by e.what))) ∙ sym (told-append done (e ∷ [])) ∙ ap spent_told (sym is))
-    (spent-trans (spent_told done) (spent_by e.what) before mid after a b c (Ok tt) p q)
-
--- one of them broke off
-pub spent-part : (done all rest : List journal.Event) (e : journal.Event) (before mid after : Option (List ℕ)) (a b c : ℕ) (fault : ServeFault) → (fault ≡ faults.StoreFault → ⊥) → all ≡ done ++ e ∷ rest
-    → WritesSpent (spent_told done) before mid a b (Ok tt) → WritesSpent (spent_by e.what) mid after b c (Err fault) → WritesSpent (spent_told all) before after a c (Err fault)
-spent-part done all rest e before mid after a b c fault other is p q =
-    spent-same (spent_told done ++ (spent_by e.what ++ spent_told rest)) (spent_told all) before after a c (Err fault)
-    (sym (told-append done (e ∷ rest)) ∙ ap spent_told (sym is))
-    (spent-trans (spent_told done) (spent_by e.what ++ spent_told rest) before mid after a b c (Err fault) p (spent-longer (spent_by e.what) (spent_told rest) mid after b c fault other q))
 
 -- whatever is answered behind it
 pub spent-behind : (spent : List Spent) (before after : Option (List ℕ)) (count later : ℕ) (answer : Answer) → WritesSpent spent before after count later (Ok tt) → WritesSpent spent before after count later answer

@@ -1,21 +1,27 @@
 -- Turns, worked out.
-use Rattle.std.proofs.Common.{◌≡◌, [], ◌∷◌, refl}
+use Rattle.std.proofs.Common.{◌≡◌, true, false, [], ◌∷◌, refl}
 use Rattle.std.specs.Prelude.{codes}
 use Rattle.std.specs.Fmt.{digits}
 use Rattle.ports.specs.declared.link.LinkAnswer.TheVariants as answers
-use Rattle.node_rules.specs.Lives.{Delivers, Ticks}
+use Rattle.node_rules.specs.Lives.{Delivers, Ticks, Leaves}
 use Rattle.journal.specs.declared.turn.Heard.TheVariants as heard
 use Rattle.journal.specs.Turns.{turn_text}
 use Rattle.node_loop.specs.Turns.{Receives, Writes, Calls, life_acts, ticks_owed}
 
 -- A tick a tenth of a second, and readings of 0, 50 and 250 milliseconds: two ticks are owed at the second turn.
-two-turns : life_acts 100 2 [] 0 (0 ∷ 50 ∷ 250 ∷ [])
+two-turns : life_acts 100 2 false [] 0 (0 ∷ 50 ∷ 250 ∷ [])
     ≡ Receives ∷ Writes (codes "turn 1 nothing ticks 0") ∷ Receives ∷ Writes (codes "turn 2 nothing ticks 2") ∷ Calls Ticks ∷ Calls Ticks ∷ []
 unfolding life_acts digits
 two-turns = refl
 
+-- Whoever leaves does so behind the last turn.
+two-turns-and-out : life_acts 100 2 true [] 0 (0 ∷ 50 ∷ 250 ∷ [])
+    ≡ Receives ∷ Writes (codes "turn 1 nothing ticks 0") ∷ Receives ∷ Writes (codes "turn 2 nothing ticks 2") ∷ Calls Ticks ∷ Calls Ticks ∷ Calls Leaves ∷ []
+unfolding life_acts digits
+two-turns-and-out = refl
+
 -- What came is delivered before the ticks. The base is the first reading, whatever it is.
-got-and-ticked : life_acts 10 1 (answers.Got (70 ∷ 70 ∷ []) ∷ []) 3 (1000 ∷ 1019 ∷ [])
+got-and-ticked : life_acts 10 1 false (answers.Got (70 ∷ 70 ∷ []) ∷ []) 3 (1000 ∷ 1019 ∷ [])
     ≡ Receives ∷ Writes (turn_text (record { number = 1; heard = heard.Got (70 ∷ 70 ∷ []); ticks = 1 })) ∷ Calls (Delivers (70 ∷ 70 ∷ [])) ∷ Calls Ticks ∷ []
 unfolding life_acts digits
 got-and-ticked = refl
@@ -32,6 +38,6 @@ dash : turn_text (record { number = 3; heard = heard.Got []; ticks = 0 }) ≡ co
 unfolding digits
 dash = refl
 
-failed-turn : life_acts 10 1 (answers.Failed ∷ []) 0 [] ≡ Receives ∷ Writes (codes "turn 1 failed ticks 0") ∷ []
+failed-turn : life_acts 10 1 false (answers.Failed ∷ []) 0 [] ≡ Receives ∷ Writes (codes "turn 1 failed ticks 0") ∷ []
 unfolding life_acts digits
 failed-turn = refl

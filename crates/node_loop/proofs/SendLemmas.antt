@@ -1,5 +1,5 @@
 -- How the events of a call are reported, one after another.
-use Rattle.std.proofs.Common.{◌≡◌, ℕ, Bool, true, false, cond, List, [], ◌∷◌, ◌++◌, Option, Some, None, Result, Err, sym, ap, ◌∙◌, subst}
+use Rattle.std.proofs.Common.{◌≡◌, ◌≢◌, ℕ, IfErr, Bool, true, false, cond, List, [], ◌∷◌, ◌++◌, Option, Some, None, Result, Err, sym, ap, ◌∙◌, subst}
 use Rattle.std.specs.Result.{IsErrAnd}
 use Rattle.std.proofs.lemmas.Result.{err_from_is_err_and}
 use Rattle.ports.specs.Disk.{Moment}
@@ -8,21 +8,24 @@ use Rattle.journal.specs.declared.event.Event as journal
 use Rattle.journal.specs.declared.event.What.TheVariants as kinds
 use Rattle.node_core.specs.Playing.{Kept}
 use Rattle.node_loop.specs.declared.fault.ServeFault.{ServeFault}
+use Rattle.node_loop.specs.declared.fault.ServeFault.TheVariants as faults
 use Rattle.node_loop.specs.Courses.{ServeState, datagram_in, fails_next, hands_over, line_of, sends_one, tells, tells_all, tells_what, writes, writes_event}
-use Rattle.node_loop.specs.Writing.{Before, Extends, IsAt, IsWithin, Standing, Tells, WritesLine, standing}
+use Rattle.node_loop.specs.Gathering.{GathersLine, IsAtBut, TellsBut, WritesBehind}
+use Rattle.node_loop.specs.Writing.{Before, Extends, IsAt, IsWithin, Standing, Tells, standing}
 use Rattle.node_loop.proofs.CourseLemmas.{Grows, grows-sent, grows-tells_all, tells_all-append}
-use Rattle.node_loop.proofs.TellLemmas.{extends-refl, extends-trans, tells-more, within-grows, written}
+use Rattle.node_loop.proofs.GatherLemmas.{but-none, gathered, written-with}
+use Rattle.node_loop.proofs.TellLemmas.{extends-refl, extends-trans, tells-more, within-grows}
 
 -- ---- one datagram
 
--- its line, which has the number of those sent before it
-pub sent-line : (before : Before) (v : Kept) (link : Option LinkState) (taken after : Option (List ℕ)) (moments : List Moment) (sent moment to : ℕ) (bytes : List ℕ) (r : ServeState)
-    (answer : Result (Unit {0}) ServeFault) → IsAt before (standing v link taken moments sent) r
-    → WritesLine taken after (line_of (record { moment = moment; what = kinds.Sent sent to bytes })) answer
+-- its line, which has the number of those sent before it, and what was gathered
+pub sent-line : (before : Before) (v : Kept) (link : Option LinkState) (taken after : Option (List ℕ)) (moments : List Moment) (sent moment to : ℕ) (bytes old : List ℕ) (r : ServeState)
+    (answer : Result (Unit {0}) ServeFault) → IsAtBut before (standing v link taken moments sent) old r
+    → WritesBehind taken after old (line_of (record { moment = moment; what = kinds.Sent sent to bytes })) answer → IfErr answer (λ e. e ≢ faults.StoreFault)
     → Tells before (standing v link after moments sent) (writes_event moment (kinds.Sent r.sent to bytes) r) answer
-sent-line before v link taken after moments sent moment to bytes r answer at wrote =
-    written before v link taken after moments sent (line_of (record { moment = moment; what = kinds.Sent r.sent to bytes })) r answer at
-    (subst (λ (k : ℕ). WritesLine taken after (line_of (record { moment = moment; what = kinds.Sent k to bytes })) answer) at.sent wrote)
+sent-line before v link taken after moments sent moment to bytes old r answer at wrote other =
+    written-with before v link taken after moments sent old (line_of (record { moment = moment; what = kinds.Sent r.sent to bytes })) r answer at
+    (subst (λ (k : ℕ). WritesBehind taken after old (line_of (record { moment = moment; what = kinds.Sent k to bytes })) answer) at.sent wrote) other
 
 -- the line broke off
 pub unsent : (before : Before) (w : Standing) (moment to : ℕ) (bytes : List ℕ) (r : ServeState) (e : ServeFault)
@@ -42,18 +45,20 @@ went-out before w moment to bytes r works at =
     let r1 = hands_over to bytes (writes_event moment (kinds.Sent r.sent to bytes) r) in
     subst (λ (b : Bool). IsAt before w (cond b (writes_event moment (kinds.Lost r.sent) r1) r1)) works at
 
--- it is lost, and that is written
-pub got-lost : (before : Before) (v : Kept) (link : Option LinkState) (taken after : Option (List ℕ)) (moments : List Moment) (sent number moment to : ℕ) (bytes : List ℕ) (r : ServeState)
-    (answer : Result (Unit {0}) ServeFault) → true ≡ fails_next r.link → number ≡ r.sent
+-- it is lost, and that is gathered
+pub got-lost : (before : Before) (v : Kept) (link : Option LinkState) (taken after : Option (List ℕ)) (moments : List Moment) (sent number moment to : ℕ) (bytes old lines : List ℕ) (r : ServeState)
+    (answer : Result (Unit {0}) ServeFault) → true ≡ fails_next r.link → number ≡ r.sent → old ≡ []
     → IsAt before (standing v link taken moments sent) (hands_over to bytes (writes_event moment (kinds.Sent r.sent to bytes) r))
-    → WritesLine taken after (line_of (record { moment = moment; what = kinds.Lost number })) answer
-    → Tells before (standing v link after moments sent) (sends_one moment to bytes r) answer
-got-lost before v link taken after moments sent number moment to bytes r answer fails is at wrote =
+    → GathersLine taken after old lines (line_of (record { moment = moment; what = kinds.Lost number })) answer → IfErr answer (λ e. e ≢ faults.StoreFault)
+    → TellsBut before (standing v link after moments sent) lines (sends_one moment to bytes r) answer
+got-lost before v link taken after moments sent number moment to bytes old lines r answer fails is none at gathers other =
     let r1 = hands_over to bytes (writes_event moment (kinds.Sent r.sent to bytes) r) in
     let line = line_of (record { moment = moment; what = kinds.Lost r.sent }) in
-    let told = written before v link taken after moments sent line r1 answer at
-    (subst (λ (k : ℕ). WritesLine taken after (line_of (record { moment = moment; what = kinds.Lost k })) answer) is wrote) in
-    subst (λ (b : Bool). Tells before (standing v link after moments sent) (cond b (writes line r1) r1) answer) fails told
+    let w = standing v link taken moments sent in
+    let told = gathered before v link taken after moments sent old lines line r1 answer
+    (but-none before w old r1 none at)
+    (subst (λ (k : ℕ). GathersLine taken after old lines (line_of (record { moment = moment; what = kinds.Lost k })) answer) is gathers) other in
+    subst (λ (b : Bool). TellsBut before (standing v link after moments sent) lines (cond b (writes line r1) r1) answer) fails told
 
 -- ---- one event
 
@@ -65,25 +70,25 @@ pub tells-writes : (e : journal.Event) (r : ServeState) → datagram_in e.what �
 unfolding tells
 tells-writes e r is = ap (λ (x : Option (ℕ × List ℕ)). tells_what e.moment e.what x r) is
 
-pub told-as : (before : Before) (w : Standing) (r r1 : ServeState) (answer : Result (Unit {0}) ServeFault) → r1 ≡ r → Tells before w r answer → Tells before w r1 answer
-told-as before w r r1 answer is h = subst (λ (x : ServeState). Tells before w x answer) (sym is) h
+pub told-as : (before : Before) (w : Standing) (lines : List ℕ) (r r1 : ServeState) (answer : Result (Unit {0}) ServeFault) → r1 ≡ r → TellsBut before w lines r answer → TellsBut before w lines r1 answer
+told-as before w lines r r1 answer is h = subst (λ (x : ServeState). TellsBut before w lines x answer) (sym is) h
 
 -- ---- events one after another
 
--- These events were reported.
-pub record HasTold (v : Kept) (events : List journal.Event) (link later : Option LinkState) (taken after : Option (List ℕ)) (sent sent1 : ℕ) : Type 0 where
-  pub tells : (before : Before) (moments : List Moment) (r : ServeState) → IsAt before (standing v link taken moments sent) r → IsAt before (standing v later after moments sent1) (tells_all events r)
+-- These events were reported, but for the lines that are gathered.
+pub record HasTold (v : Kept) (events : List journal.Event) (link later : Option LinkState) (taken after : Option (List ℕ)) (sent sent1 : ℕ) (lines : List ℕ) : Type 0 where
+  pub tells : (before : Before) (moments : List Moment) (r : ServeState) → IsAt before (standing v link taken moments sent) r → IsAtBut before (standing v later after moments sent1) lines (tells_all events r)
   pub extends : Extends taken after link later
 
-pub told-none : (v : Kept) (link : Option LinkState) (taken : Option (List ℕ)) (sent : ℕ) → HasTold v [] link link taken taken sent sent
-told-none v link taken sent = record { tells = λ before moments r at. at; extends = extends-refl taken link }
+pub told-none : (v : Kept) (link : Option LinkState) (taken : Option (List ℕ)) (sent : ℕ) (lines : List ℕ) → lines ≡ [] → HasTold v [] link link taken taken sent sent lines
+told-none v link taken sent lines none = record { tells = λ before moments r at. but-none before (standing v link taken moments sent) lines r none at; extends = extends-refl taken link }
 
-pub told-next : (v : Kept) (done more : List journal.Event) (e : journal.Event) (l1 l2 l3 : Option LinkState) (t1 t2 t3 : Option (List ℕ)) (n1 n2 n3 : ℕ) → HasTold v done l1 l2 t1 t2 n1 n2 → more ≡ done ++ e ∷ []
-    → ((before : Before) (moments : List Moment) (r : ServeState) → IsAt before (standing v l2 t2 moments n2) r → IsAt before (standing v l3 t3 moments n3) (tells r e))
-    → Extends t2 t3 l2 l3 → HasTold v more l1 l3 t1 t3 n1 n3
-told-next v done more e l1 l2 l3 t1 t2 t3 n1 n2 n3 h is next extends = record {
+pub told-next : (v : Kept) (done more : List journal.Event) (e : journal.Event) (l1 l2 l3 : Option LinkState) (t1 t2 t3 : Option (List ℕ)) (n1 n2 n3 : ℕ) (old lines : List ℕ) → HasTold v done l1 l2 t1 t2 n1 n2 old → more ≡ done ++ e ∷ []
+    → ((before : Before) (moments : List Moment) (r : ServeState) → IsAtBut before (standing v l2 t2 moments n2) old r → IsAtBut before (standing v l3 t3 moments n3) lines (tells r e))
+    → Extends t2 t3 l2 l3 → HasTold v more l1 l3 t1 t3 n1 n3 lines
+told-next v done more e l1 l2 l3 t1 t2 t3 n1 n2 n3 old lines h is next extends = record {
   tells = λ before moments r at.
-      subst (λ (x : ServeState). IsAt before (standing v l3 t3 moments n3) x) (sym (ap (λ (es : List journal.Event). tells_all es r) is ∙ tells_all-append done (e ∷ []) r))
+      subst (λ (x : ServeState). IsAtBut before (standing v l3 t3 moments n3) lines x) (sym (ap (λ (es : List journal.Event). tells_all es r) is ∙ tells_all-append done (e ∷ []) r))
       (next before moments (tells_all done r) (h.tells before moments r at));
   extends = extends-trans t1 t2 t3 l1 l2 l3 h.extends extends;
 }

@@ -9,7 +9,7 @@ use Rattle.node_loop.specs.Turns.{Act, Calls}
 use Rattle.node_loop.specs.Courses.{ServeState, gives, served, tells_all}
 use Rattle.node_loop.specs.Writing.{Before, IsBeyond, IsWithin, Standing, Stands}
 use Rattle.node_loop.specs.Serving.{IsStopped, IsWhole, BreaksOff, IsStarved, KeepsHeld, Serves, starves}
-use Rattle.node_loop.proofs.CourseLemmas.{Grows, grows-refl, grows-served, served-append}
+use Rattle.node_loop.proofs.CourseLemmas.{Grows, grows-refl, grows-served, served-append, served-nil}
 use Rattle.node_loop.proofs.TellLemmas.{within-grows}
 
 -- acts before and behind
@@ -86,6 +86,11 @@ serves-within s before first acts last start w faults.StoreFault h = record {
 }
 serves-within s before first acts last start w faults.WriteFault h = either-within s before first acts last start w h
 serves-within s before first acts last start w faults.OutOfMemory h = either-within s before first acts last start w h
+
+-- and so did what ended among the first of them
+pub serves-first : (s : Setting) (before : Before) (acts last : List Act) (start : ServeState) (w : Standing) (e : ServeFault)
+    → Serves s before acts start w (Err e) → Serves s before (acts ++ last) start w (Err e)
+serves-first s before acts last start w e h = serves-within s before [] acts last start w e (subst (λ r. Serves s before acts r w (Err e)) (sym (served-nil s start)) h)
 
 -- the last of the acts
 pub serves-last : (s : Setting) (before : Before) (first acts : List Act) (start : ServeState) (w : Standing) (answer : Result (Unit {0}) ServeFault)

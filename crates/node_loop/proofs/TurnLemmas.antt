@@ -1,5 +1,5 @@
 -- How a turn is served, and the turns one after another.
-use Rattle.std.proofs.Common.{◌≡◌, ℕ, zero, suc, ◌+◌, ◌-◌, ◌<◌, ◌⊎◌, inl, inr, List, [], ◌∷◌, ◌++◌, Option, Some, Result, Ok, Err, length, take, drop, length-append, length-drop, length-take, refl, sym, ap, ◌∙◌, subst, append_assoc, append-nil, arith}
+use Rattle.std.proofs.Common.{◌≡◌, ℕ, Bool, true, false, zero, suc, ◌+◌, ◌-◌, ◌<◌, ◌⊎◌, inl, inr, List, [], ◌∷◌, ◌++◌, Option, Some, Result, Ok, Err, length, take, drop, length-append, length-drop, length-take, refl, sym, ap, ◌∙◌, subst, append_assoc, append-nil, arith}
 use Rattle.std.specs.Prelude.{OnOk}
 use Rattle.ports.specs.Disk.{Moment}
 use Rattle.ports.specs.Link.{LinkState, next_of, received_from}
@@ -10,19 +10,19 @@ use Rattle.node_core.proofs.SpendLemmas.{lives-same}
 use Rattle.ports.specs.declared.link.LinkAnswer.{LinkAnswer}
 use Rattle.std.proofs.KnownBytes.{Appends-nil}
 use Rattle.node_rules.specs.Nodes.{Setting, Node as RulesNode}
-use Rattle.node_rules.specs.Lives.{Ticks}
+use Rattle.node_rules.specs.Lives.{Ticks, Leaves}
 use Rattle.node_loop.specs.declared.fault.ServeFault.{ServeFault}
 use Rattle.node_loop.specs.declared.fault.ServeFault.TheVariants as faults
 use Rattle.journal.specs.declared.turn.Heard.{Heard}
 use Rattle.journal.specs.declared.turn.Heard.TheVariants as heard
 use Rattle.journal.specs.declared.turn.Turn.{Turn}
 use Rattle.journal.specs.Turns.{turn_text}
-use Rattle.node_loop.specs.Turns.{Act, Receives, Writes, Calls, Outlook, after_turn, life_acts, delivery_of, heard_of, ticks_in, ticks_of, ticks_owed, turn_acts, turn_in, turns_from}
+use Rattle.node_loop.specs.Turns.{Act, Receives, Writes, Calls, Outlook, after_turn, leaving_acts, life_acts, delivery_of, heard_of, ticks_in, ticks_of, ticks_owed, turn_acts, turn_in, turns_from}
 use Rattle.node_loop.specs.Courses.{ServeState, acted, served, served_from, with_feed, writes}
 use Rattle.node_loop.specs.Writing.{Before, Hears, IsWithin, Standing, Stands, Tells, before_all, standing}
 use Rattle.node_loop.specs.Serving.{Sees, Serves}
 use Rattle.node_loop.proofs.CourseLemmas.{Grows, coming-turn, front-refl, grows-served, served-append, served-cons, served-nil}
-use Rattle.node_loop.proofs.ServeLemmas.{breaks-off, serves-last, serves-within}
+use Rattle.node_loop.proofs.ServeLemmas.{breaks-off, serves-first, serves-last, serves-within}
 
 -- ---- ticks
 
@@ -272,10 +272,25 @@ pub begins-seeing : (n : RulesNode) (told : LinkState) (reading base : ℕ) (lat
     → Sees (first_outlook told.coming base readings) (served_from n told) reading later 0
 begins-seeing n told reading base later readings is left = record { heard = refl; reading = is; readings = left; made = refl }
 
-pub life-is : (millis turns last base : ℕ) (coming : List LinkAnswer) (readings : List ℕ) → base ≡ next_reading last readings
-    → turns_from millis base turns 1 (first_outlook coming base readings) ≡ life_acts millis turns coming last readings
+pub life-is : (millis turns : ℕ) (leave : Bool) (last base : ℕ) (coming : List LinkAnswer) (readings : List ℕ) → base ≡ next_reading last readings
+    → turns_from millis base turns 1 (first_outlook coming base readings) ++ leaving_acts leave ≡ life_acts millis turns leave coming last readings
 unfolding life_acts
-life-is millis turns last base coming readings is = ap (λ b. turns_from millis b turns 1 (first_outlook coming b readings)) is
+life-is millis turns leave last base coming readings is = ap (λ b. turns_from millis b turns 1 (first_outlook coming b readings) ++ leaving_acts leave) is
+
+-- a turn ended the life
+pub life-ends : (s : Setting) (before : Before) (turns : List Act) (leave : Bool) (start : ServeState) (w : Standing) (e : ServeFault) → Serves s before turns start w (Err e) → Serves s before (turns ++ leaving_acts leave) start w (Err e)
+life-ends s before turns leave start w e h = serves-first s before turns (leaving_acts leave) start w e h
+
+-- the node stays
+pub life-stays : (s : Setting) (before : Before) (turns : List Act) (leave : Bool) (start : ServeState) (w : Standing) → leave ≡ false → Stands s before w (served s turns start) → Stands s before w (served s (turns ++ leaving_acts leave) start)
+life-stays s before turns leave start w stays at =
+    subst (λ acts. Stands s before w (served s acts start)) (sym (ap (λ b. turns ++ leaving_acts b) stays ∙ append-nil turns)) at
+
+-- the node leaves
+pub life-leaves : (s : Setting) (before : Before) (turns : List Act) (leave : Bool) (start : ServeState) (w : Standing) (answer : Result (Unit {0}) ServeFault) → leave ≡ true → Serves s before (Calls Leaves ∷ []) (served s turns start) w answer
+    → Serves s before (turns ++ leaving_acts leave) start w answer
+life-leaves s before turns leave start w answer leaves h =
+    subst (λ b. Serves s before (turns ++ leaving_acts b) start w answer) (sym leaves) (serves-last s before turns (Calls Leaves ∷ []) start w answer h)
 
 -- what holds of the pace that is kept holds of the one that was asked for
 pub at-pace : (P : ℕ → ℕ → Type 0) (m m1 b b1 : ℕ) → m ≡ m1 → b ≡ b1 → P m b → P m1 b1

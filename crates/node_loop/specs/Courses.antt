@@ -12,7 +12,7 @@ use Rattle.signer.specs.Lives.{Spent}
 use Rattle.node_core.specs.Spending.{spent_told}
 use Rattle.node_rules.specs.Nodes.{Setting, Node, state_of, certificate_of}
 use Rattle.node_rules.specs.Calls.{Call}
-use Rattle.node_rules.specs.Lives.{Input, Delivers, Ticks, call_of}
+use Rattle.node_rules.specs.Lives.{Input, Delivers, Ticks, Leaves, call_of}
 use Rattle.node_loop.specs.Turns.{Act, Receives, Writes, Calls}
 
 -- The node, the link, how many datagrams were sent, which signatures were made, and what was written.
@@ -92,6 +92,7 @@ may_tick s n = nat_lt (state_of s n).moment 18446744073709551615
 -- A life that counted 2^64 - 1 ticks makes no more.
 abbrev pub called : Setting → Input → ServeState → ServeState
 called s (Delivers bytes) r = gives (call_of s r.node (Delivers bytes)) r
+called s Leaves r = gives (call_of s r.node Leaves) r
 called s Ticks r = if may_tick s r.node then gives (call_of s r.node Ticks) r else r
 
 abbrev pub acted : Setting → ServeState → Act → ServeState

@@ -2,5 +2,6 @@ pub mod Turns
 pub mod Courses
 pub mod Writing
 pub mod Lines
+pub mod Gathering
 pub mod Serving
 pub mod Expecting

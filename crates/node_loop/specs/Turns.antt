@@ -1,6 +1,6 @@
 -- The turns of a life: in each one receive and one reading of the clock, the turn's line, and the calls of the node that
 -- these bring. What they are depends on the answers of the link and the readings of the clock alone.
-use Rattle.std.specs.Prelude.{◌≡◌, ℕ, zero, suc, ◌+◌, ◌-◌, ◌/◌, ◌≤◌, ◌<◌, min, Bool, true, false, List, [], ◌∷◌, ◌++◌, filter, length, replicate, take, drop}
+use Rattle.std.specs.Prelude.{◌≡◌, ℕ, zero, suc, ◌+◌, ◌-◌, ◌/◌, ◌≤◌, ◌<◌, min, Bool, true, false, if◌then◌else◌, List, [], ◌∷◌, ◌++◌, filter, length, replicate, take, drop}
 use Rattle.ports.specs.declared.link.LinkAnswer.{LinkAnswer}
 use Rattle.ports.specs.declared.link.LinkAnswer.TheVariants as answers
 use Rattle.ports.specs.Link.{next_of}
@@ -10,7 +10,7 @@ use Rattle.journal.specs.declared.turn.Heard.{Heard}
 use Rattle.journal.specs.declared.turn.Heard.TheVariants as heard
 use Rattle.journal.specs.declared.turn.Turn.{Turn}
 use Rattle.journal.specs.Turns.{turn_text}
-use Rattle.node_rules.specs.Lives.{Input, Delivers, Ticks}
+use Rattle.node_rules.specs.Lives.{Input, Delivers, Ticks, Leaves}
 
 -- how many bytes a receive has room for: one more than the longest datagram has
 abbrev pub room : ℕ
@@ -91,11 +91,15 @@ turns_from millis base zero number o = []
 turns_from millis base (suc left) number o =
     turn_acts (turn_in millis base number o) ++ turns_from millis base left (number + 1) (after_turn millis base o)
 
+-- a node that is to leave does so behind its last turn
+abbrev pub leaving_acts : Bool → List Act
+leaving_acts leave = if leave then Calls Leaves ∷ [] else []
+
 -- The base is the first reading, and the turns are numbered from 1.
-unfoldable pub life_acts : ℕ → ℕ → List LinkAnswer → ℕ → List ℕ → List Act
-life_acts millis turns heard reading readings =
+unfoldable pub life_acts : ℕ → ℕ → Bool → List LinkAnswer → ℕ → List ℕ → List Act
+life_acts millis turns leave heard reading readings =
     let base = next_reading reading readings in
-    turns_from millis base turns 1 (record { heard = heard; reading = base; readings = drop 1 readings; made = 0 })
+    turns_from millis base turns 1 (record { heard = heard; reading = base; readings = drop 1 readings; made = 0 }) ++ leaving_acts leave
 
 -- ---- how many ticks a life makes
 
@@ -118,7 +122,7 @@ ticks_due millis turns last readings = (reading_behind (suc turns) last readings
 -- Where the clock never falls, a life of so many turns makes no more ticks than its readings give, and just as many where
 -- the last of its turns made fewer than the most.
 abbrev pub LivesFollowTheClock : Type 0
-LivesFollowTheClock = (millis turns : ℕ) (heard : List LinkAnswer) (last : ℕ) (readings : List ℕ) → 1 ≤ millis → NeverFalls last readings
-    → (ticks_among (life_acts millis turns heard last readings) ≤ ticks_due millis turns last readings)
-    × (ticks_among (life_acts millis (suc turns) heard last readings) < ticks_among (life_acts millis turns heard last readings) + most_ticks
-    → ticks_among (life_acts millis (suc turns) heard last readings) ≡ ticks_due millis (suc turns) last readings)
+LivesFollowTheClock = (millis turns : ℕ) (leave : Bool) (heard : List LinkAnswer) (last : ℕ) (readings : List ℕ) → 1 ≤ millis → NeverFalls last readings
+    → (ticks_among (life_acts millis turns leave heard last readings) ≤ ticks_due millis turns last readings)
+    × (ticks_among (life_acts millis (suc turns) leave heard last readings) < ticks_among (life_acts millis turns leave heard last readings) + most_ticks
+    → ticks_among (life_acts millis (suc turns) leave heard last readings) ≡ ticks_due millis (suc turns) last readings)

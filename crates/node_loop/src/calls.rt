@@ -15,18 +15,18 @@ ghost use Rattle.node_loop.specs.Serving.{Serves};
 
 use crate::expecting::expect_newly_certified;
 use crate::fault::{ServeFault, fault_of};
-use crate::telling::tell_all;
+use crate::telling::tell_each;
 use node_core::{Events, Node, NodeFault, Outbox};
 use ports::{Disk, Link, Sink};
 use std::alloc::Global;
 
-/// Writes what a call of the node reported, also where the call ended with a fault, and answers that fault.
+/// Writes what a call of the node reported, also where its disk failed, and answers the call's fault.
 fn settle<L: Link, O: Sink>(
-    alloc: Global,
     node: &Node,
     link: &mut L,
     out: &mut O,
     sent: &mut u64,
+    lines: &mut Vec<u8>,
     events: &Events,
     done: Result<(), NodeFault>,
 ) -> Result<(), ServeFault>
@@ -46,14 +46,14 @@ fn settle<L: Link, O: Sink>(
     ensures spent { WritesSpent (spent_told events.now) (O.state out.old).taken
         (O.state out.new).taken (L.state link.old).faults (L.state link.new).faults result }
 {
-    tell_all(alloc, node, link, out, sent, events.without_loss())?;
+    tell_each(node, link, out, sent, lines, events.without_loss())?;
     match done {
         Ok(()) => Ok(()),
         Err(fault) => Err(fault_of(fault)),
     }
 }
 
-/// Delivers the bytes. The link is told of each member that they certify.
+/// Delivers the bytes, with this room for lines. The link is told of each member that they certify.
 pub fn deliver<D: Disk, L: Link, O: Sink>(
     alloc: Global,
     node: &mut Node,
@@ -61,6 +61,7 @@ pub fn deliver<D: Disk, L: Link, O: Sink>(
     link: &mut L,
     out: &mut O,
     sent: &mut u64,
+    lines: &mut Vec<u8>,
     bytes: &[u8],
 ) -> Result<(), ServeFault>
     requires going { node.old.ended ≡ false }
@@ -87,7 +88,7 @@ pub fn deliver<D: Disk, L: Link, O: Sink>(
     let mut outbox = Outbox::new(alloc);
     let mut events = Events::new(alloc);
     let done = node.deliver(alloc, disk, bytes, &mut outbox, &mut events);
-    let settled = settle(alloc, node, link, out, sent, &events, done);
+    let settled = settle(node, link, out, sent, lines, &events, done);
     expect_newly_certified(link, events.as_slice());
     settled
 }
@@ -100,6 +101,7 @@ fn tick<D: Disk, L: Link, O: Sink>(
     link: &mut L,
     out: &mut O,
     sent: &mut u64,
+    lines: &mut Vec<u8>,
 ) -> Result<(), ServeFault>
     requires going { node.old.ended ≡ false }
     requires open { (O.state out.old).is_open ≡ true }
@@ -128,7 +130,7 @@ fn tick<D: Disk, L: Link, O: Sink>(
     let mut outbox = Outbox::new(alloc);
     let mut events = Events::new(alloc);
     let done = node.tick(alloc, disk, &mut outbox, &mut events);
-    settle(alloc, node, link, out, sent, &events, done)
+    settle(node, link, out, sent, lines, &events, done)
 }
 
 /// Makes so many ticks.
@@ -139,6 +141,7 @@ pub fn tick_times<D: Disk, L: Link, O: Sink>(
     link: &mut L,
     out: &mut O,
     sent: &mut u64,
+    lines: &mut Vec<u8>,
     ticks: u8,
 ) -> Result<(), ServeFault>
     requires going { node.old.ended ≡ false }
@@ -163,7 +166,44 @@ pub fn tick_times<D: Disk, L: Link, O: Sink>(
         (D.state disk.new).moments sent.new) result }
 {
     for _done in 0..ticks {
-        tick(alloc, node, disk, link, out, sent)?;
+        tick(alloc, node, disk, link, out, sent, lines)?;
     }
     Ok(())
+}
+
+/// Leaves.
+pub fn leave<D: Disk, L: Link, O: Sink>(
+    alloc: Global,
+    node: &mut Node,
+    disk: &mut D,
+    link: &mut L,
+    out: &mut O,
+    sent: &mut u64,
+    lines: &mut Vec<u8>,
+) -> Result<(), ServeFault>
+    requires going { node.old.ended ≡ false }
+    requires open { (O.state out.old).is_open ≡ true }
+    ensures open { (O.state out.new).is_open ≡ is_open_after result }
+    ensures going { OnOk result (node.new.ended ≡ false) }
+    ensures faults { (O.state out.new).faults
+        ≡ counted (is_write_fault result) (O.state out.old).faults }
+    ensures no_disk_fault { OnOk result ((D.state disk.new).faults ≡ (D.state disk.old).faults) }
+    ensures store { IfErr result (λ e. e ≡ ServeFault.StoreFault
+        → Rose (D.state disk.old).faults (D.state disk.new).faults) }
+    ensures closed { OnOk result (node.new.signer.closed ≡ node.old.signer.closed) }
+    ensures spends { GoesOn node.old.signer node.new.signer
+        (D.state disk.old).moments (D.state disk.new).moments
+        (O.state out.old).taken (O.state out.new).taken
+        (L.state link.old).faults (L.state link.new).faults result }
+    ensures serves { (s : Setting) (before : Before) (r : ServeState)
+        → Stands s before (standing node.old (L.state link.old).contents (O.state out.old).taken
+        (D.state disk.old).moments sent.old) r
+        → Serves s before (Calls lives.Leaves ∷ []) r
+        (standing node.new (L.state link.new).contents (O.state out.new).taken
+        (D.state disk.new).moments sent.new) result }
+{
+    let mut outbox = Outbox::new(alloc);
+    let mut events = Events::new(alloc);
+    let done = node.leave(alloc, disk, &mut outbox, &mut events);
+    settle(node, link, out, sent, lines, &events, done)
 }

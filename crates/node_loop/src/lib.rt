@@ -23,7 +23,7 @@ pub fn ticks_follow_the_clock()
 {}
 
 /// In so many turns a life makes no more ticks than its clock gives: one for each `millis` milliseconds from the base to the
-/// last reading. It makes just as many, unless its last turn made 64.
+/// last reading. It makes just as many, unless its last turn made 64. Whether it leaves behind them changes nothing of that.
 pub fn lives_follow_the_clock()
     ensures { LivesFollowTheClock }
 {}

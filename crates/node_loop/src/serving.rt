@@ -11,6 +11,7 @@ ghost use Rattle.node_loop.specs.Lines.{GoesOn};
 ghost use Rattle.node_loop.specs.Writing.{before_all, is_open_after, is_write_fault, standing};
 ghost use Rattle.node_loop.specs.Serving.{Serves};
 
+use crate::calls;
 use crate::expecting::expect_certified;
 use crate::fault::ServeFault;
 use crate::turns::{Progress, turn};
@@ -23,12 +24,14 @@ const ROOM: usize = 32_769;
 
 /// Runs a node for so many turns, and writes the journal of its life. In each turn it hears the link once and reads the
 /// clock once, writes the turn's line, delivers what was got, and makes the ticks that are owed: one for each `millis`
-/// milliseconds since the call began, of which a turn makes 64 at the most and leaves the rest to the next.
+/// milliseconds since the call began, of which a turn makes 64 at the most and leaves the rest to the next. Where it is to
+/// leave, it does so behind the last turn, once.
 ///
-/// What the node reports is written, line by line. A datagram has the number of those sent before it in this call: it is
-/// given to the link once its line is written, for the port in its addressee's certificate. A send that fails is followed
-/// by the line `lost`, and a receive that fails is the turn's word `failed`: neither ends the loop. The link is told from
-/// which port each certified member sends, those whose certificates are accepted in a turn among them.
+/// What the node reports is written: the lines up to and with that of a datagram in one piece, and those behind the last in
+/// one. A datagram has the number of those sent before it in this call: it is given to the link once its line is written,
+/// for the port in its addressee's certificate. A send that fails is followed by the line `lost`, and a receive that fails is
+/// the turn's word `failed`: neither ends the loop. The link is told from which port each certified member sends, those
+/// whose certificates are accepted in a turn among them.
 ///
 /// Where the disk fails in a call of the node, what that reported until then is still written and sent, and the answer is
 /// `StoreFault`. `WriteFault` comes where a write failed. The node is over behind a `StoreFault`, and where memory was
@@ -42,6 +45,7 @@ pub fn serve<D: Disk, L: Link, C: Clock, O: Sink>(
     out: &mut O,
     millis: u32,
     turns: u32,
+    leave: bool,
 ) -> Result<(), ServeFault>
     requires going { node.old.ended ≡ false }
     requires open { (O.state out.old).is_open ≡ true }
@@ -62,7 +66,7 @@ pub fn serve<D: Disk, L: Link, C: Clock, O: Sink>(
         → IsNode s node.old n → (L.state link.old).contents ≡ Some link_told
         → (C.state clock.old).coming ≡ Some readings
         → (sent : ℕ) × Serves s (before_all (O.state out.old).taken node.old.signer
-        (D.state disk.old).moments) (life_acts millis turns link_told.coming
+        (D.state disk.old).moments) (life_acts millis turns leave link_told.coming
         (C.state clock.old).reading readings) (served_from n link_told)
         (standing node.new (L.state link.new).contents (O.state out.new).taken
         (D.state disk.new).moments sent) result }
@@ -77,6 +81,7 @@ pub fn serve<D: Disk, L: Link, C: Clock, O: Sink>(
         made: 0,
         sent: 0,
     };
+    let mut lines = Vec::new(alloc);
     expect_certified(node, link);
     for done in 0..turns {
         turn(
@@ -88,8 +93,13 @@ pub fn serve<D: Disk, L: Link, C: Clock, O: Sink>(
             out,
             &mut progress,
             &mut buf,
+            &mut lines,
             done + 1,
         )?;
+    }
+    if leave {
+        let sent = &mut progress.sent;
+        return calls::leave(alloc, node, disk, link, out, sent, &mut lines);
     }
     Ok(())
 }

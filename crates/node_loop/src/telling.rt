@@ -1,20 +1,22 @@
-//! What a call reported is written, line by line, and each of its datagrams is sent behind its line.
+//! What a call reported is written, and each of its datagrams is sent behind its line. Lines up to and with that of a datagram
+//! are written in one piece.
 
-ghost use Rattle.std.specs.Prelude.{◌≡◌, ◌≢◌, true, All, List, [], Some, None, MatchOption, IfErr, IfOk, unwrap_or};
+ghost use Rattle.std.specs.Prelude.{◌≡◌, ◌≢◌, ◌++◌, ℕ, true, All, List, Option, Some, None, MatchOption, IfErr, unwrap_or};
 ghost use Rattle.std.specs.Option.{option_map};
 ghost use Rattle.ports.specs.Count.{counted};
 ghost use Rattle.ports.specs.Disk.{Moment};
 ghost use Rattle.node_core.specs.Spending.{spent_by, spent_told};
 ghost use Rattle.node_core.specs.Told.{IsNoLoss};
+ghost use Rattle.signer.specs.Lives.{Spent};
 ghost use Rattle.validate.specs.Certified.{certificate_of as kept_certificate};
 ghost use Rattle.journal.specs.declared.event.What.TheVariants as kinds;
-ghost use Rattle.journal.specs.Texts.{event_text};
 ghost use Rattle.node_loop.specs.Courses.{ServeState, datagram_in, line_of, sends_one, tells, tells_all};
 ghost use Rattle.node_loop.specs.Lines.{WritesSpent};
-ghost use Rattle.node_loop.specs.Writing.{Before, Extends, HandsOver, IsAt, IsBehindLine, Tells, WritesLine, is_lost, is_open_after, is_write_fault, standing};
+ghost use Rattle.node_loop.specs.Gathering.{IsAtBut, OwesSpent, SpentBut, TellsBut};
+ghost use Rattle.node_loop.specs.Writing.{Before, Extends, HandsOver, IsAt, IsBehindLine, Tells, is_lost, is_open_after, is_write_fault, standing};
 
 use crate::fault::ServeFault;
-use crate::writing::{write_line, write_told};
+use crate::writing::{gather, write_gathered, write_with_sent};
 use ff_ids::MemberId;
 use fields::{Bytes, NoMemory};
 use journal::{Event, What};
@@ -55,53 +57,14 @@ fn hand_over<L: Link>(
     }
 }
 
-/// The text of the event that the datagram of this number went to the member.
-fn sent_text(
-    alloc: Global,
-    moment: u64,
-    number: u64,
-    to: MemberId,
-    bytes: &[u8],
-) -> Result<Vec<u8>, NoMemory>
-    ensures { IfOk result (λ text. text.items
-        ≡ event_text (record { moment = moment; what = kinds.Sent number to bytes.now })) }
-{
-    let mut text = Vec::new(alloc);
-    journal::write_sent(moment, number, to, bytes, &mut text)?;
-    Ok(text)
-}
-
-/// Writes that the datagram of this number went to the member.
-fn write_sent<O: Sink>(
-    alloc: Global,
-    out: &mut O,
-    moment: u64,
-    number: u64,
-    to: MemberId,
-    bytes: &[u8],
-) -> Result<(), ServeFault>
-    requires open { (O.state out.old).is_open ≡ true }
-    ensures going { (O.state out.new).is_open ≡ is_open_after result }
-    ensures faults { (O.state out.new).faults
-        ≡ counted (is_write_fault result) (O.state out.old).faults }
-    ensures cause { IfErr result (λ e. e ≢ ServeFault.StoreFault) }
-    ensures wrote { WritesLine (O.state out.old).taken (O.state out.new).taken
-        (line_of (record { moment = moment; what = kinds.Sent number to bytes.now })) result }
-{
-    match sent_text(alloc, moment, number, to, bytes) {
-        Ok(text) => write_line(out, text),
-        Err(NoMemory) => Err(ServeFault::OutOfMemory),
-    }
-}
-
-/// Writes the line of a datagram, which has the number of those sent before it, and sends it; where that fails, it
-/// writes that the datagram is lost.
+/// Writes the line of a datagram, which has the number of those sent before it, and with it what was gathered. Then it sends
+/// the datagram; where that fails, it gathers that the datagram is lost.
 fn send_one<L: Link, O: Sink>(
-    alloc: Global,
     node: &Node,
     link: &mut L,
     out: &mut O,
     sent: &mut u64,
+    lines: &mut Vec<u8>,
     moment: u64,
     to: MemberId,
     bytes: &[u8],
@@ -112,27 +75,30 @@ fn send_one<L: Link, O: Sink>(
         ≡ counted (is_write_fault result) (O.state out.old).faults }
     ensures cause { IfErr result (λ e. e ≢ ServeFault.StoreFault) }
     ensures tells { (before : Before) (moments : List Moment) (r : ServeState)
-        → IsAt before (standing node.now (L.state link.old).contents (O.state out.old).taken moments
-        sent.old) r
-        → Tells before (standing node.now (L.state link.new).contents (O.state out.new).taken
-        moments sent.new) (sends_one moment to bytes.now r) result }
-    ensures behind { IsBehindLine
-        (line_of (record { moment = moment; what = kinds.Sent sent.old to bytes.now }))
+        → IsAtBut before (standing node.now (L.state link.old).contents (O.state out.old).taken
+        moments sent.old) lines.old.items r
+        → TellsBut before (standing node.now (L.state link.new).contents (O.state out.new).taken
+        moments sent.new) lines.new.items (sends_one moment to bytes.now r) result }
+    ensures behind { IsBehindLine (lines.old.items
+        ++ line_of (record { moment = moment; what = kinds.Sent sent.old to bytes.now }))
         (O.state out.old).taken (O.state out.new).taken
         (L.state link.old).contents (L.state link.new).contents }
     ensures extends { Extends (O.state out.old).taken (O.state out.new).taken
         (L.state link.old).contents (L.state link.new).contents }
-    ensures spent { WritesSpent [] (O.state out.old).taken
-        (O.state out.new).taken (L.state link.old).faults (L.state link.new).faults result }
+    ensures spent { (spent : List Spent) (before : Option (List ℕ)) (count : ℕ)
+        → OwesSpent spent before (O.state out.old).taken lines.old.items count
+        (L.state link.old).faults
+        → SpentBut spent before (O.state out.new).taken lines.new.items count
+        (L.state link.new).faults result }
 {
     let number = *sent;
-    write_sent(alloc, out, moment, number, to, bytes)?;
+    write_with_sent(out, lines, moment, number, to, bytes)?;
     match hand_over(node, link, to, bytes) {
         Ok(lost) => {
             *sent = number.saturating_add(1);
             if lost {
                 let what = What::Lost { number };
-                return write_told(alloc, out, &Event { moment, what });
+                return gather(out, lines, &Event { moment, what });
             }
             Ok(())
         }
@@ -140,13 +106,13 @@ fn send_one<L: Link, O: Sink>(
     }
 }
 
-/// Writes what happened, and sends the datagram where it is that one was sent.
+/// Gathers what happened, or sends the datagram where it is that one was sent.
 fn tell<L: Link, O: Sink>(
-    alloc: Global,
     node: &Node,
     link: &mut L,
     out: &mut O,
     sent: &mut u64,
+    lines: &mut Vec<u8>,
     event: &Event,
 ) -> Result<(), ServeFault>
     requires open { (O.state out.old).is_open ≡ true }
@@ -156,32 +122,69 @@ fn tell<L: Link, O: Sink>(
         ≡ counted (is_write_fault result) (O.state out.old).faults }
     ensures cause { IfErr result (λ e. e ≢ ServeFault.StoreFault) }
     ensures tells { (before : Before) (moments : List Moment) (r : ServeState)
-        → IsAt before (standing node.now (L.state link.old).contents (O.state out.old).taken moments
-        sent.old) r
-        → Tells before (standing node.now (L.state link.new).contents (O.state out.new).taken
-        moments sent.new) (tells r event.now) result }
+        → IsAtBut before (standing node.now (L.state link.old).contents (O.state out.old).taken
+        moments sent.old) lines.old.items r
+        → TellsBut before (standing node.now (L.state link.new).contents (O.state out.new).taken
+        moments sent.new) lines.new.items (tells r event.now) result }
     ensures extends { Extends (O.state out.old).taken (O.state out.new).taken
         (L.state link.old).contents (L.state link.new).contents }
-    ensures spent { WritesSpent (spent_by event.now.what) (O.state out.old).taken
-        (O.state out.new).taken (L.state link.old).faults (L.state link.new).faults result }
+    ensures spent { (spent : List Spent) (before : Option (List ℕ)) (count : ℕ)
+        → OwesSpent spent before (O.state out.old).taken lines.old.items count
+        (L.state link.old).faults
+        → SpentBut (spent ++ spent_by event.now.what) before (O.state out.new).taken
+        lines.new.items count (L.state link.new).faults result }
 {
     match datagram_in(&event.what) {
         Some(datagram) => send_one(
-            alloc,
             node,
             link,
             out,
             sent,
+            lines,
             event.moment,
             datagram.0,
             datagram.1.as_slice(),
         ),
-        None => write_told(alloc, out, event),
+        None => gather(out, lines, event),
     }
 }
 
+/// Writes what happened, event after event, and sends each datagram behind its line. The lines up to and with that of a
+/// datagram are one write, and so are those behind the last. They are gathered in this room, whatever it holds.
+pub fn tell_each<L: Link, O: Sink>(
+    node: &Node,
+    link: &mut L,
+    out: &mut O,
+    sent: &mut u64,
+    lines: &mut Vec<u8>,
+    events: &[Event],
+) -> Result<(), ServeFault>
+    requires open { (O.state out.old).is_open ≡ true }
+    requires no_loss { All IsNoLoss events.now }
+    ensures going { (O.state out.new).is_open ≡ is_open_after result }
+    ensures faults { (O.state out.new).faults
+        ≡ counted (is_write_fault result) (O.state out.old).faults }
+    ensures cause { IfErr result (λ e. e ≢ ServeFault.StoreFault) }
+    ensures tells { (before : Before) (moments : List Moment) (r : ServeState)
+        → IsAt before (standing node.now (L.state link.old).contents (O.state out.old).taken moments
+        sent.old) r
+        → Tells before (standing node.now (L.state link.new).contents (O.state out.new).taken
+        moments sent.new) (tells_all events.now r) result }
+    ensures extends { Extends (O.state out.old).taken (O.state out.new).taken
+        (L.state link.old).contents (L.state link.new).contents }
+    ensures spent { WritesSpent (spent_told events.now) (O.state out.old).taken
+        (O.state out.new).taken (L.state link.old).faults (L.state link.new).faults result }
+{
+    lines.clear();
+    for event in events {
+        tell(node, link, out, sent, lines, event)?;
+    }
+    write_gathered(out, lines)
+}
+
 /// Writes what happened, event after event, and sends each datagram behind its line. Where a send fails it writes that the
-/// datagram is lost: none of the events says so.
+/// datagram is lost: none of the events says so. The lines up to and with that of a datagram are one write, and so are those
+/// behind the last.
 pub fn tell_all<L: Link, O: Sink>(
     alloc: Global,
     node: &Node,
@@ -206,8 +209,6 @@ pub fn tell_all<L: Link, O: Sink>(
     ensures spent { WritesSpent (spent_told events.now) (O.state out.old).taken
         (O.state out.new).taken (L.state link.old).faults (L.state link.new).faults result }
 {
-    for event in events {
-        tell(alloc, node, link, out, sent, event)?;
-    }
-    Ok(())
+    let mut lines = Vec::new(alloc);
+    tell_each(node, link, out, sent, &mut lines, events)
 }

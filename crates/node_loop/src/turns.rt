@@ -57,7 +57,7 @@ fn hear<L: Link>(alloc: Global, link: &mut L, buf: &mut [u8]) -> Result<Heard, N
     ensures hears { Hears (L.state link.old).contents (L.state link.new).contents result }
 {
     match link.receive(buf) {
-        Received::Got(count) => match buf[..count].to_vec(alloc) {
+        Received::Got(count) => match Vec::from_slice(alloc, &buf[..count]) {
             Ok(bytes) => Ok(Heard::Got(Bytes::from_vec(bytes))),
             Err(_) => Err(NoMemory),
         },
@@ -66,8 +66,8 @@ fn hear<L: Link>(alloc: Global, link: &mut L, buf: &mut [u8]) -> Result<Heard, N
     }
 }
 
-/// Writes the turn's line.
-fn write_turn_line<O: Sink>(alloc: Global, out: &mut O, turn: &Turn) -> Result<(), ServeFault>
+/// Writes the turn's line, which is made in this room.
+fn write_turn_line<O: Sink>(out: &mut O, lines: &mut Vec<u8>, turn: &Turn) -> Result<(), ServeFault>
     requires open { (O.state out.old).is_open ≡ true }
     ensures going { (O.state out.new).is_open ≡ is_open_after result }
     ensures faults { (O.state out.new).faults
@@ -76,9 +76,9 @@ fn write_turn_line<O: Sink>(alloc: Global, out: &mut O, turn: &Turn) -> Result<(
     ensures wrote { WritesLine (O.state out.old).taken (O.state out.new).taken
         (with_feed (turn_text turn.now)) result }
 {
-    let mut text = Vec::new(alloc);
-    match write_turn(turn, &mut text) {
-        Ok(()) => write_line(out, text),
+    lines.clear();
+    match write_turn(turn, lines) {
+        Ok(()) => write_line(out, lines),
         Err(NoMemory) => Err(ServeFault::OutOfMemory),
     }
 }
@@ -91,6 +91,7 @@ fn deliver_heard<D: Disk, L: Link, O: Sink>(
     link: &mut L,
     out: &mut O,
     sent: &mut u64,
+    lines: &mut Vec<u8>,
     heard: &Heard,
 ) -> Result<(), ServeFault>
     requires going { node.old.ended ≡ false }
@@ -115,7 +116,7 @@ fn deliver_heard<D: Disk, L: Link, O: Sink>(
         (D.state disk.new).moments sent.new) result }
 {
     match heard {
-        Heard::Got(bytes) => deliver(alloc, node, disk, link, out, sent, bytes.as_slice()),
+        Heard::Got(bytes) => deliver(alloc, node, disk, link, out, sent, lines, bytes.as_slice()),
         Heard::Nothing | Heard::Failed => Ok(()),
     }
 }
@@ -131,6 +132,7 @@ pub fn turn<D: Disk, L: Link, C: Clock, O: Sink>(
     out: &mut O,
     progress: &mut Progress,
     buf: &mut [u8],
+    lines: &mut Vec<u8>,
     number: u32,
 ) -> Result<(), ServeFault>
     requires going { node.old.ended ≡ false }
@@ -175,8 +177,8 @@ pub fn turn<D: Disk, L: Link, C: Clock, O: Sink>(
         heard,
         ticks,
     };
-    write_turn_line(alloc, out, &turn)?;
+    write_turn_line(out, lines, &turn)?;
     let sent = &mut progress.sent;
-    deliver_heard(alloc, node, disk, link, out, sent, &turn.heard)?;
-    tick_times(alloc, node, disk, link, out, sent, turn.ticks)
+    deliver_heard(alloc, node, disk, link, out, sent, lines, &turn.heard)?;
+    tick_times(alloc, node, disk, link, out, sent, lines, turn.ticks)
 }

@@ -18,11 +18,11 @@ pub returns-in-Ok-clause-store_fault : goal.returns-in-Ok-clause-store_fault
 returns-in-Ok-clause-store_fault g c = rose-behind c.live-ended.result _ _ _ c.live-ended.ensures.store_fault c.in-Ok.ensures.begins.1.faults
 
 pub returns-in-Ok-clause-runs : goal.returns-in-Ok-clause-runs
-returns-in-Ok-clause-runs g c = λ feed link_is coming_is reading_is turns_is.
+returns-in-Ok-clause-runs g c = λ feed link_is coming_is reading_is stay_is.
     lived-run c.args.member feed c.in-Ok.ensures.begins.0 c.in-Ok.node c.begin.new.events
     (environment (g.O.Sink.state c.args.out.now).taken (g.L.Link.state c.args.link.now).contents (g.D.Disk.state c.args.disk.now))
     (environment (g.O.Sink.state c.live-ended.new.out).taken (g.L.Link.state c.live-ended.new.link).contents (g.D.Disk.state c.live-ended.new.disk))
-    (g.D.Disk.state c.begin.new.disk) c.live-ended.result (g.C.Clock.state c.args.clock.now).reading c.args.turns reading_is turns_is c.in-Ok.ensures.begins.1
+    (g.D.Disk.state c.begin.new.disk) c.live-ended.result (g.C.Clock.state c.args.clock.now).reading c.args.stay reading_is stay_is c.in-Ok.ensures.begins.1
     (c.live-ended.ensures.lives (setting_for c.args.member) (start_of c.args.member c.in-Ok.ensures.begins.0).node (bound_for c.args.member feed.link) feed.readings c.in-Ok.ensures.begins.1.is link_is coming_is)
 
 pub returns-in-Ok-clause-spends : goal.returns-in-Ok-clause-spends
@@ -45,7 +45,7 @@ pub returns-clause-bound : goal.returns-clause-bound
 returns-clause-bound g c = begins-bound c.args.member _ _ c.begin.new.events c.in-Err.halt c.in-Err.ensures.begins
 
 pub returns-clause-runs : goal.returns-clause-runs
-returns-clause-runs g c = λ feed link_is coming_is reading_is turns_is.
+returns-clause-runs g c = λ feed link_is coming_is reading_is stay_is.
     not-begun c.args.member feed
     (environment (g.O.Sink.state c.args.out.now).taken (g.L.Link.state c.args.link.now).contents (g.D.Disk.state c.args.disk.now))
     (g.D.Disk.state c.begin.new.disk) c.begin.new.events c.in-Err.halt c.in-Err.ensures.begins

@@ -6,18 +6,18 @@ use Rattle.node_command.specs.Spendings.{SpendsBehind}
 use Rattle.node_command.proofs.running.bind_and_live.Goals as goal
 
 pub returns-in-Done-clause-runs : goal.returns-in-Done-clause-runs
-returns-in-Done-clause-runs g c = λ feed link_is coming_is reading_is turns_is.
+returns-in-Done-clause-runs g c = λ feed link_is coming_is reading_is stay_is.
     let now = bound c.args.member feed.link c.port.result (g.L.Link.state c.args.link.now).contents (g.L.Link.state c.bind.new.self).contents link_is c.port.ensures c.in-Done.ensures.binds in
     run-behind c.args.member feed (g.O.Sink.state c.args.out.now).taken (g.L.Link.state c.args.link.now).contents (g.L.Link.state c.bind.new.self).contents
     (g.D.Disk.state c.args.disk.now) _ c.begin_and_live.result now
-    (c.begin_and_live.ensures.runs feed now coming_is reading_is turns_is)
+    (c.begin_and_live.ensures.runs feed now coming_is reading_is stay_is)
 
 pub returns-in-Failed-clause-runs : goal.returns-in-Failed-clause-runs
-returns-in-Failed-clause-runs g c = λ feed link_is coming_is reading_is turns_is.
+returns-in-Failed-clause-runs g c = λ feed link_is coming_is reading_is stay_is.
     unbound (g.O.Sink.state c.args.out.now).taken (g.L.Link.state c.args.link.now).contents (g.L.Link.state c.bind.new.self).contents (g.D.Disk.state c.args.disk.now) feed.link c.port.result link_is c.in-Failed.ensures.binds
 
 pub returns-in-OutOfMemory-clause-runs : goal.returns-in-OutOfMemory-clause-runs
-returns-in-OutOfMemory-clause-runs g c = λ feed link_is coming_is reading_is turns_is.
+returns-in-OutOfMemory-clause-runs g c = λ feed link_is coming_is reading_is stay_is.
     inl (unbound-starved (g.O.Sink.state c.args.out.now).taken (g.L.Link.state c.args.link.now).contents (g.L.Link.state c.bind.new.self).contents (g.D.Disk.state c.args.disk.now) feed.link c.port.result link_is c.in-OutOfMemory.ensures.binds)
 
 pub returns-in-Failed-clause-spends : goal.returns-in-Failed-clause-spends

@@ -29,20 +29,20 @@ returns-in-Err-clause-link_fault g c =
     subst (λ (h : NodeHalt). h ≡ halt.LinkFault → older ≡ next_count older) (sym c.from.ensures) (stop-unlinked c.in-Err.stop (older ≡ next_count older))
 
 pub returns-in-Err-clause-runs : goal.returns-in-Err-clause-runs
-returns-in-Err-clause-runs g c = λ feed link_is coming_is reading_is turns_is.
+returns-in-Err-clause-runs g c = λ feed link_is coming_is reading_is stay_is.
     rw c.from.ensures (unread feed _ _ _ _ c.in-Err.stop c.in-Err.ensures.unfinished refl refl)
 
 pub returns-in-Ok-member_of-clause-runs : goal.returns-in-Ok-member_of-clause-runs
-returns-in-Ok-member_of-clause-runs g c = λ feed link_is coming_is reading_is turns_is.
+returns-in-Ok-member_of-clause-runs g c = λ feed link_is coming_is reading_is stay_is.
     let m = c.in-Ok-member_of.member in
     let between = io (g.S.Source.state c.read_whole.new.input) (g.O.Sink.state c.read_whole.new.out) in
     went feed _ between _
     (environment (g.O.Sink.state c.args.out.now).taken (g.L.Link.state c.args.link.now).contents (g.D.Disk.state c.args.disk.now)) _ m c.bind_and_live.result
     (record { lines = c.in-Ok.lines.items; whole = c.in-Ok.ensures.whole; is = c.in-Ok-member_of.ensures.value; sound = c.in-Ok-member_of.ensures.sound }) refl refl
-    (c.bind_and_live.ensures.runs feed link_is coming_is reading_is turns_is)
+    (c.bind_and_live.ensures.runs feed link_is coming_is reading_is stay_is)
 
 pub returns-in-Err-member_of-clause-runs : goal.returns-in-Err-member_of-clause-runs
-returns-in-Err-member_of-clause-runs g c = λ feed link_is coming_is reading_is turns_is.
+returns-in-Err-member_of-clause-runs g c = λ feed link_is coming_is reading_is stay_is.
     inr (inl (record { lines = c.in-Ok.lines.items; whole = c.in-Ok.ensures.whole; link = refl; disk = refl }))
 
 pub returns-in-Err-clause-takes : goal.returns-in-Err-clause-takes

@@ -10,15 +10,15 @@ use Rattle.node_loop.proofs.calls.settle.Goals as goal
 
 pub returns-in-Err-clause-settles : goal.returns-in-Err-clause-settles
 returns-in-Err-clause-settles g c = λ before moments r at.
-    let w : Standing = standing c.args.node.now (g.L.Link.state c.tell_all.new.link).contents (g.O.Sink.state c.tell_all.new.out).taken moments c.tell_all.new.sent in
+    let w : Standing = standing c.args.node.now (g.L.Link.state c.tell_each.new.link).contents (g.O.Sink.state c.tell_each.new.out).taken moments c.tell_each.new.sent in
     settles-at before w (tells_all c.args.events.now r) (Err c.fault_of.result)
-    (subst (λ (es : List journal.Event). IsAt before w (tells_all es r)) c.without_loss.ensures.same (c.in_ok-tell_all.ensures.tells before moments r at))
+    (subst (λ (es : List journal.Event). IsAt before w (tells_all es r)) c.without_loss.ensures.same (c.in_ok-tell_each.ensures.tells before moments r at))
 
 pub returns-in-Err-clause-spent : goal.returns-in-Err-clause-spent
 returns-in-Err-clause-spent g c =
     let before = (g.O.Sink.state c.args.out.now).taken in
-    let after = (g.O.Sink.state c.tell_all.new.out).taken in
+    let after = (g.O.Sink.state c.tell_each.new.out).taken in
     let older = (g.L.Link.state c.args.link.now).faults in
-    let newer = (g.L.Link.state c.tell_all.new.link).faults in
+    let newer = (g.L.Link.state c.tell_each.new.link).faults in
     spent-behind (spent_told c.args.events.now) before after older newer (Err c.fault_of.result)
-    (subst (λ (es : List journal.Event). WritesSpent (spent_told es) before after older newer (Ok tt)) c.without_loss.ensures.same c.in_ok-tell_all.ensures.spent)
+    (subst (λ (es : List journal.Event). WritesSpent (spent_told es) before after older newer (Ok tt)) c.without_loss.ensures.same c.in_ok-tell_each.ensures.spent)

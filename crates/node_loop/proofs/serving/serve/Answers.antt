@@ -1,17 +1,17 @@
-use Rattle.std.proofs.Common.{◌≡◌, ◌+◌, ℕ, length, Ok, Err, subst, sym, ap, ◌∙◌, refl, arith}
+use Rattle.std.proofs.Common.{◌≡◌, ◌+◌, ℕ, List, length, Ok, Err, subst, sym, ap, ◌∙◌, refl, arith}
 use Rattle.std.specs.Prelude.{IfErr}
 use Rattle.ports.specs.Count.{Rose}
 use Rattle.ports.specs.Outside.{OfLink}
 use Rattle.node_loop.specs.declared.fault.ServeFault.{ServeFault}
 use Rattle.node_loop.specs.declared.fault.ServeFault.TheVariants as faults
-use Rattle.node_loop.specs.Turns.{Outlook, room, after_turn, life_acts, turn_acts, turn_in}
+use Rattle.node_loop.specs.Turns.{Act, Outlook, room, after_turn, life_acts, turn_acts, turn_in, turns_from}
 use Rattle.node_loop.specs.Courses.{ServeState, served, served_from}
 use Rattle.node_loop.specs.Serving.{Sees, Serves}
 use Rattle.node_loop.specs.Writing.{Before, Stands, Standing, before_all, standing}
 use Rattle.node_loop.proofs.LineLemmas.{goes-as, goes-from, goes-same, goes-trans}
 use Rattle.node_loop.proofs.SendLemmas.{thrown}
 use Rattle.node_loop.proofs.TellLemmas.{at-within}
-use Rattle.node_loop.proofs.TurnLemmas.{Turned, at-pace, base-read, begins-at, begins-seeing, first_outlook, length-kept, life-is, turned-ends, turned-first, turned-last, turned-next, unheard-turn}
+use Rattle.node_loop.proofs.TurnLemmas.{Turned, at-pace, base-read, begins-at, begins-seeing, first_outlook, length-kept, life-ends, life-is, life-leaves, life-stays, turned-ends, turned-first, turned-last, turned-next, unheard-turn}
 use Rattle.node_loop.proofs.serving.serve.Goals as goal
 
 pub returns-in_default-clause-spends : goal.returns-in_default-clause-spends
@@ -26,7 +26,7 @@ returns-in_default-clause-serves g c = λ s n link_told readings is link_is comi
     let start : ServeState = served_from n link_told in
     let w : Standing = standing c.args.node.now link taken moments 0 in (
       0,
-      unheard-turn s before w start (life_acts c.args.millis c.args.turns link_told.coming (g.C.Clock.state c.args.clock.now).reading readings)
+      unheard-turn s before w start (life_acts c.args.millis c.args.turns c.args.leave link_told.coming (g.C.Clock.state c.args.clock.now).reading readings)
           (at-within before w start (begins-at s c.args.node.now n link taken moments link_told is link_is).at),
     )
 
@@ -118,10 +118,11 @@ returns-in_err-turn-clause-serves g c = λ s n link_told readings is link_is com
     let e : ServeFault = c.in_err-turn.field-0.0 in
     let ended = at-pace (λ m b. Serves s before (turn_acts (turn_in m b (done + 1) t.outlook)) r w1 (Err e)) c.loop-done.progress.millis c.args.millis c.loop-done.progress.base base h.millis h.base
     (c.in_err-turn.ensures.serves s before r t.outlook t.at t.sees) in
-    let whole = turned-ends s before c.args.millis base c.args.turns done o start w w1 (g.C.Clock.state c.loop-done.clock).reading (g.C.Clock.state c.loop-done.clock).coming c.loop-done.progress.made e c.loop-done-test.true t ended in (
+    let whole = turned-ends s before c.args.millis base c.args.turns done o start w w1 (g.C.Clock.state c.loop-done.clock).reading (g.C.Clock.state c.loop-done.clock).coming c.loop-done.progress.made e c.loop-done-test.true t ended in
+    let turns : List Act = turns_from c.args.millis base c.args.turns 1 o in (
       c.turn.new.progress.sent,
-      subst (λ x. Serves s before (life_acts c.args.millis c.args.turns link_told.coming last readings) start w1 x) (sym (thrown c.from_residual.result e c.from_residual.ensures.1))
-          (subst (λ acts. Serves s before acts start w1 (Err e)) (life-is c.args.millis c.args.turns last base link_told.coming readings read.0) whole),
+      subst (λ x. Serves s before (life_acts c.args.millis c.args.turns c.args.leave link_told.coming last readings) start w1 x) (sym (thrown c.from_residual.result e c.from_residual.ensures.1))
+          (subst (λ acts. Serves s before acts start w1 (Err e)) (life-is c.args.millis c.args.turns c.args.leave last base link_told.coming readings read.0) (life-ends s before turns c.args.leave start w1 e whole)),
     )
 
 pub returns-clause-serves : goal.returns-clause-serves
@@ -144,7 +145,48 @@ returns-clause-serves g c = λ s n link_told readings is link_is coming_is.
     let t : Turned s before c.args.millis base c.args.turns c.loop-done.done o start w reading coming made =
     c.loop-done.invariant.turned s before o start (begins-at s c.args.node.now n link taken moments link_told is told) (begins-seeing n link_told (g.C.Clock.state c.now-base.new.self).reading base later readings c.now-base.ensures.kept read.1) in
     let all : c.loop-done.done ≡ c.args.turns = omega arith in
-    let last_turn = subst (λ k. Turned s before c.args.millis base c.args.turns k o start w reading coming made) all t in (
+    let last_turn = subst (λ k. Turned s before c.args.millis base c.args.turns k o start w reading coming made) all t in
+    let turns : List Act = turns_from c.args.millis base c.args.turns 1 o in
+    let behind = turned-last s before c.args.millis base c.args.turns o start w reading coming made last_turn in (
       c.loop-done.progress.sent,
-      subst (λ acts. Stands s before w (served s acts start)) (life-is c.args.millis c.args.turns last base link_told.coming readings read.0) (turned-last s before c.args.millis base c.args.turns o start w reading coming made last_turn),
+      subst (λ acts. Stands s before w (served s acts start)) (life-is c.args.millis c.args.turns c.args.leave last base link_told.coming readings read.0)
+          (life-stays s before turns c.args.leave start w c.if-leave.false behind),
+    )
+
+pub returns-then-leave-clause-store_fault : goal.returns-then-leave-clause-store_fault
+returns-then-leave-clause-store_fault g c =
+    let newer = (g.D.Disk.state c.leave.new.disk).faults in
+    subst (λ (k : ℕ). IfErr c.leave.result (λ e. e ≡ faults.StoreFault → Rose k newer)) c.loop-done.invariant.calm c.leave.ensures.store
+
+pub returns-then-leave-clause-spends : goal.returns-then-leave-clause-spends
+returns-then-leave-clause-spends g c =
+    goes-from _ _ _ _ _ _ _ _ _ c.leave.result (ap (λ (l : OfLink). l.faults) c.expect_certified.ensures.same) (goes-trans _ _ _ _ _ _ _ _ _ _ _ _ c.leave.result c.loop-done.invariant.goes c.leave.ensures.spends)
+
+pub returns-then-leave-clause-serves : goal.returns-then-leave-clause-serves
+returns-then-leave-clause-serves g c = λ s n link_told readings is link_is coming_is.
+    let base : ℕ = c.now-base.result in
+    let last = (g.C.Clock.state c.args.clock.now).reading in
+    let taken = (g.O.Sink.state c.args.out.now).taken in
+    let moments = (g.D.Disk.state c.args.disk.now).moments in
+    let link = (g.L.Link.state c.expect_certified.new.link).contents in
+    let told = ap (λ (l : OfLink). l.contents) c.expect_certified.ensures.same ∙ link_is in
+    let later = (g.C.Clock.state c.now-base.new.self).coming in
+    let read = base-read last (g.C.Clock.state c.args.clock.now).coming later readings base coming_is c.now-base.ensures.reads in
+    let before : Before = before_all taken c.args.node.now.signer moments in
+    let start : ServeState = served_from n link_told in
+    let o : Outlook = first_outlook link_told.coming base readings in
+    let w : Standing = standing c.loop-done.node (g.L.Link.state c.loop-done.link).contents (g.O.Sink.state c.loop-done.out).taken (g.D.Disk.state c.loop-done.disk).moments c.loop-done.progress.sent in
+    let reading = (g.C.Clock.state c.loop-done.clock).reading in
+    let coming = (g.C.Clock.state c.loop-done.clock).coming in
+    let made : ℕ = c.loop-done.progress.made in
+    let t : Turned s before c.args.millis base c.args.turns c.loop-done.done o start w reading coming made =
+    c.loop-done.invariant.turned s before o start (begins-at s c.args.node.now n link taken moments link_told is told) (begins-seeing n link_told (g.C.Clock.state c.now-base.new.self).reading base later readings c.now-base.ensures.kept read.1) in
+    let all : c.loop-done.done ≡ c.args.turns = omega arith in
+    let last_turn = subst (λ k. Turned s before c.args.millis base c.args.turns k o start w reading coming made) all t in
+    let turns : List Act = turns_from c.args.millis base c.args.turns 1 o in
+    let behind = turned-last s before c.args.millis base c.args.turns o start w reading coming made last_turn in
+    let w1 : Standing = standing c.leave.new.node (g.L.Link.state c.leave.new.link).contents (g.O.Sink.state c.leave.new.out).taken (g.D.Disk.state c.leave.new.disk).moments c.leave.new.sent in (
+      c.leave.new.sent,
+      subst (λ acts. Serves s before acts start w1 c.leave.result) (life-is c.args.millis c.args.turns c.args.leave last base link_told.coming readings read.0)
+          (life-leaves s before turns c.args.leave start w1 c.leave.result c.if-leave.true (c.leave.ensures.serves s before (served s turns start) behind)),
     )

@@ -1,0 +1,13 @@
+use Rattle.std.proofs.Common.{◌≡◌, true, take}
+use Rattle.node_loop.proofs.SendLemmas.{HasTold}
+use Rattle.node_core.specs.Spending.{spent_told}
+use Rattle.node_loop.specs.Gathering.{OwesSpent}
+use Rattle.node_loop.proofs.telling.tell_each.Given as goal
+
+abbrev pub invariant-loop-event : goal.invariant-loop-event
+invariant-loop-event g l = record {
+  writable : (g.O.Sink.state l.out).is_open ≡ true;
+  calm : (g.O.Sink.state l.out).faults ≡ (g.O.Sink.state l.initial.out).faults;
+  told : HasTold l.node (take l.event-index l.events) (g.L.Link.state l.initial.link).contents (g.L.Link.state l.link).contents (g.O.Sink.state l.initial.out).taken (g.O.Sink.state l.out).taken l.initial.sent l.sent l.lines.items;
+  spent : OwesSpent (spent_told (take l.event-index l.events)) (g.O.Sink.state l.initial.out).taken (g.O.Sink.state l.out).taken l.lines.items (g.L.Link.state l.initial.link).faults (g.L.Link.state l.link).faults;
+}
