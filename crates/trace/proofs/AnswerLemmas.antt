@@ -8,7 +8,7 @@ use Rattle.ff_ids.specs.declared.Fault.{Fault}
 use Rattle.ff_ids.specs.declared.Group.{Group}
 use Rattle.ff_ids.specs.declared.NoteBody.{NoteBody}
 use Rattle.ff_ids.specs.Faults.{accusation_fault, note_fault}
-use Rattle.ff_ids.specs.Lives.{IsAcceptedAt, after, opening, reports, state_at}
+use Rattle.ff_ids.specs.Lives.{IsAcceptedAt, IsNoteAcceptedAt, after, opening, reports, state_at}
 use Rattle.ff_ids.specs.Steps.{Accuses, Event, Joins, Notes, Stepped, Ticks, step}
 use Rattle.ff_ids.specs.Views.{State}
 use Rattle.ff_ids.specs.Texts.{fault_text}
@@ -16,7 +16,7 @@ use Rattle.life_events.specs.declared.event.Event as reported
 use Rattle.life_events.specs.declared.event.What.TheVariants as what
 use Rattle.life_events.specs.declared.verdict.Verdict.TheVariants as verdicts
 use Rattle.life_events.specs.Verdicts.{verdict_words}
-use Rattle.life_laws.specs.Removals.{ExpiresAt, IsNoteAcceptedAt, IsOlderThan}
+use Rattle.life_laws.specs.Removals.{ExpiresAt, IsOlderThan}
 use Rattle.life_laws.proofs.AnsweredLemmas.{none_accepted, none_expires}
 use Rattle.life_laws.proofs.Lists.{In, In-append_cases, In-from_Contains, Contains-from_In, In-from_map}
 use Rattle.schedule_direct.specs.declared.line.DirectLine.{DirectLine}

@@ -1,5 +1,5 @@
--- Each whole line of what was written that gives a removal is the report of a tick of a life, and rests on an accusation;
--- and each removal of a life is such a line.
+-- Each whole line of what was written that gives a removal is the report of an event of a life, of a leaving note or of a
+-- tick, resting on an accusation; and each removal of a life is such a line.
 use Rattle.std.proofs.Common.{◌≡◌, ℕ, zero, suc, ◌+◌, ◌-◌, ◌<◌, ◌⊎◌, inl, inr, true, not, eqb, append-nil, List, [], ◌∷◌, ◌++◌, length, map, take, drop, get_or, Some, None, refl, ap, sym, ◌∙◌, subst, append_assoc, arith, length-append}
 use Rattle.std.specs.Prelude.{codes, flat_map}
 use Rattle.std.specs.List.{AllByRecursion, concat, join_with_byte, slice_get}
@@ -152,8 +152,8 @@ event-in (t ∷ taken) e i =
     mapped (x ∷ events) e (inl same) = inl (ap event_line same)
     mapped (x ∷ events) e (inr i) = inr (mapped events e i)
 
--- each whole line of a front of what is written for lines that gives a removal is the report of a tick of a life, and
--- rests on an accusation
+-- each whole line of a front of what is written for lines that gives a removal is the report of an event of a life, and has
+-- its cause in it
 pub justified-written : (ls : List (List ℕ)) (written rest : List ℕ) → (replayed ls).output ≡ written ++ rest → IsJustified ls written
 justified-written ls written rest same moment m line =
     let w = walk_over ls in

@@ -1,9 +1,16 @@
--- A worked text, by computation: a member is accused, and removed at the timeout.
-use Rattle.std.proofs.Common.{◌≡◌, ℕ, List, [], ◌∷◌, ◌++◌, length, None, refl, lit<}
+-- Worked texts, by computation: a member is accused, and removed at the timeout; another leaves by a note.
+use Rattle.std.proofs.Common.{◌≡◌, ℕ, List, [], ◌∷◌, ◌++◌, length, map, drop, Option, Some, None, refl, lit<}
 use Rattle.std.specs.Prelude.{codes}
 use Rattle.ff_ids.specs.declared.AccBody.{AccBody}
+use Rattle.ff_ids.specs.declared.Fault.TheVariants as faults
 use Rattle.ff_ids.specs.Views.{all_numbers, in_view_by}
+use Rattle.life_events.specs.declared.event.Event as reported
+use Rattle.life_events.specs.declared.event.What.{What}
 use Rattle.life_events.specs.declared.event.What.TheVariants as what
+use Rattle.life_events.specs.declared.verdict.Verdict.{Verdict}
+use Rattle.life_events.specs.declared.verdict.Verdict.TheVariants as verdicts
+use Rattle.life_events.specs.Events.{members_text}
+use Rattle.life_events.specs.Verdicts.{verdict_words}
 use Rattle.line_text.specs.Frame.{judge}
 use Rattle.trace.specs.Answers.{state_of}
 use Rattle.trace.specs.Replies.{AcceptsAccusation, AcceptsNote, Expires}
@@ -50,3 +57,48 @@ accusation_accepted = record { t = _; r = _; at = refl; during = refl; number = 
 accusation_expires : Expires (walk_over schedule) 7 1 1 accusation
 unfolding all_numbers in_view_by state_of judge
 accusation_expires = record { t = _; r = _; at = refl; during = refl; number = refl; reported = (0, lit< tt, refl) }
+
+-- ## A member that leaves
+
+abbrev line : List ℕ → List ℕ
+line text = text ++ 10 ∷ []
+
+abbrev base : List (List ℕ)
+base =
+    line (codes "fireflies 1 direct") ∷ line (codes "group 1 3")
+    ∷ line (codes "member 1 10 10 10") ∷ line (codes "member 2 20 20 20") ∷ line (codes "member 3 30 30 30")
+    ∷ line (codes "note 1 1 7") ∷ line (codes "note 2 1 7") ∷ line (codes "note 3 1 7") ∷ []
+
+-- what the lines behind these say and report
+abbrev behind_base : List (List ℕ) → List (Option (List ℕ) × List reported.Event)
+behind_base lines = map (λ t. (t.answer.verdict, t.answer.events)) (drop 8 (walk_over (base ++ lines)).taken)
+
+abbrev leaving : List (List ℕ)
+leaving =
+    line (codes "accuse 1 2 1 0") ∷ line (codes "note 1 2 0") ∷ line (codes "view") ∷ line (codes "monitor 0 2")
+    ∷ line (codes "accuse 3 1 2 0") ∷ line (codes "note 1 3 7") ∷ line (codes "view") ∷ []
+
+abbrev says : Verdict → Option (List ℕ) × List reported.Event
+says verdict = (Some (verdict_words verdict), [])
+
+-- accepted at moment 0, and these are reported
+abbrev tells : List What → Option (List ℕ) × List reported.Event
+tells events = (Some (verdict_words verdicts.Accepted), map (λ w. record { moment = 0; what = w }) events)
+
+-- its own accusation falls, another monitors in its place, and it returns by a greater note
+leaves : behind_base leaving
+    ≡ says verdicts.Accepted
+    ∷ tells (what.Removed 1 ∷ what.Fell accusation ∷ [])
+    ∷ (Some (members_text (2 ∷ 3 ∷ [])), [])
+    ∷ says (verdicts.Monitor (Some 3))
+    ∷ says (verdicts.Refused faults.NotInView)
+    ∷ tells (what.Entered 1 ∷ [])
+    ∷ (Some (members_text (1 ∷ 2 ∷ 3 ∷ [])), [])
+    ∷ []
+unfolding all_numbers in_view_by state_of judge
+leaves = refl
+
+-- of the newest epoch it is the lesser note
+older : behind_base (line (codes "note 2 1 0") ∷ []) ≡ says (verdicts.Refused (faults.Older 1 (record { 0 = 7 }))) ∷ []
+unfolding all_numbers in_view_by state_of judge
+older = refl

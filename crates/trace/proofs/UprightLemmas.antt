@@ -1,4 +1,4 @@
--- Each removal that a walk reports is a removal of one of its lives, and each removal of a life rests on an accusation.
+-- Each removal that a walk reports is a removal of one of its lives, and each removal of a life has its cause in it.
 use Rattle.std.proofs.Common.{◌≡◌, ℕ, suc, inl, inr, Bool, true, false, not, List, [], ◌∷◌, map, Option, Some, None, refl, ap, ◌∙◌, subst, cond}
 use Rattle.std.specs.Prelude.{flat_map}
 use Rattle.std.specs.List.{slice_get}
@@ -121,8 +121,8 @@ removed-at g s (e ∷ events) moment m i =
           record { place = suc r.place; event = r.event; is = r.is; removes_there = r.removes_there; reported_there = r.reported_there }
     ]
 
-pub removal-rests : (r : Recorded) (moment m : ℕ) → In (reported_in r) (removal moment m) → IsRemoval r moment m
-removal-rests r moment m i =
+pub removal-of : (r : Recorded) (moment m : ℕ) → In (reported_in r) (removal moment m) → IsRemoval r moment m
+removal-of r moment m i =
     let s = opening r.members in
     let x = removed-at r.group s r.events moment m i in
     let next = state_at-next r.group s r.events x.place x.event x.is in
@@ -131,16 +131,13 @@ removal-rests r moment m i =
       before = left.before;
       later = ap (λ (st : State). in_view st m) next ∙ left.after;
     } in
-    let why = justified r.group r.members r.events x.place m (slice_get_within r.events x.place x.event x.is) gone in
     record {
       place = x.place;
       report = (step r.group (state_at r.group s r.events x.place) x.event).report;
       reported = x.reported_there;
       removed = Contains-from_In _ m x.removes_there.removed;
       at = ap (λ (st : State). st.moment) next ∙ x.removes_there.at;
-      accepted = why.0;
-      accusation = why.1;
-      rests = why.2;
+      cause = justified r.group r.members r.events x.place m (slice_get_within r.events x.place x.event x.is) gone;
     }
 
 -- ## The removals of a walk
@@ -159,4 +156,4 @@ justified-walk lines moment m contains =
     let w = walk_over lines in
     let i : In (flat_map reported_in (lives_in w)) (removal moment m) = subst (λ (events : List reported.Event). In events (removal moment m)) (are-of-lives lines) (In-from_Contains (events_in w) (removal moment m) contains) in
     let x = in-lives (lives_in w) (removal moment m) i in
-    (x.0, Contains-from_In (lives_in w) x.0 x.1.0, removal-rests x.0 moment m x.1.1)
+    (x.0, Contains-from_In (lives_in w) x.0 x.1.0, removal-of x.0 moment m x.1.1)

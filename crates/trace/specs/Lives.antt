@@ -1,8 +1,7 @@
--- The lives of a walk: what their steps report, and what each removal in them rests on.
+-- The lives of a walk: what their steps report, and what each removal in them has for its cause.
 use Rattle.std.specs.Prelude.{◌≡◌, ℕ, ◌+◌, List, [], ◌∷◌, ◌++◌, Some, Contains, flat_map, slice_get}
-use Rattle.ff_ids.specs.declared.AccBody.{AccBody}
 use Rattle.ff_ids.specs.declared.Group.{Group}
-use Rattle.ff_ids.specs.Lives.{RestsOn, opening, reports, state_at}
+use Rattle.ff_ids.specs.Lives.{Departs, opening, reports, state_at}
 use Rattle.ff_ids.specs.Steps.{Event, Report, step}
 use Rattle.ff_ids.specs.Views.{State}
 use Rattle.life_events.specs.declared.event.Event as reported
@@ -22,18 +21,16 @@ reported_in r = reported_from r.group (opening r.members) r.events
 abbrev pub AreOfLives : Walk → Type 0
 AreOfLives w = events_in w ≡ flat_map reported_in (lives_in w)
 
--- The life reports that the member was removed at the moment: by a tick, and resting on an accusation that was accepted
--- in this life, and stood in each state between, for the timeout.
+-- The life reports that the member was removed at the moment: by a leaving note of it that was accepted at that place, or
+-- by a tick, resting on an accusation that was accepted in this life, and stood in each state between, for the timeout.
 pub record IsRemoval (r : Recorded) (moment m : ℕ) : Type 0 where
   pub place : ℕ
   pub report : Report
   pub reported : slice_get (reports r.group (opening r.members) r.events) place ≡ Some report
   pub removed : Contains report.removed m
   pub at : (state_at r.group (opening r.members) r.events (place + 1)).moment ≡ moment
-  pub accepted : ℕ
-  pub accusation : AccBody
-  pub rests : RestsOn r.group (opening r.members) r.events place m accepted accusation
+  pub cause : Departs r.group (opening r.members) r.events place m
 
--- Each removal that a walk reports is a removal of one of its lives, and rests on an accusation in it.
+-- Each removal that a walk reports is a removal of one of its lives, and has its cause in it.
 abbrev pub IsJustifiedWalk : Walk → Type 0
 IsJustifiedWalk w = (moment m : ℕ) → Contains (events_in w) (record { moment = moment; what = what.Removed m }) → (r : Recorded) × Contains (lives_in w) r × IsRemoval r moment m

@@ -26,7 +26,8 @@ pub record IsLineOf (line written : List ℕ) : Type 0 where
 abbrev pub removal_line : ℕ → ℕ → List ℕ
 removal_line moment m = event_text (record { moment = moment; what = what.Removed m }) ++ 10 ∷ []
 
--- A life of the walk over these lines reports a removal that this line gives: by a tick, and resting on an accusation.
+-- A life of the walk over these lines reports a removal that this line gives: by a leaving note, or by a tick, resting on
+-- an accusation.
 pub record IsReported (lines : List (List ℕ)) (line : List ℕ) : Type 0 where
   pub life : Recorded
   pub moment : ℕ
@@ -35,8 +36,8 @@ pub record IsReported (lines : List (List ℕ)) (line : List ℕ) : Type 0 where
   pub spelled : line ≡ removal_line moment member
   pub removal : IsRemoval life moment member
 
--- Each whole line of what was written for these lines that gives a removal is the report of a tick of a life, and rests
--- on an accusation.
+-- Each whole line of what was written for these lines that gives a removal is the report of an event of a life: of a leaving
+-- note, or of a tick, resting on an accusation.
 abbrev pub IsJustified : List (List ℕ) → List ℕ → Type 0
 IsJustified lines written = (moment m : ℕ) → IsLineOf (removal_line moment m) written → IsReported lines (removal_line moment m)
 

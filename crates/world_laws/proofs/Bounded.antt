@@ -17,15 +17,16 @@ use Rattle.node_rules.specs.Nodes.{Node, state_of}
 use Rattle.node_rules.specs.Calls.{Call, begun, takes, signs, is_used_up}
 use Rattle.node_rules.specs.Deliveries.{answer_to, handles}
 use Rattle.node_rules.specs.Ticking.{accuses, is_due, passed, pings_in, probed_at, round_of, silent_in}
-use Rattle.node_rules.specs.Lives.{Input, Delivers, Ticks}
+use Rattle.node_rules.specs.Leaving.{leaving, leaves}
+use Rattle.node_rules.specs.Lives.{Input, Delivers, Ticks, Leaves}
 use Rattle.node_rules.proofs.Small.{node-sends, stored-takes, stored-signs}
 use Rattle.node_rules.proofs.OwnNote.{stored-lives}
 use Rattle.world_rules.specs.Disks.{Disk, after_put, stopped_in_put, put_passes}
-use Rattle.node_rules.specs.OnDisks.{puts, takes_step, steps_on, accuses_on, hears_on, delivered_on, due_on, ticked_on}
+use Rattle.node_rules.specs.OnDisks.{puts, takes_step, steps_on, accuses_on, hears_on, delivered_on, due_on, ticked_on, left_on}
 use Rattle.node_rules.proofs.Called.{accused-on, handled-on}
 use Rattle.world_rules.specs.Calls.{OnDisk, called_on, world_storage}
 use Rattle.world_rules.proofs.OnDisks.{left-state, next-after}
-use Rattle.world_laws.proofs.Handing.{Hands, AnyRecord, any-handed, hands-accuses, hands-called, hands-handles, hands-probed_at, joined}
+use Rattle.world_laws.proofs.Handing.{Hands, AnyRecord, any-handed, hands-accuses, hands-called, hands-handles, hands-leaves, hands-probed_at, joined}
 
 -- ---- in a call
 
@@ -50,6 +51,7 @@ bounding s =
       taken = λ r c any fine h. bounded-takes s r c h;
       answered = λ r a c any fine is me left h. bounded-signs s (answer_to s (takes s r c).node.stored a) (takes s r c) left (bounded-takes s r c h);
       accused = λ a c by left h. bounded-signs s (Accusation a) c left h;
+      departed = λ c left h. bounded-signs s (leaving s c.node.stored) c left h;
       stopped = λ c h. h;
       passed = λ c h. subst (IsBounded s) (sym (stored-lives s Passes c)) h;
       probed = λ p c h. h;
@@ -95,7 +97,7 @@ disk-due s accused sent round d h =
     cond_both {A = OnDisk} d1.call.ended d1 _ (λ x. IsBounded s x.disk.state) (λ over. h1.disk) (λ going. h1.disk)
 
 disk-called : (s : node.Setting) (n : Node) (i : Input) (d : Disk) → IsBounded s n.stored → IsBounded s d.state → IsBounded s (called_on s n i d).disk.state
-unfolding delivered_on ticked_on
+unfolding delivered_on ticked_on left_on
 disk-called s n (Delivers bytes) d node disk = disk-heard s (read_of bytes) (record { call = begun n; disk = d }) (record { node = node; disk = disk })
 disk-called s n Ticks d node disk =
     let p : Node = (passed s n).node in
@@ -104,6 +106,8 @@ disk-called s n Ticks d node disk =
     let h0 : IsWithin s d0 = record { node = hands-probed_at s AnyRecord (λ c. IsBounded s c.node.stored) (bounding s) n node; disk = disk } in
     cond_both {A = OnDisk} (is_due s st) (due_on world_storage s (silent_in s p st) (pings_in s p st) (round_of s st) d0) d0 (λ x. IsBounded s x.disk.state)
     (λ due. disk-due s (silent_in s p st) (pings_in s p st) (round_of s st) d0 h0) (λ never. disk)
+disk-called s n Leaves d node disk =
+    (within-step s (λ works. leaves works s (begun n)) (record { call = begun n; disk = d }) (λ works. hands-leaves s AnyRecord (λ c. IsBounded s c.node.stored) (bounding s) works (begun n) node) (record { node = node; disk = disk })).disk
 
 pub bounded-called : (s : node.Setting) (n : Node) (i : Input) (d : Disk) → IsBounded s n.stored → IsBounded s d.state → IsWithin s (called_on s n i d)
 bounded-called s n i d node disk =

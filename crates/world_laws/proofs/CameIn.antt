@@ -15,6 +15,7 @@ use Rattle.journal.specs.declared.event.What.TheVariants as happened
 use Rattle.node_rules.specs.Nodes.{Setting, Node, state_of, event_of}
 use Rattle.node_rules.specs.Calls.{Call, lives, takes, tells, spends, signs, sends, told_of}
 use Rattle.node_rules.specs.Deliveries.{answer_to}
+use Rattle.node_rules.specs.Leaving.{leaving}
 use Rattle.node_rules.specs.Lives.{Input, is_of_life}
 use Rattle.node_rules.proofs.Handling.{nil-right, unlived}
 use Rattle.world_rules.specs.Disks.{Disk}
@@ -131,6 +132,7 @@ bringing s low =
       accepted = λ r c any fine h. brings-takes s low r (tells s (happened.Took r.body None) c) (brings-tells s low (happened.Took r.body None) c refl h);
       answered = λ r a c any fine is me left h. brings-signs s low (answer_to s (accepts s r c).node.stored a) (accepts s r c) (brings-takes s low r (tells s (happened.Took r.body None) c) (brings-tells s low (happened.Took r.body None) c refl h));
       accused = λ a c by left h. brings-signs s low (Accusation a) c h;
+      departed = λ c left h. brings-signs s low (leaving s c.node.stored) c h;
       stopped = λ c h. let x = brings-tells s low happened.Stopped c refl h in record { longer = x.longer; came = λ moment index a i. let y = x.came moment index a i in record { place = y.place; since = y.since; there = y.there } };
       passed = λ c h. brings-lives s low Passes c h;
       probed = λ p c h. record { longer = h.longer; came = λ moment index a i. let y = h.came moment index a i in record { place = y.place; since = y.since; there = y.there } };

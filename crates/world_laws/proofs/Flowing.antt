@@ -20,7 +20,8 @@ use Rattle.node_rules.specs.Nodes.{state_of}
 use Rattle.node_rules.specs.Calls.{Call, begun as call_begun, takes, signs, tells}
 use Rattle.node_rules.specs.Deliveries.{answer_to}
 use Rattle.node_rules.specs.Starting.{blank, opened, first_note, started}
-use Rattle.node_rules.specs.Lives.{Input, Delivers, Ticks, is_of_life}
+use Rattle.node_rules.specs.Leaving.{leaving}
+use Rattle.node_rules.specs.Lives.{Input, Delivers, Ticks, Leaves, is_of_life}
 use Rattle.node_rules.specs.Verdicts.{told_that}
 use Rattle.node_rules.proofs.Handling.{IsOver, nil-right, that-lives, that-sends, that-signs, that-takes, that-tells}
 use Rattle.schedule_world.specs.declared.line.WorldLine.{WorldLine}
@@ -80,6 +81,7 @@ none-hands s =
       taken = λ r c any fine h. that-takes is_got s r c got-over ∙ h;
       answered = λ r a c any fine is me left h. none-signs s (answer_to s (takes s r c).node.stored a) (takes s r c) (that-takes is_got s r c got-over ∙ h);
       accused = λ a c by left h. none-signs s (Accusation a) c h;
+      departed = λ c left h. none-signs s (leaving s c.node.stored) c h;
       stopped = λ c h. none-tells s happened.Stopped c refl h;
       passed = λ c h. that-lives is_got s _ c got-over ∙ h;
       probed = λ p c h. h;
@@ -420,6 +422,7 @@ steps-does s w (lines.Start m) = steps-none _ (begun w) _ (goes-starts s m w)
 steps-does s w (lines.Stop m outcome) = steps-none _ (begun w) _ (goes-still w _ [] refl refl)
 steps-does s w (lines.Arm m n outcome) = steps-none _ (begun w) _ (goes-still w _ [] refl refl)
 steps-does s w (lines.Tick m n) = steps-none _ (begun w) _ (goes-ticks s m n (begun w))
+steps-does s w (lines.Leave m) = steps-none _ (begun w) _ (quiet-calls s m Leaves (begun w)).goes
 steps-does s w (lines.Deliver number m) = steps-ok w (lines.Deliver number m) (hands_sent s m number (slice_get w.sent number) (begun w)) (goes-hands_sent s m number (slice_get w.sent number) (begun w) refl)
 steps-does s w (lines.Flow most) =
     answer-ok (Steps (lines.Flow most) (begun w)) (flows s most (begun w)) (ok-map (FlowsTo most (begun w)) (Steps (lines.Flow most) (begun w)) (flows s most (begun w)) (λ d h. steps-flow most (begun w) d h) (flows-on s most (begun w)))

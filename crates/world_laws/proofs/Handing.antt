@@ -24,10 +24,11 @@ use Rattle.node_rules.specs.Refusals.{refusal}
 use Rattle.node_rules.specs.Calls.{Call, begun, tells, lives, takes, signs, signs_and_sends, wants, stops, sends, sends_to_all, is_used_up, own_record}
 use Rattle.node_rules.specs.Deliveries.{answer_to, answers, judged, handles, handles_all, is_other, gives, replies, exchanges, pinged, ponged_by, hears, delivered}
 use Rattle.node_rules.specs.Ticking.{accusation_on, ring_for, has_accused, wants_accusation, accuses, accuses_all, is_due, silent_in, pings_in, probes_after, pings_all, summary_to, gossips, round_of, passed, probed_at, due_tick, ticked}
-use Rattle.node_rules.specs.Lives.{Input, Delivers, Ticks as Tick}
+use Rattle.node_rules.specs.Leaving.{leaving, leaves, left}
+use Rattle.node_rules.specs.Lives.{Input, Delivers, Ticks as Tick, Leaves}
 use Rattle.world_rules.specs.Disks.{Disk}
 use Rattle.world_rules.specs.Calls.{called_on}
-use Rattle.node_rules.proofs.Called.{ComesSoFar, delivered_until, ticked_until}
+use Rattle.node_rules.proofs.Called.{ComesSoFar, delivered_until, left_until, ticked_until}
 use Rattle.world_rules.proofs.SoFar.{so_far}
 
 -- Beside verdicts on records, what goes with a step of its own, and what no call of a node reports.
@@ -54,6 +55,7 @@ pub record Hands (s : Setting) (Given : Record → Type 0) (P : Call → Type 0)
   pub accepted : (r : Record) (c : Call) → Given r → refusal s c.node r ≡ None → P c → P (accepts s r c)
   pub answered : (r : Record) (a : AccBody) (c : Call) → Given r → refusal s c.node r ≡ None → r.body ≡ Accusation a → eqb a.accused s.me ≡ true → is_used_up s (accepts s r c).node ≡ false → P c → P (signs s (answer_to s (accepts s r c).node.stored a) (accepts s r c))
   pub accused : (a : AccBody) (c : Call) → a.accuser ≡ s.me → is_used_up s c.node ≡ false → P c → P (signs s (Accusation a) c)
+  pub departed : (c : Call) → is_used_up s c.node ≡ false → P c → P (signs s (leaving s c.node.stored) c)
   pub stopped : (c : Call) → P c → P (stops s c)
   pub passed : (c : Call) → P c → P (lives s Ticks c)
   pub probed : (h : History) (c : Call) → P c → P (record c { node = record c.node { probes = h } })
@@ -66,6 +68,7 @@ pub record HandsApart (s : Setting) (Given : Record → Type 0) (P : Call → Ty
   pub taken : (r : Record) (c : Call) → Given r → refusal s c.node r ≡ None → P c → P (takes s r c)
   pub answered : (r : Record) (a : AccBody) (c : Call) → Given r → refusal s c.node r ≡ None → r.body ≡ Accusation a → eqb a.accused s.me ≡ true → is_used_up s (takes s r c).node ≡ false → P c → P (signs s (answer_to s (takes s r c).node.stored a) (takes s r c))
   pub accused : (a : AccBody) (c : Call) → a.accuser ≡ s.me → is_used_up s c.node ≡ false → P c → P (signs s (Accusation a) c)
+  pub departed : (c : Call) → is_used_up s c.node ≡ false → P c → P (signs s (leaving s c.node.stored) c)
   pub stopped : (c : Call) → P c → P (stops s c)
   pub passed : (c : Call) → P c → P (lives s Ticks c)
   pub probed : (h : History) (c : Call) → P c → P (record c { node = record c.node { probes = h } })
@@ -79,6 +82,7 @@ joined s Given P k =
       accepted = λ r c given e h. k.taken r (tells s (happened.Took r.body None) c) given e (subst (λ f. P (tells s (happened.Took r.body f) c)) e (k.judged r c given h));
       answered = λ r a c given e is me left h. k.answered r a (tells s (happened.Took r.body None) c) given e is me left (subst (λ f. P (tells s (happened.Took r.body f) c)) e (k.judged r c given h));
       accused = k.accused;
+      departed = k.departed;
       stopped = k.stopped;
       passed = k.passed;
       probed = k.probed;
@@ -233,6 +237,20 @@ unfolding ticked_until
 hands-ticked_until s Given P k n silent m h =
     hands-accuses s Given P k false (accuses_all s silent (probed_at s n)) m (hands-accuses_all s Given P k silent (probed_at s n) (hands-probed_at s Given P k n h))
 
+-- ---- leaving
+
+pub hands-leaves : (s : Setting) (Given : Record → Type 0) (P : Call → Type 0) → Hands s Given P → (works : Bool) (c : Call) → P c → P (leaves works s c)
+unfolding leaves
+hands-leaves s Given P k works c h = hands-wants s Given P k works (leaving s c.node.stored) (neighbours s) c h (λ left. k.departed c left h)
+
+hands-left : (s : Setting) (Given : Record → Type 0) (P : Call → Type 0) → Hands s Given P → (n : Node) → P (begun n) → P (left s n)
+unfolding left
+hands-left s Given P k n h = hands-leaves s Given P k true (begun n) h
+
+hands-left_until : (s : Setting) (Given : Record → Type 0) (P : Call → Type 0) → Hands s Given P → (n : Node) → P (begun n) → P (left_until s n)
+unfolding left_until
+hands-left_until s Given P k n h = hands-leaves s Given P k false (begun n) h
+
 -- ---- calls over a disk
 
 pub In-taken : {X : Type 0} (xs : List X) (place : ℕ) (x : X) → In (take place xs) x → In xs x
@@ -250,10 +268,12 @@ In-at (y ∷ ys) (suc place) x e = inr (In-at ys place x e)
 abbrev pub IsHanded : (Record → Type 0) → Input → Type 0
 IsHanded Given (Delivers bytes) = HasGiven Given (read_of bytes)
 IsHanded Given Tick = Unit {0}
+IsHanded Given Leaves = Unit {0}
 
 pub any-handed : (i : Input) → IsHanded AnyRecord i
 any-handed (Delivers bytes) = λ from records is r i. tt
 any-handed Tick = tt
+any-handed Leaves = tt
 
 pub hands-so_far : (s : Setting) (Given : Record → Type 0) (P : Call → Type 0) → Hands s Given P → (n : Node) (i : Input) (c : Call) → ComesSoFar s n i c → IsHanded Given i → P (begun n) → P c
 hands-so_far s Given P k n (Delivers bytes) c (inl whole) given h = subst P (sym whole.is) (hands-delivered s Given P k n bytes given h)
@@ -262,6 +282,8 @@ hands-so_far s Given P k n (Delivers bytes) c (inr cut) given h =
     subst P (sym cut.is) (hands-delivered_until s Given P k n (take cut.place cut.records) cut.at (λ r i. all r (In-taken cut.records cut.place r i)) (all cut.at (In-at cut.records cut.place cut.at cut.found)) h)
 hands-so_far s Given P k n Tick c (inl whole) given h = subst P (sym whole.is) (hands-ticked s Given P k n h)
 hands-so_far s Given P k n Tick c (inr cut) given h = subst P (sym cut.is) (hands-ticked_until s Given P k n _ cut.at h)
+hands-so_far s Given P k n Leaves c (inl whole) given h = subst P (sym whole.is) (hands-left s Given P k n h)
+hands-so_far s Given P k n Leaves c (inr cut) given h = subst P (sym cut.is) (hands-left_until s Given P k n h)
 
 pub hands-called : (s : Setting) (Given : Record → Type 0) (P : Call → Type 0) → Hands s Given P → (n : Node) (i : Input) (d : Disk) → IsHanded Given i → P (begun n) → P (called_on s n i d).call
 hands-called s Given P k n i d given h = hands-so_far s Given P k n i _ (so_far s n i d) given h

@@ -22,7 +22,8 @@ use Rattle.node_rules.specs.Refusals.{refusal}
 use Rattle.node_rules.specs.Calls.{Call, begun, tells, lives, takes, spends, signs, stops, sends, own_record, told_of, whats_of}
 use Rattle.node_rules.specs.Deliveries.{answer_to}
 use Rattle.node_rules.specs.Starting.{blank, opened, first_note, started}
-use Rattle.node_rules.specs.Lives.{Input, Delivers, Ticks, AreCertificates, KeepsOwnNote, is_of_life}
+use Rattle.node_rules.specs.Leaving.{leaving}
+use Rattle.node_rules.specs.Lives.{Input, Delivers, Ticks, Leaves, AreCertificates, KeepsOwnNote, is_of_life}
 use Rattle.node_rules.proofs.Small.{stored-takes}
 use Rattle.node_rules.proofs.Keeping.{Keeps}
 use Rattle.node_rules.proofs.OwnNote.{keeping}
@@ -238,7 +239,7 @@ pub record IsOfWorld (s : Setting) (w : World) (m : ℕ) : Type 0 where
   pub is : is_node s m ≡ true
   pub only : OnlyCertifies s w.signed
 
-knows : (s : Setting) (w : World) (m : ℕ) (c : Call) → IsOfWorld s w m → GoesOn s w m c → Knows s w m c.node
+pub knows : (s : Setting) (w : World) (m : ℕ) (c : Call) → IsOfWorld s w m → GoesOn s w m c → Knows s w m c.node
 knows s w m c of h = record { fits = of.fits; is = of.is; only = of.only; roster = h.roster; own = h.own; within = h.so_far.within }
 
 accepts-told : (s : Setting) (w : World) (m : ℕ) (n : Node) (r : Record) (b : Body) (fault : Option Fault) → Knows s w m n → IsGenuine s w r → r.body ≡ b → refusal (setting_of s m) n r ≡ fault → AcceptsSigned s w.signed (told.Took b fault)
@@ -297,6 +298,7 @@ going-on s w m of =
             so_far = call-signs s w m (answer_to own c1.node.stored a) c1 refl refl (taken s w m r c of free fine h);
           };
       accused = λ a c by left h. record { roster = roster-signs s m (Accusation a) c by h.roster; own = keep.accused a c by left h.own; so_far = call-signs s w m (Accusation a) c by tt h.so_far };
+      departed = λ c left h. record { roster = roster-signs s m (leaving own c.node.stored) c refl h.roster; own = keep.departed c left h.own; so_far = call-signs s w m (leaving own c.node.stored) c refl refl h.so_far };
       stopped = λ c h. record { roster = h.roster; own = h.own; so_far = call-stops s w m c h.so_far };
       passed = λ c h. record { roster = λ k. certificate-lives own Passes c k ∙ h.roster k; own = keep.passed c h.own; so_far = call-passes s w m c h.so_far };
       probed = λ p c h. record { roster = roster-probed s c.node p h.roster; own = keep.probed p c h.own; so_far = call-probed s w m p c h.so_far };
@@ -314,6 +316,7 @@ pub record InLife (s : Setting) (w : World) (m : ℕ) (n : Node) : Type 0 where
 pub handed : (s : Setting) (w : World) (i : Input) → IsFree s w i → IsHanded (IsGenuine s w) i
 handed s w (Delivers bytes) free = genuine s w bytes free
 handed s w Ticks free = tt
+handed s w Leaves free = tt
 
 pub called-goes_on : (s : Setting) (w : World) (m : ℕ) (n : Node) (i : Input) (d : Disk) → IsOfWorld s w m → IsFree s w i → InLife s w m n → GoesOn s w m (called_on (setting_of s m) n i d).call
 called-goes_on s w m n i d of free h =

@@ -13,9 +13,13 @@ mod Written
 mod SignedFirst
 mod Living
 mod OwnBodies
+mod Places
+mod Marks
+mod Marking
 mod SignedBefore
 mod Origins
 mod Verified
+mod AsCalled
 mod Removing
 mod Sent
 mod Answered

@@ -19,6 +19,7 @@ use Rattle.node_rules.specs.Nodes as node
 use Rattle.node_rules.specs.Nodes.{state_of, event_of}
 use Rattle.node_rules.specs.Calls.{Call, begun, lives, takes, tells, spends, signs, sends, own_record, told_of}
 use Rattle.node_rules.specs.Deliveries.{answer_to}
+use Rattle.node_rules.specs.Leaving.{leaving}
 use Rattle.node_rules.specs.Starting.{blank, opened, first_note, started}
 use Rattle.node_rules.specs.Lives.{Input, AreCertificates, is_of_life}
 use Rattle.node_rules.proofs.Handling.{nil-right, unlived}
@@ -36,7 +37,7 @@ use Rattle.world_laws.proofs.InWorlds.{lives_at}
 use Rattle.world_laws.proofs.Reaching.{lives-idle, lives-over, lives-running}
 use Rattle.world_laws.proofs.Rosters.{kit-all}
 
-abbrev taken : List journal.Event → List Body
+abbrev pub taken : List journal.Event → List Body
 taken events = filter_map (λ e. took_in e.what) events
 
 abbrev pub said : List Event → List Body
@@ -51,10 +52,10 @@ said-append xs ys = filter_map-append said_in xs ys
 -- ---- in a call
 
 -- The call has added to a life what it has reported as accepted or as its own.
-record Says (base : List Event) (c : Call) : Type 0 where
-  more : List Event
-  lived : c.node.lived ≡ base ++ more
-  same : taken c.told ≡ said more
+pub record Says (base : List Event) (c : Call) : Type 0 where
+  pub more : List Event
+  pub lived : c.node.lived ≡ base ++ more
+  pub same : taken c.told ≡ said more
 
 abbrev is_taken : whats.What → Bool
 is_taken (happened.Took body None) = true
@@ -95,7 +96,7 @@ says-tells : (s : node.Setting) (base : List Event) (what : whats.What) (c : Cal
 says-tells s base what c none h =
     says-more base c (tells s what c) (record { moment = (state_of s c.node).moment; what = what } ∷ []) [] refl (sym (nil-right c.node.lived)) (ap (λ o. cons_option o []) none) h
 
-life-untold : (s : node.Setting) (e : Event) (c : Call) → taken (told_of (step s.group (state_of s c.node) e).state.moment (step s.group (state_of s c.node) e).report) ≡ []
+pub life-untold : (s : node.Setting) (e : Event) (c : Call) → taken (told_of (step s.group (state_of s c.node) e).state.moment (step s.group (state_of s c.node) e).report) ≡ []
 life-untold s e c = none-taken (told_of (step s.group (state_of s c.node) e).state.moment (step s.group (state_of s c.node) e).report) (unlived is_taken s e c untaken-life)
 
 says-lives : (s : node.Setting) (base : List Event) (e : Event) (c : Call) → said_in e ≡ None → Says base c → Says base (lives s e c)
@@ -131,7 +132,7 @@ says-sends : (s : node.Setting) (base : List Event) (d : Datagram) (c : Call) (t
 unfolding sends
 says-sends s base d c to h = let x = says-tells s base _ c refl h in record { more = x.more; lived = x.lived; same = x.same }
 
-plain-untaken : (what : whats.What) → is_plain what ≡ true → took_in what ≡ None
+pub plain-untaken : (what : whats.What) → is_plain what ≡ true → took_in what ≡ None
 plain-untaken (happened.Took body fault) h = absurd (false≢true h)
 plain-untaken (happened.Spent index body) h = absurd (false≢true h)
 plain-untaken _ h = refl
@@ -145,6 +146,7 @@ saying s base =
       accepted = λ r c any fine h. says-accepts s base r c h;
       answered = λ r a c any fine is me left h. says-signs s base (answer_to s (accepts s r c).node.stored a) (accepts s r c) (says-accepts s base r c h);
       accused = λ a c by left h. says-signs s base (Accusation a) c h;
+      departed = λ c left h. says-signs s base (leaving s c.node.stored) c h;
       stopped = λ c h. let x = says-tells s base happened.Stopped c refl h in record { more = x.more; lived = x.lived; same = x.same };
       passed = λ c h. says-lives s base Passes c refl h;
       probed = λ p c h. record { more = h.more; lived = h.lived; same = h.same };
@@ -166,7 +168,7 @@ says-opened : (s : node.Setting) (base : List Event) (records : List Record) (c 
 says-opened s base [] c all h = h
 says-opened s base (r ∷ records) c all h = says-opened s base records (takes s r c) all.1 (says-kept s base r c (certificate-silent s r.body all.0) h)
 
-says-started : (s : node.Setting) (seed : List ℕ) (records : List Record) (kept : Stored) → AreCertificates records → Says [] (started s seed records kept)
+pub says-started : (s : node.Setting) (seed : List ℕ) (records : List Record) (kept : Stored) → AreCertificates records → Says [] (started s seed records kept)
 unfolding started
 says-started s seed records kept all =
     says-signs s [] (first_note s kept) (opened s seed records kept) (says-opened s [] records (begun (blank s seed kept)) all (record { more = []; lived = refl; same = refl }))

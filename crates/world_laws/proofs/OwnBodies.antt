@@ -16,6 +16,7 @@ use Rattle.node_rules.specs.Nodes.{Node, state_of, event_of}
 use Rattle.node_rules.specs.Refusals.{refusal}
 use Rattle.node_rules.specs.Calls.{Call, lives, takes, tells, spends, signs, sends, own_record, told_of}
 use Rattle.node_rules.specs.Deliveries.{answer_to}
+use Rattle.node_rules.specs.Leaving.{leaving}
 use Rattle.node_rules.specs.Lives.{Input, is_of_life}
 use Rattle.node_rules.proofs.Accusations.{In-filter_map}
 use Rattle.node_rules.proofs.Handling.{unlived}
@@ -104,6 +105,7 @@ owning s =
       taken = λ r c any fine h. own-takes s.me s r c h;
       answered = λ r a c any fine is me left h. own-signs s.me s (answer_to s (takes s r c).node.stored a) (takes s r c) refl (own-takes s.me s r c h);
       accused = λ a c by left h. own-signs s.me s (Accusation a) c by h;
+      departed = λ c left h. own-signs s.me s (leaving s c.node.stored) c refl h;
       stopped = λ c h. own-tells s.me s happened.Stopped c tt h;
       passed = λ c h. own-lives s.me s Passes c h;
       probed = λ p c h. h;

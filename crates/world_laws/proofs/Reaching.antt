@@ -15,7 +15,7 @@ use Rattle.journal.specs.declared.event.What.TheVariants as happened
 use Rattle.node_rules.specs.Nodes as node
 use Rattle.node_rules.specs.Calls.{Call}
 use Rattle.node_rules.specs.Starting.{first_note}
-use Rattle.node_rules.specs.Lives.{Input, Delivers, Ticks, KeepsOwnNote, TellsItsLife, call_of}
+use Rattle.node_rules.specs.Lives.{Input, Delivers, Ticks, Leaves, KeepsOwnNote, TellsItsLife, call_of}
 use Rattle.node_rules.specs.Accusing.{AccusesTheSilent}
 use Rattle.node_rules.proofs.Accusations.{In-from_filter_map}
 use Rattle.rebuttal.proofs.Masks.{all_rings-good}
@@ -197,6 +197,8 @@ whole-node s n (Delivers bytes) c (inl whole) going = ap (λ (x : Call). x.node)
 whole-node s n (Delivers bytes) c (inr cut) going = clash c.ended cut.over going
 whole-node s n Ticks c (inl whole) going = ap (λ (x : Call). x.node) whole.is
 whole-node s n Ticks c (inr cut) going = clash c.ended cut.over going
+whole-node s n Leaves c (inl whole) going = ap (λ (x : Call). x.node) whole.is
+whole-node s n Leaves c (inr cut) going = clash c.ended cut.over going
 
 -- What the node has come to behind one more call that the disk didn't stop.
 node-more : (s : Setting) (m : ℕ) (life : Life) (i : Input) (c : Call) → life.node ≡ node_after s m life.found life.inputs → ComesSoFar (setting_of s m) life.node i c → c.ended ≡ false → c.node ≡ node_after s m life.found (life.inputs ++ i ∷ [])
@@ -330,7 +332,7 @@ began-there host life d idle x i =
     let after : Host = record { disk = d; past = host.past; current = Some life } in
     there-itself after x (In-append_left host.past (life ∷ []) x (subst (λ xs. In xs x) (lives-idle host idle) i))
 
-first-accuses : (s : Setting) (m k index : ℕ) (kept : Stored) (a : AccBody) → In (signed_in m (first_call s m kept).told) (record { who = Some k; index = index; body = Accusation a }) → ⊥
+pub first-accuses : (s : Setting) (m k index : ℕ) (kept : Stored) (a : AccBody) → In (signed_in m (first_call s m kept).told) (record { who = Some k; index = index; body = Accusation a }) → ⊥
 first-accuses s m k index kept a i =
     let one = one-started (setting_of s m) (s.nonces m kept.next) (certificates s) kept in
     never (subst (λ xs. In xs (record { who = Some k; index = index; body = Accusation a })) one.signed i)

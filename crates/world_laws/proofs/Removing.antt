@@ -1,30 +1,33 @@
--- Each removal that is reported rests on an accusation that has come of a record which verifies.
+-- Each removal that is reported has a leaving note for its cause or rests on an accusation, which has come of a record that verifies.
 use Rattle.std.proofs.Common.{◌≡◌, ℕ, ◌+◌, zero, suc, ◌<◌, true, false, not, List, [], ◌∷◌, ◌++◌, length, Option, Some, None, inl, inr, refl, ap, ◌∙◌, subst, map, filter, arith}
 use Rattle.std.specs.Prelude.{flat_map}
 use Rattle.std.proofs.lemmas.Bool.{cond_both, and_from, eq-eqb, not-true}
 use Rattle.ff_ids.specs.declared.AccBody.{AccBody}
+use Rattle.ff_ids.specs.declared.NoteBody.{NoteBody}
 use Rattle.ff_ids.specs.declared.Fault.{Fault}
 use Rattle.ff_ids.specs.declared.Group.{Group}
 use Rattle.ff_ids.specs.Views.{State, all_numbers, in_view, is_member, view}
 use Rattle.ff_ids.specs.Faults.{note_fault, accusation_fault}
 use Rattle.ff_ids.specs.Steps.{Event, Joins, Notes, Accuses, Ticks, Report, Stepped, joined, unchanged, only_before, after_note, after_accusation, unless_fault, step}
-use Rattle.ff_ids.specs.Lives.{opening, state_at, IsRemovedAt}
+use Rattle.ff_ids.specs.Lives as causes
+use Rattle.ff_ids.specs.Lives.{opening, state_at, IsRemovedAt, LeavesBy, RestsOn}
 use Rattle.life_laws.proofs.Lists.{All-from_In, In, In-append_cases, In-filter, In-from_filter, In-from_map, In-from_Contains, Contains-from_In}
 use Rattle.life_laws.proofs.JustifiedLemmas.{justified}
+use Rattle.records.specs.declared.Body.TheVariants.{Note, Accusation}
 use Rattle.journal.specs.declared.event.Event as journal
 use Rattle.journal.specs.declared.event.What as whats
 use Rattle.journal.specs.declared.event.What.TheVariants as happened
 use Rattle.node_rules.specs.Calls.{told_of, whats_of}
 use Rattle.node_rules.specs.Lives.{is_of_life, told_by}
-use Rattle.world_rules.specs.Settings.{Setting}
+use Rattle.world_rules.specs.Settings.{Setting, is_node}
 use Rattle.world_rules.specs.Worlds.{Life, World, lives_of}
 use Rattle.world_rules.specs.Steps.{NodeEvent}
 use Rattle.world_rules.specs.Laws.{IsSetting, Reached, tells_life}
 use Rattle.world_rules.proofs.Telling.{lives-justified}
-use Rattle.world_laws.specs.Laws.{IsVerifiedRemoval, RemovalsAreVerified, RemovesVerified, SignaturesVerify, ToldRemovalsAreVerified}
+use Rattle.world_laws.specs.Laws.{ByAccusation, ByNote, DepartsVerified, IsNoteSignedByThen, IsVerifiedRemoval, LeftVerified, RemovalsAreVerified, RemovesRightly, RemovesVerified, RestsOnVerified, SignaturesVerify, ToldRemovalsAreVerified}
 use Rattle.world_laws.proofs.Signed.{in-mapped}
-use Rattle.world_laws.proofs.SignedBefore.{removes}
-use Rattle.world_laws.proofs.Verified.{IsVouchedAt, reached-verified, vouched}
+use Rattle.world_laws.proofs.AsCalled.{removes}
+use Rattle.world_laws.proofs.Verified.{IsVouchedAt, vouched}
 
 -- ---- a step that reports a removal
 
@@ -139,11 +142,26 @@ in-flat f (x ∷ xs) y i =
 
 -- ---- the law
 
+left-verified : (s : Setting) (w : World) (told : List NodeEvent) (who : ℕ) (life : Life) (place m : ℕ) (n : NoteBody) → IsSetting s → SignaturesVerify s → Reached s w told → In (lives_of w who) life → LeavesBy s.group (opening []) life.node.lived place m n → LeftVerified s w told who life place m
+left-verified s w told who life place m n fits verify reached i leaves =
+    let at : IsVouchedAt s w who life place (Note n) = vouched s w told who life place (Note n) leaves.leaving fits verify reached i leaves.accepted.event in
+    let right : RemovesRightly s w told who life = removes s w told who fits reached life i in
+    subst (λ (k : ℕ). LeavesBy s.group (opening []) life.node.lived place k n → (is_node s k ≡ true → IsNoteSignedByThen s w told who life place n) → LeftVerified s w told who life place k) leaves.of_member
+    (λ by own. record { note = n; leaves = by; verified = at.verified; came = at.came; own_note = own })
+    leaves (λ is. right.left place m n leaves is)
+
+rests-verified : (s : Setting) (w : World) (told : List NodeEvent) (who : ℕ) (life : Life) (place m accepted : ℕ) (a : AccBody) → IsSetting s → SignaturesVerify s → Reached s w told → In (lives_of w who) life → RestsOn s.group (opening []) life.node.lived place m accepted a → RestsOnVerified s w told who life place m
+rests-verified s w told who life place m accepted a fits verify reached i rests =
+    let at : IsVouchedAt s w who life accepted (Accusation a) = vouched s w told who life accepted (Accusation a) tt fits verify reached i rests.accepted.event in
+    let right : RemovesRightly s w told who life = removes s w told who fits reached life i in
+    record { accepted = accepted; accusation = a; rests = rests; verified = at.verified; came = at.came; own_note = λ is. right.accused place m accepted a rests is }
+
+departs-verified : (s : Setting) (w : World) (told : List NodeEvent) (who : ℕ) (life : Life) (place m : ℕ) → IsSetting s → SignaturesVerify s → Reached s w told → In (lives_of w who) life → causes.Departs s.group (opening []) life.node.lived place m → DepartsVerified s w told who life place m
+departs-verified s w told who life place m fits verify reached i (causes.ByNote n leaves) = ByNote (left-verified s w told who life place m n fits verify reached i leaves)
+departs-verified s w told who life place m fits verify reached i (causes.ByAccusation accepted a rests) = ByAccusation (rests-verified s w told who life place m accepted a fits verify reached i rests)
+
 verified-at : (s : Setting) (w : World) (told : List NodeEvent) (who : ℕ) (life : Life) → IsSetting s → SignaturesVerify s → Reached s w told → In (lives_of w who) life → RemovesVerified s w told who life
-verified-at s w told who life fits verify reached i place m within removed =
-    let rests = justified s.group [] life.node.lived place m within removed in
-    let vouched-at : IsVouchedAt s w who life rests.0 rests.1 = vouched s w told who life rests.0 rests.1 fits verify reached (reached-verified s w told fits reached) i rests.2.accepted.event in
-    record { accepted = rests.0; accusation = rests.1; rests = rests.2; verified = vouched-at.verified; came = vouched-at.came; own_note = λ is. removes s w told who fits reached life i place m rests.0 rests.1 rests.2 is }
+verified-at s w told who life fits verify reached i place m within removed = departs-verified s w told who life place m fits verify reached i (justified s.group [] life.node.lived place m within removed)
 
 pub removals-verified : RemovalsAreVerified
 removals-verified s w told who fits verify reached = All-from_In _ (lives_of w who) (λ life i. verified-at s w told who life fits verify reached i)
@@ -157,7 +175,7 @@ told-verified s w told t m life fits verify reached i gone =
       within = gone.within;
       removed = gone.removed;
       moment = gone.behind;
-      rests = verified-at s w told t.who life fits verify reached i gone.place m gone.within gone.removed;
+      departs = verified-at s w told t.who life fits verify reached i gone.place m gone.within gone.removed;
     }
 
 -- What is reported of a node's view or of accusations there is reported by one of its lives.

@@ -6,12 +6,12 @@ use Rattle.std.specs.Ordering.{nat_cmp, ordering_then}
 use Rattle.std.specs.Cmp.{nat_cmp_is}
 use Rattle.std.specs.declared.cmp.Ordering.{Ordering}
 use Rattle.std.specs.declared.cmp.Ordering.TheVariants.{Less, Equal, Greater}
-use Rattle.std.proofs.lemmas.Bool.{cases_Bool, eqb-true, false≢true}
+use Rattle.std.proofs.lemmas.Bool.{cases_Bool, eq-eqb, eqb-true, false≢true}
 use Rattle.ff_ids.specs.declared.AccBody.{AccBody}
 use Rattle.ff_ids.specs.declared.NoteBody.{NoteBody}
 use Rattle.ff_ids.specs.declared.Fault.{Fault}
 use Rattle.ff_ids.specs.declared.Fault.TheVariants as faults
-use Rattle.ff_ids.specs.Masks.{ring_count, enables, good_mask}
+use Rattle.ff_ids.specs.Masks.{ring_count, enables, note_mask}
 use Rattle.ff_ids.specs.Notes.{newest, note_cmp}
 use Rattle.ff_ids.specs.Views.{State, is_member, is_number}
 use Rattle.ff_ids.specs.Faults.{Facts, facts_of, fault_under, accusation_fault_by, accusation_fault, fault_beside, fault_after, note_fault_by, note_fault}
@@ -84,7 +84,7 @@ after-ahead (Some kept) n = beside-ahead kept (note_cmp n kept)
 
 note-ahead : (t : ℕ) (joined : Bool) (kept : Option NoteBody) (n : NoteBody) → is_ahead (note_fault_by t joined kept n) ≡ false
 note-ahead t joined kept n =
-    unless-ahead (not joined) faults.UnknownMember _ refl (unless-ahead (not (good_mask t n.mask.0)) faults.BadMask _ refl (after-ahead kept n))
+    unless-ahead (not joined) faults.UnknownMember _ refl (unless-ahead (not (note_mask t n.mask.0)) faults.BadMask _ refl (after-ahead kept n))
 
 signature-ahead : (s : node.Setting) (author : Option PublicKey) (r : Record) → is_ahead (signature_fault s.verifies author r) ≡ false
 signature-ahead s None r = refl
@@ -172,8 +172,8 @@ own-refused : (s : node.Setting) (n : Node) (note : NoteBody) → KeepsOwnNote s
 own-refused s n note own mine within none =
     let st : State = state_of s n in
     let joined = passed (not (is_member st note.member)) faults.UnknownMember _ none in
-    let good = passed (not (good_mask s.group.t note.mask.0)) faults.BadMask _ joined.1 in
-    within-refused s n.stored note within (sym (ap (λ o. fault_after o note) (ap (newest st.notes) (eqb-true note.member s.me mine) ∙ own.own)) ∙ good.1)
+    let allowed = passed (not (note_mask s.group.t note.mask.0)) faults.BadMask _ joined.1 in
+    within-refused s n.stored note within (sym (ap (λ o. fault_after o note) (ap (newest st.notes) (eqb-true note.member s.me mine) ∙ own.own)) ∙ allowed.1)
 
 -- ---- refusals
 
@@ -232,6 +232,16 @@ accepted-accusation s w m n r a k free fine is by =
     let own : node.Setting = setting_of s m in
     let verified = (option_or-none (accusation_fault s.group.t (state_of own n) a) _ (accepted-verifies own n r (Accusation a) is fine)).1 in
     node-signed s w r a.accuser (Accusation a) k.fits free by tt is (roster-verifies s m n r a.accuser k.roster verified)
+
+-- No genuine note of the node's own is: its store is not behind it.
+pub own-note-refused : (s : Setting) (w : World) (m : ℕ) (n : Node) (r : Record) (note : NoteBody) → Knows s w m n → IsGenuine s w r → refusal (setting_of s m) n r ≡ None → r.body ≡ Note note → note.member ≡ m → ⊥
+own-note-refused s w m n r note k free fine is mine =
+    let own : node.Setting = setting_of s m in
+    let parts = option_or-none (note_fault s.group.t (state_of own n) note) _ (accepted-verifies own n r (Note note) is fine) in
+    let verified = (option_or-none (signature_fault own.verifies (public_key_of n note.member) r) _ parts.1).0 in
+    let verifies : s.verifies (s.key (Some m)) r ≡ true = subst (λ (z : ℕ). s.verifies (s.key (Some z)) r ≡ true) mine (roster-verifies s m n r note.member k.roster verified) in
+    let signed : SignedIn w.signed (Some m) (Note note) = node-signed s w r m (Note note) k.fits free k.is tt is verifies in
+    own-refused own n note k.own (eq-eqb note.member m mine) (k.within signed.index note signed.among) parts.0
 
 -- No genuine certificate is accepted: the roster has all there are.
 pub certificate-refused : (s : Setting) (w : World) (m : ℕ) (n : Node) (r : Record) (x : CertBody) → Knows s w m n → IsGenuine s w r → refusal (setting_of s m) n r ≡ None → r.body ≡ Certificate x → ⊥

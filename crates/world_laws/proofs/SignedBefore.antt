@@ -25,10 +25,12 @@ use Rattle.world_rules.specs.Worlds.{Life, World, lives_of, spent_of}
 use Rattle.world_rules.specs.Steps.{NodeEvent}
 use Rattle.world_rules.specs.Laws.{IsSetting, Reached}
 use Rattle.world_laws.specs.Signing.{HasSpentOn, WasSigned}
-use Rattle.world_laws.specs.Laws.{AcceptedAccusationsWereSigned, AcceptsRightly, AccusesRightly, IsOnOwnNote, RemovesRightly, TheRemovedHadSigned}
+use Rattle.world_laws.specs.Laws.{AcceptedAccusationsWereSigned, AcceptsRightly, AccusesRightly, IsOnOwnNote}
 use Rattle.world_laws.specs.Telling.{IsLivedAsTold, IsSignedIn, IsSpentAsTold, IsToldBehind, IsToldSigned, WasSignedFirst, said_in, spending, spent_if_told, statement, took_if_told, took_in}
 use Rattle.world_laws.proofs.Signed.{spent-from}
 use Rattle.world_laws.proofs.Stopped.{split-at}
+use Rattle.world_laws.proofs.Places.{at-length, cut-at, split-in, take-length}
+use Rattle.world_laws.proofs.Marking.{TickHere, tick-here}
 use Rattle.world_laws.proofs.Lawful.{accuse-silent, newest-came}
 use Rattle.world_laws.proofs.Written.{spending-told}
 use Rattle.world_laws.proofs.SignedFirst.{accepted-signed-first, told-more}
@@ -36,11 +38,6 @@ use Rattle.world_laws.proofs.Living.{accepted-lived, flat-append, life_says, sai
 use Rattle.world_laws.proofs.OwnBodies.{nodes-live, own-signed}
 
 -- ---- lists
-
-split-in : {X : Type 0} (xs : List X) (x : X) → In xs x → (before : List X) × ((behind : List X) × (xs ≡ before ++ x ∷ behind))
-split-in [] x i = absurd i
-split-in (y ∷ ys) x (inl e) = ([], (ys, ap (λ z. z ∷ ys) e))
-split-in (y ∷ ys) x (inr i) = let r = split-in ys x i in (y ∷ r.0, (r.1.0, ap (λ zs. y ∷ zs) r.1.1))
 
 -- The element of which this comes, behind those of which the others come.
 record Located {X Y : Type 0} (f : X → Option Y) (xs : List X) (front : List Y) (y : Y) : Type 0 where
@@ -79,7 +76,7 @@ located {X} {Y} f (x ∷ xs) front y behind e = located-at f x xs (f x) front y 
 
 -- ---- where a place of a life is reported
 
-told-place : (w : World) (told : List NodeEvent) (who : ℕ) (life : Life) (place : ℕ) (event : Event) (body : Body) → IsLivedAsTold w told who → In (lives_of w who) life → slice_get life.node.lived place ≡ Some event → said_in event ≡ Some body
+pub told-place : (w : World) (told : List NodeEvent) (who : ℕ) (life : Life) (place : ℕ) (event : Event) (body : Body) → IsLivedAsTold w told who → In (lives_of w who) life → slice_get life.node.lived place ≡ Some event → said_in event ≡ Some body
     → IsToldBehind w told who life place body
 told-place w told who life place event body as_told i there says =
     let cut = split-in (lives_of w who) life i in
@@ -105,18 +102,6 @@ told-place w told who life place event body as_told i there says =
     }
 
 -- ---- which place of a life a report is of
-
-cut-at : {X : Type 0} (xs ys front : List X) (b : X) (behind : List X) → xs ++ ys ≡ front ++ b ∷ behind
-    → ((more : List X) × (xs ≡ front ++ b ∷ more)) ⊎ ((gap : List X) × ((front ≡ xs ++ gap) × (ys ≡ gap ++ b ∷ behind)))
-cut-at [] ys front b behind e = inr (front, (refl, e))
-cut-at (x ∷ xs) ys [] b behind e = let head : x ≡ b = cc in inl (xs, ap (λ z. z ∷ xs) head)
-cut-at {X} (x ∷ xs) ys (z ∷ front) b behind e =
-    let head : x ≡ z = cc in
-    let tail : xs ++ ys ≡ front ++ b ∷ behind = cc in
-    elim (cut-at xs ys front b behind tail) [
-      | inl here ↦ inl (here.0, ap (λ k. k ∷ xs) head ∙ ap (λ (zs : List X). z ∷ zs) here.1)
-      | inr later ↦ inr (later.0, (ap (λ k. k ∷ front) (sym head) ∙ ap (λ (zs : List X). x ∷ zs) later.1.0, later.1.1))
-    ]
 
 -- The life among these into which the statement comes, behind those of which the others come.
 record LocatedLife (lives : List Life) (front : List Body) (b : Body) : Type 0 where
@@ -149,17 +134,8 @@ located-life (life ∷ lives) front b behind e =
           }
     ]
 
-at-length : {X : Type 0} (xs ys : List X) (x : X) → slice_get (xs ++ x ∷ ys) (length xs) ≡ Some x
-at-length [] ys x = refl
-at-length (y ∷ xs) ys x = at-length xs ys x
-
-take-length : {X : Type 0} (xs ys : List X) → take (length xs) (xs ++ ys) ≡ xs
-take-length [] [] = refl
-take-length [] (y ∷ ys) = refl
-take-length (x ∷ xs) ys = ap (λ zs. x ∷ zs) (take-length xs ys)
-
 -- What was reported as spent on a statement, among these events, was so at a place of a life.
-signed-in : (w : World) (told earlier later : List NodeEvent) (who moment index : ℕ) (body : Body) → statement body ≡ Some body → IsLivedAsTold w told who → told ≡ earlier ++ later → In earlier (spending who moment index body) → IsSignedIn w earlier who index body
+pub signed-in : (w : World) (told earlier later : List NodeEvent) (who moment index : ℕ) (body : Body) → statement body ≡ Some body → IsLivedAsTold w told who → told ≡ earlier ++ later → In earlier (spending who moment index body) → IsSignedIn w earlier who index body
 signed-in w told earlier later who moment index body states as_told among i =
     let f : NodeEvent → Option Body = took_if_told who in
     let x : NodeEvent = spending who moment index body in
@@ -201,7 +177,7 @@ stated (Note n) b e = cc
 stated (Accusation a) b e = cc
 
 -- The body was accepted, or an index was spent on it.
-abbrev TookOrSpent : whats.What → Body → Type 0
+abbrev pub TookOrSpent : whats.What → Body → Type 0
 TookOrSpent what b = (what ≡ happened.Took b None) ⊎ ((index : ℕ) × (what ≡ happened.Spent index b))
 
 took-or-spent : (what : whats.What) (b : Body) → took_in what ≡ Some b → TookOrSpent what b
@@ -210,7 +186,7 @@ took-or-spent (happened.Took body (Some fault)) b e = cc
 took-or-spent (happened.Spent index body) b e = inr (index, ap (λ x. happened.Spent index x) (stated body b e))
 took-or-spent _ b e = cc
 
-told-by : (who : ℕ) (t : NodeEvent) (b : Body) (same : Bool) → eqb t.who who ≡ same → cond same (took_in t.event.what) None ≡ Some b → (t.who ≡ who) × TookOrSpent t.event.what b
+pub told-by : (who : ℕ) (t : NodeEvent) (b : Body) (same : Bool) → eqb t.who who ≡ same → cond same (took_in t.event.what) None ≡ Some b → (t.who ≡ who) × TookOrSpent t.event.what b
 told-by who t b true is e = (eqb-true t.who who is, took-or-spent t.event.what b e)
 told-by who t b false is e = cc
 
@@ -220,7 +196,7 @@ as-spending t who index b by is =
     ∙ ap (λ z. let y : NodeEvent = record { who = who; event = record { moment = t.event.moment; what = z } } in y) is
 
 -- What is reported as spent was.
-told-spent : (w : World) (told : List NodeEvent) (who moment index : ℕ) (body : Body) → IsSpentAsTold w told who → In told (spending who moment index body) → HasSpentOn w (Some who) index body
+pub told-spent : (w : World) (told : List NodeEvent) (who moment index : ℕ) (body : Body) → IsSpentAsTold w told who → In told (spending who moment index body) → HasSpentOn w (Some who) index body
 told-spent w told who moment index body as_told i =
     let x : Spent = record { index = index; body = body } in
     let given : spent_if_told who (spending who moment index body) ≡ Some x = ap (λ b. cond b (Some x) None) (eq-eqb who who refl) in
@@ -229,15 +205,23 @@ told-spent w told who moment index body as_told i =
 -- ---- accusations
 
 -- All that is known of a world.
-record Known (s : Setting) (w : World) (told : List NodeEvent) : Type 0 where
-  fits : IsSetting s
-  reached : Reached s w told
+pub record Known (s : Setting) (w : World) (told : List NodeEvent) : Type 0 where
+  pub fits : IsSetting s
+  pub reached : Reached s w told
 
 was-signed : (s : Setting) (w : World) (told earlier later : List NodeEvent) (a : AccBody) (moment index : ℕ) → Known s w told → told ≡ earlier ++ later → is_node s a.accuser ≡ true → In earlier (spending a.accuser moment index (Accusation a)) → WasSigned s w earlier a
 was-signed s w told earlier later a moment index k among is i =
-    let all : In told (spending a.accuser moment index (Accusation a)) = subst (λ xs. In xs (spending a.accuser moment index (Accusation a))) (sym among) (In-append_left earlier later _ i) in
-    let spent : HasSpentOn w (Some a.accuser) index (Accusation a) = told-spent w told a.accuser moment index (Accusation a) (spending-told s w told a.accuser k.fits k.reached is) all in
-    record { index = index; signed = signed-in w told earlier later a.accuser moment index (Accusation a) refl (accepted-lived s w told a.accuser k.reached) among i; spent = spent; at_tick = (accuse-silent s w told a.accuser index a k.fits k.reached is spent).1 }
+    let x : NodeEvent = spending a.accuser moment index (Accusation a) in
+    let cut = split-in earlier x i in
+    let whole : told ≡ cut.0 ++ x ∷ (cut.1.0 ++ later) = among ∙ ap (λ xs. xs ++ later) cut.1.1 ∙ append_assoc cut.0 (x ∷ cut.1.0) later in
+    let t : TickHere s w cut.0 a.accuser moment index a = tick-here s w told cut.0 (cut.1.0 ++ later) a.accuser moment index a k.fits k.reached whole in
+    let all : In told x = subst (λ xs. In xs x) (sym among) (In-append_left earlier later x i) in
+    record {
+      index = index;
+      signed = record { moment = moment; before = cut.0; behind = cut.1.0; among = cut.1.1; life = t.life; place = t.place; here = t.here };
+      spent = told-spent w told a.accuser moment index (Accusation a) (spending-told s w told a.accuser k.fits k.reached is) all;
+      at_tick = t.signs;
+    }
 
 accepts-rightly : (s : Setting) (w : World) (told earlier later : List NodeEvent) (what : whats.What) → Known s w told → told ≡ earlier ++ later → WasSignedFirst s earlier what → AcceptsRightly s w earlier what
 accepts-rightly s w told earlier later (happened.Took (Accusation a) None) k among first = λ is.
@@ -299,7 +283,7 @@ accepted-signed s w told fits reached =
 -- ---- who is removed had signed the note
 
 -- What is reported of the note, among these events, was signed in them.
-note-signed : (s : Setting) (w : World) (told : List NodeEvent) (who : ℕ) (life : Life) (n : NoteBody) (earlier later : List NodeEvent) (t : NodeEvent) → Known s w told → In (lives_of w who) life → told ≡ earlier ++ later → In earlier t → is_node s n.member ≡ true
+pub note-signed : (s : Setting) (w : World) (told : List NodeEvent) (who : ℕ) (life : Life) (n : NoteBody) (earlier later : List NodeEvent) (t : NodeEvent) → Known s w told → In (lives_of w who) life → told ≡ earlier ++ later → In earlier t → is_node s n.member ≡ true
     → t.who ≡ who → TookOrSpent t.event.what (Note n) → IsToldSigned earlier n.member (Note n)
 note-signed s w told who life n earlier later t k i among j is by (inl took) =
     let cut = split-in earlier t j in
@@ -325,7 +309,7 @@ newest-signed s w told who life place n b k i came is r =
     let how = told-by who t.0 (Note n) (eqb t.0.who who) refl t.1.1 in
     note-signed s w told who life n r.earlier (r.report ∷ r.later) t.0 k i r.among t.1.0 is how.0 how.1
 
-rests-on : (s : Setting) (w : World) (told : List NodeEvent) (who : ℕ) (life : Life) (j m place : ℕ) (a : AccBody) → Known s w told → In (lives_of w who) life → is_node s m ≡ true → RestsOn s.group (opening []) life.node.lived j m place a
+pub rests-on : (s : Setting) (w : World) (told : List NodeEvent) (who : ℕ) (life : Life) (j m place : ℕ) (a : AccBody) → Known s w told → In (lives_of w who) life → is_node s m ≡ true → RestsOn s.group (opening []) life.node.lived j m place a
     → IsOnOwnNote s w told who life place a
 rests-on s w told who life j m place a k i is rests =
     let st : State = state_at s.group (opening []) life.node.lived place in
@@ -351,9 +335,3 @@ rests-on s w told who life j m place a k i is rests =
       };
       is_newest = p.newest;
     }
-
-pub removes : (s : Setting) (w : World) (told : List NodeEvent) (who : ℕ) → IsSetting s → Reached s w told → (life : Life) → In (lives_of w who) life → RemovesRightly s w told who life
-removes s w told who fits reached life i = λ j m place a rests is. rests-on s w told who life j m place a (record { fits = fits; reached = reached }) i is rests
-
-pub removed-signed : TheRemovedHadSigned
-removed-signed s w told who fits reached = All-from_In _ (lives_of w who) (removes s w told who fits reached)

@@ -70,7 +70,7 @@ spent-what (happened.Spent index body) x e =
     ap (λ k. happened.Spent k body) i ∙ ap (λ y. happened.Spent x.index y) b
 spent-what _ x e = cc
 
-spent-event : (t : NodeEvent) (who : ℕ) (x : Spent) (b : Bool) → eqb t.who who ≡ b → cond b (spent_in t.event.what) None ≡ Some x → t ≡ spending who t.event.moment x.index x.body
+pub spent-event : (t : NodeEvent) (who : ℕ) (x : Spent) (b : Bool) → eqb t.who who ≡ b → cond b (spent_in t.event.what) None ≡ Some x → t ≡ spending who t.event.moment x.index x.body
 spent-event t who x true same e =
     ap (λ k. let y : NodeEvent = record { who = k; event = t.event } in y) (eqb-true t.who who same)
     ∙ ap (λ z. let y : NodeEvent = record { who = who; event = record { moment = t.event.moment; what = z } } in y) (spent-what t.event.what x e)

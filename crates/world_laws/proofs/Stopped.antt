@@ -20,9 +20,10 @@ use Rattle.node_rules.specs.Refusals.{refusal}
 use Rattle.node_rules.specs.Calls.{Call, begun, tells, lives, takes, spends, signs, wants, stops, sends, told_of, is_used_up}
 use Rattle.node_rules.specs.Deliveries.{answer_to, answers, judged, handles, handles_all, hears, delivered}
 use Rattle.node_rules.specs.Ticking.{accusation_on, ring_for, has_accused, wants_accusation, accuses, accuses_all, is_due, silent_in, pings_in, round_of, watched_by, passed, probed_at, due_tick, ticked, silent_at}
-use Rattle.node_rules.specs.Lives.{Input, Delivers, Ticks, call_of}
-use Rattle.node_rules.proofs.Called.{ComesSoFar, IsCutAccusing, IsCutAnswering, delivered_until, ticked_until}
-use Rattle.world_laws.proofs.Handing.{Hands, AnyRecord, hands-wants, hands-handles_all, hands-accuses_all, hands-gossips, joined}
+use Rattle.node_rules.specs.Leaving.{leaving, leaves, left}
+use Rattle.node_rules.specs.Lives.{Input, Delivers, Ticks, Leaves, call_of}
+use Rattle.node_rules.proofs.Called.{ComesSoFar, IsCutAccusing, IsCutAnswering, IsCutLeaving, delivered_until, left_until, ticked_until}
+use Rattle.world_laws.proofs.Handing.{Hands, AnyRecord, hands-wants, hands-handles_all, hands-accuses_all, hands-gossips, hands-leaves, joined}
 
 -- ---- what was reported and lived stays
 
@@ -72,6 +73,7 @@ growing o p s =
       taken = λ r c any fine h. grows-takes o p s r c h;
       answered = λ r a c any fine is me left h. grows-signs o p s _ (takes s r c) (grows-takes o p s r c h);
       accused = λ a c by left h. grows-signs o p s (Accusation a) c h;
+      departed = λ c left h. grows-signs o p s (leaving s c.node.stored) c h;
       stopped = λ c h. let x = grows-tells o p s told.Stopped c h in record { told = x.told; lived = x.lived };
       passed = λ c h. grows-lives o p s Passes c h;
       probed = λ x c h. record { told = h.told; lived = h.lived };
@@ -234,9 +236,23 @@ within-ticked s n c cut =
     (λ due. within-then whole d _ (within-grown d whole (λ o p h. hands-gossips s AnyRecord (Holds o p) (growing o p s) (round_of s st) sent d h)) (within-accused s silent cut.place cut.at (probed_at s n) cut.found))
     (λ never. absurd (none-silent s n cut.place cut.at cut.found never)))
 
+within-leaves : (s : Setting) (c : Call) → Within c (leaves false s c)
+unfolding leaves
+within-leaves s c = within-wants s (leaving s c.node.stored) (neighbours s) c
+
+within-left : (s : Setting) (n : Node) (c : Call) → IsCutLeaving s n c → Within (left s n) c
+unfolding left left_until
+within-left s n c cut =
+    let first : Call = begun n in
+    subst (Within (left s n)) (sym cut.is)
+    (within-then (leaves true s first) first (leaves false s first)
+    (within-grown first (leaves true s first) (λ o p h. hands-leaves s AnyRecord (Holds o p) (growing o p s) true first h)) (within-leaves s first))
+
 -- A call over a disk has come to nothing that the node's call doesn't.
 pub within-whole : (s : Setting) (n : Node) (i : Input) (c : Call) → ComesSoFar s n i c → Within (call_of s n i) c
 within-whole s n (Delivers bytes) c (inl whole) = subst (Within (delivered s n bytes)) (sym whole.is) (within-same (delivered s n bytes))
 within-whole s n (Delivers bytes) c (inr cut) = within-delivered s n bytes c cut
 within-whole s n Ticks c (inl whole) = subst (Within (ticked s n)) (sym whole.is) (within-same (ticked s n))
 within-whole s n Ticks c (inr cut) = within-ticked s n c cut
+within-whole s n Leaves c (inl whole) = subst (Within (left s n)) (sym whole.is) (within-same (left s n))
+within-whole s n Leaves c (inr cut) = within-left s n c cut

@@ -39,6 +39,7 @@ use Rattle.world_rules.proofs.Telling.{lives-justified}
 use Rattle.world_laws.proofs.Keyed.{keys-verify}
 use Rattle.world_laws.proofs.Lawful.{accuse-silent, never-ahead, rosters}
 use Rattle.world_laws.proofs.SignedBefore.{accepted-signed}
+use Rattle.world_laws.proofs.AsCalled.{leave-as-called}
 use Rattle.world_laws.proofs.Sent.{sent-verify}
 use Rattle.world_laws.proofs.Removing.{removals-verified, told-removals-verified}
 use Rattle.world_laws.proofs.Written.{authority-once, sending-told, spending-told}
@@ -298,6 +299,7 @@ played-lawful s w told h =
       expiries = λ t a among is. expiries-lived s w told t a h.reached among is;
       one_view = equal-records s w;
       signed = λ m index a is spent. accuse-silent s w told m index a h.fits h.reached is spent;
+      left = λ m index n is spent leaving. leave-as-called s w told m index n h.fits h.reached is spent leaving;
       lived = accepted.0;
       accepted = accepted.1;
       signed_first = accepted-signed-first s w told h.fits h.reached;

@@ -2,15 +2,16 @@
 use Rattle.std.specs.Prelude.{◌≡◌, ℕ, ◌+◌, ◌<◌, Bool, true, false, List, [], ◌∷◌, ◌++◌, length, Contains, Some, None}
 use Rattle.std.specs.List.{AllByRecursion, slice_get}
 use Rattle.ff_ids.specs.declared.AccBody.{AccBody}
+use Rattle.ff_ids.specs.declared.NoteBody.{NoteBody}
 use Rattle.ff_ids.specs.declared.Group.{Group}
 use Rattle.ff_ids.specs.declared.Fault.TheVariants as faults
 use Rattle.ff_ids.specs.Steps.{Accuses}
-use Rattle.ff_ids.specs.Notes.{newest}
-use Rattle.ff_ids.specs.Lives.{opening, state_at, IsRemovedAt, RestsOn}
+use Rattle.ff_ids.specs.Notes.{is_leaving, newest}
+use Rattle.ff_ids.specs.Lives.{opening, state_at, IsRemovedAt, LeavesBy, RestsOn}
 use Rattle.lms_ots.specs.declared.OtsKind.{OtsKind}
 use Rattle.lms_tree.specs.declared.TreeKind.{TreeKind}
 use Rattle.records.specs.declared.Body.{Body}
-use Rattle.records.specs.declared.Body.TheVariants.{Accusation}
+use Rattle.records.specs.declared.Body.TheVariants.{Accusation, Note}
 use Rattle.journal.specs.declared.event.What as whats
 use Rattle.journal.specs.declared.event.What.TheVariants as happened
 use Rattle.node_rules.specs.Nodes.{public_key_of}
@@ -20,9 +21,9 @@ use Rattle.world_rules.specs.Keys.{setting_for}
 use Rattle.world_rules.specs.Worlds.{Life, World, lives_of}
 use Rattle.world_rules.specs.Steps.{NodeEvent}
 use Rattle.world_rules.specs.Laws.{IsSetting, Reached}
-use Rattle.world_laws.specs.Signing.{KeepsRoster, HasSpentOn, HasEnabled, SignedAtTick, WasSigned}
-use Rattle.world_laws.specs.Origins.{HasComeOf}
-use Rattle.world_laws.specs.Telling.{IsToldBehind}
+use Rattle.world_laws.specs.Signing.{KeepsRoster, HasSpentOn, HasEnabled, SignedAsCalled, SignedAtTick, SignsLeaving, WasSigned}
+use Rattle.world_laws.specs.Origins.{HasComeOf, HasLeftBy}
+use Rattle.world_laws.specs.Telling.{IsSignedIn, IsToldBehind}
 
 -- ---- certificates
 
@@ -50,12 +51,24 @@ pub record IsOnOwnNote (s : Setting) (w : World) (told : List NodeEvent) (who : 
   pub had_signed : HasEnabled w accepted.earlier a
   pub is_newest : newest (state_at s.group (opening []) life.node.lived place).notes a.accused ≡ Some had_signed.note
 
--- So was each accusation on which the removal of a node in the life rests.
-abbrev pub RemovesRightly : Setting → World → List NodeEvent → ℕ → Life → Type 0
-RemovesRightly s w told who life = (j m place : ℕ) (a : AccBody) → RestsOn s.group (opening []) life.node.lived j m place a → is_node s m ≡ true
-    → IsOnOwnNote s w told who life place a
+-- The note came in at this place of a life, as is reported; and by then, with that report, its member had signed it, as it was
+-- called to leave: it came in there at the place of the life that the report of its signature is of.
+pub record IsNoteSignedByThen (s : Setting) (w : World) (told : List NodeEvent) (who : ℕ) (life : Life) (place : ℕ) (n : NoteBody) : Type 0 where
+  pub accepted : IsToldBehind w told who life place (Note n)
+  pub index : ℕ
+  pub signed : IsSignedIn w (accepted.earlier ++ accepted.report ∷ []) n.member index (Note n)
+  pub spent : HasSpentOn w (Some n.member) index (Note n)
+  pub as_called : SignsLeaving s n.member signed.life signed.place index n
 
--- Each node that is removed from a view had itself signed the note of the accusation's epoch, with its ring enabled.
+-- So it is of each accusation on which the removal of a node in the life rests, and of each note by which a node leaves there.
+pub record RemovesRightly (s : Setting) (w : World) (told : List NodeEvent) (who : ℕ) (life : Life) : Type 0 where
+  pub accused : (j m place : ℕ) (a : AccBody) → RestsOn s.group (opening []) life.node.lived j m place a → is_node s m ≡ true
+      → IsOnOwnNote s w told who life place a
+  pub left : (j m : ℕ) (n : NoteBody) → LeavesBy s.group (opening []) life.node.lived j m n → is_node s m ≡ true
+      → IsNoteSignedByThen s w told who life j n
+
+-- Each node that is removed from a view had itself signed the note by which it left, as it was called to leave, or the note of the
+-- accusation's epoch, with its ring enabled.
 abbrev pub TheRemovedHadSigned : Type 0
 TheRemovedHadSigned = (s : Setting) (w : World) (told : List NodeEvent) (who : ℕ) → IsSetting s → Reached s w told → AllByRecursion (RemovesRightly s w told who) (lives_of w who)
 
@@ -66,6 +79,12 @@ TheRemovedHadSigned = (s : Setting) (w : World) (told : List NodeEvent) (who : �
 abbrev pub NodesAccuseTheSilent : Type 0
 NodesAccuseTheSilent = (s : Setting) (w : World) (told : List NodeEvent) (m index : ℕ) (a : AccBody) → IsSetting s → Reached s w told → is_node s m ≡ true
     → HasSpentOn w (Some m) index (Accusation a) → (a.accuser ≡ m) × SignedAtTick s w index a
+
+-- Each note of no ring that a node's key has signed is the node's own, and was signed as the node was called to leave, in one of
+-- its lives.
+abbrev pub NodesLeaveAsCalled : Type 0
+NodesLeaveAsCalled = (s : Setting) (w : World) (told : List NodeEvent) (m index : ℕ) (n : NoteBody) → IsSetting s → Reached s w told → is_node s m ≡ true
+    → HasSpentOn w (Some m) index (Note n) → is_leaving n ≡ true → (n.member ≡ m) × SignedAsCalled s w m index n
 
 -- The accusation came in at this place of a life, as is reported; and by then, with that report, its accuser had signed it.
 pub record IsSignedByThen (s : Setting) (w : World) (told : List NodeEvent) (who : ℕ) (life : Life) (place : ℕ) (a : AccBody) : Type 0 where
@@ -112,15 +131,30 @@ pub record RestsOnVerified (s : Setting) (w : World) (told : List NodeEvent) (wh
   pub came : HasComeOf s w who life accepted accusation verified.witness
   pub own_note : is_node s m ≡ true → IsOnOwnNote s w told who life accepted accusation
 
+-- The member left at this place of the life by one note, of which all of this is said. The record of which it has come verifies
+-- under the key of the member's certificate, as the node keeps it. If the member is a node, it had itself signed the note by then,
+-- as it was called to leave.
+pub record LeftVerified (s : Setting) (w : World) (told : List NodeEvent) (who : ℕ) (life : Life) (place m : ℕ) : Type 0 where
+  pub note : NoteBody
+  pub leaves : LeavesBy s.group (opening []) life.node.lived place m note
+  pub verified : IsVouchedFor (setting_of s who) (public_key_of life.node m) (Note note)
+  pub came : HasLeftBy s w who life place note verified.witness
+  pub own_note : is_node s m ≡ true → IsNoteSignedByThen s w told who life place note
+
+-- The removal of the member at this place of the life has such a note for its cause, or rests on such an accusation.
+pub data DepartsVerified (s : Setting) (w : World) (told : List NodeEvent) (who : ℕ) (life : Life) (place m : ℕ) : Type 0 where
+  ByNote : LeftVerified s w told who life place m → DepartsVerified s w told who life place m
+  ByAccusation : RestsOnVerified s w told who life place m → DepartsVerified s w told who life place m
+
 -- So does each removal in the life.
 abbrev pub RemovesVerified : Setting → World → List NodeEvent → ℕ → Life → Type 0
-RemovesVerified s w told who life = (j m : ℕ) → j < length life.node.lived → IsRemovedAt s.group (opening []) life.node.lived j m → RestsOnVerified s w told who life j m
+RemovesVerified s w told who life = (j m : ℕ) → j < length life.node.lived → IsRemovedAt s.group (opening []) life.node.lived j m → DepartsVerified s w told who life j m
 
 abbrev pub RemovalsAreVerified : Type 0
 RemovalsAreVerified = (s : Setting) (w : World) (told : List NodeEvent) (who : ℕ) → IsSetting s → SignaturesVerify s → Reached s w told → AllByRecursion (RemovesVerified s w told who) (lives_of w who)
 
 -- What is reported of the member is its removal at a place of one of the node's lives, which has the reported moment behind it;
--- and that rests on such a record.
+-- and that has such a record for its cause.
 pub record IsVerifiedRemoval (s : Setting) (w : World) (told : List NodeEvent) (t : NodeEvent) (m : ℕ) : Type 0 where
   pub life : Life
   pub lived : Contains (lives_of w t.who) life
@@ -128,7 +162,7 @@ pub record IsVerifiedRemoval (s : Setting) (w : World) (told : List NodeEvent) (
   pub within : place < length life.node.lived
   pub removed : IsRemovedAt s.group (opening []) life.node.lived place m
   pub moment : (state_at s.group (opening []) life.node.lived (place + 1)).moment ≡ t.event.moment
-  pub rests : RestsOnVerified s w told t.who life place m
+  pub departs : DepartsVerified s w told t.who life place m
 
 abbrev pub ToldRemovalsAreVerified : Type 0
 ToldRemovalsAreVerified = (s : Setting) (w : World) (told : List NodeEvent) (t : NodeEvent) (m : ℕ) → IsSetting s → SignaturesVerify s → Reached s w told → Contains told t → t.event.what ≡ happened.Removed m → IsVerifiedRemoval s w told t m

@@ -1,7 +1,8 @@
--- Which records the accusations in a life of a world have come of.
+-- Which records the accusations and the leaving notes in a life of a world have come of.
 use Rattle.std.specs.Prelude.{◌≡◌, ◌⊎◌, ℕ, List, ◌∷◌, ◌++◌, length, None, Some, Ok}
 use Rattle.ff_ids.specs.declared.AccBody.{AccBody}
-use Rattle.records.specs.declared.Body.TheVariants.{Accusation}
+use Rattle.ff_ids.specs.declared.NoteBody.{NoteBody}
+use Rattle.records.specs.declared.Body.TheVariants.{Accusation, Note}
 use Rattle.records.specs.declared.Record.{Record}
 use Rattle.datagram.specs.declared.Datagram.TheVariants as kinds
 use Rattle.datagram.specs.Grammar.{read_of}
@@ -11,7 +12,7 @@ use Rattle.node_rules.specs.Lives.{Input, Delivers}
 use Rattle.node_rules.specs.Verdicts.{when_all_handled}
 use Rattle.world_rules.specs.Settings.{Setting, record_of, setting_of}
 use Rattle.world_rules.specs.Worlds.{Life, World}
-use Rattle.world_laws.specs.Signing.{HasSpentOn, SignsAtTick, node_after}
+use Rattle.world_laws.specs.Signing.{HasSpentOn, SignsAtTick, SignsLeaving, node_after}
 
 -- What the node has come to behind these calls and these records of the next one.
 abbrev pub node_behind : Setting → ℕ → Life → List Input → List Record → node.Node
@@ -43,3 +44,17 @@ pub record IsOwnRecord (s : Setting) (w : World) (m : ℕ) (life : Life) (place 
 -- The accusation at this place of the life has come of this record: it was accepted there, or it is the node's own.
 abbrev pub HasComeOf : Setting → World → ℕ → Life → ℕ → AccBody → Record → Type 0
 HasComeOf s w m life place a r = IsAcceptedBehind s m life place r ⊎ IsOwnRecord s w m life place a r
+
+-- ---- leaving notes
+
+-- The note is the node's own, and came in at this place of the life as the node was called to leave; that call signed it with
+-- this index, and the record has the signature of that index.
+pub record IsOwnLeaving (s : Setting) (w : World) (m : ℕ) (life : Life) (place : ℕ) (n : NoteBody) (r : Record) : Type 0 where
+  pub index : ℕ
+  pub leaves : SignsLeaving s m life place index n
+  pub spent : HasSpentOn w (Some m) index (Note n)
+  pub signed : r ≡ record_of s (record { who = Some m; index = index; body = Note n })
+
+-- The leaving note at this place of the life has come of this record: it was accepted there, or it is the node's own.
+abbrev pub HasLeftBy : Setting → World → ℕ → Life → ℕ → NoteBody → Record → Type 0
+HasLeftBy s w m life place n r = IsAcceptedBehind s m life place r ⊎ IsOwnLeaving s w m life place n r

@@ -1,10 +1,11 @@
--- What the members of a world have signed: which notes, and at which ticks their accusations.
+-- What the members of a world have signed: which notes, at which ticks their accusations, and that they left as they were called
+-- to.
 use Rattle.std.specs.Prelude.{◌≡◌, ℕ, ◌≤◌, true, ◌==◌, if◌then◌else◌, List, ◌∷◌, ◌++◌, length, Contains, Option, Some, None}
 use Rattle.std.specs.List.{list_any, slice_get}
 use Rattle.ff_ids.specs.declared.NoteBody.{NoteBody}
 use Rattle.ff_ids.specs.declared.AccBody.{AccBody}
 use Rattle.ff_ids.specs.Masks.{enables}
-use Rattle.ff_ids.specs.Steps.{Accuses}
+use Rattle.ff_ids.specs.Steps.{Notes, Accuses}
 use Rattle.records.specs.declared.CertBody.{CertBody}
 use Rattle.records.specs.declared.Body.{Body}
 use Rattle.records.specs.declared.Body.TheVariants.{Note, Accusation}
@@ -12,7 +13,8 @@ use Rattle.epoch_store.specs.declared.Stored.{Stored}
 use Rattle.journal.specs.declared.event.What.TheVariants as told
 use Rattle.node_rules.specs.Nodes as node
 use Rattle.node_rules.specs.Calls.{Call}
-use Rattle.node_rules.specs.Lives.{Input, Ticks, life_of}
+use Rattle.node_rules.specs.Leaving.{leaving_note}
+use Rattle.node_rules.specs.Lives.{Input, Ticks, Leaves, life_of}
 use Rattle.node_rules.specs.Accusing.{AccusesTheSilent}
 use Rattle.world_rules.specs.Settings.{Owner, Setting, certificate, certificates, members, setting_of}
 use Rattle.world_rules.specs.Disks.{Disk}
@@ -80,9 +82,30 @@ pub record SignedAtTick (s : Setting) (w : World) (index : ℕ) (a : AccBody) : 
   pub signs : SignsAtTick s a.accuser life place index a
   pub stays : slice_get life.node.lived place ≡ Some (Accuses a)
 
--- Among these events the accuser has signed the accusation, with an index that such a tick spends on it.
+-- Among these events the accuser has signed the accusation, with an index that such a tick spends on it: it came in there at the
+-- place of the life that this report is of.
 pub record WasSigned (s : Setting) (w : World) (told : List NodeEvent) (a : AccBody) : Type 0 where
   pub index : ℕ
   pub signed : IsSignedIn w told a.accuser index (Accusation a)
   pub spent : HasSpentOn w (Some a.accuser) index (Accusation a)
-  pub at_tick : SignedAtTick s w index a
+  pub at_tick : SignsAtTick s a.accuser signed.life signed.place index a
+
+-- ---- leaving notes
+
+-- In this life the node is called to leave, and signs the note for it with this index: the next one of its key, and the note behind
+-- its newest, of no ring. The note came into the life at this place, behind what had come in before the call.
+pub record SignsLeaving (s : Setting) (m : ℕ) (life : Life) (place index : ℕ) (n : NoteBody) : Type 0 where
+  pub before : List Input
+  pub behind : List Input
+  pub called : life.inputs ≡ before ++ Leaves ∷ behind
+  pub at : length (node_after s m life.found before).lived ≡ place
+  pub is : n ≡ leaving_note (setting_of s m) (node_after s m life.found before).stored
+  pub spends : index ≡ (node_after s m life.found before).stored.next
+
+-- So the member signs it at a place of one of its lives, and there it stays.
+pub record SignedAsCalled (s : Setting) (w : World) (m index : ℕ) (n : NoteBody) : Type 0 where
+  pub life : Life
+  pub lived : Contains (lives_of w m) life
+  pub place : ℕ
+  pub signs : SignsLeaving s m life place index n
+  pub stays : slice_get life.node.lived place ≡ Some (Notes n)

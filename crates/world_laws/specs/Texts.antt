@@ -2,7 +2,9 @@
 use Rattle.std.specs.Prelude.{◌≡◌, ℕ, ◌+◌, true, false, if◌then◌else◌, List, [], ◌∷◌, length, Contains, Option, Some, None, Ok, Err}
 use Rattle.std.specs.List.{AllByRecursion, slice_get}
 use Rattle.ff_ids.specs.declared.AccBody.{AccBody}
-use Rattle.records.specs.declared.Body.TheVariants.{Accusation}
+use Rattle.ff_ids.specs.declared.NoteBody.{NoteBody}
+use Rattle.ff_ids.specs.Notes.{is_leaving}
+use Rattle.records.specs.declared.Body.TheVariants.{Accusation, Note}
 use Rattle.signer.specs.Lives.{IsOnce, IsRising}
 use Rattle.journal.specs.declared.event.What.TheVariants as happened
 use Rattle.line_text.specs.declared.bad_word.BadWord.{BadWord}
@@ -19,7 +21,7 @@ use Rattle.world_rules.specs.Steps.{NodeEvent, step}
 use Rattle.world_rules.specs.declared.cause.Cause.TheVariants as causes
 use Rattle.world_rules.specs.Walk.{Grammar, Stage, Lists, Plays, Taken, Walk, events_in, last_line, setting_in, walk_over}
 use Rattle.world_rules.specs.Laws.{IsSetting, Reached, TellsLives}
-use Rattle.world_laws.specs.Signing.{HasSpentOn, KeepsRoster, SignedAtTick}
+use Rattle.world_laws.specs.Signing.{HasSpentOn, KeepsRoster, SignedAsCalled, SignedAtTick}
 use Rattle.world_laws.specs.Laws.{is_own_ahead, AccusesRightly, AllAcceptRightly, IsVerifiedRemoval, RemovesVerified, SignaturesVerify}
 use Rattle.world_laws.specs.Sent.{HasIndexes, SendsAuthentic}
 use Rattle.world_laws.specs.Telling.{IsIssued, IsLivedAsTold, IsSentAsTold, IsSpentAsTold, SignsFirst}
@@ -60,9 +62,11 @@ TextsComeToWorlds = (spelled : WorldLine → List ℕ) (text : List (List ℕ)) 
 -- has spent, in order; what was reported as sent is all datagrams, each with its number; and what was reported as handed over is
 -- among these.
 --
--- Each removal in a life rests on an accusation that stood for the timeout, and the record that the node accepted of it, or
--- made of it, verifies under the key of the accuser's certificate. Where a node was removed, it had itself signed the note of
--- that accusation's epoch with that accusation's ring enabled, as is reported before the accusation's acceptance there. The certificates that a node keeps are the authority's.
+-- Each removal in a life has a note for its cause by which the member left, or rests on an accusation that stood for the timeout;
+-- and the record that the node accepted of it, or made of it, verifies under the key of the certificate of the member or of the
+-- accuser. Where a node was removed, it had itself signed that note, as it was called to leave; or the note of that accusation's
+-- epoch with that accusation's ring enabled, as is reported before the acceptance there. The certificates that a node keeps are
+-- the authority's.
 -- Each removal that was reported is one of these, at the reported moment. What each node's key spent, over all its lives, rises
 -- in index and, for notes, in epoch; and the authority's key has spent an index on each member's certificate alone. No
 -- verdict reported that a note was ahead of a node's own. Behind an accepted note nothing that it answers expires unless it
@@ -70,7 +74,8 @@ TextsComeToWorlds = (spelled : WorldLine → List ℕ) (text : List (List ℕ)) 
 -- notes, and in which the same accusations expire, have the same view.
 --
 -- Each accusation of a node's, signed by it or accepted by anyone, was signed by it at a tick at which the accused was silent
--- there, as is reported before its acceptance. And what was reported as accepted of a node's was reported as signed by it before.
+-- there, as is reported before its acceptance; and each note of no ring that a node's key signed, as the node was called to
+-- leave. And what was reported as accepted of a node's was reported as signed by it before.
 -- Each record in each datagram that was sent verifies under the key of who signed it.
 pub record IsLawful (s : Setting) (w : World) (told : List NodeEvent) : Type 0 where
   pub lives : (m : ℕ) → TellsLives s w told m
@@ -88,6 +93,7 @@ pub record IsLawful (s : Setting) (w : World) (told : List NodeEvent) : Type 0 w
   pub expiries : (t : NodeEvent) (a : AccBody) → Contains told t → t.event.what ≡ happened.Expired a → IsExpiryInLife s w t a
   pub one_view : HaveOneView s w
   pub signed : (m index : ℕ) (a : AccBody) → is_node s m ≡ true → HasSpentOn w (Some m) index (Accusation a) → (a.accuser ≡ m) × SignedAtTick s w index a
+  pub left : (m index : ℕ) (n : NoteBody) → is_node s m ≡ true → HasSpentOn w (Some m) index (Note n) → is_leaving n ≡ true → (n.member ≡ m) × SignedAsCalled s w m index n
   pub lived : (who : ℕ) → AllByRecursion (AccusesRightly s w told who) (lives_of w who)
   pub accepted : AllAcceptRightly s w told
   pub signed_first : SignsFirst s told

@@ -4,7 +4,7 @@
 //! `command_line` cites them.
 #![tactic(auto)]
 
-ghost use Rattle.world_laws.specs.Laws.{RostersAreKept, OwnAheadNeverComes, TheRemovedHadSigned, NodesAccuseTheSilent, AcceptedAccusationsWereSigned, KeysVerify, RemovalsAreVerified, ToldRemovalsAreVerified};
+ghost use Rattle.world_laws.specs.Laws.{RostersAreKept, OwnAheadNeverComes, TheRemovedHadSigned, NodesAccuseTheSilent, NodesLeaveAsCalled, AcceptedAccusationsWereSigned, KeysVerify, RemovalsAreVerified, ToldRemovalsAreVerified};
 ghost use Rattle.world_laws.specs.Telling.{AcceptedIsLived, AcceptedWasSignedFirst, AuthoritySpendsOnce, SendingIsTold, SpendingIsTold};
 ghost use Rattle.world_laws.specs.Flows.{FlowsGoOn, OnlySentIsHandedOver, OthersTakeNone};
 ghost use Rattle.world_laws.specs.Forged.{ForgedLinesHandItOver, ForgeriesAreFirst};
@@ -25,7 +25,8 @@ pub fn own_ahead_never_comes()
 
 /// Whichever accusation a removal of a node from any node's view rests on: the note of the removed that was the newest
 /// there, as that was accepted, the removed had itself signed before, as is reported, of that accusation's epoch and with
-/// its ring enabled.
+/// its ring enabled. And whichever note a node leaves any node's view by, it had itself signed by then, as is reported, and as
+/// it was called to leave.
 pub fn the_removed_had_signed()
     ensures { TheRemovedHadSigned }
 {}
@@ -38,18 +39,24 @@ pub fn accusations_are_of_the_silent()
     ensures accepted { AcceptedAccusationsWereSigned }
 {}
 
+/// A node signs no note of mask 0 but as it is called to leave, in one of its lives; and that note is its own.
+pub fn nodes_leave_as_called()
+    ensures { NodesLeaveAsCalled }
+{}
+
 /// What is signed at an index of a world's key verifies under that key.
 pub fn keys_verify()
     ensures { KeysVerify }
 {}
 
-/// Each removal in a life of a node rests on an accusation that was accepted earlier in that life, by the node's monitor
-/// of the member, and stood so and unanswered for the timeout. The record of it verifies under the key of the accuser's
-/// certificate, as the node keeps it: the one of a delivered datagram that the node accepted there; or, where the node came
-/// to accuse there itself, at a tick at which the accused was silent, one with the signature of the index that the tick spent
-/// on the accusation. If a node is removed, it had itself signed the note of that same accusation's epoch before, with its
-/// ring enabled. And each removal that is
-/// reported of a node is one of these, at a place that has the reported moment behind it.
+/// Each removal in a life of a node has for its cause a note of the member's, accepted there, by which it left; or it rests on
+/// an accusation that was accepted earlier in that life, by the node's monitor of the member, and stood so and unanswered for
+/// the timeout. The record of it verifies under the key of the certificate of the member or of the accuser, as the node keeps
+/// it: the one of a delivered datagram that the node accepted there; or, where the node was called to leave itself, or came to
+/// accuse there itself at a tick at which the accused was silent, one with the signature of the index that the call spent on
+/// it. If a node is removed, it had itself signed that note by then, as it was called to leave; or, before the accusation was
+/// accepted, the note of that same accusation's epoch, with its ring enabled. And each removal that is reported of a node is
+/// one of these, at a place that has the reported moment behind it.
 pub fn removals_are_verified()
     ensures lived { RemovalsAreVerified }
     ensures told { ToldRemovalsAreVerified }

@@ -16,9 +16,10 @@ use Rattle.node_rules.specs.Nodes.{Setting, Node, state_of}
 use Rattle.node_rules.specs.Calls.{Call, begun, signs_and_sends}
 use Rattle.node_rules.specs.Deliveries.{handles, hears}
 use Rattle.node_rules.specs.Ticking.{accuses, gossips, is_due, passed, pings_all, pings_in, probed_at, round_of, silent_in}
-use Rattle.node_rules.specs.Lives.{Input, Delivers, Ticks}
-use Rattle.node_rules.specs.OnDisks.{Storage, OnDisk, takes_step, goes_on, steps_on, handles_on, hears_on, delivered_on, accuses_on, due_on, ticked_on, called_on}
-use Rattle.world_rules.proofs.CallSteps.{StepIs, SpendsNothing, SpendsOne, MaySign, plain, signing, nothing-hears, nothing-gossips, nothing-probed_at, one-behind, one-signs_and_sends, step-handles, step-accuses}
+use Rattle.node_rules.specs.Leaving.{leaves}
+use Rattle.node_rules.specs.Lives.{Input, Delivers, Ticks, Leaves}
+use Rattle.node_rules.specs.OnDisks.{Storage, OnDisk, takes_step, goes_on, steps_on, handles_on, hears_on, delivered_on, accuses_on, due_on, ticked_on, left_on, called_on}
+use Rattle.world_rules.proofs.CallSteps.{StepIs, SpendsNothing, SpendsOne, MaySign, plain, signing, nothing-hears, nothing-gossips, nothing-probed_at, one-behind, one-signs_and_sends, step-handles, step-accuses, step-leaves}
 
 -- Two kinds of disk that take the same of a node: where they stand alike for what the store keeps, they take the next entry
 -- or fail in it alike, and stand alike behind it.
@@ -186,8 +187,14 @@ ticked-same {D = D} {E = E} s a b Stand Fell n d e alike st =
     (λ due. due-same s a b Stand Fell silent pings round (probed_at s n) d e alike none.ended st2)
     (λ idle. begun-same Stand Fell (probed_at s n) d e none.ended st2)
 
+pub left-same : {D E : Type 0} (s : Setting) (a : Storage D) (b : Storage E) (Stand : Stored → D → E → Type 0) (Fell : D → E → Type 0) (n : Node) (d : D) (e : E) → AreAlike s a b Stand Fell → Stand n.stored d e
+    → IsSame Stand Fell (left_on a s n d) (left_on b s n e)
+unfolding left_on
+left-same s a b Stand Fell n d e alike st = step-same s a b Stand Fell (λ works. leaves works s (begun n)) (begun n) d e alike (step-leaves s (begun n)) refl st
+
 -- A call is the same over two kinds of disk that take the same.
 pub called-same : {D E : Type 0} (s : Setting) (a : Storage D) (b : Storage E) (Stand : Stored → D → E → Type 0) (Fell : D → E → Type 0) (n : Node) (i : Input) (d : D) (e : E) → AreAlike s a b Stand Fell → Stand n.stored d e
     → IsSame Stand Fell (called_on a s n i d) (called_on b s n i e)
 called-same s a b Stand Fell n (Delivers bytes) d e alike st = delivered-same s a b Stand Fell n bytes d e alike st
 called-same s a b Stand Fell n Ticks d e alike st = ticked-same s a b Stand Fell n d e alike st
+called-same s a b Stand Fell n Leaves d e alike st = left-same s a b Stand Fell n d e alike st

@@ -1,5 +1,5 @@
 -- The small steps of a call: what each spends.
-use Rattle.std.proofs.Common.{◌≡◌, ◌⊎◌, ℕ, ◌+◌, ◌^◌, ◌<◌, Bool, true, false, eqb, cond, List, [], ◌∷◌, ◌++◌, Option, Some, None, inl, inr, refl, ap, sym, ◌∙◌, subst, map}
+use Rattle.std.proofs.Common.{◌≡◌, ◌⊎◌, ℕ, ◌+◌, ◌^◌, ◌<◌, Bool, true, false, eqb, cond, List, [], ◌∷◌, ◌++◌, Option, Some, None, inl, inr, refl, ap, sym, ◌∙◌, subst, map, arith}
 use Rattle.std.specs.Prelude.{Result, Ok, Err}
 use Rattle.std.specs.List.{cons_option}
 use Rattle.std.proofs.lemmas.Bool.{cases_Bool, cond_both}
@@ -7,7 +7,7 @@ use Rattle.std.proofs.lemmas.List.Elements.{filter_map-append}
 use Rattle.ff_ids.specs.declared.AccBody.{AccBody}
 use Rattle.ff_ids.specs.declared.Fault.{Fault}
 use Rattle.ff_ids.specs.declared.summary.Summary.{Summary}
-use Rattle.ff_ids.specs.Masks.{ring_count}
+use Rattle.ff_ids.specs.Masks.{bits_where, ring_count}
 use Rattle.ff_ids.specs.Views.{State}
 use Rattle.ff_ids.specs.Steps.{Event, Report, Ticks as Passes, step}
 use Rattle.records.specs.declared.Body.{Body}
@@ -30,6 +30,7 @@ use Rattle.node_rules.specs.Refusals.{refusal}
 use Rattle.node_rules.specs.Calls.{Call, begun, tells, told_of, lives, takes, spends, signs, signs_and_sends, wants, stops, sends, sends_to_all, is_used_up, own_record}
 use Rattle.node_rules.specs.Deliveries.{answer_to, answers, judged, handles, is_other, gives, replies, exchanges, pinged, ponged_by, hears}
 use Rattle.node_rules.specs.Ticking.{accusation_on, ring_for, has_accused, wants_accusation, accuses, pings_all, summary_to, gossips, passed, probed_at}
+use Rattle.node_rules.specs.Leaving.{leaving, leaves}
 use Rattle.world_rules.specs.Settings.{Signed}
 use Rattle.world_rules.specs.Steps.{signed_if_spent, signed_in}
 
@@ -228,6 +229,13 @@ unfolding accuses
 step-accuses s c m =
     step-unless s c (has_accused s (state_of s c.node) m) (λ works. wants_accusation works s m (ring_for s (state_of s c.node) m) (tells s (told.Silent m) c))
     (step-wants_accusation s c (tells s (told.Silent m) c) m (ring_for s (state_of s c.node) m) (nothing-tells s (told.Silent m) c refl))
+
+some-ring : (t : ℕ) → 0 < 2 ^ ring_count t
+some-ring t = let fits : bits_where (λ ring. false) (ring_count t) < 2 ^ ring_count t = bits-below (λ ring. false) (ring_count t) in omega (arith, fits)
+
+pub step-leaves : (s : Setting) (c : Call) → StepIs s c (λ works. leaves works s c)
+unfolding leaves
+step-leaves s c = step-wants s c c (leaving s c.node.stored) (neighbours s) (nothing-same s c) refl (some-ring s.group.t)
 
 -- ---- the other parts of a call
 

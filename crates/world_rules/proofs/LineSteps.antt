@@ -12,7 +12,7 @@ use Rattle.epoch_store.specs.declared.Stored.{Stored}
 use Rattle.journal.specs.declared.event.What.TheVariants as happened
 use Rattle.node_rules.specs.Nodes as node
 use Rattle.node_rules.specs.Calls.{Call}
-use Rattle.node_rules.specs.Lives.{Input, Delivers, Ticks}
+use Rattle.node_rules.specs.Lives.{Input, Delivers, Ticks, Leaves}
 use Rattle.schedule_world.specs.declared.line.WorldLine.TheVariants as lines
 use Rattle.schedule_world.specs.declared.line.WorldLine.{WorldLine}
 use Rattle.world_rules.specs.Settings.{Setting, is_node, is_liar, setting_of}
@@ -33,6 +33,7 @@ use Rattle.world_rules.proofs.OnDisks.{left-state}
 abbrev pub IsFree : Setting → World → Input → Type 0
 IsFree s w (Delivers bytes) = forgery s w bytes ≡ None
 IsFree s w Ticks = Unit {0}
+IsFree s w Leaves = Unit {0}
 
 -- The node begins a life.
 abbrev pub begins_life : Setting → ℕ → Disk → Execution → Execution
@@ -218,7 +219,7 @@ start-idle s w m e = none-current (w.hosts m).current (none-row (table s w (line
 
 pub start-left : (s : Setting) (w : World) (m : ℕ) → why_not s w (lines.Start m) ≡ None → HasIndexLeft s (w.hosts m)
 unfolding why_not row_at
-start-left s w m e = none-row (table s w (lines.Start m)) 7 e
+start-left s w m e = none-row (table s w (lines.Start m)) 8 e
 
 note-liar : (s : Setting) (w : World) (key : ℕ) (note : NoteBody) (name : List ℕ) → why_not s w (lines.SignNote key note name) ≡ None → is_liar s key ≡ true
 unfolding why_not row_at
@@ -247,6 +248,7 @@ keeps-does s J k base w (lines.Start m) can h = keeps-starts s J k base m w (sta
 keeps-does s J k base w (lines.Stop m outcome) can h = quietly J base _ (keeps-stops s J k base m w (w.hosts m).current refl h)
 keeps-does s J k base w (lines.Arm m n outcome) can h = quietly J base _ (k.disked m (record (w.hosts m).disk { armed = Some (record { calls = n; outcome = outcome }) }) w base refl h)
 keeps-does s J k base w (lines.Tick m n) can h = keeps-ticks s J k base m n (begun w) (quietly J base w h)
+keeps-does s J k base w (lines.Leave m) can h = keeps-calls s J k base m Leaves (begun w) tt (quietly J base w h)
 keeps-does s J k base w (lines.Deliver number m) can h = keeps-answered J base _ (keeps-hands_sent s J k base m number (slice_get w.sent number) (begun w) (quietly J base w h))
 keeps-does s J k base w (lines.Flow most) can h = keeps-answered J base _ (keeps-flows s J k base most (begun w) (quietly J base w h))
 keeps-does s J k base w (lines.Raw m bytes) can h = keeps-answered J base _ (keeps-hands s J k base m bytes (begun w) (quietly J base w h))

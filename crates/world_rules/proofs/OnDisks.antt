@@ -14,14 +14,14 @@ use Rattle.node_rules.specs.Nodes.{Setting, Node, state_of}
 use Rattle.node_rules.specs.Calls.{Call, begun, signs_and_sends, stops}
 use Rattle.node_rules.specs.Deliveries.{handles}
 use Rattle.node_rules.specs.Ticking.{accuses, gossips, is_due, passed, pings_all, pings_in, probed_at, round_of, silent_in}
-use Rattle.node_rules.specs.OnDisks.{Input, Delivers, Ticks, takes_step, steps_on, hears_on, accuses_on, delivered_on, due_on, ticked_on}
-use Rattle.node_rules.proofs.Called.{accused-on, ended-stays, handled-on, plain-step, put-step}
+use Rattle.node_rules.specs.OnDisks.{Input, Delivers, Ticks, Leaves, takes_step, steps_on, hears_on, accuses_on, delivered_on, due_on, ticked_on, left_on}
+use Rattle.node_rules.proofs.Called.{accused-on, ended-stays, handled-on, leaves_once, plain-step, put-step}
 pub use Rattle.node_rules.proofs.Called.{chosen, other}
 use Rattle.world_rules.specs.Settings.{Signed}
 use Rattle.world_rules.specs.Disks.{Disk, ArmedStop, after_put, gate_of, left_by, opens_gate, put_passes, stopped_in_put, with_entry}
 use Rattle.world_rules.specs.Calls.{OnDisk, called_on, world_storage}
 use Rattle.world_rules.specs.Steps.{signed_in}
-use Rattle.world_rules.proofs.CallSteps.{SpendsNothing, SpendsOne, MayFollow, StepIs, plain, signing, nothing-tells, nothing-hears, nothing-gossips, nothing-probed_at, one-signs_and_sends, step-handles, step-accuses}
+use Rattle.world_rules.proofs.CallSteps.{SpendsNothing, SpendsOne, MayFollow, StepIs, plain, signing, nothing-tells, nothing-hears, nothing-gossips, nothing-probed_at, one-signs_and_sends, step-handles, step-accuses, step-leaves}
 
 pub next-after : (kept : Stored) (body : Body) → (stored_after kept body).next ≡ kept.next + 1
 next-after kept (Certificate x) = refl
@@ -138,7 +138,7 @@ sound-due s P accused sent round d k sound =
 
 -- What holds of the store as a call begins holds as it ends.
 pub sound-called : (s : Setting) (P : Stored → List Signed → Type 0) (n : Node) (i : Input) (disk : Disk) → IsKept s.me P → n.stored ≡ disk.state → P disk.state [] → Sound s.me P (called_on s n i disk)
-unfolding delivered_on ticked_on
+unfolding delivered_on ticked_on left_on
 sound-called s P n (Delivers bytes) disk k same h = sound-hears s P (read_of bytes) (record { call = begun n; disk = disk }) k (record { holds = h; same = λ going. same })
 sound-called s P n Ticks disk k same h =
     let p : Node = (passed s n).node in
@@ -149,3 +149,5 @@ sound-called s P n Ticks disk k same h =
     cond_both (is_due s st) (due_on world_storage s (silent_in s p st) (pings_in s p st) (round_of s st) d) d (Sound s.me P)
     (λ due. sound-due s P (silent_in s p st) (pings_in s p st) (round_of s st) d k sound)
     (λ never. sound)
+sound-called s P n Leaves disk k same h =
+    sound-step s P (leaves_once s) (record { call = begun n; disk = disk }) 0 k refl (step-leaves s (begun n)) (record { holds = h; same = λ going. same })

@@ -1,5 +1,5 @@
 -- Worked rows: three nodes that tick and gossip, and two of which one stops and starts again.
-use Rattle.std.proofs.Common.{◌≡◌, ℕ, List, [], ◌∷◌, Some, Ok, refl, zero, suc}
+use Rattle.std.proofs.Common.{◌≡◌, ℕ, List, [], ◌∷◌, None, Some, Ok, refl, zero, suc}
 use Rattle.std.specs.Prelude.{fold}
 use Rattle.ff_ids.specs.Masks.{bits_where}
 use Rattle.journal.specs.declared.event.What.TheVariants as told
@@ -14,11 +14,12 @@ use Rattle.rebuttal.specs.Rebuttals.{answering_mask}
 use Rattle.node_rules.specs.Refusals.{refusal}
 use Rattle.node_rules.specs.Calls.{lives, sends, takes, signs, signs_and_sends, wants}
 use Rattle.node_rules.specs.Deliveries.{handles}
+use Rattle.node_rules.specs.Leaving.{leaves}
 use Rattle.node_rules.specs.Starting.{started}
 use Rattle.node_rules.specs.Pages.{page, partner, page_number, lacking}
 use Rattle.node_rules.specs.Ticking.{accuses, passed, probed_at}
 use Rattle.world_rules.specs.Settings.{Setting, nodes, members, by_authority}
-use Rattle.node_rules.specs.OnDisks.{accuses_on, delivered_on, due_on, handles_on, ticked_on}
+use Rattle.node_rules.specs.OnDisks.{accuses_on, delivered_on, due_on, handles_on, left_on, ticked_on}
 use Rattle.world_rules.specs.Worlds.{World, begun_world}
 use Rattle.world_rules.specs.Forgeries.{forgery}
 use Rattle.world_rules.specs.Refusals.{why_not}
@@ -26,7 +27,7 @@ use Rattle.world_rules.specs.Steps.{calls, hands, starts, starts_in_vain, step}
 use Rattle.schedule_world.specs.declared.line.WorldLine.TheVariants as lines
 use Rattle.world_rules.specs.declared.verdict.RefusalReason.TheVariants as whys
 use Rattle.world_rules.specs.declared.verdict.Verdict.TheVariants as verdicts
-use Rattle.world_rules.proofs.Rows.{answers, note, plays, refused, says, setting, tells}
+use Rattle.world_rules.proofs.Rows.{answers, note, own, plays, refused, says, setting, tells}
 
 abbrev three : Setting
 three = setting 32 (1 ∷ 2 ∷ 3 ∷ []) []
@@ -74,3 +75,14 @@ sees_both_again : (says two left_alone (lines.Start 2) ≡ Ok (Some (verdicts.Be
     × (says two back (lines.View 1) ≡ answers (verdicts.Sees (1 ∷ 2 ∷ []))) × (says two back (lines.View 2) ≡ answers (verdicts.Sees (1 ∷ 2 ∷ [])))
 unfolding all_numbers in_view_by started signs signs_and_sends wants takes lives state_of handles refusal sends certificate_of neighbours neighbours_and answering_mask bits_where read_of whole_of datagram_at head_at items_at content_at records_at counted_at record_at body_at certificate_at note_at accusation_at key_at signature_at head_bytes records_bytes note_bytes accusation_bytes certificate_bytes key_bytes nodes members by_authority begun_world delivered_on handles_on forgery why_not calls hands starts starts_in_vain step page partner page_number lacking accuses passed probed_at summary_at entries_at entry_at entry_bytes summary_bytes ticked_on due_on accuses_on
 sees_both_again = (refl, refl, refl)
+
+-- ---- one leaves, and the other removes it as soon as the note comes, and not at a tick
+
+abbrev gone : World
+gone = plays two met (lines.Leave 2 ∷ [])
+
+removes_at_once : (says two met (lines.Leave 2) ≡ Ok (None, tells 2 0 (told.Spent 1 (note 2 2 0) ∷ told.Removed 2 ∷ told.Sent 4 1 (own 2 1 2 0) ∷ [])))
+    × (says two gone (lines.Flow 100) ≡ Ok (None, tells 1 1 (told.Got 4 ∷ told.Took (note 2 2 0) None ∷ told.Removed 2 ∷ [])))
+    × (says two (plays two gone (lines.Flow 100 ∷ lines.Tick 1 7 ∷ lines.Flow 100 ∷ [])) (lines.View 1) ≡ answers (verdicts.Sees (1 ∷ [])))
+unfolding all_numbers in_view_by started signs signs_and_sends wants takes lives state_of handles refusal sends certificate_of neighbours neighbours_and answering_mask bits_where read_of whole_of datagram_at head_at items_at content_at records_at counted_at record_at body_at certificate_at note_at accusation_at key_at signature_at head_bytes records_bytes note_bytes accusation_bytes certificate_bytes key_bytes nodes members by_authority begun_world delivered_on handles_on forgery why_not calls hands starts starts_in_vain step page partner page_number lacking accuses passed probed_at summary_at entries_at entry_at entry_bytes summary_bytes ticked_on due_on accuses_on leaves left_on
+removes_at_once = (refl, refl, refl)

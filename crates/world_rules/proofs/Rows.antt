@@ -27,9 +27,10 @@ use Rattle.rebuttal.specs.Rebuttals.{answering_mask}
 use Rattle.node_rules.specs.Refusals.{refusal}
 use Rattle.node_rules.specs.Calls.{lives, sends, takes, signs, signs_and_sends, wants}
 use Rattle.node_rules.specs.Deliveries.{handles}
+use Rattle.node_rules.specs.Leaving.{leaves}
 use Rattle.node_rules.specs.Starting.{started}
 use Rattle.world_rules.specs.Settings.{Owner, Setting, nodes, members, by_authority}
-use Rattle.node_rules.specs.OnDisks.{delivered_on, handles_on}
+use Rattle.node_rules.specs.OnDisks.{delivered_on, handles_on, left_on}
 use Rattle.world_rules.specs.Worlds.{World, begun_world}
 use Rattle.world_rules.specs.Forgeries.{Forgery, forgery}
 use Rattle.world_rules.specs.Refusals.{why_not}
@@ -169,12 +170,12 @@ before_c = plays one before_b (lines.Give (codes "b") 1 ∷ accuse 1 (Some 2) 1 
 abbrev before_d : World
 before_d = plays one before_c (lines.Give (codes "c") 1 ∷ accuse 1 None 1 (codes "d") ∷ [])
 
--- The datagram of node 1 with its own note.
-abbrev own : ℕ → ℕ → ℕ → List ℕ
-own index epoch mask = datagram_bytes (kinds.Records 1 (record { body = note 1 epoch mask; signature = signature_by (Some 1) index (note 1 epoch mask) } ∷ []))
+-- The datagram of a node with its own note.
+abbrev pub own : ℕ → ℕ → ℕ → ℕ → List ℕ
+own m index epoch mask = datagram_bytes (kinds.Records m (record { body = note m epoch mask; signature = signature_by (Some m) index (note m epoch mask) } ∷ []))
 
-answers_accusations : (says one before_b (lines.Give (codes "b") 1) ≡ brings (told.Took (Accusation (acc 2 1 1 0)) None ∷ told.Spent 1 (note 1 2 6) ∷ told.Fell (acc 2 1 1 0) ∷ told.Sent 0 2 (own 1 2 6) ∷ []))
-    × (says one before_c (lines.Give (codes "c") 1) ≡ brings (told.Took (Accusation (acc 2 1 2 1)) None ∷ told.Spent 2 (note 1 3 5) ∷ told.Fell (acc 2 1 2 1) ∷ told.Sent 1 2 (own 2 3 5) ∷ []))
+answers_accusations : (says one before_b (lines.Give (codes "b") 1) ≡ brings (told.Took (Accusation (acc 2 1 1 0)) None ∷ told.Spent 1 (note 1 2 6) ∷ told.Fell (acc 2 1 1 0) ∷ told.Sent 0 2 (own 1 1 2 6) ∷ []))
+    × (says one before_c (lines.Give (codes "c") 1) ≡ brings (told.Took (Accusation (acc 2 1 2 1)) None ∷ told.Spent 2 (note 1 3 5) ∷ told.Fell (acc 2 1 2 1) ∷ told.Sent 1 2 (own 1 2 3 5) ∷ []))
     × (says one before_d (lines.Give (codes "d") 1) ≡ brings (told.Took (Accusation (acc 2 1 3 1)) (Some faults.RingDisabled) ∷ []))
 unfolding all_numbers in_view_by started signs signs_and_sends wants takes lives state_of handles refusal sends certificate_of neighbours neighbours_and answering_mask bits_where read_of whole_of datagram_at head_at items_at content_at records_at counted_at record_at body_at certificate_at note_at accusation_at key_at signature_at head_bytes records_bytes note_bytes accusation_bytes certificate_bytes key_bytes nodes members by_authority begun_world delivered_on handles_on forgery why_not calls hands starts starts_in_vain step
 answers_accusations = (refl, refl, refl)
@@ -201,3 +202,39 @@ refuses_in_order : (says one base (lines.Start 2) ≡ refused whys.NotNode)
     × (says one base (lines.View 1) ≡ answers (verdicts.Sees (1 ∷ [])))
 unfolding all_numbers in_view_by started signs signs_and_sends wants takes lives state_of handles refusal sends certificate_of neighbours neighbours_and answering_mask bits_where read_of whole_of datagram_at head_at items_at content_at records_at counted_at record_at body_at certificate_at note_at accusation_at key_at signature_at head_bytes records_bytes note_bytes accusation_bytes certificate_bytes key_bytes nodes members by_authority begun_world delivered_on handles_on forgery why_not calls hands starts starts_in_vain step
 refuses_in_order = (refl, refl, refl, refl, refl, refl, refl, refl, refl, refl, refl)
+
+-- A node leaves once, by a note of the next epoch, and is out of its own view. Its next life comes back with all rings.
+abbrev left : World
+left = plays one base (lines.Leave 1 ∷ [])
+
+leaves_and_comes_back : (says one base (lines.Leave 1) ≡ brings (told.Spent 1 (note 1 2 0) ∷ told.Removed 1 ∷ []))
+    × (says one left (lines.View 1) ≡ answers (verdicts.Sees []))
+    × (says one left (lines.Leave 1) ≡ refused whys.Left)
+    × (says one (plays one left (lines.Stop 1 0 ∷ [])) (lines.Start 1) ≡ Ok (Some (verdicts.Began 2), tells 1 0 (told.Spent 2 (note 1 3 7) ∷ told.Entered 1 ∷ [])))
+unfolding all_numbers in_view_by started signs signs_and_sends wants takes lives state_of handles refusal sends certificate_of neighbours neighbours_and answering_mask bits_where read_of whole_of datagram_at head_at items_at content_at records_at counted_at record_at body_at certificate_at note_at accusation_at key_at signature_at head_bytes records_bytes note_bytes accusation_bytes certificate_bytes key_bytes nodes members by_authority begun_world delivered_on handles_on forgery why_not calls hands starts starts_in_vain step leaves left_on
+leaves_and_comes_back = (refl, refl, refl, refl)
+
+-- Only a node that runs may leave. In its next life it may again.
+leaves_where_it_runs : (says one base (lines.Leave 2) ≡ refused whys.NotNode)
+    × (says one (begun_world one) (lines.Leave 1) ≡ refused whys.NotRunning)
+    × (says one (plays one left (lines.Stop 1 0 ∷ [])) (lines.Leave 1) ≡ refused whys.NotRunning)
+    × (says one (plays one left (lines.Stop 1 0 ∷ lines.Start 1 ∷ [])) (lines.Leave 1) ≡ brings (told.Spent 3 (note 1 4 0) ∷ told.Removed 1 ∷ []))
+unfolding all_numbers in_view_by started signs signs_and_sends wants takes lives state_of handles refusal sends certificate_of neighbours neighbours_and answering_mask bits_where read_of whole_of datagram_at head_at items_at content_at records_at counted_at record_at body_at certificate_at note_at accusation_at key_at signature_at head_bytes records_bytes note_bytes accusation_bytes certificate_bytes key_bytes nodes members by_authority begun_world delivered_on handles_on forgery why_not calls hands starts starts_in_vain step leaves left_on
+leaves_where_it_runs = (refl, refl, refl, refl)
+
+-- An accusation at the epoch of the note by which it left is refused, and so it answers none.
+accused_behind : says one (plays one given_note (lines.Leave 1 ∷ accuse 1 None 0 (codes "b") ∷ [])) (lines.Give (codes "b") 1) ≡ brings (told.Took (Accusation (acc 2 1 2 0)) (Some faults.NotInView) ∷ [])
+unfolding all_numbers in_view_by started signs signs_and_sends wants takes lives state_of handles refusal sends certificate_of neighbours neighbours_and answering_mask bits_where read_of whole_of datagram_at head_at items_at content_at records_at counted_at record_at body_at certificate_at note_at accusation_at key_at signature_at head_bytes records_bytes note_bytes accusation_bytes certificate_bytes key_bytes nodes members by_authority begun_world delivered_on handles_on forgery why_not calls hands starts starts_in_vain step leaves left_on
+accused_behind = refl
+
+-- A liar may leave by a note too, and return by a greater one.
+abbrev lies_of : ℕ → ℕ → List ℕ → WorldLine
+lies_of epoch mask name = lines.SignNote 2 (record { member = 2; epoch = epoch; mask = record { 0 = mask } }) name
+
+abbrev liar_left : World
+liar_left = plays one given_note (lies_of 2 0 (codes "b") ∷ lies_of 3 6 (codes "c") ∷ [])
+
+liar_leaves : (says one liar_left (lines.Give (codes "b") 1) ≡ brings (told.Took (note 2 2 0) None ∷ told.Removed 2 ∷ []))
+    × (says one (plays one liar_left (lines.Give (codes "b") 1 ∷ [])) (lines.Give (codes "c") 1) ≡ brings (told.Took (note 2 3 6) None ∷ told.Entered 2 ∷ []))
+unfolding all_numbers in_view_by started signs signs_and_sends wants takes lives state_of handles refusal sends certificate_of neighbours neighbours_and answering_mask bits_where read_of whole_of datagram_at head_at items_at content_at records_at counted_at record_at body_at certificate_at note_at accusation_at key_at signature_at head_bytes records_bytes note_bytes accusation_bytes certificate_bytes key_bytes nodes members by_authority begun_world delivered_on handles_on forgery why_not calls hands starts starts_in_vain step
+liar_leaves = (refl, refl)

@@ -15,11 +15,12 @@ use Rattle.rebuttal.specs.Rebuttals.{answering_mask}
 use Rattle.node_rules.specs.Refusals.{refusal}
 use Rattle.node_rules.specs.Calls.{lives, sends, takes, signs, signs_and_sends, wants}
 use Rattle.node_rules.specs.Deliveries.{handles}
+use Rattle.node_rules.specs.Leaving.{leaves}
 use Rattle.node_rules.specs.Starting.{started}
 use Rattle.node_rules.specs.Pages.{page, partner, page_number, lacking}
 use Rattle.node_rules.specs.Ticking.{accuses, passed, probed_at}
 use Rattle.world_rules.specs.Settings.{Setting, nodes, members, by_authority}
-use Rattle.node_rules.specs.OnDisks.{accuses_on, delivered_on, due_on, handles_on, ticked_on}
+use Rattle.node_rules.specs.OnDisks.{accuses_on, delivered_on, due_on, handles_on, left_on, ticked_on}
 use Rattle.world_rules.specs.Worlds.{World, begun_world}
 use Rattle.world_rules.specs.Forgeries.{forgery}
 use Rattle.world_rules.specs.Refusals.{why_not}
@@ -28,7 +29,7 @@ use Rattle.schedule_world.specs.declared.line.WorldLine.TheVariants as lines
 use Rattle.schedule_world.specs.declared.line.WorldLine.{WorldLine}
 use Rattle.world_rules.specs.declared.verdict.RefusalReason.TheVariants as whys
 use Rattle.world_rules.specs.declared.verdict.Verdict.TheVariants as verdicts
-use Rattle.world_rules.proofs.Rows.{Says, acc, answers, before_b, brings, note, one, plays, refused, says, setting, tells}
+use Rattle.world_rules.proofs.Rows.{Says, acc, answers, base, before_b, brings, note, one, plays, refused, says, setting, tells}
 
 -- What comes for each of these calls and outcomes.
 abbrev each : {X : Type 0} → (ℕ → ℕ → X) → List ℕ → List ℕ → List (List X)
@@ -124,3 +125,25 @@ accusation_left n c = (Ok (None, tells 1 4 (told.Silent 2 ∷ told.Stopped ∷ [
 stops_in_an_accusation : each accusation_stops (0 ∷ 1 ∷ 2 ∷ 3 ∷ []) (0 ∷ 1 ∷ 2 ∷ 183 ∷ []) ≡ each accusation_left (0 ∷ 1 ∷ 2 ∷ 3 ∷ []) (0 ∷ 1 ∷ 2 ∷ 183 ∷ [])
 unfolding all_numbers in_view_by started signs signs_and_sends wants takes lives state_of handles refusal sends certificate_of neighbours neighbours_and answering_mask bits_where read_of whole_of datagram_at head_at items_at content_at records_at counted_at record_at body_at certificate_at note_at accusation_at key_at signature_at head_bytes records_bytes note_bytes accusation_bytes certificate_bytes key_bytes nodes members by_authority begun_world delivered_on handles_on forgery why_not calls hands starts starts_in_vain step page partner page_number lacking accuses passed probed_at summary_at entries_at entry_at entry_bytes summary_bytes ticked_on due_on accuses_on
 stops_in_an_accusation = refl
+
+-- ---- in the note by which a node leaves
+
+abbrev leaving_stops : ℕ → ℕ → Says × Says
+leaving_stops n c =
+    let w = plays one base (lines.Arm 1 n c ∷ []) in
+    (says one w (lines.Leave 1), says one (plays one w (lines.Leave 1 ∷ [])) (lines.Start 1))
+
+-- The node doesn't run then. The gate is byte 74 of the store; behind it stands the note's epoch, and mask 0, from which all rings
+-- come back.
+abbrev leaving_left : ℕ → ℕ → Says × Says
+leaving_left n c = (brings (told.Stopped ∷ []), (if nat_le 2 n && ((c == 1) || (c == 183)) then begins 2 2 3 7 else begins 2 1 2 7))
+
+stops_in_leaving : each leaving_stops (0 ∷ 1 ∷ 2 ∷ 3 ∷ []) (0 ∷ 1 ∷ 2 ∷ 183 ∷ []) ≡ each leaving_left (0 ∷ 1 ∷ 2 ∷ 3 ∷ []) (0 ∷ 1 ∷ 2 ∷ 183 ∷ [])
+unfolding all_numbers in_view_by started signs signs_and_sends wants takes lives state_of handles refusal sends certificate_of neighbours neighbours_and answering_mask bits_where read_of whole_of datagram_at head_at items_at content_at records_at counted_at record_at body_at certificate_at note_at accusation_at key_at signature_at head_bytes records_bytes note_bytes accusation_bytes certificate_bytes key_bytes nodes members by_authority begun_world delivered_on handles_on forgery why_not calls hands starts starts_in_vain step page partner page_number lacking accuses passed probed_at summary_at entries_at entry_at entry_bytes summary_bytes ticked_on due_on accuses_on leaves left_on
+stops_in_leaving = refl
+
+-- A stop that lets four calls pass comes later; a key that is used up leaves by no note.
+leaves_else : (says one (plays one base (lines.Arm 1 4 1 ∷ [])) (lines.Leave 1) ≡ brings (told.Spent 1 (note 1 2 0) ∷ told.Removed 1 ∷ []))
+    × (says brief (plays brief third_life (lines.Start 1 ∷ [])) (lines.Leave 1) ≡ brings (told.Exhausted 3 ∷ []))
+unfolding all_numbers in_view_by started signs signs_and_sends wants takes lives state_of handles refusal sends certificate_of neighbours neighbours_and answering_mask bits_where read_of whole_of datagram_at head_at items_at content_at records_at counted_at record_at body_at certificate_at note_at accusation_at key_at signature_at head_bytes records_bytes note_bytes accusation_bytes certificate_bytes key_bytes nodes members by_authority begun_world delivered_on handles_on forgery why_not calls hands starts starts_in_vain step page partner page_number lacking accuses passed probed_at summary_at entries_at entry_at entry_bytes summary_bytes ticked_on due_on accuses_on leaves left_on
+leaves_else = (refl, refl)

@@ -39,14 +39,14 @@ CallsComeSoFar = (s : node.Setting) (n : node.Node) (i : Input) (d : Disk) → (
 abbrev pub tells_life : ℕ → NodeEvent → Bool
 tells_life m t = (t.who == m) && is_of_life t.event.what
 
--- What was reported of the views of a node is what its lives report, one after another; and each removal in a life rests on an
--- accusation that stood for the timeout, by the node's monitor of the member.
+-- What was reported of the views of a node is what its lives report, one after another; and each removal in a life has a note by
+-- which the member left for its cause, or rests on an accusation that stood for the timeout, by the node's monitor of the member.
 pub record TellsLives (s : Setting) (w : World) (told : List NodeEvent) (m : ℕ) : Type 0 where
   pub told_so : map (λ t. t.event) (filter (tells_life m) told) ≡ flat_map (λ life. told_by s.group (opening []) life.node.lived) (lives_of w m)
   pub justified : AllByRecursion (λ life. IsJustified s.group (opening []) life.node.lived) (lives_of w m)
 
--- In each world that lines lead to, each removal in each life rests on an accusation, and what nodes report of the view is
--- what their lives report.
+-- In each world that lines lead to, each removal in each life has such a cause, and what nodes report of the view is what their
+-- lives report.
 abbrev pub EachRemovalIsJustified : Type 0
 EachRemovalIsJustified = (s : Setting) (w : World) (told : List NodeEvent) (m : ℕ) → Reached s w told → TellsLives s w told m
 

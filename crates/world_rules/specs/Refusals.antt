@@ -3,11 +3,12 @@ use Rattle.std.specs.Prelude.{ℕ, Bool, false, not, ◌==◌, nat_lt, if◌then
 use Rattle.std.specs.Option.{option_map_or}
 use Rattle.records.specs.declared.Body.{Body}
 use Rattle.records.specs.declared.Body.TheVariants.{Note}
-use Rattle.node_rules.specs.Nodes.{is_certified}
+use Rattle.ff_ids.specs.Notes.{is_leaving, newest}
+use Rattle.node_rules.specs.Nodes.{is_certified, state_of}
 use Rattle.schedule_world.specs.declared.line.WorldLine.TheVariants as lines
 use Rattle.schedule_world.specs.declared.line.WorldLine.{WorldLine}
-use Rattle.world_rules.specs.Settings.{Setting, is_node, is_liar}
-use Rattle.world_rules.specs.Worlds.{World, is_running, named_so, next_of_liar, spent_of}
+use Rattle.world_rules.specs.Settings.{Setting, is_node, is_liar, setting_of}
+use Rattle.world_rules.specs.Worlds.{Life, World, is_running, named_so, next_of_liar, spent_of}
 use Rattle.world_rules.specs.declared.verdict.RefusalReason.{RefusalReason}
 use Rattle.world_rules.specs.declared.verdict.RefusalReason.TheVariants as why
 
@@ -19,6 +20,7 @@ node_named (lines.Start m) = Some m
 node_named (lines.Stop m outcome) = Some m
 node_named (lines.Arm m calls outcome) = Some m
 node_named (lines.Tick m ticks) = Some m
+node_named (lines.Leave m) = Some m
 node_named (lines.Deliver datagram m) = Some m
 node_named (lines.Raw m bytes) = Some m
 node_named (lines.Give name m) = Some m
@@ -30,12 +32,18 @@ node_named _ = None
 abbrev pub runner_named : WorldLine → Option ℕ
 runner_named (lines.Stop m outcome) = Some m
 runner_named (lines.Tick m ticks) = Some m
+runner_named (lines.Leave m) = Some m
 runner_named (lines.Deliver datagram m) = Some m
 runner_named (lines.Raw m bytes) = Some m
 runner_named (lines.Give name m) = Some m
 runner_named (lines.View m) = Some m
 runner_named (lines.Monitor m ring of) = Some m
 runner_named _ = None
+
+-- The member that is to leave.
+abbrev pub leaver_named : WorldLine → Option ℕ
+leaver_named (lines.Leave m) = Some m
+leaver_named _ = None
 
 -- The member that is to start.
 abbrev pub starter_named : WorldLine → Option ℕ
@@ -78,6 +86,16 @@ greatest (n ∷ ns) = Some (fold max n ns)
 abbrev pub newest_signed : World → ℕ → Option ℕ
 newest_signed w m = greatest (filter_map (λ x. epoch_of_note m x.body) (spent_of w (Some m)))
 
+-- ---- who has left
+
+-- The newest note that the node of this life has of itself is a leaving one.
+abbrev pub has_left_in : Setting → ℕ → Life → Bool
+has_left_in s m life = option_map_or is_leaving (newest (state_of (setting_of s m) life.node).notes m) false
+
+-- The node runs, and has left.
+abbrev pub has_left : Setting → World → ℕ → Bool
+has_left s w m = option_map_or (has_left_in s m) (w.hosts m).current false
+
 -- ---- the table
 
 -- The member's store has its next index, and a liar's key too.
@@ -108,6 +126,7 @@ table s w line =
     ∷ (holds_of (λ number. not (nat_lt number (length w.sent))) (datagram_named line), why.NoDatagram)
     ∷ (holds_of (is_running w) (starter_named line), why.Running)
     ∷ (holds_of (λ m. not (is_running w m)) (runner_named line), why.NotRunning)
+    ∷ (holds_of (has_left s w) (leaver_named line), why.Left)
     ∷ (holds_of (λ m. not (is_some (newest_signed w m))) (noted_named line), why.NoNote)
     ∷ (holds_of (λ first. first == s.indexes) (next_index w line), why.UsedUp (option_map_or (λ first. first) (next_index w line) 0))
     ∷ (asks_for_unknown w line, why.UnknownMember)

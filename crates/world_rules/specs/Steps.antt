@@ -14,7 +14,7 @@ use Rattle.journal.specs.declared.event.What.TheVariants as told
 use Rattle.node_rules.specs.Nodes as node
 use Rattle.node_rules.specs.Calls.{Call}
 use Rattle.node_rules.specs.Starting.{started}
-use Rattle.node_rules.specs.Lives.{Input, Delivers, Ticks}
+use Rattle.node_rules.specs.Lives.{Input, Delivers, Ticks, Leaves}
 use Rattle.schedule_world.specs.declared.line.WorldLine.TheVariants as lines
 use Rattle.schedule_world.specs.declared.line.WorldLine.{WorldLine}
 use Rattle.world_rules.specs.Settings.{Setting, Signed, certificates, record_of, setting_of}
@@ -260,6 +260,7 @@ does s w (lines.Start m) = Ok (starts s m w)
 does s w (lines.Stop m outcome) = Ok (quiet (begun (stops m w)))
 does s w (lines.Arm m calls outcome) = Ok (quiet (begun (arms m (record { calls = calls; outcome = outcome }) w)))
 does s w (lines.Tick m n) = Ok (quiet (ticks s m n (begun w)))
+does s w (lines.Leave m) = Ok (quiet (calls s m Leaves (begun w)))
 does s w (lines.Deliver number m) = answered (hands_sent s m number (slice_get w.sent number) (begun w))
 does s w (lines.Flow most) = answered (flows s most (begun w))
 does s w (lines.Raw m bytes) = answered (hands s m bytes (begun w))

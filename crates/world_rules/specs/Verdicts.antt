@@ -3,7 +3,7 @@ use Rattle.std.specs.Prelude.{ℕ, List, ◌++◌, codes, decimal}
 use Rattle.ff_ids.specs.Texts.{monitor_text}
 use Rattle.life_events.specs.Events.{members_text}
 use Rattle.world_rules.specs.declared.verdict.RefusalReason.{RefusalReason}
-use Rattle.world_rules.specs.declared.verdict.RefusalReason.TheVariants.{NotNode, NotLiar, NoName, NoDatagram, Running, NotRunning, NoNote, UsedUp, UnknownMember}
+use Rattle.world_rules.specs.declared.verdict.RefusalReason.TheVariants.{NotNode, NotLiar, NoName, NoDatagram, Running, NotRunning, Left, NoNote, UsedUp, UnknownMember}
 use Rattle.world_rules.specs.declared.verdict.Verdict.{Verdict}
 use Rattle.world_rules.specs.declared.verdict.Verdict.TheVariants.{Began, DiskStopped, Spends, Sees, MonitoredBy, Refused}
 
@@ -14,6 +14,7 @@ why_text NoName = codes "no-name"
 why_text NoDatagram = codes "no-datagram"
 why_text Running = codes "running"
 why_text NotRunning = codes "stopped"
+why_text Left = codes "left"
 why_text NoNote = codes "no-note"
 why_text (UsedUp first) = codes "exhausted " ++ decimal first
 why_text UnknownMember = codes "unknown-member"

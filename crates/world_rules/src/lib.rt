@@ -26,8 +26,8 @@ pub fn nodes_spend_once()
 {}
 
 /// What was reported of a node's view, line after line, is what its lives report, one after another; and in each of them each
-/// member that leaves the view does so at a tick, and an accusation accepted earlier against it stood in each state
-/// between, for the timeout at least.
+/// member that goes out of the view does so by an accepted note of its own that leaves, or at a tick, and then an accusation
+/// accepted earlier against it stood in each state between, for the timeout at least.
 pub fn each_removal_is_justified()
     ensures { EachRemovalIsJustified }
 {}

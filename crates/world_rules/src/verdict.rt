@@ -22,6 +22,8 @@ pub enum RefusalReason {
     Running,
     /// The node doesn't run.
     NotRunning,
+    /// The node has left: its own newest note is a leaving one.
+    Left,
     /// The key of the accused has signed no note of it.
     NoNote,
     /// The key that is to sign has no index from `first` on.
@@ -41,6 +43,7 @@ impl fmt::Display for RefusalReason {
             RefusalReason::NoDatagram => write!(f, "no-datagram"),
             RefusalReason::Running => write!(f, "running"),
             RefusalReason::NotRunning => write!(f, "stopped"),
+            RefusalReason::Left => write!(f, "left"),
             RefusalReason::NoNote => write!(f, "no-note"),
             RefusalReason::UsedUp { first } => write!(f, "exhausted {first}"),
             RefusalReason::UnknownMember => write!(f, "unknown-member"),

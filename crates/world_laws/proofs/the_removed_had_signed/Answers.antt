@@ -1,4 +1,4 @@
-use Rattle.world_laws.proofs.SignedBefore.{removed-signed}
+use Rattle.world_laws.proofs.AsCalled.{removed-signed}
 use Rattle.world_laws.proofs.the_removed_had_signed.Goals as goal
 
 pub returns : goal.returns
