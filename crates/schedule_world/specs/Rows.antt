@@ -139,6 +139,7 @@ fields w words.Start = member and no_more
 fields w words.Stop = member and outcome and no_more
 fields w words.Arm = member and number_from 0 1000 and outcome and no_more
 fields w words.Tick = member and number_from 1 (min (ticks_left w) 10000) and no_more
+fields w words.Leave = member and no_more
 fields w words.Deliver = number_from 0 (2 ^ 64 - 1) and member and no_more
 fields w words.Flow = number_from 1 100000 and no_more
 fields w words.Raw = member and bytes_up_to raw_bytes and no_more
@@ -161,6 +162,7 @@ line w words.Start = λ m. lines.Start m
 line w words.Stop = λ m crash. lines.Stop m crash
 line w words.Arm = λ m calls crash. lines.Arm m calls crash
 line w words.Tick = λ m ticks. lines.Tick m ticks
+line w words.Leave = λ m. lines.Leave m
 line w words.Deliver = λ datagram m. lines.Deliver datagram m
 line w words.Flow = λ most. lines.Flow most
 line w words.Raw = λ m bytes. lines.Raw m bytes
@@ -184,6 +186,7 @@ parts w (lines.Start m) = Line words.Start (m, tt)
 parts w (lines.Stop m crash) = Line words.Stop (m, (crash, tt))
 parts w (lines.Arm m calls crash) = Line words.Arm (m, (calls, (crash, tt)))
 parts w (lines.Tick m ticks) = Line words.Tick (m, (ticks, tt))
+parts w (lines.Leave m) = Line words.Leave (m, tt)
 parts w (lines.Deliver datagram m) = Line words.Deliver (datagram, (m, tt))
 parts w (lines.Flow most) = Line words.Flow (most, tt)
 parts w (lines.Raw m bytes) = Line words.Raw (m, (bytes, tt))
@@ -205,6 +208,7 @@ word_text words.Start = codes "start"
 word_text words.Stop = codes "stop"
 word_text words.Arm = codes "arm"
 word_text words.Tick = codes "tick"
+word_text words.Leave = codes "leave"
 word_text words.Deliver = codes "deliver"
 word_text words.Flow = codes "flow"
 word_text words.Raw = codes "raw"
@@ -218,8 +222,8 @@ word_text words.End = codes "end"
 
 abbrev pub line_words : List LineWord
 line_words =
-    words.Group ∷ words.Kinds ∷ words.Node ∷ words.Liar ∷ words.Begin ∷ words.Start ∷ words.Stop ∷ words.Arm ∷ words.Tick ∷ words.Deliver
-    ∷ words.Flow ∷ words.Raw ∷ words.SignNote ∷ words.SignAccusation ∷ words.Give ∷ words.GiveAll ∷ words.View ∷ words.Monitor ∷ words.End ∷ []
+    words.Group ∷ words.Kinds ∷ words.Node ∷ words.Liar ∷ words.Begin ∷ words.Start ∷ words.Stop ∷ words.Arm ∷ words.Tick ∷ words.Leave
+    ∷ words.Deliver ∷ words.Flow ∷ words.Raw ∷ words.SignNote ∷ words.SignAccusation ∷ words.Give ∷ words.GiveAll ∷ words.View ∷ words.Monitor ∷ words.End ∷ []
 
 abbrev pub world_table : Table WorldText LineWord WorldLine
 world_table = record {

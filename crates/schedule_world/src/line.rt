@@ -49,6 +49,10 @@ pub enum WorldLine {
         member: MemberId,
         ticks: u32,
     },
+    /// `leave M`: the node signs a note with mask 0, by which it leaves the view.
+    Leave {
+        member: MemberId,
+    },
     /// `deliver S M`: hands the datagram that was sent with this number to the node.
     Deliver {
         datagram: u64,
@@ -113,6 +117,7 @@ pub enum LineWord {
     Stop,
     Arm,
     Tick,
+    Leave,
     Deliver,
     Flow,
     Raw,

@@ -52,6 +52,14 @@ pub(crate) fn tick_line(text: &WorldText, args: Words) -> Result<WorldLine, BadW
     })
 }
 
+pub(crate) fn leave_line(args: Words) -> Result<WorldLine, BadWord>
+    ensures { result ≡ any_line LineWord.Leave args.entry }
+{
+    let mut args = args.exactly(1)?;
+    let member = take_member(&mut args)?;
+    Ok(WorldLine::Leave { member })
+}
+
 pub(crate) fn deliver_line(args: Words) -> Result<WorldLine, BadWord>
     ensures { result ≡ any_line LineWord.Deliver args.entry }
 {

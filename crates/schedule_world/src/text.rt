@@ -9,8 +9,8 @@ ghost use Rattle.schedule_world.specs.Grammar.{IsSound, IsWorld, after, named, t
 use crate::line::{LineWord, WorldLine};
 use crate::named::Named;
 use crate::read::{
-    arm_line, deliver_line, flow_line, lone_line, monitor_line, start_line, stop_line, tick_line,
-    view_line,
+    arm_line, deliver_line, flow_line, leave_line, lone_line, monitor_line, start_line, stop_line,
+    tick_line, view_line,
 };
 use crate::roster::{group_line, kinds_line, liar_line, node_line};
 use crate::signing::{give_all_line, give_line, raw_line, sign_accusation_line, sign_note_line};
@@ -98,6 +98,7 @@ impl WorldText {
             LineWord::Stop => Ok(stop_line(args)?),
             LineWord::Arm => Ok(arm_line(args)?),
             LineWord::Tick => Ok(tick_line(self, args)?),
+            LineWord::Leave => Ok(leave_line(args)?),
             LineWord::Deliver => Ok(deliver_line(args)?),
             LineWord::Flow => Ok(flow_line(args)?),
             LineWord::Raw => raw_line(alloc, args),
@@ -185,6 +186,8 @@ impl TableForm for WorldText {
             Ok(LineWord::Arm)
         } else if word == b"tick".as_slice() {
             Ok(LineWord::Tick)
+        } else if word == b"leave".as_slice() {
+            Ok(LineWord::Leave)
         } else if word == b"deliver".as_slice() {
             Ok(LineWord::Deliver)
         } else if word == b"flow".as_slice() {

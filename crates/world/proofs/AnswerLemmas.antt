@@ -92,6 +92,7 @@ pub does-course : (s : Setting) (w : ModelWorld) (line : WorldLine) → HasNoVer
 does-course s w (lines.Stop m outcome) h = refl
 does-course s w (lines.Arm m calls outcome) h = refl
 does-course s w (lines.Tick m n) h = refl
+does-course s w (lines.Leave m) h = refl
 does-course s w (lines.Deliver number m) h = refl
 does-course s w (lines.Flow most) h = refl
 does-course s w (lines.Raw m bytes) h = refl

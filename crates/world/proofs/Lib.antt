@@ -15,6 +15,7 @@ pub mod CallLemmas
 pub mod OpeningLemmas
 pub mod StepLemmas
 pub mod ActLemmas
+pub mod ToldLemmas
 pub mod NameLemmas
 pub mod SignerLemmas
 pub mod StartLemmas

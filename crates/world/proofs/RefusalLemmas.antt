@@ -9,7 +9,7 @@ use Rattle.world_rules.specs.Settings.{Setting, is_liar, is_node}
 use Rattle.world_rules.specs.Worlds.{World as ModelWorld, is_running, named_so, next_of_liar}
 use Rattle.world_rules.specs.declared.verdict.RefusalReason.{RefusalReason}
 use Rattle.world_rules.specs.declared.verdict.RefusalReason.TheVariants as whys
-use Rattle.world_rules.specs.Refusals.{asks_for_unknown, datagram_named, first_row, holds_of, key_named, name_named, newest_signed, next_index, node_named, noted_named, runner_named, starter_named, why_not}
+use Rattle.world_rules.specs.Refusals.{asks_for_unknown, datagram_named, first_row, has_left, holds_of, key_named, leaver_named, name_named, newest_signed, next_index, node_named, noted_named, runner_named, starter_named, why_not}
 use Rattle.world.specs.Courses.{before_opening, key_used_up, last_rows}
 
 -- ---- rows
@@ -31,6 +31,9 @@ starts_running w line = holds_of (is_running w) (starter_named line)
 
 abbrev names_stopped : ModelWorld → WorldLine → Bool
 names_stopped w line = holds_of (λ m. not (is_running w m)) (runner_named line)
+
+abbrev names_left : Setting → ModelWorld → WorldLine → Bool
+names_left s w line = holds_of (has_left s w) (leaver_named line)
 
 -- ---- a row that is seen before a store is opened
 
@@ -58,7 +61,11 @@ pub before-stopped : (line : WorldLine) → before_opening line (Some whys.NotRu
 before-stopped (lines.Start m) = refl
 before-stopped line = refl
 
--- ---- the first six rows
+pub before-left : (line : WorldLine) → before_opening line (Some whys.Left) ≡ Some whys.Left
+before-left (lines.Start m) = refl
+before-left line = refl
+
+-- ---- the first seven rows
 
 pub first-node : (s : Setting) (w : ModelWorld) (line : WorldLine) → no_node s line ≡ true → before_opening line (why_not s w line) ≡ Some whys.NotNode
 unfolding why_not
@@ -87,6 +94,11 @@ pub first-stopped : (s : Setting) (w : ModelWorld) (line : WorldLine) → no_nod
 unfolding why_not
 first-stopped s w line a b d f g e = rw (a, b, d, f, g, e) (before-stopped line)
 
+pub first-left : (s : Setting) (w : ModelWorld) (line : WorldLine) → no_node s line ≡ false → no_liar s line ≡ false → no_record w line ≡ false → no_datagram w line ≡ false → starts_running w line ≡ false → names_stopped w line ≡ false
+    → names_left s w line ≡ true → before_opening line (why_not s w line) ≡ Some whys.Left
+unfolding why_not
+first-left s w line a b d f g h e = rw (a, b, d, f, g, h, e) (before-left line)
+
 -- ---- the other rows
 
 abbrev why_not_last : Setting → ModelWorld → WorldLine → Option RefusalReason
@@ -105,9 +117,9 @@ last-line s w (lines.Start m) = by_test (eqb (w.hosts m).disk.state.next s.index
 last-line s w line = refl
 
 pub last-first : (s : Setting) (w : ModelWorld) (line : WorldLine) → no_node s line ≡ false → no_liar s line ≡ false → no_record w line ≡ false → no_datagram w line ≡ false → starts_running w line ≡ false → names_stopped w line ≡ false
-    → before_opening line (why_not s w line) ≡ first_row (last_rows s w line)
+    → names_left s w line ≡ false → before_opening line (why_not s w line) ≡ first_row (last_rows s w line)
 unfolding why_not
-last-first s w line a b d f g h = rw (a, b, d, f, g, h) (last-line s w line)
+last-first s w line a b d f g h i = rw (a, b, d, f, g, h, i) (last-line s w line)
 
 -- ---- a liar's key that is used up
 

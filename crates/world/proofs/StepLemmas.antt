@@ -120,6 +120,7 @@ refused-start s w m why (Some whys.NoName) e = refused-with w why whys.NoName e
 refused-start s w m why (Some whys.NoDatagram) e = refused-with w why whys.NoDatagram e
 refused-start s w m why (Some whys.Running) e = refused-with w why whys.Running e
 refused-start s w m why (Some whys.NotRunning) e = refused-with w why whys.NotRunning e
+refused-start s w m why (Some whys.Left) e = refused-with w why whys.Left e
 refused-start s w m why (Some whys.NoNote) e = refused-with w why whys.NoNote e
 refused-start s w m why (Some whys.UnknownMember) e = refused-with w why whys.UnknownMember e
 

@@ -9,6 +9,7 @@ use Rattle.records.specs.declared.Body.{Body}
 use Rattle.records.specs.declared.Body.TheVariants.{Note, Accusation}
 use Rattle.fields.specs.declared.NoMemory.{NoMemory}
 use Rattle.node_core.specs.Told.{IsPrefix}
+use Rattle.node_rules.specs.Lives.{Leaves}
 use Rattle.world_rules.specs.Settings.{Setting, is_liar, is_node}
 use Rattle.schedule_world.specs.declared.line.WorldLine.TheVariants as lines
 use Rattle.schedule_world.specs.declared.line.WorldLine.{WorldLine}
@@ -19,7 +20,7 @@ use Rattle.world_rules.specs.declared.verdict.RefusalReason.{RefusalReason}
 use Rattle.world_rules.specs.declared.verdict.RefusalReason.TheVariants as whys
 use Rattle.world_rules.specs.declared.verdict.Verdict.TheVariants as verdicts
 use Rattle.world_rules.specs.Refusals.{asks_for_unknown, holds_of, key_named, newest_signed, noted_named, starter_named}
-use Rattle.world_rules.specs.Steps.{Answer, Execution, NodeEvent, and_then, arms, begun, does, epoch_meant, flows, flows_one, gives, gives_each, hands, hands_sent, lies, moment_of, quiet, starts, starts_in_vain, stops, ticks}
+use Rattle.world_rules.specs.Steps.{Answer, Execution, NodeEvent, and_then, arms, begun, calls, does, epoch_meant, flows, flows_one, gives, gives_each, hands, hands_sent, lies, moment_of, quiet, starts, starts_in_vain, stops, ticks}
 use Rattle.world_rules.specs.Walk.{behind_line}
 use Rattle.world.specs.declared.fault.WorldFault.{WorldFault}
 use Rattle.world.specs.declared.fault.WorldFault.TheVariants as faults
@@ -107,6 +108,7 @@ abbrev pub course_of : Setting → WorldLine → Execution → Result Execution 
 course_of s (lines.Stop m outcome) c = Ok (record c { world = stops m c.world })
 course_of s (lines.Arm m calls outcome) c = Ok (record c { world = arms m (record { calls = calls; outcome = outcome }) c.world })
 course_of s (lines.Tick m n) c = Ok (ticks s m n c)
+course_of s (lines.Leave m) c = Ok (calls s m Leaves c)
 course_of s (lines.Deliver number m) c = hands_sent s m number (slice_get c.world.sent number) c
 course_of s (lines.Raw m bytes) c = hands s m bytes c
 course_of s (lines.Give name m) c = gives s m (named_so c.world name) c

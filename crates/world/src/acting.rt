@@ -1,7 +1,7 @@
 //! Calls and starts of nodes, and what they report.
 
 ghost use Rattle.std.specs.Prelude.{◌≡◌, ◌<◌, ℕ, List, Ok, OnOk, false, fold, length};
-ghost use Rattle.node_rules.specs.Lives.{Delivers, Ticks};
+ghost use Rattle.node_rules.specs.Lives.{Delivers, Leaves, Ticks};
 ghost use Rattle.world_rules.specs.Counts.{Counts as Counted, with_event};
 ghost use Rattle.world_rules.specs.Settings.{Setting, nodes};
 ghost use Rattle.world_rules.specs.Steps.{Execution, NodeEvent, calls};
@@ -102,6 +102,20 @@ impl World {
     {
         let before = self.sent.as_slice().len();
         let events = self.hosts[at].tick(self.alloc, &mut self.sent)?;
+        self.tell_all(at, before, events.as_slice(), out)?;
+        Ok(())
+    }
+
+    /// The node at this host leaves, if it runs.
+    pub(crate) fn leave(&mut self, at: usize, out: &mut Vec<u8>) -> Result<(), WorldFault>
+        requires { at < length self.old.hosts }
+        ensures numbers { numbers self.new ≡ numbers self.old }
+        ensures calls { (s : Setting) (before : List NodeEvent) (base : List ℕ) (c : Execution)
+            (m : ℕ) → At s before base self.old out.old.items c → IsPlace self.old at m
+            → Goes s before base self.new out.new.items (Ok (calls s m Leaves c)) result }
+    {
+        let before = self.sent.as_slice().len();
+        let events = self.hosts[at].leave(self.alloc, &mut self.sent)?;
         self.tell_all(at, before, events.as_slice(), out)?;
         Ok(())
     }

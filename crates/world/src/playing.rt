@@ -136,6 +136,7 @@ impl World {
                 Ok(())
             }
             WorldLine::Tick { ticks, .. } => self.tick(at, *ticks, out),
+            WorldLine::Leave { .. } => self.leave(at, out),
             WorldLine::Deliver { datagram, .. } => self.deliver(at, *datagram, out),
             WorldLine::Raw { bytes, .. } => self.hand(at, bytes.as_slice(), out),
             WorldLine::Give { name, .. } => self.give(at, name.as_slice(), out),

@@ -2,7 +2,7 @@
 
 ghost use Rattle.std.specs.Prelude.{◌≡◌, ℕ, List, not, nat_lt, is_some, true, false, length, IfNone};
 ghost use Rattle.std.specs.Option.{option_and_then, option_map};
-ghost use Rattle.world_rules.specs.Refusals.{asks_for_unknown as asks_in, datagram_named, first_row, holds_of, key_named as key_in, name_named as name_in, newest_signed as newest_in, node_named as node_in, noted_named, runner_named as runner_in, starter_named as starter_in, why_not as refusal};
+ghost use Rattle.world_rules.specs.Refusals.{asks_for_unknown as asks_in, datagram_named, first_row, has_left as has_left_in, holds_of, key_named as key_in, leaver_named as leaver_in, name_named as name_in, newest_signed as newest_in, node_named as node_in, noted_named, runner_named as runner_in, starter_named as starter_in, why_not as refusal};
 ghost use Rattle.world_rules.specs.Settings.{Setting, is_liar, is_node};
 ghost use Rattle.world_rules.specs.Steps.{NodeEvent};
 ghost use Rattle.world_rules.specs.Worlds.{World as ModelWorld, is_running as runs, named_so};
@@ -24,6 +24,7 @@ pub fn node_named(line: &WorldLine) -> Option<MemberId>
         | WorldLine::Stop { member, .. }
         | WorldLine::Arm { member, .. }
         | WorldLine::Tick { member, .. }
+        | WorldLine::Leave { member }
         | WorldLine::Deliver { member, .. }
         | WorldLine::Raw { member, .. }
         | WorldLine::Give { member, .. }
@@ -40,6 +41,16 @@ fn runner_named(line: &WorldLine) -> Option<MemberId>
     match line {
         WorldLine::Start { .. } | WorldLine::Arm { .. } => None,
         _ => node_named(line),
+    }
+}
+
+/// The member that is to leave.
+fn leaver_named(line: &WorldLine) -> Option<MemberId>
+    ensures { result ≡ leaver_in line.now }
+{
+    match line {
+        WorldLine::Leave { member } => Some(*member),
+        _ => None,
     }
 }
 
@@ -157,6 +168,27 @@ impl World {
         }
     }
 
+    /// Whether the member runs, and has left.
+    fn has_left(&self, member: MemberId) -> bool
+        ensures { (s : Setting) (w : ModelWorld) (told : List NodeEvent) → Holds s w told self.now
+            → result ≡ has_left_in s w member }
+    {
+        match self.host_of(member) {
+            Some(at) => self.hosts[at].has_left(),
+            None => false,
+        }
+    }
+
+    fn names_left(&self, line: &WorldLine) -> bool
+        ensures { (s : Setting) (w : ModelWorld) (told : List NodeEvent) → Holds s w told self.now
+            → result ≡ holds_of (has_left_in s w) (leaver_in line.now) }
+    {
+        match leaver_named(line) {
+            Some(member) => self.has_left(member),
+            None => false,
+        }
+    }
+
     fn means_no_note(&self, line: &WorldLine) -> bool
         ensures { (s : Setting) (w : ModelWorld) (told : List NodeEvent) → Holds s w told self.now
             → result ≡ holds_of (λ m. not (is_some (newest_in w m))) (noted_named line.now) }
@@ -260,6 +292,9 @@ impl World {
         }
         if self.names_stopped(line) {
             return Some(RefusalReason::NotRunning);
+        }
+        if self.names_left(line) {
+            return Some(RefusalReason::Left);
         }
         self.why_not_signed(line)
     }

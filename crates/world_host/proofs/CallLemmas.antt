@@ -1,20 +1,23 @@
 -- A node's call over its disk, and how it leaves its place.
-use Rattle.std.proofs.Common.{◌≡◌, ℕ, true, false, List, [], ◌∷◌, ◌++◌, length, Option, Some, None, Result, Ok, Err, refl, sym, ap, ◌∙◌, subst, arith, length-append}
+use Rattle.std.proofs.Common.{◌≡◌, ℕ, Bool, true, false, List, [], ◌∷◌, ◌++◌, length, Option, Some, None, Result, Ok, Err, refl, sym, ap, ◌∙◌, subst, arith, length-append}
 use Rattle.std.specs.Prelude.{IfSome, OnOk, is_err, is_some, option_to_list}
-use Rattle.std.specs.Option.{option_map}
+use Rattle.std.specs.FinMap.{get}
+use Rattle.std.specs.Option.{option_map, option_map_or}
 use Rattle.std.proofs.lemmas.Bool.{false≢true}
 use Rattle.fields.specs.declared.NoMemory.{NoMemory}
 use Rattle.ff_ids.specs.declared.Group.{Group}
+use Rattle.ff_ids.specs.declared.NoteBody.{NoteBody}
+use Rattle.ff_ids.specs.Notes.{is_leaving, newest}
 use Rattle.lms_ots.specs.declared.OtsKind.{OtsKind}
 use Rattle.lms_tree.specs.declared.TreeKind.{TreeKind}
 use Rattle.ports.specs.MemoryDisk.{DiskState}
 use Rattle.epoch_store.specs.Placed.{PlacedStore}
 use Rattle.signer.specs.Lives.{Spent}
 use Rattle.journal.specs.declared.event.Event as journal
-use Rattle.node_rules.specs.Nodes.{Node}
+use Rattle.node_rules.specs.Nodes.{Node, state_of}
 use Rattle.node_rules.specs.Nodes as rules
 use Rattle.node_rules.specs.Calls.{Call}
-use Rattle.node_rules.specs.Lives.{Input, after_calls, call_of}
+use Rattle.node_rules.specs.Lives.{Input, OwnNoteIsKept, after_calls, call_of, stored_note}
 use Rattle.node_rules.specs.OneExchange as node_life
 use Rattle.node_rules.specs.OneExchange.{IsCorrect, WhatIsHeldIsTheLife, node_after}
 use Rattle.node_rules.specs.Starting.{started}
@@ -23,11 +26,13 @@ use Rattle.node_core.specs.declared.NodeFault.{NodeFault}
 use Rattle.node_core.specs.declared.NodeFault.TheVariants as faults
 use Rattle.node_core.specs.Answers.{CallerBuffers, GivesCall}
 use Rattle.node_core.specs.OnDisks.{FollowsDisk, GivesOn, storage}
+use Rattle.node_core.specs.Playing as playing
 use Rattle.node_core.specs.Playing.{IsNode, Kept}
 use Rattle.world_host.specs.Held.{HoldsDisk, crashed}
 use Rattle.world_host.specs.OnDisks.{ComesTo, Keeps}
 use Rattle.world_host.proofs.DiskCalling.{calls_as_told}
 use Rattle.world_rules.specs.Calls.{OnDisk}
+use Rattle.world_rules.specs.Refusals.{has_left_in}
 use Rattle.world_rules.specs.Settings.{Setting, setting_of}
 use Rattle.world_rules.specs.Disks.{Disk, seat_of}
 use Rattle.world_rules.specs.Worlds.{Life, Host}
@@ -153,6 +158,28 @@ idle-node s e m (Some v) (Some life) is h = cc
 pub idle-call : (s : Setting) (ots : OtsKind) (tree : TreeKind) (i : Input) (place : Host) (spent : List Spent) (current : Option Life) (x : HostState) (sent : List (ℕ × List ℕ)) → current ≡ None → CallsRunning s ots tree i place spent current x x sent sent []
 idle-call s ots tree i place spent None x sent is = (refl, refl, refl)
 idle-call s ots tree i place spent (Some life) x sent is = cc
+
+-- ---- whether it has left
+
+-- The newest note that a running node has of itself is the one that its membership keeps.
+pub left-in : (s : Setting) (e : Disk) (m : ℕ) (v : Kept) (current : Option Life) (left : Bool) → OwnNoteIsKept → IsGoing v → HoldsCurrent s e m (Some v) current
+    → ((note : NoteBody) → get v.membership.notes v.me ≡ Some note → left ≡ is_leaving note) → left ≡ option_map_or (has_left_in s m) current false
+unfolding playing.setting_of
+left-in s e m v None left law g h is = absurd h
+left-in s e m v (Some life) left law g h is =
+    let t : rules.Setting = g.life.setting in
+    let n : Node = node_after g.life g.inputs in
+    let note : NoteBody = stored_note t n.stored in
+    let own = law t g.life.seed g.life.certificates g.life.stored g.inputs g.correct.rings g.correct.kit in
+    let mine : t.me ≡ v.me = ap (λ (x : rules.Setting). x.me) g.is.setting in
+    let kept : get v.membership.notes v.me ≡ Some note = ap (get v.membership.notes) (sym mine) ∙ sym (g.is.holds.at_number t.me).newest_note ∙ own.own in
+    let member : m ≡ v.me = ap (λ (x : rules.Setting). x.me) h.is.setting in
+    let read : newest (state_of (setting_of s m) life.node).notes m ≡ Some note = (h.is.holds.at_number m).newest_note ∙ ap (get v.membership.notes) member ∙ kept in
+    is note kept ∙ sym (ap (λ (o : Option NoteBody). option_map_or is_leaving o false) read)
+
+pub none-left-in : (s : Setting) (e : Disk) (m : ℕ) (current : Option Life) → HoldsCurrent s e m None current → false ≡ option_map_or (has_left_in s m) current false
+none-left-in s e m None h = refl
+none-left-in s e m (Some life) h = absurd h
 
 -- ---- the whole call
 

@@ -22,7 +22,6 @@ use Rattle.node_rules.specs.Replies.{first_mask}
 use Rattle.lms_tree.specs.declared.key.PublicKey.{PublicKey}
 use Rattle.lms_tree.specs.Leaves.{index_count}
 use Rattle.node_rules.specs.Nodes as node
-use Rattle.node_rules.specs.Starting.{started}
 use Rattle.node_core.specs.declared.NodeFault.{NodeFault}
 use Rattle.node_core.specs.declared.NodeFault.TheVariants as faults
 use Rattle.node_core.specs.Answers.{MayStop}

@@ -112,4 +112,23 @@ impl Host {
         self.keep_bodies(events.as_slice())?;
         Ok(events)
     }
+
+    /// The node leaves, if one runs, as a delivery is answered.
+    pub fn leave(&mut self, alloc: Global, out: &mut Outbox) -> Result<Events, NoMemory>
+        ensures member { self.new.member ≡ self.old.member }
+        ensures calls { (s : Setting) (g : Group) (ots : OtsKind) (tree : TreeKind) (place : Place)
+            (spent : List Spent) → IsWorld s g ots tree
+            → HoldsHost s ots tree place spent self.old
+            → CallsNode s ots tree inputs.Leaves place spent self.old self.new out.old out.new
+            result }
+    {
+        let mut events = Events::new(alloc);
+        let Some(mut node) = self.node.take() else {
+            return Ok(events);
+        };
+        let called = node.leave(alloc, &mut self.disk, out, &mut events);
+        self.end_call(node, called)?;
+        self.keep_bodies(events.as_slice())?;
+        Ok(events)
+    }
 }

@@ -1,6 +1,6 @@
 //! What lasts of a node: its key, its disk, and what it has signed.
 
-ghost use Rattle.std.specs.Prelude.{◌≡◌, ◌≤◌, [], IfOk, IfSome, None, Some, filter_map, is_some};
+ghost use Rattle.std.specs.Prelude.{◌≡◌, ◌≤◌, [], IfOk, IfSome, List, None, Some, false, filter_map, is_some};
 ghost use Rattle.std.specs.Option.{option_map, option_map_or};
 ghost use Rattle.ff_ids.specs.declared.TheConstants.{MAX_TOLERANCE};
 ghost use Rattle.ff_ids.specs.Masks.{ring_count};
@@ -11,8 +11,10 @@ ghost use Rattle.world_host.specs.Held.{crashed};
 ghost use Rattle.world_host.specs.DiskLaws.{IsNew};
 ghost use Rattle.world_host.specs.Bodies.{is_among as is_one_of};
 ghost use Rattle.world_rules.specs.Keys.{owner_key};
-ghost use Rattle.world_rules.specs.Refusals.{epoch_of_note, greatest};
+ghost use Rattle.world_rules.specs.Refusals.{epoch_of_note, greatest, has_left_in};
 ghost use Rattle.world_rules.specs.Settings.{Setting};
+ghost use Rattle.world_rules.specs.Worlds.{Host as Place};
+ghost use Rattle.signer.specs.Lives.{Spent};
 ghost use Rattle.world_host.specs.Holding.{HoldsHost, IsWorld, made_place};
 ghost use Rattle.world_host.specs.Hosts.{HaveJoined};
 
@@ -23,7 +25,7 @@ use fields::NoMemory;
 use lms_tree::{PublicKey, SecretKey};
 use membership::Membership;
 use node_core::Node;
-use node_rules::what_is_held_is_the_life;
+use node_rules::{own_note_is_kept, what_is_held_is_the_life};
 use ports::MemoryDisk;
 use records::Body;
 use secrets::store_tag;
@@ -161,6 +163,19 @@ impl Host {
         ensures { result ≡ is_some self.now.node }
     {
         self.node.is_some()
+    }
+
+    /// Whether the node runs and has left: its own newest note is a leaving one.
+    pub fn has_left(&self) -> bool
+        ensures { (s : Setting) (ots : OtsKind) (tree : TreeKind) (place : Place)
+            (spent : List Spent) → HoldsHost s ots tree place spent self.now
+            → result ≡ option_map_or (has_left_in s self.now.member) place.current false }
+    {
+        own_note_is_kept();
+        match &self.node {
+            Some(node) => node.has_left(),
+            None => false,
+        }
     }
 
     /// How many ticks the life had that runs, or 0.

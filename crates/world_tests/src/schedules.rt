@@ -2,6 +2,7 @@
 
 mod forged;
 mod given;
+mod leaving;
 mod rounds;
 mod stops;
 mod workload;

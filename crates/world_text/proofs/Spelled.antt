@@ -31,6 +31,7 @@ spelled (lines.Start m) = refl
 spelled (lines.Stop m outcome) = simp append_assoc refl
 spelled (lines.Arm m calls outcome) = simp append_assoc refl
 spelled (lines.Tick m ticks) = simp append_assoc refl
+spelled (lines.Leave m) = refl
 spelled (lines.Deliver datagram m) = simp append_assoc refl
 spelled (lines.Flow most) = refl
 spelled (lines.Raw m bytes) = simp append_assoc refl

@@ -1,5 +1,5 @@
 -- Lines of a world as they are written back. Hexadecimal digits are in lower case.
-use Rattle.std.specs.Prelude.{◌≡◌, ℕ, List, [], ◌∷◌, ◌++◌, Option, Some, None, codes, decimal, length, take}
+use Rattle.std.specs.Prelude.{◌≡◌, ℕ, List, [], ◌∷◌, ◌++◌, Option, codes, decimal, length, take}
 use Rattle.std.specs.List.{join_with_byte}
 use Rattle.hex.specs.Hex.{encode_lower}
 use Rattle.ff_ids.specs.declared.Group.{Group}
@@ -58,6 +58,7 @@ line_text (lines.Start m) = codes "start " ++ decimal m
 line_text (lines.Stop m outcome) = codes "stop " ++ decimal m ++ codes " " ++ decimal outcome
 line_text (lines.Arm m calls outcome) = codes "arm " ++ decimal m ++ codes " " ++ decimal calls ++ codes " " ++ decimal outcome
 line_text (lines.Tick m ticks) = codes "tick " ++ decimal m ++ codes " " ++ decimal ticks
+line_text (lines.Leave m) = codes "leave " ++ decimal m
 line_text (lines.Deliver datagram m) = codes "deliver " ++ decimal datagram ++ codes " " ++ decimal m
 line_text (lines.Flow most) = codes "flow " ++ decimal most
 line_text (lines.Raw m bytes) = codes "raw " ++ decimal m ++ codes " " ++ bytes_text bytes

@@ -234,6 +234,7 @@ fn add_line(line: &WorldLine, out: &mut Vec<u8>) -> Result<(), NoMemory>
             (*ticks).into(),
             out,
         ),
+        WorldLine::Leave { member } => add_of_number(b"leave ", member.get().into(), out),
         WorldLine::Deliver { datagram, member } => add_of_two(
             b"deliver ",
             *datagram,

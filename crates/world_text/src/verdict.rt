@@ -19,6 +19,7 @@ fn add_why(why: &RefusalReason, out: &mut Vec<u8>) -> Result<(), NoMemory>
         RefusalReason::NoDatagram => write_bytes(b"no-datagram", out),
         RefusalReason::Running => write_bytes(b"running", out),
         RefusalReason::NotRunning => write_bytes(b"stopped", out),
+        RefusalReason::Left => write_bytes(b"left", out),
         RefusalReason::NoNote => write_bytes(b"no-note", out),
         RefusalReason::UsedUp { first } => add_of_number(b"exhausted ", (*first).into(), out),
         RefusalReason::UnknownMember => write_bytes(b"unknown-member", out),

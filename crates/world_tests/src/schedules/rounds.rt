@@ -54,3 +54,28 @@ view 1 : 1 2 3\nview 2 : 1 2 3\nview 3 : 1 2 3\n";
     assert_eq!(rt; found.as_slice(), wanted.as_slice());
     Ok(())
 }
+
+#[test]
+fn who_leaves_is_gone_without_a_silence_and_may_return(rt: HostRuntime) -> Result<(), Fail> {
+    let alloc = rt.alloc();
+    let mut text = format!(in alloc;
+        "{HEAD}node 1\nnode 2\nnode 3\nbegin\nstart 1\nstart 2\nstart 3\n"
+    )?;
+    add_rounds(alloc, 3, &[1, 2, 3], &mut text)?;
+    text.push_str("view 1\nview 2\nview 3\nleave 3\n")?;
+    add_rounds(alloc, 2, &[1, 2, 3], &mut text)?;
+    text.push_str("view 1\nview 2\nview 3\nstop 3 0\n")?;
+    add_rounds(alloc, 12, &[1, 2], &mut text)?;
+    text.push_str("view 1\nview 2\nstart 3\n")?;
+    add_rounds(alloc, 3, &[1, 2, 3], &mut text)?;
+    text.push_str("view 1\nview 2\nview 3\nend\n")?;
+    let played = play(alloc, text.as_bytes())?;
+    let found = verdicts(alloc, &played.trace)?;
+    let wanted = b"start 1 : life 1\nstart 2 : life 1\nstart 3 : life 1\n\
+view 1 : 1 2 3\nview 2 : 1 2 3\nview 3 : 1 2 3\n\
+view 1 : 1 2\nview 2 : 1 2\nview 3 : 1 2\n\
+view 1 : 1 2\nview 2 : 1 2\nstart 3 : life 2\n\
+view 1 : 1 2 3\nview 2 : 1 2 3\nview 3 : 1 2 3\n";
+    assert_eq!(rt; found.as_slice(), wanted.as_slice());
+    Ok(())
+}

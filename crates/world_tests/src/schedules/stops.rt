@@ -134,9 +134,8 @@ fn a_stop_in_an_accusation_leaves_the_store_of_before_or_after(
     Ok(())
 }
 
-#[test]
-fn a_key_is_used_up_by_lives(rt: HostRuntime) -> Result<(), Fail> {
-    let alloc = rt.alloc();
+/// The lines of as many lives of the node as its key has indexes, and what is written for them.
+pub(super) fn all_lives(alloc: Global) -> Result<(String, String), Fail> {
     let mut text = format!(in alloc; "{PAIR}start 1\n")?;
     let mut wanted = format!(in alloc; "{PAIR}{STARTED}")?;
     for life in 2..33u32 {
@@ -148,6 +147,13 @@ fn a_key_is_used_up_by_lives(rt: HostRuntime) -> Result<(), Fail> {
         )?
         .as_str())?;
     }
+    Ok((text, wanted))
+}
+
+#[test]
+fn a_key_is_used_up_by_lives(rt: HostRuntime) -> Result<(), Fail> {
+    let alloc = rt.alloc();
+    let (mut text, mut wanted) = all_lives(alloc)?;
     text.push_str(
         "sign-note 2 2 1 7 a\ngive a 1\nsign-accusation 2 2 1 32 0 b\ngive b 1\nstop 1 0\nstart 1\n",
     )?;

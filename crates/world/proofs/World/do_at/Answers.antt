@@ -18,6 +18,7 @@ opens-course s w m (lines.Start a) no-start no-view no-monitor named = absurd (n
 opens-course s w m (lines.Stop a outcome) no-start no-view no-monitor named = refl
 opens-course s w m (lines.Arm a calls outcome) no-start no-view no-monitor named = refl
 opens-course s w m (lines.Tick a n) no-start no-view no-monitor named = refl
+opens-course s w m (lines.Leave a) no-start no-view no-monitor named = refl
 opens-course s w m (lines.Deliver number a) no-start no-view no-monitor named = refl
 opens-course s w m (lines.Flow most) no-start no-view no-monitor named = refl
 opens-course s w m (lines.Raw a bytes) no-start no-view no-monitor named = refl

@@ -21,6 +21,7 @@ quiet-other s w (lines.Start a) no-flow no-note no-accusation no-gift named = cc
 quiet-other s w (lines.Stop a outcome) no-flow no-note no-accusation no-gift named = cc
 quiet-other s w (lines.Arm a calls outcome) no-flow no-note no-accusation no-gift named = cc
 quiet-other s w (lines.Tick a n) no-flow no-note no-accusation no-gift named = cc
+quiet-other s w (lines.Leave a) no-flow no-note no-accusation no-gift named = cc
 quiet-other s w (lines.Deliver number a) no-flow no-note no-accusation no-gift named = cc
 quiet-other s w (lines.Flow most) no-flow no-note no-accusation no-gift named = absurd (no-flow most refl)
 quiet-other s w (lines.Raw a bytes) no-flow no-note no-accusation no-gift named = cc

@@ -35,6 +35,12 @@ returns-in-Tick-clause-goes c = λ s before base k m at place named.
     subst (λ (l : WorldLine). Goes s before base c.tick.new.self c.tick.new.out.items (course_of s l k) c.tick.result) (sym c.in-Tick.is)
     (subst (λ (j : ℕ). Goes s before base c.tick.new.self c.tick.new.out.items (course_of s (lines.Tick j c.in-Tick.ticks) k) c.tick.result) (sym same) (c.tick.ensures.ticks s before base k m at place))
 
+pub returns-in-Leave-clause-goes : goal.returns-in-Leave-clause-goes
+returns-in-Leave-clause-goes c = λ s before base k m at place named.
+    let same : c.in-Leave.member ≡ m = same-number c.in-Leave.member m (sym (ap node_named c.in-Leave.is) ∙ named) in
+    subst (λ (l : WorldLine). Goes s before base c.leave.new.self c.leave.new.out.items (course_of s l k) c.leave.result) (sym c.in-Leave.is)
+    (subst (λ (j : ℕ). Goes s before base c.leave.new.self c.leave.new.out.items (course_of s (lines.Leave j) k) c.leave.result) (sym same) (c.leave.ensures.calls s before base k m at place))
+
 pub returns-in-Deliver-clause-goes : goal.returns-in-Deliver-clause-goes
 returns-in-Deliver-clause-goes c = λ s before base k m at place named.
     let same : c.in-Deliver.member ≡ m = same-number c.in-Deliver.member m (sym (ap node_named c.in-Deliver.is) ∙ named) in

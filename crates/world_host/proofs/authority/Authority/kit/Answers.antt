@@ -1,8 +1,8 @@
 use Rattle.std.proofs.Common.{rules, ◌≡◌, ◌<◌, refl, ap, ◌∙◌, sym, subst}
 use Rattle.std.specs.Prelude.{All}
 use Rattle.ff_ids.specs.declared.TheConstants.{MEMBERS}
-use Rattle.node_core.specs.Begins.{IsCheckedIn, IsKit}
-use Rattle.records.specs.Signing.{CheckedRecord, IsChecked}
+use Rattle.node_core.specs.Begins.{IsCheckedIn}
+use Rattle.records.specs.Signing.{IsChecked}
 use Rattle.world_host.specs.Certifying.{Certifying}
 use Rattle.world_host.proofs.KitLemmas.{kit-sound}
 use Rattle.world_host.proofs.authority.Authority.kit.Goals as goal
