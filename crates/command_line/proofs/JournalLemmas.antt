@@ -11,6 +11,7 @@ use Rattle.trace.proofs.JustifiedLemmas.{among-tail, split}
 use Rattle.ports.specs.Outside.{OfDisk}
 use Rattle.node_command.specs.declared.halt.NodeHalt.{NodeHalt}
 use Rattle.node_command.specs.declared.halt.NodeHalt.TheVariants as halt
+use Rattle.node_command.specs.declared.stay.Stay.{Stay}
 use Rattle.node_command.specs.Running.{NetInputs, Takes}
 use Rattle.node_command.specs.Spendings.{Spends}
 use Rattle.node_command.specs.Written.{AreWholeLines, IsGiven, LinesRest, event_line}
@@ -83,12 +84,12 @@ journal-answers feed was now old w = record {
 journal-sends : (feed : NetInputs) (was now : IoState) (old : OfDisk) → WroteAll feed was now old → JournalSends feed was now old
 journal-sends feed was now old w = record { bytes = w.bytes; written = w.written; sent = λ moment number to datagram of. w.rests moment (told.Sent number to datagram) of }
 
-pub node-upholds : (turns : ℕ) (was between now : IoState) (old new : OfDisk) (before after : NetState) (r : Result (Unit {0}) NodeHalt) (s : Status) → Takes was between old new r → RestsFed turns was between old before r → Spends was between old new before.faults after.faults r → Tells (status_of_node r) between now s
-    → NodeUpholds turns was now old new before after s
-node-upholds turns was between now old new before after r s takes rests spends t = record {
+pub node-upholds : (stay : Stay) (was between now : IoState) (old new : OfDisk) (before after : NetState) (r : Result (Unit {0}) NodeHalt) (s : Status) → Takes was between old new r → RestsFed stay was between old before r → Spends was between old new before.faults after.faults r → Tells (status_of_node r) between now s
+    → NodeUpholds stay was now old new before after s
+node-upholds stay was between now old new before after r s takes rests spends t = record {
   untouched = node-upheld was between now old new r s takes t;
-  removals = λ feed link readings reading turns_is. journal-rests feed was now old (wrote-all feed was between now old r s (rests feed link readings reading turns_is) t);
-  answers = λ feed link readings reading turns_is. journal-answers feed was now old (wrote-all feed was between now old r s (rests feed link readings reading turns_is) t);
-  sends = λ feed link readings reading turns_is. journal-sends feed was now old (wrote-all feed was between now old r s (rests feed link readings reading turns_is) t);
+  removals = λ feed link readings reading stay_is. journal-rests feed was now old (wrote-all feed was between now old r s (rests feed link readings reading stay_is) t);
+  answers = λ feed link readings reading stay_is. journal-answers feed was now old (wrote-all feed was between now old r s (rests feed link readings reading stay_is) t);
+  sends = λ feed link readings reading stay_is. journal-sends feed was now old (wrote-all feed was between now old r s (rests feed link readings reading stay_is) t);
   spends = record { result = r; between = between; spends = spends; tells = t };
 }

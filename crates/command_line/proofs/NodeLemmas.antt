@@ -17,6 +17,7 @@ use Rattle.whole_text.specs.Gathered.{IsWhole, lines_from, nothing, owed_whole, 
 use Rattle.ports.specs.Outside.{OfDisk}
 use Rattle.node_command.specs.declared.halt.NodeHalt.{NodeHalt}
 use Rattle.node_command.specs.declared.halt.NodeHalt.TheVariants as halt
+use Rattle.node_command.specs.declared.stay.Stay.{Stay}
 use Rattle.node_command.specs.Members.{kit_judging}
 use Rattle.node_command.specs.Opening.{OpensFile}
 use Rattle.node_command.specs.Running.{IsCaused, Takes, TookAlone, TookWhole}
@@ -40,10 +41,10 @@ Answer = Result (Unit {0}) NodeHalt
 abbrev told_by : (List KitLine → List ℕ) → Continuation BadWord
 told_by tell = owed_whole kit_judging kit.Start tell
 
-pub node-ends : (name : List ℕ) (turns : ℕ) (was mid now : IoState) (old new : OfDisk) (before after : NetState) (r : Answer) (first s : Status) → Takes was mid old new r → IsCaused was old new r → OpensFile name old new r → OnOk r (new.faults ≡ old.faults)
-    → IfErr r (λ h. h ≡ halt.StoreFault → Rose old.faults new.faults) → IfErr r (λ h. h ≡ halt.LinkFault → after.faults ≡ next_count before.faults) → RunsFed turns was mid old new before after r
-    → RestsFed turns was mid old before r → Spends was mid old new before.faults after.faults r → first ≡ status_of_node r → Tells first mid now s → NodeEnds name turns was now old new before after s
-node-ends name turns was mid now old new before after r first s takes cause opened no_disk_fault store link runs rests spends is tells =
+pub node-ends : (name : List ℕ) (stay : Stay) (was mid now : IoState) (old new : OfDisk) (before after : NetState) (r : Answer) (first s : Status) → Takes was mid old new r → IsCaused was old new r → OpensFile name old new r → OnOk r (new.faults ≡ old.faults)
+    → IfErr r (λ h. h ≡ halt.StoreFault → Rose old.faults new.faults) → IfErr r (λ h. h ≡ halt.LinkFault → after.faults ≡ next_count before.faults) → RunsFed stay was mid old new before after r
+    → RestsFed stay was mid old before r → Spends was mid old new before.faults after.faults r → first ≡ status_of_node r → Tells first mid now s → NodeEnds name stay was now old new before after s
+node-ends name stay was mid now old new before after r first s takes cause opened no_disk_fault store link runs rests spends is tells =
     record { result = r; between = mid; takes = takes; cause = cause; opened = opened; no_disk_fault = no_disk_fault; store_fault = store; link_fault = link; runs = runs; rests = rests; spends = spends; tells = subst (λ f. Tells f mid now s) is tells }
 
 -- ## What was taken

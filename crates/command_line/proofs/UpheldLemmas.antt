@@ -123,13 +123,13 @@ all-of Enroll name was now old new before after s h =
       counts = n;
       faults = enroll-disk name was h.between now old new h.result s h.stands h.tells;
     }
-all-of (Node turns) name was now old new before after s h =
+all-of (Node stay) name was now old new before after s h =
     let n = node-counts was h.between now old new h.result s h.takes h.tells in
     record {
       command = node-command h.tells.failed h.result h.tells.line s h.tells.says;
       traced = node-traced was h.between now old new h.result s h.takes h.tells;
       complete = node-completes was h.between now old new h.result s h.takes h.store_fault h.cause h.tells n;
-      upholds = node-upholds turns was h.between now old new before after h.result s h.takes h.rests h.spends h.tells;
+      upholds = node-upholds stay was h.between now old new before after h.result s h.takes h.rests h.spends h.tells;
       counts = n;
       faults = node-disk was h.between now old new h.result s h.takes h.no_disk_fault h.store_fault h.tells;
     }

@@ -36,12 +36,16 @@ spelled_in least most word = number_among least most (words_of word)
 abbrev pub turns_in : List ℕ → Option ℕ
 turns_in word = spelled_in 1 1000000 word
 
-abbrev pub command_for : Option ℕ → Option Command
-command_for None = None
-command_for (Some turns) = Some (Node turns)
+abbrev pub command_for : Bool → Option ℕ → Option Command
+command_for leave None = None
+command_for leave (Some turns) = Some (Node (record { turns = turns; leave = leave }))
 
 abbrev pub command_over : List ℕ → List ℕ → Option Command
-command_over word turns = if bytes_eq word (codes "node") then command_for (turns_in turns) else None
+command_over word turns = if bytes_eq word (codes "node") then command_for false (turns_in turns) else None
+
+-- so many turns, and behind them the word `leave`
+abbrev pub command_leaving : List ℕ → List ℕ → Option Command
+command_leaving turns last = if bytes_eq last (codes "leave") then command_for true (turns_in turns) else None
 
 abbrev pub command_for_soak : Option ℕ → Option ℕ → Option ℕ → Option Command
 command_for_soak (Some seed) (Some members) (Some rounds) = Some (Soak seed members rounds)
@@ -58,15 +62,24 @@ command_drawn word seed members rounds =
 abbrev pub is_store_name : List ℕ → Bool
 is_store_name name = not (length name == 0) && nat_le (length name) 255
 
--- The command is one word, alone; or one behind which the name of a store stands, and for `node` a number of turns; or `soak`,
--- with what its workload is drawn from.
+-- Three words behind the first: for `node` the name of a store, a number of turns and `leave`, else what a workload is drawn from.
+abbrev pub command_behind : List ℕ → List ℕ → List ℕ → List ℕ → Option Command
+command_behind word one two three =
+    if bytes_eq word (codes "node") then (if is_store_name one then command_leaving two three else None) else command_drawn word one two three
+
+-- The command is one word, alone; or one behind which the name of a store stands, and for `node` a number of turns, with or without
+-- the word `leave`; or `soak`, with what its workload is drawn from.
 abbrev pub command_of : List (List ℕ) → Option Command
 command_of [] = None
 command_of (word ∷ []) = command_named word
 command_of (word ∷ name ∷ []) = if is_store_name name then command_with word else None
 command_of (word ∷ name ∷ turns ∷ []) = if is_store_name name then command_over word turns else None
-command_of (word ∷ seed ∷ members ∷ rounds ∷ []) = command_drawn word seed members rounds
-command_of (word ∷ seed ∷ members ∷ rounds ∷ other ∷ words) = None
+command_of (word ∷ one ∷ two ∷ three ∷ []) = command_behind word one two three
+command_of (word ∷ one ∷ two ∷ three ∷ other ∷ words) = None
+
+-- of four words, those of `node` have one
+abbrev pub store_behind : List ℕ → List ℕ → List ℕ
+store_behind word name = if bytes_eq word (codes "node") then name else []
 
 -- the name of the store
 abbrev pub store_in : List (List ℕ) → List ℕ
@@ -74,7 +87,8 @@ store_in [] = []
 store_in (word ∷ []) = []
 store_in (word ∷ name ∷ []) = name
 store_in (word ∷ name ∷ turns ∷ []) = name
-store_in (word ∷ name ∷ turns ∷ other ∷ words) = []
+store_in (word ∷ name ∷ turns ∷ last ∷ []) = store_behind word name
+store_in (word ∷ name ∷ turns ∷ last ∷ other ∷ words) = []
 
 -- the command takes a store
 abbrev pub takes_store : Command → Bool
@@ -82,7 +96,7 @@ takes_store Replay = false
 takes_store Verify = false
 takes_store Store = true
 takes_store Enroll = true
-takes_store (Node turns) = true
+takes_store (Node stay) = true
 takes_store (Soak seed members rounds) = false
 
 abbrev pub is_over_store : Option Command → Bool
@@ -91,7 +105,7 @@ is_over_store (Some command) = takes_store command
 
 -- the command serves a link by a clock
 abbrev pub takes_link : Command → Bool
-takes_link (Node turns) = true
+takes_link (Node stay) = true
 takes_link other = false
 
 abbrev pub is_over_link : Option Command → Bool

@@ -14,6 +14,7 @@ use Rattle.authority.specs.Making.{Makes}
 use Rattle.authority.specs.Enrolling.{Enrols}
 use Rattle.node_command.specs.declared.halt.NodeHalt.{NodeHalt}
 use Rattle.node_command.specs.declared.halt.NodeHalt.TheVariants as node
+use Rattle.node_command.specs.declared.stay.Stay.{Stay}
 use Rattle.node_command.specs.Journal.{environment}
 use Rattle.node_command.specs.Opening.{OpensFile}
 use Rattle.node_command.specs.Running.{NetInputs, IsCaused, Runs, Takes}
@@ -78,21 +79,21 @@ abbrev pub net_state : OfLink → OfClock → NetState
 net_state link clock = record { contents = link.contents; faults = link.faults; reading = clock.reading; readings = clock.coming }
 
 -- What the run of a member took, wrote, did and left, where link and clock are modelled.
-abbrev pub RunsFed : ℕ → IoState → IoState → OfDisk → OfDisk → NetState → NetState → Result (Unit {0}) NodeHalt → Type 0
-RunsFed turns was between old new before after result =
-    (feed : NetInputs) → before.contents ≡ Some feed.link → before.readings ≡ Some feed.readings → before.reading ≡ feed.reading → turns ≡ feed.turns
+abbrev pub RunsFed : Stay → IoState → IoState → OfDisk → OfDisk → NetState → NetState → Result (Unit {0}) NodeHalt → Type 0
+RunsFed stay was between old new before after result =
+    (feed : NetInputs) → before.contents ≡ Some feed.link → before.readings ≡ Some feed.readings → before.reading ≡ feed.reading → stay ≡ feed.stay
     → Runs feed was between (environment was.taken before.contents old) (environment between.taken after.contents new) result
 
 -- What the lines rest on that the run of a member has written, where link and clock are modelled.
-abbrev pub RestsFed : ℕ → IoState → IoState → OfDisk → NetState → Result (Unit {0}) NodeHalt → Type 0
-RestsFed turns was between old before result =
-    (feed : NetInputs) → before.contents ≡ Some feed.link → before.readings ≡ Some feed.readings → before.reading ≡ feed.reading → turns ≡ feed.turns
+abbrev pub RestsFed : Stay → IoState → IoState → OfDisk → NetState → Result (Unit {0}) NodeHalt → Type 0
+RestsFed stay was between old before result =
+    (feed : NetInputs) → before.contents ≡ Some feed.link → before.readings ≡ Some feed.readings → before.reading ≡ feed.reading → stay ≡ feed.stay
     → LinesRest feed was between old result
 
 -- How the run of a member ends: it ended for some answer, and the line of its cause is the last that is written. What it took
 -- of its text, which side failed, which file it opened where its store is broken, and what the lines of its journal give of
 -- signatures is said whether or not link and clock are modelled.
-pub record NodeEnds (name : List ℕ) (turns : ℕ) (was now : IoState) (old new : OfDisk) (before after : NetState) (s : Status) : Type 0 where
+pub record NodeEnds (name : List ℕ) (stay : Stay) (was now : IoState) (old new : OfDisk) (before after : NetState) (s : Status) : Type 0 where
   pub result : Result (Unit {0}) NodeHalt
   pub between : IoState
   pub takes : Takes was between old new result
@@ -101,8 +102,8 @@ pub record NodeEnds (name : List ℕ) (turns : ℕ) (was now : IoState) (old new
   pub no_disk_fault : OnOk result (new.faults ≡ old.faults)
   pub store_fault : IfErr result (λ h. h ≡ node.StoreFault → Rose old.faults new.faults)
   pub link_fault : IfErr result (λ h. h ≡ node.LinkFault → after.faults ≡ next_count before.faults)
-  pub runs : RunsFed turns was between old new before after result
-  pub rests : RestsFed turns was between old before result
+  pub runs : RunsFed stay was between old new before after result
+  pub rests : RestsFed stay was between old before result
   pub spends : Spends was between old new before.faults after.faults result
   pub tells : Tells (status_of_node result) between now s
 
@@ -123,7 +124,7 @@ NodeCounts old new status.LinkFault = new.faults ≡ old.faults
 NodeCounts old new _ = Unit {0}
 
 abbrev pub DiskCountsAs : Command → OfDisk → OfDisk → Status → Type 0
-DiskCountsAs (Node turns) old new s = NodeCounts old new s
+DiskCountsAs (Node stay) old new s = NodeCounts old new s
 DiskCountsAs other old new s = DiskCounts old new s
 
 abbrev pub FaultsAs : Option Command → OfDisk → OfDisk → Status → Type 0

@@ -18,5 +18,5 @@ EndsAs Replay name was now old new before after s = EndsBy IsJudged for_cause re
 EndsAs Verify name was now old new before after s = Ends verified was now s × (new ≡ old)
 EndsAs Store name was now old new before after s = StoreEnds name was now old new s
 EndsAs Enroll name was now old new before after s = EnrollEnds name was now old new s
-EndsAs (Node turns) name was now old new before after s = NodeEnds name turns was now old new before after s
+EndsAs (Node stay) name was now old new before after s = NodeEnds name stay was now old new before after s
 EndsAs (Soak seed members rounds) name was now old new before after s = SoakEnds seed members rounds was now s × (new ≡ old)

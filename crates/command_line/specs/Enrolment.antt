@@ -56,6 +56,8 @@ pub record SpendsOnce (was now : IoState) (old new : OfDisk) : Type 0 where
   pub others : List CertBody
   pub first : asked_in lines ≡ certs ++ others
   pub written : WritesCerts setting opened.next certs was.taken now.taken
+  -- Two laws of any state and any certificates, since who is signed in turn has the next index: `written` ties them to the lines,
+  -- `lives` and `any_moment` to the disk.
   pub once : IsOnce (spent_by opened (map Certificate certs))
   pub above : AllByRecursion (λ i. opened.next ≤ i)
       (indexes (spent_by opened (map Certificate certs)))

@@ -9,6 +9,7 @@ use Rattle.records.specs.declared.Body.TheVariants.{Note, Accusation}
 use Rattle.trace.specs.Written.{IsLineOf}
 use Rattle.ports.specs.Outside.{OfDisk}
 use Rattle.node_command.specs.declared.halt.NodeHalt.{NodeHalt}
+use Rattle.node_command.specs.declared.stay.Stay.{Stay}
 use Rattle.node_command.specs.Removals.{removal_line}
 use Rattle.node_command.specs.Replies.{accepted_line, expiry_line, signed_line}
 use Rattle.node_command.specs.Running.{NetInputs}
@@ -21,7 +22,8 @@ use Rattle.command_line.specs.Serving.{NodeUpheld}
 use Rattle.command_line.specs.declared.status.Status.{Status}
 
 -- Each whole line that was written, the line of a cause among them, and that gives a removal: the life reports it by a tick of
--- one of its turns, and it rests on an accusation.
+-- one of its turns, and it rests on an accusation; or by a delivery of a note by which the member leaves; or as the node itself
+-- leaves behind its turns.
 pub record JournalRests (feed : NetInputs) (was now : IoState) (old : OfDisk) : Type 0 where
   pub bytes : List ℕ
   pub written : Appends was.taken now.taken bytes
@@ -56,10 +58,10 @@ pub record JournalSends (feed : NetInputs) (was now : IoState) (old : OfDisk) : 
       → IsLineOf (sent_line moment number to datagram) bytes
       → IsGiven was old feed moment (told.Sent number to datagram)
 
--- P of what link and clock hold, and how many turns are run, where they are modelled.
-abbrev pub OnFeed : ℕ → NetState → (NetInputs → Type 0) → Type 0
-OnFeed turns before P =
-    (feed : NetInputs) → before.contents ≡ Some feed.link → before.readings ≡ Some feed.readings → before.reading ≡ feed.reading → turns ≡ feed.turns → P feed
+-- P of what link and clock hold, where they are modelled, and of how long the member is served.
+abbrev pub OnFeed : Stay → NetState → (NetInputs → Type 0) → Type 0
+OnFeed stay before P =
+    (feed : NetInputs) → before.contents ≡ Some feed.link → before.readings ≡ Some feed.readings → before.reading ≡ feed.reading → stay ≡ feed.stay → P feed
 
 -- What the run has spent of its key, which is what the lines of its journal give; and behind those just the line of its cause was
 -- written. The link's count of faults rose with the lines that say so, one for one.
@@ -70,11 +72,11 @@ pub record JournalSpends (was now : IoState) (old new : OfDisk) (count faults : 
   pub spends : Spends was between old new count faults result
   pub tells : Tells (status_of_node result) between now s
 
--- The headline for a member's run, under every status: what its removals rest on, what its accepted notes rule out, that what
+-- The headline for a member's run, under every status: what its removals have for their cause, what its accepted notes rule out, that what
 -- its journal gives as sent is sent, and that it spends each index and each epoch once, all above what its store kept.
-pub record NodeUpholds (turns : ℕ) (was now : IoState) (old new : OfDisk) (before after : NetState) (s : Status) : Type 0 where
+pub record NodeUpholds (stay : Stay) (was now : IoState) (old new : OfDisk) (before after : NetState) (s : Status) : Type 0 where
   pub untouched : NodeUpheld was now old new s
-  pub removals : OnFeed turns before (λ feed. JournalRests feed was now old)
-  pub answers : OnFeed turns before (λ feed. JournalAnswers feed was now old)
-  pub sends : OnFeed turns before (λ feed. JournalSends feed was now old)
+  pub removals : OnFeed stay before (λ feed. JournalRests feed was now old)
+  pub answers : OnFeed stay before (λ feed. JournalAnswers feed was now old)
+  pub sends : OnFeed stay before (λ feed. JournalSends feed was now old)
   pub spends : JournalSpends was now old new before.faults after.faults s

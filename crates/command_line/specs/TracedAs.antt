@@ -96,7 +96,7 @@ TracedAs Replay was now old new s = TracedBy IsJudged for_cause replayed was now
 TracedAs Verify was now old new s = Traced verified was now s
 TracedAs Store was now old new s = TracedEither stored was now s
 TracedAs Enroll was now old new s = TracedRoster was now old s
-TracedAs (Node turns) was now old new s = NodeTraced was now s
+TracedAs (Node stay) was now old new s = NodeTraced was now s
 TracedAs (Soak seed members rounds) was now old new s = TracedSoak seed members rounds was now s
 
 -- ## Where all of it is run
@@ -147,5 +147,5 @@ CompletesAs Replay was now old new s = Completes replayed was now s
 CompletesAs Verify was now old new s = Completes verified was now s
 CompletesAs Store was now old new s = StoreCompletes was now old new s
 CompletesAs Enroll was now old new s = EnrollCompletes was now old new s
-CompletesAs (Node turns) was now old new s = NodeCompletes was now old new s
+CompletesAs (Node stay) was now old new s = NodeCompletes was now old new s
 CompletesAs (Soak seed members rounds) was now old new s = SoakCompletes seed members rounds was now s

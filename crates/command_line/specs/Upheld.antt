@@ -36,5 +36,5 @@ Upholds Replay was now old new before after s = Headline was now s
 Upholds Verify was now old new before after s = Verification was now s
 Upholds Store was now old new before after s = OnMade s (IsStoreMade was old new)
 Upholds Enroll was now old new before after s = Enrolment was now old new s
-Upholds (Node turns) was now old new before after s = NodeUpholds turns was now old new before after s
+Upholds (Node stay) was now old new before after s = NodeUpholds stay was now old new before after s
 Upholds (Soak seed members rounds) was now old new before after s = SoakUpheld seed members rounds was now s

@@ -1,9 +1,10 @@
 // The commands.
 
 ghost use Rattle.std.specs.Prelude.{◌≡◌, ◌≤◌, map, string_bytes, IfSome};
-ghost use Rattle.command_line.specs.Commands.{FitsCommand, command_drawn, command_named, command_of, command_over, command_with, is_store_name, spelled_in, store_in, turns_in};
+ghost use Rattle.command_line.specs.Commands.{FitsCommand, command_behind, command_drawn, command_for, command_leaving, command_named, command_of, command_over, command_with, is_store_name, spelled_in, store_behind, store_in, turns_in};
 
 use line_text::Words;
+use node_command::Stay;
 
 /// How many bytes the name of a store may have.
 const STORE_NAME: usize = 255;
@@ -28,9 +29,10 @@ pub enum Command {
     Store,
     /// `enroll STORE`: signs certificates with the authority's store.
     Enroll,
-    /// `node STORE TURNS`: runs a member with its store for some turns, and writes the journal of its life.
+    /// `node STORE TURNS`: runs a member with its store for some turns, and writes the journal of its life. With the word
+    /// `leave` behind them it leaves behind the last turn.
     Node {
-        turns: u32,
+        stay: Stay,
     },
     /// `soak SEED NODES ROUNDS`: plays a seeded attack on a world, and writes what was counted in it.
     Soak {
@@ -72,6 +74,13 @@ fn turns_in(word: &str) -> Option<u32>
     }
 }
 
+/// The name of the store among four words: the second of those of `node`, nothing for any other.
+fn store_behind<'a>(word: &str, name: &'a str) -> &'a str
+    ensures { result.now ≡ store_behind word.now name.now }
+{
+    if word == "node" { name } else { "" }
+}
+
 /// The name of the store, behind the word of the command; nothing where there is no such word.
 pub(crate) fn store_in(words: &[String]) -> &str
     ensures { result.now ≡ store_in (map string_bytes words.now) }
@@ -79,6 +88,7 @@ pub(crate) fn store_in(words: &[String]) -> &str
     match words {
         [_, name] => name.as_str(),
         [_, name, _] => name.as_str(),
+        [word, name, _, _] => store_behind(word.as_str(), name.as_str()),
         _ => "",
     }
 }
@@ -116,10 +126,29 @@ impl Command {
         if word != "node" {
             return None;
         }
+        Command::served(turns, false)
+    }
+
+    /// `node` with the number of turns that the word spells.
+    fn served(turns: &str, leave: bool) -> Option<Command>
+        ensures { result ≡ command_for leave (turns_in turns.now) }
+    {
         match turns_in(turns) {
-            Some(turns) => Some(Command::Node { turns }),
+            Some(turns) => Some(Command::Node {
+                stay: Stay { turns, leave },
+            }),
             None => None,
         }
+    }
+
+    /// `node` with a number of turns, behind which a last word stands.
+    fn leaving(turns: &str, last: &str) -> Option<Command>
+        ensures { result ≡ command_leaving turns.now last.now }
+    {
+        if last != "leave" {
+            return None;
+        }
+        Command::served(turns, true)
     }
 
     /// The command of this word, behind which a seed, a number of members and one of rounds stand.
@@ -140,6 +169,20 @@ impl Command {
         })
     }
 
+    /// The command of this word, behind which three others stand.
+    fn behind(word: &str, one: &str, two: &str, three: &str) -> Option<Command>
+        ensures command { result ≡ command_behind word.now one.now two.now three.now }
+        ensures fits { IfSome result FitsCommand }
+    {
+        if word != "node" {
+            return Command::drawn(word, one, two, three);
+        }
+        if !is_store_name(one) {
+            return None;
+        }
+        Command::leaving(two, three)
+    }
+
     /// The command that the words name, if they name one.
     pub fn of(words: &[String]) -> Option<Command>
         ensures command { result ≡ command_of (map string_bytes words.now) }
@@ -151,12 +194,9 @@ impl Command {
             [word, name, turns] if is_store_name(name.as_str()) => {
                 Command::over(word.as_str(), turns.as_str())
             }
-            [word, seed, members, rounds] => Command::drawn(
-                word.as_str(),
-                seed.as_str(),
-                members.as_str(),
-                rounds.as_str(),
-            ),
+            [word, one, two, three] => {
+                Command::behind(word.as_str(), one.as_str(), two.as_str(), three.as_str())
+            }
             _ => None,
         }
     }

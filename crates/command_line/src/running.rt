@@ -18,7 +18,7 @@ use crate::replay;
 use crate::soak::run_soak;
 use crate::status::Status;
 use authority::{enroll, make_store};
-use node_command::run_node;
+use node_command::{Stay, run_node};
 use ports::{Clock, Disk, Link, Sink, Source};
 use std::alloc::Global;
 use verifier::verify_input;
@@ -85,11 +85,11 @@ fn run_enroll<S: Source, O: Sink, D: Disk>(
     conclude(out, Status::from(ended))
 }
 
-/// Runs a member for so many turns, and answers how the run ended.
+/// Runs a member for so many turns, behind which it may leave, and answers how the run ended.
 fn run_member<S: Source, O: Sink, D: Disk, L: Link, C: Clock>(
     alloc: Global,
     name: &str,
-    turns: u32,
+    stay: Stay,
     input: &mut S,
     out: &mut O,
     disk: &mut D,
@@ -98,14 +98,14 @@ fn run_member<S: Source, O: Sink, D: Disk, L: Link, C: Clock>(
 ) -> Status
     requires source { (S.state input.old).is_open ≡ true }
     requires sink { (O.state out.old).is_open ≡ true }
-    ensures ends { NodeEnds name.now turns
+    ensures ends { NodeEnds name.now stay
         (io (S.state input.old) (O.state out.old))
         (io (S.state input.new) (O.state out.new))
         (D.state disk.old) (D.state disk.new)
         (net_state (L.state link.old) (C.state clock.old))
         (net_state (L.state link.new) (C.state clock.new)) result }
 {
-    let ended = run_node(alloc, name, turns, input, out, disk, link, clock);
+    let ended = run_node(alloc, name, stay, input, out, disk, link, clock);
     conclude(out, Status::from(ended))
 }
 
@@ -139,7 +139,7 @@ fn run_command<S: Source, O: Sink, D: Disk, L: Link, C: Clock>(
         Command::Verify => run_verify(alloc, input, out),
         Command::Store => run_store(alloc, name, input, out, disk),
         Command::Enroll => run_enroll(alloc, name, input, out, disk),
-        Command::Node { turns } => { run_member(alloc, name, turns, input, out, disk, link, clock) }
+        Command::Node { stay } => { run_member(alloc, name, stay, input, out, disk, link, clock) }
         Command::Soak {
             seed,
             members,

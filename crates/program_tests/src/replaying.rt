@@ -315,7 +315,7 @@ const ACCUSED: [Row; 10] = [
 ];
 
 /// Words that name no command, of which some are near to one.
-const NO_COMMAND: [&str; 18] = [
+const NO_COMMAND: [&str; 22] = [
     "",
     "replay x",
     "verify x",
@@ -324,6 +324,10 @@ const NO_COMMAND: [&str; 18] = [
     "node s 1000001",
     "node s 01",
     "node s 1 2",
+    "node s 1 left",
+    "node s 0 leave",
+    "node s leave 1",
+    "node s 1 leave leave",
     "soak",
     "soak x 3 1",
     "soak 7 2 1",

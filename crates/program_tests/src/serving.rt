@@ -35,9 +35,10 @@ fn link_with(alloc: Global, answers: Vec<LinkAnswer>) -> MemoryLink {
     MemoryLink::new(alloc, answers, Vec::new(alloc), false)
 }
 
-/// Runs member 1 for two turns, on a disk that fails at these calls. The clock reads 0, 50 and 250.
-fn serve(
+/// Runs member 1 by these words, on a disk that fails at these calls. The clock reads 0, 50 and 250.
+fn serve_by(
     alloc: Global,
+    words: &[&str],
     first: &First,
     disk_fails: &[u64],
     link: &mut MemoryLink,
@@ -46,13 +47,23 @@ fn serve(
     let mut disk = own_disk(alloc, &first.key, disk_fails)?;
     run_on(
         alloc,
-        &["node", "n.st", "2"],
+        words,
         first.text.as_str(),
         60_000,
         &mut disk,
         link,
         &mut clock,
     )
+}
+
+/// Runs member 1 for two turns.
+fn serve(
+    alloc: Global,
+    first: &First,
+    disk_fails: &[u64],
+    link: &mut MemoryLink,
+) -> Result<Run, Fail> {
+    serve_by(alloc, &["node", "n.st", "2"], first, disk_fails, link)
 }
 
 /// Runs member 1 so, and compares the number and what was written.
@@ -88,6 +99,23 @@ fn serves_alone(rt: &impl Abort, alloc: Global, first: &First) -> Result<(), Fai
 fn a_member_alone_writes_its_journal(rt: HostRuntime) -> Result<(), Fail> {
     let first = first_alone(rt.alloc())?;
     serves_alone(&rt, rt.alloc(), &first)
+}
+
+/// Runs a member that hears nothing, and leaves behind its second turn.
+fn leaves_alone(rt: &impl Abort, alloc: Global, first: &First) -> Result<(), Fail> {
+    let wanted = format!(in alloc;
+        "{STARTED}{QUIET}at 2 spent 1 note 1 2 0\nat 2 removed 1\nend\n"
+    )?;
+    let words = ["node", "n.st", "2", "leave"];
+    let got = serve_by(alloc, &words, first, &[], &mut quiet_link(alloc))?;
+    compare(rt, &got, 0, wanted.as_bytes());
+    Ok(())
+}
+
+#[test]
+fn a_member_alone_leaves_behind_its_turns(rt: HostRuntime) -> Result<(), Fail> {
+    let first = first_alone(rt.alloc())?;
+    leaves_alone(&rt, rt.alloc(), &first)
 }
 
 #[test]

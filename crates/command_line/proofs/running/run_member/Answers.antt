@@ -6,7 +6,7 @@ use Rattle.command_line.proofs.running.run_member.Goals as goal
 pub returns : goal.returns
 returns g c = record {
   ends =
-      node-ends c.args.name.now c.args.turns
+      node-ends c.args.name.now c.args.stay
       (io (g.S.Source.state c.args.input.now) (g.O.Sink.state c.args.out.now))
       (io (g.S.Source.state c.run_node-ended.new.input) (g.O.Sink.state c.run_node-ended.new.out))
       (io (g.S.Source.state c.run_node-ended.new.input) (g.O.Sink.state c.conclude.new.out))
