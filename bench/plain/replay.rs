@@ -220,7 +220,7 @@ fn number(word: &[u8]) -> Option<u64> {
 struct Member {
     epoch: u64,   // of the newest note, 0 for none
     gone: u64,    // the greatest epoch of an expired accusation, 0 for none
-    mask: u32,    // of the newest note
+    mask: u32,    // of the newest note, 0 where the member has left
     against: u32, // the rings with a kept accusation against this member
     joined: bool,
 }
@@ -228,7 +228,7 @@ struct Member {
 impl Member {
     #[inline]
     fn in_view(&self) -> bool {
-        self.epoch > self.gone
+        self.mask != 0 && self.epoch > self.gone
     }
 }
 
@@ -346,7 +346,7 @@ impl Membership {
     fn note(&mut self, m: usize, epoch: u64, mask: u32, out: &mut Output) {
         let old = self.members[m];
         let newest = (old.epoch, old.mask);
-        let good_mask = u64::from(mask) >> self.k == 0 && mask.count_ones() > self.t;
+        let good_mask = mask == 0 || u64::from(mask) >> self.k == 0 && mask.count_ones() > self.t;
         match old.joined {
             false => return out.verdict(b" : refused unknown-member"),
             true if !good_mask => return out.verdict(b" : refused bad-mask"),
@@ -359,8 +359,13 @@ impl Membership {
             }
             true => out.verdict(b" : accepted"),
         }
+        if mask == 0 && old.in_view() {
+            self.write_removed(m, out);
+            self.take_out(m);
+            self.write_fell(out);
+        }
         let still = if epoch == old.epoch { mask } else { 0 };
-        for ring in bits((old.against & !still).into()) {
+        for ring in bits((self.members[m].against & !still).into()) {
             let kept = self.drop_kept(m, ring);
             out.accusation(self.now, b" fell", kept, old.epoch);
         }
@@ -464,19 +469,23 @@ impl Membership {
         for kept in expired.drain(..) {
             let m = usize::from(kept.accused);
             if self.members[m].in_view() {
-                out.event(self.now, b" removed");
-                out.small(m);
-                out.end_line();
-                self.remove(m);
+                self.write_removed(m, out);
+                self.members[m].gone = self.members[m].epoch;
+                self.take_out(m);
             }
         }
         self.expired = expired;
         self.write_fell(out);
     }
 
+    fn write_removed(&self, m: usize, out: &mut Output) {
+        out.event(self.now, b" removed");
+        out.small(m);
+        out.end_line();
+    }
+
     /// Takes a member out of the view; what falls with it is added to `fell`.
-    fn remove(&mut self, m: usize) {
-        self.members[m].gone = self.members[m].epoch;
+    fn take_out(&mut self, m: usize) {
         self.view[m / 64] &= !(1 << (m % 64));
         self.view_text.clear();
         for ring in bits(self.members[m].against.into()) {

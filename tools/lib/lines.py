@@ -43,6 +43,10 @@ class Note:
 
     word = "note"
 
+    def is_leaving(self):
+        """By this note its member leaves: it enables no ring."""
+        return self.mask == 0
+
 
 @dataclass(frozen=True)
 class Accusation:
@@ -461,6 +465,7 @@ WORLD_STEPS = {
     "stop": ((MEMBER, ranged(0, 65535, "an outcome")), NODE_LINE),
     "arm": ((MEMBER, ranged(0, 1000, "calls"), ranged(0, 65535, "an outcome")), NODE_LINE),
     "tick": ((MEMBER, ranged(1, 10000, "ticks")), NODE_LINE),
+    "leave": ((MEMBER,), NODE_LINE),
     "deliver": ((ranged(0, U64, "a datagram"), MEMBER), NODE_LINE),
     "flow": ((ranged(1, 100000, "datagrams"),), None),
     "raw": ((MEMBER, any_bytes), NODE_LINE),
@@ -593,7 +598,7 @@ class JournalReader:
 
 def begins_life(line, after):
     """Whether a life of a node begins with this line of a journal: it signs a note and, with the line after, enters its
-    own view at moment 0. Within a life that can't come, since nobody leaves a view at moment 0."""
+    own view at moment 0. Within a life that can't come: a node that has left its own view signs no note to return."""
     return (
         isinstance(line, Event)
         and isinstance(after, Event)

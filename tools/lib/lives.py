@@ -36,13 +36,14 @@ class Life:
 @dataclass(frozen=True)
 class Change:
     """`life`: a life begins, and the view is empty; `entered`, `removed`; `over`: the life is over, `how` its last words.
-    A removal rests on `accusation`."""
+    A removal rests on `accusation`, or the member left by its note `left`."""
 
     event: str
     life: int
     moment: int
     member: int
     accusation: Optional[Accusation] = None
+    left: Optional[Note] = None
     how: Optional[str] = None
     view: Tuple[int, ...] = ()
 
@@ -155,10 +156,13 @@ class Story:
         self.life.view.pop(line.member, None)
         self.life.removed[line.member] = line.moment
         self.life.changed = line.moment
+        note = self.life.notes.get(line.member)
+        if note is not None and note.is_leaving():
+            return [self.change("removed", line.moment, line.member, left=note)]
         expired = self.life.expired if self.life.expired_at == line.moment else ()
         cause = next((one for one in expired if one.accused == line.member), None)
         if cause is None:
-            raise LineError(line.line, f"an accusation of {line.member} that expired, above its removal")
+            raise LineError(line.line, f"a note by which {line.member} left, or an expired accusation of it, above its removal")
         return [self.change("removed", line.moment, line.member, accusation=cause)]
 
     def fell(self, line):

@@ -243,7 +243,9 @@ class Watch:
             self.put("entered", event.member, event, at)
             self.enter_state(event.member, IN_VIEW, event, at)
         elif kind == "removed":
-            self.put("removed", event.member, event, at, "removed", 0)
+            note = self.notes.get(event.member)
+            has_left = note is not None and note.is_leaving()
+            self.put("removed", event.member, event, at, "left" if has_left else "removed", 0)
             self.enter_state(event.member, REMOVED, event, at)
         elif kind in ("expired", "fell"):
             self.kept.pop(event.body, None)
