@@ -135,7 +135,7 @@ fn a_stop_in_an_accusation_leaves_the_store_of_before_or_after(
 }
 
 /// The lines of as many lives of the node as its key has indexes, and what is written for them.
-pub(super) fn all_lives(alloc: Global) -> Result<(String, String), Fail> {
+pub fn all_lives(alloc: Global) -> Result<(String, String), Fail> {
     let mut text = format!(in alloc; "{PAIR}start 1\n")?;
     let mut wanted = format!(in alloc; "{PAIR}{STARTED}")?;
     for life in 2..33u32 {
