@@ -1,5 +1,5 @@
--- What a replay upholds: what the removals that it took and wrote rest on, and what an accepted note rules out; of a schedule
--- of a world, what no liar brought about.
+-- What a replay upholds: what the removals that it took and wrote have for their cause, and what an accepted note rules out; of
+-- a schedule of a world, what no liar brought about.
 use Rattle.std.specs.Prelude.{◌≡◌, ℕ, Bool, true, false, List, [], ◌++◌, Ok, Err}
 use Rattle.play.specs.Plays.{IoState}
 use Rattle.play.specs.declared.stop.Stop.TheVariants as stop
@@ -31,9 +31,10 @@ OnWhole (Err stop.WriteFault) P = Unit {0}
 OnWhole (Err stop.OutOfMemory) P = Unit {0}
 
 -- A text of the direct form. Each whole line that was written, and each event of what was taken, that gives a removal is the
--- report of a tick of a life, and rests on an accusation that was accepted in it and stood in each state between, for the
--- timeout; and each removal of a life is reported. Behind an accepted note no older accusation is accepted or expires in that
--- life, and one that it answers expires only where it was accepted again, and the timeout has passed since.
+-- report of an event of a life: of a note by which the member leaves; or of a tick, and it rests on an accusation that was
+-- accepted in that life and stood in each state between, for the timeout; and each removal of a life is reported. Behind an
+-- accepted note no older accusation is accepted or expires in that life, and one that it answers expires only where it was
+-- accepted again, and the timeout has passed since.
 pub record DirectHeadline (lines : List (List ℕ)) (text line : List ℕ) (result : RunEnd Cause) : Type 0 where
   pub written : IsJustified lines (text ++ line)
   -- A law of any input: `written` and `told` tie it to what was written.
@@ -53,11 +54,11 @@ OnForged (Err stop.OutOfMemory) P = Unit {0}
 OnForged (Ok _) P = Unit {0}
 
 -- A schedule of a world. The lines that were taken lead to a world, none of them is forged, and what its nodes reported is as no
--- liar can help: each removal rests on a verified accusation that stood for the timeout, and each key spends once. Flows hand
--- over each datagram at most once. A line that is answered by members asks for the view of a node, and is answered by that of the
--- life that runs then; where two such lives accept the same notes, and the same accusations expire in them, the answers are the
--- same. What is named as forged is handed over by the very line of the number that is named, which ends so in this world, and
--- verifies under a key that never signed it.
+-- liar can help: each removal has for its cause a verified note by which the member left, or a verified accusation that stood for
+-- the timeout, and each key spends once. Flows hand over each datagram at most once. A line that is answered by members asks for
+-- the view of a node, and is answered by that of the life that runs then; where two such lives accept the same notes, and the
+-- same accusations expire in them, the answers are the same. What is named as forged is handed over by the very line of the
+-- number that is named, which ends so in this world, and verifies under a key that never signed it.
 -- Each whole line that was written and gives an event gives one that was reported, and each event that was reported is written.
 pub record WorldHeadline (lines : List (List ℕ)) (text line : List ℕ) (result : RunEnd Cause) : Type 0 where
   -- Three laws of any input: `written` and `told` tie what they say of `told_in lines` to what was written.

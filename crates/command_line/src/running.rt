@@ -189,9 +189,9 @@ pub fn run<S: Source, O: Sink, D: Disk, L: Link, C: Clock>(
         (io (S.state input.new) (O.state out.new))
         (D.state disk.old) (D.state disk.new) result) }
 
-    // What the trace that was written rests on: in a replay each removal on an accusation that stood unanswered for
-    // the timeout; to a text that asks about a signature nothing is answered before its end. What is signed of
-    // certificates spends indexes from the next one found on, each once, whatever ends the run.
+    // What the trace that was written rests on: in a replay each removal on a note by which the member left, or on an
+    // accusation that stood unanswered for the timeout; to a text that asks about a signature nothing is answered before
+    // its end. What is signed of certificates spends indexes from the next one found on, each once, whatever ends the run.
     ensures upholds { IfSome (command_of (map string_bytes words.now)) (λ command. Upholds command
         (io (S.state input.old) (O.state out.old))
         (io (S.state input.new) (O.state out.new))
