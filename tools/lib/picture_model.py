@@ -277,7 +277,7 @@ ROOM = {
 EFFECTS = {
     "entered": ("took", "spent"),
     "fell": ("took", "spent", "entered", "expired", "removed", "fell"),
-    "removed": ("expired", "removed"),
+    "removed": ("took", "spent", "expired", "removed"),
     "expired": ("expired",),
 }
 
