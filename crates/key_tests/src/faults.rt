@@ -50,7 +50,7 @@ fn compare(
 }
 
 /// Member, epoch, mask and signer.
-const NOTES: [(u8, u8, u32, u8, &str); 23] = [
+const NOTES: [(u8, u8, u32, u8, &str); 29] = [
     // No certificate, and so no key: the mask is bad, or it isn't.
     (9, 1, 8, 1, "unknown-member"),
     (9, 1, 7, 1, "unknown-member"),
@@ -73,6 +73,13 @@ const NOTES: [(u8, u8, u32, u8, &str); 23] = [
     // The observer's own.
     (3, 9, 7, 2, "bad-signature"),
     (3, 9, 7, 3, "own-ahead 1 7 9 7"),
+    // By which a member leaves: by another's key, of the newest epoch and of an older one, and ahead of the observer's own.
+    (2, 3, 0, 1, "bad-signature"),
+    (2, 2, 0, 2, "older 2 6"),
+    (2, 1, 0, 1, "older 2 6"),
+    (3, 9, 0, 2, "bad-signature"),
+    (3, 9, 0, 3, "own-ahead 1 7 9 0"),
+    (2, 3, 0, 2, "ok"),
     // A greater epoch, a greater mask, a first note, and one of a member that comes back.
     (2, 3, 7, 2, "ok"),
     (2, 2, 7, 2, "ok"),

@@ -5,6 +5,7 @@ mod given;
 mod leaving;
 mod rounds;
 mod stops;
+mod together;
 mod workload;
 
 use crate::player::{Ended, play};
