@@ -20,3 +20,5 @@ mod rosters;
 mod stores;
 #[cfg(test)]
 mod trees;
+#[cfg(test)]
+mod two_levels;

@@ -1,7 +1,7 @@
 //! The LMS signatures of RFC 8554's test cases, and keys of each kind that sign.
 
 mod signed;
-mod vectors;
+pub mod vectors;
 
 ghost use Rattle.std.specs.Prelude.{◌≡◌, length};
 ghost use Rattle.lms_tree.specs.Kinds.{signature_length};

@@ -1,0 +1,3 @@
+pub mod Hss
+pub mod Pairs
+pub mod Trees
