@@ -1,6 +1,6 @@
 //! Pairs: the keys of two levels that sign.
 
-ghost use Rattle.std.specs.Prelude.{◌≡◌, ◌≢◌, ◌+◌, ◌<◌, ◌≤◌, ◌↔◌, true, None, Some, IfOk, IfNone, IfSome, IsNone, IsTrue, OnErr, OnOk, OnSome, length};
+ghost use Rattle.std.specs.Prelude.{◌≡◌, ◌≢◌, ◌+◌, ◌<◌, ◌≤◌, ◌↔◌, true, None, Some, IfOk, IfNone, IfSome, IsNone, IsOk, IsTrue, OnErr, OnOk, OnSome, length};
 ghost use Rattle.lms_tree.specs.Kinds.{height};
 ghost use Rattle.hss.specs.Hss.{HssVerifies, is_in_profile};
 ghost use Rattle.hss.specs.Pairs.{index_count, prepared, public_of, signature_length, signature_of, tree_of};
@@ -51,7 +51,8 @@ impl Model for Pair {
 
 impl Pair {
     /// The pair of these kinds that the identifier and the seed determine, with no bottom tree made yet. Who makes a pair
-    /// again must skip past each index that was spent before it signs, and no other key may have its seed and identifier.
+    /// again, of the same kinds, must skip past each index that was spent before it signs. No other pair may have its seed,
+    /// whatever its identifier and its kinds: bottom trees are made from the seed alone.
     pub fn make(
         alloc: Global,
         top: TreeKind,
@@ -87,7 +88,8 @@ impl Pair {
 
     /// The public half.
     pub fn public(&self) -> HssKey
-        ensures { result ≡ public_of self.now.key }
+        ensures value { result ≡ public_of self.now.key }
+        ensures profile { is_in_profile self.now.key.ots ≡ true }
     {
         HssKey {
             top: self.top.public(),
@@ -132,9 +134,12 @@ impl Pair {
         self.next = n;
     }
 
-    /// Makes the bottom tree of the next index, if there is one. Where memory is refused, nothing has changed.
+    /// Makes the bottom tree of the next index, if there is one; a tree that was made last is kept, and takes no memory.
+    /// Where memory is refused, nothing has changed.
     pub fn prepare(&mut self, alloc: Global) -> Result<(), NoMemory>
         ensures made { OnOk result (self.new ≡ prepared self.old) }
+        ensures held { self.old.made ≡ Some (tree_of self.old.key self.old.next) → IsOk result }
+        ensures ends { self.old.next ≡ index_count self.old.key → IsOk result }
         ensures same { OnErr result (self.new ≡ self.old) }
     {
         if self.next == self.secret.index_count() {

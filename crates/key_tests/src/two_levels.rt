@@ -317,13 +317,15 @@ fn a_pair_goes_on_to_its_last_index(rt: HostRuntime) -> Result<(), Fail> {
     let alloc = rt.alloc();
     let mut pair = pair_at(&rt, alloc, &signed::FIRST_INDEX, 31)?;
     let public = pair.public();
-    for message in [b"before", b"behind"] {
+    // The last index of a tree, and two of the next, which is kept for the second.
+    for message in [b"before", b"behind", b"within"] {
         let signature = signature(&rt, alloc, &mut pair, message)?;
         assert_eq!(rt; verify(&public, message, &signature), Ok(()));
     }
-    assert_eq!(rt; pair.next(), 33);
+    assert_eq!(rt; pair.next(), 34);
     pair.skip_to(1_023);
     let last = signature(&rt, alloc, &mut pair, b"last")?;
     assert_eq!(rt; verify(&public, b"last", &last), Ok(()));
+    assert_eq!(rt; pair.next(), 1_024);
     is_used_up(&rt, alloc, &mut pair)
 }
