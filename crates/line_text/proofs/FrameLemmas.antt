@@ -16,7 +16,7 @@ use Rattle.line_text.specs.declared.bad_word.LineFault.{LineFault}
 use Rattle.line_text.specs.declared.bad_word.LineFault.TheVariants as faults
 use Rattle.line_text.specs.Answers.{AnswersBy, AnswersThat, Refuses}
 use Rattle.line_text.specs.Fields.{bad_where}
-use Rattle.line_text.specs.Frame.{IsLine, Next, Row, before_line_feed, behind, field_tests, first_bad, first_of, frame_tests, has_line_feed, header_row, is_header, judge, line_bytes, or_else, row_line, row_of_line, row_tests, text_lines, unless_bad, word_among, words_in}
+use Rattle.line_text.specs.Frame.{IsLine, Next, Row, before_line_feed, behind, field_tests, first_bad, first_of, frame_tests, has_line_feed, header_row, is_header, judge, line_bytes, or_else, row_line, row_of_line, row_tests, text_lines, text_tests, unless_bad, word_among, words_in}
 use Rattle.line_text.specs.Words.{is_space, is_printable, is_word, is_spaced, parts}
 
 -- ## Tests that did not hold
@@ -196,33 +196,54 @@ answer-that Takes judged l (Ok x) e h = ok_same x l judged e h
 answer-that Takes judged l (Err (faults.Bad w)) e h = cc
 answer-that {L} Takes judged l (Err faults.OutOfMemory) e h = subst (λ (r : Result L BadWord). IsOkAnd r Takes) e h
 
+abbrev there : {A : Type 0} → A → Option A
+there x = Some x
+
+some_is : {A : Type 0} (x y : A) → there x ≡ there y → x ≡ y
+some_is x y e = cc
+
 -- What the frame finds is the judgement.
-pub frame-bad : {L : Type 0} (next : Next L) (ended : Bool) (number : ℕ) (bytes : List ℕ) (w : BadWord) → ended ≡ next.ended → number ≡ next.number → first_of (frame_tests ended number bytes) ≡ Some w → judge next bytes ≡ Err w
+frame_found : (ended : Bool) (number : ℕ) (bytes : List ℕ) (spaced : Bool) (found : Option BadWord) → first_of (text_tests ended number bytes) ≡ found → is_spaced (before_line_feed bytes) ≡ spaced
+    → first_of (frame_tests ended number bytes) ≡ or_else found (or_else (bad_where bad.Spaces (not spaced)) None)
+frame_found ended number bytes spaced found e s =
+    first_of-append (text_tests ended number bytes) (bad_where bad.Spaces (not (is_spaced (before_line_feed bytes))) ∷ [])
+    ∙ ap (λ (w : Option BadWord). or_else w (or_else (bad_where bad.Spaces (not (is_spaced (before_line_feed bytes)))) None)) e
+    ∙ ap (λ (b : Bool). or_else found (or_else (bad_where bad.Spaces (not b)) None)) s
+
+same_tests : {L : Type 0} (next : Next L) (ended : Bool) (number : ℕ) (bytes : List ℕ) → ended ≡ next.ended → number ≡ next.number → first_of (text_tests next.ended next.number bytes) ≡ first_of (text_tests ended number bytes)
+same_tests next ended number bytes e n =
+    sym (ap (λ (b : Bool). first_of (text_tests b number bytes)) e ∙ ap (λ (k : ℕ). first_of (text_tests next.ended k bytes)) n)
+
+pub frame-bad : {L : Type 0} (next : Next L) (ended : Bool) (number : ℕ) (bytes : List ℕ) (w : BadWord) → ended ≡ next.ended → number ≡ next.number → first_of (text_tests ended number bytes) ≡ Some w → judge next bytes ≡ Err w
 unfolding judge
 frame-bad next ended number bytes w e n bad =
-    let same : frame_tests ended number bytes ≡ frame_tests next.ended next.number bytes = ap (λ (b : Bool). frame_tests b number bytes) e ∙ ap (λ (k : ℕ). frame_tests next.ended k bytes) n in
-    rw (sym (ap first_of same) ∙ bad) refl
+    rw (frame_found next.ended next.number bytes _ (Some w) (same_tests next ended number bytes e n ∙ bad) refl) refl
+
+-- Words that aren't spaced are the judgement, where the frame finds nothing before them.
+unspaced : (spaced : Bool) (w : BadWord) → bad_where bad.Spaces (not spaced) ≡ Some w → (spaced ≡ false) × (bad.Spaces ≡ w)
+unspaced true w e = cc
+unspaced false w e = (refl, some_is bad.Spaces w e)
+
+pub spaces-bad : {L : Type 0} (next : Next L) (ended : Bool) (number : ℕ) (bytes text : List ℕ) (w : BadWord) → ended ≡ next.ended → number ≡ next.number → first_of (text_tests ended number bytes) ≡ None
+    → text ≡ before_line_feed bytes → bad_where bad.Spaces (not (is_spaced text)) ≡ Some w → judge next bytes ≡ Err w
+unfolding judge
+spaces-bad next ended number bytes text w e n good of bad =
+    let u = unspaced (is_spaced text) w bad in
+    rw (frame_found next.ended next.number bytes false None (same_tests next ended number bytes e n ∙ good) (ap is_spaced (sym of) ∙ u.0)) (ap (λ (x : BadWord). Err x) u.1)
 
 -- Where the frame finds nothing, what the form finds is the judgement.
-pub frame-good : {L : Type 0} (Takes : L → Type 0) (next : Next L) (ended : Bool) (number : ℕ) (bytes : List ℕ) (words : List (List ℕ)) (answer : Result L LineFault) → ended ≡ next.ended → number ≡ next.number → first_of (frame_tests ended number bytes) ≡ None
-    → words ≡ words_in bytes → AnswersBy Takes (row_line (next.row words) (behind words)) answer → AnswersBy Takes (judge next bytes) answer
+pub frame-good : {L : Type 0} (next : Next L) (ended : Bool) (number : ℕ) (bytes text : List ℕ) → ended ≡ next.ended → number ≡ next.number → first_of (text_tests ended number bytes) ≡ None
+    → text ≡ before_line_feed bytes → is_spaced text ≡ true → judge next bytes ≡ row_line (next.row (parts text)) (behind (parts text))
 unfolding judge
-frame-good Takes next ended number bytes words answer e n good in_line h =
-    let same : frame_tests ended number bytes ≡ frame_tests next.ended next.number bytes = ap (λ (b : Bool). frame_tests b number bytes) e ∙ ap (λ (k : ℕ). frame_tests next.ended k bytes) n in
-    rw (sym (ap first_of same) ∙ good)
-    (subst (λ (ws : List (List ℕ)). AnswersBy Takes (row_line (next.row ws) (behind ws)) answer) in_line h)
+frame-good next ended number bytes text e n good of spaced =
+    rw (frame_found next.ended next.number bytes true None (same_tests next ended number bytes e n ∙ good) (ap is_spaced (sym of) ∙ spaced))
+    (ap (λ (t : List ℕ). row_line (next.row (parts t)) (behind (parts t))) (sym of))
 
 -- ## Line words
 
 pub chosen : {A : Type 0} (b : Bool) (x y z : A) → cond b x y ≡ z → ((b ≡ true) × (x ≡ z)) ⊎ ((b ≡ false) × (y ≡ z))
 chosen true x y z e = inl (refl, e)
 chosen false x y z e = inr (refl, e)
-
-abbrev there : {A : Type 0} → A → Option A
-there x = Some x
-
-some_is : {A : Type 0} (x y : A) → there x ≡ there y → x ≡ y
-some_is x y e = cc
 
 -- A word that is a line word is its text.
 pub word_among-text : {W : Type 0} (text : W → List ℕ) (ks : List W) (word : List ℕ) (k : W) → word_among text ks word ≡ Some k → word ≡ text k

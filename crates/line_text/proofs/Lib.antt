@@ -10,3 +10,4 @@ pub mod SpellingLemmas
 pub mod ShapeLemmas
 pub mod TableLemmas
 pub mod SpacedLemmas
+pub mod GlanceLemmas

@@ -100,15 +100,19 @@ pub record Next (L : Type 0) : Type 0 where
 
 -- ## The table of bad words
 
--- what all forms refuse
-abbrev pub frame_tests : Bool → ℕ → List ℕ → List (Option BadWord)
-frame_tests ended number bytes =
+-- what all forms refuse of the bytes of a line, whatever its words
+abbrev pub text_tests : Bool → ℕ → List ℕ → List (Option BadWord)
+text_tests ended number bytes =
     bad_where bad.AfterEnd ended
     ∷ bad_where bad.Long (nat_lt line_bytes (length (before_line_feed bytes)))
     ∷ bad_where bad.LineFeed (not (has_line_feed bytes))
     ∷ bad_where bad.Lines (nat_lt text_lines number)
-    ∷ bad_where bad.Spaces (not (is_spaced (before_line_feed bytes)))
     ∷ []
+
+-- what all forms refuse
+abbrev pub frame_tests : Bool → ℕ → List ℕ → List (Option BadWord)
+frame_tests ended number bytes =
+    text_tests ended number bytes ++ bad_where bad.Spaces (not (is_spaced (before_line_feed bytes))) ∷ []
 
 -- the words of a line
 abbrev pub words_in : List ℕ → List (List ℕ)

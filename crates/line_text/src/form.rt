@@ -1,9 +1,10 @@
 //! What a form of text says of its lines.
 
-ghost use Rattle.std.specs.Prelude.{◌≡◌, ℕ, Bool, List, ◌∷◌, Result};
+ghost use Rattle.std.specs.Prelude.{◌≡◌, ℕ, Bool, true, List, ◌∷◌, Result, Ok, IfSome};
 ghost use Rattle.line_text.specs.declared.bad_word.BadWord.{BadWord};
 ghost use Rattle.line_text.specs.Answers.{AnswersBy};
 ghost use Rattle.line_text.specs.Frame.{Row, behind, row_line};
+ghost use Rattle.line_text.specs.Words.{is_spaced, parts};
 
 use crate::bad_word::LineFault;
 use crate::words::Words;
@@ -35,6 +36,16 @@ pub trait Form {
     /// Whether the line `end` was read.
     fn is_ended(&self) -> bool
         ensures { result ≡ is_ended self.now };
+
+    /// The line that the text is, where one pass over it shows that. Of any other text `judge` says what it is.
+    fn glance(&self, _text: &[u8]) -> Option<Self::Line>
+        requires { is_sound self.now }
+        ensures spaced { IfSome result (λ _. is_spaced _text.now ≡ true) }
+        ensures line { IfSome result (λ l. row_line (row_for self.now (parts _text.now))
+            (behind (parts _text.now)) ≡ Ok l) }
+    {
+        None
+    }
 
     /// The line that the words are, or the first bad word that the form finds in them.
     fn judge(&self, alloc: Global, words: Words) -> Result<Self::Line, LineFault>

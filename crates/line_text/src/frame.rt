@@ -1,8 +1,10 @@
 //! What the lines of all forms share.
 
-ghost use Rattle.std.specs.Prelude.{◌≡◌, ◌≤◌, IfOk, OnOk};
+ghost use Rattle.std.specs.Prelude.{◌≡◌, ◌≤◌, not, true, IfOk, OnOk};
 ghost use Rattle.line_text.specs.Answers.{refusal};
-ghost use Rattle.line_text.specs.Frame.{before_line_feed, first_of, frame_tests, has_line_feed, text_lines, words_in};
+ghost use Rattle.line_text.specs.Fields.{bad_where};
+ghost use Rattle.line_text.specs.Frame.{before_line_feed, first_of, has_line_feed, text_lines, text_tests};
+ghost use Rattle.line_text.specs.Words.{is_spaced, parts};
 
 use crate::bad_word::BadWord;
 use crate::words::Words;
@@ -26,10 +28,10 @@ fn before_line_feed(bytes: &[u8]) -> &[u8]
     }
 }
 
-/// The words of the next line, which has this number, where a text has or hasn't ended.
-pub(crate) fn frame_words(ended: bool, number: u32, bytes: &[u8]) -> Result<Words, BadWord>
-    ensures refused { first_of (frame_tests ended number bytes.now) ≡ refusal result }
-    ensures words { IfOk result (λ words. words ≡ words_in bytes.now) }
+/// What stands before the line feed of the next line, which has this number, where a text has or hasn't ended.
+pub(crate) fn frame_text(ended: bool, number: u32, bytes: &[u8]) -> Result<&[u8], BadWord>
+    ensures refused { first_of (text_tests ended number bytes.now) ≡ refusal result }
+    ensures text { IfOk result (λ text. text.now ≡ before_line_feed bytes.now) }
     ensures few { OnOk result (number ≤ text_lines) }
 {
     let text = before_line_feed(bytes);
@@ -42,6 +44,15 @@ pub(crate) fn frame_words(ended: bool, number: u32, bytes: &[u8]) -> Result<Word
     } else if number > TEXT_LINES {
         Err(BadWord::Lines)
     } else {
-        Words::of(text).ok_or(BadWord::Spaces)
+        Ok(text)
     }
+}
+
+/// The words of the text, if it is words with one space between two and none elsewhere.
+pub(crate) fn spaced_words(text: &[u8]) -> Result<Words, BadWord>
+    ensures refused { bad_where BadWord.Spaces (not (is_spaced text.now)) ≡ refusal result }
+    ensures spaced { OnOk result (is_spaced text.now ≡ true) }
+    ensures words { IfOk result (λ words. words ≡ parts text.now) }
+{
+    Words::of(text).ok_or(BadWord::Spaces)
 }

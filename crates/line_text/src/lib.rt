@@ -7,6 +7,7 @@ mod bad_word;
 mod digits;
 mod form;
 mod frame;
+mod glance;
 mod names;
 mod numbers;
 mod reader;
@@ -15,6 +16,7 @@ mod words;
 
 pub use bad_word::{BadWord, LineFault};
 pub use form::Form;
+pub use glance::Glance;
 pub use reader::Reader;
 pub use table_form::{TableForm, judge_by_table};
 pub use words::Words;

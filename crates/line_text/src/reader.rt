@@ -6,7 +6,7 @@ ghost use Rattle.line_text.specs.Frame.{IsLine, first_bad, judge, text_lines};
 
 use crate::bad_word::{BadWord, LineFault};
 use crate::form::Form;
-use crate::frame::frame_words;
+use crate::frame::{frame_text, spaced_words};
 use std::alloc::Global;
 use std::marker::Model;
 
@@ -89,7 +89,11 @@ impl<F: Form> Reader<F> {
             (judge (next_line F.is_ended F.row_for self.now) bytes.now) result }
         ensures few { OnOk result (self.now.number ≤ text_lines) }
     {
-        let words = frame_words(self.form.is_ended(), self.number, bytes)?;
+        let text = frame_text(self.form.is_ended(), self.number, bytes)?;
+        if let Some(line) = self.form.glance(text) {
+            return Ok(line);
+        }
+        let words = spaced_words(text)?;
         self.form.judge(alloc, words)
     }
 

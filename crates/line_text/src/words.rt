@@ -58,7 +58,7 @@ fn first_space(text: &[u8]) -> Option<usize>
 /// The part before the first space, and what stands behind that space.
 #[tactic(auto, using(crate::proofs::WordLemmas::parts_alone, crate::proofs::WordLemmas::parts_at))]
 #[inline(always)]
-fn first_part(text: &[u8]) -> (&[u8], Option<&[u8]>)
+pub(crate) fn first_part(text: &[u8]) -> (&[u8], Option<&[u8]>)
     ensures { parts text.now ≡ result.0.now ∷ parts_left result.1 }
 {
     match first_space(text) {

@@ -1,6 +1,7 @@
 -- The table of the direct form: each line word, where its line may stand, what the words behind it must be, and what line
 -- they are.
-use Rattle.std.specs.Prelude.{ℕ, ◌*◌, ◌-◌, ◌^◌, min, Bool, true, false, if◌then◌else◌, List, [], ◌∷◌, map, replicate, length, Option, None, Result, Ok, Err, codes}
+use Rattle.std.specs.Prelude.{◌≡◌, ℕ, ◌*◌, ◌-◌, ◌^◌, min, Bool, true, false, if◌then◌else◌, List, [], ◌∷◌, map, replicate, length, Option, None, Result, Ok, Err, codes}
+use Rattle.std.specs.List.{list_all}
 use Rattle.ff_ids.specs.declared.AccBody.{AccBody}
 use Rattle.ff_ids.specs.declared.NoteBody.{NoteBody}
 use Rattle.ff_ids.specs.declared.TheConstants.{LAST_MEMBER, MAX_TOLERANCE, ALL_BITS}
@@ -12,6 +13,7 @@ use Rattle.line_text.specs.Frame.{Row, fields_line, first_of, is_header, unless_
 use Rattle.line_text.specs.Shapes.{◌and◌, Field, Fields, Makes, line_from, no_more, number_from, so_many, tests}
 use Rattle.line_text.specs.Tables as table
 use Rattle.line_text.specs.Tables.{Header, Line, Parts, Table}
+use Rattle.line_text.specs.Words.{is_word}
 use Rattle.schedule_direct.specs.declared.direct.Direct.{Direct}
 use Rattle.schedule_direct.specs.declared.direct.Direct.TheVariants as direct
 use Rattle.schedule_direct.specs.declared.line.DirectLine.{DirectLine}
@@ -201,3 +203,7 @@ read_places ws = unless_bad (first_of (word_tests (replicate (length ws) number_
 abbrev pub TakesMemory : DirectLine → Type 0
 TakesMemory (lines.Member m ps) = Unit {0}
 TakesMemory _ = ⊥
+
+-- These are words, and they are read as this line.
+abbrev pub AreRead : Direct → LineWord → List (List ℕ) → DirectLine → Type 0
+AreRead d word args l = (list_all is_word args ≡ true) × (fields_line (fields_of d word) (line_of word) args ≡ Ok l)

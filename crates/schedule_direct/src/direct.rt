@@ -7,10 +7,11 @@ ghost use Rattle.line_text.specs.Frame.{fields_line};
 ghost use Rattle.schedule_direct.specs.Rows.{TakesMemory, direct_table, fields_of, is_body, is_ended, is_headed, line_of, may_stand, reads, row_for, ticks_left, tolerance};
 ghost use Rattle.schedule_direct.specs.Grammar.{IsDirect, IsSound, after};
 
+use crate::glance::glance_line;
 use crate::line::{DirectLine, LineWord};
 use crate::member::member_line;
 use crate::read::{accuse_line, group_line, lone_line, monitor_line, note_line, tick_line};
-use line_text::{BadWord, Form, LineFault, TableForm, Words, judge_by_table};
+use line_text::{BadWord, Form, Glance, LineFault, TableForm, Words, judge_by_table};
 use std::alloc::Global;
 
 /// How many ticks a schedule may have.
@@ -41,7 +42,7 @@ fn may_stand(direct: Direct, word: LineWord) -> bool
 }
 
 /// The tolerance of the group, below it.
-fn tolerance(direct: Direct) -> u8
+pub(crate) fn tolerance(direct: Direct) -> u8
     ensures { result ≡ tolerance direct }
 {
     match direct {
@@ -51,7 +52,7 @@ fn tolerance(direct: Direct) -> u8
 }
 
 /// How many ticks may still come.
-fn ticks_left(direct: Direct) -> u32
+pub(crate) fn ticks_left(direct: Direct) -> u32
     ensures { result ≡ ticks_left direct }
 {
     match direct {
@@ -168,6 +169,14 @@ impl Form for Direct {
 
     fn is_ended(&self) -> bool {
         *self == Direct::Ended
+    }
+
+    fn glance(&self, text: &[u8]) -> Option<DirectLine> {
+        let (first, args) = Glance::of(text);
+        match Direct::line_word(first) {
+            Ok(word) if may_stand(*self, word) => glance_line(*self, word, args),
+            _ => None,
+        }
     }
 
     fn judge(&self, alloc: Global, words: Words) -> Result<DirectLine, LineFault> {

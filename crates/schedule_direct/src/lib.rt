@@ -3,6 +3,7 @@
 #![tactic(auto)]
 
 mod direct;
+mod glance;
 mod line;
 mod member;
 mod read;
