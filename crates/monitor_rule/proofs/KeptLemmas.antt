@@ -13,7 +13,7 @@ use Rattle.ff_ids.specs.Views.{Member, key_at}
 use Rattle.ff_ids.proofs.MaskLemmas.{range_with_len-push}
 use Rattle.monitor_rule.specs.Joined.{Joined, is_joined, with_member, without_member}
 use Rattle.monitor_rule.specs.Listed.{is_listed, with_number, without_number}
-use Rattle.monitor_rule.specs.Sorted.{RingOrder, places_at, members_from, numbers_in, emptied, hint_on, IsRow, IsBetween, IsKept}
+use Rattle.monitor_rule.specs.Sorted.{RingOrder, places_at, members_from, numbers_in, emptied, hint_on, AreFound, IsRow, IsBetween, IsKept}
 use Rattle.monitor_rule.proofs.NumberLemmas.{numbers_with, numbers_without, is_listed-joined}
 use Rattle.monitor_rule.proofs.SlotLemmas.{Slots, length-members_below, members_from-none, members_from-filled, members_from-emptied, is_joined-slot}
 use Rattle.monitor_rule.proofs.RowLemmas.{IsRow-joined, IsRow-left, IsRow-empty}
@@ -70,6 +70,24 @@ left_more P rows i after h = λ k d from lt.
 
 pub rings_more : (rows initial : List RingOrder) (i : ℕ) (after d : RingOrder) → after.ring ≡ (get_or rows i d).ring → map (λ r. r.ring) rows ≡ map (λ r. r.ring) initial → map (λ r. r.ring) (set rows i after) ≡ map (λ r. r.ring) initial
 rings_more rows initial i after d same h = map-set_same (λ (r : RingOrder). r.ring) rows i after d same ∙ h
+
+-- one place more is found
+pub found_more : (slots : Slots) (places : List (List ℕ)) (m : ℕ) (found : List ℕ) (rows : List RingOrder) (i place : ℕ) (row : RingOrder)
+    → ((k : ℕ) (d : RingOrder) → k < i → IsBetween slots (get_or rows k d) (key_at (get_or rows k d).ring places m) (get_or found k 0) (get_or found k 0))
+    → ((d : RingOrder) → get_or rows i d ≡ row) → i < length found → IsBetween slots row (key_at row.ring places m) place place
+    → (k : ℕ) (d : RingOrder) → k < i + 1 → IsBetween slots (get_or rows k d) (key_at (get_or rows k d).ring places m) (get_or (set found i place) k 0) (get_or (set found i place) k 0)
+found_more slots places m found rows i place row before same within here = λ k d lt.
+    elim (cases_eq k i) [
+      | inl own ↦ rw (own, same d, get_or-set_same found i place 0 within) here
+      | inr apart ↦ rw (get_or-set_other found i k place 0 apart) (before k d (omega arith))
+    ]
+
+-- and what was found on the rings behind one that changes stays so
+pub found_left : (slots : Slots) (places : List (List ℕ)) (m : ℕ) (found : List ℕ) (rows : List RingOrder) (i : ℕ) (after : RingOrder) → AreFound slots places m found rows i → AreFound slots places m found (set rows i after) (i + 1)
+found_left slots places m found rows i after h = λ k d from lt.
+    let apart : k ≢ i = λ e. absurd (omega arith) in
+    let within : k < length rows = omega (arith, length-set rows i after) in
+    rw (get_or-set_other rows i k after d apart) (h k d (omega arith) within)
 
 -- ---- all of them
 

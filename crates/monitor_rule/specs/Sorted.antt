@@ -58,6 +58,11 @@ pub record IsBetween (slots : List (Option (List (List ℕ)))) (row : RingOrder)
   pub below : (i : ℕ) → i < low → is_below (key_of_index slots row i) q ≡ true
   pub above : (i : ℕ) → high ≤ i → i < length row.order → is_below (key_of_index slots row i) q ≡ false
 
+-- From this ring on, each of these is the index of the member's key on its ring.
+abbrev pub AreFound : List (Option (List (List ℕ))) → List (List ℕ) → ℕ → List ℕ → List RingOrder → ℕ → Type 0
+AreFound slots places m found rows from = (k : ℕ) (d : RingOrder) → from ≤ k → k < length rows
+    → IsBetween slots (slice_index_or rows k d) (key_at (slice_index_or rows k d).ring places m) (slice_index found k) (slice_index found k)
+
 -- There is a slot for each number, and a row for each ring.
 pub record IsKept (slots : List (Option (List (List ℕ)))) (rows : List RingOrder) : Type 0 where
   pub few : length rows ≤ MAX_RINGS

@@ -3,18 +3,18 @@
 #![tactic(auto)]
 
 ghost use Rattle.std.specs.Prelude.{◌≡◌, ℕ, ◌+◌, ◌-◌, ◌*◌, ◌^◌, ◌<◌, ◌≤◌, true, false, None, Some, List, [], length, map, All, is_some, slice_set, IfOk};
-ghost use Rattle.ff_ids.specs.declared.TheConstants.{MAX_TOLERANCE, MEMBERS};
+ghost use Rattle.ff_ids.specs.declared.TheConstants.{MAX_RINGS, MAX_TOLERANCE, MEMBERS};
 ghost use Rattle.ff_ids.specs.Masks.{ring_count};
 ghost use Rattle.ff_ids.specs.Rings.{nearest_before as number_before, nearest_after as number_after};
 ghost use Rattle.ff_ids.specs.Views.{key_at};
 ghost use Rattle.monitor_rule.specs.Joined.{with_member, without_member, is_joined, keys_on};
-ghost use Rattle.monitor_rule.specs.Sorted.{places_at, emptied, IsRow};
+ghost use Rattle.monitor_rule.specs.Sorted.{places_at, emptied, AreFound, IsRow};
 
 mod numbers;
 mod row;
 mod slots;
 
-use ff_ids::{Group, MemberId, RingNo};
+use ff_ids::{Group, MAX_RINGS, MemberId, RingNo};
 use fields::NoMemory;
 use numbers::Numbers;
 use ring_order::Places;
@@ -283,8 +283,30 @@ impl Rings {
     }
 }
 
+/// Where the member is, or would be, on each ring. All are looked for before any ring changes, so that no search waits for
+/// another one.
+fn places_on(
+    rows: &[Row],
+    slots: &Slots,
+    member: MemberId,
+    places: &Places,
+) -> [usize; MAX_RINGS as usize]
+    requires few { length rows.now ≤ MAX_RINGS }
+    requires in_order { All (IsRow slots.now) rows.now }
+    requires long { length slots.now ≡ MEMBERS }
+    requires placed { All (λ r. r.ring < length places.now) rows.now }
+    ensures { AreFound slots.now places.now member result rows.now 0 }
+{
+    let mut found = [0; MAX_RINGS as usize];
+    for index in 0..rows.len() {
+        found[index] = rows[index].place_of(slots, member, places);
+    }
+    found
+}
+
 /// Puts the member on each ring. The slots are those before it joins.
 fn join_each(rows: &mut [Row], slots: &Slots, member: MemberId, places: &Places)
+    requires few { length rows.old ≤ MAX_RINGS }
     requires in_order { All (IsRow slots.now) rows.old }
     requires long { length slots.now ≡ MEMBERS }
     requires number { member < MEMBERS }
@@ -293,22 +315,26 @@ fn join_each(rows: &mut [Row], slots: &Slots, member: MemberId, places: &Places)
     ensures in_order { All (IsRow (slice_set slots.now member (Some places.now))) rows.new }
     ensures rings { map (λ r. r.ring) rows.new ≡ map (λ r. r.ring) rows.old }
 {
-    for row in rows.iter_mut() {
-        row.join(slots, member, places);
+    let found = places_on(rows, slots, member, places);
+    for index in 0..rows.len() {
+        rows[index].join(found[index], slots, member, places);
     }
 }
 
 /// Takes the member off each ring. The slots are those before it leaves.
 fn leave_each(rows: &mut [Row], slots: &Slots, member: MemberId, places: &Places)
+    requires few { length rows.old ≤ MAX_RINGS }
     requires in_order { All (IsRow slots.now) rows.old }
     requires long { length slots.now ≡ MEMBERS }
     requires number { member < MEMBERS }
     requires there { places_at slots.now member ≡ Some places.now }
+    requires placed { All (λ r. r.ring < length places.now) rows.old }
     ensures in_order { All (IsRow (slice_set slots.now member None)) rows.new }
     ensures rings { map (λ r. r.ring) rows.new ≡ map (λ r. r.ring) rows.old }
 {
-    for row in rows.iter_mut() {
-        row.leave(slots, member, places);
+    let found = places_on(rows, slots, member, places);
+    for index in 0..rows.len() {
+        rows[index].leave(found[index], slots, member, places);
     }
 }
 

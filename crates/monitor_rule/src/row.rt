@@ -58,16 +58,17 @@ impl Row {
     }
 
     /// Puts in a member that isn't there, at its place. The slots are those before it joins.
-    pub fn join(&mut self, slots: &Slots, member: MemberId, places: &Places)
+    pub fn join(&mut self, place: usize, slots: &Slots, member: MemberId, places: &Places)
         requires in_order { IsRow slots.now self.old }
         requires long { length slots.now ≡ MEMBERS }
         requires number { member < MEMBERS }
         requires free { places_at slots.now member ≡ None }
         requires placed { self.old.ring < length places.now }
+        requires found { IsBetween slots.now self.old (key_at self.old.ring places.now member) place
+            place }
         ensures in_order { IsRow (slice_set slots.now member (Some places.now)) self.new }
         ensures ring { self.new.ring ≡ self.old.ring }
     {
-        let place = self.place_of(slots, member, places);
         let hint = places.hint(self.ring);
         let _ = self.order.insert(place, member);
         self.hints[member.get() as usize] = hint;
@@ -75,16 +76,17 @@ impl Row {
         self.near = place;
     }
 
-    /// Takes out a member that is there. The slots are those before it leaves.
-    pub fn leave(&mut self, slots: &Slots, member: MemberId, places: &Places)
-        requires in_order { IsRow slots.now self.old }
-        requires long { length slots.now ≡ MEMBERS }
-        requires number { member < MEMBERS }
-        requires there { places_at slots.now member ≡ Some places.now }
-        ensures in_order { IsRow (slice_set slots.now member None) self.new }
+    /// Takes out a member that is there, at its place. The slots are those before it leaves.
+    pub fn leave(&mut self, place: usize, _slots: &Slots, _member: MemberId, _places: &Places)
+        requires in_order { IsRow _slots.now self.old }
+        requires long { length _slots.now ≡ MEMBERS }
+        requires number { _member < MEMBERS }
+        requires there { places_at _slots.now _member ≡ Some _places.now }
+        requires found { IsBetween _slots.now self.old (key_at self.old.ring _places.now _member) place
+            place }
+        ensures in_order { IsRow (slice_set _slots.now _member None) self.new }
         ensures ring { self.new.ring ≡ self.old.ring }
     {
-        let place = self.place_of(slots, member, places);
         let _ = self.order.remove(place);
     }
 
@@ -239,7 +241,7 @@ impl Row {
     }
 
     /// How many of the ring's members come before this one, found in a ledger of its own.
-    fn place_of(&self, slots: &Slots, member: MemberId, places: &Places) -> usize
+    pub fn place_of(&self, slots: &Slots, member: MemberId, places: &Places) -> usize
         requires in_order { IsRow slots.now self.now }
         requires long { length slots.now ≡ MEMBERS }
         requires placed { self.now.ring < length places.now }

@@ -4,4 +4,4 @@ use Rattle.monitor_rule.proofs.row.Row.join.Goals as goal
 
 pub returns-clause-in_order : goal.returns-clause-in_order
 returns-clause-in_order c =
-    rw (c.get.ensures.value, c.is_telling.ensures, c.hint-hint.ensures) (joined_row c.args.slots.now c.self.inside.ring.0 c.self.inside.order.items c.self.inside.hints.items c.insert.new.self.items c.self.inside.told c.args.self.now c.args.places.now c.place_of-place.result c.args.member (vec_capacity c.self.inside.order) (is_ok c.insert.result) c.self.view_is c.requires.in_order c.place_of-place.ensures c.requires.free c.requires.number c.requires.long c.requires.placed c.insert.ensures.items c.self.invariant.0 (λ h. c.insert.ensures.succeeds (omega (arith, h, c.self.inside.order.ok.0))) c.self.invariant.1)
+    rw (c.get.ensures.value, c.is_telling.ensures, c.hint-hint.ensures) (joined_row c.args.slots.now c.self.inside.ring.0 c.self.inside.order.items c.self.inside.hints.items c.insert.new.self.items c.self.inside.told c.args.self.now c.args.places.now c.args.place c.args.member (vec_capacity c.self.inside.order) (is_ok c.insert.result) c.self.view_is c.requires.in_order c.requires.found c.requires.free c.requires.number c.requires.long c.requires.placed c.insert.ensures.items c.self.invariant.0 (λ h. c.insert.ensures.succeeds (omega (arith, h, c.self.inside.order.ok.0))) c.self.invariant.1)

@@ -4,9 +4,9 @@ use Rattle.monitor_rule.proofs.row.Row.leave.Goals as goal
 
 pub remove-requires : goal.remove-requires
 remove-requires c =
-    let within = left_within c.args.slots.now c.self.inside.ring.0 c.self.inside.order.items c.self.inside.hints.items c.self.inside.told c.args.self.now c.args.places.now c.place_of-place.result c.args.member c.self.view_is c.requires.in_order c.place_of-place.ensures c.requires.there c.requires.number c.requires.long in
+    let within = left_within c.args._slots.now c.self.inside.ring.0 c.self.inside.order.items c.self.inside.hints.items c.self.inside.told c.args.self.now c.args._places.now c.args.place c.args._member c.self.view_is c.requires.in_order c.requires.found c.requires.there c.requires.number c.requires.long in
     omega (arith, within, c.self.inside.order.ok.0)
 
 pub returns-clause-in_order : goal.returns-clause-in_order
 returns-clause-in_order c =
-    left_row c.args.slots.now c.self.inside.ring.0 c.self.inside.order.items c.self.inside.hints.items c.remove.new.self.items c.self.inside.told c.args.self.now c.args.places.now c.place_of-place.result c.args.member c.self.view_is c.requires.in_order c.place_of-place.ensures c.requires.there c.requires.number c.requires.long c.remove.ensures.items
+    left_row c.args._slots.now c.self.inside.ring.0 c.self.inside.order.items c.self.inside.hints.items c.remove.new.self.items c.self.inside.told c.args.self.now c.args._places.now c.args.place c.args._member c.self.view_is c.requires.in_order c.requires.found c.requires.there c.requires.number c.requires.long c.remove.ensures.items
