@@ -134,7 +134,6 @@ impl Life {
     {
         let verdict = self.membership.put_note(note, &mut self.changes);
         add_verdict_on(text, verdict.err())?;
-        add(text, b"\n")?;
         add_report(text, self.membership.now(), &self.changes)
     }
 
@@ -146,10 +145,9 @@ impl Life {
             text.new.items) }
     {
         match put_accusation::<Brand>(Blank::new(1), &mut self.membership, accusation) {
-            Ok(()) => add_verdict(text, Verdict::Accepted)?,
-            Err(fault) => add_verdict(text, Verdict::Refused(fault))?,
+            Ok(()) => add_verdict_on(text, None),
+            Err(fault) => add_verdict_on(text, Some(fault)),
         }
-        add(text, b"\n")
     }
 
     /// So many ticks come, one after another. Those that bring nothing are passed at once.

@@ -26,13 +26,17 @@ pub fn add_verdict(text: &mut Vec<u8>, verdict: Verdict) -> Result<(), NoMemory>
     write_verdict(&verdict, text)
 }
 
-/// Adds ` : ` and the verdict on a record: accepted, or refused for the fault.
+/// Adds ` : `, the verdict on a record, accepted or refused for the fault, and a line feed.
 pub fn add_verdict_on(text: &mut Vec<u8>, fault: Option<Fault>) -> Result<(), NoMemory>
-    ensures { OnOk result (text.new.items ≡ text.old.items ++ codes " : " ++ verdict_on fault) }
+    ensures { OnOk result
+        (text.new.items ≡ text.old.items ++ codes " : " ++ verdict_on fault ++ codes "\n") }
 {
     match fault {
-        None => add_verdict(text, Verdict::Accepted),
-        Some(fault) => add_verdict(text, Verdict::Refused(fault)),
+        None => add(text, b" : accepted\n"),
+        Some(fault) => {
+            add_verdict(text, Verdict::Refused(fault))?;
+            add(text, b"\n")
+        }
     }
 }
 

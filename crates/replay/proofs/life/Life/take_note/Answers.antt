@@ -17,5 +17,5 @@ returns c = λ r plays.
     let at : c.now.result ≡ (stepped r (Notes c.args.note)).state.moment = c.now.ensures.value (stepped r (Notes c.args.note)).state done.holds in
     let said : c.err.result ≡ note_fault r.group.t s c.args.note = c.err.ensures.value ∙ done.answered in
     on_ok_weaker c.add_report.result
-    (λ text. tells-step c.args.self.now r (Notes c.args.note) (verdict_on (note_fault r.group.t s c.args.note)) c.put_note-verdict.new.self c.put_note-verdict.new.out c.now.result _ _ plays put.group done.holds done.reported at (rw (c.in_ok-add.ensures, c.in_ok-add_verdict_on.ensures, said) at text))
+    (λ text. tells-step c.args.self.now r (Notes c.args.note) (verdict_on (note_fault r.group.t s c.args.note)) c.put_note-verdict.new.self c.put_note-verdict.new.out c.now.result _ _ plays put.group done.holds done.reported at (rw (c.in_ok-add_verdict_on.ensures, said) at text))
     c.add_report.ensures
