@@ -8,6 +8,7 @@ ghost use Rattle.hss.specs.Pairs.{index_count, signature_length, tree_of};
 use crate::trees::vectors;
 use hss::{HssFault, HssKey, HssKeyFault, Pair, is_in_profile, verify};
 use lms_ots::OtsKind;
+use lms_ots::places::{number_at, put};
 use lms_tree::{SigFault, TreeKind};
 use sha2::{Digest, Sha256};
 use signed::Case;
@@ -98,6 +99,19 @@ fn refuses_keys(rt: &impl Abort, key: &mut [u8]) {
     assert!(rt; HssKey::read(key).is_ok());
 }
 
+/// Each pair of faults, of which the first in the order is answered.
+fn refuses_two_in_keys(rt: &impl Abort, key: &mut [u8]) {
+    for (place, bits) in [(3usize, 3u8), (7, 1), (11, 5)] {
+        flip(rt, key, place, bits);
+    }
+    assert_eq!(rt; HssKey::read(key), Err(HssKeyFault::Levels { found: 1 }));
+    flip(rt, key, 3, 3);
+    assert_eq!(rt; HssKey::read(key), Err(HssKeyFault::TreeType { found: 4 }));
+    flip(rt, key, 7, 1);
+    assert_eq!(rt; HssKey::read(key), Err(HssKeyFault::OtsType { found: 1 }));
+    flip(rt, key, 11, 5);
+}
+
 /// The first bytes, so many.
 fn front<'a>(rt: &impl Abort, bytes: &'a [u8], count: usize) -> &'a [u8] {
     assert!(rt; count <= bytes.len());
@@ -121,6 +135,7 @@ fn refuses_lengths(rt: &impl Abort, key: &mut Vec<u8>) -> Result<(), Fail> {
 fn keys_are_refused_for_their_first_fault(rt: HostRuntime) -> Result<(), Fail> {
     let mut case = case_1(rt.alloc())?;
     refuses_keys(&rt, &mut case.key);
+    refuses_two_in_keys(&rt, &mut case.key);
     refuses_lengths(&rt, &mut case.key)
 }
 
@@ -189,6 +204,27 @@ fn refuses_two(rt: &impl Abort, key: &HssKey, signature: &mut [u8]) {
     assert_eq!(rt; verify(key, message, signature), Err(index));
 }
 
+/// How many bytes are left of the signature of test case 1, a place and bits that are flipped there, and what it is
+/// then refused for: a length that ends before the bottom key does comes first, and one that its kinds don't have
+/// comes between the faults of the key and those of the top signature.
+const CUT_FAULTS: [(usize, usize, u8, HssFault); 4] = [
+    (1_351, 3, 3, HssFault::Length { found: 1_351 }),
+    (2_643, 3, 3, HssFault::Levels { found: 2 }),
+    (2_643, 1_299, 13, HssFault::KeyType),
+    (2_643, 1_136, 1, HssFault::Length { found: 2_643 }),
+];
+
+fn refuses_cut(rt: &impl Abort, key: &HssKey, signature: &mut [u8]) {
+    for (count, place, bits, fault) in &CUT_FAULTS {
+        flip(rt, signature, *place, *bits);
+        assert_eq!(rt;
+            verify(key, vectors::LOWER_1_MESSAGE, front(rt, signature, *count)),
+            Err(*fault)
+        );
+        flip(rt, signature, *place, *bits);
+    }
+}
+
 /// A signature of another length, too short for the bottom key or not.
 fn refuses_signature_lengths(
     rt: &impl Abort,
@@ -222,6 +258,7 @@ fn signatures_are_refused_for_their_first_fault(rt: HostRuntime) -> Result<(), F
     let key = HssKey::read(&case.key).expect(&rt, "a key of two levels");
     refuses_signatures(&rt, &key, &mut case.signature);
     refuses_two(&rt, &key, &mut case.signature);
+    refuses_cut(&rt, &key, &mut case_1(rt.alloc())?.signature);
     refuses_signature_lengths(&rt, &key, &mut case_1(rt.alloc())?.signature)
 }
 
@@ -260,27 +297,127 @@ fn signature(
     Ok(out)
 }
 
-/// The key and the signature are those that another implementation made.
-fn compare_signed(rt: &impl Abort, alloc: Global, case: &Case) -> Result<(), Fail> {
-    let mut pair = pair_at(rt, alloc, case, case.index)?;
+/// The key and the next signature are those that another implementation made.
+fn compare_next(rt: &impl Abort, alloc: Global, pair: &mut Pair, case: &Case) -> Result<(), Fail> {
+    assert_eq!(rt; pair.next(), case.index);
     let public = pair.public();
     assert_eq!(rt; public.write().as_slice(), case.public);
-    let signature = signature(rt, alloc, &mut pair, case.message)?;
+    let signature = signature(rt, alloc, pair, case.message)?;
     assert_eq!(rt; Sha256::digest(&signature), case.digest);
     assert_eq!(rt; verify(&public, case.message, &signature), Ok(()));
     assert_eq!(rt; u64::from(pair.next()), u64::from(case.index) + 1);
     Ok(())
 }
 
+/// The same of a pair that was just made.
+fn compare_signed(rt: &impl Abort, alloc: Global, case: &Case) -> Result<(), Fail> {
+    let mut pair = pair_at(rt, alloc, case, case.index)?;
+    compare_next(rt, alloc, &mut pair, case)
+}
+
+/// The same of one pair, by two of its indexes.
+fn compare_both(rt: &impl Abort, alloc: Global, first: &Case, second: &Case) -> Result<(), Fail> {
+    let mut pair = pair_at(rt, alloc, first, first.index)?;
+    compare_next(rt, alloc, &mut pair, first)?;
+    assert!(rt; pair.next() <= second.index);
+    assert!(rt; second.index <= pair.index_count());
+    pair.skip_to(second.index);
+    compare_next(rt, alloc, &mut pair, second)
+}
+
 #[test]
 fn signs_as_another_implementation_does(rt: HostRuntime) -> Result<(), Fail> {
     compare_signed(&rt, rt.alloc(), &signed::FIRST_INDEX)?;
-    compare_signed(&rt, rt.alloc(), &signed::LAST_OF_A_TREE)?;
-    compare_signed(&rt, rt.alloc(), &signed::FIRST_OF_THE_NEXT)?;
+    compare_both(
+        &rt,
+        rt.alloc(),
+        &signed::LAST_OF_A_TREE,
+        &signed::FIRST_OF_THE_NEXT,
+    )?;
     compare_signed(&rt, rt.alloc(), &signed::LAST_INDEX)?;
-    compare_signed(&rt, rt.alloc(), &signed::SECOND_TREE_W8)?;
+    compare_both(
+        &rt,
+        rt.alloc(),
+        &signed::SECOND_TREE_W8,
+        &signed::TREE_16_W8,
+    )?;
     compare_signed(&rt, rt.alloc(), &signed::BOTTOM_OF_HEIGHT_10)?;
-    compare_signed(&rt, rt.alloc(), &signed::LAST_OF_32768)
+    compare_both(
+        &rt,
+        rt.alloc(),
+        &signed::SECOND_OF_32768,
+        &signed::LAST_OF_32768,
+    )
+}
+
+/// Trees of W8 and height 10, of which each takes nine million compressions: the top one, and two bottom ones in turn.
+#[test]
+fn signs_with_tall_trees_as_another_implementation_does(rt: HostRuntime) -> Result<(), Fail> {
+    compare_signed(&rt, rt.alloc(), &signed::TALL_TOP_W8)?;
+    compare_both(
+        &rt,
+        rt.alloc(),
+        &signed::LAST_OF_A_TALL_TREE_W8,
+        &signed::FIRST_OF_THE_NEXT_TALL_TREE_W8,
+    )
+}
+
+/// The first index of the second bottom tree, where both levels are of W8 and height 5: leaf 1 of the top tree stands
+/// at byte 4, and leaf 0 of the bottom tree behind the bottom key.
+#[test]
+fn a_signature_shows_the_leaf_of_each_level(rt: HostRuntime) -> Result<(), Fail> {
+    let mut pair = pair_at(&rt, rt.alloc(), &signed::SECOND_TREE_W8, 32)?;
+    let public = pair.public();
+    let mut signature = signature(&rt, rt.alloc(), &mut pair, b"message")?;
+    assert!(rt; signature.len() == 2_644);
+    assert_eq!(rt; number_at(&signature, 4), 1);
+    assert_eq!(rt; number_at(&signature, 1_352), 0);
+    assert_eq!(rt; verify(&public, b"message", &signature), Ok(()));
+    flip(&rt, &mut signature, 3, 3);
+    assert_eq!(rt;
+        verify(&public, b"message", &signature),
+        Err(HssFault::Levels { found: 2 })
+    );
+    Ok(())
+}
+
+/// The signature with the bytes of another from byte 4 up to the end, refused for this.
+fn refuses_mixed(
+    rt: &impl Abort,
+    alloc: Global,
+    key: &HssKey,
+    (signature, other): (&[u8], &[u8]),
+    end: usize,
+    fault: HssFault,
+) -> Result<(), Fail> {
+    assert!(rt; 4 <= end && end <= other.len() && end <= signature.len());
+    let mut mixed = Vec::from_slice(alloc, signature)?;
+    put(&mut mixed, 4, &other[4..end]);
+    assert_eq!(rt; verify(key, b"message", &mixed), Err(fault));
+    Ok(())
+}
+
+/// Signatures of one message by one pair, with the first leaves of two bottom trees: neither the top signature of the
+/// one before the bottom key of the other is good, nor both before the bottom signature of the other.
+#[test]
+fn parts_of_two_bottom_trees_do_not_fit(rt: HostRuntime) -> Result<(), Fail> {
+    let alloc = rt.alloc();
+    let case = &signed::FIRST_INDEX;
+    let mut pair = pair_at(&rt, alloc, case, 0)?;
+    let key = pair.public();
+    let first = signature(&rt, alloc, &mut pair, b"message")?;
+    let mut pair = pair_at(&rt, alloc, case, 32)?;
+    let second = signature(&rt, alloc, &mut pair, b"message")?;
+    let (top, bottom) = (
+        HssFault::Top(SigFault::Root),
+        HssFault::Bottom(SigFault::Root),
+    );
+    // The bottom key begins and ends there, since both levels are of W4 and height 5.
+    for (end, fault) in [(2_352usize, top), (2_408, bottom)] {
+        refuses_mixed(&rt, alloc, &key, (&first, &second), end, fault)?;
+        refuses_mixed(&rt, alloc, &key, (&second, &first), end, fault)?;
+    }
+    Ok(())
 }
 
 /// The fronts of two signatures, of a pair and of the same made again, with indexes of one bottom tree, are the same: the top
