@@ -70,11 +70,15 @@ impl Membership {
         }
     }
 
-    /// For each ring the note's member where the note answers what is kept against it there.
+    /// For each ring the note's member where the note answers what is kept against it there. Where nothing is, no ring is
+    /// looked at.
     fn answered_by(&self, note: &NoteBody) -> [Option<MemberId>; MAX_RINGS as usize]
         ensures { (ring : ℕ) → ring < ring_count self.now.group.t → slice_index_or result ring None
             ≡ answered_on self.now note.now ring }
     {
+        if !self.timers.is_accused(note.member) {
+            return [None; MAX_RINGS as usize];
+        }
         let mut named = [None; MAX_RINGS as usize];
         for ring in 0..2 * self.group.t + 1 {
             named[ring as usize] = self.answered_at(note, RingNo(ring));

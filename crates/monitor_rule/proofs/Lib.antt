@@ -6,3 +6,4 @@ pub mod NeighbourLemmas
 pub mod RowLemmas
 pub mod KeptLemmas
 pub mod NumberLemmas
+pub mod FoundLemmas

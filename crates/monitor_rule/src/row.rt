@@ -162,7 +162,7 @@ impl Row {
             ≡ number_after (keys_on self.now.ring (members_from 0 slots.now))
             (key_at self.now.ring places.now member) }
     {
-        *near = self.search_near(slots, *near, member, places, steps);
+        *near = self.place_near(slots, *near, member, places, steps);
         self.behind(*near, member)
     }
 
@@ -181,7 +181,7 @@ impl Row {
             ≡ number_after (keys_on self.now.ring (members_from 0 slots.now))
             (key_at self.now.ring places.now member) }
     {
-        let place = self.search_near(slots, self.near, member, places, steps);
+        let place = self.place_near(slots, self.near, member, places, steps);
         self.behind(place, member)
     }
 
@@ -290,6 +290,44 @@ impl Row {
         let hint = places.hint(self.ring);
         let count = self.order.len();
         self.halve(slots, 0, count, member, places, hint, steps)
+    }
+
+    /// Whether the member is at the index, with this place.
+    fn is_at(&self, slots: &Slots, index: usize, member: MemberId, places: &Places) -> bool
+        requires in_order { IsRow slots.now self.now }
+        requires long { length slots.now ≡ MEMBERS }
+        requires placed { self.now.ring < length places.now }
+        ensures { result ≡ true
+            → IsBetween slots.now self.now (key_at self.now.ring places.now member) index index }
+    {
+        let _ = slots;
+        if !self.told || self.order.len() <= index {
+            return false;
+        }
+        let other = self.order[index];
+        let other_hint = self.hints[other.get() as usize];
+        other == member && other_hint == places.hint(self.ring)
+    }
+
+    /// As `search`. Where the member is at this index no step is made.
+    fn place_near<L: Ledger>(
+        &self,
+        slots: &Slots,
+        near: usize,
+        member: MemberId,
+        places: &Places,
+        steps: &mut Steps<L>,
+    ) -> usize
+        requires in_order { IsRow slots.now self.now }
+        requires long { length slots.now ≡ MEMBERS }
+        requires placed { self.now.ring < length places.now }
+        ensures { IsBetween slots.now self.now (key_at self.now.ring places.now member) result
+            result }
+    {
+        if self.is_at(slots, near, member, places) {
+            return near;
+        }
+        self.search_near(slots, near, member, places, steps)
     }
 
     /// As `search`. Two steps are enough where this index is the place.

@@ -13,7 +13,7 @@ ghost use Rattle.ff_ids.specs.Masks.{ring_count};
 ghost use Rattle.ff_ids.specs.Steps.{is_due, with_kept};
 ghost use Rattle.removal_timer.specs.Kept.{entry_at, is_at, entries_in, slot_at, pair_number, AreQueued, AreRising, AreUntil, HasGained};
 ghost use Rattle.removal_timer.specs.Queue.{is_queued, without};
-ghost use Rattle.removal_timer.specs.Tally.{is_by, AreTallied};
+ghost use Rattle.removal_timer.specs.Tally.{is_against, is_by, AreTallied};
 
 mod queue;
 mod tally;
@@ -340,6 +340,15 @@ impl Timers {
         } else {
             None
         }
+    }
+
+    /// Whether an accusation against the member stands. No entry is looked at.
+    pub fn is_accused(&self, member: MemberId) -> bool
+        ensures value { result ≡ list_any (is_against member) self.now.entries }
+        ensures none { result ≡ false → (ring : ℕ)
+            → entry_at member ring self.now.entries ≡ None }
+    {
+        self.tallies.against.is_any(member)
     }
 
     /// Whether an accusation by the member stands. No entry is looked at.

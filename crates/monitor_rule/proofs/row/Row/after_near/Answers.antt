@@ -4,4 +4,4 @@ use Rattle.monitor_rule.proofs.row.Row.after_near.Goals as goal
 
 pub returns : goal.returns
 returns g c =
-    c.behind.ensures c.args.slots.now (key_at c.args.self.now.ring c.args.places.now c.args.member) c.requires.in_order c.search_near.ensures refl
+    c.behind.ensures c.args.slots.now (key_at c.args.self.now.ring c.args.places.now c.args.member) c.requires.in_order c.place_near.ensures refl
