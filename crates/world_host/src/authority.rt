@@ -1,6 +1,6 @@
 //! The authority of a world, which certifies all its members as the world begins.
 
-ghost use Rattle.std.specs.Prelude.{◌≡◌, ◌++◌, ◌∷◌, [], All, map, IfOk, OnOk};
+ghost use Rattle.std.specs.Prelude.{◌≡◌, ◌++◌, ◌∷◌, [], All, map, IfOk, OnErr, OnOk};
 ghost use Rattle.lms_tree.specs.declared.key.PublicKey.{PublicKey as Public};
 ghost use Rattle.node_core.specs.Begins.{IsCheckedIn, IsKit};
 ghost use Rattle.records.specs.Signing.{IsChecked};
@@ -88,12 +88,13 @@ impl Authority {
         }
     }
 
-    /// Keeps one more certificate.
+    /// Keeps one more certificate. Where memory is refused, those that were kept are kept still.
     pub fn keep(&mut self, checked: Checked) -> Result<(), NoMemory>
         requires { IsCheckedIn self.old.group self.old.key checked }
-        ensures { OnOk result
+        ensures kept { OnOk result
             (self.new
             ≡ record self.old { certificates = self.old.certificates ++ checked ∷ [] }) }
+        ensures same { OnErr result (self.new ≡ self.old) }
     {
         self.certificates.push(checked)?;
         Ok(())
