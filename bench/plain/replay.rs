@@ -194,7 +194,7 @@ impl<'a> Words<'a> {
     }
 
     #[inline(always)]
-    fn wide(&mut self) -> Option<u32> {
+    fn place(&mut self) -> Option<u32> {
         self.number(0, u32::MAX.into()).map(|n| n as u32)
     }
 
@@ -220,7 +220,7 @@ fn number(word: &[u8]) -> Option<u64> {
 struct Member {
     epoch: u64,   // of the newest note, 0 for none
     gone: u64,    // the greatest epoch of an expired accusation, 0 for none
-    mask: u32,    // of the newest note, 0 where the member has left
+    mask: u64,    // of the newest note, 0 where the member has left
     against: u32, // the rings with a kept accusation against this member
     joined: bool,
 }
@@ -343,10 +343,10 @@ impl Membership {
         out.verdict(b" : joined");
     }
 
-    fn note(&mut self, m: usize, epoch: u64, mask: u32, out: &mut Output) {
+    fn note(&mut self, m: usize, epoch: u64, mask: u64, out: &mut Output) {
         let old = self.members[m];
         let newest = (old.epoch, old.mask);
-        let good_mask = mask == 0 || u64::from(mask) >> self.k == 0 && mask.count_ones() > self.t;
+        let good_mask = mask == 0 || mask >> self.k == 0 && mask.count_ones() > self.t;
         match old.joined {
             false => return out.verdict(b" : refused unknown-member"),
             true if !good_mask => return out.verdict(b" : refused bad-mask"),
@@ -354,7 +354,7 @@ impl Membership {
             true if (epoch, mask) < newest => {
                 out.text(b" : refused older");
                 out.number(old.epoch);
-                out.number(old.mask.into());
+                out.number(old.mask);
                 return out.end_line();
             }
             true => out.verdict(b" : accepted"),
@@ -364,7 +364,7 @@ impl Membership {
             self.take_out(m);
             self.write_fell(out);
         }
-        let still = if epoch == old.epoch { mask } else { 0 };
+        let still = if epoch == old.epoch { mask as u32 } else { 0 };
         for ring in bits((self.members[m].against & !still).into()) {
             let kept = self.drop_kept(m, ring);
             out.accusation(self.now, b" fell", kept, old.epoch);
@@ -581,7 +581,7 @@ impl Replay {
                 let mut words = Words::after(text, b"note")?;
                 let m = words.member()?;
                 let epoch = words.number(1, u64::MAX)?;
-                let mask = words.wide()?;
+                let mask = words.number(0, u64::MAX)?;
                 length = words.end(out)?;
                 state.note(m, epoch, mask, out);
             }
@@ -606,7 +606,7 @@ impl Replay {
                 let m = words.member()?;
                 let mut places = [0; MAX_RINGS];
                 for place in &mut places[..state.k] {
-                    *place = words.wide()?;
+                    *place = words.place()?;
                 }
                 length = words.end(out)?;
                 state.join(m, &places, out);
@@ -642,7 +642,8 @@ impl Replay {
     fn bad_word(&self, line: &[u8], fed: bool) -> &'static str {
         const MEMBER: (u64, u64) = (0, MEMBERS as u64 - 1);
         const EPOCH: (u64, u64) = (1, u64::MAX);
-        const WIDE: (u64, u64) = (0, u32::MAX as u64);
+        const PLACE: (u64, u64) = (0, u32::MAX as u64);
+        const MASK: (u64, u64) = (0, u64::MAX);
         if line.len() > MAX_LINE {
             return "long";
         }
@@ -662,8 +663,8 @@ impl Replay {
         let k = self.state.k;
         let ranges = match words[0] {
             b"group" => vec![(1, MAX_T), (1, MAX_TIMEOUT)],
-            b"member" => [vec![MEMBER], vec![WIDE; k]].concat(),
-            b"note" => vec![MEMBER, EPOCH, WIDE],
+            b"member" => [vec![MEMBER], vec![PLACE; k]].concat(),
+            b"note" => vec![MEMBER, EPOCH, MASK],
             b"accuse" => vec![MEMBER, MEMBER, EPOCH, (0, 255)],
             b"tick" => vec![(1, self.ticks_left.min(MAX_TICK))],
             b"monitor" => vec![(0, k.saturating_sub(1) as u64), MEMBER],

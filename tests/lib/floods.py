@@ -9,7 +9,7 @@ from kit import HEIGHTS, WIDTHS
 from lms import OTS, u16, u32
 
 HEAD = b"\x46\x46\x01"
-PING, PONG, SUMMARY, RECORDS = 1, 2, 3, 4
+PING, PONG, SUMMARY, RECORDS, WIDE_SUMMARY = 1, 2, 3, 4, 5
 # A flood has no more than these.
 MOST_RATE, MOST_SECONDS = 200_000, 30
 # How many datagrams a second one process is to send; a script sends some 100,000.
@@ -26,6 +26,11 @@ def datagram(kind, sender, rest):
 def summary(sender, entries=(), flag=0):
     """A summary of page 0; the entries are bytes."""
     return datagram(SUMMARY, sender, bytes([0, flag, len(entries)]) + b"".join(entries))
+
+
+def wide_summary(sender):
+    """A summary of page 0 with one entry, whose mask four bytes don't hold."""
+    return datagram(WIDE_SUMMARY, sender, bytes([0, 0, 1]) + u16(0) + (1).to_bytes(8, "big") + bytes([255]) * 16)
 
 
 def entry(member, epoch=0, mask=0):
@@ -85,6 +90,7 @@ def borrowed(numbers, members):
         lambda: datagram(PING, members[0], os.urandom(8)),
         lambda: datagram(PONG, members[0], os.urandom(8)),
         lambda: summary(members[0]),
+        lambda: wide_summary(members[0]),
     )
     return [kinds[place % len(kinds)]() for place in range(ROW)]
 

@@ -25,7 +25,7 @@ PATIENCE = 60
 SYSTEM = ctypes.CDLL(None)
 PR_SET_PDEATHSIG = 1
 # How a datagram begins, up to its kind, in a journal.
-KINDS = {"46460101": "ping", "46460102": "pong", "46460103": "summary", "46460104": "records"}
+KINDS = {"46460101": "ping", "46460102": "pong", "46460103": "summary", "46460104": "records", "46460105": "summary"}
 
 
 class Trouble(Exception):

@@ -194,7 +194,7 @@ class Words:
         return self.number_in(1, U64, "an epoch")
 
     def mask(self):
-        return self.number_in(0, U32, "a mask")
+        return self.number_in(0, U64, "a mask")
 
     def ring(self):
         return self.number_in(0, 255, "a ring")

@@ -1,6 +1,9 @@
 """What a datagram holds, from its digits."""
 
-KINDS = {"01": "ping", "02": "pong", "03": "summary", "04": "records"}
+KINDS = {"01": "ping", "02": "pong", "03": "summary", "04": "records", "05": "summary"}
+
+# How many bytes the mask of a note has, by the kind of its body.
+MASK_SIZES = {2: 4, 4: 8}
 
 
 def datagram_kind(digits):
@@ -17,8 +20,9 @@ def records_of(data):
         kind = data[place]
         if kind == 1 and place + 61 <= len(data):
             text, size = f"cert {word(data, place + 1, 2)} {word(data, place + 3, 2)}", 61
-        elif kind == 2 and place + 15 <= len(data):
-            text, size = f"note {word(data, place + 1, 2)} {word(data, place + 3, 8)} {word(data, place + 11, 4)}", 15
+        elif kind in MASK_SIZES and place + 11 + MASK_SIZES[kind] <= len(data):
+            size = 11 + MASK_SIZES[kind]
+            text = f"note {word(data, place + 1, 2)} {word(data, place + 3, 8)} {word(data, place + 11, MASK_SIZES[kind])}"
         elif kind == 3 and place + 14 <= len(data):
             numbers = word(data, place + 1, 2), word(data, place + 3, 2), word(data, place + 5, 8), data[place + 13]
             text, size = "accuse {} {} {} {}".format(*numbers), 14

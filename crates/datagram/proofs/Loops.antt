@@ -1,5 +1,5 @@
 -- The loops over entries and records: where they stand, stop, and end.
-use Rattle.std.proofs.Common.{◌≡◌, ℕ, ◌+◌, ◌-◌, ◌*◌, ◌<◌, ◌≤◌, List, [], ◌∷◌, ◌++◌, Result, Ok, Err, refl, sym, ap, subst, ◌∙◌}
+use Rattle.std.proofs.Common.{◌≡◌, ℕ, ◌+◌, ◌-◌, ◌*◌, ◌<◌, ◌≤◌, Bool, List, [], ◌∷◌, ◌++◌, Result, Ok, Err, refl, sym, ap, subst, ◌∙◌}
 use Rattle.std.specs.Prelude.{IsOkAnd}
 use Rattle.std.specs.Int.{w16}
 use Rattle.fields.specs.Reading.{Reading}
@@ -25,19 +25,19 @@ abbrev of_page : ℕ → Result (List SummaryEntry × Reading) ℕ → Result (S
 of_page page v = v >>= λ entries. done (record { page = page; listed = entries.0 }, entries.1)
 
 -- Of so many entries so many are read.
-abbrev pub EntriesRead : ℕ → ℕ → Reading → ℕ → ℕ → List SummaryEntry → Reading → Type 0
-EntriesRead page count start i least before r = items_at (entry_at page) next_member (count - i) least before r ≡ items_at (entry_at page) next_member count (32 * page) [] start
+abbrev pub EntriesRead : Bool → ℕ → ℕ → Reading → ℕ → ℕ → List SummaryEntry → Reading → Type 0
+EntriesRead wide page count start i least before r = items_at (entry_at wide page) next_member (count - i) least before r ≡ items_at (entry_at wide page) next_member count (32 * page) [] start
 
-pub entries_stopped : (page count : ℕ) (start : Reading) (i least : ℕ) (before : List SummaryEntry) (r : Reading) (place : ℕ) → i < count → entry_at page least r ≡ Err place
-    → EntriesRead page count start i least before r → entries_at page count start ≡ Err place
+pub entries_stopped : (wide : Bool) (page count : ℕ) (start : Reading) (i least : ℕ) (before : List SummaryEntry) (r : Reading) (place : ℕ) → i < count → entry_at wide page least r ≡ Err place
+    → EntriesRead wide page count start i least before r → entries_at wide page count start ≡ Err place
 unfolding entries_at
-entries_stopped page count start i least before r place lt one so_far = ap (of_page page) (items_stop (entry_at page) next_member count i least before r place _ lt one so_far)
+entries_stopped wide page count start i least before r place lt one so_far = ap (of_page page) (items_stop (entry_at wide page) next_member count i least before r place _ lt one so_far)
 
-pub entries_done : (page count : ℕ) (start : Reading) (i least : ℕ) (s : Summary) (r : Reading) → count ≤ i → s.page ≡ page
-    → EntriesRead page count start i least s.listed r → entries_at page count start ≡ Ok (s, r)
+pub entries_done : (wide : Bool) (page count : ℕ) (start : Reading) (i least : ℕ) (s : Summary) (r : Reading) → count ≤ i → s.page ≡ page
+    → EntriesRead wide page count start i least s.listed r → entries_at wide page count start ≡ Ok (s, r)
 unfolding entries_at
-entries_done page count start i least s r le same so_far =
-    ap (of_page page) (items_done (entry_at page) next_member count i least s.listed r _ le so_far) ∙ ap (λ (p : ℕ). done (record { page = p; listed = s.listed }, r)) (sym same)
+entries_done wide page count start i least s r le same so_far =
+    ap (of_page page) (items_done (entry_at wide page) next_member count i least s.listed r _ le so_far) ∙ ap (λ (p : ℕ). done (record { page = p; listed = s.listed }, r)) (sym same)
 
 -- ---- records
 

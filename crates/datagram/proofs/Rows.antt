@@ -36,7 +36,7 @@ heads : (read_of [] ≡ Err 0)
     × (read_of (70 ∷ 70 ∷ []) ≡ Err 2)
     × (read_of (70 ∷ 70 ∷ 0 ∷ []) ≡ Err 2)
     × (read_of (70 ∷ 70 ∷ 1 ∷ 0 ∷ []) ≡ Err 3)
-    × (read_of (70 ∷ 70 ∷ 1 ∷ 5 ∷ []) ≡ Err 3)
+    × (read_of (70 ∷ 70 ∷ 1 ∷ 6 ∷ []) ≡ Err 3)
     × (read_of (70 ∷ 70 ∷ 1 ∷ 1 ∷ 4 ∷ 0 ∷ []) ≡ Err 4)
     × (read_of (head 1 ++ replicate 7 0) ≡ Err 6)
     × (read_of (head 1 ++ replicate 9 0) ≡ Err 14)
@@ -56,6 +56,30 @@ summaries : (read_of (head 3 ++ 32 ∷ []) ≡ Err 6)
     × (read_of (head 3 ++ 0 ∷ 1 ∷ 2 ∷ [] ++ entry 0 1 7 2 ++ entry 2 0 0 0) ≡ Ok (Summary 2 true (record { page = 0; listed = page })))
 unfolding read_of whole_of datagram_at head_at items_at content_at summary_at entries_at entry_at
 summaries = (refl, refl, refl, refl, refl, refl, refl, refl, refl)
+
+-- an entry of a wide summary: mask and rings with the bit 2^32, or without it
+abbrev wide_entry : ℕ → ℕ → ℕ → ℕ → ℕ → List ℕ
+wide_entry member epoch high mask rings =
+    0 ∷ member ∷ 0 ∷ 0 ∷ 0 ∷ 0 ∷ 0 ∷ 0 ∷ 0 ∷ epoch ∷ 0 ∷ 0 ∷ 0 ∷ high ∷ 0 ∷ 0 ∷ 0 ∷ mask ∷ 0 ∷ 0 ∷ 0 ∷ 0 ∷ 0 ∷ 0 ∷ 0 ∷ rings ∷ []
+
+abbrev wide_page : List SummaryEntry
+wide_page = record { member = 0; epoch = 1; mask = record { 0 = 4294967303 }; rings = 2 } ∷ record { member = 2; epoch = 0; mask = record { 0 = 0 }; rings = 0 } ∷ []
+
+wide_spelling : datagram_bytes (Summary 2 true (record { page = 0; listed = wide_page })) ≡ head 5 ++ 0 ∷ 1 ∷ 2 ∷ [] ++ wide_entry 0 1 1 7 2 ++ wide_entry 2 0 0 0 0
+unfolding head_bytes entry_bytes summary_bytes
+wide_spelling = refl
+
+-- faults in wide summaries: a bad entry has its own place, before that of the number of entries, which comes before bytes left over
+wide_summaries : (read_of (head 5 ++ 0 ∷ 0 ∷ 0 ∷ []) ≡ Err 8)
+    × (read_of (head 5 ++ 0 ∷ 0 ∷ 1 ∷ [] ++ wide_entry 0 1 0 7 2) ≡ Err 8)
+    × (read_of (head 5 ++ 0 ∷ 0 ∷ 1 ∷ [] ++ wide_entry 0 1 0 7 2 ++ 0 ∷ []) ≡ Err 8)
+    × (read_of (head 5 ++ 0 ∷ 0 ∷ 1 ∷ [] ++ wide_entry 0 0 1 0 0) ≡ Err 19)
+    × (read_of (head 5 ++ 0 ∷ 0 ∷ 1 ∷ [] ++ wide_entry 0 0 0 0 1) ≡ Err 27)
+    × (read_of (head 5 ++ 0 ∷ 0 ∷ 2 ∷ [] ++ wide_entry 0 1 1 7 0 ++ wide_entry 0 1 1 7 0) ≡ Err 35)
+    × (read_of (head 5 ++ 0 ∷ 0 ∷ 1 ∷ [] ++ wide_entry 0 1 1 7 0 ++ 0 ∷ []) ≡ Err 35)
+    × (read_of (head 5 ++ 0 ∷ 1 ∷ 2 ∷ [] ++ wide_entry 0 1 1 7 2 ++ wide_entry 2 0 0 0 0) ≡ Ok (Summary 2 true (record { page = 0; listed = wide_page })))
+unfolding read_of whole_of datagram_at head_at items_at content_at summary_at entries_at entry_at
+wide_summaries = (refl, refl, refl, refl, refl, refl, refl, refl)
 
 -- faults in records, counted from the datagram's first byte
 records : (read_of (head 4 ++ 0 ∷ 0 ∷ []) ≡ Err 6)

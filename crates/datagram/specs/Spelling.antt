@@ -1,7 +1,7 @@
 -- Datagrams as bytes: the one spelling of each, and what has a spelling. Numbers are big-endian.
-use Rattle.std.specs.Prelude.{◌≡◌, ℕ, ◌^◌, ◌<◌, ◌≤◌, Bool, true, false, List, ◌∷◌, ◌++◌, length, codes, All}
-use Rattle.std.specs.List.{flat_map}
-use Rattle.std.specs.Int.{w16, w32, w64, to_be_bytes}
+use Rattle.std.specs.Prelude.{◌≡◌, ℕ, ◌^◌, ◌<◌, ◌≤◌, ◌||◌, nat_le, Bool, true, false, List, ◌∷◌, ◌++◌, length, codes, All}
+use Rattle.std.specs.List.{flat_map, list_any}
+use Rattle.std.specs.Int.{Width, w16, w32, w64, to_be_bytes}
 use Rattle.ff_ids.specs.declared.TheConstants.{MEMBERS, MASK_BITS}
 use Rattle.ff_ids.specs.declared.summary.SummaryEntry.{SummaryEntry}
 use Rattle.ff_ids.specs.declared.summary.Summary.{Summary}
@@ -15,17 +15,34 @@ use Rattle.datagram.specs.declared.Datagram.TheVariants as kinds
 unfoldable pub head_bytes : ℕ → ℕ → List ℕ
 head_bytes kind from = codes "FF" ++ (1 ∷ (kind ∷ to_be_bytes w16 from))
 
+-- whether four bytes don't hold the mask, or the rings
+abbrev pub is_wide_entry : SummaryEntry → Bool
+is_wide_entry e = nat_le (2 ^ 32) e.mask.0 || nat_le (2 ^ 32) e.rings
+
+-- whether a mask or rings of it need eight bytes
+abbrev pub is_wide : Summary → Bool
+is_wide s = list_any is_wide_entry s.listed
+
+-- in a wide summary a mask and rings have eight bytes each, else four
+abbrev pub bits_width : Bool → Width
+bits_width true = w64
+bits_width false = w32
+
 -- the member, its epoch, the mask, and the rings
-unfoldable pub entry_bytes : SummaryEntry → List ℕ
-entry_bytes e = to_be_bytes w16 e.member ++ (to_be_bytes w64 e.epoch ++ (to_be_bytes w32 e.mask.0 ++ to_be_bytes w32 e.rings))
+unfoldable pub entry_bytes : Bool → SummaryEntry → List ℕ
+entry_bytes wide e = to_be_bytes w16 e.member ++ (to_be_bytes w64 e.epoch ++ (to_be_bytes (bits_width wide) e.mask.0 ++ to_be_bytes (bits_width wide) e.rings))
 
 abbrev pub flag_number : Bool → ℕ
 flag_number true = 1
 flag_number false = 0
 
 -- the page, the flag, the number of entries, and the entries
-unfoldable pub summary_bytes : Bool → Summary → List ℕ
-summary_bytes flag s = s.page ∷ (flag_number flag ∷ (length s.listed ∷ flat_map entry_bytes s.listed))
+unfoldable pub summary_bytes : Bool → Bool → Summary → List ℕ
+summary_bytes wide flag s = s.page ∷ (flag_number flag ∷ (length s.listed ∷ flat_map (entry_bytes wide) s.listed))
+
+abbrev pub summary_kind : Bool → ℕ
+summary_kind true = 5
+summary_kind false = 3
 
 -- the number of records, and the records
 unfoldable pub records_bytes : List Record → List ℕ
@@ -35,7 +52,7 @@ records_bytes records = to_be_bytes w16 (length records) ++ flat_map record_byte
 abbrev pub datagram_bytes : Datagram → List ℕ
 datagram_bytes (kinds.Ping from nonce) = head_bytes 1 from ++ to_be_bytes w64 nonce
 datagram_bytes (kinds.Pong from nonce) = head_bytes 2 from ++ to_be_bytes w64 nonce
-datagram_bytes (kinds.Summary from flag s) = head_bytes 3 from ++ summary_bytes flag s
+datagram_bytes (kinds.Summary from flag s) = head_bytes (summary_kind (is_wide s)) from ++ summary_bytes (is_wide s) flag s
 datagram_bytes (kinds.Records from records) = head_bytes 4 from ++ records_bytes records
 
 -- ---- what has a spelling

@@ -2,11 +2,12 @@
 //! reader may then have moved.
 
 ghost use Rattle.std.specs.Prelude.{◌≡◌, ◌≤◌, IfOk};
-ghost use Rattle.std.specs.Int.{w16, w32, w64};
+ghost use Rattle.std.specs.Int.{w16, w64};
 ghost use Rattle.records.specs.Grammar.{Reads, number_at, byte_at, any_number, number_within};
 ghost use Rattle.datagram.specs.Grammar.{head_at};
+ghost use Rattle.datagram.specs.Spelling.{bits_width};
 
-use ff_ids::MemberId;
+use ff_ids::{Bits, MemberId};
 use fields::Reader;
 use records::steps::{Misread, member};
 
@@ -36,12 +37,18 @@ pub(crate) fn u16_within(reader: &mut Reader, least: u16, most: u16) -> Result<u
     }
 }
 
-/// Four bytes: a number up to this one.
-pub(crate) fn u32_up_to(reader: &mut Reader, most: u32) -> Result<u32, Misread>
-    ensures { Reads (λ n. n) result reader.new (number_at w32 (number_within 0 most) reader.old) }
+/// Four bytes, or in a wide summary eight: a mask or rings up to this number.
+pub(crate) fn bits_up_to(reader: &mut Reader, wide: bool, most: Bits) -> Result<Bits, Misread>
+    ensures { Reads (λ n. n) result reader.new
+        (number_at (bits_width wide) (number_within 0 most) reader.old) }
 {
     let place = reader.place();
-    match reader.u32() {
+    let bits = if wide {
+        reader.u64()
+    } else {
+        reader.u32().map(Bits::from)
+    };
+    match bits {
         Ok(number) if number <= most => Ok(number),
         _ => Err(Misread { place }),
     }
@@ -58,14 +65,14 @@ pub(crate) fn u64_any(reader: &mut Reader) -> Result<u64, Misread>
     }
 }
 
-/// What each datagram begins with: the letters FF, version 1, its kind, 1 to 4, and its sender.
+/// What each datagram begins with: the letters FF, version 1, its kind, 1 to 5, and its sender.
 #[tactic(auto, unfolding(crate::specs::Grammar::head_at))]
 pub(crate) fn head(reader: &mut Reader) -> Result<(u8, MemberId), Misread>
     ensures { Reads (λ h. h) result reader.new (head_at reader.old) }
 {
     u16_within(reader, 0x4646, 0x4646)?;
     byte_within(reader, 1, 1)?;
-    let kind = byte_within(reader, 1, 4)?;
+    let kind = byte_within(reader, 1, 5)?;
     let from = member(reader)?;
     Ok((kind, from))
 }

@@ -2,6 +2,9 @@
 //! ways. `node_core` calls it, and `world` to look for forged records.
 #![tactic(auto)]
 
+ghost use Rattle.std.specs.Prelude.{◌≡◌};
+ghost use Rattle.datagram.specs.Spelling.{is_wide as is_wide_summary};
+
 pub use reading::read;
 pub use writing::{bytes_of, records_head, write};
 
@@ -10,7 +13,7 @@ pub mod laws;
 mod reading;
 mod writing;
 
-use ff_ids::{MemberId, Summary};
+use ff_ids::{Bits, MemberId, Summary};
 use records::RecordList;
 
 /// What a member sends to another.
@@ -38,4 +41,15 @@ pub enum Datagram {
         from: MemberId,
         records: RecordList,
     },
+}
+
+/// Whether a mask or the rings of an entry need eight bytes, since four don't hold them.
+fn is_wide(summary: &Summary) -> bool
+    ensures { result ≡ is_wide_summary summary.now }
+{
+    let most = Bits::from(u32::MAX);
+    summary
+        .entries()
+        .iter()
+        .any(|entry| entry.mask.0 > most || entry.rings > most)
 }

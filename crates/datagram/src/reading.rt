@@ -6,11 +6,11 @@ ghost use Rattle.fields.specs.Reading.{Reading, reading_of};
 ghost use Rattle.records.specs.Grammar.{Reads, Passes};
 ghost use Rattle.datagram.specs.declared.Datagram.{Datagram as Sent};
 ghost use Rattle.datagram.specs.Spelling.{IsDatagram, IsWritable};
-ghost use Rattle.datagram.specs.Grammar.{greatest_bits, entry_at, entries_at, summary_at, counted_at, records_at, headed_records_at, whole_of, read_of, Ends, GivesDatagram, GivesList, IsReadAs};
+ghost use Rattle.datagram.specs.Grammar.{greatest_bits, most_bits, entry_at, entries_at, summary_at, counted_at, records_at, headed_records_at, whole_of, read_of, Ends, GivesDatagram, GivesList, IsReadAs};
 
-use crate::Datagram;
-use crate::fields_in::{byte_within, head, u16_within, u32_up_to, u64_any};
-use ff_ids::{LAST_PAGE, Mask, MemberId, PAGE_MEMBERS, Summary, SummaryEntry};
+use crate::fields_in::{bits_up_to, byte_within, head, u16_within, u64_any};
+use crate::{Datagram, is_wide};
+use ff_ids::{ALL_BITS, Bits, LAST_PAGE, Mask, MemberId, PAGE_MEMBERS, Summary, SummaryEntry};
 use fields::Reader;
 use records::steps::Misread;
 use records::{FormFault, RecordList, next_record, pass_record};
@@ -19,18 +19,25 @@ use std::alloc::Global;
 /// The greatest number of bytes of a datagram.
 const LONGEST: usize = 32768;
 
-/// The greatest mask and the greatest set of rings of an entry: none without a note.
-fn greatest_bits(epoch: u64) -> u32
-    ensures { result ≡ greatest_bits epoch }
+/// All bits that a mask or rings of a summary may have.
+fn most_bits(wide: bool) -> Bits
+    ensures { result ≡ most_bits wide }
 {
-    if epoch == 0 { 0 } else { u32::MAX }
+    if wide { ALL_BITS } else { Bits::from(u32::MAX) }
+}
+
+/// The greatest mask and the greatest set of rings of an entry: none without a note.
+fn greatest_bits(wide: bool, epoch: u64) -> Bits
+    ensures { result ≡ greatest_bits wide epoch }
+{
+    if epoch == 0 { 0 } else { most_bits(wide) }
 }
 
 /// An entry of this page whose member is at least `least`.
 #[tactic(auto, unfolding(crate::specs::Grammar::entry_at))]
-fn entry(reader: &mut Reader, page: u8, least: u16) -> Result<SummaryEntry, Misread>
+fn entry(reader: &mut Reader, wide: bool, page: u8, least: u16) -> Result<SummaryEntry, Misread>
     requires { page < PAGES }
-    ensures { Reads (λ e. e) result reader.new (entry_at page least reader.old) }
+    ensures { Reads (λ e. e) result reader.new (entry_at wide page least reader.old) }
 {
     let member = u16_within(
         reader,
@@ -38,9 +45,9 @@ fn entry(reader: &mut Reader, page: u8, least: u16) -> Result<SummaryEntry, Misr
         PAGE_MEMBERS * page as u16 + (PAGE_MEMBERS - 1),
     )?;
     let epoch = u64_any(reader)?;
-    let most = greatest_bits(epoch);
-    let mask = u32_up_to(reader, most)?;
-    let rings = u32_up_to(reader, most)?;
+    let most = greatest_bits(wide, epoch);
+    let mask = bits_up_to(reader, wide, most)?;
+    let rings = bits_up_to(reader, wide, most)?;
     Ok(SummaryEntry {
         member: MemberId::new(member),
         epoch,
@@ -51,31 +58,35 @@ fn entry(reader: &mut Reader, page: u8, least: u16) -> Result<SummaryEntry, Misr
 
 /// So many entries of this page, at most `PAGE_MEMBERS`.
 #[tactic(auto, unfolding(crate::specs::Grammar::entries_at))]
-fn entries(reader: &mut Reader, page: u8, count: u8) -> Result<Summary, Misread>
+fn entries(reader: &mut Reader, wide: bool, page: u8, count: u8) -> Result<Summary, Misread>
     requires page { page < PAGES }
     requires few { count ≤ PAGE_MEMBERS }
-    ensures { Reads (λ s. s) result reader.new (entries_at page count reader.old) }
+    ensures { Reads (λ s. s) result reader.new (entries_at wide page count reader.old) }
 {
     let mut summary = Summary::new();
     summary.page = page;
     let mut least = PAGE_MEMBERS * page as u16;
     for _entry in 0..count {
-        let entry = entry(reader, page, least)?;
+        let entry = entry(reader, wide, page, least)?;
         least = entry.member.get() + 1;
         summary.push(entry);
     }
     Ok(summary)
 }
 
-/// The flag and the summary of a summary datagram.
+/// The flag and the summary of a summary datagram, a wide one or not.
 #[tactic(auto, unfolding(crate::specs::Grammar::summary_at))]
-fn summary(reader: &mut Reader) -> Result<(bool, Summary), Misread>
-    ensures { Reads (λ s. s) result reader.new (summary_at reader.old) }
+fn summary(reader: &mut Reader, wide: bool) -> Result<(bool, Summary), Misread>
+    ensures { Reads (λ s. s) result reader.new (summary_at wide reader.old) }
 {
     let page = byte_within(reader, 0, LAST_PAGE)?;
     let flag = byte_within(reader, 0, 1)?;
+    let place = reader.place();
     let count = byte_within(reader, 0, PAGE_MEMBERS as u8)?;
-    let summary = entries(reader, page, count)?;
+    let summary = entries(reader, wide, page, count)?;
+    if wide && !is_wide(&summary) {
+        return Err(Misread { place });
+    }
     Ok((flag == 1, summary))
 }
 
@@ -144,20 +155,20 @@ fn datagram(alloc: Global, bytes: &[u8]) -> Result<Datagram, FormFault>
             end(&mut reader)?;
             Ok(Datagram::Pong { from, nonce })
         }
-        3 => {
-            let (flag, summary) = summary(&mut reader)?;
+        4 => {
+            pass_records(&mut reader)?;
+            end(&mut reader)?;
+            let records = records(alloc, bytes)?;
+            Ok(Datagram::Records { from, records })
+        }
+        _ => {
+            let (flag, summary) = summary(&mut reader, kind == 5)?;
             end(&mut reader)?;
             Ok(Datagram::Summary {
                 from,
                 flag,
                 summary,
             })
-        }
-        _ => {
-            pass_records(&mut reader)?;
-            end(&mut reader)?;
-            let records = records(alloc, bytes)?;
-            Ok(Datagram::Records { from, records })
         }
     }
 }

@@ -6,10 +6,10 @@ ghost use Rattle.std.specs.Int.{w16, w64, to_be_bytes};
 ghost use Rattle.ff_ids.specs.Summaries.{IsSummary};
 ghost use Rattle.records.specs.Spelling.{record_bytes, IsWritable as IsWritableRecord};
 ghost use Rattle.datagram.specs.declared.Datagram.TheVariants as kinds;
-ghost use Rattle.datagram.specs.Spelling.{head_bytes, entry_bytes, flag_number, summary_bytes, records_bytes, datagram_bytes, HasContent, IsWritable};
+ghost use Rattle.datagram.specs.Spelling.{head_bytes, bits_width, entry_bytes, flag_number, summary_bytes, summary_kind as kind_of_summary, records_bytes, datagram_bytes, HasContent, IsWritable};
 
-use crate::Datagram;
-use ff_ids::{MemberId, Summary, SummaryEntry};
+use crate::{Datagram, is_wide};
+use ff_ids::{Bits, MemberId, Summary, SummaryEntry};
 use fields::{NoMemory, Writer};
 use records::{Record, write_record};
 use std::alloc::Global;
@@ -45,15 +45,34 @@ fn probe(kind: u8, from: MemberId, nonce: u64, mut writer: Writer) -> Result<Vec
     Ok(writer.finish())
 }
 
+/// Puts a mask or rings: their lowest four bytes, or in a wide summary all eight.
+fn put_bits(writer: &mut Writer, wide: bool, bits: Bits) -> Result<(), NoMemory>
+    ensures { OnOk result (writer.new ≡ writer.old ++ to_be_bytes (bits_width wide) bits) }
+{
+    let bytes = bits.to_be_bytes();
+    if wide {
+        writer.put_bytes(&bytes)
+    } else {
+        writer.put_bytes(&bytes[4..])
+    }
+}
+
 #[tactic(auto, unfolding(crate::specs::Spelling::entry_bytes))]
-fn put_entry(writer: &mut Writer, entry: &SummaryEntry) -> Result<(), NoMemory>
-    ensures { OnOk result (writer.new ≡ writer.old ++ entry_bytes entry.now) }
+fn put_entry(writer: &mut Writer, wide: bool, entry: &SummaryEntry) -> Result<(), NoMemory>
+    ensures { OnOk result (writer.new ≡ writer.old ++ entry_bytes wide entry.now) }
 {
     writer.put_u16(entry.member.get())?;
     writer.put_u64(entry.epoch)?;
-    writer.put_u32(entry.mask.0)?;
-    writer.put_u32(entry.rings)?;
+    put_bits(writer, wide, entry.mask.0)?;
+    put_bits(writer, wide, entry.rings)?;
     Ok(())
+}
+
+/// The kind of the datagram of a summary, a wide one or not.
+fn summary_kind(wide: bool) -> u8
+    ensures { result ≡ kind_of_summary wide }
+{
+    if wide { 5 } else { 3 }
 }
 
 fn flag_number(flag: bool) -> u8
@@ -63,16 +82,21 @@ fn flag_number(flag: bool) -> u8
 }
 
 #[tactic(auto, using(crate::proofs::Entries::listed_few), unfolding(crate::specs::Spelling::summary_bytes))]
-fn put_summary(writer: &mut Writer, flag: bool, summary: &Summary) -> Result<(), NoMemory>
+fn put_summary(
+    writer: &mut Writer,
+    wide: bool,
+    flag: bool,
+    summary: &Summary,
+) -> Result<(), NoMemory>
     requires { IsSummary summary.now }
-    ensures { OnOk result (writer.new ≡ writer.old ++ summary_bytes flag summary.now) }
+    ensures { OnOk result (writer.new ≡ writer.old ++ summary_bytes wide flag summary.now) }
 {
     let entries = summary.entries();
     writer.put_u8(summary.page)?;
     writer.put_u8(flag_number(flag))?;
     writer.put_u8(entries.len() as u8)?;
     for entry in entries {
-        put_entry(writer, entry)?;
+        put_entry(writer, wide, entry)?;
     }
     Ok(())
 }
@@ -102,8 +126,9 @@ fn datagram_bytes(datagram: &Datagram, mut writer: Writer) -> Result<Vec<u8>, No
             flag,
             summary,
         } => {
-            writer.put_bytes(&head(3, *from))?;
-            put_summary(&mut writer, *flag, summary)?;
+            let wide = is_wide(summary);
+            writer.put_bytes(&head(summary_kind(wide), *from))?;
+            put_summary(&mut writer, wide, *flag, summary)?;
             Ok(writer.finish())
         }
         Datagram::Records { from, records } => {

@@ -1,14 +1,13 @@
 -- What a crash within a put leaves of the file.
-use Rattle.std.proofs.Common.{◌≡◌, ◌≢◌, ℕ, ◌+◌, ◌-◌, ◌<◌, ◌≤◌, ◌⊎◌, inl, inr, Bool, true, false, ◌&&◌, max, List, [], ◌∷◌, ◌++◌, length, take, drop, replicate, get_or, refl, sym, ap, ◌∙◌, subst, arith, rules, append_assoc, append-nil, codes, length-append, length-take, length-drop, leb, ltb}
-use Rattle.std.proofs.lemmas.Grind.{common_steps}
+use Rattle.std.proofs.Common.{◌≡◌, ◌≢◌, ℕ, ◌+◌, ◌-◌, ◌<◌, ◌≤◌, ◌⊎◌, inl, inr, false, List, [], ◌∷◌, ◌++◌, length, take, drop, get_or, refl, sym, ap, ◌∙◌, arith, append_assoc, append-nil, codes, length-append, length-take, length-drop}
 use Rattle.std.proofs.lemmas.Bool.{cases_eq}
 use Rattle.std.proofs.lemmas.Bool.Decides.{nat_tests}
-use Rattle.std.proofs.lemmas.List.{take-append-drop, take_at, drop_at, drop_more, drop-drop, ext_get_or, get_or-take, get_or-drop, length-replicate}
+use Rattle.std.proofs.lemmas.List.{take-append-drop, take_at, drop_at, drop_more, ext_get_or, get_or-take, get_or-drop}
 use Rattle.epoch_store.specs.declared.Stored.{Stored}
 use Rattle.epoch_store.specs.declared.seat.Seat.{Seat}
 use Rattle.epoch_store.specs.Seat.{gate_behind, next_seat}
-use Rattle.epoch_store.specs.Store.{spelled, front, IsEntry, Follows, IsChain, StoreAt, StoreOf, LeavesEither}
-use Rattle.ports.specs.Disk.{Moment, Leaves, is_torn, written, settled, torn_at}
+use Rattle.epoch_store.specs.Store.{spelled, front, IsEntry, Follows, StoreAt, StoreOf}
+use Rattle.ports.specs.Disk.{Leaves, is_torn, written, settled, torn_at}
 
 -- two lists that agree on a part
 pub same_part : (c s : List ℕ) (from n : ℕ) → from + n ≤ length s → length s ≤ length c → ((i : ℕ) → from ≤ i → i < from + n → get_or c i 0 ≡ get_or s i 0) → take n (drop from c) ≡ take n (drop from s)

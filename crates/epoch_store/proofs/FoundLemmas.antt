@@ -1,15 +1,13 @@
 -- What a reading finds is the store of the file, and the store of a file is found.
-use Rattle.std.proofs.Common.{◌≡◌, ◌≢◌, ℕ, zero, suc, ◌+◌, ◌-◌, ◌<◌, ◌≤◌, ◌^◌, ◌⊎◌, inl, inr, Bool, true, false, ◌&&◌, nat_eq, nat_lt, nat_le, if◌then◌else◌, Option, None, Some, List, [], ◌∷◌, ◌++◌, length, take, drop, get_or, refl, sym, ap, ◌∙◌, subst, arith, Ok, Err, codes, append_assoc, length-append, length-take, length-drop, cond, eqb}
+use Rattle.std.proofs.Common.{◌≡◌, ℕ, suc, ◌+◌, ◌≤◌, ◌^◌, inl, inr, Bool, true, false, ◌&&◌, nat_eq, nat_lt, nat_le, if◌then◌else◌, Option, None, Some, List, [], ◌∷◌, ◌++◌, length, take, drop, refl, sym, ap, ◌∙◌, subst, arith, codes, append_assoc, length-append, length-take, length-drop, eqb}
 use Rattle.std.specs.List.{common_prefix_len}
 use Rattle.std.proofs.lemmas.List.{take_at, drop_at, take-append-drop, drop-drop, take_all}
 use Rattle.std.proofs.lemmas.Bool.{and_parts, and_from, ltb-false, ltb-true, leb-true, eqb-true, le-leb, lt-ltb, le-ltb}
 use Rattle.epoch_store.specs.declared.Stored.{Stored}
 use Rattle.epoch_store.specs.declared.seat.Seat.{Seat}
 use Rattle.epoch_store.specs.Seat.{first_seat, next_seat}
-use Rattle.epoch_store.specs.declared.entry.Gate.{Gate}
-use Rattle.epoch_store.specs.declared.entry.Gate.TheVariants.{Shut, Entry}
-use Rattle.epoch_store.specs.Reading.{Reading, Finds, Breaks, Differs, head_fault, first_broken, wrong_field, is_above, is_at_least, IsOpenEntry, IsClosed, IsCut, Stands, window, ReadsFrom, Reads}
-use Rattle.epoch_store.specs.Store.{spelled, front, IsEntry, Follows, Comes, IsChain, StoreAt, StoreOf}
+use Rattle.epoch_store.specs.Reading.{Reading, Finds, head_fault, first_broken, wrong_field, IsOpenEntry, IsClosed, window, ReadsFrom, Reads}
+use Rattle.epoch_store.specs.Store.{spelled, front, IsEntry, Comes, IsChain, StoreAt, StoreOf}
 use Rattle.epoch_store.proofs.OnceLemmas.{reads_once}
 
 -- the last entry, if there is one

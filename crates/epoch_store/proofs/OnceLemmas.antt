@@ -1,18 +1,15 @@
 -- A file has one reading, and the store that it finds is the file's store.
-use Rattle.std.proofs.Common.{◌≡◌, ◌≢◌, ℕ, zero, suc, ◌+◌, ◌-◌, ◌<◌, ◌≤◌, ◌^◌, ◌⊎◌, inl, inr, Bool, true, false, ◌&&◌, nat_eq, Option, None, Some, List, [], ◌∷◌, ◌++◌, length, take, drop, get_or, refl, sym, ap, ◌∙◌, subst, arith, Result, Ok, Err, codes, append_assoc, length-append, cond, eqb, ltb}
+use Rattle.std.proofs.Common.{◌≡◌, ℕ, ◌+◌, ◌<◌, ◌^◌, inl, inr, Option, None, Some, List, ◌∷◌, length, take, drop, get_or, sym, ap, ◌∙◌, subst, arith, Result, Ok, Err}
 use Rattle.std.specs.Int.{w32, w64, from_be_bytes}
 use Rattle.std.specs.List.{common_prefix_len}
 use Rattle.std.proofs.lemmas.Nat.{from_be_bytes-to_be_bytes_4, from_be_bytes-to_be_bytes_8}
-use Rattle.std.proofs.lemmas.List.{take_at, drop_at, take-append-drop}
-use Rattle.std.proofs.lemmas.Bool.{and_parts, ltb-false, eqb-true, le-leb, lt-ltb}
-use Rattle.std.proofs.lemmas.Bool.Decides.{nat_tests}
 use Rattle.epoch_store.specs.declared.Stored.{Stored}
 use Rattle.epoch_store.specs.declared.seat.Seat.{Seat}
 use Rattle.epoch_store.specs.Seat.{first_seat, next_seat}
 use Rattle.epoch_store.specs.declared.entry.Gate.{Gate}
 use Rattle.epoch_store.specs.declared.entry.Gate.TheVariants.{Shut, Entry}
-use Rattle.epoch_store.specs.Reading.{Reading, Finds, Breaks, Differs, head_fault, first_broken, wrong_field, is_above, is_at_least, IsOpenEntry, IsClosed, IsCut, Stands, window, ReadsFrom, Reads}
-use Rattle.epoch_store.specs.Store.{spelled, front, IsEntry, Follows, Comes, IsChain, StoreAt, StoreOf}
+use Rattle.epoch_store.specs.Reading.{Reading, Finds, Breaks, head_fault, wrong_field, IsOpenEntry, IsClosed, IsCut, Stands, window, ReadsFrom, Reads}
+use Rattle.epoch_store.specs.Store.{spelled}
 
 stored_is : (a b : Stored) → a.next ≡ b.next → a.epoch ≡ b.epoch → a.mask.0 ≡ b.mask.0 → a ≡ b
 stored_is a b next epoch mask = λ i. record { next = next i; epoch = epoch i; mask = record { 0 = mask i } }

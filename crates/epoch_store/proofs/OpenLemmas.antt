@@ -1,21 +1,17 @@
 -- Opening and making a store.
 use Rattle.std.proofs.Common.{◌≡◌, ◌≢◌, ℕ, ◌+◌, ◌-◌, ◌<◌, ◌≤◌, ◌^◌, ◌⊎◌, inl, inr, Option, None, Some, List, [], ◌∷◌, ◌++◌, length, take, drop, get_or, refl, sym, ap, ◌∙◌, subst, arith, Result, Ok, Err, OnOk, OnErr, IfOk, append-nil, lit≤}
-use Rattle.std.specs.List.{slice_get}
-use Rattle.std.specs.Option.{MatchOption}
 use Rattle.std.proofs.lemmas.List.{nil_from_length, drop_all}
 use Rattle.ff_ids.specs.declared.Mask.{Mask}
-use Rattle.epoch_store.specs.declared.Stored.{Stored}
-use Rattle.epoch_store.specs.declared.seat.Seat.{Seat}
 use Rattle.epoch_store.specs.Seat.{first_seat}
 use Rattle.epoch_store.specs.declared.StoreError.{StoreError}
 use Rattle.epoch_store.specs.declared.StoreError.TheVariants.{Fault, Taken, Broken, OtherKey, OutOfMemory}
 use Rattle.epoch_store.specs.Reading.{Reading, Finds, Breaks, Differs, head_fault, ReadsFrom, Reads}
-use Rattle.epoch_store.specs.Calls.{StoreState, SettlesAs, same, OnRead, AnswersAs, OpensAs, ReadsHead, ReadsEntries, EntriesAnswer, answer_of, IsOpened, HoldsStore, HasLength, IsNotTaken}
+use Rattle.epoch_store.specs.Calls.{StoreState, SettlesAs, same, OnRead, AnswersAs, OpensAs, ReadsHead, ReadsEntries, EntriesAnswer, answer_of, IsOpened, HoldsStore, HasLength}
 use Rattle.epoch_store.specs.Store.{StoreAt, IsSettled, made, made_seat, front, first_entry}
 use Rattle.epoch_store.proofs.OnceLemmas.{reads_once}
 use Rattle.epoch_store.proofs.FoundLemmas.{found_store}
 use Rattle.ports.specs.Disk.{Moment, Fails, Settles, Measures, settled, stays, torn_at, written}
-use Rattle.ports.proofs.SinceLemmas.{Fails-same, Fails-torn, Fails-trans}
+use Rattle.ports.proofs.SinceLemmas.{Fails-same, Fails-torn}
 
 -- the file was opened, or something failed
 pub opened_stays : (a b : List Moment) (result : Result Unit StoreError) → IsOpened a b result → Fails stays a b

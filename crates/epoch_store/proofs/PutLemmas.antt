@@ -1,14 +1,14 @@
 -- What a put does to the moments of a disk.
-use Rattle.std.proofs.Common.{◌≡◌, ℕ, ◌+◌, ◌⊎◌, inl, inr, List, [], ◌∷◌, ◌++◌, length, refl, sym, ap, ◌∙◌, subst}
+use Rattle.std.proofs.Common.{◌≡◌, ℕ, ◌+◌, inl, List, [], ◌∷◌, ◌++◌, sym, ap, ◌∙◌, subst}
 use Rattle.epoch_store.specs.declared.Stored.{Stored}
 use Rattle.epoch_store.specs.declared.seat.Seat.{Seat}
 use Rattle.epoch_store.specs.Seat.{next_seat}
-use Rattle.epoch_store.specs.Store.{spelled, IsEntry, Follows, StoreAt, StoreOf, IsSettled, LeavesEither, LeavesState}
+use Rattle.epoch_store.specs.Store.{spelled, IsEntry, Follows, IsSettled, LeavesEither, LeavesState}
 use Rattle.epoch_store.specs.Calls.{SettlesAs}
 use Rattle.epoch_store.proofs.FileLemmas.{behind_gate, at_gate, gate_open, with_entry}
 use Rattle.ports.specs.Disk.{Moment, Leaves, Since, IsAmong, Fails, settled, torn_at, written}
 use Rattle.ports.proofs.MomentLemmas.{settled_only}
-use Rattle.ports.proofs.SinceLemmas.{Since-same, Since-weaken, Since-trans}
+use Rattle.ports.proofs.SinceLemmas.{Since-same, Since-weaken}
 
 -- where nothing is modelled
 pub untold : (P : Moment → Type 0) (newer : List Moment) → newer ≡ [] → Since P [] newer

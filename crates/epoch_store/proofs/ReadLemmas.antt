@@ -1,5 +1,5 @@
 -- What a part of the file reports of the whole.
-use Rattle.std.proofs.Common.{◌≡◌, ◌≢◌, ℕ, zero, suc, ◌+◌, ◌-◌, ◌*◌, ◌^◌, ◌<◌, ◌≤◌, ◌&&◌, nat_le, nat_lt, ◌⊎◌, inl, inr, Bool, true, false, Option, None, Some, List, [], ◌∷◌, ◌++◌, length, take, drop, get_or, refl, sym, ap, ◌∙◌, subst, arith, Result, Ok, Err}
+use Rattle.std.proofs.Common.{◌≡◌, ℕ, zero, suc, ◌+◌, ◌-◌, ◌^◌, ◌<◌, ◌≤◌, ◌&&◌, nat_le, nat_lt, inl, inr, Bool, true, false, Option, None, Some, List, [], ◌∷◌, length, take, drop, get_or, refl, ap, ◌∙◌, subst, arith, Result, Ok, Err}
 use Rattle.std.specs.List.{slice_get}
 use Rattle.std.proofs.lemmas.List.{get_or-take}
 use Rattle.epoch_store.specs.declared.Stored.{Stored}
@@ -7,11 +7,10 @@ use Rattle.epoch_store.specs.declared.seat.Seat.{Seat}
 use Rattle.epoch_store.specs.Seat.{first_seat, next_seat, nth_gate}
 use Rattle.epoch_store.specs.declared.StoreError.{StoreError}
 use Rattle.epoch_store.specs.declared.StoreError.TheVariants.{Fault, Taken, Broken, OtherKey, OutOfMemory}
-use Rattle.epoch_store.specs.declared.entry.Gate.{Gate}
 use Rattle.epoch_store.specs.declared.entry.Gate.TheVariants.{Shut, Entry}
-use Rattle.epoch_store.specs.Reading.{Reading, Finds, Breaks, Differs, head_fault, first_broken, wrong_field, is_above, is_at_least, IsOpenEntry, IsClosed, IsCut, Stands, window, ReadsFrom}
-use Rattle.epoch_store.specs.Calls.{ChecksHead, HeadAnswer, ReadsHead, GateAnswer, ReadsGate, EntriesAnswer, ReadsEntries, answer_of, OnRead, FindsGate, IsAfter, StoreState}
-use Rattle.epoch_store.specs.Store.{IsEntry, Follows}
+use Rattle.epoch_store.specs.Reading.{Reading, Finds, Breaks, first_broken, is_above, is_at_least, Stands, window, ReadsFrom}
+use Rattle.epoch_store.specs.Calls.{ChecksHead, ReadsHead, ReadsGate, ReadsEntries, FindsGate, IsAfter}
+use Rattle.epoch_store.specs.Store.{IsEntry}
 use Rattle.ports.specs.Disk.{Moment, ReadsPart}
 
 pub slice_get-take : (n p : ℕ) (xs : List ℕ) → p < n → slice_get (take n xs) p ≡ slice_get xs p

@@ -1,5 +1,5 @@
 -- What the calls of a store answer, and what they do to its file.
-use Rattle.std.specs.Prelude.{◌≡◌, ℕ, ◌+◌, ◌<◌, Bool, true, false, ◌⊎◌, Option, None, Some, List, take, [], ◌∷◌, length, slice_index, Result, Ok, Err}
+use Rattle.std.specs.Prelude.{◌≡◌, ℕ, ◌+◌, ◌<◌, Bool, true, false, Option, None, Some, List, take, [], ◌∷◌, length, slice_index, Result, Ok, Err}
 use Rattle.std.specs.List.{slice_get}
 use Rattle.epoch_store.specs.declared.Stored.{Stored}
 use Rattle.epoch_store.specs.declared.seat.Seat.{Seat}

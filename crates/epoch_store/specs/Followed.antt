@@ -1,5 +1,5 @@
 -- What each call of a store makes of a disk whose state is modelled, and which calls fail.
-use Rattle.std.specs.Prelude.{◌≡◌, ℕ, ◌+◌, ◌-◌, ◌*◌, ◌<◌, ◌≤◌, max, true, false, Option, None, Some, List, [], ◌∷◌, ◌++◌, Result, Ok, Err}
+use Rattle.std.specs.Prelude.{◌≡◌, ℕ, ◌+◌, ◌-◌, ◌<◌, ◌≤◌, max, true, false, Option, None, Some, List, [], ◌∷◌, ◌++◌, Result, Ok, Err}
 use Rattle.ports.specs.Disk.{Moment}
 use Rattle.ports.specs.DiskCalls.{DiskCall, ToOpen, ToMeasure}
 use Rattle.ports.specs.MemoryDisk.{DiskState}

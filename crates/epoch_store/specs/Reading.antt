@@ -1,7 +1,7 @@
 -- Reading the file of a store from its front on: the state that it stands for, or the place where it is not
 -- a store of this tag.
-use Rattle.std.specs.Prelude.{◌≡◌, ◌≢◌, ℕ, ◌+◌, ◌^◌, ◌<◌, ◌⊎◌, ◌&&◌, nat_eq, nat_lt, nat_le, not, Bool, true, false, if◌then◌else◌, Option, None, Some, MatchOption, List, [], ◌∷◌, ◌++◌, length, take, drop, codes, slice_index, Result, Ok, Err}
-use Rattle.std.specs.List.{common_prefix_len, slice_get}
+use Rattle.std.specs.Prelude.{◌≡◌, ◌≢◌, ℕ, ◌+◌, ◌^◌, ◌<◌, ◌⊎◌, ◌&&◌, nat_eq, nat_lt, nat_le, Bool, true, if◌then◌else◌, Option, None, Some, MatchOption, List, [], ◌∷◌, length, take, drop, codes, Result, Ok, Err}
+use Rattle.std.specs.List.{common_prefix_len}
 use Rattle.ff_ids.specs.declared.TheConstants.{MAX_RINGS}
 use Rattle.epoch_store.specs.declared.Stored.{Stored}
 use Rattle.epoch_store.specs.declared.seat.Seat.{Seat}

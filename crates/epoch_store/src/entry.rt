@@ -1,6 +1,6 @@
 //! One entry of the file, and what stands at a gate.
 
-ghost use Rattle.std.specs.Prelude.{◌≡◌, ◌↔◌, ◌<◌, ◌≤◌, [], ◌∷◌, ◌++◌, length, Option, IsErr, IfOk, IfErr, IfSome, nat_eq};
+ghost use Rattle.std.specs.Prelude.{◌≡◌, ◌↔◌, ◌<◌, ◌≤◌, ◌^◌, [], ◌∷◌, ◌++◌, length, Option, IsErr, IfOk, IfErr, IfSome, nat_eq};
 ghost use Rattle.std.specs.List.{common_prefix_len, slice_get};
 ghost use Rattle.epoch_store.specs.declared.StoreError.TheVariants.{Broken};
 ghost use Rattle.epoch_store.specs.Store.{spelled};
@@ -9,7 +9,7 @@ ghost use Rattle.epoch_store.specs.Reading.{Stands, wrong_field as wrong_field_o
 
 use crate::seat::HEAD_LEN;
 use crate::{StoreError, Stored};
-use ff_ids::Mask;
+use ff_ids::{Bits, Mask};
 use fields::{Reader, Short};
 
 /// What stands at a gate of a store.
@@ -37,7 +37,7 @@ pub(crate) fn entry_bytes(entry: Stored) -> [u8; 17]
 {
     let [a, b, c, d] = entry.next.to_be_bytes();
     let [e, f, g, h, i, j, k, l] = entry.epoch.to_be_bytes();
-    let [m, n, o, p] = entry.mask.0.to_be_bytes();
+    let [_, _, _, _, m, n, o, p] = entry.mask.0.to_be_bytes();
     [a, b, c, d, e, f, g, h, i, j, k, l, m, n, o, p, 0]
 }
 
@@ -46,11 +46,12 @@ fn read_entry(bytes: &[u8]) -> Result<Stored, Short>
     requires { length bytes.now ≤ 16 }
     ensures short { IsErr result ↔ (length bytes.now < 16) }
     ensures spelled { IfOk result (λ e. bytes.now ≡ spelled e) }
+    ensures narrow { IfOk result (λ e. e.mask.0 < 2 ^ 32) }
 {
     let mut reader = Reader::new(bytes);
     let next = reader.u32()?;
     let epoch = reader.u64()?;
-    let mask = reader.u32()?;
+    let mask = Bits::from(reader.u32()?);
     Ok(Stored {
         next,
         epoch,

@@ -1,5 +1,5 @@
 -- The number of a set of bits, one bit at a time.
-use Rattle.std.proofs.Common.{◌≡◌, ℕ, zero, suc, ◌+◌, ◌-◌, ◌*◌, ◌/◌, ◌%◌, ◌^◌, ◌<◌, ◌≤◌, eqb, ◌⊎◌, inl, inr, Bool, true, false, cond, refl, ap, sym, ◌∙◌, add-one, add-zero, pow-suc, Fits, w32, lit<, arith}
+use Rattle.std.proofs.Common.{◌≡◌, ℕ, zero, suc, ◌+◌, ◌-◌, ◌*◌, ◌/◌, ◌%◌, ◌^◌, ◌<◌, ◌≤◌, eqb, ◌⊎◌, inl, inr, Bool, true, false, cond, refl, ap, sym, ◌∙◌, add-one, add-zero, pow-suc, Fits, w64, lit<, arith}
 use Rattle.std.proofs.Math.Nat.{add-mul-div_left}
 use Rattle.std.proofs.lemmas.Bool.{cases_lt}
 use Rattle.std.proofs.lemmas.Nat.{pow-add, pow_below, div-mul-add}
@@ -45,12 +45,12 @@ bits-no test zero no_bit = refl
 bits-no test (suc n) no_bit = ap (λ b. bits_where test n + cond b (2 ^ n) 0) (no_bit n) ∙ omega (arith, bits-no test n no_bit)
 
 -- the value of one bit
-pub bit_value : (r : ℕ) → r < MAX_RINGS → 1 * 2 ^ r % 4294967296 ≡ 2 ^ r
+pub bit_value : (r : ℕ) → r < MAX_RINGS → 1 * 2 ^ r % 18446744073709551616 ≡ 2 ^ r
 bit_value r h =
     let few : 2 ^ r < 2 ^ MAX_RINGS = pow_below r MAX_RINGS h in
     omega (arith, few)
 
-pub bit_fits : (test : ℕ → Bool) (r rings : ℕ) → rings ≡ bits_where test r → r < MAX_RINGS → Fits w32 (rings + 1 * 2 ^ r % 4294967296)
+pub bit_fits : (test : ℕ → Bool) (r rings : ℕ) → rings ≡ bits_where test r → r < MAX_RINGS → Fits w64 (rings + 1 * 2 ^ r % 18446744073709551616)
 bit_fits test r rings is h =
     let few : 2 ^ r < 2 ^ MAX_RINGS = pow_below r MAX_RINGS h in
     omega (arith, few, bit_value r h, bits-below test r, is)

@@ -36,11 +36,11 @@ pub const MAX_TOLERANCE: u8 = 15;
 /// How many rings a group has at most: 2t+1 at the greatest tolerance.
 pub const MAX_RINGS: u8 = 2 * MAX_TOLERANCE + 1;
 
-/// How many bits a mask has: one for each ring, and one more.
-pub const MASK_BITS: u8 = MAX_RINGS + 1;
+/// How many bits a mask has: one for each ring, and some more.
+pub const MASK_BITS: u8 = 64;
 
 /// A bit for each ring.
-pub type Bits = u32;
+pub type Bits = u64;
 
 /// All bits that a mask has.
 pub const ALL_BITS: Bits = Bits::MAX;

@@ -28,7 +28,7 @@ use Rattle.journal.specs.declared.event.What.TheVariants as happened
 use Rattle.journal.specs.declared.fault.EventFault.{EventFault}
 use Rattle.journal.specs.Kinds.{body_word, every_body_kind, every_fault_kind, every_kind, fault_word, kind_word}
 use Rattle.journal.specs.Words.{Reading, among, both, followed, is_literal, one_of, token_at, whole}
-use Rattle.journal.specs.Grammar.{GivesEvent, TakesMemory, about, accusation_at, body_at, body_behind, certificate_at, epoch_at, event_at, fault_at, fault_behind, mask_at, member_at, note_at, number_64_at, own_ahead, page_at, port_at, ring_at, verdict_at, verdict_behind, what_at, what_behind}
+use Rattle.journal.specs.Grammar.{GivesEvent, TakesMemory, about, accusation_at, body_at, body_behind, certificate_at, epoch_at, event_at, fault_at, fault_behind, mask_at, member_at, note_at, number_32_at, number_64_at, own_ahead, page_at, port_at, ring_at, verdict_at, verdict_behind, what_at, what_behind}
 use Rattle.journal.specs.Spelling.{IsAccusation, IsBody, IsCertificate, IsEpoch, IsEvent, IsFault, IsGiven, IsKey, IsNoteOf, IsPort, IsVerdict, IsWhat}
 use Rattle.journal.proofs.Rules.{exact_answer, exact_bytes, exact_flag, exact_key, exact_literal, exact_monitor, exact_number, one_is}
 use Rattle.journal.proofs.Spelled.{accusation_words, body_words, certificate_words, event_joined, event_words, fault_words, joined, note_words, verdict_words, what_words, worded_event}
@@ -53,6 +53,9 @@ exact_port = exact_so IsPort (λ n g. record { some = omega (arith, g.0); fits =
 
 pub exact_page : Exact page_at (λ n. decimal n ∷ []) (λ n. n < PAGES)
 exact_page = exact_so (λ n. n < PAGES) (λ n g. omega (arith, g.1)) (λ n g. (omega arith, omega (arith, g))) (exact_number 0 LAST_PAGE (lit< tt))
+
+pub exact_32 : Exact number_32_at (λ n. decimal n ∷ []) (λ n. n < 2 ^ 32)
+exact_32 = exact_so (λ n. n < 2 ^ 32) (λ n g. omega (arith, g.1)) (λ n g. (omega arith, omega (arith, g))) (exact_number 0 4294967295 (lit< tt))
 
 pub exact_64 : Exact number_64_at (λ n. decimal n ∷ []) (λ n. n < 2 ^ 64)
 exact_64 = exact_so (λ n. n < 2 ^ 64) (λ n g. omega (arith, g.1)) (λ n g. (omega arith, omega (arith, g))) (exact_number 0 18446744073709551615 (lit< tt))
@@ -132,7 +135,7 @@ exact_body = record {
 
 -- ---- faults
 
-pub exact_ahead : Exact (both epoch_at (both mask_at (both epoch_at mask_at))) (λ p. decimal p.0 ∷ decimal p.1.0 ∷ decimal p.1.1.0 ∷ decimal p.1.1.1 ∷ []) (λ p. IsEpoch p.0 × ((p.1.0 < 2 ^ 32) × (IsEpoch p.1.1.0 × (p.1.1.1 < 2 ^ 32))))
+pub exact_ahead : Exact (both epoch_at (both mask_at (both epoch_at mask_at))) (λ p. decimal p.0 ∷ decimal p.1.0 ∷ decimal p.1.1.0 ∷ decimal p.1.1.1 ∷ []) (λ p. IsEpoch p.0 × ((p.1.0 < 2 ^ MASK_BITS) × (IsEpoch p.1.1.0 × (p.1.1.1 < 2 ^ MASK_BITS))))
 exact_ahead = exact_both exact_epoch (exact_both exact_mask (exact_both exact_epoch exact_mask))
 
 fault_read : (m : ℕ) (k : FaultKind) (all : List (List ℕ)) (t s : Reading) (y : Fault) → all ≡ fault_word k ∷ t.words → fault_behind m k t ≡ Ok (y, s) → (all ≡ fault_words y ++ s.words) × IsFault m y
@@ -241,14 +244,14 @@ what_read kind.Entered all t s y head e = read_as exact_member happened.Entered 
 what_read kind.Expired all t s y head e = read_as exact_accusation happened.Expired what_words IsWhat (codes "expired") (λ x. refl) (λ x g. g) all t s y head e
 what_read kind.Removed all t s y head e = read_as exact_member happened.Removed what_words IsWhat (codes "removed") (λ x. refl) (λ x g. g) all t s y head e
 what_read kind.Fell all t s y head e = read_as exact_accusation happened.Fell what_words IsWhat (codes "fell") (λ x. refl) (λ x g. g) all t s y head e
-what_read kind.Spent all t s y head e = read_as (exact_both exact_mask exact_body) (λ (p : ℕ × Body). happened.Spent p.0 p.1) what_words IsWhat (codes "spent") (λ x. refl) (λ x g. g) all t s y head e
+what_read kind.Spent all t s y head e = read_as (exact_both exact_32 exact_body) (λ (p : ℕ × Body). happened.Spent p.0 p.1) what_words IsWhat (codes "spent") (λ x. refl) (λ x g. g) all t s y head e
 what_read kind.Took all t s y head e = read_as exact_took (λ (p : Body × (Unit {0} × Option Fault)). happened.Took p.0 p.1.1) what_words IsWhat (codes "took") (λ x. refl) (λ x g. (g.0, g.1.1)) all t s y head e
 what_read kind.BadForm all t s y head e = read_as exact_64 happened.BadForm what_words IsWhat (codes "bad-form") (λ x. refl) (λ x g. g) all t s y head e
 what_read kind.Ping all t s y head e = read_as (exact_both exact_member exact_64) (λ (p : ℕ × ℕ). happened.Ping p.0 p.1) what_words IsWhat (codes "ping") (λ x. refl) (λ x g. g) all t s y head e
 what_read kind.Pong all t s y head e = read_as (exact_both exact_member (exact_both exact_64 exact_answer)) (λ (p : ℕ × (ℕ × Bool)). happened.Pong p.0 p.1.0 p.1.1) what_words IsWhat (codes "pong") (λ x. refl) (λ x g. (g.0, g.1.0)) all t s y head e
 what_read kind.Summary all t s y head e = read_as (exact_both exact_member (exact_both exact_page exact_flag)) (λ (p : ℕ × (ℕ × Bool)). happened.Summary p.0 p.1.0 p.1.1) what_words IsWhat (codes "summary") (λ x. refl) (λ x g. (g.0, g.1.0)) all t s y head e
 what_read kind.Silent all t s y head e = read_as exact_member happened.Silent what_words IsWhat (codes "silent") (λ x. refl) (λ x g. g) all t s y head e
-what_read kind.Exhausted all t s y head e = read_as exact_mask happened.Exhausted what_words IsWhat (codes "exhausted") (λ x. refl) (λ x g. g) all t s y head e
+what_read kind.Exhausted all t s y head e = read_as exact_32 happened.Exhausted what_words IsWhat (codes "exhausted") (λ x. refl) (λ x g. g) all t s y head e
 what_read kind.Sent all t s y head e = read_as (exact_both exact_64 (exact_both exact_member exact_bytes)) (λ (p : ℕ × (ℕ × List ℕ)). happened.Sent p.0 p.1.0 p.1.1) what_words IsWhat (codes "sent") (λ x. refl) (λ x g. (g.0, g.1.0, g.1.1.0, g.1.1.1)) all t s y head e
 what_read kind.Lost all t s y head e = read_as exact_64 happened.Lost what_words IsWhat (codes "lost") (λ x. refl) (λ x g. g) all t s y head e
 what_read kind.Got all t s y head e = read_as exact_64 happened.Got what_words IsWhat (codes "got") (λ x. refl) (λ x g. g) all t s y head e
@@ -260,14 +263,14 @@ what_again (happened.Entered m) good r rest left = back_as (among kind_word ever
 what_again (happened.Expired a) good r rest left = back_as (among kind_word every_kind) what_behind kind.Expired (codes "expired") exact_accusation happened.Expired (λ t. refl) refl a good r rest left
 what_again (happened.Removed m) good r rest left = back_as (among kind_word every_kind) what_behind kind.Removed (codes "removed") exact_member happened.Removed (λ t. refl) refl m good r rest left
 what_again (happened.Fell a) good r rest left = back_as (among kind_word every_kind) what_behind kind.Fell (codes "fell") exact_accusation happened.Fell (λ t. refl) refl a good r rest left
-what_again (happened.Spent index body) good r rest left = back_as (among kind_word every_kind) what_behind kind.Spent (codes "spent") (exact_both exact_mask exact_body) (λ (p : ℕ × Body). happened.Spent p.0 p.1) (λ t. refl) refl (index, body) good r rest left
+what_again (happened.Spent index body) good r rest left = back_as (among kind_word every_kind) what_behind kind.Spent (codes "spent") (exact_both exact_32 exact_body) (λ (p : ℕ × Body). happened.Spent p.0 p.1) (λ t. refl) refl (index, body) good r rest left
 what_again (happened.Took body fault) good r rest left = back_as (among kind_word every_kind) what_behind kind.Took (codes "took") exact_took (λ (p : Body × (Unit {0} × Option Fault)). happened.Took p.0 p.1.1) (λ t. refl) refl (body, (tt, fault)) (good.0, (tt, good.1)) r rest left
 what_again (happened.BadForm place) good r rest left = back_as (among kind_word every_kind) what_behind kind.BadForm (codes "bad-form") exact_64 happened.BadForm (λ t. refl) refl place good r rest left
 what_again (happened.Ping from nonce) good r rest left = back_as (among kind_word every_kind) what_behind kind.Ping (codes "ping") (exact_both exact_member exact_64) (λ (p : ℕ × ℕ). happened.Ping p.0 p.1) (λ t. refl) refl (from, nonce) good r rest left
 what_again (happened.Pong from nonce counted) good r rest left = back_as (among kind_word every_kind) what_behind kind.Pong (codes "pong") (exact_both exact_member (exact_both exact_64 exact_answer)) (λ (p : ℕ × (ℕ × Bool)). happened.Pong p.0 p.1.0 p.1.1) (λ t. refl) refl (from, (nonce, counted)) (good.0, (good.1, tt)) r rest left
 what_again (happened.Summary from page flag) good r rest left = back_as (among kind_word every_kind) what_behind kind.Summary (codes "summary") (exact_both exact_member (exact_both exact_page exact_flag)) (λ (p : ℕ × (ℕ × Bool)). happened.Summary p.0 p.1.0 p.1.1) (λ t. refl) refl (from, (page, flag)) (good.0, (good.1, tt)) r rest left
 what_again (happened.Silent m) good r rest left = back_as (among kind_word every_kind) what_behind kind.Silent (codes "silent") exact_member happened.Silent (λ t. refl) refl m good r rest left
-what_again (happened.Exhausted next) good r rest left = back_as (among kind_word every_kind) what_behind kind.Exhausted (codes "exhausted") exact_mask happened.Exhausted (λ t. refl) refl next good r rest left
+what_again (happened.Exhausted next) good r rest left = back_as (among kind_word every_kind) what_behind kind.Exhausted (codes "exhausted") exact_32 happened.Exhausted (λ t. refl) refl next good r rest left
 what_again (happened.Sent number to bytes) good r rest left = back_as (among kind_word every_kind) what_behind kind.Sent (codes "sent") (exact_both exact_64 (exact_both exact_member exact_bytes)) (λ (p : ℕ × (ℕ × List ℕ)). happened.Sent p.0 p.1.0 p.1.1) (λ t. refl) refl (number, (to, bytes)) (good.0, (good.1, (good.2, good.3))) r rest left
 what_again (happened.Lost number) good r rest left = back_as (among kind_word every_kind) what_behind kind.Lost (codes "lost") exact_64 happened.Lost (λ t. refl) refl number good r rest left
 what_again (happened.Got number) good r rest left = back_as (among kind_word every_kind) what_behind kind.Got (codes "got") exact_64 happened.Got (λ t. refl) refl number good r rest left

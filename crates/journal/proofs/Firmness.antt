@@ -35,10 +35,10 @@ use Rattle.journal.specs.declared.fault.EventFault.{EventFault}
 use Rattle.journal.specs.Kinds.{body_word, every_body_kind, every_fault_kind, every_kind, fault_word, kind_word}
 use Rattle.journal.specs.Texts.{answer_text, event_text, flag_text}
 use Rattle.journal.specs.Words.{◌>>=◌, Reading, among, both, bytes_of, ended, followed, is_literal, key_of, monitor_of, number, one_of, reading_of, token_at, whole}
-use Rattle.journal.specs.Grammar.{GivesEvent, about, accusation_at, body_at, body_behind, certificate_at, epoch_at, event_at, fault_at, fault_behind, mask_at, member_at, note_at, number_64_at, own_ahead, page_at, port_at, ring_at, verdict_at, verdict_behind, what_at, what_behind}
+use Rattle.journal.specs.Grammar.{GivesEvent, about, accusation_at, body_at, body_behind, certificate_at, epoch_at, event_at, fault_at, fault_behind, mask_at, member_at, note_at, number_32_at, number_64_at, own_ahead, page_at, port_at, ring_at, verdict_at, verdict_behind, what_at, what_behind}
 use Rattle.journal.specs.Places.{Begins, FailsAs, FailsAt, IsStuck, IsWhole}
 use Rattle.journal.specs.Spelling.{IsAccusation, IsBody, IsCertificate, IsEpoch, IsEvent, IsFault, IsKey, IsMonitor, IsPort, IsVerdict, IsWhat}
-use Rattle.journal.proofs.Events.{IsGood, accusation_is, accusation_parts, certificate_is, certificate_parts, note_is, note_parts, exact_64, exact_body, exact_epoch, exact_event, exact_fault, exact_mask, exact_member, exact_page, exact_port, exact_ring, exact_verdict, exact_what, no_fault}
+use Rattle.journal.proofs.Events.{IsGood, accusation_is, accusation_parts, certificate_is, certificate_parts, note_is, note_parts, exact_32, exact_64, exact_body, exact_epoch, exact_event, exact_fault, exact_mask, exact_member, exact_page, exact_port, exact_ring, exact_verdict, exact_what, no_fault}
 use Rattle.journal.proofs.Rules.{exact_answer, exact_bytes, exact_flag, exact_key, exact_literal, exact_monitor, one_is}
 use Rattle.journal.proofs.Spelled.{accusation_words, body_words, certificate_words, event_joined, event_words, fault_words, joined, note_words, verdict_words, what_words, worded_event}
 use Rattle.journal.proofs.Steps.{among_is, done}
@@ -54,6 +54,9 @@ firm_epoch = firm_token (number 1 18446744073709551615) 1 (record { some = omega
 
 firm_mask : Firm mask_at (λ n. decimal n ∷ []) (λ n. n < 2 ^ MASK_BITS)
 firm_mask = firm_token (number 0 ALL_BITS) 0 (lit< tt) exact_mask
+
+firm_32 : Firm number_32_at (λ n. decimal n ∷ []) (λ n. n < 2 ^ 32)
+firm_32 = firm_token (number 0 4294967295) 0 (lit< tt) exact_32
 
 firm_ring : Firm ring_at (λ n. decimal n ∷ []) (λ n. n < 256)
 firm_ring = firm_token (number 0 255) 0 (lit< tt) exact_ring
@@ -183,14 +186,14 @@ what_branch kind.Entered = branch firm_member happened.Entered what_words IsWhat
 what_branch kind.Expired = branch firm_accusation happened.Expired what_words IsWhat (codes "expired") (λ x. refl) (λ x g. g)
 what_branch kind.Removed = branch firm_member happened.Removed what_words IsWhat (codes "removed") (λ x. refl) (λ x g. g)
 what_branch kind.Fell = branch firm_accusation happened.Fell what_words IsWhat (codes "fell") (λ x. refl) (λ x g. g)
-what_branch kind.Spent = branch (firm_both firm_mask firm_body) (λ (p : ℕ × Body). happened.Spent p.0 p.1) what_words IsWhat (codes "spent") (λ x. refl) (λ x g. g)
+what_branch kind.Spent = branch (firm_both firm_32 firm_body) (λ (p : ℕ × Body). happened.Spent p.0 p.1) what_words IsWhat (codes "spent") (λ x. refl) (λ x g. g)
 what_branch kind.Took = branch firm_took (λ (p : Body × (Unit {0} × Option Fault)). happened.Took p.0 p.1.1) what_words IsWhat (codes "took") (λ x. refl) (λ x g. (g.0, g.1.1))
 what_branch kind.BadForm = branch firm_64 happened.BadForm what_words IsWhat (codes "bad-form") (λ x. refl) (λ x g. g)
 what_branch kind.Ping = branch (firm_both firm_member firm_64) (λ (p : ℕ × ℕ). happened.Ping p.0 p.1) what_words IsWhat (codes "ping") (λ x. refl) (λ x g. g)
 what_branch kind.Pong = branch (firm_both firm_member (firm_both firm_64 firm_answer)) (λ (p : ℕ × (ℕ × Bool)). happened.Pong p.0 p.1.0 p.1.1) what_words IsWhat (codes "pong") (λ x. refl) (λ x g. (g.0, g.1.0))
 what_branch kind.Summary = branch (firm_both firm_member (firm_both firm_page firm_flag)) (λ (p : ℕ × (ℕ × Bool)). happened.Summary p.0 p.1.0 p.1.1) what_words IsWhat (codes "summary") (λ x. refl) (λ x g. (g.0, g.1.0))
 what_branch kind.Silent = branch firm_member happened.Silent what_words IsWhat (codes "silent") (λ x. refl) (λ x g. g)
-what_branch kind.Exhausted = branch firm_mask happened.Exhausted what_words IsWhat (codes "exhausted") (λ x. refl) (λ x g. g)
+what_branch kind.Exhausted = branch firm_32 happened.Exhausted what_words IsWhat (codes "exhausted") (λ x. refl) (λ x g. g)
 what_branch kind.Sent = branch (firm_both firm_64 (firm_both firm_member firm_bytes)) (λ (p : ℕ × (ℕ × List ℕ)). happened.Sent p.0 p.1.0 p.1.1) what_words IsWhat (codes "sent") (λ x. refl) (λ x g. (g.0, g.1.0, g.1.1.0, g.1.1.1))
 what_branch kind.Lost = branch firm_64 happened.Lost what_words IsWhat (codes "lost") (λ x. refl) (λ x g. g)
 what_branch kind.Got = branch firm_64 happened.Got what_words IsWhat (codes "got") (λ x. refl) (λ x g. g)

@@ -6,7 +6,7 @@ ghost use Rattle.ff_ids.specs.declared.TheConstants.{LAST_MEMBER, ALL_BITS, LAST
 ghost use Rattle.line_text.specs.Words.{is_space, parts, parts_left};
 ghost use Rattle.journal.specs.Words.{EndsAs, Reads, is_literal, monitor_of, number, number_of, one_of, passed, reading_of, token_at};
 
-use ff_ids::{ALL_BITS, Bits, Epoch, LAST_MEMBER, LAST_PAGE, Mask, MemberId, RingNo};
+use ff_ids::{ALL_BITS, Epoch, LAST_MEMBER, LAST_PAGE, Mask, MemberId, RingNo};
 use itoa::Buffer;
 use std::marker::Model;
 
@@ -144,7 +144,7 @@ pub fn epoch(words: &mut Words) -> Result<Epoch, Misread>
 pub fn mask(words: &mut Words) -> Result<Mask, Misread>
     ensures { Reads (λ m. m.0) result words.new (token_at (number 0 ALL_BITS) words.old) }
 {
-    Ok(Mask(number(words, 0, ALL_BITS as u64)? as Bits))
+    Ok(Mask(number(words, 0, ALL_BITS)?))
 }
 
 pub fn ring(words: &mut Words) -> Result<RingNo, Misread>

@@ -50,7 +50,7 @@ fn compare(
 }
 
 /// Member, epoch, mask and signer.
-const NOTES: [(u8, u8, u32, u8, &str); 29] = [
+const NOTES: [(u8, u8, u64, u8, &str); 31] = [
     // No certificate, and so no key: the mask is bad, or it isn't.
     (9, 1, 8, 1, "unknown-member"),
     (9, 1, 7, 1, "unknown-member"),
@@ -58,6 +58,9 @@ const NOTES: [(u8, u8, u32, u8, &str); 29] = [
     (2, 3, 8, 2, "bad-mask"),
     (2, 3, 1, 2, "bad-mask"),
     (2, 1, 8, 2, "bad-mask"),
+    // Of four bytes and of eight.
+    (2, 3, 0xffff_ffff, 2, "bad-mask"),
+    (2, 3, 0x1_0000_0007, 2, "bad-mask"),
     (2, 3, 8, 1, "bad-mask"),
     (2, 1, 8, 1, "bad-mask"),
     (3, 9, 8, 3, "bad-mask"),

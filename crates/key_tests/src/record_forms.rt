@@ -21,13 +21,13 @@ fn record(alloc: Global, body: Body) -> Result<Record, AllocError>
     Ok(Record { body, signature })
 }
 
-fn note() -> Body
+fn note(mask: Mask) -> Body
     ensures { HasPort result }
 {
     Body::Note(NoteBody {
         member: MemberId::new(2),
         epoch: Epoch::new(1),
-        mask: Mask(7),
+        mask,
     })
 }
 
@@ -119,15 +119,20 @@ fn read_back(rt: &impl Abort, alloc: Global, body: Body, starts: &[usize]) -> Re
 #[test]
 fn records_are_read_back_and_no_cut_of_them(rt: HostRuntime) -> Result<(), Fail> {
     let alloc = rt.alloc();
-    read_back(&rt, alloc, note(), &[0, 1, 3, 11, 15, 17])?;
+    for mask in [7, 0xffff_ffff] {
+        read_back(&rt, alloc, note(Mask(mask)), &[0, 1, 3, 11, 15, 17])?;
+    }
+    for mask in [0x1_0000_0000, 0x1_0000_0007, u64::MAX] {
+        read_back(&rt, alloc, note(Mask(mask)), &[0, 1, 3, 11, 19, 21])?;
+    }
     read_back(&rt, alloc, accusation(), &[0, 1, 3, 5, 13, 14, 16])?;
     read_back(&rt, alloc, certificate(), &[0, 1, 3, 5, 9, 13, 29, 61, 63])
 }
 
 /// What stands in front of the fault, up to its end, and the place of the fault.
-const FAULTS: [(&[u8], usize); 19] = [
+const FAULTS: [(&[u8], usize); 21] = [
     (b"\x00", 0),
-    (b"\x04", 0),
+    (b"\x05", 0),
     // members 1,024
     (b"\x01\x04\x00", 1),
     (b"\x02\x04\x00", 1),
@@ -142,6 +147,15 @@ const FAULTS: [(&[u8], usize); 19] = [
     (b"\x01\x00\x02\x4e\x22\x00\x00\x00\x08", 5),
     (b"\x01\x00\x02\x4e\x22\x00\x00\x00\x05\x00\x00\x00\x05", 9),
     (b"\x01\x00\x02\x4e\x22\x00\x00\x00\x05\x00\x00\x00\x00", 9),
+    // masks of eight bytes that four hold
+    (
+        b"\x04\x00\x02\x00\x00\x00\x00\x00\x00\x00\x01\x00\x00\x00\x00\x00\x00\x00\x07",
+        11,
+    ),
+    (
+        b"\x04\x00\x02\x00\x00\x00\x00\x00\x00\x00\x01\x00\x00\x00\x00\xff\xff\xff\xff",
+        11,
+    ),
     // signatures of 0 and of 9,005 bytes, behind a note, an accusation and a certificate
     (
         b"\x02\x00\x02\x00\x00\x00\x00\x00\x00\x00\x01\x00\x00\x00\x07\x00\x00",

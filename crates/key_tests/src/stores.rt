@@ -67,7 +67,7 @@ fn opened(alloc: Global, bytes: &[u8]) -> Result<Result<Stored, StoreError>, Fai
     Ok(state_in(&mut disk, NAME))
 }
 
-fn stored(next: u32, epoch: u64, mask: u32) -> Stored
+fn stored(next: u32, epoch: u64, mask: u64) -> Stored
     ensures value { (result.next ≡ next) × (result.epoch ≡ epoch) × (result.mask.0 ≡ mask) }
 {
     Stored {

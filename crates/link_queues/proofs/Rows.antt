@@ -28,12 +28,18 @@ never-fits = refl
 
 -- ---- who is named
 
--- a ping, a summary and a datagram of records of member 258, and a ping that is cut short
+-- a ping, a summary, a wide one, datagrams of no kind and one of records of member 258, and a ping that is cut short
 ping-names : named_sender (70 ∷ 70 ∷ 1 ∷ 1 ∷ 1 ∷ 2 ∷ 0 ∷ []) ≡ Some 258
 ping-names = refl
 
 summary-names : named_sender (70 ∷ 70 ∷ 1 ∷ 3 ∷ 1 ∷ 2 ∷ []) ≡ Some 258
 summary-names = refl
+
+wide-summary-names : named_sender (70 ∷ 70 ∷ 1 ∷ 5 ∷ 1 ∷ 2 ∷ []) ≡ Some 258
+wide-summary-names = refl
+
+no-kind-names-none : (named_sender (70 ∷ 70 ∷ 1 ∷ 0 ∷ 1 ∷ 2 ∷ 0 ∷ []) ≡ None) × (named_sender (70 ∷ 70 ∷ 1 ∷ 6 ∷ 1 ∷ 2 ∷ 0 ∷ []) ≡ None)
+no-kind-names-none = (refl, refl)
 
 records-name-none : named_sender (70 ∷ 70 ∷ 1 ∷ 4 ∷ 1 ∷ 2 ∷ 0 ∷ []) ≡ None
 records-name-none = refl

@@ -1,12 +1,16 @@
 -- Who is expected to send from which port, and whom a datagram names as its sender.
-use Rattle.std.specs.Prelude.{ℕ, ◌+◌, ◌*◌, ◌&&◌, Bool, false, ◌==◌, nat_lt, not, if◌then◌else◌, List, Option, Some, None, length, find, position, slice_index}
+use Rattle.std.specs.Prelude.{ℕ, ◌+◌, ◌*◌, ◌&&◌, ◌||◌, Bool, false, ◌==◌, nat_lt, not, if◌then◌else◌, List, Option, Some, None, length, find, position, slice_index}
 use Rattle.link_queues.specs.declared.senders.Expected.{Expected}
 
+-- the kind of a ping, a pong or a summary, of which a wide one has a kind of its own
+abbrev pub is_unsigned_kind : ℕ → Bool
+is_unsigned_kind kind = nat_lt 0 kind && nat_lt kind 4 || (kind == 5)
+
 -- The sender that a ping, a pong or a summary names: these datagrams carry no signature. They begin with the letters FF,
--- the version 1 and the kind, 1 to 3; the sender's number comes next.
+-- the version 1 and the kind; the sender's number comes next.
 abbrev pub is_unsigned : List ℕ → Bool
 is_unsigned bytes = nat_lt 5 (length bytes) && (slice_index bytes 0 == 70) && (slice_index bytes 1 == 70)
-    && (slice_index bytes 2 == 1) && nat_lt 0 (slice_index bytes 3) && nat_lt (slice_index bytes 3) 4
+    && (slice_index bytes 2 == 1) && is_unsigned_kind (slice_index bytes 3)
 
 abbrev pub named_sender : List ℕ → Option ℕ
 named_sender bytes = if is_unsigned bytes then Some (256 * slice_index bytes 4 + slice_index bytes 5) else None

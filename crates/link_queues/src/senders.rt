@@ -2,13 +2,20 @@
 
 ghost use Rattle.std.specs.Prelude.{◌≡◌, ◌≤◌, ◌<◌, ◌==◌, find, position, length, IfSome};
 ghost use Rattle.std.specs.List.{list_any};
-ghost use Rattle.link_queues.specs.Senders.{is_borrowed, named_sender, queue_of};
+ghost use Rattle.link_queues.specs.Senders.{is_borrowed, is_unsigned_kind, named_sender, queue_of};
 
 /// A member, and the port that it sends from.
 #[derive(Clone, Copy, Debug, PartialEq, Eq)]
 pub struct Expected {
     pub member: u16,
     pub port: u16,
+}
+
+/// Whether it is the kind of a ping, a pong or a summary, which carry no signature.
+fn is_unsigned_kind(kind: u8) -> bool
+    ensures { result ≡ is_unsigned_kind kind }
+{
+    kind > 0 && kind < 4 || kind == 5
 }
 
 /// The sender that a ping, a pong or a summary names. How these begin is in `crates/datagram/specs/Spelling.antt`.
@@ -19,8 +26,7 @@ fn named_sender(bytes: &[u8]) -> Option<u16>
         && bytes[0] == b'F'
         && bytes[1] == b'F'
         && bytes[2] == 1
-        && bytes[3] > 0
-        && bytes[3] < 4
+        && is_unsigned_kind(bytes[3])
     {
         return Some(256 * u16::from(bytes[4]) + u16::from(bytes[5]));
     }

@@ -4,7 +4,7 @@ use ff_ids::{AccBody, Epoch, Mask, MemberId, NoteBody, RingNo, good_mask};
 use rebuttal::{answer_mask, must_answer};
 
 /// The answer's rings, where the mask is good and enables the ring.
-fn answered(t: u8, rings: u32, ring: u8) -> Option<u32> {
+fn answered(t: u8, rings: u64, ring: u8) -> Option<u64> {
     let (mask, ring) = (Mask(rings), RingNo(ring));
     if 1 <= t && t <= 15 && ring.0 < 32 && good_mask(t, mask) && mask.enables(ring) {
         Some(answer_mask(t, mask, ring).0)
@@ -16,7 +16,7 @@ fn answered(t: u8, rings: u32, ring: u8) -> Option<u32> {
 #[test]
 fn the_ring_is_disabled_and_the_lowest_enabled_again(rt: HostRuntime) {
     let rows = [
-        (1u8, 7u32, 0u8, 6u32),
+        (1u8, 7u64, 0u8, 6u64),
         (1, 7, 2, 3),
         (1, 6, 1, 5),
         (1, 5, 2, 3),

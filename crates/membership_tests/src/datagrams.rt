@@ -17,6 +17,16 @@ const SUMMARY: &[u8] =
 const RECORDS: &[u8] =
     b"FF\x01\x04\x00\x02\x00\x01\x02\x00\x02\x00\x00\x00\x00\x00\x00\x00\x01\x00\x00\x00\x07\x00\x05abcde";
 
+/// As `SUMMARY`, with a mask of four rings, of which one is ring 32.
+const WIDE_SUMMARY: &[u8] =
+    b"FF\x01\x05\x00\x02\x01\x01\x02\x00\x20\x00\x00\x00\x00\x00\x00\x00\x05\x00\x00\x00\x01\x00\x00\x00\x07\x00\x00\x00\x00\x00\x00\x00\x02\x00\x22\x00\x00\x00\x00\x00\x00\x00\x00\x00\x00\x00\x00\x00\x00\x00\x00\x00\x00\x00\x00\x00\x00\x00\x00";
+/// As `RECORDS`, with such a mask.
+const WIDE_NOTE: &[u8] =
+    b"FF\x01\x04\x00\x02\x00\x01\x04\x00\x02\x00\x00\x00\x00\x00\x00\x00\x01\x00\x00\x00\x01\x00\x00\x00\x07\x00\x05abcde";
+
+/// The least number that four bytes don't hold.
+const WIDE: u64 = 1 << 32;
+
 /// The big-endian number of these bytes.
 fn number(bytes: &[u8], at: usize, length: usize) -> u64 {
     let mut value = 0u64;
@@ -26,34 +36,40 @@ fn number(bytes: &[u8], at: usize, length: usize) -> u64 {
     value
 }
 
-/// Whether the entries, which begin at byte 9, keep to the page.
-fn are_entries(bytes: &[u8], page: u64, count: u64) -> bool {
-    if page > 31 || count > 32 || bytes.len() as u64 != 9 + 18 * count {
+/// Whether the entries, which begin at byte 9 and have a mask and rings of 8 bytes or of 4, keep to the page, and need 8
+/// bytes where they have them.
+fn are_entries(bytes: &[u8], is_wide: bool, page: u64, count: u64) -> bool {
+    let (size, length) = if is_wide { (8usize, 26u64) } else { (4, 18) };
+    if page > 31
+        || count > 32
+        || bytes.len() as u64 != length.saturating_mul(count).saturating_add(9)
+    {
         return false;
     }
     let mut least = 32 * page;
-    for index in 0..count as usize {
-        let at = 9 + 18 * index;
-        let member = number(bytes, at, 2);
-        let noted = number(bytes, at + 2, 8) > 0;
-        let bits = number(bytes, at + 10, 8);
+    let mut greatest = 0u64;
+    for entry in bytes.get(9..).unwrap_or(&[]).chunks(length as usize) {
+        let member = number(entry, 0, 2);
+        let noted = number(entry, 2, 8) > 0;
+        let bits = number(entry, 10, size) | number(entry, 10 + size, size);
         if member < least || member > 32 * page + 31 || !noted && bits != 0 {
             return false;
         }
+        greatest = greatest.max(bits);
         least = member + 1;
     }
-    true
+    !is_wide || greatest >= WIDE
 }
 
 /// Whether there is one record, at byte 8, that is a note or an accusation.
 fn is_one_record(bytes: &[u8]) -> bool {
-    let members = number(bytes, 9, 2) < 1024
-        && (bytes.get(8) == Some(&2) || number(bytes, 11, 2) < 1024);
-    let (epoch, length) = match bytes.get(8) {
-        Some(2) => (11usize, 23usize),
-        Some(3) => (13, 22),
+    let (epoch, length, good) = match bytes.get(8) {
+        Some(2) => (11usize, 23usize, true),
+        Some(3) => (13, 22, number(bytes, 11, 2) < 1024),
+        Some(4) => (11, 27, number(bytes, 19, 8) >= WIDE),
         _ => return false,
     };
+    let members = number(bytes, 9, 2) < 1024 && good;
     let signature = number(bytes, length, 2);
     number(bytes, 6, 2) == 1
         && members
@@ -68,9 +84,10 @@ fn is_datagram(bytes: &[u8]) -> bool {
     let head = number(bytes, 0, 3) == 0x464601 && number(bytes, 4, 2) < 1024 && bytes.len() > 8;
     match bytes.get(3) {
         Some(1) | Some(2) => head && bytes.len() == 14,
-        Some(3) => {
+        Some(3) | Some(5) => {
+            let is_wide = bytes.get(3) == Some(&5);
             head && number(bytes, 7, 1) < 2
-                && are_entries(bytes, number(bytes, 6, 1), number(bytes, 8, 1))
+                && are_entries(bytes, is_wide, number(bytes, 6, 1), number(bytes, 8, 1))
         }
         Some(4) => head && is_one_record(bytes),
         _ => false,
@@ -142,6 +159,11 @@ fn datagrams_are_read_and_written_and_no_cut_of_them(rt: HostRuntime) -> Result<
             [0, 2, 3, 4, 6, 7, 8, 9, 11, 19, 23, 27, 29, 37, 41].as_slice(),
         ),
         (RECORDS, [0, 2, 3, 4, 6, 8, 9, 11, 19, 23, 25].as_slice()),
+        (
+            WIDE_SUMMARY,
+            [0, 2, 3, 4, 6, 7, 8, 9, 11, 19, 27, 35, 37, 45, 53].as_slice(),
+        ),
+        (WIDE_NOTE, [0, 2, 3, 4, 6, 8, 9, 11, 19, 27, 29].as_slice()),
     ];
     for (bytes, starts) in &rows {
         written_back(&rt, alloc, *bytes)?;
@@ -155,7 +177,7 @@ fn a_fault_is_where_its_field_begins(rt: HostRuntime) -> Result<(), Fail> {
     let rows = [
         (b"FG".as_slice(), 0),
         (b"FF\x00".as_slice(), 2),
-        (b"FF\x01\x05".as_slice(), 3),
+        (b"FF\x01\x06".as_slice(), 3),
         // the sender 1,024
         (b"FF\x01\x01\x04\x00".as_slice(), 4),
         // a ping with a byte more
@@ -185,6 +207,29 @@ fn a_fault_is_where_its_field_begins(rt: HostRuntime) -> Result<(), Fail> {
         (
             b"FF\x01\x03\x00\x02\x00\x00\x01\x00\x00\x00\x00\x00\x00\x00\x00\x00\x01\x00\x00\x00\x07\x00\x00\x00\x00\x00".as_slice(),
             27,
+        ),
+        // of eight bytes for a mask and rings: no entry; one that needs only four, alone and with a byte more
+        (b"FF\x01\x05\x00\x02\x00\x00\x00".as_slice(), 8),
+        (
+            b"FF\x01\x05\x00\x02\x00\x00\x01\x00\x00\x00\x00\x00\x00\x00\x00\x00\x01\x00\x00\x00\x00\xff\xff\xff\xff\x00\x00\x00\x00\xff\xff\xff\xff".as_slice(),
+            8,
+        ),
+        (
+            b"FF\x01\x05\x00\x02\x00\x00\x01\x00\x00\x00\x00\x00\x00\x00\x00\x00\x01\x00\x00\x00\x00\xff\xff\xff\xff\x00\x00\x00\x00\xff\xff\xff\xff\x00".as_slice(),
+            8,
+        ),
+        // one that needs eight, and a byte more; rings of epoch 0; twice member 0
+        (
+            b"FF\x01\x05\x00\x02\x00\x00\x01\x00\x00\x00\x00\x00\x00\x00\x00\x00\x01\x00\x00\x00\x00\x00\x00\x00\x00\x00\x00\x00\x01\x00\x00\x00\x00\x00".as_slice(),
+            35,
+        ),
+        (
+            b"FF\x01\x05\x00\x02\x00\x00\x01\x00\x00\x00\x00\x00\x00\x00\x00\x00\x00\x00\x00\x00\x00\x00\x00\x00\x00\x00\x00\x00\x00\x00\x00\x00\x01".as_slice(),
+            27,
+        ),
+        (
+            b"FF\x01\x05\x00\x02\x00\x00\x02\x00\x00\x00\x00\x00\x00\x00\x00\x00\x01\x00\x00\x00\x00\x00\x00\x00\x07\x00\x00\x00\x00\x00\x00\x00\x00\x00\x00".as_slice(),
+            35,
         ),
         // no record; a record of kind 0
         (b"FF\x01\x04\x00\x02\x00\x00".as_slice(), 6),

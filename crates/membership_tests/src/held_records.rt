@@ -74,7 +74,7 @@ fn certificate(member: MemberId) -> Body
     })
 }
 
-fn note(member: MemberId, epoch: Epoch, mask: u32) -> Body
+fn note(member: MemberId, epoch: Epoch, mask: u64) -> Body
     ensures port { HasPort result }
     ensures ring { HasRing 1 result }
     ensures key { key_of result ≡ keys.Note member }
@@ -148,7 +148,7 @@ fn compare_page(rt: &impl Abort, set: &RecordSet, page: u8, entries: &[SummaryEn
     assert_eq!(rt; out.entries(), entries);
 }
 
-fn entry(member: MemberId, epoch: u64, mask: u32, rings: u32) -> SummaryEntry {
+fn entry(member: MemberId, epoch: u64, mask: u64, rings: u64) -> SummaryEntry {
     SummaryEntry {
         member,
         epoch,

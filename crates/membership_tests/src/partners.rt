@@ -7,7 +7,7 @@ use std::alloc::Global;
 use std::test::Fail;
 
 /// An entry, as member, epoch, mask and rings.
-type Row = (MemberId, u64, u32, u32);
+type Row = (MemberId, u64, u64, u64);
 
 fn summary(rows: &[Row]) -> Summary {
     let mut summary = Summary::new();

@@ -5,7 +5,7 @@ use membership::{Changes, Membership};
 use ring_order::number_places;
 use std::test::Fail;
 
-fn note(member: MemberId, mask: u32) -> NoteBody {
+fn note(member: MemberId, mask: u64) -> NoteBody {
     NoteBody {
         member,
         epoch: Epoch::new(1),

@@ -45,7 +45,7 @@ pub fn key_of(alloc: Global, number: u8) -> Result<Key, Fail> {
 }
 
 /// A note; epoch 0 stands for 1.
-pub fn note(of: u8, epoch: u8, mask: u32) -> Body
+pub fn note(of: u8, epoch: u8, mask: u64) -> Body
     ensures { HasPort result }
 {
     Body::Note(NoteBody {

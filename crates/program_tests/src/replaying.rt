@@ -133,7 +133,12 @@ const TEXTS: [Row; 36] = [
         "bad 3 number\n",
         3,
     ),
-    (Front::Head, "note 2 1 4294967296\n", "bad 3 limit\n", 3),
+    (
+        Front::Head,
+        "note 2 1 18446744073709551616\n",
+        "bad 3 number\n",
+        3,
+    ),
     (Front::Head, "note  2 1 7\n", "bad 3 spaces\n", 3),
     (Front::Head, "view\0\n", "bad 3 spaces\n", 3),
     (Front::Head, "view\u{7f}\n", "bad 3 spaces\n", 3),

@@ -1,13 +1,13 @@
 -- How many bytes records have.
-use Rattle.std.proofs.Common.{◌≡◌, ℕ, ◌+◌, List, ◌++◌, length, refl, arith}
-use Rattle.std.specs.Int.{w16, to_be_bytes}
+use Rattle.std.proofs.Common.{◌≡◌, ℕ, ◌+◌, ◌^◌, Bool, true, false, cond, ltb, List, ◌∷◌, ◌++◌, length, refl, arith}
+use Rattle.std.specs.Int.{w16, w32, w64, to_be_bytes}
 use Rattle.std.proofs.lemmas.List.{length-append}
 use Rattle.ff_ids.specs.declared.NoteBody.{NoteBody}
 use Rattle.ff_ids.specs.declared.AccBody.{AccBody}
 use Rattle.lms_tree.specs.Lms.{key_bytes}
 use Rattle.records.specs.declared.CertBody.{CertBody}
 use Rattle.records.specs.declared.Record.{Record}
-use Rattle.records.specs.Spelling.{IsCertificate, certificate_bytes, note_bytes, accusation_bytes, body_bytes, record_bytes}
+use Rattle.records.specs.Spelling.{IsCertificate, certificate_bytes, note_fields, note_bytes, accusation_bytes, body_bytes, record_bytes}
 
 tail_long : (id root : List ℕ) → length id ≡ 16 → length root ≡ 32 → length (id ++ root) ≡ 48
 tail_long id root a b = omega (arith, length-append id root)
@@ -16,9 +16,13 @@ pub certificate_long : (c : CertBody) → IsCertificate c → length (certificat
 unfolding certificate_bytes key_bytes
 certificate_long c h = omega (arith, tail_long c.key.id c.key.root h.id_long h.root_long)
 
-pub note_long : (n : NoteBody) → length (note_bytes n) ≡ 15
+pub note_long : (n : NoteBody) → length (note_bytes n) ≡ cond (ltb n.mask.0 (2 ^ 32)) 15 19
 unfolding note_bytes
-note_long n = refl
+note_long n = by_width (ltb n.mask.0 (2 ^ 32))
+  where
+    by_width : (narrow : Bool) → length (cond narrow (2 ∷ note_fields w32 n) (4 ∷ note_fields w64 n)) ≡ cond narrow 15 19
+    by_width true = refl
+    by_width false = refl
 
 pub accusation_long : (a : AccBody) → length (accusation_bytes a) ≡ 14
 unfolding accusation_bytes

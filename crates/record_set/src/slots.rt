@@ -5,7 +5,7 @@ ghost use Rattle.std.specs.Prelude.{◌≡◌, ℕ, ◌+◌, ◌*◌, ◌<◌, �
 ghost use Rattle.std.specs.Option.{option_copied};
 ghost use Rattle.ff_ids.specs.declared.TheConstants.{MAX_RINGS, MEMBERS, PAGE_MEMBERS};
 ghost use Rattle.ff_ids.specs.Masks.{bits_where};
-ghost use Rattle.records.specs.Spelling.{IsBody, HasLength, body_bytes, record_bytes};
+ghost use Rattle.records.specs.Spelling.{IsBody, HasLength, body_bytes, note_bytes, record_bytes};
 ghost use Rattle.record_set.specs.Held.{key_of};
 ghost use Rattle.record_set.specs.Pages.{note_in, entry_with};
 ghost use Rattle.record_set.specs.Slots.{slot_of, member_of, HasSlot, entry_in, no_entry, ready_entries};
@@ -65,6 +65,15 @@ pub(crate) fn key_of(body: &Body) -> RecordKey
     }
 }
 
+/// How many bytes the note's spelling has: its mask has four of them, or where they don't hold it eight.
+#[tactic(auto, using(crate::proofs::LengthLemmas::note_long))]
+fn note_length(note: &NoteBody) -> usize
+    ensures value { result ≡ length (note_bytes note.now) }
+    ensures few { result ≤ 19 }
+{
+    if note.mask.0 < 1 << 32 { 15 } else { 19 }
+}
+
 /// How many bytes the body's spelling has.
 fn body_length(body: &Body) -> usize
     requires { IsBody body.now }
@@ -73,7 +82,7 @@ fn body_length(body: &Body) -> usize
 {
     match body {
         Body::Certificate(_) => 61,
-        Body::Note(_) => 15,
+        Body::Note(note) => note_length(note),
         Body::Accusation(_) => 14,
     }
 }

@@ -1,11 +1,11 @@
 -- The two laws of the grammar: what is read is spelled so, and what is spelled so is read.
 use Rattle.std.proofs.Common.{◌≡◌, ℕ, ◌^◌, ◌<◌, ◌≤◌, ◌⊎◌, Bool, true, false, cond, eqb, List, [], ◌∷◌, ◌++◌, length, take, Option, Some, Result, Ok, Err, refl, sym, ap, subst, ◌∙◌, arith, inl, inr, lit<}
-use Rattle.std.specs.Int.{w16, w32, w64, to_be_bytes}
-use Rattle.std.proofs.lemmas.Bool.{eqb-true}
+use Rattle.std.specs.Int.{Width, w16, w32, w64, to_be_bytes}
+use Rattle.std.proofs.lemmas.Bool.{cases_lt, eqb-true, le-ltb, lt-ltb}
 use Rattle.std.proofs.lemmas.Bool.Decides.{nat_tests}
 use Rattle.std.proofs.lemmas.List.{take_at}
 use Rattle.std.specs.Prelude.{IfOk}
-use Rattle.ff_ids.specs.declared.TheConstants.{LAST_MEMBER}
+use Rattle.ff_ids.specs.declared.TheConstants.{LAST_MEMBER, MEMBERS}
 use Rattle.fields.specs.Reading.{Reading, reading_of}
 use Rattle.ff_ids.specs.declared.NoteBody.{NoteBody}
 use Rattle.ff_ids.specs.declared.AccBody.{AccBody}
@@ -22,9 +22,9 @@ use Rattle.records.specs.declared.Body.{Body}
 use Rattle.records.specs.declared.Body.TheVariants.{Certificate, Note, Accusation}
 use Rattle.records.specs.declared.Record.{Record}
 use Rattle.records.specs.declared.fault.FormFault.{FormFault}
-use Rattle.records.specs.Spelling.{certificate_bytes, note_bytes, accusation_bytes, body_bytes, record_bytes, IsCertificate, IsNote, IsAccusation, IsBody, HasLength, IsRecord}
-use Rattle.records.specs.Grammar.{◌>>=◌, number_at, byte_at, bytes_at, any_number, member_number, nonzero, signature_length, kind_number, key_at, certificate_at, note_at, accusation_at, body_of_kind, body_at, signature_at, record_at, GivesRecord, IsGiven}
-use Rattle.records.proofs.Fields.{IsBytes, bind_ok, ok_is, Takes, Takes-then, bytes_take, byte_takes, byte_again, number_takes, number_again, bytes_again, then_again, map_again, Again, IsRule, wide16, wide32, wide64, any_rule, within_rule, nonzero_rule}
+use Rattle.records.specs.Spelling.{certificate_bytes, note_fields, note_bytes, accusation_bytes, body_bytes, record_bytes, IsCertificate, IsNote, IsAccusation, IsBody, HasLength, IsRecord}
+use Rattle.records.specs.Grammar.{◌>>=◌, number_at, byte_at, bytes_at, any_number, member_number, nonzero, signature_length, kind_number, wide_mask, key_at, certificate_at, note_by, note_at, wide_note_at, accusation_at, body_of_kind, body_at, signature_at, record_at, GivesRecord, IsGiven}
+use Rattle.records.proofs.Fields.{IsBytes, bind_ok, ok_is, Takes, Takes-then, bytes_take, byte_takes, byte_again, number_takes, number_again, bytes_again, then_again, map_again, Again, IsRule, IsWide, wide16, wide32, wide64, any_rule, within_rule, nonzero_rule}
 
 chosen : {A : Type 0} (b : Bool) (x y z : A) → cond b x y ≡ z → ((b ≡ true) × (x ≡ z)) ⊎ ((b ≡ false) × (y ≡ z))
 chosen true x y z e = inl (refl, e)
@@ -73,31 +73,61 @@ kind_rule = record { back = λ n x lt e. (ots_back n x e, tt); again = λ x good
 
 -- ---- notes
 
-note_fields : NoteBody → List ℕ
-note_fields n = to_be_bytes w16 n.member ++ (to_be_bytes w64 n.epoch ++ to_be_bytes w32 n.mask.0)
+-- The numbers of a note whose mask is one of these.
+record IsNoteBy (Good : ℕ → Type 0) (n : NoteBody) : Type 0 where
+  pub member_number : n.member < MEMBERS
+  pub has_epoch : 0 < n.epoch
+  pub epoch_fits : n.epoch < 2 ^ 64
+  pub mask : Good n.mask.0
 
-note_takes : (r : Reading) (n : NoteBody) (s : Reading) → IsBytes r.left → note_at r ≡ Ok (n, s) → Takes r (note_fields n) s × IsNote n
-unfolding note_at note_fields
-note_takes r n s fits e =
-    let a = bind_ok (number_at w16 member_number r) (λ m. number_at w64 nonzero m.1 >>= λ e. number_at w32 any_number e.1 >>= λ k. Ok (record { member = m.0; epoch = e.0; mask = record { 0 = k.0 } }, k.1)) (n, s) e in
-    let b = bind_ok (number_at w64 nonzero a.0.1) (λ e. number_at w32 any_number e.1 >>= λ k. Ok (record { member = a.0.0; epoch = e.0; mask = record { 0 = k.0 } }, k.1)) (n, s) a.2 in
-    let c = bind_ok (number_at w32 any_number b.0.1) (λ k. Ok (record { member = a.0.0; epoch = b.0.0; mask = record { 0 = k.0 } }, k.1)) (n, s) b.2 in
+note_by_takes : (width : Width) (limit : ℕ) (rule : ℕ → Option ℕ) (Good : ℕ → Type 0) → IsWide width limit → IsRule limit rule (λ n. n) Good
+    → (r : Reading) (n : NoteBody) (s : Reading) → IsBytes r.left → note_by width rule r ≡ Ok (n, s) → Takes r (note_fields width n) s × IsNoteBy Good n
+note_by_takes width limit rule Good wide ruled r n s fits e =
+    let a = bind_ok (number_at w16 member_number r) (λ m. number_at w64 nonzero m.1 >>= λ e. number_at width rule e.1 >>= λ k. Ok (record { member = m.0; epoch = e.0; mask = record { 0 = k.0 } }, k.1)) (n, s) e in
+    let b = bind_ok (number_at w64 nonzero a.0.1) (λ e. number_at width rule e.1 >>= λ k. Ok (record { member = a.0.0; epoch = e.0; mask = record { 0 = k.0 } }, k.1)) (n, s) a.2 in
+    let c = bind_ok (number_at width rule b.0.1) (λ k. Ok (record { member = a.0.0; epoch = b.0.0; mask = record { 0 = k.0 } }, k.1)) (n, s) b.2 in
     let t0 = number_takes w16 (2 ^ 16) member_number (λ n. n) _ r a.0.0 a.0.1 wide16 (within_rule (2 ^ 16) 0 LAST_MEMBER (lit< tt)) fits a.1 in
     let t1 = number_takes w64 (2 ^ 64) nonzero (λ n. n) _ a.0.1 b.0.0 b.0.1 wide64 (nonzero_rule (2 ^ 64)) t0.0.fits b.1 in
-    let t2 = number_takes w32 (2 ^ 32) any_number (λ n. n) _ b.0.1 c.0.0 c.0.1 wide32 (any_rule (2 ^ 32)) t1.0.fits c.1 in
+    let t2 = number_takes width limit rule (λ n. n) Good b.0.1 c.0.0 c.0.1 wide ruled t1.0.fits c.1 in
     let made : NoteBody × Reading = (record { member = a.0.0; epoch = b.0.0; mask = record { 0 = c.0.0 } }, c.0.1) in
-    subst (λ (y : NoteBody × Reading). Takes r (note_fields y.0) y.1 × IsNote y.0) (ok_is made (n, s) c.2)
-    (Takes-then _ _ _ _ _ t0.0 (Takes-then _ _ _ _ _ t1.0 t2.0), record { member_number = omega (arith, t0.1); has_epoch = t1.1.0; epoch_fits = t1.1.1; mask_fits = t2.1 })
+    subst (λ (y : NoteBody × Reading). Takes r (note_fields width y.0) y.1 × IsNoteBy Good y.0) (ok_is made (n, s) c.2)
+    (Takes-then _ _ _ _ _ t0.0 (Takes-then _ _ _ _ _ t1.0 t2.0), record { member_number = omega (arith, t0.1); has_epoch = t1.1.0; epoch_fits = t1.1.1; mask = t2.1 })
 
-note_again : (n : NoteBody) → IsNote n → Again note_at n (note_fields n)
-unfolding note_at note_fields
-note_again n good =
-    then_again (number_at w16 member_number) (λ m r. number_at w64 nonzero r >>= λ e. number_at w32 any_number e.1 >>= λ k. Ok (record { member = m; epoch = e.0; mask = record { 0 = k.0 } }, k.1)) n.member n _ _
+note_by_again : (width : Width) (limit : ℕ) (rule : ℕ → Option ℕ) (Good : ℕ → Type 0) → IsWide width limit → IsRule limit rule (λ n. n) Good
+    → (n : NoteBody) → IsNoteBy Good n → Again (note_by width rule) n (note_fields width n)
+note_by_again width limit rule Good wide ruled n good =
+    then_again (number_at w16 member_number) (λ m r. number_at w64 nonzero r >>= λ e. number_at width rule e.1 >>= λ k. Ok (record { member = m; epoch = e.0; mask = record { 0 = k.0 } }, k.1)) n.member n _ _
     (number_again w16 (2 ^ 16) member_number (λ n. n) _ n.member wide16 (within_rule (2 ^ 16) 0 LAST_MEMBER (lit< tt)) (omega arith, omega (arith, good.member_number)))
-    (then_again (number_at w64 nonzero) (λ e r. number_at w32 any_number r >>= λ k. Ok (record { member = n.member; epoch = e; mask = record { 0 = k.0 } }, k.1)) n.epoch n _ _
+    (then_again (number_at w64 nonzero) (λ e r. number_at width rule r >>= λ k. Ok (record { member = n.member; epoch = e; mask = record { 0 = k.0 } }, k.1)) n.epoch n _ _
     (number_again w64 (2 ^ 64) nonzero (λ n. n) _ n.epoch wide64 (nonzero_rule (2 ^ 64)) (good.has_epoch, good.epoch_fits))
-    (map_again (number_at w32 any_number) (λ k. record { member = n.member; epoch = n.epoch; mask = record { 0 = k } }) n.mask.0 _
-    (number_again w32 (2 ^ 32) any_number (λ n. n) _ n.mask.0 wide32 (any_rule (2 ^ 32)) good.mask_fits)))
+    (map_again (number_at width rule) (λ k. record { member = n.member; epoch = n.epoch; mask = record { 0 = k } }) n.mask.0 _
+    (number_again width limit rule (λ n. n) Good n.mask.0 wide ruled good.mask)))
+
+abbrev IsNarrow : ℕ → Type 0
+IsNarrow mask = mask < 2 ^ 32
+
+abbrev IsWideMask : ℕ → Type 0
+IsWideMask mask = (4294967296 ≤ mask) × (mask ≤ 18446744073709551615)
+
+narrow_rule : IsRule (2 ^ 32) any_number (λ n. n) IsNarrow
+narrow_rule = any_rule (2 ^ 32)
+
+wide_rule : IsRule (2 ^ 64) wide_mask (λ n. n) IsWideMask
+wide_rule = within_rule (2 ^ 64) 4294967296 18446744073709551615 (lit< tt)
+
+narrow_note : (n : NoteBody) → IsNoteBy IsNarrow n → IsNote n
+narrow_note n good = record { member_number = good.member_number; has_epoch = good.has_epoch; epoch_fits = good.epoch_fits; mask_fits = omega (arith, good.mask) }
+
+wide_note : (n : NoteBody) → IsNoteBy IsWideMask n → IsNote n
+wide_note n good = record { member_number = good.member_number; has_epoch = good.has_epoch; epoch_fits = good.epoch_fits; mask_fits = omega (arith, good.mask.1) }
+
+narrow_spelled : (n : NoteBody) → n.mask.0 < 2 ^ 32 → 2 ∷ note_fields w32 n ≡ note_bytes n
+unfolding note_bytes
+narrow_spelled n narrow = rw (lt-ltb n.mask.0 (2 ^ 32) narrow) refl
+
+wide_spelled : (n : NoteBody) → 2 ^ 32 ≤ n.mask.0 → 4 ∷ note_fields w64 n ≡ note_bytes n
+unfolding note_bytes
+wide_spelled n wide = rw (le-ltb n.mask.0 (2 ^ 32) wide) refl
 
 -- ---- accusations
 
@@ -193,10 +223,10 @@ certificate_again c good =
 
 -- ---- bodies
 
-third : (kind : ℕ) → eqb kind 1 ≡ false → eqb kind 2 ≡ false → 1 ≤ kind → kind ≤ 3 → kind ≡ 3
-third kind one two least most = grind (arith, nat_tests)
+fourth : (kind : ℕ) → eqb kind 1 ≡ false → eqb kind 2 ≡ false → eqb kind 3 ≡ false → 1 ≤ kind → kind ≤ 4 → kind ≡ 4
+fourth kind one two three least most = grind (arith, nat_tests)
 
-kind_back : (n x : ℕ) → kind_number n ≡ Some x → (n ≡ x) × (1 ≤ x) × (x ≤ 3)
+kind_back : (n x : ℕ) → kind_number n ≡ Some x → (n ≡ x) × (1 ≤ x) × (x ≤ 4)
 kind_back n x e = grind (arith, nat_tests)
 
 abbrev read_as : {A : Type 0} → (Reading → Result (A × Reading) ℕ) → (A → Body) → Reading → Result (Body × Reading) ℕ
@@ -204,23 +234,34 @@ read_as step view r = step r >>= λ x. Ok (view x.0, x.1)
 
 read_as_takes : {A : Type 0} (step : Reading → Result (A × Reading) ℕ) (view : A → Body) (fields : A → List ℕ) (Good : A → Type 0) (kind : ℕ) (r mid : Reading) (b : Body) (s : Reading)
     → ((x : A) (later : Reading) → step mid ≡ Ok (x, later) → Takes mid (fields x) later × Good x)
-    → ((x : A) → Good x → IsBody (view x)) → ((x : A) → kind ∷ fields x ≡ body_bytes (view x))
+    → ((x : A) → Good x → IsBody (view x)) → ((x : A) → Good x → kind ∷ fields x ≡ body_bytes (view x))
     → Takes r (kind ∷ []) mid → read_as step view mid ≡ Ok (b, s) → Takes r (body_bytes b) s × IsBody b
 read_as_takes step view fields Good kind r mid b s taken good spelled front e =
     let a = bind_ok (step mid) (λ x. Ok (view x.0, x.1)) (b, s) e in
     let t = taken a.0.0 a.0.1 a.1 in
     subst (λ (y : Body × Reading). Takes r (body_bytes y.0) y.1 × IsBody y.0) (ok_is (view a.0.0, a.0.1) (b, s) a.2)
-    (subst (λ (text : List ℕ). Takes r text a.0.1) (spelled a.0.0) (Takes-then _ _ _ _ _ front t.0), good a.0.0 t.1)
+    (subst (λ (text : List ℕ). Takes r text a.0.1) (spelled a.0.0 t.1) (Takes-then _ _ _ _ _ front t.0), good a.0.0 t.1)
 
-body_of_kind_takes : (kind : ℕ) (r mid : Reading) (b : Body) (s : Reading) → 1 ≤ kind → kind ≤ 3 → Takes r (kind ∷ []) mid → body_of_kind kind mid ≡ Ok (b, s) → Takes r (body_bytes b) s × IsBody b
-unfolding certificate_bytes note_bytes accusation_bytes certificate_fields note_fields accusation_fields
+read_note_takes : (kind : ℕ) (width : Width) (limit : ℕ) (rule : ℕ → Option ℕ) (Good : ℕ → Type 0) → IsWide width limit → IsRule limit rule (λ n. n) Good
+    → ((n : NoteBody) → IsNoteBy Good n → IsNote n) → ((n : NoteBody) → IsNoteBy Good n → kind ∷ note_fields width n ≡ note_bytes n)
+    → (r mid : Reading) (b : Body) (s : Reading) → Takes r (kind ∷ []) mid → read_as (note_by width rule) (λ n. Note n) mid ≡ Ok (b, s) → Takes r (body_bytes b) s × IsBody b
+read_note_takes kind width limit rule Good wide ruled good spelled r mid b s front e =
+    read_as_takes (note_by width rule) (λ n. Note n) (note_fields width) (IsNoteBy Good) kind r mid b s (λ x later. note_by_takes width limit rule Good wide ruled mid x later front.fits) good spelled front e
+
+body_of_kind_takes : (kind : ℕ) (r mid : Reading) (b : Body) (s : Reading) → 1 ≤ kind → kind ≤ 4 → Takes r (kind ∷ []) mid → body_of_kind kind mid ≡ Ok (b, s) → Takes r (body_bytes b) s × IsBody b
+unfolding certificate_bytes accusation_bytes certificate_fields accusation_fields note_at wide_note_at
 body_of_kind_takes kind r mid b s least most front e =
     let at : (k : ℕ) → kind ≡ k → Takes r (k ∷ []) mid = λ k same. subst (λ (n : ℕ). Takes r (n ∷ []) mid) same front in
-    elim (chosen (eqb kind 1) (read_as certificate_at (λ c. Certificate c) mid) (cond (eqb kind 2) (read_as note_at (λ n. Note n) mid) (read_as accusation_at (λ a. Accusation a) mid)) (Ok (b, s)) e) [
-      | inl p ↦ read_as_takes certificate_at (λ c. Certificate c) certificate_fields IsCertificate 1 r mid b s (λ x later. certificate_takes mid x later front.fits) (λ x good. good) (λ x. refl) (at 1 (eqb-true kind 1 p.0)) p.1
-      | inr p ↦ elim (chosen (eqb kind 2) (read_as note_at (λ n. Note n) mid) (read_as accusation_at (λ a. Accusation a) mid) (Ok (b, s)) p.1) [
-        | inl q ↦ read_as_takes note_at (λ n. Note n) note_fields IsNote 2 r mid b s (λ x later. note_takes mid x later front.fits) (λ x good. good) (λ x. refl) (at 2 (eqb-true kind 2 q.0)) q.1
-        | inr q ↦ read_as_takes accusation_at (λ a. Accusation a) accusation_fields IsAccusation 3 r mid b s (λ x later. accusation_takes mid x later front.fits) (λ x good. good) (λ x. refl) (at 3 (third kind p.0 q.0 least most)) q.1
+    let accused = read_as accusation_at (λ a. Accusation a) mid in
+    let wide = read_as wide_note_at (λ n. Note n) mid in
+    elim (chosen (eqb kind 1) (read_as certificate_at (λ c. Certificate c) mid) (cond (eqb kind 2) (read_as note_at (λ n. Note n) mid) (cond (eqb kind 3) accused wide)) (Ok (b, s)) e) [
+      | inl p ↦ read_as_takes certificate_at (λ c. Certificate c) certificate_fields IsCertificate 1 r mid b s (λ x later. certificate_takes mid x later front.fits) (λ x good. good) (λ x good. refl) (at 1 (eqb-true kind 1 p.0)) p.1
+      | inr p ↦ elim (chosen (eqb kind 2) (read_as note_at (λ n. Note n) mid) (cond (eqb kind 3) accused wide) (Ok (b, s)) p.1) [
+        | inl q ↦ read_note_takes 2 w32 (2 ^ 32) any_number IsNarrow wide32 narrow_rule narrow_note (λ n good. narrow_spelled n good.mask) r mid b s (at 2 (eqb-true kind 2 q.0)) q.1
+        | inr q ↦ elim (chosen (eqb kind 3) accused wide (Ok (b, s)) q.1) [
+          | inl u ↦ read_as_takes accusation_at (λ a. Accusation a) accusation_fields IsAccusation 3 r mid b s (λ x later. accusation_takes mid x later front.fits) (λ x good. good) (λ x good. refl) (at 3 (eqb-true kind 3 u.0)) u.1
+          | inr u ↦ read_note_takes 4 w64 (2 ^ 64) wide_mask IsWideMask wide64 wide_rule wide_note (λ n good. wide_spelled n good.mask.0) r mid b s (at 4 (fourth kind p.0 q.0 u.0 least most)) u.1
+        ]
       ]
     ]
 
@@ -232,14 +273,30 @@ body_takes r b s fits e =
     let ruled = kind_back k.0 a.0.0 k.1 in
     body_of_kind_takes a.0.0 r a.0.1 b s ruled.1 ruled.2 (subst (λ (n : ℕ). Takes r (n ∷ []) a.0.1) ruled.0 k.2) a.2
 
+noted : (Good : ℕ → Type 0) (n : NoteBody) → IsNote n → Good n.mask.0 → IsNoteBy Good n
+noted Good n good mask = record { member_number = good.member_number; has_epoch = good.has_epoch; epoch_fits = good.epoch_fits; mask = mask }
+
+narrow_again : (n : NoteBody) → IsNote n → n.mask.0 < 2 ^ 32 → Again body_at (Note n) (2 ∷ note_fields w32 n)
+unfolding body_at note_at
+narrow_again n good narrow =
+    then_again (byte_at kind_number) body_of_kind 2 (Note n) (2 ∷ []) (note_fields w32 n) (byte_again kind_number 2 2 refl)
+    (map_again note_at (λ n. Note n) n (note_fields w32 n) (note_by_again w32 (2 ^ 32) any_number IsNarrow wide32 narrow_rule n (noted IsNarrow n good narrow)))
+
+wide_again : (n : NoteBody) → IsNote n → 2 ^ 32 ≤ n.mask.0 → Again body_at (Note n) (4 ∷ note_fields w64 n)
+unfolding body_at wide_note_at
+wide_again n good wide =
+    then_again (byte_at kind_number) body_of_kind 4 (Note n) (4 ∷ []) (note_fields w64 n) (byte_again kind_number 4 4 refl)
+    (map_again wide_note_at (λ n. Note n) n (note_fields w64 n) (note_by_again w64 (2 ^ 64) wide_mask IsWideMask wide64 wide_rule n (noted IsWideMask n good (omega (arith, wide), omega (arith, good.mask_fits)))))
+
 pub body_again : (b : Body) → IsBody b → Again body_at b (body_bytes b)
-unfolding body_at certificate_bytes note_bytes accusation_bytes certificate_fields note_fields accusation_fields
+unfolding body_at certificate_bytes accusation_bytes certificate_fields accusation_fields
 body_again (Certificate c) good =
     then_again (byte_at kind_number) body_of_kind 1 (Certificate c) (1 ∷ []) (certificate_fields c) (byte_again kind_number 1 1 refl)
     (map_again certificate_at (λ c. Certificate c) c (certificate_fields c) (certificate_again c good))
-body_again (Note n) good =
-    then_again (byte_at kind_number) body_of_kind 2 (Note n) (2 ∷ []) (note_fields n) (byte_again kind_number 2 2 refl)
-    (map_again note_at (λ n. Note n) n (note_fields n) (note_again n good))
+body_again (Note n) good = elim (cases_lt n.mask.0 (2 ^ 32)) [
+  | inl narrow ↦ subst (Again body_at (Note n)) (narrow_spelled n narrow) (narrow_again n good narrow)
+  | inr wide ↦ subst (Again body_at (Note n)) (wide_spelled n wide) (wide_again n good wide)
+]
 body_again (Accusation a) good =
     then_again (byte_at kind_number) body_of_kind 3 (Accusation a) (3 ∷ []) (accusation_fields a) (byte_again kind_number 3 3 refl)
     (map_again accusation_at (λ a. Accusation a) a (accusation_fields a) (accusation_again a good))

@@ -8,7 +8,7 @@ use Rattle.lms_tree.specs.Lms.{key_bytes}
 use Rattle.records.specs.declared.Body.TheVariants.{Certificate, Note, Accusation}
 use Rattle.records.specs.declared.Record.{Record}
 use Rattle.records.specs.Spelling.{certificate_bytes, note_bytes, accusation_bytes, body_bytes}
-use Rattle.records.specs.Grammar.{key_at, certificate_at, note_at, accusation_at, body_at, signature_at, record_at}
+use Rattle.records.specs.Grammar.{key_at, certificate_at, note_at, wide_note_at, accusation_at, body_at, signature_at, record_at}
 use Rattle.records.specs.Signing.{signed_bytes}
 
 abbrev read : List ℕ → Result (Record × Reading) ℕ
@@ -32,6 +32,22 @@ bodies : (body_bytes (Note (record { member = 2; epoch = 1; mask = record { 0 = 
 unfolding certificate_bytes note_bytes accusation_bytes key_bytes
 bodies = (refl, refl, refl)
 
+-- that with a mask of four rings, of which one has the bit 2^32
+abbrev wide_note : List ℕ
+wide_note = 4 ∷ 0 ∷ 2 ∷ 0 ∷ 0 ∷ 0 ∷ 0 ∷ 0 ∷ 0 ∷ 0 ∷ 1 ∷ 0 ∷ 0 ∷ 0 ∷ 1 ∷ 0 ∷ 0 ∷ 0 ∷ 7 ∷ []
+
+wide_body : body_bytes (Note (record { member = 2; epoch = 1; mask = record { 0 = 4294967303 } })) ≡ wide_note
+unfolding note_bytes
+wide_body = refl
+
+-- a wide note with the mask of three rings
+wide_places : (read (4 ∷ 0 ∷ 2 ∷ 0 ∷ 0 ∷ 0 ∷ 0 ∷ 0 ∷ 0 ∷ 0 ∷ 1 ∷ 0 ∷ 0 ∷ 0 ∷ 0 ∷ 0 ∷ 0 ∷ 0 ∷ 7 ∷ []) ≡ Err 11)
+    × (read (4 ∷ 0 ∷ 2 ∷ 0 ∷ 0 ∷ 0 ∷ 0 ∷ 0 ∷ 0 ∷ 0 ∷ 1 ∷ 0 ∷ 0 ∷ 0 ∷ 0 ∷ 255 ∷ 255 ∷ 255 ∷ 255 ∷ []) ≡ Err 11)
+    × (read (4 ∷ 0 ∷ 2 ∷ 0 ∷ 0 ∷ 0 ∷ 0 ∷ 0 ∷ 0 ∷ 0 ∷ 1 ∷ 0 ∷ 0 ∷ 0 ∷ 1 ∷ 0 ∷ 0 ∷ 0 ∷ []) ≡ Err 11)
+    × (read (4 ∷ 0 ∷ 2 ∷ 0 ∷ 0 ∷ 0 ∷ 0 ∷ 0 ∷ 0 ∷ 0 ∷ 1 ∷ 0 ∷ 0 ∷ 0 ∷ 1 ∷ 0 ∷ 0 ∷ 0 ∷ 7 ∷ 0 ∷ 0 ∷ []) ≡ Err 19)
+unfolding record_at body_at wide_note_at signature_at
+wide_places = (refl, refl, refl, refl)
+
 signed : signed_bytes (replicate 16 0) 1 (Note (record { member = 2; epoch = 1; mask = record { 0 = 7 } })) ≡ 70 ∷ 70 ∷ 83 ∷ 73 ∷ 71 ∷ 78 ∷ [] ++ replicate 16 0 ++ 1 ∷ note
 unfolding signed_bytes note_bytes
 signed = refl
@@ -39,7 +55,7 @@ signed = refl
 -- the place of each fault, with what follows it unread
 places : (read ([]) ≡ Err 0)
     × (read (0 ∷ note) ≡ Err 0)
-    × (read (4 ∷ note) ≡ Err 0)
+    × (read (5 ∷ note) ≡ Err 0)
     × (read (2 ∷ 4 ∷ 0 ∷ note) ≡ Err 1)
     × (read (2 ∷ 0 ∷ 2 ∷ 0 ∷ 0 ∷ 0 ∷ 0 ∷ 0 ∷ 0 ∷ 0 ∷ 0 ∷ note) ≡ Err 3)
     × (read (note ++ 0 ∷ 0 ∷ note) ≡ Err 15)

@@ -56,6 +56,10 @@ member_number n = number_within 0 LAST_MEMBER n
 abbrev pub nonzero : ℕ → Option ℕ
 nonzero n = if n == 0 then None else Some n
 
+-- a mask that four bytes don't hold
+abbrev pub wide_mask : ℕ → Option ℕ
+wide_mask n = number_within 4294967296 18446744073709551615 n
+
 abbrev pub signature_length : ℕ → Option ℕ
 signature_length n = number_within 1 9004 n
 
@@ -76,12 +80,19 @@ certificate_at r = do
   key ← key_at port.1
   Ok (record { member = member.0; port = port.0; key = key.0 }, key.1)
 
-unfoldable pub note_at : Reading → Result (NoteBody × Reading) ℕ
-note_at r = do
+-- a note whose mask has this width and keeps this rule
+abbrev pub note_by : Width → (ℕ → Option ℕ) → Reading → Result (NoteBody × Reading) ℕ
+note_by width rule r = do
   member ← number_at w16 member_number r
   epoch ← number_at w64 nonzero member.1
-  mask ← number_at w32 any_number epoch.1
+  mask ← number_at width rule epoch.1
   Ok (record { member = member.0; epoch = epoch.0; mask = record { 0 = mask.0 } }, mask.1)
+
+unfoldable pub note_at : Reading → Result (NoteBody × Reading) ℕ
+note_at r = note_by w32 any_number r
+
+unfoldable pub wide_note_at : Reading → Result (NoteBody × Reading) ℕ
+wide_note_at r = note_by w64 wide_mask r
 
 unfoldable pub accusation_at : Reading → Result (AccBody × Reading) ℕ
 accusation_at r = do
@@ -92,14 +103,15 @@ accusation_at r = do
   Ok (record { accuser = accuser.0; accused = accused.0; epoch = epoch.0; ring = record { 0 = ring.0 } }, ring.1)
 
 abbrev pub kind_number : ℕ → Option ℕ
-kind_number n = number_within 1 3 n
+kind_number n = number_within 1 4 n
 
 -- the body of this kind
 abbrev pub body_of_kind : ℕ → Reading → Result (Body × Reading) ℕ
 body_of_kind kind r =
     if kind == 1 then (certificate_at r >>= λ c. Ok (Certificate c.0, c.1))
     else (if kind == 2 then (note_at r >>= λ n. Ok (Note n.0, n.1))
-    else (accusation_at r >>= λ a. Ok (Accusation a.0, a.1)))
+    else (if kind == 3 then (accusation_at r >>= λ a. Ok (Accusation a.0, a.1))
+    else (wide_note_at r >>= λ n. Ok (Note n.0, n.1))))
 
 unfoldable pub body_at : Reading → Result (Body × Reading) ℕ
 body_at r = byte_at kind_number r >>= λ kind. body_of_kind kind.0 kind.1

@@ -1,6 +1,6 @@
 -- Records as bytes: the one spelling of each, and what has a spelling. Numbers are big-endian.
-use Rattle.std.specs.Prelude.{◌≡◌, ℕ, ◌^◌, ◌<◌, ◌≤◌, List, [], ◌∷◌, ◌++◌, length}
-use Rattle.std.specs.Int.{w16, w32, w64, to_be_bytes}
+use Rattle.std.specs.Prelude.{◌≡◌, ℕ, ◌^◌, ◌<◌, ◌≤◌, nat_lt, if◌then◌else◌, List, [], ◌∷◌, ◌++◌, length}
+use Rattle.std.specs.Int.{Width, w16, w32, w64, to_be_bytes}
 use Rattle.ff_ids.specs.declared.TheConstants.{MEMBERS, MASK_BITS}
 use Rattle.ff_ids.specs.declared.NoteBody.{NoteBody}
 use Rattle.ff_ids.specs.declared.AccBody.{AccBody}
@@ -14,9 +14,13 @@ use Rattle.records.specs.declared.Record.{Record}
 unfoldable pub certificate_bytes : CertBody → List ℕ
 certificate_bytes c = 1 ∷ (to_be_bytes w16 c.member ++ (to_be_bytes w16 c.port ++ key_bytes c.key))
 
--- kind 2, the member, its epoch, and the mask
+-- the member, its epoch, and the mask, in so many bytes
+abbrev pub note_fields : Width → NoteBody → List ℕ
+note_fields width n = to_be_bytes w16 n.member ++ (to_be_bytes w64 n.epoch ++ to_be_bytes width n.mask.0)
+
+-- kind 2, with the mask in four bytes; or where they don't hold it kind 4, with the mask in eight
 unfoldable pub note_bytes : NoteBody → List ℕ
-note_bytes n = 2 ∷ (to_be_bytes w16 n.member ++ (to_be_bytes w64 n.epoch ++ to_be_bytes w32 n.mask.0))
+note_bytes n = if nat_lt n.mask.0 (2 ^ 32) then 2 ∷ note_fields w32 n else 4 ∷ note_fields w64 n
 
 -- kind 3, the accuser, the accused, the epoch, and the ring
 unfoldable pub accusation_bytes : AccBody → List ℕ

@@ -4,10 +4,10 @@ ghost use Rattle.std.specs.Prelude.{◌≡◌, ℕ, ◌++◌, List, take, length
 ghost use Rattle.fields.specs.Reading.{reading_of};
 ghost use Rattle.records.specs.declared.Record.{Record as Signed};
 ghost use Rattle.records.specs.Spelling.{IsRecord};
-ghost use Rattle.records.specs.Grammar.{Reads, Passes, ReadsRecord, GivesRecord, IsGiven, certificate_at, note_at, accusation_at, body_at, signature_at, record_at};
+ghost use Rattle.records.specs.Grammar.{Reads, Passes, ReadsRecord, GivesRecord, IsGiven, certificate_at, note_at, wide_note_at, accusation_at, body_at, signature_at, record_at};
 
 use crate::fault::FormFault;
-use crate::steps::{Misread, epoch, key, mask, member, port, ring};
+use crate::steps::{Misread, epoch, key, mask, member, port, ring, wide_mask};
 use crate::{Body, CertBody, Record};
 use ff_ids::{AccBody, NoteBody};
 use fields::{Bytes, Reader};
@@ -40,6 +40,20 @@ fn note(reader: &mut Reader) -> Result<NoteBody, Misread>
     })
 }
 
+#[tactic(auto, unfolding(crate::specs::Grammar::wide_note_at))]
+fn wide_note(reader: &mut Reader) -> Result<NoteBody, Misread>
+    ensures { Reads (λ n. n) result reader.new (wide_note_at reader.old) }
+{
+    let member = member(reader)?;
+    let epoch = epoch(reader)?;
+    let mask = wide_mask(reader)?;
+    Ok(NoteBody {
+        member,
+        epoch,
+        mask,
+    })
+}
+
 #[tactic(auto, unfolding(crate::specs::Grammar::accusation_at))]
 fn accusation(reader: &mut Reader) -> Result<AccBody, Misread>
     ensures { Reads (λ a. a) result reader.new (accusation_at reader.old) }
@@ -65,6 +79,7 @@ fn body(reader: &mut Reader) -> Result<Body, Misread>
         Ok(1) => Ok(Body::Certificate(certificate(reader)?)),
         Ok(2) => Ok(Body::Note(note(reader)?)),
         Ok(3) => Ok(Body::Accusation(accusation(reader)?)),
+        Ok(4) => Ok(Body::Note(wide_note(reader)?)),
         _ => Err(Misread { place }),
     }
 }

@@ -5,9 +5,9 @@ ghost use Rattle.std.specs.Prelude.{◌≡◌};
 ghost use Rattle.std.specs.Int.{w16, w32, w64};
 ghost use Rattle.lms_ots.specs.Ots.{kind_of};
 ghost use Rattle.lms_tree.specs.Lms.{tree_of};
-ghost use Rattle.records.specs.Grammar.{Reads, number_at, byte_at, bytes_at, any_number, member_number, nonzero, key_at};
+ghost use Rattle.records.specs.Grammar.{Reads, number_at, byte_at, bytes_at, any_number, member_number, nonzero, wide_mask, key_at};
 
-use ff_ids::{Epoch, MEMBERS, Mask, MemberId, RingNo};
+use ff_ids::{Bits, Epoch, MEMBERS, Mask, MemberId, RingNo};
 use fields::Reader;
 use lms_ots::OtsKind;
 use lms_tree::{PublicKey, TreeKind};
@@ -57,8 +57,19 @@ pub fn mask(reader: &mut Reader) -> Result<Mask, Misread>
 {
     let place = reader.place();
     match reader.u32() {
-        Ok(rings) => Ok(Mask(rings)),
+        Ok(rings) => Ok(Mask(Bits::from(rings))),
         Err(_) => Err(Misread { place }),
+    }
+}
+
+/// Eight bytes: a mask that four don't hold.
+pub fn wide_mask(reader: &mut Reader) -> Result<Mask, Misread>
+    ensures { Reads (λ m. m.0) result reader.new (number_at w64 wide_mask reader.old) }
+{
+    let place = reader.place();
+    match reader.u64() {
+        Ok(rings) if rings > Bits::from(u32::MAX) => Ok(Mask(rings)),
+        _ => Err(Misread { place }),
     }
 }
 

@@ -1,12 +1,12 @@
 //! Writing records.
 
-ghost use Rattle.std.specs.Prelude.{◌≡◌, ◌<◌, ◌≤◌, ◌+◌, [], ◌++◌, length, IfOk, OnOk, OnErr};
+ghost use Rattle.std.specs.Prelude.{◌≡◌, ◌<◌, ◌≤◌, ◌+◌, ◌^◌, true, false, nat_lt, [], ◌++◌, length, IfOk, IfSome, IfNone, OnOk, OnErr};
 ghost use Rattle.arrayvec.specs.ArrayVec.{array_vec_len};
 ghost use Rattle.records.specs.Spelling.{IsWritable, HasPort, IsBody, IsCertificate, IsNote, IsAccusation, body_bytes, certificate_bytes, note_bytes, accusation_bytes, record_bytes};
 
 use crate::{Body, CertBody, Record};
 use arrayvec::ArrayVec;
-use ff_ids::{AccBody, NoteBody};
+use ff_ids::{AccBody, Mask, NoteBody};
 use fields::{NoMemory, Writer};
 
 /// The bytes of a body, of which a certificate has the most.
@@ -35,16 +35,28 @@ fn certificate_bytes(certificate: &CertBody) -> BodyBytes
     out
 }
 
+/// The mask as a number of four bytes, if they hold it.
+fn narrow(mask: Mask) -> Option<u32>
+    ensures narrow { IfSome result (λ rings. (rings ≡ mask.0) × (nat_lt mask.0 (2 ^ 32) ≡ true)) }
+    ensures wide { IfNone result (nat_lt mask.0 (2 ^ 32) ≡ false) }
+{
+    u32::try_from(mask.0).ok()
+}
+
 #[tactic(auto, unfolding(crate::specs::Spelling::note_bytes))]
 fn note_bytes(note: &NoteBody) -> BodyBytes
     ensures value { result.items ≡ note_bytes note.now }
     ensures body { IsNote note.now }
 {
     let mut out = ArrayVec::new();
-    out.push(2);
+    let narrow = narrow(note.mask);
+    out.push(if narrow.is_some() { 2 } else { 4 });
     put(&mut out, &note.member.get().to_be_bytes());
     put(&mut out, &note.epoch.get().to_be_bytes());
-    put(&mut out, &note.mask.0.to_be_bytes());
+    match narrow {
+        Some(rings) => put(&mut out, &rings.to_be_bytes()),
+        None => put(&mut out, &note.mask.0.to_be_bytes()),
+    }
     out
 }
 

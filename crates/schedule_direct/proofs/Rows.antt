@@ -74,11 +74,11 @@ unfolding judge_line
 members = (refl, refl, refl, refl, refl, refl)
 
 notes : (third 0 (codes "note 0 1 0") ≡ Ok (lines.Note (record { member = 0; epoch = 1; mask = record { 0 = 0 } })))
-    × (third 0 (codes "note 1023 18446744073709551615 4294967295") ≡ Ok (lines.Note (record { member = 1023; epoch = 18446744073709551615; mask = record { 0 = 4294967295 } })))
+    × (third 0 (codes "note 1023 18446744073709551615 18446744073709551615") ≡ Ok (lines.Note (record { member = 1023; epoch = 18446744073709551615; mask = record { 0 = 18446744073709551615 } })))
     × (third 0 (codes "note 2 0 07") ≡ Err bad.Limit)
-    × (third 0 (codes "note 2 01 4294967296") ≡ Err bad.Number)
+    × (third 0 (codes "note 2 01 18446744073709551616") ≡ Err bad.Number)
     × (third 0 (codes "note 2 18446744073709551616 7") ≡ Err bad.Number)
-    × (third 0 (codes "note 2 1 4294967296") ≡ Err bad.Limit)
+    × (third 0 (codes "note 2 1 18446744073709551616") ≡ Err bad.Number)
     × (third 0 (codes "note 2 -1 7") ≡ Err bad.Number)
 unfolding judge_line
 notes = (refl, refl, refl, refl, refl, refl, refl)

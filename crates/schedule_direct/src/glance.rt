@@ -10,7 +10,7 @@ ghost use Rattle.schedule_direct.specs.Rows.{AreRead, epoch, member, tolerance};
 
 use crate::direct::{Direct, ticks_left, tolerance};
 use crate::line::{DirectLine, LineWord};
-use ff_ids::{ALL_BITS, AccBody, Bits, Epoch, LAST_MEMBER, Mask, MemberId, NoteBody, RingNo};
+use ff_ids::{ALL_BITS, AccBody, Epoch, LAST_MEMBER, Mask, MemberId, NoteBody, RingNo};
 use line_text::Glance;
 
 /// Takes the number of a member.
@@ -43,7 +43,7 @@ fn glance_note(direct: Direct, mut args: Glance) -> Option<DirectLine>
     let note = NoteBody {
         member: glance_member(&mut args)?,
         epoch: glance_epoch(&mut args)?,
-        mask: Mask(args.number(0, ALL_BITS as u64)? as Bits),
+        mask: Mask(args.number(0, ALL_BITS)?),
     };
     if args.is_empty() {
         Some(DirectLine::Note(note))

@@ -10,7 +10,7 @@ ghost use Rattle.schedule_direct.specs.Rows.{accuse_fields, epoch, group_fields,
 
 use crate::line::{DirectLine, LineWord};
 use ff_ids::{
-    ALL_BITS, AccBody, Bits, Epoch, LAST_MEMBER, MAX_TOLERANCE, Mask, MemberId, NoteBody, RingNo,
+    ALL_BITS, AccBody, Epoch, LAST_MEMBER, MAX_TOLERANCE, Mask, MemberId, NoteBody, RingNo,
 };
 use line_text::{BadWord, Words};
 
@@ -53,7 +53,7 @@ pub(crate) fn note_line(args: Words) -> Result<DirectLine, BadWord>
     Ok(DirectLine::Note(NoteBody {
         member: take_member(&mut args)?,
         epoch: take_epoch(&mut args)?,
-        mask: Mask(args.number(0, ALL_BITS as u64)? as Bits),
+        mask: Mask(args.number(0, ALL_BITS)?),
     }))
 }
 

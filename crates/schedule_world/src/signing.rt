@@ -6,7 +6,7 @@ ghost use Rattle.schedule_world.specs.Rows.{TakesMemory, any_line};
 
 use crate::line::{LineWord, WorldLine};
 use crate::take::{pass_name, take_epoch, take_epoch_or_now, take_member};
-use ff_ids::{ALL_BITS, Bits, Mask, NoteBody, RingNo};
+use ff_ids::{ALL_BITS, Mask, NoteBody, RingNo};
 use line_text::{BadWord, LineFault, Words};
 use std::alloc::Global;
 
@@ -30,7 +30,7 @@ pub(crate) fn sign_note_line(alloc: Global, args: Words) -> Result<WorldLine, Li
     let note = NoteBody {
         member: take_member(&mut args)?,
         epoch: take_epoch(&mut args)?,
-        mask: Mask(args.number(0, ALL_BITS as u64)? as Bits),
+        mask: Mask(args.number(0, ALL_BITS)?),
     };
     let name = args.name(alloc)?;
     Ok(WorldLine::SignNote { key, note, name })

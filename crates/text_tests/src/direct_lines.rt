@@ -28,14 +28,17 @@ fn members_and_notes_are_read(rt: HostRuntime) -> Result<(), Fail> {
     };
     assert_eq!(rt; member, MemberId::new(1023));
     assert_eq!(rt; places.as_slice(), [0, 4294967295, 7].as_slice());
-    let DirectLine::Note(note) = lines.line(alloc, b"note 0 18446744073709551615 4294967295\n")?
+    let DirectLine::Note(note) = lines.line(
+        alloc,
+        b"note 0 18446744073709551615 18446744073709551615\n",
+    )?
     else {
         return Err(Fail::from("no note"));
     };
     let wanted = NoteBody {
         member: MemberId::new(0),
         epoch: Epoch::new(u64::MAX),
-        mask: Mask(u32::MAX),
+        mask: Mask(u64::MAX),
     };
     assert_eq!(rt; note, wanted);
     Ok(())

@@ -8,12 +8,13 @@ use std::alloc::Global;
 use std::test::Fail;
 
 /// The text of each kind of event, but for faults.
-const EVENTS: [&str; 22] = [
+const EVENTS: [&str; 23] = [
     "at 0 entered 0",
     "at 10 expired 3 1023 18446744073709551615 255",
     "at 3 removed 2",
     "at 18446744073709551615 fell 3 1023 5 4",
     "at 0 spent 1 note 1 2 6",
+    "at 0 spent 2 note 1 3 4294967303",
     "at 0 spent 4294967295 accuse 2 1 1 0",
     "at 0 spent 0 cert 1023 65535 0000000500000004101112131415161718191a1b1c1d1e1fe0e1e2e3e4e5e6e7e8e9eaebecedeeeff0f1f2f3f4f5f6f7f8f9fafbfcfdfeff",
     "at 0 took accuse 2 1 1 0 : accepted",
@@ -34,12 +35,13 @@ const EVENTS: [&str; 22] = [
 ];
 
 /// The text of each kind of fault.
-const FAULTS: [&str; 17] = [
+const FAULTS: [&str; 18] = [
     "already-member",
     "unknown-member",
     "bad-mask",
     "known",
     "older 5 31",
+    "older 5 18446744073709551615",
     "bad-signature",
     "own-ahead 5 7 9 3",
     "other-certificate 20002 0000000500000004101112131415161718191a1b1c1d1e1fe0e1e2e3e4e5e6e7e8e9eaebecedeeeff0f1f2f3f4f5f6f7f8f9fafbfcfdfeff",
@@ -85,7 +87,7 @@ const FAILING: [(&str, usize); 37] = [
     ("at 5 spent 4294967296 note 1 1 7", 11),
     ("at 5 spent 1 notes 1 1 7", 13),
     ("at 5 spent 1 note 1 0 7", 20),
-    ("at 5 spent 1 note 1 1 4294967296", 22),
+    ("at 5 spent 1 note 1 1 18446744073709551616", 22),
     ("at 5 spent 1 accuse 1 2 3 256", 26),
     (
         "at 5 spent 1 cert 1 0 0000000500000004101112131415161718191a1b1c1d1e1fe0e1e2e3e4e5e6e7e8e9eaebecedeeeff0f1f2f3f4f5f6f7f8f9fafbfcfdfeff",
@@ -140,7 +142,7 @@ fn accusation() -> AccBody {
     }
 }
 
-fn note(epoch: Epoch, mask: u32) -> NoteBody {
+fn note(epoch: Epoch, mask: u64) -> NoteBody {
     NoteBody {
         member: MemberId::new(1),
         epoch,

@@ -15,7 +15,7 @@ fn accusation() -> AccBody {
     }
 }
 
-fn note(epoch: Epoch, mask: u32) -> NoteBody {
+fn note(epoch: Epoch, mask: u64) -> NoteBody {
     NoteBody {
         member: MemberId::new(2),
         epoch,

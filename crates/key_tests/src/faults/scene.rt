@@ -40,7 +40,7 @@ pub fn member(number: u8) -> MemberId {
 }
 
 /// A note; epoch 0 stands for 1.
-pub fn note(of: u8, epoch: u8, mask: u32) -> NoteBody {
+pub fn note(of: u8, epoch: u8, mask: u64) -> NoteBody {
     NoteBody {
         member: member(of),
         epoch: Epoch::new(u64::from(epoch).max(1)),

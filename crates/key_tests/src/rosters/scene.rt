@@ -45,7 +45,7 @@ pub fn certificate(member: u8, port: u16, key: &PublicKey) -> CertBody
 }
 
 /// A note; its epoch is one more than `before`.
-pub fn note(member: u8, before: u8, mask: u32) -> NoteBody {
+pub fn note(member: u8, before: u8, mask: u64) -> NoteBody {
     NoteBody {
         member: MemberId::new(member as u16),
         epoch: Epoch::new(before as u64 + 1),

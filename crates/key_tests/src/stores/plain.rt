@@ -57,7 +57,7 @@ pub fn state_of(bytes: &[u8], tag: &[u8; 32]) -> Result<Stored, StoreError> {
             return Ok(Stored {
                 next: (next % (1 << 32)) as u32,
                 epoch,
-                mask: Mask((mask % (1 << 32)) as u32),
+                mask: Mask(mask % (1 << 32)),
             });
         }
         if bytes.len() < gate + 17 {

@@ -33,7 +33,7 @@ fn key_of(alloc: Global, number: u16) -> Result<Key, Fail> {
 }
 
 /// A note; epoch 0 stands for 1.
-fn note(of: u8, epoch: u8, mask: u32) -> Body
+fn note(of: u8, epoch: u8, mask: u64) -> Body
     ensures { HasPort result }
 {
     Body::Note(NoteBody {

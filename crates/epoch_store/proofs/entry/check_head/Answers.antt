@@ -1,4 +1,4 @@
-use Rattle.std.proofs.Common.{◌≡◌, ◌-◌, ◌≤◌, nat_eq, false, length, drop, take, ltb, arith, refl, codes}
+use Rattle.std.proofs.Common.{◌≡◌, ◌-◌, nat_eq, false, length, drop, take, ltb, arith, refl, codes}
 use Rattle.std.specs.List.{common_prefix_len}
 use Rattle.std.proofs.lemmas.Bool.{le-ltb}
 use Rattle.std.proofs.lemmas.List.{take_rest}

@@ -1,13 +1,13 @@
 use Rattle.std.proofs.Common.{length, ap, sym, subst, ◌∙◌}
 use Rattle.records.specs.Spelling.{IsBody, body_bytes}
-use Rattle.record_set.proofs.LengthLemmas.{certificate_long, note_long, accusation_long}
+use Rattle.record_set.proofs.LengthLemmas.{certificate_long, accusation_long}
 use Rattle.record_set.proofs.slots.body_length.Goals as goal
 
 pub returns-in-Certificate-clause-value : goal.returns-in-Certificate-clause-value
 returns-in-Certificate-clause-value c = sym (ap (λ b. length (body_bytes b)) c.in-Certificate.is ∙ certificate_long c.in-Certificate.field-0 (subst IsBody c.in-Certificate.is c.requires))
 
 pub returns-in-Note-clause-value : goal.returns-in-Note-clause-value
-returns-in-Note-clause-value c = sym (ap (λ b. length (body_bytes b)) c.in-Note.is ∙ note_long c.in-Note.field-0)
+returns-in-Note-clause-value c = c.note_length.ensures.value ∙ sym (ap (λ b. length (body_bytes b)) c.in-Note.is)
 
 pub returns-in-Accusation-clause-value : goal.returns-in-Accusation-clause-value
 returns-in-Accusation-clause-value c = sym (ap (λ b. length (body_bytes b)) c.in-Accusation.is ∙ accusation_long c.in-Accusation.field-0)
