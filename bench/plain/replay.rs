@@ -21,8 +21,8 @@ const READ_FAULT: u8 = 5;
 const WRITE_FAULT: u8 = 6;
 
 const MEMBERS: usize = 1024;
-const MAX_T: u64 = 15;
-const MAX_RINGS: usize = 31;
+const MAX_T: u64 = 31;
+const MAX_RINGS: usize = 63;
 const MAX_TIMEOUT: u64 = 10_000;
 const MAX_LINE: usize = 65_600;
 const MAX_LINES: usize = 100_000;
@@ -221,7 +221,7 @@ struct Member {
     epoch: u64,   // of the newest note, 0 for none
     gone: u64,    // the greatest epoch of an expired accusation, 0 for none
     mask: u64,    // of the newest note, 0 where the member has left
-    against: u32, // the rings with a kept accusation against this member
+    against: u64, // the rings with a kept accusation against this member
     joined: bool,
 }
 
@@ -364,8 +364,8 @@ impl Membership {
             self.take_out(m);
             self.write_fell(out);
         }
-        let still = if epoch == old.epoch { mask as u32 } else { 0 };
-        for ring in bits((self.members[m].against & !still).into()) {
+        let still = if epoch == old.epoch { mask } else { 0 };
+        for ring in bits(self.members[m].against & !still) {
             let kept = self.drop_kept(m, ring);
             out.accusation(self.now, b" fell", kept, old.epoch);
         }
@@ -488,7 +488,7 @@ impl Membership {
     fn take_out(&mut self, m: usize) {
         self.view[m / 64] &= !(1 << (m % 64));
         self.view_text.clear();
-        for ring in bits(self.members[m].against.into()) {
+        for ring in bits(self.members[m].against) {
             let kept = self.drop_kept(m, ring);
             self.fell.push(kept);
         }

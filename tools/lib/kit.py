@@ -93,7 +93,7 @@ def key_of(words):
 
 def group_of(words):
     words.one_of("group")
-    t = words.number_in(1, 15, "T")
+    t = words.number_in(1, 31, "T")
     timeout, period = words.number_in(1, 10000, "TIMEOUT"), words.number_in(1, 1000, "PERIOD")
     return Group(t, timeout, period, words.number_in(1, 16, "MISSES"), hexadecimal(words, 16, 16, "TAG"))
 

@@ -441,7 +441,7 @@ def ranged(least, most, what):
 RECORD = ("accepted", "refused")
 # The first word of each line, what its words are, and how its verdict begins; None where it has no verdict, () where any.
 DIRECT_STEPS = {
-    "group": ((ranged(1, 15, "t"), ranged(1, 10000, "a timeout")), None),
+    "group": ((ranged(1, 31, "t"), ranged(1, 10000, "a timeout")), None),
     "member": ((MEMBER, places), ("joined", "refused")),
     "note": ((MEMBER, EPOCH, MASK), RECORD),
     "accuse": ((MEMBER, MEMBER, EPOCH, RING), RECORD),
@@ -453,7 +453,7 @@ DIRECT_STEPS = {
 NODE_LINE = ("refused",)
 WORLD_STEPS = {
     "group": (
-        (ranged(1, 15, "t"), ranged(1, 10000, "a timeout"), ranged(1, 1000, "a period"), ranged(1, 16, "misses"), tag),
+        (ranged(1, 31, "t"), ranged(1, 10000, "a timeout"), ranged(1, 1000, "a period"), ranged(1, 16, "misses"), tag),
         None,
     ),
     "kinds": ((ranged(1, 8, "a kind"), ranged(5, 10, "a height")), None),

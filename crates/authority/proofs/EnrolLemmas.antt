@@ -58,7 +58,7 @@ fronts-behind name s o seat certs later old mid new open_ lives before spent end
     (lives.any_moment (tag_of s) before spent (living name s o seat old mid open_ before spent ends))
 
 -- the calls that were made
-calls-behind : (name : List ℕ) (s : Setting) (o : Stored) (seat : Seat) (certs : List CertBody) (later : SignerState) (old mid new : OfDisk) → IsOpened name s o seat old mid → AreSigned certs (begun s o seat) later mid new → OpensAndPuts name o seat (length certs) old.calls new.calls
+calls-behind : (name : List ℕ) (s : Setting) (o : Stored) (seat : Seat) (certs : List CertBody) (later : SignerState) (old mid new : OfDisk) → IsOpened name s o seat old mid → AreSigned certs (begun s o seat) later mid new → OpensAndPuts name old.moments o seat (length certs) old.calls new.calls
 calls-behind name s o seat certs later old mid new open_ signed = record { between = mid.calls; opened = open_.calls; made = signed.calls }
 
 -- what was signed stands in the store

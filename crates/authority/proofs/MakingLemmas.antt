@@ -1,5 +1,5 @@
 -- What comes of the making of a store, by its answer.
-use Rattle.std.proofs.Common.{◌≡◌, ℕ, true, List, Result, Ok, Err, refl, subst, inl, inr}
+use Rattle.std.proofs.Common.{◌≡◌, ℕ, true, List, length, Result, Ok, Err, refl, subst, inl, inr}
 use Rattle.ff_ids.specs.declared.Mask.{Mask}
 use Rattle.ff_ids.specs.Masks.{all_rings}
 use Rattle.line_text.specs.declared.bad_word.BadWord.{BadWord}
@@ -8,8 +8,8 @@ use Rattle.epoch_store.specs.declared.StoreError.{StoreError}
 use Rattle.epoch_store.specs.declared.StoreError.TheVariants as store
 use Rattle.epoch_store.specs.Asked.{MakesStore, make_calls}
 use Rattle.epoch_store.specs.Calls.{MakesWhereEmpty, OnRefusal, SettlesAs, is_fault}
-use Rattle.epoch_store.specs.Seat.{store_length}
-use Rattle.epoch_store.specs.Store.{IsSettled, first_entry, made, made_seat}
+use Rattle.epoch_store.specs.Seat.{made_seat}
+use Rattle.epoch_store.specs.Store.{IsSettled, first_entry, made}
 use Rattle.play.specs.Plays.{IoState}
 use Rattle.play.specs.declared.stop.Stop.{Stop}
 use Rattle.play.specs.declared.stop.Stop.TheVariants as stop
@@ -49,11 +49,17 @@ failed e = Err e
 
 pub not-made : (name tag : List ℕ) (mask : Mask) (s : Setting) (between : IoState) (old new : OfDisk) (e : StoreError) → tag ≡ tag_of s → mask ≡ record { 0 = all_rings s.group.t } → new.faults ≡ counted (is_fault (failed e)) old.faults
     → MakesStore name tag (first_entry mask) (failed e) old.calls new.calls → MakesWhereEmpty old.moments (failed e)
-    → OnRefusal (failed e) (new.moments ≡ old.moments) → Fails (torn_at 0 (store_length 1)) old.moments new.moments → MakesBehind name s between between old new (Err (halt_for e))
-not-made name tag mask s between old new store.Fault tag_is mask_is faults calls taken refused moments =
-    (refl, record { faults = faults; calls = own (λ t f. AsFarAs (make_calls name t f) old.calls new.calls) tag mask s tag_is mask_is calls; moments = moments })
+    → OnRefusal (failed e) (new.moments ≡ old.moments) → Fails (torn_at 0 (length (made tag (first_entry mask)))) old.moments new.moments → MakesBehind name s between between old new (Err (halt_for e))
+not-made name tag mask s between old new store.Fault tag_is mask_is faults calls taken refused moments = (
+  refl,
+  record {
+    faults = faults;
+    calls = own (λ t f. AsFarAs (make_calls name t f) old.calls new.calls) tag mask s tag_is mask_is calls;
+    moments = own (λ t f. Fails (torn_at 0 (length (made t f))) old.moments new.moments) tag mask s tag_is mask_is moments;
+  },
+)
 not-made name tag mask s between old new (store.Taken len) tag_is mask_is faults calls taken refused moments =
-    (refl, record { faults = faults; calls = calls; length = taken.0; some = taken.1; same = refused })
+    (refl, record { faults = faults; calls = calls; has = taken.0; some = taken.1; same = refused })
 not-made name tag mask s between old new (store.Broken place byte) tag_is mask_is faults calls taken refused moments = absurd taken
 not-made name tag mask s between old new (store.OtherKey place byte) tag_is mask_is faults calls taken refused moments = absurd taken
 not-made name tag mask s between old new store.OutOfMemory tag_is mask_is faults calls taken refused moments =

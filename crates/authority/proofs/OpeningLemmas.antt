@@ -4,7 +4,7 @@ use Rattle.epoch_store.specs.declared.seat.Seat.{Seat}
 use Rattle.epoch_store.specs.declared.StoreError.{StoreError}
 use Rattle.epoch_store.specs.declared.StoreError.TheVariants as store
 use Rattle.epoch_store.specs.declared.Stored.{Stored}
-use Rattle.epoch_store.specs.Asked.{ReadsGates, ReadsTo, open_calls}
+use Rattle.epoch_store.specs.Asked.{ReadsGates, ReadsUpTo, open_calls}
 use Rattle.epoch_store.specs.Calls.{HoldsStore, IsNotTaken, OnRead, OpensAs, SettlesAs, StoreState, is_fault, same}
 use Rattle.epoch_store.specs.Store.{IsSettled, StoreAt}
 use Rattle.ports.specs.Count.{counted}
@@ -22,7 +22,7 @@ held tag st seat [] new settles is = tt
 held tag st seat (was ∷ older) [] settles is = absurd settles
 held tag st seat (was ∷ older) (now ∷ past) settles is = subst (λ (m : Moment). StoreAt tag m.image st seat) settles is.1
 
-pub opened : (name : List ℕ) (s : Setting) (tag : List ℕ) (st : StoreState) (old new : OfDisk) → tag ≡ tag_of s → new.faults ≡ old.faults → ReadsTo (open_calls name) st.seat.gate old.calls new.calls → SettlesAs same old.moments new.moments → IsSettled tag st.state st.seat new.moments → Fails stays old.moments new.moments
+pub opened : (name : List ℕ) (s : Setting) (tag : List ℕ) (st : StoreState) (old new : OfDisk) → tag ≡ tag_of s → new.faults ≡ old.faults → ReadsUpTo (open_calls name) old.moments st.seat old.calls new.calls → SettlesAs same old.moments new.moments → IsSettled tag st.state st.seat new.moments → Fails stays old.moments new.moments
     → IsOpened name s st.state st.seat old new
 opened name s tag st old new tag_is faults calls settles is moments = record {
   faults = faults;
@@ -35,7 +35,7 @@ opened name s tag st old new tag_is faults calls settles is moments = record {
 abbrev failed : StoreError → Result StoreState StoreError
 failed e = Err e
 
-pub not-opened : (name : List ℕ) (s : Setting) (tag : List ℕ) (old new : OfDisk) (e : StoreError) → tag ≡ tag_of s → new.faults ≡ counted (is_fault (failed e)) old.faults → ReadsGates (open_calls name) (failed e) old.calls new.calls → OpensAs tag old.moments (failed e) → IsNotTaken (failed e)
+pub not-opened : (name : List ℕ) (s : Setting) (tag : List ℕ) (old new : OfDisk) (e : StoreError) → tag ≡ tag_of s → new.faults ≡ counted (is_fault (failed e)) old.faults → ReadsGates (open_calls name) old.moments (failed e) old.calls new.calls → OpensAs tag old.moments (failed e) → IsNotTaken (failed e)
     → OnRead (failed e) (SettlesAs same old.moments new.moments) → Fails stays old.moments new.moments → OpensStore name s old new (Err (halt_for e))
 not-opened name s tag old new store.Fault tag_is faults calls reads taken settles moments = record { faults = faults; calls = calls; moments = moments }
 not-opened name s tag old new (store.Taken len) tag_is faults calls reads taken settles moments = absurd taken
@@ -47,4 +47,4 @@ not-opened name s tag old new store.OutOfMemory tag_is faults calls reads taken 
 
 -- nothing was opened
 pub unopened : (name : List ℕ) (disk : OfDisk) → IsUnopened name disk disk
-unopened name disk = record { faults = refl; calls = record { gates = 0; made = record { left_out = 3; made = refl } }; moments = Fails-same disk.moments disk.moments refl }
+unopened name disk = record { faults = refl; calls = record { left_out = 3; made = refl }; moments = Fails-same disk.moments disk.moments refl }

@@ -43,6 +43,7 @@ stored-is a n e m x y z =
 
 -- nothing was signed, and nothing changed
 none-signed : (s later : SignerState) (old new : OfDisk) → s.closed ≡ false → later ≡ s → new.faults ≡ old.faults → new.calls ≡ old.calls → new.moments ≡ old.moments → AreSigned [] s later old new
+unfolding seat_after
 none-signed s later old new going same faults calls moments = record {
   group = ap (λ x. x.group) same;
   key = ap (λ x. x.key) same;
@@ -60,15 +61,18 @@ none-signed s later old new going same faults calls moments = record {
 
 -- where a signer stands, the next put goes
 put-same : (o a : Stored) (seat at : Seat) (behind signed : ℕ) → a.next + signed ≡ o.next + behind → a.epoch ≡ o.epoch → a.mask ≡ o.mask → seat_after a at signed ≡ seat_after o seat behind → put_behind a at signed ≡ put_behind o seat behind
+unfolding put_behind
 put-same o a seat at behind signed next epoch mask place =
     ap (λ g. put_calls g (record a { next = a.next + signed + 1 })) place
     ∙ ap (put_calls (seat_after o seat behind)) (stored-is (record a { next = a.next + signed + 1 }) (o.next + behind + 1) o.epoch o.mask (omega (arith, next)) epoch mask)
 
 -- one put behind the gate
 one-put : (o : Stored) (seat : Seat) → put_calls seat (record o { next = o.next + 1 }) ≡ put_behind o seat 0
+unfolding put_behind seat_after
 one-put o seat = ap (λ (n : ℕ). put_calls seat (record o { next = n })) (omega arith)
 
 pub one-signed : (c : CertBody) (s later : SignerState) (old new : OfDisk) (rec : CheckedRecord) → s.closed ≡ false → SignsCert c s later old new (Ok rec) → AreSigned (c ∷ []) s later old new
+unfolding seat_after put_behind
 one-signed c s later old new rec going h = record {
   group = ap (λ x. x.group) h.after;
   key = ap (λ x. x.key) h.after;
@@ -111,12 +115,14 @@ signed-none s old going = none-signed s s old old going refl refl refl refl
 
 -- where the signatures end, the next put goes
 pub put-next : (certs : List CertBody) (s then : SignerState) (old mid : OfDisk) → AreSigned certs s then old mid → put_behind then.state then.seat 0 ≡ put_behind s.state s.seat (length certs)
+unfolding seat_after
 put-next certs s then old mid a = put-same s.state then.state s.seat then.seat (length certs) 0 (omega (arith, a.next)) a.epoch a.mask a.seat
 
 one-longer : (certs : List CertBody) (c : CertBody) → length (certs ++ c ∷ []) ≡ suc (length certs)
 one-longer certs c = length-append certs (c ∷ []) ∙ omega arith
 
 pub signed-more : (certs : List CertBody) (c : CertBody) (s then later : SignerState) (old mid new : OfDisk) → AreSigned certs s then old mid → AreSigned (c ∷ []) then later mid new → AreSigned (certs ++ c ∷ []) s later old new
+unfolding seat_after put_behind
 signed-more certs c s then later old mid new a b = record {
   group = b.group ∙ a.group;
   key = b.key ∙ a.key;
@@ -124,7 +130,11 @@ signed-more certs c s then later old mid new a b = record {
   next = let n = length-append certs (c ∷ []) in omega (arith, a.next, b.next, n);
   epoch = b.epoch ∙ a.epoch;
   mask = b.mask ∙ a.mask;
-  seat = b.seat ∙ ap (λ (x : Seat). next_seat x (entry_behind then.state 0)) a.seat ∙ ap (seat_after s.state s.seat) (sym (one-longer certs c));
+  seat =
+      b.seat
+      ∙ ap (λ (x : Seat). next_seat x (entry_behind then.state 0)) a.seat
+      ∙ ap (λ (m : Mask). next_seat (seat_after s.state s.seat (length certs)) (record (entry_behind s.state (length certs)) { mask = m })) a.mask
+      ∙ ap (seat_after s.state s.seat) (sym (one-longer certs c));
   within = λ few. subst (λ k. later.state.next ≤ index_count k) a.key (b.within (subst (λ k. then.state.next ≤ index_count k) (sym a.key) (a.within few)));
   faults = b.faults ∙ a.faults;
   calls =
@@ -207,6 +217,9 @@ lines-more-so-far done l s then later was mid now old disk new a b =
 abbrev stopped : Halt → Result (Unit {0}) Halt
 stopped h = Err h
 
+never-stops : (h : Halt) → stopped h ≡ Ok tt → ⊥
+never-stops h is = cc
+
 pub stops-at : (lines done rest : List RosterLine) (l : RosterLine) (s then later : SignerState) (was mid now : IoState) (old disk new : OfDisk) (h : Halt) → lines ≡ done ++ l ∷ rest → SoFar (asked_in done) s then was mid old disk → SignsLine l then later mid now disk new (stopped h)
     → Upto (asked_in lines) s was old (λ c t m d. (x : SignerState) × SignsOne c t x m now d new (stopped h))
 stops-at lines done rest (asked.Cert c) s then later was mid now old disk new h split a b = record {
@@ -220,11 +233,11 @@ stops-at lines done rest (asked.Cert c) s then later was mid now old disk new h 
   told = a.told;
   ends = (later, b);
 }
-stops-at lines done rest asked.Header s then later was mid now old disk new h split a b = let e = b.0 in cc
-stops-at lines done rest (asked.Group g) s then later was mid now old disk new h split a b = let e = b.0 in cc
-stops-at lines done rest (asked.Kinds k) s then later was mid now old disk new h split a b = let e = b.0 in cc
-stops-at lines done rest (asked.Secret x) s then later was mid now old disk new h split a b = let e = b.0 in cc
-stops-at lines done rest asked.End s then later was mid now old disk new h split a b = let e = b.0 in cc
+stops-at lines done rest asked.Header s then later was mid now old disk new h split a b = absurd (never-stops h b.0)
+stops-at lines done rest (asked.Group g) s then later was mid now old disk new h split a b = absurd (never-stops h b.0)
+stops-at lines done rest (asked.Kinds k) s then later was mid now old disk new h split a b = absurd (never-stops h b.0)
+stops-at lines done rest (asked.Secret x) s then later was mid now old disk new h split a b = absurd (never-stops h b.0)
+stops-at lines done rest asked.End s then later was mid now old disk new h split a b = absurd (never-stops h b.0)
 
 -- nothing more is spent
 nothing-more : (first : List Spent) (a b c : SignerState) (x y z : List Moment) → LivesOn first a b x y → LivesOn [] b c y z → LivesOn first a c x z
@@ -232,6 +245,7 @@ nothing-more first a b c x y z p q = subst (λ sp. LivesOn sp a c x z) (append-n
 
 -- nothing more was signed
 pub signed-nothing : (certs : List CertBody) (s then later : SignerState) (old mid new : OfDisk) → AreSigned certs s then old mid → AreSigned [] then later mid new → AreSigned certs s later old new
+unfolding seat_after
 signed-nothing certs s then later old mid new a b = record {
   group = b.group ∙ a.group;
   key = b.key ∙ a.key;

@@ -3,7 +3,7 @@ use Rattle.std.specs.Prelude.{◌≡◌, ℕ, ◌+◌, ◌<◌, ◌≤◌, ◌�
 use Rattle.epoch_store.specs.declared.StoreError.{StoreError}
 use Rattle.epoch_store.specs.declared.Stored.{Stored}
 use Rattle.epoch_store.specs.declared.seat.Seat.{Seat}
-use Rattle.epoch_store.specs.Asked.{ReadsGates, ReadsSome, ReadsTo, open_calls}
+use Rattle.epoch_store.specs.Asked.{ReadsGates, ReadsUpTo, StopsReading, open_calls}
 use Rattle.epoch_store.specs.Calls.{HoldsStore, OpensAs, SettlesAs, same}
 use Rattle.epoch_store.specs.Store.{IsSettled}
 use Rattle.line_text.specs.declared.bad_word.BadWord.{BadWord}
@@ -12,7 +12,7 @@ use Rattle.play.specs.Plays.{IoState}
 use Rattle.play.specs.declared.stop.Stop.{Stop}
 use Rattle.play.specs.declared.stop.Stop.TheVariants as stop
 use Rattle.ports.specs.Count.{next_count}
-use Rattle.ports.specs.Disk.{Fails, Since, stays}
+use Rattle.ports.specs.Disk.{Fails, Moment, Since, stays}
 use Rattle.ports.specs.DiskCalls.{AsFarAs, DiskCall, with_calls}
 use Rattle.records.specs.declared.Body.TheVariants.{Certificate}
 use Rattle.records.specs.declared.CertBody.{CertBody}
@@ -38,7 +38,7 @@ use Rattle.authority.specs.declared.enrolling.Opened.{Opened}
 -- closed one. It is settled as it was; each crash leaves what it would have left before.
 pub record IsOpened (name : List ℕ) (s : Setting) (o : Stored) (seat : Seat) (old new : OfDisk) : Type 0 where
   pub faults : new.faults ≡ old.faults
-  pub calls : ReadsTo (open_calls name) seat.gate old.calls new.calls
+  pub calls : ReadsUpTo (open_calls name) old.moments seat old.calls new.calls
   pub found : HoldsStore (tag_of s) o seat old.moments
   pub settled : IsSettled (tag_of s) o seat new.moments
   pub kept : Fails stays old.moments new.moments
@@ -48,7 +48,7 @@ pub record IsBroken (name : List ℕ) (s : Setting) (h : Halt) (old new : OfDisk
   pub faults : new.faults ≡ old.faults
   pub error : StoreError
   pub is : halt_for error ≡ h
-  pub calls : ReadsGates (open_calls name) (Err error) old.calls new.calls
+  pub calls : ReadsGates (open_calls name) old.moments (Err error) old.calls new.calls
   pub reads : OpensAs (tag_of s) old.moments (Err error)
   pub settles : SettlesAs same old.moments new.moments
   pub kept : Fails stays old.moments new.moments
@@ -56,13 +56,13 @@ pub record IsBroken (name : List ℕ) (s : Setting) (h : Halt) (old new : OfDisk
 -- The disk failed in a call that opens the store, and none came behind it: each crash leaves what it would have left before.
 pub record OpeningFails (name : List ℕ) (old new : OfDisk) : Type 0 where
   pub faults : new.faults ≡ next_count old.faults
-  pub calls : ReadsSome (open_calls name) old.calls new.calls
+  pub calls : StopsReading (open_calls name) old.moments old.calls new.calls
   pub moments : Fails stays old.moments new.moments
 
 -- Memory was refused as the store was opened, or before: each crash leaves what it would have left before.
 pub record IsUnopened (name : List ℕ) (old new : OfDisk) : Type 0 where
   pub faults : new.faults ≡ old.faults
-  pub calls : ReadsSome (open_calls name) old.calls new.calls
+  pub calls : AsFarAs (open_calls name) old.calls new.calls
   pub moments : Fails stays old.moments new.moments
 
 -- the key with its leaves, and the store
@@ -100,11 +100,11 @@ abbrev pub SpendsFronts : Setting → Stored → List CertBody → OfDisk → Of
 SpendsFronts s o certs old new = (before : List ℕ) (spent : List Spent) → EndsNow (tag_of s) before spent old.moments
     → Since (EndsWithin (tag_of s) before spent (spent_by o (map Certificate certs))) old.moments new.moments
 
--- The calls that open the store under this name, with this seat behind its entries, and then those that put so many next
--- indexes, one after the other.
-pub record OpensAndPuts (name : List ℕ) (o : Stored) (seat : Seat) (signed : ℕ) (old new : Option (List DiskCall)) : Type 0 where
+-- The calls that open the store in the file of this name, with this seat behind its entries, and then those that put so many
+-- next indexes, one after the other.
+pub record OpensAndPuts (name : List ℕ) (moments : List Moment) (o : Stored) (seat : Seat) (signed : ℕ) (old new : Option (List DiskCall)) : Type 0 where
   pub between : Option (List DiskCall)
-  pub opened : ReadsTo (open_calls name) seat.gate old between
+  pub opened : ReadsUpTo (open_calls name) moments seat old between
   pub made : new ≡ with_calls (puts o seat signed) between
 
 -- A store of the setting's key with this state was found under this name, and then one entry put for each of these
@@ -114,7 +114,7 @@ pub record AreEnrolled (name : List ℕ) (s : Setting) (o : Stored) (certs : Lis
   pub faults : new.faults ≡ old.faults
   pub seat : Seat
   pub found : HoldsStore (tag_of s) o seat old.moments
-  pub calls : OpensAndPuts name o seat (length certs) old.calls new.calls
+  pub calls : OpensAndPuts name old.moments o seat (length certs) old.calls new.calls
   pub enough : IsEnough s o.next certs
   pub left : IsSettled (tag_of s) (record o { next = o.next + length certs }) (seat_after o seat (length certs)) new.moments
   pub spends : Spends s o certs old new
@@ -143,9 +143,9 @@ abbrev pub first_lines : Setting → Stored → List CertBody → List ℕ
 first_lines s o done = signed_lines s.group (key_of s) o.next done
 
 -- The calls that open the store, those that put so many next indexes, and those that put one more, as far as they came.
-pub record OpensAndFails (name : List ℕ) (o : Stored) (seat : Seat) (signed : ℕ) (old new : Option (List DiskCall)) : Type 0 where
+pub record OpensAndFails (name : List ℕ) (moments : List Moment) (o : Stored) (seat : Seat) (signed : ℕ) (old new : Option (List DiskCall)) : Type 0 where
   pub between : Option (List DiskCall)
-  pub before : OpensAndPuts name o seat signed old between
+  pub before : OpensAndPuts name moments o seat signed old between
   pub last : AsFarAs (put_behind o seat signed) between new
 
 -- The disk failed in the put for one of them, for which there was an index.
@@ -158,7 +158,7 @@ pub record SigningFails (name : List ℕ) (s : Setting) (certs : List CertBody) 
   pub found : HoldsStore (tag_of s) opened seat old.moments
   pub within : opened.next + length done < index_count (key_of s)
   pub faults : new.faults ≡ next_count old.faults
-  pub calls : OpensAndFails name opened seat (length done) old.calls new.calls
+  pub calls : OpensAndFails name old.moments opened seat (length done) old.calls new.calls
   pub spends : Spends s opened done old new
   pub any_moment : SpendsFronts s opened done old new
   pub told : IsTold between now (first_lines s opened done)

@@ -1,6 +1,6 @@
 -- What the making of a store does: what is owed to the text, what comes of the disk, and what was taken and written, by the
 -- answer.
-use Rattle.std.specs.Prelude.{◌≡◌, ℕ, ◌⊎◌, List, [], ◌∷◌, ◌++◌, Result, Ok, Err, codes, string_bytes}
+use Rattle.std.specs.Prelude.{◌≡◌, ℕ, ◌⊎◌, List, [], ◌∷◌, ◌++◌, length, Result, Ok, Err, codes, string_bytes}
 use Rattle.hex.specs.Hex.{encode_lower}
 use Rattle.ff_ids.specs.Masks.{all_rings}
 use Rattle.line_text.specs.declared.bad_word.BadWord.{BadWord}
@@ -9,8 +9,8 @@ use Rattle.lms_tree.specs.declared.key.PublicKey.{PublicKey}
 use Rattle.epoch_store.specs.declared.Stored.{Stored}
 use Rattle.epoch_store.specs.Asked.{make_calls}
 use Rattle.epoch_store.specs.Calls.{HasLength, SettlesAs}
-use Rattle.epoch_store.specs.Seat.{store_length}
-use Rattle.epoch_store.specs.Store.{IsSettled, first_entry, made, made_seat}
+use Rattle.epoch_store.specs.Seat.{made_seat}
+use Rattle.epoch_store.specs.Store.{IsSettled, first_entry, made}
 use Rattle.play.specs.Plays.{IoState}
 use Rattle.play.specs.declared.stop.Stop.{Stop}
 use Rattle.play.specs.declared.stop.Stop.TheVariants as stop
@@ -70,7 +70,7 @@ pub record IsMade (name : List ℕ) (s : Setting) (old new : OfDisk) : Type 0 wh
 pub record IsTaken (name : List ℕ) (len : ℕ) (old new : OfDisk) : Type 0 where
   pub faults : new.faults ≡ old.faults
   pub calls : new.calls ≡ with_calls (ToMeasure ∷ ToOpen name ∷ []) old.calls
-  pub length : HasLength old.moments len
+  pub has : HasLength old.moments len
   pub some : len ≡ 0 → ⊥
   pub same : new.moments ≡ old.moments
 
@@ -79,7 +79,7 @@ pub record IsTaken (name : List ℕ) (len : ℕ) (old new : OfDisk) : Type 0 whe
 pub record HasFailed (name : List ℕ) (s : Setting) (old new : OfDisk) : Type 0 where
   pub faults : new.faults ≡ next_count old.faults
   pub calls : AsFarAs (make_calls name (tag_of s) (first_of s)) old.calls new.calls
-  pub moments : Fails (torn_at 0 (store_length 1)) old.moments new.moments
+  pub moments : Fails (torn_at 0 (length (made (tag_of s) (first_of s)))) old.moments new.moments
 
 -- Memory was refused, and the file is as it was.
 pub record IsUnmade (name : List ℕ) (s : Setting) (old new : OfDisk) : Type 0 where

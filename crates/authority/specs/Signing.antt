@@ -34,13 +34,13 @@ abbrev pub entry_behind : Stored → ℕ → Stored
 entry_behind o signed = record o { next = o.next + signed + 1 }
 
 -- the seat behind so many such entries, the first of which was put in this one
-abbrev pub seat_after : Stored → Seat → ℕ → Seat
+unfoldable pub seat_after : Stored → Seat → ℕ → Seat
 seat_after o seat zero = seat
 seat_after o seat (suc signed) = next_seat (seat_after o seat signed) (entry_behind o signed)
 
 -- the calls that put the next index behind so many signatures, in a store that was found with this state and this seat; the
 -- last call first
-abbrev pub put_behind : Stored → Seat → ℕ → List DiskCall
+unfoldable pub put_behind : Stored → Seat → ℕ → List DiskCall
 put_behind o seat signed = put_calls (seat_after o seat signed) (entry_behind o signed)
 
 -- the calls that put one next index after the other, for so many signatures; the last call first

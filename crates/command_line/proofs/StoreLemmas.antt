@@ -145,7 +145,7 @@ store-whole name was mid now old new (Err halt.WriteFault) s all left h t counts
     absurd (fine.writes (rose was.write_faults now.write_faults at.1))
 store-whole name was mid now old new (Err halt.StoreFault) s all left h t counts none empty fine is = absurd (fine.disk (rose old.faults new.faults h.rest.1.faults))
 store-whole name was mid now old new (Err (halt.StoreBroken place byte)) s all left h t counts none empty fine is = absurd h.rest
-store-whole name was mid now old new (Err (halt.StoreTaken len)) s all left h t counts none empty fine is = absurd (empty-taken old.moments len h.rest.1.length empty h.rest.1.some)
+store-whole name was mid now old new (Err (halt.StoreTaken len)) s all left h t counts none empty fine is = absurd (empty-taken old.moments len h.rest.1.has empty h.rest.1.some)
 store-whole name was mid now old new (Err (halt.Exhausted next)) s all left h t counts none empty fine is = absurd h.rest
 store-whole name was mid now old new (Err halt.OutOfMemory) s all left h t counts none empty fine is = inr refl
 

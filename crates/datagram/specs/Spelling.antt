@@ -1,8 +1,9 @@
 -- Datagrams as bytes: the one spelling of each, and what has a spelling. Numbers are big-endian.
-use Rattle.std.specs.Prelude.{◌≡◌, ℕ, ◌^◌, ◌<◌, ◌≤◌, ◌||◌, nat_le, Bool, true, false, List, ◌∷◌, ◌++◌, length, codes, All}
+use Rattle.std.specs.Prelude.{◌≡◌, ℕ, ◌^◌, ◌<◌, ◌≤◌, ◌||◌, Bool, true, false, List, ◌∷◌, ◌++◌, length, codes, All}
 use Rattle.std.specs.List.{flat_map, list_any}
 use Rattle.std.specs.Int.{Width, w16, w32, w64, to_be_bytes}
 use Rattle.ff_ids.specs.declared.TheConstants.{MEMBERS, MASK_BITS}
+use Rattle.ff_ids.specs.Masks.{is_wide as are_wide}
 use Rattle.ff_ids.specs.declared.summary.SummaryEntry.{SummaryEntry}
 use Rattle.ff_ids.specs.declared.summary.Summary.{Summary}
 use Rattle.ff_ids.specs.Summaries.{IsSummary}
@@ -17,7 +18,7 @@ head_bytes kind from = codes "FF" ++ (1 ∷ (kind ∷ to_be_bytes w16 from))
 
 -- whether four bytes don't hold the mask, or the rings
 abbrev pub is_wide_entry : SummaryEntry → Bool
-is_wide_entry e = nat_le (2 ^ 32) e.mask.0 || nat_le (2 ^ 32) e.rings
+is_wide_entry e = are_wide e.mask.0 || are_wide e.rings
 
 -- whether a mask or rings of it need eight bytes
 abbrev pub is_wide : Summary → Bool

@@ -13,7 +13,7 @@ pub mod laws;
 mod reading;
 mod writing;
 
-use ff_ids::{Bits, MemberId, Summary};
+use ff_ids::{MemberId, Summary, is_wide};
 use records::RecordList;
 
 /// What a member sends to another.
@@ -44,12 +44,11 @@ pub enum Datagram {
 }
 
 /// Whether a mask or the rings of an entry need eight bytes, since four don't hold them.
-fn is_wide(summary: &Summary) -> bool
+fn needs_eight(summary: &Summary) -> bool
     ensures { result ≡ is_wide_summary summary.now }
 {
-    let most = Bits::from(u32::MAX);
     summary
         .entries()
         .iter()
-        .any(|entry| entry.mask.0 > most || entry.rings > most)
+        .any(|entry| is_wide(entry.mask.0) || is_wide(entry.rings))
 }

@@ -9,7 +9,7 @@ ghost use Rattle.datagram.specs.Spelling.{IsDatagram, IsWritable};
 ghost use Rattle.datagram.specs.Grammar.{greatest_bits, most_bits, entry_at, entries_at, summary_at, counted_at, records_at, headed_records_at, whole_of, read_of, Ends, GivesDatagram, GivesList, IsReadAs};
 
 use crate::fields_in::{bits_up_to, byte_within, head, u16_within, u64_any};
-use crate::{Datagram, is_wide};
+use crate::{Datagram, needs_eight};
 use ff_ids::{ALL_BITS, Bits, LAST_PAGE, Mask, MemberId, PAGE_MEMBERS, Summary, SummaryEntry};
 use fields::Reader;
 use records::steps::Misread;
@@ -84,7 +84,7 @@ fn summary(reader: &mut Reader, wide: bool) -> Result<(bool, Summary), Misread>
     let place = reader.place();
     let count = byte_within(reader, 0, PAGE_MEMBERS as u8)?;
     let summary = entries(reader, wide, page, count)?;
-    if wide && !is_wide(&summary) {
+    if wide && !needs_eight(&summary) {
         return Err(Misread { place });
     }
     Ok((flag == 1, summary))

@@ -8,7 +8,7 @@ ghost use Rattle.records.specs.Spelling.{record_bytes, IsWritable as IsWritableR
 ghost use Rattle.datagram.specs.declared.Datagram.TheVariants as kinds;
 ghost use Rattle.datagram.specs.Spelling.{head_bytes, bits_width, entry_bytes, flag_number, summary_bytes, summary_kind as kind_of_summary, records_bytes, datagram_bytes, HasContent, IsWritable};
 
-use crate::{Datagram, is_wide};
+use crate::{Datagram, needs_eight};
 use ff_ids::{Bits, MemberId, Summary, SummaryEntry};
 use fields::{NoMemory, Writer};
 use records::{Record, write_record};
@@ -126,7 +126,7 @@ fn datagram_bytes(datagram: &Datagram, mut writer: Writer) -> Result<Vec<u8>, No
             flag,
             summary,
         } => {
-            let wide = is_wide(summary);
+            let wide = needs_eight(summary);
             writer.put_bytes(&head(summary_kind(wide), *from))?;
             put_summary(&mut writer, wide, *flag, summary)?;
             Ok(writer.finish())

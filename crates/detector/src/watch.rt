@@ -3,7 +3,7 @@
 ghost use Rattle.std.specs.Prelude.{◌≡◌, ℕ, ◌+◌, ◌<◌, ◌≤◌, true, length, vec_capacity};
 ghost use Rattle.std.specs.List.{prefix_len};
 ghost use Rattle.std.specs.Prelude.{nat_lt};
-ghost use Rattle.ff_ids.specs.declared.TheConstants.{MAX_TOLERANCE};
+ghost use Rattle.ff_ids.specs.declared.TheConstants.{MASK_BITS, MAX_TOLERANCE};
 ghost use Rattle.ff_ids.specs.Masks.{ring_count};
 ghost use Rattle.ff_ids.specs.Views.{State};
 ghost use Rattle.membership.specs.Life.{has_joined};
@@ -33,7 +33,7 @@ fn watched_on(
     near: &mut usize,
 ) -> Option<Watched>
     requires ring { ring.0 < ring_count membership.now.group.t }
-    requires few { ring.0 < 32 }
+    requires few { ring.0 < MASK_BITS }
     requires joined { has_joined membership.now me ≡ true }
     ensures { (s : State) → Holds membership.now s → result ≡ watched_by_successor s ring.0 me }
 {

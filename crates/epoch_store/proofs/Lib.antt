@@ -6,7 +6,9 @@ pub mod OnceLemmas
 pub mod OpenLemmas
 pub mod FoundLemmas
 pub mod CallLemmas
-pub mod FollowLemmas
 pub mod ReachLemmas
 pub mod PlacedLemmas
 pub mod StopLemmas
+pub mod EntryLemmas
+pub mod GateLemmas
+pub mod MakeLemmas

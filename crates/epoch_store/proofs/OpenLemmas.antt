@@ -1,29 +1,22 @@
--- Opening and making a store.
-use Rattle.std.proofs.Common.{◌≡◌, ◌≢◌, ℕ, ◌+◌, ◌-◌, ◌<◌, ◌≤◌, ◌^◌, ◌⊎◌, inl, inr, Option, None, Some, List, [], ◌∷◌, ◌++◌, length, take, drop, get_or, refl, sym, ap, ◌∙◌, subst, arith, Result, Ok, Err, OnOk, OnErr, IfOk, append-nil, lit≤}
-use Rattle.std.proofs.lemmas.List.{nil_from_length, drop_all}
-use Rattle.ff_ids.specs.declared.Mask.{Mask}
-use Rattle.epoch_store.specs.Seat.{first_seat}
+-- Opening a store.
+use Rattle.std.proofs.Common.{◌≡◌, ℕ, inl, inr, Option, None, Some, List, [], ◌∷◌, ◌++◌, length, take, drop, refl, sym, ap, ◌∙◌, subst, append_assoc, Bool, true, false, Result, Ok, Err, IfOk}
+use Rattle.ports.specs.DiskCalls.{DiskCall, ToOpen, ToRead, ToSync, with_call, with_calls, AsFarAs}
+use Rattle.ports.specs.MemoryDisk.{DiskState}
+use Rattle.ports.specs.DiskSteps.{came_to, runs_on}
+use Rattle.ports.proofs.RunLemmas.{then_runs, runs_on_no_further}
+use Rattle.epoch_store.specs.Seat.{header_length}
+use Rattle.epoch_store.specs.declared.seat.Seat.{Seat}
 use Rattle.epoch_store.specs.declared.StoreError.{StoreError}
 use Rattle.epoch_store.specs.declared.StoreError.TheVariants.{Fault, Taken, Broken, OtherKey, OutOfMemory}
-use Rattle.epoch_store.specs.Reading.{Reading, Finds, Breaks, Differs, head_fault, ReadsFrom, Reads}
-use Rattle.epoch_store.specs.Calls.{StoreState, SettlesAs, same, OnRead, AnswersAs, OpensAs, ReadsHead, ReadsEntries, EntriesAnswer, answer_of, IsOpened, HoldsStore, HasLength}
-use Rattle.epoch_store.specs.Store.{StoreAt, IsSettled, made, made_seat, front, first_entry}
+use Rattle.epoch_store.specs.Reading.{Reading, Finds, Breaks, Differs, IsClosed, IsMarked, ReadsBehind, Reads, head_seat}
+use Rattle.epoch_store.specs.Calls.{StoreState, SettlesAs, same, OnRead, AnswersAs, OpensAs, ReadsHead, ReadsEntries, EntriesAnswer, answer_of, IsOpened, HoldsStore, is_fault}
+use Rattle.epoch_store.specs.Asked.{ClosedIn, Passed, PassesGates, Reaches, ReadsGates, ReadsMark, ReadsTo, ReadsUpTo, RefusedInHead, StopsReading, gate_reads, open_calls}
+use Rattle.epoch_store.specs.Followed.{FailsReading, OpensFile, ReadsGatesFrom, ReadsOnTo, ReadsOnUpTo}
+use Rattle.epoch_store.specs.Store.{StoreAt, IsSettled}
 use Rattle.epoch_store.proofs.OnceLemmas.{reads_once}
 use Rattle.epoch_store.proofs.FoundLemmas.{found_store}
-use Rattle.ports.specs.Disk.{Moment, Fails, Settles, Measures, settled, stays, torn_at, written}
-use Rattle.ports.proofs.SinceLemmas.{Fails-same, Fails-torn}
-
--- the file was opened, or something failed
-pub opened_stays : (a b : List Moment) (result : Result Unit StoreError) → IsOpened a b result → Fails stays a b
-opened_stays a b (Ok value) opened = Fails-same a b opened
-opened_stays a b (Err Fault) opened = opened
-opened_stays a b (Err (Taken len)) opened = absurd opened
-opened_stays a b (Err (Broken place byte)) opened = absurd opened
-opened_stays a b (Err (OtherKey place byte)) opened = absurd opened
-opened_stays a b (Err OutOfMemory) opened = Fails-same a b opened
-
-pub opened_torn : (place count : ℕ) (a b : List Moment) (result : Result Unit StoreError) → IsOpened a b result → Fails (torn_at place count) a b
-opened_torn place count a b result opened = Fails-torn place count a b (opened_stays a b result opened)
+use Rattle.epoch_store.proofs.CallLemmas.{joined, with_calls-append}
+use Rattle.ports.specs.Disk.{Moment, Settles, settled}
 
 -- a sync settles the file as it is
 pub settles_same : (a b : List Moment) → Settles a b → SettlesAs same a b
@@ -41,11 +34,8 @@ on_read (Err (Broken place byte)) P Q f p = f p
 on_read (Err (OtherKey place byte)) P Q f p = f p
 on_read (Err OutOfMemory) P Q f p = tt
 
-faulty : (tag image : List ℕ) (fault : Reading) → head_fault tag (take 40 image) ≡ Some fault → Reads tag image fault
-faulty tag image fault is = rw is refl
-
-fine : (tag image : List ℕ) (reading : Reading) → head_fault tag (take 40 image) ≡ None → ReadsFrom image None (first_seat tag) reading → Reads tag image reading
-fine tag image reading is reads = rw is reads
+behind_head : (tag image : List ℕ) (head : Result Seat ℕ) (reading : Reading) → head_seat (take header_length image) ≡ head → ReadsBehind tag image head reading → Reads tag image reading
+behind_head tag image head reading is reads = subst (λ (h : Result Seat ℕ). ReadsBehind tag image h reading) (sym is) reads
 
 answers : (tag image : List ℕ) (result : Result StoreState StoreError) (reading : Reading) → Reads tag image reading → result ≡ answer_of image reading → AnswersAs tag image result
 answers tag image result reading reads is = record {
@@ -55,37 +45,36 @@ answers tag image result reading reads is = record {
   answer = is;
 }
 
--- a head that is none of a store of this tag
-pub head_refused : (tag : List ℕ) (moments : List Moment) (error : StoreError) → ReadsHead tag moments (Err error) → OpensAs tag moments (Err error)
+-- a head that is none of a store
+pub head_refused : (tag : List ℕ) (moments : List Moment) (error : StoreError) → ReadsHead moments (Err error) → OpensAs tag moments (Err error)
 head_refused tag [] error head = tt
 head_refused tag (now ∷ past) Fault head = tt
 head_refused tag (now ∷ past) (Taken len) head = absurd head
 head_refused tag (now ∷ past) (Broken place byte) head =
-    answers tag now.image (Err (Broken place byte)) (Breaks place) (faulty tag now.image (Breaks place) head.0) (ap (λ (b : Option ℕ). Err (Broken place b)) head.1)
-head_refused tag (now ∷ past) (OtherKey place byte) head =
-    answers tag now.image (Err (OtherKey place byte)) (Differs place) (faulty tag now.image (Differs place) head.0) (ap (λ (b : ℕ). Err (OtherKey place b)) head.1)
+    answers tag now.image (Err (Broken place byte)) (Breaks place) (behind_head tag now.image (Err place) (Breaks place) head.0 refl) (ap (λ (b : Option ℕ). Err (Broken place b)) head.1)
+head_refused tag (now ∷ past) (OtherKey place byte) head = absurd head
 head_refused tag (now ∷ past) OutOfMemory head = absurd head
 
 -- a good head, and the entries behind it
-pub entries_read : (tag : List ℕ) (moments : List Moment) (result : Result StoreState StoreError) → ReadsHead tag moments (Ok tt) → ReadsEntries tag moments result → OpensAs tag moments result
-entries_read tag [] result head entries = tt
-entries_read tag (now ∷ past) result head entries =
-    on_read result (EntriesAnswer tag now.image result) (AnswersAs tag now.image result)
-    (λ found. answers tag now.image result found.0 (fine tag now.image found.0 head found.1) found.2) entries
+pub entries_read : (tag : List ℕ) (first : Seat) (moments : List Moment) (result : Result StoreState StoreError) → ReadsHead moments (Ok first) → ReadsEntries tag first moments result → OpensAs tag moments result
+entries_read tag first [] result head entries = tt
+entries_read tag first (now ∷ past) result head entries =
+    on_read result (EntriesAnswer tag first now.image result) (AnswersAs tag now.image result)
+    (λ found. answers tag now.image result found.0 (behind_head tag now.image (Ok first) found.0 head found.1) found.2) entries
 
-finds_at : (tag image : List ℕ) (store : StoreState) → length tag ≡ 32 → head_fault tag (take 40 image) ≡ None → (reading : Reading) → ReadsFrom image None (first_seat tag) reading → Ok store ≡ answer_of image reading → StoreAt tag image store.state store.seat
-finds_at tag image store size head (Finds state seat) reads is =
-    let found = found_store tag image state seat size head reads in
-    let at : store ≡ record { state = state; seat = seat; failed = Rattle.std.proofs.Common.false } = cc in
+finds_at : (tag image : List ℕ) (store : StoreState) → length tag ≡ 32 → (reading : Reading) → Reads tag image reading → Ok store ≡ answer_of image reading → StoreAt tag image store.state store.seat
+finds_at tag image store size (Finds state seat) reads is =
+    let found = found_store tag image state seat size reads in
+    let at : store ≡ record { state = state; seat = seat; failed = false } = cc in
     let P : StoreState → Type 0 = λ s. StoreAt tag image s.state s.seat in
     subst P (sym at) found
-finds_at tag image store size head (Breaks place) reads is = cc
-finds_at tag image store size head (Differs place) reads is = cc
+finds_at tag image store size (Breaks place) reads is = cc
+finds_at tag image store size (Differs place byte) reads is = cc
 
-pub entries_hold : (tag : List ℕ) (moments : List Moment) (result : Result StoreState StoreError) → length tag ≡ 32 → ReadsHead tag moments (Ok tt) → ReadsEntries tag moments result → IfOk result (λ store. HoldsStore tag store.state store.seat moments)
-entries_hold tag moments (Err error) size head entries = tt
-entries_hold tag [] (Ok store) size head entries = tt
-entries_hold tag (now ∷ past) (Ok store) size head entries = finds_at tag now.image store size head entries.0 entries.1 entries.2
+pub entries_hold : (tag : List ℕ) (first : Seat) (moments : List Moment) (result : Result StoreState StoreError) → length tag ≡ 32 → ReadsHead moments (Ok first) → ReadsEntries tag first moments result → IfOk result (λ store. HoldsStore tag store.state store.seat moments)
+entries_hold tag first moments (Err error) size head entries = tt
+entries_hold tag first [] (Ok store) size head entries = tt
+entries_hold tag first (now ∷ past) (Ok store) size head entries = finds_at tag now.image store size entries.0 (behind_head tag now.image (Ok first) entries.0 head entries.1) entries.2
 
 -- a sync before the reading changes nothing of the answer
 pub opens_before : (tag : List ℕ) (a b : List Moment) (result : Result StoreState StoreError) → SettlesAs same a b → OpensAs tag b result → OpensAs tag a result
@@ -106,34 +95,194 @@ settled_store tag (was ∷ older) (now ∷ past) c (Ok store) settles holds kept
 pub settles_on : {T : Type 0} → (a b c : List Moment) (result : Result T StoreError) → SettlesAs same a b → OnRead result (c ≡ b) → OnRead result (SettlesAs same a c)
 settles_on a b c result settles kept = on_read result (c ≡ b) (SettlesAs same a c) (λ is. rw is settles) kept
 
--- a length that was measured
-pub measured : (moments : List Moment) (n : ℕ) → Measures moments n → n ≤ 0 → HasLength moments 0
-measured [] n is none = tt
-measured (now ∷ past) n is none = omega (arith, is)
+-- ---- the calls
 
-written_first : (bytes image : List ℕ) → length image ≡ 0 → written 0 bytes image ≡ bytes
-written_first [] image none = nil_from_length image none
-written_first (b ∷ bytes) image none =
-    let empty : image ≡ [] = nil_from_length image none in
-    let rest : drop (0 + length (b ∷ bytes)) [] ≡ [] = drop_all {X = ℕ} (0 + length (b ∷ bytes)) [] (omega arith) in
-    rw (empty, rest) (append-nil (b ∷ bytes))
+-- calls that were made after others
+after_calls : (more reads first earlier : List DiskCall) (older middle : Option (List DiskCall)) → middle ≡ with_calls earlier older → with_calls (more ++ (reads ++ first)) middle ≡ with_calls (more ++ (reads ++ (first ++ earlier))) older
+after_calls more reads first earlier older middle is =
+    ap (with_calls (more ++ (reads ++ first))) is
+    ∙ sym (with_calls-append (more ++ (reads ++ first)) earlier older)
+    ∙ ap (λ (calls : List DiskCall). with_calls calls older) (append_assoc more (reads ++ first) earlier ∙ ap (λ (b : List DiskCall). more ++ b) (append_assoc reads first earlier))
 
--- the store that was made is in the file
-pub made_store : (tag bytes : List ℕ) (mask : Mask) (a b : List Moment) → length tag ≡ 32 → mask.0 < 2 ^ 31 → bytes ≡ made tag (first_entry mask) → HasLength a 0 → SettlesAs (written 0 bytes) a b → IsSettled tag (first_entry mask) (made_seat tag (first_entry mask)) b
-made_store tag bytes mask [] b size small spell empty settles = rw settles tt
-made_store tag bytes mask (was ∷ older) [] size small spell empty settles = absurd settles
-made_store tag bytes mask (was ∷ older) (now ∷ past) size small spell empty settles =
-    let whole : now ≡ settled (made tag (first_entry mask)) = settles ∙ ap settled (written_first bytes was.image empty ∙ spell) in
-    let image : now.image ≡ made tag (first_entry mask) = ap (λ (m : Moment). m.image) whole in (
-      whole ∙ ap settled (sym image),
-      record {
-        older = [];
-        shut = 0;
-        rest = [];
-        chain = (record { next_small = omega arith; epoch_small = omega arith; mask_small = small }, tt, tt);
-        closed = λ one. omega (arith, one);
-        bytes = image;
-        place = omega (arith, size, Rattle.std.proofs.Common.length-append (Rattle.std.proofs.Common.codes "FFSTORE1") tag, Rattle.std.proofs.Common.length-append (front tag []) (1 ∷ Rattle.epoch_store.specs.Store.spelled (first_entry mask)));
-        in_force = refl;
-      },
-    )
+up_to_after : (first earlier : List DiskCall) (moments : List Moment) (seat : Seat) (older middle newer : Option (List DiskCall)) → middle ≡ with_calls earlier older → ReadsUpTo first moments seat middle newer → ReadsUpTo (first ++ earlier) moments seat older newer
+up_to_after first earlier moments seat older middle newer is read = record {
+  reads = read.reads;
+  passed = read.passed;
+  closed = read.closed;
+  made = read.made ∙ after_calls (gate_reads seat false) read.reads first earlier older middle is;
+}
+
+far_after : (first earlier : List DiskCall) (older middle newer : Option (List DiskCall)) → middle ≡ with_calls earlier older → AsFarAs first middle newer → AsFarAs (first ++ earlier) older newer
+far_after first earlier older middle newer is far = joined first earlier older middle newer is far
+
+stops_after : (first earlier : List DiskCall) (moments : List Moment) (older middle newer : Option (List DiskCall)) → middle ≡ with_calls earlier older → StopsReading first moments middle newer → StopsReading (first ++ earlier) moments older newer
+stops_after first earlier moments older middle newer is (inl far) = inl (far_after first earlier older middle newer is far)
+stops_after first earlier moments older middle newer is (inr read) =
+    let more = gate_reads read.seat read.moved in
+    let P : List DiskCall → Type 0 = λ calls. AsFarAs calls older newer in
+    inr (record {
+      seat = read.seat;
+      moved = read.moved;
+      reads = read.reads;
+      passed = read.passed;
+      marked = read.marked;
+      made = subst P (append_assoc more (read.reads ++ first) earlier ∙ ap (λ (b : List DiskCall). more ++ b) (append_assoc read.reads first earlier)) (joined (more ++ (read.reads ++ first)) earlier older middle newer is read.made);
+    })
+
+to_after : (first earlier : List DiskCall) (moments : List Moment) (place : ℕ) (older middle newer : Option (List DiskCall)) → middle ≡ with_calls earlier older → ReadsTo first moments place middle newer → ReadsTo (first ++ earlier) moments place older newer
+to_after first earlier moments place older middle newer is (inl head) = inl (head.0, head.1 ∙ ap (with_calls first) is ∙ sym (with_calls-append first earlier older))
+to_after first earlier moments place older middle newer is (inr read) = inr (record {
+  seat = read.seat;
+  moved = read.moved;
+  reads = read.reads;
+  passed = read.passed;
+  marked = read.marked;
+  from_gate = read.from_gate;
+  within = read.within;
+  made = read.made ∙ after_calls (gate_reads read.seat read.moved) read.reads first earlier older middle is;
+})
+
+pub read_after : (first earlier : List DiskCall) (moments : List Moment) (result : Result StoreState StoreError) (older middle newer : Option (List DiskCall)) → middle ≡ with_calls earlier older → ReadsGates first moments result middle newer → ReadsGates (first ++ earlier) moments result older newer
+read_after first earlier moments (Ok store) older middle newer is read = up_to_after first earlier moments store.seat older middle newer is read
+read_after first earlier moments (Err Fault) older middle newer is read = stops_after first earlier moments older middle newer is read
+read_after first earlier moments (Err (Taken len)) older middle newer is read = read
+read_after first earlier moments (Err (Broken place byte)) older middle newer is read = to_after first earlier moments place older middle newer is read
+read_after first earlier moments (Err (OtherKey place byte)) older middle newer is read = (read.0, up_to_after first earlier moments read.0 older middle newer is read.1)
+read_after first earlier moments (Err OutOfMemory) older middle newer is read = far_after first earlier older middle newer is read
+
+-- a head that is refused
+pub head_only : (error : StoreError) (moments : List Moment) (older newer : Option (List DiskCall)) → RefusedInHead {T = Seat} (Err error) → newer ≡ with_call (ToRead 0 header_length) older → ReadsGates (ToRead 0 header_length ∷ []) moments (Err error) older newer
+head_only Fault moments older newer refused is = inl (record { left_out = 0; made = is })
+head_only (Taken len) moments older newer refused is = refused
+head_only (Broken place byte) moments older newer refused is = inl (refused, is)
+head_only (OtherKey place byte) moments older newer refused is = absurd refused
+head_only OutOfMemory moments older newer refused is = absurd refused
+
+-- a file that was not opened
+pub not_opened_to_read : (name : List ℕ) (error : StoreError) (moments a b : List Moment) (older newer : Option (List DiskCall)) → IsOpened a b (Err error) → newer ≡ with_call (ToOpen name) older → ReadsGates (open_calls name) moments (Err error) older newer
+not_opened_to_read name Fault moments a b older newer opened is = inl (record { left_out = 2; made = is })
+not_opened_to_read name (Taken len) moments a b older newer opened is = opened
+not_opened_to_read name (Broken place byte) moments a b older newer opened is = absurd opened
+not_opened_to_read name (OtherKey place byte) moments a b older newer opened is = absurd opened
+not_opened_to_read name OutOfMemory moments a b older newer opened is = record { left_out = 2; made = is }
+
+-- ---- the state of the disk
+
+after_runs : (more reads first earlier : List DiskCall) (failed : Bool) (older middle newer : Option DiskState) → came_to middle false ≡ runs_on earlier older → came_to newer failed ≡ runs_on (more ++ (reads ++ first)) middle → came_to newer failed ≡ runs_on (more ++ (reads ++ (first ++ earlier))) older
+after_runs more reads first earlier failed older middle newer is came =
+    then_runs (more ++ (reads ++ first)) earlier older middle newer failed is came
+    ∙ ap (λ (calls : List DiskCall). runs_on calls older) (append_assoc more (reads ++ first) earlier ∙ ap (λ (b : List DiskCall). more ++ b) (append_assoc reads first earlier))
+
+on_up_to_after : (first earlier : List DiskCall) (moments : List Moment) (seat : Seat) (older middle newer : Option DiskState) → came_to middle false ≡ runs_on earlier older → ReadsOnUpTo first moments seat middle newer → ReadsOnUpTo (first ++ earlier) moments seat older newer
+on_up_to_after first earlier moments seat older middle newer is read = record {
+  reads = read.reads;
+  passes = read.passes;
+  closed = read.closed;
+  came = after_runs (gate_reads seat false) read.reads first earlier false older middle newer is read.came;
+}
+
+fails_after : (first earlier : List DiskCall) (moments : List Moment) (older middle newer : Option DiskState) → came_to middle false ≡ runs_on earlier older → FailsReading first moments middle newer → FailsReading (first ++ earlier) moments older newer
+fails_after first earlier moments older middle newer is (inl came) = inl (then_runs first earlier older middle newer true is came)
+fails_after first earlier moments older middle newer is (inr read) = inr (record {
+  seat = read.seat;
+  moved = read.moved;
+  reads = read.reads;
+  passes = read.passes;
+  marked = read.marked;
+  came = after_runs (gate_reads read.seat read.moved) read.reads first earlier true older middle newer is read.came;
+})
+
+on_to_after : (first earlier : List DiskCall) (moments : List Moment) (place : ℕ) (older middle newer : Option DiskState) → came_to middle false ≡ runs_on earlier older → ReadsOnTo first moments place middle newer → ReadsOnTo (first ++ earlier) moments place older newer
+on_to_after first earlier moments place older middle newer is (inl head) = inl (head.0, then_runs first earlier older middle newer false is head.1)
+on_to_after first earlier moments place older middle newer is (inr read) = inr (record {
+  seat = read.seat;
+  moved = read.moved;
+  reads = read.reads;
+  passes = read.passes;
+  marked = read.marked;
+  from_gate = read.from_gate;
+  within = read.within;
+  came = after_runs (gate_reads read.seat read.moved) read.reads first earlier false older middle newer is read.came;
+})
+
+untold_before : (earlier : List DiskCall) (older middle : Option DiskState) → came_to middle false ≡ runs_on earlier older → middle ≡ None → older ≡ None
+untold_before earlier None middle is none = refl
+untold_before earlier (Some disk) None is none = cc
+untold_before earlier (Some disk) (Some other) is none = cc
+
+pub gates_after : (first earlier : List DiskCall) (moments : List Moment) (result : Result StoreState StoreError) (older middle newer : Option DiskState) → came_to middle false ≡ runs_on earlier older → ReadsGatesFrom first moments result middle newer → ReadsGatesFrom (first ++ earlier) moments result older newer
+gates_after first earlier moments (Ok store) older middle newer is read = on_up_to_after first earlier moments store.seat older middle newer is read
+gates_after first earlier moments (Err Fault) older middle newer is read = fails_after first earlier moments older middle newer is read
+gates_after first earlier moments (Err (Taken len)) older middle newer is read = read
+gates_after first earlier moments (Err (Broken place byte)) older middle newer is read = on_to_after first earlier moments place older middle newer is read
+gates_after first earlier moments (Err (OtherKey place byte)) older middle newer is read = (read.0, on_up_to_after first earlier moments read.0 older middle newer is read.1)
+gates_after first earlier moments (Err OutOfMemory) older middle newer is read = untold_before earlier older middle is read
+
+-- a head that is refused
+pub head_refused_on : (error : StoreError) (moments : List Moment) (older newer : Option DiskState) → RefusedInHead {T = Seat} (Err error) → came_to newer (is_fault {T = Seat} (Err error)) ≡ runs_on (ToRead 0 header_length ∷ []) older → ReadsGatesFrom (ToRead 0 header_length ∷ []) moments (Err error) older newer
+head_refused_on Fault moments older newer refused is = inl is
+head_refused_on (Taken len) moments older newer refused is = refused
+head_refused_on (Broken place byte) moments older newer refused is = inl (refused, is)
+head_refused_on (OtherKey place byte) moments older newer refused is = absurd refused
+head_refused_on OutOfMemory moments older newer refused is = absurd refused
+
+-- a file that was not opened
+pub unopened_to_read : (name : List ℕ) (moments : List Moment) (error : StoreError) (older newer : Option DiskState) → OpensFile name older newer (Err error) → ReadsGatesFrom (open_calls name) moments (Err error) older newer
+unopened_to_read name moments Fault older newer opened = inl (runs_on_no_further (ToRead 0 header_length ∷ ToSync ∷ []) (ToOpen name ∷ []) older newer opened)
+unopened_to_read name moments (Taken len) older newer opened = opened
+unopened_to_read name moments (Broken place byte) older newer opened = absurd opened
+unopened_to_read name moments (OtherKey place byte) older newer opened = absurd opened
+unopened_to_read name moments OutOfMemory older newer opened = opened
+
+-- a sync that failed before anything was read
+pub unsynced_to_read : (name : List ℕ) (moments : List Moment) (older middle newer : Option DiskState) → came_to middle false ≡ runs_on (ToOpen name ∷ []) older → came_to newer true ≡ runs_on (ToSync ∷ []) middle → ReadsGatesFrom (open_calls name) moments (Err Fault) older newer
+unsynced_to_read name moments older middle newer opened synced =
+    inl (runs_on_no_further (ToRead 0 header_length ∷ []) (ToSync ∷ ToOpen name ∷ []) older newer (then_runs (ToSync ∷ []) (ToOpen name ∷ []) older middle newer true opened synced))
+
+-- ---- a file with the same contents was read
+
+passes_same : (a b : List Moment) (seat : Seat) (reads : List DiskCall) → SettlesAs same a b → PassesGates b seat reads → PassesGates a seat reads
+passes_same [] b seat reads settles passes = tt
+passes_same (was ∷ older) [] seat reads settles passes = absurd settles
+passes_same (was ∷ older) (now ∷ past) seat reads settles passes =
+    (passes.0, subst (λ (image : List ℕ). Reaches image passes.0 seat reads) (ap (λ (m : Moment). m.image) settles) passes.1)
+
+passed_same : (a b : List Moment) (seat : Seat) (reads : List DiskCall) → SettlesAs same a b → Passed b seat reads → Passed a seat reads
+passed_same a b seat reads settles p = record { first = p.first; entries = p.entries; begins = p.begins; ends = p.ends; are = p.are; passes = passes_same a b seat reads settles p.passes }
+
+closed_same : (a b : List Moment) (seat : Seat) → SettlesAs same a b → ClosedIn b seat → ClosedIn a seat
+closed_same [] b seat settles closed = tt
+closed_same (was ∷ older) [] seat settles closed = absurd settles
+closed_same (was ∷ older) (now ∷ past) seat settles closed = subst (λ (image : List ℕ). IsClosed (drop seat.gate image)) (ap (λ (m : Moment). m.image) settles) closed
+
+marked_same : (a b : List Moment) (seat : Seat) (moved : Bool) → SettlesAs same a b → ReadsMark b seat moved → ReadsMark a seat moved
+marked_same a b seat false settles marked = tt
+marked_same [] b seat true settles marked = tt
+marked_same (was ∷ older) [] seat true settles marked = absurd settles
+marked_same (was ∷ older) (now ∷ past) seat true settles marked = subst (λ (image : List ℕ). IsMarked seat.wide (drop seat.gate image)) (ap (λ (m : Moment). m.image) settles) marked
+
+up_to_same : (first : List DiskCall) (a b : List Moment) (seat : Seat) (older newer : Option (List DiskCall)) → SettlesAs same a b → ReadsUpTo first b seat older newer → ReadsUpTo first a seat older newer
+up_to_same first a b seat older newer settles r = record { reads = r.reads; passed = passed_same a b seat r.reads settles r.passed; closed = closed_same a b seat settles r.closed; made = r.made }
+
+pub calls_same : (first : List DiskCall) (a b : List Moment) (result : Result StoreState StoreError) (older newer : Option (List DiskCall)) → SettlesAs same a b → ReadsGates first b result older newer → ReadsGates first a result older newer
+calls_same first a b (Ok store) older newer settles read = up_to_same first a b store.seat older newer settles read
+calls_same first a b (Err Fault) older newer settles (inl far) = inl far
+calls_same first a b (Err Fault) older newer settles (inr r) = inr (record { seat = r.seat; moved = r.moved; reads = r.reads; passed = passed_same a b r.seat r.reads settles r.passed; marked = marked_same a b r.seat r.moved settles r.marked; made = r.made })
+calls_same first a b (Err (Taken len)) older newer settles read = read
+calls_same first a b (Err (Broken place byte)) older newer settles (inl head) = inl head
+calls_same first a b (Err (Broken place byte)) older newer settles (inr r) = inr (record { seat = r.seat; moved = r.moved; reads = r.reads; passed = passed_same a b r.seat r.reads settles r.passed; marked = marked_same a b r.seat r.moved settles r.marked; from_gate = r.from_gate; within = r.within; made = r.made })
+calls_same first a b (Err (OtherKey place byte)) older newer settles read = (read.0, up_to_same first a b read.0 older newer settles read.1)
+calls_same first a b (Err OutOfMemory) older newer settles read = read
+
+on_up_to_same : (first : List DiskCall) (a b : List Moment) (seat : Seat) (older newer : Option DiskState) → SettlesAs same a b → ReadsOnUpTo first b seat older newer → ReadsOnUpTo first a seat older newer
+on_up_to_same first a b seat older newer settles r = record { reads = r.reads; passes = passes_same a b seat r.reads settles r.passes; closed = closed_same a b seat settles r.closed; came = r.came }
+
+pub gates_same : (first : List DiskCall) (a b : List Moment) (result : Result StoreState StoreError) (older newer : Option DiskState) → SettlesAs same a b → ReadsGatesFrom first b result older newer → ReadsGatesFrom first a result older newer
+gates_same first a b (Ok store) older newer settles read = on_up_to_same first a b store.seat older newer settles read
+gates_same first a b (Err Fault) older newer settles (inl came) = inl came
+gates_same first a b (Err Fault) older newer settles (inr r) = inr (record { seat = r.seat; moved = r.moved; reads = r.reads; passes = passes_same a b r.seat r.reads settles r.passes; marked = marked_same a b r.seat r.moved settles r.marked; came = r.came })
+gates_same first a b (Err (Taken len)) older newer settles read = read
+gates_same first a b (Err (Broken place byte)) older newer settles (inl head) = inl head
+gates_same first a b (Err (Broken place byte)) older newer settles (inr r) = inr (record { seat = r.seat; moved = r.moved; reads = r.reads; passes = passes_same a b r.seat r.reads settles r.passes; marked = marked_same a b r.seat r.moved settles r.marked; from_gate = r.from_gate; within = r.within; came = r.came })
+gates_same first a b (Err (OtherKey place byte)) older newer settles read = (read.0, on_up_to_same first a b read.0 older newer settles read.1)
+gates_same first a b (Err OutOfMemory) older newer settles read = read

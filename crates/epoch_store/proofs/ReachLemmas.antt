@@ -1,33 +1,88 @@
--- How many gates reading may pass: none behind the closed one of a store.
-use Rattle.std.proofs.Common.{◌≡◌, ℕ, ◌≤◌, Option, None, Some, List, subst, arith, Ok, Err}
+-- How far reading goes: to the closed gate of a store, by the same reads each time.
+use Rattle.std.proofs.Common.{◌≡◌, ℕ, Bool, true, Option, None, Some, is_some, List, [], ◌∷◌, ◌++◌, length, drop, take, refl, sym, ap, ◌∙◌, subst, append_assoc, Result, Ok}
+use Rattle.ports.specs.DiskCalls.{DiskCall}
 use Rattle.epoch_store.specs.declared.Stored.{Stored}
+use Rattle.epoch_store.specs.declared.entry.Entry.{Entry}
+use Rattle.epoch_store.specs.declared.entry.Gate.TheVariants.{Open}
 use Rattle.epoch_store.specs.declared.seat.Seat.{Seat}
-use Rattle.epoch_store.specs.Seat.{first_seat, next_seat}
-use Rattle.epoch_store.specs.declared.entry.Gate.TheVariants.{Shut, Entry}
-use Rattle.epoch_store.specs.Reading.{Reading, Finds, Breaks, Differs, ReadsFrom, window}
-use Rattle.epoch_store.specs.Followed.{Reaches}
-use Rattle.epoch_store.proofs.OnceLemmas.{stands_once}
+use Rattle.epoch_store.specs.Seat.{behind, first_seat, header_length, seat_from}
+use Rattle.epoch_store.specs.Store.{IsChain, front, mark, mask_bytes, spelled, spelled_by}
+use Rattle.epoch_store.specs.Reading.{FitsMask, IsClosed, IsMarked, StandsIn, head_seat}
+use Rattle.epoch_store.specs.Asked.{Reaches, entry_reads, gate_reads}
+use Rattle.epoch_store.proofs.EntryLemmas.{from_mask, marked_in, shown_in}
+use Rattle.epoch_store.proofs.OnceLemmas.{closed_open, stands_once}
+use Rattle.epoch_store.proofs.FoundLemmas.{from_gate, head_of, stands_in_chain}
 
--- reading goes on behind an entry
-reads_behind : (image : List ℕ) (before : Option Stored) (seat : Seat) (e : Stored) (reading : Reading) → Rattle.epoch_store.specs.Reading.Stands before (window image seat) (Ok (Entry e)) → ReadsFrom image before seat reading → ReadsFrom image (Some e) (next_seat seat e) reading
-reads_behind image before seat e reading stands (ReadsFrom.ends _ _ state shut) =
-    let same = stands_once before (window image seat) (Ok (Entry e)) (Ok (Shut state)) stands shut in cc
-reads_behind image before seat e reading stands (ReadsFrom.breaks _ _ at broken) =
-    let same = stands_once before (window image seat) (Ok (Entry e)) (Err at) stands broken in cc
-reads_behind image before seat e reading stands (ReadsFrom.goes _ _ f _ other rest) =
-    let same = stands_once before (window image seat) (Ok (Entry e)) (Ok (Entry f)) stands other in
-    let both : f ≡ e = cc in
-    subst (λ (x : Stored). ReadsFrom image (Some x) (next_seat seat x) reading) both rest
+-- reading goes on from a seat to the closed gate: the reads until then, and all of them
+pub data GoesOn (image : List ℕ) : Option Stored → Seat → List DiskCall → Seat → List DiskCall → Type 0 where
+  stops : (before : Option Stored) (seat : Seat) (reads : List DiskCall) → IsClosed (drop seat.gate image) → GoesOn image before seat reads seat reads
+  goes : (before : Option Stored) (seat : Seat) (e : Entry) (reads : List DiskCall) (shut : Seat) (all : List DiskCall) → StandsIn image before seat (Ok (Open e)) → GoesOn image (Some e.kept) (behind seat e) (gate_reads seat (is_some e.moved) ++ reads) shut all → GoesOn image before seat reads shut all
 
-reads_on : (tag image : List ℕ) (before : Option Stored) (seat : Seat) (reading : Reading) → Reaches tag image before seat → ReadsFrom image None (first_seat tag) reading → ReadsFrom image before seat reading
-reads_on tag image before seat reading Reaches.begins reads = reads
-reads_on tag image before seat reading (Reaches.passes earlier at e reached stands) reads =
-    reads_behind image earlier at e reading stands (reads_on tag image earlier at reading reached reads)
+same_open : (image : List ℕ) (before : Option Stored) (seat : Seat) (e f : Entry) → StandsIn image before seat (Ok (Open e)) → StandsIn image before seat (Ok (Open f)) → f ≡ e
+same_open image before seat e f x y =
+    let same = stands_once seat.wide before (drop seat.gate image) (Ok (Open e)) (Ok (Open f)) x y in cc
 
-behind_gate : (image : List ℕ) (before : Option Stored) (seat : Seat) (state : Stored) (shut : Seat) → ReadsFrom image before seat (Finds state shut) → seat.gate ≤ shut.gate
-behind_gate image before seat state shut (ReadsFrom.ends _ _ _ stands) = omega arith
-behind_gate image before seat state shut (ReadsFrom.goes _ _ e _ stands rest) =
-    let further = behind_gate image (Some e) (next_seat seat e) state shut rest in omega arith
+abbrev IsAlike : Result Seat ℕ → Result Seat ℕ → Type 0
+IsAlike x y = x ≡ y
 
-pub reached_before : (tag image : List ℕ) (before : Option Stored) (seat : Seat) (state : Stored) (shut : Seat) → Reaches tag image before seat → ReadsFrom image None (first_seat tag) (Finds state shut) → seat.gate ≤ shut.gate
-reached_before tag image before seat state shut reached reads = behind_gate image before seat state shut (reads_on tag image before seat (Finds state shut) reached reads)
+ok_same : (a b : Seat) → IsAlike (Ok a) (Ok b) → a ≡ b
+ok_same a b same = cc
+
+-- behind an entry it goes on as before
+past_entry : (image : List ℕ) (before : Option Stored) (seat : Seat) (e : Entry) (reads : List DiskCall) (shut : Seat) (all : List DiskCall) → StandsIn image before seat (Ok (Open e)) → GoesOn image before seat reads shut all
+    → GoesOn image (Some e.kept) (behind seat e) (gate_reads seat (is_some e.moved) ++ reads) shut all
+past_entry image before seat e reads shut all stands (GoesOn.stops _ _ _ closed) = absurd (closed_open (drop seat.gate image) (spelled seat.wide e ++ stands.0.rest) closed stands.0.begins)
+past_entry image before seat e reads shut all stands (GoesOn.goes _ _ f _ _ _ other more) =
+    let same = same_open image before seat e f stands other in
+    subst (λ (x : Entry). GoesOn image (Some x.kept) (behind seat x) (gate_reads seat (is_some x.moved) ++ reads) shut all) same more
+
+-- it goes on from each seat that was reached
+pub goes_from : (image : List ℕ) (first : Seat) (shut : Seat) (all : List DiskCall) → head_seat (take header_length image) ≡ Ok first → GoesOn image None first [] shut all → (before : Option Stored) (seat : Seat) (reads : List DiskCall) → Reaches image before seat reads → GoesOn image before seat reads shut all
+goes_from image first shut all head whole before seat reads (Reaches.begins other is) =
+    let same : first ≡ other = ok_same first other (sym head ∙ is) in
+    subst (λ (z : Seat). GoesOn image None z [] shut all) same whole
+goes_from image first shut all head whole before seat reads (Reaches.passes earlier at e reads' reached stands) =
+    past_entry image earlier at e reads' shut all stands (goes_from image first shut all head whole earlier at reads' reached)
+
+-- the reads until a seat are the last ones of all
+pub front_of_all : (image : List ℕ) (before : Option Stored) (seat : Seat) (reads : List DiskCall) (shut : Seat) (all : List DiskCall) → GoesOn image before seat reads shut all → (more : List DiskCall) × (all ≡ more ++ reads)
+front_of_all image before seat reads shut all (GoesOn.stops _ _ _ closed) = ([], refl)
+front_of_all image before seat reads shut all (GoesOn.goes _ _ e _ _ _ stands rest) =
+    let later = front_of_all image (Some e.kept) (behind seat e) (gate_reads seat (is_some e.moved) ++ reads) shut all rest in
+    (later.0 ++ gate_reads seat (is_some e.moved), later.1 ∙ sym (append_assoc later.0 (gate_reads seat (is_some e.moved)) reads))
+
+-- a closed gate is the last one
+pub at_closed : (image : List ℕ) (before : Option Stored) (seat : Seat) (reads : List DiskCall) (shut : Seat) (all : List DiskCall) → GoesOn image before seat reads shut all → IsClosed (drop seat.gate image) → (seat ≡ shut) × (reads ≡ all)
+at_closed image before seat reads shut all (GoesOn.stops _ _ _ closed) here = (refl, refl)
+at_closed image before seat reads shut all (GoesOn.goes _ _ e _ _ _ stands rest) here = absurd (closed_open (drop seat.gate image) (spelled seat.wide e ++ stands.0.rest) here stands.0.begins)
+
+-- where a mark stands, what is behind it is read too
+pub at_mark : (image : List ℕ) (before : Option Stored) (seat : Seat) (reads : List DiskCall) (shut : Seat) (all : List DiskCall) → GoesOn image before seat reads shut all → IsMarked seat.wide (drop seat.gate image) → (more : List DiskCall) × (all ≡ more ++ (gate_reads seat true ++ reads))
+at_mark image before seat reads shut all (GoesOn.stops _ _ _ closed) marked = absurd (closed_open (drop seat.gate image) (marked.before ++ (mask_bytes seat.wide (mark seat.wide) ++ marked.rest)) closed marked.begins)
+at_mark image before seat reads shut all (GoesOn.goes _ _ e _ _ _ stands rest) marked =
+    let later = front_of_all image (Some e.kept) (behind seat e) (gate_reads seat (is_some e.moved) ++ reads) shut all rest in
+    (later.0, later.1 ∙ ap (λ (moved : Bool). later.0 ++ (gate_reads seat moved ++ reads)) (moves e.moved (drop seat.gate image) e.kept stands.0.rest stands.0.mask_fits stands.0.begins marked))
+  where
+    moves : (moved : Option (List ℕ)) (bytes : List ℕ) (s : Stored) (behind_it : List ℕ) → FitsMask seat.wide moved s.mask.0 → bytes ≡ 1 ∷ (spelled_by seat.wide moved s ++ behind_it) → IsMarked seat.wide bytes → is_some moved ≡ true
+    moves None bytes s behind_it fits is marked =
+        absurd (fits.1 (sym (shown_in seat.wide None s behind_it fits) ∙ ap (λ (b : List ℕ). from_mask seat.wide (drop 12 (drop 1 b))) (sym is) ∙ marked_in seat.wide bytes marked))
+    moves (Some tag) bytes s behind_it fits is marked = refl
+
+-- the file of these entries is read to the closed gate behind them
+goes_behind : (image : List ℕ) (wide : Bool) (header : List ℕ) (entries : List Entry) (rest : List ℕ) (shut : Seat) (all : List DiskCall) → length header ≡ 32 → IsChain (first_seat wide header) entries → image ≡ front wide header entries ++ rest
+    → GoesOn image (head_of entries) (seat_from (first_seat wide header) entries) (entry_reads (first_seat wide header) entries) shut all → GoesOn image None (first_seat wide header) [] shut all
+goes_behind image wide header [] rest shut all long chain bytes more = more
+goes_behind image wide header (e ∷ older) rest shut all long chain bytes more =
+    let seat = seat_from (first_seat wide header) older in
+    let entry : List ℕ = 1 ∷ spelled seat.wide e in
+    let shape : image ≡ front wide header older ++ (entry ++ rest) = bytes ∙ append_assoc (front wide header older) entry rest in
+    let cut = from_gate wide header older (entry ++ rest) image long chain.2 shape in
+    let stands = stands_in_chain (first_seat wide header) older e (drop seat.gate image) rest chain cut in
+    goes_behind image wide header older (entry ++ rest) shut all long chain.2 shape (GoesOn.goes (head_of older) seat e (entry_reads (first_seat wide header) older) shut all stands more)
+
+pub goes_whole : (image : List ℕ) (wide : Bool) (header : List ℕ) (entries : List Entry) (shut : ℕ) (rest : List ℕ) → length header ≡ 32 → IsChain (first_seat wide header) entries → (shut ≡ 1 → ⊥) → image ≡ front wide header entries ++ shut ∷ rest
+    → GoesOn image None (first_seat wide header) [] (seat_from (first_seat wide header) entries) (entry_reads (first_seat wide header) entries)
+goes_whole image wide header entries shut rest long chain closed bytes =
+    let cut = from_gate wide header entries (shut ∷ rest) image long chain bytes in
+    goes_behind image wide header entries (shut ∷ rest) (seat_from (first_seat wide header) entries) (entry_reads (first_seat wide header) entries) long chain bytes
+    (GoesOn.stops (head_of entries) (seat_from (first_seat wide header) entries) (entry_reads (first_seat wide header) entries) (record { gate = shut; rest = rest; begins = cut; closed = closed }))

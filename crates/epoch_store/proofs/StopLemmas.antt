@@ -1,5 +1,5 @@
 -- What a stop within a put leaves of the store, by the outcome that picks the file.
-use Rattle.std.proofs.Common.{◌≡◌, ◌≢◌, ℕ, ◌+◌, ◌<◌, ◌≤◌, ◌%◌, inl, inr, eqb, true, false, List, [], ◌∷◌, ◌++◌, length, take, drop, get_or, refl, sym, ap, ◌∙◌, arith, append_assoc, length-append, length-take, eq-eqb}
+use Rattle.std.proofs.Common.{◌≡◌, ◌≢◌, ℕ, ◌+◌, ◌<◌, ◌≤◌, ◌%◌, inl, inr, eqb, true, false, List, [], ◌∷◌, ◌++◌, length, take, drop, get_or, refl, sym, ap, ◌∙◌, subst, arith, append_assoc, length-append, length-take, eq-eqb}
 use Rattle.std.proofs.lemmas.Bool.{cases_Bool, eqb-true, false≢true}
 use Rattle.std.proofs.lemmas.Bool.Decides.{nat_tests}
 use Rattle.ports.specs.Disk.{Moment, Leaves, LeavesItself, settled, torn_at, written, wrote}
@@ -7,20 +7,22 @@ use Rattle.ports.specs.MemoryDisk.{picked, garbled, is_unstable}
 use Rattle.ports.specs.DiskLaws.{length-written, settled_leaves, wrote_leaves}
 use Rattle.ports.proofs.MomentLemmas.{get_or-garbled_unstable, picked_leaves, wrote_among}
 use Rattle.epoch_store.specs.declared.Stored.{Stored}
+use Rattle.epoch_store.specs.declared.entry.Entry.{Entry}
 use Rattle.epoch_store.specs.declared.seat.Seat.{Seat}
-use Rattle.epoch_store.specs.Seat.{next_seat}
-use Rattle.epoch_store.specs.Store.{spelled, front, IsEntry, Follows, StoreAt}
+use Rattle.epoch_store.specs.Seat.{behind, entry_for, next_seat}
+use Rattle.epoch_store.specs.Store.{spelled, IsEntry, IsEntryOf, Follows, StoreAt}
 use Rattle.epoch_store.specs.Placed.{leaves_open}
-use Rattle.epoch_store.proofs.FileLemmas.{behind_gate, opened, shut_still, torn_gate, with_entry, written_within}
-use Rattle.epoch_store.proofs.PlacedLemmas.{entry_of, entry_written, gate_written}
+use Rattle.epoch_store.proofs.FileLemmas.{behind_gate, front_of, gate_open, store_gate, store_tag, opened, shut_still, torn_entry, with_entry, written_within}
+use Rattle.epoch_store.proofs.PutLemmas.{put_entry_of, put_tag}
+use Rattle.epoch_store.proofs.PlacedLemmas.{entry_of, entry_written, gate_synced, gate_written}
 
 -- in the write of the entry or in its sync: the gate wasn't touched
-pub stopped_at_entry : (tag image : List ℕ) (state next : Stored) (seat : Seat) (outcome : ℕ) → StoreAt tag image state seat → StoreAt tag (picked outcome (entry_written seat.gate next (settled image))) state seat
-stopped_at_entry tag image state next seat outcome store =
+pub stopped_at_entry : (tag image : List ℕ) (state : Stored) (seat : Seat) (e : Entry) (outcome : ℕ) → StoreAt tag image state seat → StoreAt tag (picked outcome (entry_written seat e (settled image))) state seat
+stopped_at_entry tag image state seat e outcome store =
     let now : Moment = settled image in
-    let m : Moment = wrote (seat.gate + 1) (entry_of next) now in
-    let left : LeavesItself m = wrote_leaves (seat.gate + 1) (entry_of next) now (settled_leaves image) in
-    behind_gate tag image (picked outcome m) state seat (length (entry_of next)) store (wrote_among (seat.gate + 1) (entry_of next) now (picked outcome m) (picked_leaves outcome m left))
+    let m : Moment = wrote (seat.gate + 1) (entry_of seat.wide e) now in
+    let left : LeavesItself m = wrote_leaves (seat.gate + 1) (entry_of seat.wide e) now (settled_leaves image) in
+    behind_gate tag image (picked outcome m) state seat (length (entry_of seat.wide e)) store (wrote_among (seat.gate + 1) (entry_of seat.wide e) now (picked outcome m) (picked_leaves outcome m left))
 
 -- ---- the byte of the gate
 
@@ -65,43 +67,71 @@ byte_picked full gate outcome within closed =
 -- ---- in the write of the gate or in its sync
 
 -- the store has the entry, or not
-record IsDecided (tag c : List ℕ) (state next : Stored) (seat : Seat) : Type 0 where
-  has : get_or c seat.gate 0 ≡ 1 → StoreAt tag c next (next_seat seat next)
+record IsDecided (tag c : List ℕ) (state : Stored) (seat : Seat) (e : Entry) : Type 0 where
+  has : get_or c seat.gate 0 ≡ 1 → StoreAt (behind seat e).tag c e.kept (behind seat e)
   hasnt : get_or c seat.gate 0 ≢ 1 → StoreAt tag c state seat
 
-decided : (tag image full c rest : List ℕ) (state next : Stored) (seat : Seat) (store : StoreAt tag image state seat) → IsEntry next → Follows state next
-    → full ≡ front tag (state ∷ store.older) ++ store.shut ∷ (spelled next ++ 0 ∷ rest) → Leaves (torn_at seat.gate 1 (settled full)) c → IsDecided tag c state next seat
-decided tag image full c rest state next seat store entry follows is leaves =
-    let before = front tag (state ∷ store.older) in
-    let shape : full ≡ before ++ store.shut ∷ ((spelled next ++ 0 ∷ []) ++ rest) =
-    is ∙ ap (λ (b : List ℕ). before ++ store.shut ∷ b) (sym (append_assoc (spelled next) (0 ∷ []) rest)) in
-    let torn = torn_gate before (spelled next ++ 0 ∷ []) rest c seat.gate store.shut store.place (rw shape at leaves) in
-    let whole : c ≡ before ++ torn.0 ∷ (spelled next ++ 0 ∷ torn.1) = torn.2 ∙ ap (λ (b : List ℕ). before ++ torn.0 ∷ b) (append_assoc (spelled next) (0 ∷ []) torn.1) in
-    let byte : get_or c seat.gate 0 ≡ torn.0 = ap (λ (b : List ℕ). get_or b seat.gate 0) whole ∙ byte_at before (spelled next ++ 0 ∷ torn.1) torn.0 seat.gate store.place in
+decided : (tag image full c rest : List ℕ) (state : Stored) (seat : Seat) (e : Entry) (store : StoreAt tag image state seat) → IsEntryOf seat.wide e → Follows state e.kept
+    → full ≡ front_of store ++ store.shut ∷ (spelled seat.wide e ++ 0 ∷ rest) → Leaves (torn_at seat.gate 1 (settled full)) c → IsDecided tag c state seat e
+decided tag image full c rest state seat e store entry follows is leaves =
+    let gate = store_gate tag image state seat store in
+    let torn = torn_entry (front_of store) (spelled seat.wide e) rest full c seat.gate store.shut gate is leaves in
+    let byte : get_or c seat.gate 0 ≡ torn.0 = ap (λ (b : List ℕ). get_or b seat.gate 0) torn.2 ∙ byte_at (front_of store) (spelled seat.wide e ++ 0 ∷ torn.1) torn.0 seat.gate gate in
     record {
-      has = λ one. opened tag image c torn.1 state next seat store entry follows (whole ∙ ap (λ (x : ℕ). before ++ x ∷ (spelled next ++ 0 ∷ torn.1)) (sym byte ∙ one));
-      hasnt = λ other. shut_still tag image c (spelled next ++ 0 ∷ torn.1) state seat torn.0 store (λ one. other (byte ∙ one)) whole;
+      has = λ one. opened tag image c torn.1 state seat e store entry follows (torn.2 ∙ ap (λ (x : ℕ). front_of store ++ x ∷ (spelled seat.wide e ++ 0 ∷ torn.1)) (sym byte ∙ one));
+      hasnt = λ other. shut_still tag image c (spelled seat.wide e ++ 0 ∷ torn.1) state seat torn.0 store (λ one. other (byte ∙ one)) torn.2;
     }
 
 -- as the outcome leaves the gate
-pub record LeavesGate (tag c : List ℕ) (state next : Stored) (seat : Seat) (outcome : ℕ) : Type 0 where
-  pub open_ : leaves_open outcome seat.gate ≡ true → StoreAt tag c next (next_seat seat next)
+pub record LeavesGate (tag c : List ℕ) (state : Stored) (seat : Seat) (e : Entry) (outcome : ℕ) : Type 0 where
+  pub open_ : leaves_open outcome seat.gate ≡ true → StoreAt (behind seat e).tag c e.kept (behind seat e)
   pub shut : leaves_open outcome seat.gate ≡ false → StoreAt tag c state seat
 
-pub stopped_at_gate : (tag image : List ℕ) (state next : Stored) (seat : Seat) (outcome : ℕ) → StoreAt tag image state seat → IsEntry next → Follows state next → LeavesGate tag (picked outcome (gate_written seat.gate next (settled image))) state next seat outcome
-stopped_at_gate tag image state next seat outcome store entry follows =
-    let full : List ℕ = written (seat.gate + 1) (entry_of next) image in
+pub stopped_at_gate : (tag image : List ℕ) (state : Stored) (seat : Seat) (e : Entry) (outcome : ℕ) → StoreAt tag image state seat → IsEntryOf seat.wide e → Follows state e.kept → LeavesGate tag (picked outcome (gate_written seat e (settled image))) state seat e outcome
+stopped_at_gate tag image state seat e outcome store entry follows =
+    let full : List ℕ = written (seat.gate + 1) (entry_of seat.wide e) image in
     let m : Moment = wrote seat.gate (1 ∷ []) (settled full) in
     let c : List ℕ = picked outcome m in
-    let before = front tag (state ∷ store.older) in
-    let shape = with_entry tag image (entry_of next) state next seat store refl in
+    let before = front_of store in
+    let shape = with_entry tag image (entry_of seat.wide e) state seat e store refl in
     let left : LeavesItself m = wrote_leaves seat.gate (1 ∷ []) (settled full) (settled_leaves full) in
     let leaves : Leaves (torn_at seat.gate 1 (settled full)) c = wrote_among seat.gate (1 ∷ []) (settled full) c (picked_leaves outcome m left) in
-    let by = decided tag image full c shape.0 state next seat store entry follows shape.1 leaves in
-    let within : seat.gate < length full = omega (arith, store.place, ap length shape.1, length-append before (store.shut ∷ (spelled next ++ 0 ∷ shape.0))) in
-    let was : get_or full seat.gate 0 ≡ store.shut = ap (λ (b : List ℕ). get_or b seat.gate 0) shape.1 ∙ byte_at before (spelled next ++ 0 ∷ shape.0) store.shut seat.gate store.place in
+    let by = decided tag image full c shape.0 state seat e store entry follows shape.1 leaves in
+    let within : seat.gate < length full = omega (arith, (store_gate tag image state seat store), ap length shape.1, length-append before (store.shut ∷ (spelled seat.wide e ++ 0 ∷ shape.0))) in
+    let was : get_or full seat.gate 0 ≡ store.shut = ap (λ (b : List ℕ). get_or b seat.gate 0) shape.1 ∙ byte_at before (spelled seat.wide e ++ 0 ∷ shape.0) store.shut seat.gate (store_gate tag image state seat store) in
     let byte = byte_picked full seat.gate outcome within (λ one. store.closed (sym was ∙ one)) in
     record {
       open_ = λ opens. by.has (eqb-true _ _ (byte ∙ opens));
       shut = λ none. by.hasnt (λ one. false≢true (sym none ∙ sym byte ∙ eq-eqb (get_or c seat.gate 0) 1 one));
+    }
+
+-- ---- a put of a state
+
+-- the store behind it has the tag of the store before
+put_store : (tag image c : List ℕ) (state next : Stored) (seat : Seat) → StoreAt tag image state seat → StoreAt (next_seat seat next).tag c next (next_seat seat next) → StoreAt tag c next (next_seat seat next)
+put_store tag image c state next seat store after =
+    subst (λ (t : List ℕ). StoreAt t c next (next_seat seat next)) (put_tag seat next ∙ store.in_force) after
+
+-- when all of its calls were made
+pub put_whole : (tag image : List ℕ) (state next : Stored) (seat : Seat) → StoreAt tag image state seat → IsEntry next → Follows state next → StoreAt tag (gate_synced seat (entry_for seat next) (settled image)).image next (next_seat seat next)
+put_whole tag image state next seat store entry follows =
+    let e : Entry = entry_for seat next in
+    let c : List ℕ = (gate_synced seat e (settled image)).image in
+    let shape = with_entry tag image (entry_of seat.wide e) state seat e store refl in
+    put_store tag image c state next seat store
+    (gate_open tag image (written (seat.gate + 1) (entry_of seat.wide e) image) shape.0 state seat e store (put_entry_of seat next (store_tag tag image state seat store) entry) follows shape.1)
+
+-- in the write of the gate or in its sync: as the outcome leaves the gate
+pub record LeavesPut (tag c : List ℕ) (state next : Stored) (seat : Seat) (outcome : ℕ) : Type 0 where
+  pub open_ : leaves_open outcome seat.gate ≡ true → StoreAt tag c next (next_seat seat next)
+  pub shut : leaves_open outcome seat.gate ≡ false → StoreAt tag c state seat
+
+pub put_at_gate : (tag image : List ℕ) (state next : Stored) (seat : Seat) (outcome : ℕ) → StoreAt tag image state seat → IsEntry next → Follows state next
+    → LeavesPut tag (picked outcome (gate_written seat (entry_for seat next) (settled image))) state next seat outcome
+put_at_gate tag image state next seat outcome store entry follows =
+    let e : Entry = entry_for seat next in
+    let c : List ℕ = picked outcome (gate_written seat e (settled image)) in
+    let leaves = stopped_at_gate tag image state seat e outcome store (put_entry_of seat next (store_tag tag image state seat store) entry) follows in record {
+      open_ = λ opens. put_store tag image c state next seat store (leaves.open_ opens);
+      shut = leaves.shut;
     }

@@ -1,26 +1,45 @@
 -- The disk calls that each call of a store makes, the last one first.
-use Rattle.std.specs.Prelude.{◌≡◌, ℕ, zero, suc, ◌+◌, ◌<◌, ◌≤◌, max, Option, List, [], ◌∷◌, ◌++◌, Result, Ok, Err}
+use Rattle.std.specs.Prelude.{◌≡◌, ℕ, ◌+◌, ◌<◌, ◌≤◌, ◌⊎◌, Bool, true, false, is_some, Option, None, Some, List, [], ◌∷◌, ◌++◌, drop, take, Result, Ok, Err}
+use Rattle.ports.specs.Disk.{Moment}
 use Rattle.ports.specs.DiskCalls.{DiskCall, ToOpen, ToMeasure, ToRead, ToWrite, ToSync, with_calls, AsFarAs}
 use Rattle.epoch_store.specs.declared.Stored.{Stored}
+use Rattle.epoch_store.specs.declared.entry.Entry.{Entry}
+use Rattle.epoch_store.specs.declared.entry.Gate.{Gate}
+use Rattle.epoch_store.specs.declared.entry.Gate.TheVariants.{Shut, Open}
 use Rattle.epoch_store.specs.declared.seat.Seat.{Seat}
-use Rattle.epoch_store.specs.Seat.{entry_length, header_length, nth_gate, width}
+use Rattle.epoch_store.specs.Seat.{behind, entry_for, header_length, moved_length, seat_from, width}
 use Rattle.epoch_store.specs.declared.StoreError.{StoreError}
 use Rattle.epoch_store.specs.declared.StoreError.TheVariants.{Fault, Taken, Broken, OtherKey, OutOfMemory}
 use Rattle.epoch_store.specs.Calls.{StoreState}
+use Rattle.epoch_store.specs.Reading.{IsClosed, IsMarked, StandsIn, head_seat}
 use Rattle.epoch_store.specs.Store.{spelled, made}
 
 -- to make a store
 abbrev pub make_calls : List ℕ → List ℕ → Stored → List DiskCall
 make_calls name tag first = ToSync ∷ ToWrite 0 (made tag first) ∷ ToMeasure ∷ ToOpen name ∷ []
 
--- to put an entry in this seat, and then to open the gate in front of it
-abbrev pub put_calls : Seat → Stored → List DiskCall
-put_calls seat next = ToSync ∷ ToWrite seat.gate (1 ∷ []) ∷ ToSync ∷ ToWrite (seat.gate + 1) (spelled next ++ 0 ∷ []) ∷ []
+-- to put this entry in this seat, and then to open the gate in front of it
+abbrev pub entry_calls : Seat → Entry → List DiskCall
+entry_calls seat e = ToSync ∷ ToWrite seat.gate (1 ∷ []) ∷ ToSync ∷ ToWrite (seat.gate + 1) (spelled seat.wide e ++ 0 ∷ []) ∷ []
 
--- to read so many gates, from the first one on, each with the entry behind it
-abbrev pub gate_reads : ℕ → List DiskCall
-gate_reads zero = []
-gate_reads (suc gates) = ToRead (nth_gate gates) entry_length ∷ gate_reads gates
+-- to put a state
+abbrev pub put_calls : Seat → Stored → List DiskCall
+put_calls seat next = entry_calls seat (entry_for seat next)
+
+-- to read a gate and the entry behind it, and what stands behind a migration entry's mark
+abbrev pub gate_reads : Seat → Bool → List DiskCall
+gate_reads seat false = ToRead seat.gate (width seat) ∷ []
+gate_reads seat true = ToRead (seat.gate + width seat) moved_length ∷ ToRead seat.gate (width seat) ∷ []
+
+-- how many bytes these are
+abbrev pub reads_length : Seat → Bool → ℕ
+reads_length seat false = width seat
+reads_length seat true = width seat + moved_length
+
+-- to read the gates in front of these entries from this seat on, the last entry first
+abbrev pub entry_reads : Seat → List Entry → List DiskCall
+entry_reads first [] = []
+entry_reads first (e ∷ older) = gate_reads (seat_from first older) (is_some e.moved) ++ entry_reads first older
 
 -- to open a store and read its head
 abbrev pub open_calls : List ℕ → List DiskCall
@@ -40,42 +59,102 @@ MakesStore name tag first (Err (Broken place byte)) older newer = AsFarAs (make_
 MakesStore name tag first (Err (OtherKey place byte)) older newer = AsFarAs (make_calls name tag first) older newer
 MakesStore name tag first (Err OutOfMemory) older newer = AsFarAs (make_calls name tag first) older newer
 
--- after some calls, each gate was read up to the one that stands at this place or shortly before it, and no
--- gate behind it; none, if the place is within the head
-pub record ReadsTo (first : List DiskCall) (place : ℕ) (older newer : Option (List DiskCall)) : Type 0 where
-  pub gates : ℕ
-  pub reaches : place < nth_gate gates
-  pub no_further : nth_gate gates ≤ max header_length (place + entry_length)
-  pub made : newer ≡ with_calls (gate_reads gates ++ first) older
+-- reading from the first seat on comes to this one, behind this state; these reads passed the gates before
+pub data Reaches (image : List ℕ) : Option Stored → Seat → List DiskCall → Type 0 where
+  begins : (first : Seat) → head_seat (take header_length image) ≡ Ok first → Reaches image None first []
+  passes : (before : Option Stored) (seat : Seat) (e : Entry) (reads : List DiskCall) → Reaches image before seat reads → StandsIn image before seat (Ok (Open e))
+      → Reaches image (Some e.kept) (behind seat e) (gate_reads seat (is_some e.moved) ++ reads)
+
+-- these reads pass the gates before a seat, where the file is modelled
+abbrev pub PassesGates : List Moment → Seat → List DiskCall → Type 0
+PassesGates [] seat reads = Unit {0}
+PassesGates (now ∷ past) seat reads = (before : Option Stored) × Reaches now.image before seat reads
+
+-- a migration entry's mark stands in the seat, where the file is modelled
+abbrev pub MarkedIn : List Moment → Seat → Type 0
+MarkedIn [] seat = Unit {0}
+MarkedIn (now ∷ past) seat = IsMarked seat.wide (drop seat.gate now.image)
+
+-- what stands behind a mark is read where there is one
+abbrev pub ReadsMark : List Moment → Seat → Bool → Type 0
+ReadsMark moments seat false = Unit {0}
+ReadsMark moments seat true = MarkedIn moments seat
+
+-- the calls that read what stands in a seat
+abbrev pub ReadsOneGate : Seat → List Moment → Result Gate StoreError → Option (List DiskCall) → Option (List DiskCall) → Type 0
+ReadsOneGate seat moments (Ok (Shut state)) older newer = newer ≡ with_calls (gate_reads seat false) older
+ReadsOneGate seat moments (Ok (Open e)) older newer = newer ≡ with_calls (gate_reads seat (is_some e.moved)) older
+ReadsOneGate seat moments (Err Fault) older newer = (moved : Bool) × ReadsMark moments seat moved × AsFarAs (gate_reads seat moved) older newer
+ReadsOneGate seat moments (Err (Taken len)) older newer = ⊥
+ReadsOneGate seat moments (Err (Broken place byte)) older newer =
+    (moved : Bool) × ReadsMark moments seat moved × (seat.gate ≤ place) × (place < seat.gate + reads_length seat moved) × (newer ≡ with_calls (gate_reads seat moved) older)
+ReadsOneGate seat moments (Err (OtherKey place byte)) older newer = ⊥
+ReadsOneGate seat moments (Err OutOfMemory) older newer = ⊥
+
+-- the gate in the seat is closed, where the file is modelled
+abbrev pub ClosedIn : List Moment → Seat → Type 0
+ClosedIn [] seat = Unit {0}
+ClosedIn (now ∷ past) seat = IsClosed (drop seat.gate now.image)
+
+-- gates that were passed from the first one on, each with its entry, up to this seat; the reads of them are these, and the
+-- entries are those of the file, where it is modelled
+pub record Passed (moments : List Moment) (seat : Seat) (reads : List DiskCall) : Type 0 where
+  pub first : Seat
+  pub entries : List Entry
+  pub begins : first.gate ≡ header_length
+  pub ends : seat ≡ seat_from first entries
+  pub are : reads ≡ entry_reads first entries
+  pub passes : PassesGates moments seat reads
+
+-- after some calls, each gate was read up to the closed one in this seat
+pub record ReadsUpTo (first : List DiskCall) (moments : List Moment) (seat : Seat) (older newer : Option (List DiskCall)) : Type 0 where
+  pub reads : List DiskCall
+  pub passed : Passed moments seat reads
+  pub closed : ClosedIn moments seat
+  pub made : newer ≡ with_calls (gate_reads seat false ++ (reads ++ first)) older
+
+-- after some calls, each gate was read up to the one at which the file breaks at this place, and no gate behind it
+pub record ReadsToBreak (first : List DiskCall) (moments : List Moment) (place : ℕ) (older newer : Option (List DiskCall)) : Type 0 where
+  pub seat : Seat
+  pub moved : Bool
+  pub reads : List DiskCall
+  pub passed : Passed moments seat reads
+  pub marked : ReadsMark moments seat moved
+  pub from_gate : seat.gate ≤ place
+  pub within : place < seat.gate + reads_length seat moved
+  pub made : newer ≡ with_calls (gate_reads seat moved ++ (reads ++ first)) older
+
+-- none, where the place is within the head
+abbrev pub ReadsTo : List DiskCall → List Moment → ℕ → Option (List DiskCall) → Option (List DiskCall) → Type 0
+ReadsTo first moments place older newer = ((place < header_length) × (newer ≡ with_calls first older)) ⊎ ReadsToBreak first moments place older newer
 
 -- after some calls, gates were read until something failed
-pub record ReadsSome (first : List DiskCall) (older newer : Option (List DiskCall)) : Type 0 where
-  pub gates : ℕ
-  pub made : AsFarAs (gate_reads gates ++ first) older newer
+pub record ReadsSome (first : List DiskCall) (moments : List Moment) (older newer : Option (List DiskCall)) : Type 0 where
+  pub seat : Seat
+  pub moved : Bool
+  pub reads : List DiskCall
+  pub passed : Passed moments seat reads
+  pub marked : ReadsMark moments seat moved
+  pub made : AsFarAs (gate_reads seat moved ++ (reads ++ first)) older newer
 
--- after some calls, the gates are read: up to the closed one, or to the place where the file is refused
-abbrev pub ReadsGates : List DiskCall → Result StoreState StoreError → Option (List DiskCall) → Option (List DiskCall) → Type 0
-ReadsGates first (Ok store) older newer = ReadsTo first store.seat.gate older newer
-ReadsGates first (Err Fault) older newer = ReadsSome first older newer
-ReadsGates first (Err (Taken len)) older newer = ReadsSome first older newer
-ReadsGates first (Err (Broken place byte)) older newer = ReadsTo first place older newer
-ReadsGates first (Err (OtherKey place byte)) older newer = ReadsTo first place older newer
-ReadsGates first (Err OutOfMemory) older newer = ReadsSome first older newer
+-- one of the calls before failed, or gates were read until something did
+abbrev pub StopsReading : List DiskCall → List Moment → Option (List DiskCall) → Option (List DiskCall) → Type 0
+StopsReading first moments older newer = AsFarAs first older newer ⊎ ReadsSome first moments older newer
+
+-- after some calls, the gates are read: up to the closed one, or to the one at which the file is refused
+abbrev pub ReadsGates : List DiskCall → List Moment → Result StoreState StoreError → Option (List DiskCall) → Option (List DiskCall) → Type 0
+ReadsGates first moments (Ok store) older newer = ReadsUpTo first moments store.seat older newer
+ReadsGates first moments (Err Fault) older newer = StopsReading first moments older newer
+ReadsGates first moments (Err (Taken len)) older newer = ⊥
+ReadsGates first moments (Err (Broken place byte)) older newer = ReadsTo first moments place older newer
+ReadsGates first moments (Err (OtherKey place byte)) older newer = (seat : Seat) × ReadsUpTo first moments seat older newer
+ReadsGates first moments (Err OutOfMemory) older newer = AsFarAs first older newer
 
 -- a head is refused at a place within it
-abbrev pub RefusedInHead : Result Unit StoreError → Type 0
+abbrev pub RefusedInHead : {T : Type 0} → Result T StoreError → Type 0
 RefusedInHead (Ok value) = Unit {0}
 RefusedInHead (Err Fault) = Unit {0}
-RefusedInHead (Err (Taken len)) = Unit {0}
+RefusedInHead (Err (Taken len)) = ⊥
 RefusedInHead (Err (Broken place byte)) = place < header_length
-RefusedInHead (Err (OtherKey place byte)) = place < header_length
+RefusedInHead (Err (OtherKey place byte)) = ⊥
 RefusedInHead (Err OutOfMemory) = ⊥
-
--- a seat is refused at a place within it
-abbrev pub RefusedAtGate : {T : Type 0} → Seat → Result T StoreError → Type 0
-RefusedAtGate seat (Ok value) = Unit {0}
-RefusedAtGate seat (Err Fault) = Unit {0}
-RefusedAtGate seat (Err (Taken len)) = ⊥
-RefusedAtGate seat (Err (Broken place byte)) = (seat.gate ≤ place) × (place < seat.gate + width seat)
-RefusedAtGate seat (Err (OtherKey place byte)) = ⊥
-RefusedAtGate seat (Err OutOfMemory) = ⊥

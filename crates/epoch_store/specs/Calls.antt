@@ -1,15 +1,16 @@
 -- What the calls of a store answer, and what they do to its file.
-use Rattle.std.specs.Prelude.{◌≡◌, ℕ, ◌+◌, ◌<◌, Bool, true, false, Option, None, Some, List, take, [], ◌∷◌, length, slice_index, Result, Ok, Err}
+use Rattle.std.specs.Prelude.{◌≡◌, ℕ, ◌+◌, ◌*◌, ◌<◌, ◌≤◌, Bool, true, false, Option, None, Some, is_some, List, take, drop, [], ◌∷◌, length, Result, Ok, Err}
 use Rattle.std.specs.List.{slice_get}
 use Rattle.epoch_store.specs.declared.Stored.{Stored}
 use Rattle.epoch_store.specs.declared.seat.Seat.{Seat}
-use Rattle.epoch_store.specs.Seat.{first_seat, header_length}
+use Rattle.epoch_store.specs.declared.entry.Entry.{Entry}
+use Rattle.epoch_store.specs.Seat.{header_length, moved_length, width}
 use Rattle.epoch_store.specs.declared.StoreError.{StoreError}
 use Rattle.epoch_store.specs.declared.StoreError.TheVariants.{Fault, Taken, Broken, OtherKey, OutOfMemory}
-use Rattle.epoch_store.specs.declared.entry.Gate.TheVariants.{Shut, Entry}
+use Rattle.epoch_store.specs.declared.entry.Gate.TheVariants.{Shut, Open}
 use Rattle.epoch_store.specs.Store.{IsEntry, Follows, StoreAt}
 use Rattle.ports.specs.Disk.{Moment, Fails, stays, settled}
-use Rattle.epoch_store.specs.Reading.{Reading, Finds, Breaks, Differs, Reads, ReadsFrom, Stands, window, head_fault}
+use Rattle.epoch_store.specs.Reading.{Reading, Finds, Breaks, Differs, Reads, ReadsFrom, StandsIn, head_seat, wrong_field}
 use Rattle.epoch_store.specs.declared.entry.Gate.{Gate}
 
 -- what a store keeps in memory: the state, the seat behind it, and whether a put has failed
@@ -49,7 +50,7 @@ OnRead (Err OutOfMemory) P = Unit {0}
 abbrev pub answer_of : List ℕ → Reading → Result StoreState StoreError
 answer_of image (Finds state seat) = Ok (record { state = state; seat = seat; failed = false })
 answer_of image (Breaks place) = Err (Broken place (slice_get image place))
-answer_of image (Differs place) = Err (OtherKey place (slice_index image place))
+answer_of image (Differs place byte) = Err (OtherKey place byte)
 
 -- the answer is the one of the file: some reading of it comes to it, and there is no other reading
 pub record AnswersAs (tag image : List ℕ) (result : Result StoreState StoreError) : Type 0 where
@@ -95,36 +96,45 @@ OnRefusal (Err (Broken place byte)) P = P
 OnRefusal (Err (OtherKey place byte)) P = P
 OnRefusal (Err OutOfMemory) P = P
 
--- the head of a file is checked
-abbrev pub ChecksHead : List ℕ → List ℕ → Result Unit StoreError → Type 0
-ChecksHead tag head (Ok value) = head_fault tag head ≡ None
-ChecksHead tag head (Err Fault) = ⊥
-ChecksHead tag head (Err (Taken len)) = ⊥
-ChecksHead tag head (Err (Broken place byte)) = (head_fault tag head ≡ Some (Breaks place)) × (byte ≡ slice_get head place) × (place < header_length)
-ChecksHead tag head (Err (OtherKey place byte)) = (head_fault tag head ≡ Some (Differs place)) × (byte ≡ slice_index head place) × (place < header_length)
-ChecksHead tag head (Err OutOfMemory) = ⊥
+-- the head of a file is checked, these being the bytes that it has of it
+abbrev pub ChecksHead : List ℕ → Result Seat StoreError → Type 0
+ChecksHead head (Ok first) = head_seat head ≡ Ok first
+ChecksHead head (Err Fault) = ⊥
+ChecksHead head (Err (Taken len)) = ⊥
+ChecksHead head (Err (Broken place byte)) = (head_seat head ≡ Err place) × (byte ≡ slice_get head place) × (place < header_length)
+ChecksHead head (Err (OtherKey place byte)) = ⊥
+ChecksHead head (Err OutOfMemory) = ⊥
 
--- the head of a file has no fault, or this one
-abbrev pub HeadAnswer : List ℕ → List ℕ → Result Unit StoreError → Type 0
-HeadAnswer tag image (Ok value) = head_fault tag (take header_length image) ≡ None
-HeadAnswer tag image (Err Fault) = Unit {0}
-HeadAnswer tag image (Err (Taken len)) = ⊥
-HeadAnswer tag image (Err (Broken place byte)) = (head_fault tag (take header_length image) ≡ Some (Breaks place)) × (byte ≡ slice_get image place)
-HeadAnswer tag image (Err (OtherKey place byte)) = (head_fault tag (take header_length image) ≡ Some (Differs place)) × (byte ≡ slice_index image place)
-HeadAnswer tag image (Err OutOfMemory) = ⊥
+-- the head of a file is read
+abbrev pub HeadAnswer : List ℕ → Result Seat StoreError → Type 0
+HeadAnswer image (Ok first) = head_seat (take header_length image) ≡ Ok first
+HeadAnswer image (Err Fault) = Unit {0}
+HeadAnswer image (Err (Taken len)) = ⊥
+HeadAnswer image (Err (Broken place byte)) = (head_seat (take header_length image) ≡ Err place) × (byte ≡ slice_get image place)
+HeadAnswer image (Err (OtherKey place byte)) = ⊥
+HeadAnswer image (Err OutOfMemory) = ⊥
 
--- the head of the file is read
-abbrev pub ReadsHead : List ℕ → List Moment → Result Unit StoreError → Type 0
-ReadsHead tag [] result = Unit {0}
-ReadsHead tag (now ∷ past) result = HeadAnswer tag now.image result
+abbrev pub ReadsHead : List Moment → Result Seat StoreError → Type 0
+ReadsHead [] result = Unit {0}
+ReadsHead (now ∷ past) result = HeadAnswer now.image result
+
+-- where a seat may be, behind this state: no gate and entry have more than 61 bytes
+abbrev pub IsPlaced : Option Stored → Seat → Type 0
+IsPlaced None seat = (seat.gate ≡ header_length) × (seat.tag_place ≤ seat.gate)
+IsPlaced (Some state) seat = IsEntry state × (seat.gate ≤ header_length + 61 * (state.next + 1)) × (seat.tag_place ≤ seat.gate)
+
+-- a file that is read has a first seat behind the head
+abbrev pub BeginsAt : Result Seat StoreError → Type 0
+BeginsAt (Ok first) = IsPlaced None first
+BeginsAt (Err error) = Unit {0}
 
 -- what stands in a seat of the file is read
 abbrev pub GateAnswer : Option Stored → Seat → List ℕ → Result Gate StoreError → Type 0
-GateAnswer before seat image (Ok found) = Stands before (window image seat) (Ok found)
+GateAnswer before seat image (Ok found) = StandsIn image before seat (Ok found)
 GateAnswer before seat image (Err Fault) = Unit {0}
 GateAnswer before seat image (Err (Taken len)) = ⊥
 GateAnswer before seat image (Err (Broken place byte)) =
-    (at : ℕ) × Stands before (window image seat) (Err at) × (place ≡ seat.gate + at) × (byte ≡ slice_get image place)
+    (at : ℕ) × StandsIn image before seat (Err at) × (place ≡ seat.gate + at) × (byte ≡ slice_get image place)
 GateAnswer before seat image (Err (OtherKey place byte)) = ⊥
 GateAnswer before seat image (Err OutOfMemory) = ⊥
 
@@ -149,16 +159,42 @@ IsAfter (Some before) e = Follows before e
 -- an entry that is found may stand there, and a closed gate stands behind the entry before it
 abbrev pub FindsGate : Option Stored → Result Gate StoreError → Type 0
 FindsGate before (Ok (Shut state)) = before ≡ Some state
-FindsGate before (Ok (Entry e)) = IsEntry e × IsAfter before e
+FindsGate before (Ok (Open e)) = IsEntry e.kept × IsAfter before e.kept
 FindsGate before (Err error) = IsNotTaken {T = Gate} (Err error)
 
--- the entries are read from the first seat on
-abbrev pub EntriesAnswer : List ℕ → List ℕ → Result StoreState StoreError → Type 0
-EntriesAnswer tag image result = (reading : Reading) × ReadsFrom image None (first_seat tag) reading × (result ≡ answer_of image reading)
+-- these are the bytes of a gate and of the entry behind it, where the file is modelled
+abbrev pub HasBytes : List Moment → Seat → List ℕ → Type 0
+HasBytes [] seat bytes = Unit {0}
+HasBytes (now ∷ past) seat bytes = bytes ≡ take (width seat) (drop seat.gate now.image)
 
-abbrev pub ReadsEntries : List ℕ → List Moment → Result StoreState StoreError → Type 0
-ReadsEntries tag [] result = IsNotTaken result
-ReadsEntries tag (now ∷ past) result = OnRead result (EntriesAnswer tag now.image result)
+-- an entry may stand in its seat, or its first wrong field is told, these being the bytes from the gate on
+abbrev pub Judges : Seat → Option Stored → Entry → List ℕ → Result Gate StoreError → Type 0
+Judges seat before e bytes (Ok (Shut state)) = ⊥
+Judges seat before e bytes (Ok (Open found)) = (found ≡ e) × (wrong_field seat.wide before e ≡ None)
+Judges seat before e bytes (Err Fault) = ⊥
+Judges seat before e bytes (Err (Taken len)) = ⊥
+Judges seat before e bytes (Err (Broken place byte)) =
+    (at : ℕ) × (wrong_field seat.wide before e ≡ Some at) × (place ≡ seat.gate + at) × (byte ≡ slice_get bytes at)
+Judges seat before e bytes (Err (OtherKey place byte)) = ⊥
+Judges seat before e bytes (Err OutOfMemory) = ⊥
+
+-- what was read behind a mark is a migration entry, or the file breaks within it
+abbrev pub IsBehindMark : Seat → Result Gate StoreError → Type 0
+IsBehindMark seat (Ok (Shut state)) = ⊥
+IsBehindMark seat (Ok (Open e)) = is_some e.moved ≡ true
+IsBehindMark seat (Err Fault) = Unit {0}
+IsBehindMark seat (Err (Taken len)) = ⊥
+IsBehindMark seat (Err (Broken place byte)) = (seat.gate ≤ place) × (place < seat.gate + width seat + moved_length)
+IsBehindMark seat (Err (OtherKey place byte)) = ⊥
+IsBehindMark seat (Err OutOfMemory) = ⊥
+
+-- the entries are read from the first seat on
+abbrev pub EntriesAnswer : List ℕ → Seat → List ℕ → Result StoreState StoreError → Type 0
+EntriesAnswer tag first image result = (reading : Reading) × ReadsFrom tag image None first reading × (result ≡ answer_of image reading)
+
+abbrev pub ReadsEntries : List ℕ → Seat → List Moment → Result StoreState StoreError → Type 0
+ReadsEntries tag first [] result = IsNotTaken result
+ReadsEntries tag first (now ∷ past) result = OnRead result (EntriesAnswer tag first now.image result)
 
 -- the file is this store, where it is modelled
 abbrev pub HoldsStore : List ℕ → Stored → Seat → List Moment → Type 0

@@ -1,5 +1,5 @@
 -- Masks: the rings that a note enables.
-use Rattle.std.specs.Prelude.{ℕ, zero, suc, ◌+◌, ◌-◌, ◌*◌, ◌/◌, ◌%◌, ◌^◌, Bool, ◌&&◌, ◌||◌, ◌==◌, nat_lt, if◌then◌else◌, List, length, filter}
+use Rattle.std.specs.Prelude.{ℕ, zero, suc, ◌+◌, ◌-◌, ◌*◌, ◌/◌, ◌%◌, ◌^◌, Bool, ◌&&◌, ◌||◌, ◌==◌, nat_lt, nat_le, if◌then◌else◌, List, length, filter}
 use Rattle.std.specs.List.{range_with_len}
 
 -- A group of tolerance t has 2t+1 rings, numbered from 0.
@@ -21,6 +21,10 @@ all_rings t = 2 ^ ring_count t - 1
 -- No ring at or above 2t+1 is enabled, and more than t rings are.
 abbrev pub good_mask : ℕ → ℕ → Bool
 good_mask t mask = nat_lt mask (2 ^ ring_count t) && nat_lt t (length (enabled (ring_count t) mask))
+
+-- Four bytes don't hold these bits.
+abbrev pub is_wide : ℕ → Bool
+is_wide bits = nat_le (2 ^ 32) bits
 
 -- What a note may carry: a good mask, or none of the rings, by which its member leaves.
 abbrev pub note_mask : ℕ → ℕ → Bool

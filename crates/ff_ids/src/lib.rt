@@ -3,7 +3,7 @@
 #![tactic(auto)]
 
 ghost use Rattle.std.specs.Prelude.{◌≡◌, ◌<◌, ◌≤◌, ◌^◌, length};
-ghost use Rattle.ff_ids.specs.Masks.{enables, enabled, good_mask as is_good, note_mask as is_allowed, all_rings as mask_of_all};
+ghost use Rattle.ff_ids.specs.Masks.{enables, enabled, is_wide as are_wide, good_mask as is_good, note_mask as is_allowed, all_rings as mask_of_all};
 ghost use Rattle.ff_ids.specs.Notes.{is_leaving as leaves_by};
 ghost use Rattle.ff_ids.specs.Views.{in_view_by};
 
@@ -30,13 +30,13 @@ pub const LAST_PAGE: u8 = PAGES - 1;
 /// How many members a page has.
 pub const PAGE_MEMBERS: u16 = MEMBERS / PAGES as u16;
 
-/// The greatest tolerance of a group. The rings, the bits of a mask and the accusations at most follow from it.
-pub const MAX_TOLERANCE: u8 = 15;
+/// The greatest tolerance of a group. The rings and the accusations at most follow from it.
+pub const MAX_TOLERANCE: u8 = 31;
 
 /// How many rings a group has at most: 2t+1 at the greatest tolerance.
 pub const MAX_RINGS: u8 = 2 * MAX_TOLERANCE + 1;
 
-/// How many bits a mask has: one for each ring, and some more.
+/// How many bits a mask has: one for each ring, and one more.
 pub const MASK_BITS: u8 = 64;
 
 /// A bit for each ring.
@@ -220,6 +220,13 @@ impl Mask {
     {
         (self.0 >> ring.0) % 2 == 1
     }
+}
+
+/// Whether four bytes don't hold the bits of a mask, or of the rings of a summary's entry: they are spelled in eight.
+pub fn is_wide(bits: Bits) -> bool
+    ensures { result ≡ are_wide bits }
+{
+    bits > Bits::from(u32::MAX)
 }
 
 /// How many of the first rings the mask enables.

@@ -84,5 +84,5 @@ member_in_turn : (partner 1 lone certified 2 0 ≡ Some 1)
 unfolding all_numbers in_view_by
 member_in_turn = (refl, refl, refl, refl)
 
-pages : (page_of 0 3 63 ≡ 0) × (page_of 2 3 63 ≡ 0) × (page_of 3 3 63 ≡ 1) × (page_of 6 3 63 ≡ 0) × (page_of 992 31 1023 ≡ 0)
+pages : (page_of 0 3 63 ≡ 0) × (page_of 2 3 63 ≡ 0) × (page_of 3 3 63 ≡ 1) × (page_of 6 3 63 ≡ 0) × (page_of 2016 63 1023 ≡ 0)
 pages = (refl, refl, refl, refl, refl)

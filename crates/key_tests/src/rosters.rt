@@ -35,19 +35,19 @@ fn a_certificate_that_is_put_is_kept(rt: HostRuntime) -> Result<(), Fail> {
 #[test]
 fn members_are_placed_by_their_hashes(rt: HostRuntime) {
     let mut group = group();
-    group.t = 15;
+    group.t = 31;
     let one = MemberId::new(1);
     let two = MemberId::new(2);
     let places = hash_places(&group, one);
     let others = hash_places(&group, two);
     // Bit r is set where 1 comes before 2 on ring r.
-    let mut first = 0u32;
-    for ring in 0..31u8 {
+    let mut first = 0u64;
+    for ring in 0..63u8 {
         if key_order(RingNo(ring), &places, one, &others, two) {
             first |= 1 << ring;
         }
     }
-    assert_eq!(rt; first, 0x233b_64a9);
+    assert_eq!(rt; first, 0x145b_9e6a_a33b_64a9);
 }
 
 /// The body with this signature has the fault, if any.

@@ -1,6 +1,8 @@
 //! Disks in memory under stores and signers.
 
+mod moves;
 mod plain;
+mod widths;
 
 ghost use Rattle.std.specs.Prelude.{◌≡◌, ◌<◌, IfOk, length};
 ghost use Rattle.epoch_store.specs.Store.{IsEntry};
@@ -55,16 +57,25 @@ fn disk_with_store(alloc: Global) -> Result<MemoryDisk, Fail> {
     Ok(disk)
 }
 
-/// What opening the store in the disk's file answers.
-fn state_in(disk: &mut MemoryDisk, name: &str) -> Result<Stored, StoreError> {
-    let store = Store::open(disk, name, &TAG)?;
+/// What opening the store of this tag in the disk's file answers.
+fn state_by(disk: &mut MemoryDisk, name: &str, tag: &[u8; 32]) -> Result<Stored, StoreError> {
+    let store = Store::open(disk, name, tag)?;
     Ok(store.state())
+}
+
+/// What opening the store of this tag in the file with these bytes answers.
+fn opened_by(
+    alloc: Global,
+    bytes: &[u8],
+    tag: &[u8; 32],
+) -> Result<Result<Stored, StoreError>, Fail> {
+    let mut disk = disk_with(alloc, bytes)?;
+    Ok(state_by(&mut disk, NAME, tag))
 }
 
 /// What opening the file with these bytes answers.
 fn opened(alloc: Global, bytes: &[u8]) -> Result<Result<Stored, StoreError>, Fail> {
-    let mut disk = disk_with(alloc, bytes)?;
-    Ok(state_in(&mut disk, NAME))
+    opened_by(alloc, bytes, &TAG)
 }
 
 fn stored(next: u32, epoch: u64, mask: u64) -> Stored
@@ -101,6 +112,15 @@ fn front(bytes: &[u8], count: usize) -> &[u8] {
         &bytes[..count]
     } else {
         bytes
+    }
+}
+
+/// The bytes behind the first so many, if there are any.
+fn behind(bytes: &[u8], count: usize) -> &[u8] {
+    if count <= bytes.len() {
+        &bytes[count..]
+    } else {
+        &[]
     }
 }
 
@@ -198,11 +218,22 @@ fn put_second(disk: &mut MemoryDisk, next: Stored) -> Result<(Result<(), StoreEr
     Ok((answer, store.state()))
 }
 
+/// Opens the store of this tag, and puts the state.
+fn put_on(disk: &mut MemoryDisk, tag: &[u8; 32], next: Stored) -> Result<(), Fail>
+    requires { IsEntry next }
+{
+    let mut store = Store::open(disk, NAME, tag).or(Err("open"))?;
+    let before = store.state();
+    if before.next >= next.next || before.epoch > next.epoch {
+        return Err("an entry that may not follow".into());
+    }
+    store.put(disk, next).or(Err("put"))?;
+    Ok(())
+}
+
 /// Puts the entry (3, 2, 5).
 fn put_3_2_5(disk: &mut MemoryDisk) -> Result<(), Fail> {
-    let (answer, _) = put_second(disk, stored(3, 2, 5))?;
-    answer.or(Err("put"))?;
-    Ok(())
+    put_on(disk, &TAG, stored(3, 2, 5))
 }
 
 /// The bytes of a store with the entries (0, 0, 7) and (3, 2, 5).
@@ -212,9 +243,14 @@ fn two_entries(alloc: Global) -> Result<Vec<u8>, Fail> {
     Ok(disk.image().to_vec(alloc)?)
 }
 
-/// Opening the file answers what a plain reader does.
-fn compare_readers(rt: &impl Abort, alloc: Global, bytes: &[u8]) -> Result<(), Fail> {
-    assert_eq!(rt; opened(alloc, bytes)?, state_of(bytes, &TAG));
+/// Opening the file for this tag answers what a plain reader does.
+fn compare_readers(
+    rt: &impl Abort,
+    alloc: Global,
+    bytes: &[u8],
+    tag: &[u8; 32],
+) -> Result<(), Fail> {
+    assert_eq!(rt; opened_by(alloc, bytes, tag)?, state_of(bytes, tag));
     Ok(())
 }
 
@@ -222,21 +258,27 @@ fn compare_readers_of_changed(
     rt: &impl Abort,
     alloc: Global,
     bytes: &[u8],
+    tag: &[u8; 32],
     place: usize,
     value: u8,
 ) -> Result<(), Fail> {
     let bytes = changed(alloc, bytes, place, value)?;
-    compare_readers(rt, alloc, &bytes)
+    compare_readers(rt, alloc, &bytes, tag)
 }
 
 /// Likewise for each cut of the bytes and for each byte that is changed.
-fn compare_readers_of_all(rt: &impl Abort, alloc: Global, bytes: &[u8]) -> Result<(), Fail> {
+fn compare_readers_of_all(
+    rt: &impl Abort,
+    alloc: Global,
+    bytes: &[u8],
+    tag: &[u8; 32],
+) -> Result<(), Fail> {
     for len in 0..bytes.len() {
-        compare_readers(rt, alloc, &bytes[..len])?;
+        compare_readers(rt, alloc, &bytes[..len], tag)?;
     }
     for place in 0..bytes.len() {
         for value in 0..=255u8 {
-            compare_readers_of_changed(rt, alloc, bytes, place, value)?;
+            compare_readers_of_changed(rt, alloc, bytes, tag, place, value)?;
         }
     }
     Ok(())
@@ -250,7 +292,7 @@ fn each_cut_and_each_changed_byte_is_answered_as_a_plain_reader_does(
     let good = two_entries(alloc)?;
     assert_eq!(rt; good.len(), 75);
     assert_eq!(rt; opened(alloc, &good)?, Ok(stored(3, 2, 5)));
-    compare_readers_of_all(&rt, alloc, &good)
+    compare_readers_of_all(&rt, alloc, &good, &TAG)
 }
 
 #[test]
@@ -269,7 +311,7 @@ fn a_store_may_have_a_name_of_255_bytes(rt: HostRuntime) -> Result<(), Fail> {
     let name = std::str::from_utf8(&bytes).or(Err("no text"))?;
     let mut disk = new_disk(rt.alloc())?;
     assert_eq!(rt; make(&mut disk, name, &TAG, Mask(7)), Ok(()));
-    assert_eq!(rt; state_in(&mut disk, name), Ok(stored(0, 0, 7)));
+    assert_eq!(rt; state_by(&mut disk, name, &TAG), Ok(stored(0, 0, 7)));
     Ok(())
 }
 

@@ -1,4 +1,4 @@
-//! Answers in groups of 3, of 5 and of 31 rings.
+//! Answers in groups of 3, of 5, of 31 and of 63 rings.
 
 use ff_ids::{AccBody, Epoch, Mask, MemberId, NoteBody, RingNo, good_mask};
 use rebuttal::{answer_mask, must_answer};
@@ -6,7 +6,7 @@ use rebuttal::{answer_mask, must_answer};
 /// The answer's rings, where the mask is good and enables the ring.
 fn answered(t: u8, rings: u64, ring: u8) -> Option<u64> {
     let (mask, ring) = (Mask(rings), RingNo(ring));
-    if 1 <= t && t <= 15 && ring.0 < 32 && good_mask(t, mask) && mask.enables(ring) {
+    if 1 <= t && t <= 31 && ring.0 < 64 && good_mask(t, mask) && mask.enables(ring) {
         Some(answer_mask(t, mask, ring).0)
     } else {
         None
@@ -26,6 +26,10 @@ fn the_ring_is_disabled_and_the_lowest_enabled_again(rt: HostRuntime) {
         (2, 14, 3, 7),
         (15, 0x7fff_ffff, 30, 0x3fff_ffff),
         (15, 0x7fff_8000, 30, 0x3fff_8001),
+        (31, 0x7fff_ffff_ffff_ffff, 62, 0x3fff_ffff_ffff_ffff),
+        (31, 0x7fff_ffff_ffff_ffff, 32, 0x7fff_fffe_ffff_ffff),
+        (31, 0x7fff_ffff_8000_0000, 62, 0x3fff_ffff_8000_0001),
+        (31, 0xffff_ffff, 0, 0x1_ffff_fffe),
     ];
     for (t, rings, ring, answer) in &rows {
         assert_eq!(rt; answered(*t, *rings, *ring), Some(*answer));

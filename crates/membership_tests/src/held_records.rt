@@ -166,7 +166,8 @@ fn pages_list_the_certified_with_their_newest_notes(rt: HostRuntime) -> Result<(
     compare_page(&rt, &set, 2, &[]);
     compare_page(&rt, &set, 255, &[]);
     set.drop_accusation(member, RingNo(2));
-    set.drop_accusation(member, RingNo(30));
+    set.drop_accusation(member, RingNo(62));
+    set.drop_accusation(member, RingNo(63));
     set.drop_accusation(member, RingNo(255));
     compare_page(&rt, &set, 0, &[entry(member, 2, 6, 2)]);
     Ok(())

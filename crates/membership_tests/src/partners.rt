@@ -82,6 +82,8 @@ fn each_page_comes_for_as_many_rounds_as_there_are_rings(rt: HostRuntime) {
         (5, 3, 31, 0),
         (992, 31, 1023, 0),
         (961, 31, 1023, 31),
+        (2016, 63, 1023, 0),
+        (1953, 63, 1023, 31),
         (u64::MAX, 1, 1023, 31),
     ];
     for (round, k, highest, page) in &rows {

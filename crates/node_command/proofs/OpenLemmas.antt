@@ -212,12 +212,12 @@ not-started-from m st told old mid new signer fault h is begins faults cause spe
 -- ## The file
 
 -- which was refused, or not opened
-pub file-read : (T : Type 0) (name : List ℕ) (old new : OfDisk) (e : StoreError) → ReadsGates (open_calls name) (failed e) old.calls new.calls → OpensFile {T = T} name old new (Err (halt_for e))
-file-read T name old new store.Fault calls = tt
-file-read T name old new (store.Taken len) calls = tt
-file-read T name old new (store.Broken place byte) calls = calls
-file-read T name old new (store.OtherKey place byte) calls = calls
-file-read T name old new store.OutOfMemory calls = tt
+pub file-read : (T : Type 0) (name tag : List ℕ) (old new : OfDisk) (e : StoreError) → OpensAs tag old.moments (failed e) → ReadsGates (open_calls name) old.moments (failed e) old.calls new.calls → OpensFile {T = T} name old new (Err (halt_for e))
+file-read T name tag old new store.Fault reads calls = tt
+file-read T name tag old new (store.Taken len) reads calls = tt
+file-read T name tag old new (store.Broken place byte) reads calls = record { error = store.Broken place byte; is = refl; tag = tag; reads = reads; calls = calls }
+file-read T name tag old new (store.OtherKey place byte) reads calls = record { error = store.OtherKey place byte; is = refl; tag = tag; reads = reads; calls = calls }
+file-read T name tag old new store.OutOfMemory reads calls = tt
 
 pub file-started : (T : Type 0) (name : List ℕ) (old new : OfDisk) (fault : NodeFault) → OpensFile {T = T} name old new (Err (halt_by fault))
 file-started T name old new node.StoreFault = tt

@@ -3,7 +3,7 @@ use Rattle.std.specs.Prelude.{◌≡◌, ℕ, ◌<◌, ◌≤◌, ◌⊎◌, fal
 use Rattle.epoch_store.specs.declared.seat.Seat.{Seat}
 use Rattle.epoch_store.specs.declared.StoreError.{StoreError}
 use Rattle.epoch_store.specs.declared.Stored.{Stored}
-use Rattle.epoch_store.specs.Asked.{ReadsTo, open_calls}
+use Rattle.epoch_store.specs.Asked.{ReadsGates, open_calls}
 use Rattle.epoch_store.specs.Calls.{HoldsStore, OpensAs, SettlesAs, same}
 use Rattle.epoch_store.specs.Store.{StoreOf}
 use Rattle.journal.specs.declared.event.Event as journal
@@ -42,12 +42,18 @@ start_of m stored = started (setting_for m) (nonce_seed m.own.secret stored.next
 abbrev pub IsFound : Member → Stored → OfDisk → Type 0
 IsFound m stored old = (seat : Seat) × HoldsStore (tag_of m) stored seat old.moments
 
--- Where a store is refused, the calls made were those that open the file of this name, and read its gates up to the place where it
--- is refused.
+-- A store was refused: the calls made were those that open the file of this name, and read its gates up to the one at which it
+-- breaks, or up to the closed one where its reading comes to another tag; as its reading says, which breaks for each tag or none.
+pub record IsRefused (name : List ℕ) (h : NodeHalt) (old new : OfDisk) : Type 0 where
+  pub error : StoreError
+  pub is : halt_for error ≡ h
+  pub tag : List ℕ
+  pub reads : OpensAs tag old.moments (Err error)
+  pub calls : ReadsGates (open_calls name) old.moments (Err error) old.calls new.calls
+
 abbrev pub OpensFile : {T : Type 0} → List ℕ → OfDisk → OfDisk → Result T NodeHalt → Type 0
 OpensFile name old new (Ok value) = Unit {0}
-OpensFile name old new (Err (halt.StoreBroken place byte)) =
-    ReadsTo (open_calls name) place old.calls new.calls
+OpensFile name old new (Err (halt.StoreBroken place byte)) = IsRefused name (halt.StoreBroken place byte) old new
 OpensFile name old new (Err other) = Unit {0}
 
 -- The disk failed as the store was opened: each crash leaves what it would have left before.

@@ -168,7 +168,12 @@ comes-putting s es os v w x y o step h stores at on apart =
     let is = put-is kept o.disk.disk o.disk.seat in
     let passes : put_passes kept o.disk ≡ true = ap (λ (c : Came). not c.failed) is ∙ ap not ran.answer in
     subst (ComesTo s es os w y false) (sym (putting-step step o true test passes))
-    (record { at = at; ended = on ∙ h.ended; disk = ran.behind ∙ ap (λ (c : Came). Some c.disk) (sym is); seat = seat ∙ ap (λ (g : Seat). next_seat g kept) h.seat })
+    (record {
+      at = at;
+      ended = on ∙ h.ended;
+      disk = ran.behind ∙ ap (λ (c : Came). Some c.disk) (sym is);
+      seat = seat ∙ ap (λ (k : Stored). next_seat v.signer.seat k) at.is.stored ∙ ap (λ (g : Seat). next_seat g kept) h.seat;
+    })
 
 -- a step in which the disk works
 pub comes-further : (s : Setting) (es : List journal.Event) (os : List (ℕ × List ℕ)) (v w : Kept) (x y : Option DiskState) (o : OnDisk PlacedStore) (step : Bool → Call)

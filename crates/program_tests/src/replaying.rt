@@ -88,7 +88,7 @@ const TEXTS: [Row; 36] = [
     (Front::None, "fireflies 2 direct\n", "bad 1 header\n", 3),
     (
         Front::None,
-        "fireflies 1 direct\ngroup 16 3\n",
+        "fireflies 1 direct\ngroup 32 3\n",
         "fireflies 1 direct\nbad 2 limit\n",
         3,
     ),

@@ -1,7 +1,8 @@
 -- How many bytes records have.
-use Rattle.std.proofs.Common.{◌≡◌, ℕ, ◌+◌, ◌^◌, Bool, true, false, cond, ltb, List, ◌∷◌, ◌++◌, length, refl, arith}
+use Rattle.std.proofs.Common.{◌≡◌, ℕ, ◌+◌, Bool, true, false, cond, List, ◌∷◌, ◌++◌, length, refl, arith}
 use Rattle.std.specs.Int.{w16, w32, w64, to_be_bytes}
 use Rattle.std.proofs.lemmas.List.{length-append}
+use Rattle.ff_ids.specs.Masks.{is_wide}
 use Rattle.ff_ids.specs.declared.NoteBody.{NoteBody}
 use Rattle.ff_ids.specs.declared.AccBody.{AccBody}
 use Rattle.lms_tree.specs.Lms.{key_bytes}
@@ -16,11 +17,11 @@ pub certificate_long : (c : CertBody) → IsCertificate c → length (certificat
 unfolding certificate_bytes key_bytes
 certificate_long c h = omega (arith, tail_long c.key.id c.key.root h.id_long h.root_long)
 
-pub note_long : (n : NoteBody) → length (note_bytes n) ≡ cond (ltb n.mask.0 (2 ^ 32)) 15 19
+pub note_long : (n : NoteBody) → length (note_bytes n) ≡ cond (is_wide n.mask.0) 19 15
 unfolding note_bytes
-note_long n = by_width (ltb n.mask.0 (2 ^ 32))
+note_long n = by_width (is_wide n.mask.0)
   where
-    by_width : (narrow : Bool) → length (cond narrow (2 ∷ note_fields w32 n) (4 ∷ note_fields w64 n)) ≡ cond narrow 15 19
+    by_width : (wide : Bool) → length (cond wide (4 ∷ note_fields w64 n) (2 ∷ note_fields w32 n)) ≡ cond wide 19 15
     by_width true = refl
     by_width false = refl
 

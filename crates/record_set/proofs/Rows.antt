@@ -52,13 +52,13 @@ first_ends = refl
 by_key : (key_of (bodies.Accusation accusation) ≡ keys.Accusation 2 (record { 0 = 1 })) × (key_of (note 4 6) ≡ keys.Note 2)
 by_key = (refl, refl)
 
-bits : (bits_where (λ r. (r == 0) || (r == 2)) 31 ≡ 5) × (bits_where (λ r. r == 30) 31 ≡ 1073741824) × (bits_where (λ r. r == 31) 31 ≡ 0)
+bits : (bits_where (λ r. (r == 0) || (r == 2)) 63 ≡ 5) × (bits_where (λ r. r == 62) 63 ≡ 4611686018427387904) × (bits_where (λ r. r == 63) 63 ≡ 0)
 unfolding bits_where
 bits = (refl, refl, refl)
 
 -- the slots of a member with a note and an accusation on ring 1, behind those of two others
 abbrev slots : List Slot
-slots = replicate 66 None ++ None ∷ Some (signed (note 4 6) 3) ∷ None ∷ Some (signed (bodies.Accusation accusation) 3) ∷ []
+slots = replicate 130 None ++ None ∷ Some (signed (note 4 6) 3) ∷ None ∷ Some (signed (bodies.Accusation accusation) 3) ∷ []
 
 entries : (entry_in slots 2 ≡ record { member = 2; epoch = 4; mask = record { 0 = 6 }; rings = 2 })
     × (entry_in slots 1 ≡ record { member = 1; epoch = 0; mask = record { 0 = 0 }; rings = 0 })

@@ -11,7 +11,7 @@ ghost use Rattle.record_set.specs.Pages.{note_in, entry_with};
 ghost use Rattle.record_set.specs.Slots.{slot_of, member_of, HasSlot, entry_in, no_entry, ready_entries};
 
 use ff_ids::{
-    Bits, MAX_RINGS, MEMBERS, Mask, MemberId, NoteBody, RecordKey, Summary, SummaryEntry,
+    Bits, MAX_RINGS, MEMBERS, Mask, MemberId, NoteBody, RecordKey, Summary, SummaryEntry, is_wide,
 };
 use records::{Body, Checked, Record};
 use std::alloc::{AllocError, Global};
@@ -71,7 +71,7 @@ fn note_length(note: &NoteBody) -> usize
     ensures value { result ≡ length (note_bytes note.now) }
     ensures few { result ≤ 19 }
 {
-    if note.mask.0 < 1 << 32 { 15 } else { 19 }
+    if is_wide(note.mask.0) { 19 } else { 15 }
 }
 
 /// How many bytes the body's spelling has.

@@ -1,7 +1,7 @@
 -- The two laws of the grammar: what is read is spelled so, and what is spelled so is read.
 use Rattle.std.proofs.Common.{◌≡◌, ℕ, ◌^◌, ◌<◌, ◌≤◌, ◌⊎◌, Bool, true, false, cond, eqb, List, [], ◌∷◌, ◌++◌, length, take, Option, Some, Result, Ok, Err, refl, sym, ap, subst, ◌∙◌, arith, inl, inr, lit<}
 use Rattle.std.specs.Int.{Width, w16, w32, w64, to_be_bytes}
-use Rattle.std.proofs.lemmas.Bool.{cases_lt, eqb-true, le-ltb, lt-ltb}
+use Rattle.std.proofs.lemmas.Bool.{cases_lt, eqb-true, le-leb, lt-leb}
 use Rattle.std.proofs.lemmas.Bool.Decides.{nat_tests}
 use Rattle.std.proofs.lemmas.List.{take_at}
 use Rattle.std.specs.Prelude.{IfOk}
@@ -123,11 +123,11 @@ wide_note n good = record { member_number = good.member_number; has_epoch = good
 
 narrow_spelled : (n : NoteBody) → n.mask.0 < 2 ^ 32 → 2 ∷ note_fields w32 n ≡ note_bytes n
 unfolding note_bytes
-narrow_spelled n narrow = rw (lt-ltb n.mask.0 (2 ^ 32) narrow) refl
+narrow_spelled n narrow = rw (lt-leb _ _ narrow) refl
 
 wide_spelled : (n : NoteBody) → 2 ^ 32 ≤ n.mask.0 → 4 ∷ note_fields w64 n ≡ note_bytes n
 unfolding note_bytes
-wide_spelled n wide = rw (le-ltb n.mask.0 (2 ^ 32) wide) refl
+wide_spelled n wide = rw (le-leb _ _ wide) refl
 
 -- ---- accusations
 

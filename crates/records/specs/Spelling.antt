@@ -1,7 +1,8 @@
 -- Records as bytes: the one spelling of each, and what has a spelling. Numbers are big-endian.
-use Rattle.std.specs.Prelude.{◌≡◌, ℕ, ◌^◌, ◌<◌, ◌≤◌, nat_lt, if◌then◌else◌, List, [], ◌∷◌, ◌++◌, length}
+use Rattle.std.specs.Prelude.{◌≡◌, ℕ, ◌^◌, ◌<◌, ◌≤◌, if◌then◌else◌, List, [], ◌∷◌, ◌++◌, length}
 use Rattle.std.specs.Int.{Width, w16, w32, w64, to_be_bytes}
 use Rattle.ff_ids.specs.declared.TheConstants.{MEMBERS, MASK_BITS}
+use Rattle.ff_ids.specs.Masks.{is_wide}
 use Rattle.ff_ids.specs.declared.NoteBody.{NoteBody}
 use Rattle.ff_ids.specs.declared.AccBody.{AccBody}
 use Rattle.lms_tree.specs.Lms.{key_bytes}
@@ -20,7 +21,7 @@ note_fields width n = to_be_bytes w16 n.member ++ (to_be_bytes w64 n.epoch ++ to
 
 -- kind 2, with the mask in four bytes; or where they don't hold it kind 4, with the mask in eight
 unfoldable pub note_bytes : NoteBody → List ℕ
-note_bytes n = if nat_lt n.mask.0 (2 ^ 32) then 2 ∷ note_fields w32 n else 4 ∷ note_fields w64 n
+note_bytes n = if is_wide n.mask.0 then 4 ∷ note_fields w64 n else 2 ∷ note_fields w32 n
 
 -- kind 3, the accuser, the accused, the epoch, and the ring
 unfoldable pub accusation_bytes : AccBody → List ℕ

@@ -1,7 +1,8 @@
 //! Writing records.
 
-ghost use Rattle.std.specs.Prelude.{◌≡◌, ◌<◌, ◌≤◌, ◌+◌, ◌^◌, true, false, nat_lt, [], ◌++◌, length, IfOk, IfSome, IfNone, OnOk, OnErr};
+ghost use Rattle.std.specs.Prelude.{◌≡◌, ◌<◌, ◌≤◌, ◌+◌, ◌^◌, true, false, [], ◌++◌, length, IfOk, IfSome, IfNone, OnOk, OnErr};
 ghost use Rattle.arrayvec.specs.ArrayVec.{array_vec_len};
+ghost use Rattle.ff_ids.specs.Masks.{is_wide};
 ghost use Rattle.records.specs.Spelling.{IsWritable, HasPort, IsBody, IsCertificate, IsNote, IsAccusation, body_bytes, certificate_bytes, note_bytes, accusation_bytes, record_bytes};
 
 use crate::{Body, CertBody, Record};
@@ -37,8 +38,8 @@ fn certificate_bytes(certificate: &CertBody) -> BodyBytes
 
 /// The mask as a number of four bytes, if they hold it.
 fn narrow(mask: Mask) -> Option<u32>
-    ensures narrow { IfSome result (λ rings. (rings ≡ mask.0) × (nat_lt mask.0 (2 ^ 32) ≡ true)) }
-    ensures wide { IfNone result (nat_lt mask.0 (2 ^ 32) ≡ false) }
+    ensures narrow { IfSome result (λ rings. (rings ≡ mask.0) × (is_wide mask.0 ≡ false)) }
+    ensures wide { IfNone result (is_wide mask.0 ≡ true) }
 {
     u32::try_from(mask.0).ok()
 }

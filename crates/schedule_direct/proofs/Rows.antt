@@ -33,8 +33,8 @@ unfolding judge_line
 heads = (refl, refl, refl, refl, refl, refl)
 
 groups : (second (codes "group 1 1") ≡ Ok (lines.Group 1 1))
-    × (second (codes "group 15 10000") ≡ Ok (lines.Group 15 10000))
-    × (second (codes "group 16 3") ≡ Err bad.Limit)
+    × (second (codes "group 31 10000") ≡ Ok (lines.Group 31 10000))
+    × (second (codes "group 32 3") ≡ Err bad.Limit)
     × (second (codes "group 0 3") ≡ Err bad.Limit)
     × (second (codes "group 1 0") ≡ Err bad.Limit)
     × (second (codes "group 1 10001") ≡ Err bad.Limit)
@@ -122,7 +122,7 @@ tables = (refl, refl, refl, refl, refl, refl, refl, refl)
 
 -- the one spelling of a line
 spellings : (spelled_words lines.Header ≡ codes "fireflies" ∷ codes "1" ∷ codes "direct" ∷ [])
-    × (spelled_words (lines.Group 15 10000) ≡ codes "group" ∷ codes "15" ∷ codes "10000" ∷ [])
+    × (spelled_words (lines.Group 31 10000) ≡ codes "group" ∷ codes "31" ∷ codes "10000" ∷ [])
     × (spelled_words (lines.Member 1023 (0 ∷ 4294967295 ∷ [])) ≡ codes "member" ∷ codes "1023" ∷ codes "0" ∷ codes "4294967295" ∷ [])
     × (spelled_words (lines.Note (record { member = 2; epoch = 3; mask = record { 0 = 7 } })) ≡ codes "note" ∷ codes "2" ∷ codes "3" ∷ codes "7" ∷ [])
     × (spelled_words (lines.Accuse (record { accuser = 1; accused = 2; epoch = 3; ring = record { 0 = 4 } })) ≡ codes "accuse" ∷ codes "1" ∷ codes "2" ∷ codes "3" ∷ codes "4" ∷ [])

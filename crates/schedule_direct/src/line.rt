@@ -10,7 +10,7 @@ use std::marker::Model;
 pub enum DirectLine {
     /// `fireflies 1 direct`
     Header,
-    /// `group T TIMEOUT`: the tolerance, 1 to 15, and the timeout in ticks, 1 to 10,000.
+    /// `group T TIMEOUT`: the tolerance, 1 to 31, and the timeout in ticks, 1 to 10,000.
     Group { t: u8, timeout: u32 },
     /// `member M P0 P1 ..`: a member, and its place on each of the 2t+1 rings.
     Member { member: MemberId, places: PlaceList },

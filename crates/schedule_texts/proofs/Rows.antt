@@ -34,7 +34,7 @@ unfolding judge_line key_in hex_on_literals
 heads = (refl, refl, refl, refl)
 
 groups : (at secret.Headed (codes "group 1 4 1 2 00000000000000000000000000000000") ≡ Ok (secret_lines.Group (record { tag = replicate 16 0; t = 1; timeout = 4; period = 1; misses = 2 })))
-    × (at secret.Headed (codes "group 16 4 1 2 00000000000000000000000000000000") ≡ Err bad.Limit)
+    × (at secret.Headed (codes "group 32 4 1 2 00000000000000000000000000000000") ≡ Err bad.Limit)
     × (at secret.Headed (codes "group 1 10001 1 2 00000000000000000000000000000000") ≡ Err bad.Limit)
     × (at secret.Headed (codes "group 1 4 1001 2 00000000000000000000000000000000") ≡ Err bad.Limit)
     × (at secret.Headed (codes "group 1 4 1 17 00000000000000000000000000000000") ≡ Err bad.Limit)

@@ -10,7 +10,7 @@ use records::Checked;
 pub enum KitLine {
     /// `fireflies 1 kit`
     Header,
-    /// `group T TIMEOUT PERIOD MISSES TAG`: the tolerance, 1 to 15; the timeout in ticks, 1 to 10,000; the period,
+    /// `group T TIMEOUT PERIOD MISSES TAG`: the tolerance, 1 to 31; the timeout in ticks, 1 to 10,000; the period,
     /// 1 to 1,000; the misses, 1 to 16; and the tag in 16 bytes.
     Group(Group),
     /// `kinds W H`: the width, 1, 2, 4 or 8, and the height, 5, 10 or 15.

@@ -9,7 +9,7 @@ use schedule_texts::{Kinds, RosterLine, RosterText, SecretLine, SecretText};
 use std::alloc::Global;
 use std::test::Fail;
 
-const GROUP: &str = "group 15 10000 1000 16 00112233445566778899aAbBcCdDeEfF\n";
+const GROUP: &str = "group 31 10000 1000 16 00112233445566778899aAbBcCdDeEfF\n";
 
 const SECRET: &str = "secret 5A5a5a5a5a5a5a5a5a5a5a5a5a5a5a5a5a5a5a5a5a5a5a5a5a5a5a5a5a5a5a5A\n";
 
@@ -27,7 +27,7 @@ fn a_secret_is_read(rt: HostRuntime) -> Result<(), Fail> {
     );
     let group = Group {
         tag: *b"\x00\x11\x22\x33\x44\x55\x66\x77\x88\x99\xaa\xbb\xcc\xdd\xee\xff",
-        t: 15,
+        t: 31,
         timeout: 10_000,
         period: 1_000,
         misses: 16,

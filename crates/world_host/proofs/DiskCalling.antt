@@ -12,7 +12,7 @@ use Rattle.records.specs.declared.Body.{Body}
 use Rattle.records.specs.declared.Body.TheVariants.{Certificate, Note, Accusation}
 use Rattle.epoch_store.specs.declared.Stored.{Stored}
 use Rattle.epoch_store.specs.declared.seat.Seat.{Seat}
-use Rattle.epoch_store.specs.Seat.{entry_length, next_seat}
+use Rattle.epoch_store.specs.Seat.{next_seat}
 use Rattle.epoch_store.specs.Asked.{put_calls}
 use Rattle.epoch_store.specs.Placed.{PlacedStore, put_on}
 use Rattle.signer.specs.Signing.{MayComeNext, stored_after}
@@ -24,13 +24,14 @@ use Rattle.node_rules.specs.Replies.{first_mask}
 use Rattle.node_rules.specs.Starting.{first_note}
 use Rattle.world_rules.specs.Calls as rules
 use Rattle.world_rules.specs.Calls.{world_storage}
-use Rattle.world_rules.specs.Disks.{Disk, after_put, gate_of, put_passes, seat_of, stopped_in_put}
+use Rattle.world_rules.specs.Disks.{Disk, after_put, put_passes, seat_of, stopped_in_put}
 use Rattle.world_rules.proofs.Alike.{AreAlike, called-same}
 use Rattle.world_rules.proofs.CallSteps.{MaySign}
 use Rattle.world_rules.proofs.Once.{one-started}
 use Rattle.world_host.specs.Held.{ComesAs, HoldsDisk, crashed}
 use Rattle.world_host.specs.OnDisks.{Keeps, placed}
 use Rattle.world_host.specs.DiskLaws.{CallsAsTold, StartsAsTold}
+use Rattle.world_host.proofs.BehindLemmas.{entry_last}
 use Rattle.world_host.proofs.DiskPuts.{put_as_told}
 
 -- ---- what may be signed next may be put
@@ -49,7 +50,7 @@ put-next tag s body d e few small h may =
     let next : MayComeNext e.state body = may-come s e.state body few may in
     let left : e.state.next < s.indexes = left-below e.state.next s.indexes h.within may.left in
     let rises : (stored_after e.state body).next ≡ e.state.next + 1 = next_index e.state body in
-    put_as_told tag s.indexes d e (stored_after e.state body) h (next_is_entry e.state body h.chain.0 (omega (arith, left, small)) next) (next_follows e.state body next) rises (omega (arith, rises, left))
+    put_as_told tag s.indexes d e (stored_after e.state body) h (next_is_entry e.state body (entry_last tag e.state e.older h.chain) (omega (arith, left, small)) next) (next_follows e.state body next) rises (omega (arith, rises, left))
 
 -- ---- a store on the one disk takes what the other does
 
@@ -74,9 +75,7 @@ keeps-behind tag n seat kept came false behind stop c passes state place = let c
 
 -- the seat behind one entry more
 pub one-behind : (tag : List ℕ) (e : Disk) (next : Stored) (seat : Seat) → seat ≡ seat_of tag e → next_seat seat next ≡ seat_of tag (after_put next e)
-one-behind tag e next seat is =
-    let further : gate_of e + entry_length ≡ gate_of (after_put next e) = omega arith in
-    ap (λ (x : Seat). next_seat x next) is ∙ ap (λ (g : ℕ). record { gate = g; tag = tag }) further
+one-behind tag e next seat is = ap (λ (x : Seat). next_seat x next) is
 
 fell-behind : (tag : List ℕ) (n : ℕ) (came : Came) (test : Bool) (behind stop : Disk) → ComesAs tag n came test behind stop → not came.failed ≡ false → HoldsDisk tag n (crashed 0 came.disk) (cond test behind stop)
 fell-behind tag n came true behind stop c fails = let clash : true ≡ false = sym (ap not c.0) ∙ fails in cc

@@ -1,5 +1,5 @@
 -- The calls that open a store, and a crash between two calls.
-use Rattle.std.proofs.Common.{◌≡◌, ◌≢◌, inl, inr, ℕ, zero, suc, ◌+◌, ◌-◌, ◌*◌, ◌<◌, ◌≤◌, Bool, true, false, List, [], ◌∷◌, ◌++◌, length, Option, None, Some, refl, sym, ap, ◌∙◌, subst, arith}
+use Rattle.std.proofs.Common.{◌≡◌, ◌≢◌, inl, inr, ℕ, ◌+◌, ◌-◌, ◌*◌, ◌<◌, ◌≤◌, Bool, true, false, List, [], ◌∷◌, ◌++◌, length, Option, None, Some, is_some, refl, sym, ap, ◌∙◌, subst, arith, append_assoc, length-append}
 use Rattle.std.specs.List.{AllByRecursion}
 use Rattle.std.proofs.lemmas.Bool.{le-leb}
 use Rattle.std.proofs.lemmas.Bool.Decides.{nat_tests}
@@ -9,12 +9,15 @@ use Rattle.ports.specs.declared.memory_disk.Arm.{Arm}
 use Rattle.ports.specs.DiskCalls.{DiskCall}
 use Rattle.ports.specs.DiskSteps.{Came, runs}
 use Rattle.ports.specs.MemoryDisk.{DiskState, is_settled, moment_of, picked, stopped_by}
-use Rattle.epoch_store.specs.Seat.{store_length}
-use Rattle.epoch_store.specs.Asked.{gate_reads, open_calls}
-use Rattle.epoch_store.specs.Store.{IsChain, front}
+use Rattle.epoch_store.specs.declared.seat.Seat.{Seat}
+use Rattle.epoch_store.specs.declared.Stored.{Stored}
+use Rattle.epoch_store.specs.Seat.{entry_for, seat_behind, seat_from, store_length}
+use Rattle.epoch_store.specs.Asked.{entry_reads, gate_reads, open_calls}
+use Rattle.epoch_store.specs.Store.{IsChain, front, made_wide, put_entries}
 use Rattle.world_rules.specs.Disks.{ArmedStop, Disk, after_calls, lets_pass, opening_calls, passed, stopped}
 use Rattle.world_host.specs.Held.{ComesAs, HoldsDisk, armed_as, crashed}
-use Rattle.world_host.specs.DiskLaws.{OpensAsTold, CrashesAsTold, ArmsAsTold}
+use Rattle.world_host.specs.DiskLaws.{OpensAsTold, CrashesAsTold, ArmsAsTold, all_reads}
+use Rattle.world_host.proofs.BehindLemmas.{first_of, reads_same}
 use Rattle.world_host.proofs.DiskTurns.{Up, Lets, minus, none_behind, stop_on}
 use Rattle.world_host.proofs.DiskGarbling.{picked_settled}
 use Rattle.world_host.proofs.DiskIdle.{IsIdle, Kin, Passed, Stopped, idle_runs, kin, times_called}
@@ -68,12 +71,16 @@ pub record CameUp (d r : DiskState) (image : List ℕ) : Type 0 where
   pub sound : r.failing ≡ []
   pub runs : r.stopped ≡ false
 
+-- The bytes of the file up to the gate behind the entries.
+abbrev pub front_of : List ℕ → Disk → List ℕ
+front_of tag e = front (made_wide e.state e.older) tag (put_entries tag e.state e.older)
+
 -- The file that a stop has left is a store of these entries.
 pub record LeftStore (tag image : List ℕ) (e : Disk) : Type 0 where
   pub shut : ℕ
   pub rest : List ℕ
   pub closed : shut ≢ 1
-  pub file : image ≡ front tag (e.state ∷ e.older) ++ shut ∷ rest
+  pub file : image ≡ front_of tag e ++ shut ∷ rest
 
 pub moment_came_up : (d r : DiskState) (image : List ℕ) → CameUp d r image → moment_of r ≡ settled image
 moment_came_up d r image c = rw (c.start, c.log) refl
@@ -81,7 +88,7 @@ moment_came_up d r image c = rw (c.start, c.log) refl
 -- Entries that a key with so many indexes allows.
 pub record FitsKey (tag : List ℕ) (n : ℕ) (e : Disk) : Type 0 where
   pub long : length tag ≡ 32
-  pub chain : IsChain (e.state ∷ e.older)
+  pub chain : IsChain (first_of tag e.state e.older) (put_entries tag e.state e.older)
   pub few : length e.older ≤ e.state.next
   pub within : e.state.next ≤ n
 
@@ -115,7 +122,7 @@ held_stopped : (tag : List ℕ) (n : ℕ) (d : DiskState) (e : Disk) (arm : Arm)
 held_stopped tag n d e arm h up =
     let r = times_called arm.calls d in
     let k = kin arm.calls d in
-    let image = front tag (e.state ∷ e.older) ++ h.shut ∷ h.rest in
+    let image = front_of tag e ++ h.shut ∷ h.rest in
     let same : moment_of r ≡ settled image = rw (k.start, k.log) h.file in
     held_fresh tag image n d (crashed 0 (stop_in arm r)) e (fits_key tag n d e h) h.room (omega (arith, h.changes))
     (record {
@@ -158,13 +165,22 @@ stops-test (Some stop) k arm is below =
 
 -- ---- the calls
 
-idle_reads : (gates : ℕ) (earlier : List DiskCall) → AllByRecursion IsIdle earlier → AllByRecursion IsIdle (gate_reads gates ++ earlier)
-idle_reads zero earlier idle = idle
-idle_reads (suc gates) earlier idle = (tt, idle_reads gates earlier idle)
+idle_gate : (seat : Seat) (moved : Bool) (earlier : List DiskCall) → AllByRecursion IsIdle earlier → AllByRecursion IsIdle (gate_reads seat moved ++ earlier)
+idle_gate seat false earlier idle = (tt, idle)
+idle_gate seat true earlier idle = (tt, (tt, idle))
 
-length-reads : (gates : ℕ) (earlier : List DiskCall) → length (gate_reads gates ++ earlier) ≡ gates + length earlier
-length-reads zero earlier = omega arith
-length-reads (suc gates) earlier = omega (arith, length-reads gates earlier)
+idle_entries : (first : Seat) (tag : List ℕ) (state : Stored) (older : List Stored) (earlier : List DiskCall) → AllByRecursion IsIdle earlier → AllByRecursion IsIdle (entry_reads first (put_entries tag state older) ++ earlier)
+idle_entries first tag state [] earlier idle = idle_gate first false earlier idle
+idle_entries first tag state (before ∷ older) earlier idle =
+    let entries = put_entries tag before older in
+    let seat : Seat = seat_from first entries in
+    let moved : Bool = is_some (entry_for (seat_behind tag before older) state).moved in
+    subst (AllByRecursion IsIdle) (sym (append_assoc (gate_reads seat moved) (entry_reads first entries) earlier)) (idle_gate seat moved (entry_reads first entries ++ earlier) (idle_entries first tag before older earlier idle))
+
+length-all : (tag name : List ℕ) (e : Disk) → length (all_reads tag name e) ≡ opening_calls e
+length-all tag name e =
+    let reads : List DiskCall = entry_reads (first_of tag e.state e.older) (put_entries tag e.state e.older) in
+    omega (arith, length-append reads (open_calls name), reads_same tag [] (first_of tag e.state e.older) (first_of [] e.state e.older) e.state e.older)
 
 comes_after : (tag : List ℕ) (n : ℕ) (d : DiskState) (e : Disk) (came : Came) (k count : ℕ) → k ≡ count → HoldsDisk tag n d e → Passed (armed_as e.armed) d k came → ComesAs tag n came (lets_pass e.armed count) (after_calls count e) (stopped e)
 comes_after tag n d e came k count same h p =
@@ -179,9 +195,10 @@ comes_stopped tag n d e came k count same h s =
 
 pub open_as_told : OpensAsTold
 open_as_told tag name n d e h =
-    let calls = gate_reads (length e.older + 2) ++ open_calls name in
-    let count : length calls ≡ opening_calls e = omega (arith, length-reads (length e.older + 2) (open_calls name)) in
-    elim (idle_runs calls (armed_as e.armed) d (idle_reads (length e.older + 2) (open_calls name) (tt, (tt, (tt, tt)))) (settled_of tag n d e h) (up_of tag n d e h)) [
+    let calls = all_reads tag name e in
+    let idle = idle_entries (first_of tag e.state e.older) tag e.state e.older (open_calls name) (tt, (tt, (tt, tt))) in
+    let count : length calls ≡ opening_calls e = length-all tag name e in
+    elim (idle_runs calls (armed_as e.armed) d (tt, idle) (settled_of tag n d e h) (up_of tag n d e h)) [
       | inl p ↦ comes_after tag n d e (runs calls d) (length calls) (opening_calls e) count h p
       | inr s ↦ comes_stopped tag n d e (runs calls d) (length calls) (opening_calls e) count h s
     ]
@@ -190,7 +207,7 @@ open_as_told tag name n d e h =
 
 pub crash_as_told : CrashesAsTold
 crash_as_told tag n outcome d e h =
-    let image = front tag (e.state ∷ e.older) ++ h.shut ∷ h.rest in
+    let image = front_of tag e ++ h.shut ∷ h.rest in
     let start : picked outcome (moment_of d) ≡ image = ap (picked outcome) h.file ∙ picked_settled outcome image in
     record {
       shut = h.shut;

@@ -3,7 +3,7 @@ use Rattle.std.proofs.Common.{◌≡◌, ◌≢◌, ◌⊎◌, inl, inr, ℕ, �
 use Rattle.std.specs.Prelude.{◌%◌, nat_le}
 use Rattle.std.proofs.lemmas.Bool.{cases_lt, cases_Bool, le-leb, lt-ltb, eqb-true, eq-eqb}
 use Rattle.std.proofs.lemmas.Bool.Decides.{nat_tests}
-use Rattle.std.proofs.lemmas.List.{take_at, drop_at}
+use Rattle.std.proofs.lemmas.List.{take_at, drop_at, drop-drop}
 use Rattle.ports.specs.Disk.{Moment, settled, written, wrote}
 use Rattle.ports.specs.declared.memory_disk.Arm.{Arm}
 use Rattle.ports.specs.declared.memory_disk.Change.TheVariants.{Synced}
@@ -11,17 +11,19 @@ use Rattle.ports.specs.DiskCalls.{DiskCall, ToWrite, ToSync}
 use Rattle.ports.specs.DiskSteps.{Came, makes, runs}
 use Rattle.ports.specs.MemoryDisk.{DiskState, fits, garbled, is_settled, moment_of, picked, stopped_by, with_write}
 use Rattle.epoch_store.specs.declared.Stored.{Stored}
-use Rattle.epoch_store.specs.Seat.{entry_length}
+use Rattle.epoch_store.specs.declared.seat.Seat.{Seat}
+use Rattle.epoch_store.specs.Seat.{entry_for}
 use Rattle.epoch_store.specs.Asked.{put_calls}
-use Rattle.epoch_store.specs.Store.{Follows, IsEntry, StoreAt, front, spelled}
-use Rattle.epoch_store.proofs.FileLemmas.{front-length, written_within, with_entry}
+use Rattle.epoch_store.specs.Store.{Follows, IsEntry, made_wide, put_entries, spelled}
+use Rattle.epoch_store.proofs.FileLemmas.{front-length, written_within}
 use Rattle.world_rules.specs.Disks as rules
 use Rattle.world_rules.specs.Disks.{ArmedStop, Disk, after_put, gate_of, leaves_open, opens_gate, put_passes, seat_of, stopped, stopped_in_put}
 use Rattle.world_host.specs.Held.{ComesAs, HoldsDisk, armed_as, crashed}
 use Rattle.world_host.specs.DiskLaws.{PutsAsTold}
 use Rattle.world_host.proofs.DiskTurns.{Up, Lets, Passing, Stopping, minus, minus_none, none_behind, pass_on, passes_next, stop_on, stops_next, up_next}
 use Rattle.world_host.proofs.DiskGarbling.{garbled_front, garbled_one}
-use Rattle.world_host.proofs.DiskOpening.{CameUp, FitsKey, comes_pass, comes_stop, fits_key, held_fresh, lets-test, minus-armed, up_of}
+use Rattle.world_host.proofs.BehindLemmas.{chain_put, fits_behind, same_behind, seats_are}
+use Rattle.world_host.proofs.DiskOpening.{CameUp, FitsKey, comes_pass, comes_stop, fits_key, front_of, held_fresh, lets-test, minus-armed, up_of}
 
 -- ---- one call
 
@@ -47,9 +49,6 @@ sync_stops d outcome turn = rw turn refl
 
 -- ---- the file
 
-length-spelled : (e : Stored) → length (spelled e) ≡ 16
-length-spelled e = refl
-
 -- one byte is written over
 written_at : (head tail : List ℕ) (gate x y : ℕ) → gate ≡ length head → written gate (y ∷ []) (head ++ x ∷ tail) ≡ head ++ y ∷ tail
 written_at head tail gate x y place =
@@ -59,29 +58,25 @@ written_at head tail gate x y place =
     let behind : drop (gate + 1) (head ++ x ∷ tail) ≡ tail = rw whole (drop_at (head ++ x ∷ []) tail (gate + 1) (omega (arith, place, length-append head (x ∷ [])))) in
     rw (written_within gate (y ∷ []) (head ++ x ∷ tail) (omega arith) within, before, behind) (append_assoc head (y ∷ []) tail)
 
--- What the first write makes of the file.
-pub record Shape (tag : List ℕ) (e : Disk) (kept : Stored) (shut : ℕ) (image : List ℕ) : Type 0 where
-  pub rest : List ℕ
-  pub full : written (gate_of e + 1) (spelled kept ++ 0 ∷ []) image ≡ front tag (e.state ∷ e.older) ++ shut ∷ (spelled kept ++ 0 ∷ rest)
+-- bytes are written behind one byte
+written_behind : (head rest bytes : List ℕ) (gate x : ℕ) → gate ≡ length head → 0 < length bytes → written (gate + 1) bytes (head ++ x ∷ rest) ≡ head ++ x ∷ (bytes ++ drop (length bytes) rest)
+written_behind head rest bytes gate x place some =
+    let before : List ℕ = head ++ x ∷ [] in
+    let image : List ℕ = before ++ rest in
+    let size : length before ≡ gate + 1 = omega (arith, place, length-append head (x ∷ [])) in
+    let within : gate + 1 ≤ length image = omega (arith, size, length-append before rest) in
+    let in_front : take (gate + 1) image ≡ before = take_at before rest (gate + 1) size in
+    let behind : drop (gate + 1 + length bytes) image ≡ drop (length bytes) rest = sym (drop-drop (length bytes) (gate + 1) image) ∙ ap (drop (length bytes)) (drop_at before rest (gate + 1) size) in
+    ap (written (gate + 1) bytes) (sym (append_assoc head (x ∷ []) rest))
+    ∙ written_within (gate + 1) bytes image some within
+    ∙ ap (λ (z : List ℕ). z ++ bytes ++ drop (gate + 1 + length bytes) image) in_front
+    ∙ ap (λ (z : List ℕ). before ++ bytes ++ z) behind
+    ∙ append_assoc before bytes (drop (length bytes) rest)
+    ∙ append_assoc head (x ∷ []) (bytes ++ drop (length bytes) rest)
 
-pub place_of : (tag : List ℕ) (e : Disk) → length tag ≡ 32 → gate_of e ≡ length (front tag (e.state ∷ e.older))
-place_of tag e long = sym (front-length tag (e.state ∷ e.older) long)
-
-shape_of : (tag : List ℕ) (n : ℕ) (d : DiskState) (e : Disk) (kept : Stored) (h : HoldsDisk tag n d e) → Shape tag e kept h.shut (front tag (e.state ∷ e.older) ++ h.shut ∷ h.rest)
-shape_of tag n d e kept h =
-    let image = front tag (e.state ∷ e.older) ++ h.shut ∷ h.rest in
-    let store : StoreAt tag image e.state (seat_of tag e) = record {
-      older = e.older;
-      shut = h.shut;
-      rest = h.rest;
-      chain = h.chain;
-      closed = h.closed;
-      bytes = refl;
-      place = place_of tag e h.long;
-      in_force = refl;
-    } in
-    let found = with_entry tag image (spelled kept ++ 0 ∷ []) e.state kept (seat_of tag e) store refl in
-    record { rest = found.0; full = found.1 }
+pub place_of : (tag : List ℕ) (n : ℕ) (d : DiskState) (e : Disk) → HoldsDisk tag n d e → (seat_of tag e).gate ≡ length (front_of tag e)
+place_of tag n d e h =
+    ap (λ (s : Seat). s.gate) (seats_are tag e.state e.older) ∙ sym (front-length (made_wide e.state e.older) tag (put_entries tag e.state e.older) h.long h.chain)
 
 -- ---- what a stop leaves in the first half
 
@@ -142,45 +137,45 @@ lets-fewer : (a : Option Arm) (j k : ℕ) → j ≤ k → Lets a k → Lets a j
 lets-fewer None j k fewer lets = tt
 lets-fewer (Some arm) j k fewer lets = omega (arith, fewer, lets)
 
-abbrev bytes_of : Stored → List ℕ
-bytes_of kept = spelled kept ++ 0 ∷ []
+-- the bytes that are written behind the gate
+abbrev bytes_of : List ℕ → Disk → Stored → List ℕ
+bytes_of tag e kept = spelled (seat_of tag e).wide (entry_for (seat_of tag e) kept) ++ 0 ∷ []
 
-length-bytes : (kept : Stored) → length (bytes_of kept) ≡ entry_length
-length-bytes kept = omega (arith, length-append (spelled kept) (0 ∷ []), length-spelled kept)
+abbrev first_call : ℕ → List ℕ → List DiskCall
+first_call gate bytes = ToWrite (gate + 1) bytes ∷ []
 
-abbrev first_call : ℕ → Stored → List DiskCall
-first_call gate kept = ToWrite (gate + 1) (bytes_of kept) ∷ []
+abbrev second_call : ℕ → List ℕ → List DiskCall
+second_call gate bytes = ToSync ∷ first_call gate bytes
 
-abbrev second_call : ℕ → Stored → List DiskCall
-second_call gate kept = ToSync ∷ first_call gate kept
+abbrev third_call : ℕ → List ℕ → List DiskCall
+third_call gate bytes = ToWrite gate (1 ∷ []) ∷ second_call gate bytes
 
-abbrev third_call : ℕ → Stored → List DiskCall
-third_call gate kept = ToWrite gate (1 ∷ []) ∷ second_call gate kept
+abbrev fourth_call : ℕ → List ℕ → List DiskCall
+fourth_call gate bytes = ToSync ∷ third_call gate bytes
 
-abbrev fourth_call : ℕ → Stored → List DiskCall
-fourth_call gate kept = ToSync ∷ third_call gate kept
+abbrev first_disk : ℕ → List ℕ → DiskState → DiskState
+first_disk gate bytes d = with_write (gate + 1) bytes (pass_on d)
 
-abbrev first_disk : ℕ → Stored → DiskState → DiskState
-first_disk gate kept d = with_write (gate + 1) (bytes_of kept) (pass_on d)
+abbrev second_disk : ℕ → List ℕ → DiskState → DiskState
+second_disk gate bytes d = with_synced (pass_on (first_disk gate bytes d))
 
-abbrev second_disk : ℕ → Stored → DiskState → DiskState
-second_disk gate kept d = with_synced (pass_on (first_disk gate kept d))
+abbrev third_disk : ℕ → List ℕ → DiskState → DiskState
+third_disk gate bytes d = with_write gate (1 ∷ []) (pass_on (second_disk gate bytes d))
 
-abbrev third_disk : ℕ → Stored → DiskState → DiskState
-third_disk gate kept d = with_write gate (1 ∷ []) (pass_on (second_disk gate kept d))
-
-abbrev fourth_disk : ℕ → Stored → DiskState → DiskState
-fourth_disk gate kept d = with_synced (pass_on (third_disk gate kept d))
+abbrev fourth_disk : ℕ → List ℕ → DiskState → DiskState
+fourth_disk gate bytes d = with_synced (pass_on (third_disk gate bytes d))
 
 -- What a put rests on.
-pub record Puts (d : DiskState) (gate : ℕ) (kept : Stored) (head tail image : List ℕ) (shut : ℕ) : Type 0 where
+pub record Puts (d : DiskState) (gate : ℕ) (bytes head tail image : List ℕ) (shut : ℕ) : Type 0 where
   pub place : gate ≡ length head
   pub closed : shut ≢ 1
   pub rest : List ℕ
   pub image_is : image ≡ head ++ shut ∷ rest
   pub was : moment_of d ≡ settled image
-  pub full : written (gate + 1) (bytes_of kept) image ≡ head ++ shut ∷ tail
-  pub room : gate + 18 ≤ d.room
+  pub full : written (gate + 1) bytes image ≡ head ++ shut ∷ tail
+  pub some : 0 < length bytes
+  pub few : length bytes ≤ 64
+  pub room : gate + 1 + length bytes ≤ d.room
   pub changes : length d.log + 4 ≤ d.changes
 
 -- These calls passed, and this is the disk, with this armed.
@@ -191,64 +186,63 @@ pub record After (calls : List DiskCall) (d r : DiskState) (armed : Option Arm) 
 with_log : (d r : DiskState) (armed : Option Arm) → Up d armed → r.armed ≡ d.armed → r.failing ≡ d.failing → r.stopped ≡ d.stopped → Up r armed
 with_log d r armed u a f s = record { is = a ∙ u.is; sound = f ∙ u.sound; runs = s ∙ u.runs }
 
-fit_first : (d : DiskState) (gate : ℕ) (kept : Stored) (head tail image : List ℕ) (shut : ℕ) → Puts d gate kept head tail image shut → fits d (gate + 1) (length (bytes_of kept)) ≡ true
-fit_first d gate kept head tail image shut p =
-    let size = length-bytes kept in
-    fits_is d (gate + 1) (length (bytes_of kept)) (omega (arith, size)) (omega (arith, size)) (omega (arith, size, p.room)) (omega (arith, p.changes))
+fit_first : (d : DiskState) (gate : ℕ) (bytes head tail image : List ℕ) (shut : ℕ) → Puts d gate bytes head tail image shut → fits d (gate + 1) (length bytes) ≡ true
+fit_first d gate bytes head tail image shut p =
+    fits_is d (gate + 1) (length bytes) p.some p.few p.room (omega (arith, p.changes))
 
-fit_third : (d : DiskState) (gate : ℕ) (kept : Stored) (head tail image : List ℕ) (shut : ℕ) → Puts d gate kept head tail image shut → fits (second_disk gate kept d) gate 1 ≡ true
-fit_third d gate kept head tail image shut p =
-    fits_is (second_disk gate kept d) gate 1 (omega arith) (omega arith) (omega (arith, p.room)) (omega (arith, p.changes))
+fit_third : (d : DiskState) (gate : ℕ) (bytes head tail image : List ℕ) (shut : ℕ) → Puts d gate bytes head tail image shut → fits (second_disk gate bytes d) gate 1 ≡ true
+fit_third d gate bytes head tail image shut p =
+    fits_is (second_disk gate bytes d) gate 1 (omega arith) (omega arith) (omega (arith, p.room)) (omega (arith, p.changes))
 
-moment_first : (d : DiskState) (gate : ℕ) (kept : Stored) (head tail image : List ℕ) (shut : ℕ) → Puts d gate kept head tail image shut → moment_of (first_disk gate kept d) ≡ wrote (gate + 1) (bytes_of kept) (settled image)
-moment_first d gate kept head tail image shut p = ap (wrote (gate + 1) (bytes_of kept)) p.was
+moment_first : (d : DiskState) (gate : ℕ) (bytes head tail image : List ℕ) (shut : ℕ) → Puts d gate bytes head tail image shut → moment_of (first_disk gate bytes d) ≡ wrote (gate + 1) bytes (settled image)
+moment_first d gate bytes head tail image shut p = ap (wrote (gate + 1) bytes) p.was
 
-moment_second : (d : DiskState) (gate : ℕ) (kept : Stored) (head tail image : List ℕ) (shut : ℕ) → Puts d gate kept head tail image shut → moment_of (second_disk gate kept d) ≡ settled (head ++ shut ∷ tail)
-moment_second d gate kept head tail image shut p =
-    ap settled (ap (λ (m : Moment). written (gate + 1) (bytes_of kept) m.image) p.was ∙ p.full)
+moment_second : (d : DiskState) (gate : ℕ) (bytes head tail image : List ℕ) (shut : ℕ) → Puts d gate bytes head tail image shut → moment_of (second_disk gate bytes d) ≡ settled (head ++ shut ∷ tail)
+moment_second d gate bytes head tail image shut p =
+    ap settled (ap (λ (m : Moment). written (gate + 1) bytes m.image) p.was ∙ p.full)
 
-moment_third : (d : DiskState) (gate : ℕ) (kept : Stored) (head tail image : List ℕ) (shut : ℕ) → Puts d gate kept head tail image shut → moment_of (third_disk gate kept d) ≡ wrote gate (1 ∷ []) (settled (head ++ shut ∷ tail))
-moment_third d gate kept head tail image shut p = ap (wrote gate (1 ∷ [])) (moment_second d gate kept head tail image shut p)
+moment_third : (d : DiskState) (gate : ℕ) (bytes head tail image : List ℕ) (shut : ℕ) → Puts d gate bytes head tail image shut → moment_of (third_disk gate bytes d) ≡ wrote gate (1 ∷ []) (settled (head ++ shut ∷ tail))
+moment_third d gate bytes head tail image shut p = ap (wrote gate (1 ∷ [])) (moment_second d gate bytes head tail image shut p)
 
-moment_fourth : (d : DiskState) (gate : ℕ) (kept : Stored) (head tail image : List ℕ) (shut : ℕ) → Puts d gate kept head tail image shut → moment_of (fourth_disk gate kept d) ≡ settled (head ++ 1 ∷ tail)
-moment_fourth d gate kept head tail image shut p =
-    ap settled (ap (λ (m : Moment). written gate (1 ∷ []) m.image) (moment_second d gate kept head tail image shut p) ∙ written_at head tail gate shut 1 p.place)
+moment_fourth : (d : DiskState) (gate : ℕ) (bytes head tail image : List ℕ) (shut : ℕ) → Puts d gate bytes head tail image shut → moment_of (fourth_disk gate bytes d) ≡ settled (head ++ 1 ∷ tail)
+moment_fourth d gate bytes head tail image shut p =
+    ap settled (ap (λ (m : Moment). written gate (1 ∷ []) m.image) (moment_second d gate bytes head tail image shut p) ∙ written_at head tail gate shut 1 p.place)
 
-after_first : (d : DiskState) (gate : ℕ) (kept : Stored) (head tail image : List ℕ) (shut : ℕ) (a : Option Arm) → Puts d gate kept head tail image shut → Up d (minus 0 a) → Lets a 1 → After (first_call gate kept) d (first_disk gate kept d) (minus 1 a)
-after_first d gate kept head tail image shut a p u lets =
+after_first : (d : DiskState) (gate : ℕ) (bytes head tail image : List ℕ) (shut : ℕ) (a : Option Arm) → Puts d gate bytes head tail image shut → Up d (minus 0 a) → Lets a 1 → After (first_call gate bytes) d (first_disk gate bytes d) (minus 1 a)
+after_first d gate bytes head tail image shut a p u lets =
     let turn = passes_next d a 0 u lets in
     record {
-      so = write_passes d (gate + 1) (bytes_of kept) turn (fit_first d gate kept head tail image shut p);
-      up = with_log (pass_on d) (first_disk gate kept d) (minus 1 a) (up_next d a 0 u lets) refl refl refl;
+      so = write_passes d (gate + 1) bytes turn (fit_first d gate bytes head tail image shut p);
+      up = with_log (pass_on d) (first_disk gate bytes d) (minus 1 a) (up_next d a 0 u lets) refl refl refl;
     }
 
-after_second : (d : DiskState) (gate : ℕ) (kept : Stored) (head tail image : List ℕ) (shut : ℕ) (a : Option Arm) → Puts d gate kept head tail image shut → After (first_call gate kept) d (first_disk gate kept d) (minus 1 a) → Lets a 2 → After (second_call gate kept) d (second_disk gate kept d) (minus 2 a)
-after_second d gate kept head tail image shut a p f lets =
-    let now = first_disk gate kept d in
+after_second : (d : DiskState) (gate : ℕ) (bytes head tail image : List ℕ) (shut : ℕ) (a : Option Arm) → Puts d gate bytes head tail image shut → After (first_call gate bytes) d (first_disk gate bytes d) (minus 1 a) → Lets a 2 → After (second_call gate bytes) d (second_disk gate bytes d) (minus 2 a)
+after_second d gate bytes head tail image shut a p f lets =
+    let now = first_disk gate bytes d in
     let turn = passes_next now a 1 f.up lets in
-    let torn : is_settled (moment_of now) ≡ false = ap is_settled (moment_first d gate kept head tail image shut p) in
+    let torn : is_settled (moment_of now) ≡ false = ap is_settled (moment_first d gate bytes head tail image shut p) in
     record {
       so = ap (makes ToSync) f.so ∙ sync_passes now turn torn (omega (arith, p.changes));
-      up = with_log (pass_on now) (second_disk gate kept d) (minus 2 a) (up_next now a 1 f.up lets) refl refl refl;
+      up = with_log (pass_on now) (second_disk gate bytes d) (minus 2 a) (up_next now a 1 f.up lets) refl refl refl;
     }
 
-after_third : (d : DiskState) (gate : ℕ) (kept : Stored) (head tail image : List ℕ) (shut : ℕ) (a : Option Arm) → Puts d gate kept head tail image shut → After (second_call gate kept) d (second_disk gate kept d) (minus 2 a) → Lets a 3 → After (third_call gate kept) d (third_disk gate kept d) (minus 3 a)
-after_third d gate kept head tail image shut a p f lets =
-    let now = second_disk gate kept d in
+after_third : (d : DiskState) (gate : ℕ) (bytes head tail image : List ℕ) (shut : ℕ) (a : Option Arm) → Puts d gate bytes head tail image shut → After (second_call gate bytes) d (second_disk gate bytes d) (minus 2 a) → Lets a 3 → After (third_call gate bytes) d (third_disk gate bytes d) (minus 3 a)
+after_third d gate bytes head tail image shut a p f lets =
+    let now = second_disk gate bytes d in
     let turn = passes_next now a 2 f.up lets in
     record {
-      so = ap (makes (ToWrite gate (1 ∷ []))) f.so ∙ write_passes now gate (1 ∷ []) turn (fit_third d gate kept head tail image shut p);
-      up = with_log (pass_on now) (third_disk gate kept d) (minus 3 a) (up_next now a 2 f.up lets) refl refl refl;
+      so = ap (makes (ToWrite gate (1 ∷ []))) f.so ∙ write_passes now gate (1 ∷ []) turn (fit_third d gate bytes head tail image shut p);
+      up = with_log (pass_on now) (third_disk gate bytes d) (minus 3 a) (up_next now a 2 f.up lets) refl refl refl;
     }
 
-after_fourth : (d : DiskState) (gate : ℕ) (kept : Stored) (head tail image : List ℕ) (shut : ℕ) (a : Option Arm) → Puts d gate kept head tail image shut → After (third_call gate kept) d (third_disk gate kept d) (minus 3 a) → Lets a 4 → After (fourth_call gate kept) d (fourth_disk gate kept d) (minus 4 a)
-after_fourth d gate kept head tail image shut a p f lets =
-    let now = third_disk gate kept d in
+after_fourth : (d : DiskState) (gate : ℕ) (bytes head tail image : List ℕ) (shut : ℕ) (a : Option Arm) → Puts d gate bytes head tail image shut → After (third_call gate bytes) d (third_disk gate bytes d) (minus 3 a) → Lets a 4 → After (fourth_call gate bytes) d (fourth_disk gate bytes d) (minus 4 a)
+after_fourth d gate bytes head tail image shut a p f lets =
+    let now = third_disk gate bytes d in
     let turn = passes_next now a 3 f.up lets in
-    let torn : is_settled (moment_of now) ≡ false = ap is_settled (moment_third d gate kept head tail image shut p) in
+    let torn : is_settled (moment_of now) ≡ false = ap is_settled (moment_third d gate bytes head tail image shut p) in
     record {
       so = ap (makes ToSync) f.so ∙ sync_passes now turn torn (omega (arith, p.changes));
-      up = with_log (pass_on now) (fourth_disk gate kept d) (minus 4 a) (up_next now a 3 f.up lets) refl refl refl;
+      up = with_log (pass_on now) (fourth_disk gate bytes d) (minus 4 a) (up_next now a 3 f.up lets) refl refl refl;
     }
 
 -- ---- what comes up behind a stop
@@ -278,18 +272,28 @@ with_it kept e = rules.with_entry kept e
 fits_with : (tag : List ℕ) (n : ℕ) (d : DiskState) (e : Disk) (kept : Stored) → MayPut tag n d e kept → FitsKey tag n (with_it kept e)
 fits_with tag n d e kept m = record {
   long = m.held.long;
-  chain = (m.entry, m.follows, m.held.chain);
+  chain = chain_put tag e.state kept e.older m.held.long m.entry m.follows m.held.chain;
   few = omega (arith, m.held.few, m.rises);
   within = m.within;
 }
 
--- what was written first, and what stands behind it
-abbrev tail_of : Stored → List ℕ → List ℕ
-tail_of kept rest = spelled kept ++ 0 ∷ rest
+-- what stands behind the gate, once that was written
+abbrev tail_of : List ℕ → Disk → Stored → List ℕ → List ℕ
+tail_of tag e kept rest = bytes_of tag e kept ++ drop (length (bytes_of tag e kept)) rest
+
+-- what stands behind the closed gate of the entry
+abbrev rest_of : List ℕ → Disk → Stored → List ℕ → List ℕ
+rest_of tag e kept rest = drop (length (bytes_of tag e kept)) rest
 
 -- with an open gate, the file has one more entry
-opened_tail : (tag : List ℕ) (e : Disk) (kept : Stored) (rest : List ℕ) → front tag (e.state ∷ e.older) ++ 1 ∷ tail_of kept rest ≡ front tag (kept ∷ e.state ∷ e.older) ++ 0 ∷ rest
-opened_tail tag e kept rest = sym (append_assoc (front tag (e.state ∷ e.older)) (1 ∷ spelled kept) (0 ∷ rest))
+opened_tail : (tag : List ℕ) (e : Disk) (kept : Stored) (rest : List ℕ) → front_of tag e ++ 1 ∷ tail_of tag e kept rest ≡ front_of tag (with_it kept e) ++ 0 ∷ rest_of tag e kept rest
+opened_tail tag e kept rest =
+    let seat : Seat = seat_of tag e in
+    let one = entry_for seat kept in
+    let more : List ℕ = rest_of tag e kept rest in
+    let so : front_of tag e ++ 1 ∷ tail_of tag e kept rest ≡ (front_of tag e ++ 1 ∷ spelled seat.wide one) ++ 0 ∷ more =
+    ap (λ (z : List ℕ). front_of tag e ++ 1 ∷ z) (append_assoc (spelled seat.wide one) (0 ∷ []) more) ∙ sym (append_assoc (front_of tag e) (1 ∷ spelled seat.wide one) (0 ∷ more)) in
+    so ∙ ap (λ (x : Seat). (front_of tag e ++ 1 ∷ spelled x.wide one) ++ 0 ∷ more) (seats_are tag e.state e.older)
 
 pub not_one : ◌≢◌ {A = ℕ} 0 1
 not_one same = omega (arith, same)
@@ -298,38 +302,47 @@ not_by_test : (byte : ℕ) → false ≡ eqb byte 1 → byte ≢ 1
 not_by_test byte closed same = let one = eq-eqb byte 1 same in cc
 
 -- the second half: the gate is open or not
-half_second : (tag image rest : List ℕ) (n : ℕ) (d r : DiskState) (e : Disk) (kept : Stored) (wide : Bool) → MayPut tag n d e kept → CameUp d r image → LeftGate wide (front tag (e.state ∷ e.older)) (tail_of kept rest) image → HoldsDisk tag n r (stopped (cond wide (with_it kept e) e))
+half_second : (tag image rest : List ℕ) (n : ℕ) (d r : DiskState) (e : Disk) (kept : Stored) (wide : Bool) → MayPut tag n d e kept → CameUp d r image → LeftGate wide (front_of tag e) (tail_of tag e kept rest) image → HoldsDisk tag n r (stopped (cond wide (with_it kept e) e))
 half_second tag image rest n d r e kept true m c g =
     let one : g.byte ≡ 1 = eqb-true g.byte 1 (sym g.opens) in
-    let is : image ≡ front tag (e.state ∷ e.older) ++ 1 ∷ tail_of kept rest = rw one at g.is in
+    let is : image ≡ front_of tag e ++ 1 ∷ tail_of tag e kept rest = rw one at g.is in
     held_fresh tag image n d r (with_it kept e) (fits_with tag n d e kept m) m.held.room (omega (arith, m.held.changes, m.rises)) c
-    (record { shut = 0; rest = rest; closed = not_one; file = is ∙ opened_tail tag e kept rest })
+    (record { shut = 0; rest = rest_of tag e kept rest; closed = not_one; file = is ∙ opened_tail tag e kept rest })
 half_second tag image rest n d r e kept false m c g =
     held_fresh tag image n d r e (fits_key tag n d e m.held) m.held.room (omega (arith, m.held.changes)) c
-    (record { shut = g.byte; rest = tail_of kept rest; closed = not_by_test g.byte g.opens; file = g.is })
+    (record { shut = g.byte; rest = tail_of tag e kept rest; closed = not_by_test g.byte g.opens; file = g.is })
 
 -- ---- a put
 
-puts_of : (tag : List ℕ) (n : ℕ) (d : DiskState) (e : Disk) (kept : Stored) (m : MayPut tag n d e kept) (s : Shape tag e kept m.held.shut (front tag (e.state ∷ e.older) ++ m.held.shut ∷ m.held.rest)) → Puts d (gate_of e) kept (front tag (e.state ∷ e.older)) (tail_of kept s.rest) (front tag (e.state ∷ e.older) ++ m.held.shut ∷ m.held.rest) m.held.shut
-puts_of tag n d e kept m s = record {
-  place = place_of tag e m.held.long;
-  closed = m.held.closed;
-  rest = m.held.rest;
-  image_is = refl;
-  was = m.held.file;
-  full = s.full;
-  room = omega (arith, m.held.room, m.held.few, m.within, m.rises);
-  changes = omega (arith, m.held.changes, m.within, m.rises);
-}
+puts_of : (tag : List ℕ) (n : ℕ) (d : DiskState) (e : Disk) (kept : Stored) (m : MayPut tag n d e kept) → Puts d (seat_of tag e).gate (bytes_of tag e kept) (front_of tag e) (tail_of tag e kept m.held.rest) (front_of tag e ++ m.held.shut ∷ m.held.rest) m.held.shut
+puts_of tag n d e kept m =
+    let gate = (seat_of tag e).gate in
+    let bytes = bytes_of tag e kept in
+    let fits = fits_behind tag e.state kept e.older m.held.long in
+    let size : length bytes ≡ length (spelled (seat_of tag e).wide (entry_for (seat_of tag e) kept)) + 1 = length-append (spelled (seat_of tag e).wide (entry_for (seat_of tag e) kept)) (0 ∷ []) in
+    let place = place_of tag n d e m.held in
+    let some : 0 < length bytes = omega (arith, size) in
+    record {
+      place = place;
+      closed = m.held.closed;
+      rest = m.held.rest;
+      image_is = refl;
+      was = m.held.file;
+      full = written_behind (front_of tag e) m.held.rest bytes gate m.held.shut place some;
+      some = some;
+      few = omega (arith, size, fits.few);
+      room = omega (arith, size, fits.room, m.held.room, m.held.few, m.within, m.rises);
+      changes = omega (arith, m.held.changes, m.within, m.rises);
+    }
 
-held_put : (tag : List ℕ) (n : ℕ) (d : DiskState) (e : Disk) (kept : Stored) (m : MayPut tag n d e kept) (s : Shape tag e kept m.held.shut (front tag (e.state ∷ e.older) ++ m.held.shut ∷ m.held.rest)) → Up (fourth_disk (gate_of e) kept d) (armed_as (rules.passed 4 e.armed)) → HoldsDisk tag n (fourth_disk (gate_of e) kept d) (after_put kept e)
-held_put tag n d e kept m s up = record {
+held_put : (tag : List ℕ) (n : ℕ) (d : DiskState) (e : Disk) (kept : Stored) (m : MayPut tag n d e kept) → Up (fourth_disk (seat_of tag e).gate (bytes_of tag e kept) d) (armed_as (rules.passed 4 e.armed)) → HoldsDisk tag n (fourth_disk (seat_of tag e).gate (bytes_of tag e kept) d) (after_put kept e)
+held_put tag n d e kept m up = record {
   shut = 0;
-  rest = s.rest;
+  rest = rest_of tag e kept m.held.rest;
   long = m.held.long;
-  chain = (m.entry, m.follows, m.held.chain);
+  chain = chain_put tag e.state kept e.older m.held.long m.entry m.follows m.held.chain;
   closed = not_one;
-  file = moment_fourth d (gate_of e) kept (front tag (e.state ∷ e.older)) (tail_of kept s.rest) (front tag (e.state ∷ e.older) ++ m.held.shut ∷ m.held.rest) m.held.shut (puts_of tag n d e kept m s) ∙ ap settled (opened_tail tag e kept s.rest);
+  file = moment_fourth d (seat_of tag e).gate (bytes_of tag e kept) (front_of tag e) (tail_of tag e kept m.held.rest) (front_of tag e ++ m.held.shut ∷ m.held.rest) m.held.shut (puts_of tag n d e kept m) ∙ ap settled (opened_tail tag e kept m.held.rest);
   few = omega (arith, m.held.few, m.rises);
   within = m.within;
   armed = up.is;
@@ -342,21 +355,21 @@ held_put tag n d e kept m s up = record {
 passes_whole : (tag : List ℕ) (n : ℕ) (d : DiskState) (e : Disk) (kept : Stored) → MayPut tag n d e kept → Lets (armed_as e.armed) 4 → ComesAs tag n (runs (put_calls (seat_of tag e) kept) d) (put_passes e) (after_put kept e) (stopped_in_put kept e)
 passes_whole tag n d e kept m lets =
     let a = armed_as e.armed in
-    let gate = gate_of e in
-    let head = front tag (e.state ∷ e.older) in
+    let gate = (seat_of tag e).gate in
+    let bytes = bytes_of tag e kept in
+    let head = front_of tag e in
     let shut = m.held.shut in
     let image = head ++ shut ∷ m.held.rest in
-    let s = shape_of tag n d e kept m.held in
-    let p = puts_of tag n d e kept m s in
+    let p = puts_of tag n d e kept m in
     let P : Option Arm → Type 0 = λ b. Up d b in
     let u = subst P (sym (minus_none a)) (up_of tag n d e m.held) in
-    let one = after_first d gate kept head (tail_of kept s.rest) image shut a p u (lets-fewer a 1 4 (omega arith) lets) in
-    let two = after_second d gate kept head (tail_of kept s.rest) image shut a p one (lets-fewer a 2 4 (omega arith) lets) in
-    let three = after_third d gate kept head (tail_of kept s.rest) image shut a p two (lets-fewer a 3 4 (omega arith) lets) in
-    let four = after_fourth d gate kept head (tail_of kept s.rest) image shut a p three lets in
-    let Q : Option Arm → Type 0 = λ b. Up (fourth_disk gate kept d) b in
-    comes_pass tag n (runs (put_calls (seat_of tag e) kept) d) (fourth_disk gate kept d) (put_passes e) (after_put kept e) (stopped_in_put kept e)
-    (lets-test e.armed 4 lets) four.so (held_put tag n d e kept m s (subst Q (minus-armed 4 e.armed) four.up))
+    let one = after_first d gate bytes head (tail_of tag e kept m.held.rest) image shut a p u (lets-fewer a 1 4 (omega arith) lets) in
+    let two = after_second d gate bytes head (tail_of tag e kept m.held.rest) image shut a p one (lets-fewer a 2 4 (omega arith) lets) in
+    let three = after_third d gate bytes head (tail_of tag e kept m.held.rest) image shut a p two (lets-fewer a 3 4 (omega arith) lets) in
+    let four = after_fourth d gate bytes head (tail_of tag e kept m.held.rest) image shut a p three lets in
+    let Q : Option Arm → Type 0 = λ b. Up (fourth_disk gate bytes d) b in
+    comes_pass tag n (runs (put_calls (seat_of tag e) kept) d) (fourth_disk gate bytes d) (put_passes e) (after_put kept e) (stopped_in_put kept e)
+    (lets-test e.armed 4 lets) four.so (held_put tag n d e kept m (subst Q (minus-armed 4 e.armed) four.up))
 
 -- ---- stops in a put
 
@@ -381,45 +394,47 @@ arm_of stop = record { calls = stop.calls; outcome = stop.outcome }
 abbrev with_stop : Disk → ArmedStop → Disk
 with_stop e stop = record e { armed = Some stop }
 
-ends_first : (tag : List ℕ) (n : ℕ) (d x : DiskState) (e : Disk) (stop : ArmedStop) (kept : Stored) → MayPut tag n d (with_stop e stop) kept → stop.calls < 2 → moment_of x ≡ wrote (gate_of e + 1) (bytes_of kept) (moment_of d) → StopsIn (put_calls (seat_of tag e) kept) d x stop.outcome → ComesAs tag n (runs (put_calls (seat_of tag e) kept) d) (put_passes (with_stop e stop)) (after_put kept (with_stop e stop)) (stopped_in_put kept (with_stop e stop))
+ends_first : (tag : List ℕ) (n : ℕ) (d x : DiskState) (e : Disk) (stop : ArmedStop) (kept : Stored) → MayPut tag n d (with_stop e stop) kept → stop.calls < 2 → moment_of x ≡ wrote ((seat_of tag e).gate + 1) (bytes_of tag e kept) (moment_of d) → StopsIn (put_calls (seat_of tag e) kept) d x stop.outcome → ComesAs tag n (runs (put_calls (seat_of tag e) kept) d) (put_passes (with_stop e stop)) (after_put kept (with_stop e stop)) (stopped_in_put kept (with_stop e stop))
 ends_first tag n d x e stop kept m below moment s =
     let f = with_stop e stop in
-    let gate = gate_of e in
-    let head = front tag (e.state ∷ e.older) in
+    let gate = (seat_of tag e).gate in
+    let bytes = bytes_of tag e kept in
+    let head = front_of tag e in
     let shut = m.held.shut in
     let image = head ++ shut ∷ m.held.rest in
-    let shape = shape_of tag n d f kept m.held in
-    let was = moment ∙ ap (wrote (gate + 1) (bytes_of kept)) m.held.file in
-    let at : gate + 1 ≡ length head + 1 = omega (arith, place_of tag e m.held.long) in
-    let left = picked_behind stop.outcome head image (written (gate + 1) (bytes_of kept) image) m.held.rest (tail_of kept shape.rest) (gate + 1) (length (bytes_of kept)) (wrote (gate + 1) (bytes_of kept) (settled image)).most shut at refl shape.full in
-    let c = came_up d x stop.outcome (picked stop.outcome (wrote (gate + 1) (bytes_of kept) (settled image))) (ap (picked stop.outcome) was) s.room s.changes s.armed s.sound in
+    let p = puts_of tag n d f kept m in
+    let was = moment ∙ ap (wrote (gate + 1) bytes) m.held.file in
+    let at : gate + 1 ≡ length head + 1 = omega (arith, p.place) in
+    let left = picked_behind stop.outcome head image (written (gate + 1) bytes image) m.held.rest (tail_of tag e kept m.held.rest) (gate + 1) (length bytes) (wrote (gate + 1) bytes (settled image)).most shut at refl p.full in
+    let c = came_up d x stop.outcome (picked stop.outcome (wrote (gate + 1) bytes (settled image))) (ap (picked stop.outcome) was) s.room s.changes s.armed s.sound in
     let held : HoldsDisk tag n (crashed 0 (stopped_by stop.outcome x)) (stopped f) =
-    held_fresh tag (picked stop.outcome (wrote (gate + 1) (bytes_of kept) (settled image))) n d (crashed 0 (stopped_by stop.outcome x)) f (fits_key tag n d f m.held) m.held.room (omega (arith, m.held.changes)) c
+    held_fresh tag (picked stop.outcome (wrote (gate + 1) bytes (settled image))) n d (crashed 0 (stopped_by stop.outcome x)) f (fits_key tag n d f m.held) m.held.room (omega (arith, m.held.changes)) c
     (record { shut = shut; rest = left.0; closed = m.held.closed; file = left.1 }) in
     let P : Bool → Type 0 = λ t. HoldsDisk tag n (crashed 0 (stopped_by stop.outcome x)) (stopped (cond t (with_it kept f) f)) in
     let fails : put_passes f ≡ false = grind (arith, nat_tests, below) in
     comes_stop tag n (runs (put_calls (seat_of tag e) kept) d) (stopped_by stop.outcome x) (put_passes f) (after_put kept f) (stopped_in_put kept f)
-    fails s.so (subst P (sym (opens_no stop gate below)) held)
+    fails s.so (subst P (sym (opens_no stop (gate_of e) below)) held)
 
-ends_second : (tag : List ℕ) (n : ℕ) (d x : DiskState) (e : Disk) (stop : ArmedStop) (kept : Stored) → MayPut tag n d (with_stop e stop) kept → 2 ≤ stop.calls → stop.calls < 4 → moment_of x ≡ wrote (gate_of e) (1 ∷ []) (moment_of (second_disk (gate_of e) kept d)) → StopsIn (put_calls (seat_of tag e) kept) d x stop.outcome → ComesAs tag n (runs (put_calls (seat_of tag e) kept) d) (put_passes (with_stop e stop)) (after_put kept (with_stop e stop)) (stopped_in_put kept (with_stop e stop))
+ends_second : (tag : List ℕ) (n : ℕ) (d x : DiskState) (e : Disk) (stop : ArmedStop) (kept : Stored) → MayPut tag n d (with_stop e stop) kept → 2 ≤ stop.calls → stop.calls < 4 → moment_of x ≡ wrote (seat_of tag e).gate (1 ∷ []) (moment_of (second_disk (seat_of tag e).gate (bytes_of tag e kept) d)) → StopsIn (put_calls (seat_of tag e) kept) d x stop.outcome → ComesAs tag n (runs (put_calls (seat_of tag e) kept) d) (put_passes (with_stop e stop)) (after_put kept (with_stop e stop)) (stopped_in_put kept (with_stop e stop))
 ends_second tag n d x e stop kept m above below moment s =
     let f = with_stop e stop in
-    let gate = gate_of e in
-    let head = front tag (e.state ∷ e.older) in
+    let gate = (seat_of tag e).gate in
+    let bytes = bytes_of tag e kept in
+    let head = front_of tag e in
     let shut = m.held.shut in
     let image = head ++ shut ∷ m.held.rest in
-    let shape = shape_of tag n d f kept m.held in
-    let p = puts_of tag n d f kept m shape in
-    let tail = tail_of kept shape.rest in
+    let p = puts_of tag n d f kept m in
+    let tail = tail_of tag e kept m.held.rest in
     let full = head ++ shut ∷ tail in
-    let was = moment ∙ ap (wrote gate (1 ∷ [])) (moment_second d gate kept head tail image shut p) in
+    let was = moment ∙ ap (wrote gate (1 ∷ [])) (moment_second d gate bytes head tail image shut p) in
     let g = picked_gate stop.outcome gate (wrote gate (1 ∷ []) (settled full)).most shut head tail full p.place m.held.closed refl in
     let c = came_up d x stop.outcome (picked stop.outcome (wrote gate (1 ∷ []) (settled full))) (ap (picked stop.outcome) was) s.room s.changes s.armed s.sound in
-    let held = half_second tag (picked stop.outcome (wrote gate (1 ∷ []) (settled full))) shape.rest n d (crashed 0 (stopped_by stop.outcome x)) f kept (leaves_open stop.outcome gate) m c g in
+    let held = half_second tag (picked stop.outcome (wrote gate (1 ∷ []) (settled full))) m.held.rest n d (crashed 0 (stopped_by stop.outcome x)) f kept (leaves_open stop.outcome gate) m c g in
     let P : Bool → Type 0 = λ t. HoldsDisk tag n (crashed 0 (stopped_by stop.outcome x)) (stopped (cond t (with_it kept f) f)) in
+    let same : (seat_of tag e).gate ≡ gate_of e = (same_behind tag [] e.state e.older).gate in
     let fails : put_passes f ≡ false = grind (arith, nat_tests, below) in
     comes_stop tag n (runs (put_calls (seat_of tag e) kept) d) (stopped_by stop.outcome x) (put_passes f) (after_put kept f) (stopped_in_put kept f)
-    fails s.so (subst P (sym (opens_yes stop gate above)) held)
+    fails s.so (subst P (ap (leaves_open stop.outcome) same ∙ sym (opens_yes stop (gate_of e) above)) held)
 
 up_at : (r : DiskState) (arm : Arm) (j : ℕ) → arm.calls ≡ j → Up r (minus j (Some arm)) → Up r (minus arm.calls (Some arm))
 up_at r arm j at u = let P : ℕ → Type 0 = λ k. Up r (minus k (Some arm)) in subst P (sym at) u
@@ -427,15 +442,15 @@ up_at r arm j at u = let P : ℕ → Type 0 = λ k. Up r (minus k (Some arm)) in
 stop_zero : (tag : List ℕ) (n : ℕ) (d : DiskState) (e : Disk) (stop : ArmedStop) (kept : Stored) → MayPut tag n d (with_stop e stop) kept → stop.calls ≡ 0 → Up d (minus 0 (Some (arm_of stop))) → ComesAs tag n (runs (put_calls (seat_of tag e) kept) d) (put_passes (with_stop e stop)) (after_put kept (with_stop e stop)) (stopped_in_put kept (with_stop e stop))
 stop_zero tag n d e stop kept m at u =
     let f = with_stop e stop in
-    let gate = gate_of e in
+    let gate = (seat_of tag e).gate in
+    let bytes = bytes_of tag e kept in
     let arm = arm_of stop in
-    let head = front tag (e.state ∷ e.older) in
+    let head = front_of tag e in
     let image = head ++ m.held.shut ∷ m.held.rest in
-    let shape = shape_of tag n d f kept m.held in
-    let p = puts_of tag n d f kept m shape in
+    let p = puts_of tag n d f kept m in
     let up = up_at d arm 0 at u in
-    let x = with_write (gate + 1) (bytes_of kept) (stop_on stop.outcome d) in
-    let so = write_stops d stop.outcome (gate + 1) (bytes_of kept) (stops_next d arm up) (fit_first d gate kept head (tail_of kept shape.rest) image m.held.shut p) in
+    let x = with_write (gate + 1) bytes (stop_on stop.outcome d) in
+    let so = write_stops d stop.outcome (gate + 1) bytes (stops_next d arm up) (fit_first d gate bytes head (tail_of tag e kept m.held.rest) image m.held.shut p) in
     ends_first tag n d x e stop kept m (omega (arith, at)) refl
     (record {
       so = ap (λ (c : Came). makes ToSync (makes (ToWrite gate (1 ∷ [])) (makes ToSync c))) so;
@@ -448,14 +463,14 @@ stop_zero tag n d e stop kept m at u =
 stop_one : (tag : List ℕ) (n : ℕ) (d : DiskState) (e : Disk) (stop : ArmedStop) (kept : Stored) → MayPut tag n d (with_stop e stop) kept → stop.calls ≡ 1 → Up d (minus 0 (Some (arm_of stop))) → ComesAs tag n (runs (put_calls (seat_of tag e) kept) d) (put_passes (with_stop e stop)) (after_put kept (with_stop e stop)) (stopped_in_put kept (with_stop e stop))
 stop_one tag n d e stop kept m at u =
     let f = with_stop e stop in
-    let gate = gate_of e in
+    let gate = (seat_of tag e).gate in
+    let bytes = bytes_of tag e kept in
     let arm = arm_of stop in
-    let head = front tag (e.state ∷ e.older) in
+    let head = front_of tag e in
     let image = head ++ m.held.shut ∷ m.held.rest in
-    let shape = shape_of tag n d f kept m.held in
-    let p = puts_of tag n d f kept m shape in
-    let one = after_first d gate kept head (tail_of kept shape.rest) image m.held.shut (Some arm) p u (omega (arith, at)) in
-    let r = first_disk gate kept d in
+    let p = puts_of tag n d f kept m in
+    let one = after_first d gate bytes head (tail_of tag e kept m.held.rest) image m.held.shut (Some arm) p u (omega (arith, at)) in
+    let r = first_disk gate bytes d in
     let up = up_at r arm 1 at one.up in
     let x = stop_on stop.outcome r in
     let so = ap (makes ToSync) one.so ∙ sync_stops r stop.outcome (stops_next r arm up) in
@@ -471,18 +486,18 @@ stop_one tag n d e stop kept m at u =
 stop_two : (tag : List ℕ) (n : ℕ) (d : DiskState) (e : Disk) (stop : ArmedStop) (kept : Stored) → MayPut tag n d (with_stop e stop) kept → stop.calls ≡ 2 → Up d (minus 0 (Some (arm_of stop))) → ComesAs tag n (runs (put_calls (seat_of tag e) kept) d) (put_passes (with_stop e stop)) (after_put kept (with_stop e stop)) (stopped_in_put kept (with_stop e stop))
 stop_two tag n d e stop kept m at u =
     let f = with_stop e stop in
-    let gate = gate_of e in
+    let gate = (seat_of tag e).gate in
+    let bytes = bytes_of tag e kept in
     let arm = arm_of stop in
-    let head = front tag (e.state ∷ e.older) in
+    let head = front_of tag e in
     let image = head ++ m.held.shut ∷ m.held.rest in
-    let shape = shape_of tag n d f kept m.held in
-    let p = puts_of tag n d f kept m shape in
-    let one = after_first d gate kept head (tail_of kept shape.rest) image m.held.shut (Some arm) p u (omega (arith, at)) in
-    let two = after_second d gate kept head (tail_of kept shape.rest) image m.held.shut (Some arm) p one (omega (arith, at)) in
-    let r = second_disk gate kept d in
+    let p = puts_of tag n d f kept m in
+    let one = after_first d gate bytes head (tail_of tag e kept m.held.rest) image m.held.shut (Some arm) p u (omega (arith, at)) in
+    let two = after_second d gate bytes head (tail_of tag e kept m.held.rest) image m.held.shut (Some arm) p one (omega (arith, at)) in
+    let r = second_disk gate bytes d in
     let up = up_at r arm 2 at two.up in
     let x = with_write gate (1 ∷ []) (stop_on stop.outcome r) in
-    let so = ap (makes (ToWrite gate (1 ∷ []))) two.so ∙ write_stops r stop.outcome gate (1 ∷ []) (stops_next r arm up) (fit_third d gate kept head (tail_of kept shape.rest) image m.held.shut p) in
+    let so = ap (makes (ToWrite gate (1 ∷ []))) two.so ∙ write_stops r stop.outcome gate (1 ∷ []) (stops_next r arm up) (fit_third d gate bytes head (tail_of tag e kept m.held.rest) image m.held.shut p) in
     ends_second tag n d x e stop kept m (omega (arith, at)) (omega (arith, at)) refl
     (record {
       so = ap (λ (c : Came). makes ToSync c) so;
@@ -495,16 +510,16 @@ stop_two tag n d e stop kept m at u =
 stop_three : (tag : List ℕ) (n : ℕ) (d : DiskState) (e : Disk) (stop : ArmedStop) (kept : Stored) → MayPut tag n d (with_stop e stop) kept → stop.calls ≡ 3 → Up d (minus 0 (Some (arm_of stop))) → ComesAs tag n (runs (put_calls (seat_of tag e) kept) d) (put_passes (with_stop e stop)) (after_put kept (with_stop e stop)) (stopped_in_put kept (with_stop e stop))
 stop_three tag n d e stop kept m at u =
     let f = with_stop e stop in
-    let gate = gate_of e in
+    let gate = (seat_of tag e).gate in
+    let bytes = bytes_of tag e kept in
     let arm = arm_of stop in
-    let head = front tag (e.state ∷ e.older) in
+    let head = front_of tag e in
     let image = head ++ m.held.shut ∷ m.held.rest in
-    let shape = shape_of tag n d f kept m.held in
-    let p = puts_of tag n d f kept m shape in
-    let one = after_first d gate kept head (tail_of kept shape.rest) image m.held.shut (Some arm) p u (omega (arith, at)) in
-    let two = after_second d gate kept head (tail_of kept shape.rest) image m.held.shut (Some arm) p one (omega (arith, at)) in
-    let three = after_third d gate kept head (tail_of kept shape.rest) image m.held.shut (Some arm) p two (omega (arith, at)) in
-    let r = third_disk gate kept d in
+    let p = puts_of tag n d f kept m in
+    let one = after_first d gate bytes head (tail_of tag e kept m.held.rest) image m.held.shut (Some arm) p u (omega (arith, at)) in
+    let two = after_second d gate bytes head (tail_of tag e kept m.held.rest) image m.held.shut (Some arm) p one (omega (arith, at)) in
+    let three = after_third d gate bytes head (tail_of tag e kept m.held.rest) image m.held.shut (Some arm) p two (omega (arith, at)) in
+    let r = third_disk gate bytes d in
     let up = up_at r arm 3 at three.up in
     let x = stop_on stop.outcome r in
     let so = ap (makes ToSync) three.so ∙ sync_stops r stop.outcome (stops_next r arm up) in

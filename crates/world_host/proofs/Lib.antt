@@ -3,6 +3,7 @@ pub mod SpentLemmas
 pub mod OpenLemmas
 pub mod CallLemmas
 pub mod StartLemmas
+pub mod BehindLemmas
 pub mod DiskTurns
 pub mod DiskGarbling
 pub mod DiskIdle

@@ -87,7 +87,7 @@ begins-so s g ots tree m seat tag seed records e d r v after w h seeded certifie
       left = test-left e.state.next s.indexes left;
       passes = came_so.0;
       disk = came_so.1;
-      life = record { is = now.is; going = going; open_ = free; seat = behind ∙ one-behind tag e kept seat at ∙ ap (λ (t : List ℕ). seat_of t (after_put kept e)) mark; stored = refl };
+      life = record { is = now.is; going = going; open_ = free; seat = behind ∙ ap (next_seat seat) (kept-is s g ots tree m e.state w) ∙ one-behind tag e kept seat at ∙ ap (λ (t : List ℕ). seat_of t (after_put kept e)) mark; stored = refl };
       told = now.told;
       sent = now.sent;
     }
@@ -116,7 +116,10 @@ begins-by s g other ots tree m me tag seed own records e d r signer x before aft
     let came : Some (record { disk = r; failed = false }) ≡ Some (runs (put_calls signer.seat (kept_first g.t m e.state)) d) =
     puts ∙ ap (λ (y : Group). Some (runs (put_calls signer.seat (kept_first y.t me signer.state)) d)) group_is ∙ ap (λ (y : ℕ). Some (runs (put_calls signer.seat (kept_first g.t y signer.state)) d)) me_is
     ∙ ap (λ (y : Stored). Some (runs (put_calls signer.seat (kept_first g.t m y)) d)) state in
-    begins-so s g ots tree m signer.seat tag seed records e d r v after w h seeded certified seat started left came going free behind mark
+    let place : v.signer.seat ≡ next_seat signer.seat (kept_first g.t m e.state) =
+    behind ∙ ap (λ (y : Group). next_seat signer.seat (kept_first y.t me signer.state)) group_is ∙ ap (λ (y : ℕ). next_seat signer.seat (kept_first g.t y signer.state)) me_is
+    ∙ ap (λ (y : Stored). next_seat signer.seat (kept_first g.t m y)) state in
+    begins-so s g ots tree m signer.seat tag seed records e d r v after w h seeded certified seat started left came going free place mark
 begins-by s g other ots tree m me tag seed own records e d r signer x before after (Err faults.StoreFault) w h seeded certified none group_is me_is state seat leaves is starts vouched going free behind mark cause puts =
     let left : e.state.next < s.indexes = subst (λ (n : ℕ). e.state.next < n) leaves (subst (λ (k : Stored). k.next < index_count signer.key) state cause) in
     let came : Some (record { disk = r; failed = true }) ≡ Some (runs (put_calls signer.seat (kept_first g.t m e.state)) d) =

@@ -2,13 +2,14 @@
 use Rattle.std.specs.Prelude.{◌≡◌, ℕ, ◌+◌, ◌*◌, ◌^◌, ◌<◌, ◌≤◌, true, false, List, [], ◌++◌, None, Some, Result, length}
 use Rattle.ff_ids.specs.declared.TheConstants.{MAX_TOLERANCE, MAX_RINGS}
 use Rattle.ports.specs.MemoryDisk.{DiskState, moments_of}
+use Rattle.ports.specs.DiskCalls.{DiskCall}
 use Rattle.ports.specs.DiskSteps.{runs}
 use Rattle.ff_ids.specs.declared.Mask.{Mask}
 use Rattle.epoch_store.specs.declared.Stored.{Stored}
 use Rattle.epoch_store.specs.declared.StoreError.{StoreError}
-use Rattle.epoch_store.specs.Seat.{store_length}
-use Rattle.epoch_store.specs.Store.{IsEntry, Follows, first_entry}
-use Rattle.epoch_store.specs.Asked.{gate_reads, make_calls, open_calls, put_calls}
+use Rattle.epoch_store.specs.Seat.{first_seat, store_length}
+use Rattle.epoch_store.specs.Store.{IsEntry, Follows, first_entry, made_wide, put_entries}
+use Rattle.epoch_store.specs.Asked.{entry_reads, gate_reads, make_calls, open_calls, put_calls}
 use Rattle.epoch_store.specs.Calls.{IsNotTaken, OpensAs, StoreState}
 use Rattle.epoch_store.specs.Followed.{ReadsGatesFrom}
 use Rattle.epoch_store.specs.Placed.{PlacedStore}
@@ -22,16 +23,19 @@ use Rattle.world_rules.specs.Disks.{ArmedStop, Disk, after_calls, after_put, let
 use Rattle.world_host.specs.Held.{ComesAs, HoldsDisk, armed_as, crashed}
 use Rattle.world_host.specs.OnDisks.{ComesTo, Keeps, OpensTo, placed}
 
--- The calls that open a store and read all its gates.
+-- The calls that open a store and read all its gates: those in front of its entries, and the closed one.
+abbrev pub all_reads : List ℕ → List ℕ → Disk → List DiskCall
+all_reads tag name e = gate_reads (seat_of tag e) false ++ (entry_reads (first_seat (made_wide e.state e.older) tag) (put_entries tag e.state e.older) ++ open_calls name)
+
+-- These calls pass, or the armed stop comes in one of them.
 abbrev pub OpensAsTold : Type 0
 OpensAsTold = (tag name : List ℕ) (indexes : ℕ) (d : DiskState) (e : Disk) → HoldsDisk tag indexes d e
-    → ComesAs tag indexes (runs (gate_reads (length e.older + 2) ++ open_calls name) d) (lets_pass e.armed (opening_calls e))
-    (after_calls (opening_calls e) e) (stopped e)
+    → ComesAs tag indexes (runs (all_reads tag name e) d) (lets_pass e.armed (opening_calls e)) (after_calls (opening_calls e) e) (stopped e)
 
 -- Whatever opens the store by these calls, and reads the file, has the node's store.
 abbrev pub ReadsAsTold : Type 0
 ReadsAsTold = (tag name : List ℕ) (indexes : ℕ) (d r : DiskState) (e : Disk) (result : Result StoreState StoreError) → HoldsDisk tag indexes d e
-    → IsNotTaken result → OpensAs tag (moments_of d.start d.log) result → ReadsGatesFrom tag (open_calls name) (moments_of d.start d.log) result (Some d) (Some r)
+    → IsNotTaken result → OpensAs tag (moments_of d.start d.log) result → ReadsGatesFrom (open_calls name) (moments_of d.start d.log) result (Some d) (Some r)
     → OpensTo tag indexes e result r
 
 -- The calls that put an entry with the next index.

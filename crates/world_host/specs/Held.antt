@@ -4,8 +4,8 @@ use Rattle.ports.specs.Disk.{settled}
 use Rattle.ports.specs.MemoryDisk.{DiskState, moment_of, picked}
 use Rattle.ports.specs.DiskSteps.{Came}
 use Rattle.ports.specs.declared.memory_disk.Arm.{Arm}
-use Rattle.epoch_store.specs.Seat.{store_length}
-use Rattle.epoch_store.specs.Store.{IsChain, front}
+use Rattle.epoch_store.specs.Seat.{first_seat, store_length}
+use Rattle.epoch_store.specs.Store.{IsChain, front, made_wide, put_entries}
 use Rattle.world_rules.specs.Disks.{ArmedStop, Disk}
 
 -- the same stop is armed
@@ -13,15 +13,15 @@ abbrev pub armed_as : Option ArmedStop → Option Arm
 armed_as None = None
 armed_as (Some stop) = Some (record { calls = stop.calls; outcome = stop.outcome })
 
--- The disk is settled, and its file is the store of these entries; the same stop is armed, and nothing else fails; and
+-- The disk is settled, and its file is the store of this tag with the entries that keep these states; the same stop is armed, and nothing else fails; and
 -- there is room for each entry and each change that a key with so many indexes still allows.
 pub record HoldsDisk (tag : List ℕ) (indexes : ℕ) (d : DiskState) (e : Disk) : Type 0 where
   pub shut : ℕ
   pub rest : List ℕ
   pub long : length tag ≡ 32
-  pub chain : IsChain (e.state ∷ e.older)
+  pub chain : IsChain (first_seat (made_wide e.state e.older) tag) (put_entries tag e.state e.older)
   pub closed : shut ≢ 1
-  pub file : moment_of d ≡ settled (front tag (e.state ∷ e.older) ++ shut ∷ rest)
+  pub file : moment_of d ≡ settled (front (made_wide e.state e.older) tag (put_entries tag e.state e.older) ++ shut ∷ rest)
   pub few : length e.older ≤ e.state.next
   pub within : e.state.next ≤ indexes
   pub armed : d.armed ≡ armed_as e.armed

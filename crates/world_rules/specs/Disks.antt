@@ -1,18 +1,20 @@
--- A node's disk: the entries of its store, and the stop that is armed. A stop is told by the calls of the disk that it
--- lets pass, so what calls a store makes is told too.
+-- A node's disk: the states that its store's entries keep, and the stop that is armed. A stop is told by the calls of the
+-- disk that it lets pass, so what calls a store makes is told too.
 use Rattle.std.specs.Prelude.{ℕ, ◌+◌, ◌-◌, ◌%◌, Bool, true, false, ◌&&◌, ◌==◌, nat_le, if◌then◌else◌, List, [], ◌∷◌, length, Option, Some, None}
 use Rattle.ff_ids.specs.declared.Mask.{Mask}
 use Rattle.epoch_store.specs.declared.Stored.{Stored}
 use Rattle.epoch_store.specs.declared.seat.Seat.{Seat}
-use Rattle.epoch_store.specs.Seat.{gate_behind, seat_behind}
-use Rattle.epoch_store.specs.Store.{first_entry}
+use Rattle.epoch_store.specs.Asked.{entry_reads}
+use Rattle.epoch_store.specs.Seat.{first_seat, seat_behind}
+use Rattle.epoch_store.specs.Store.{first_entry, made_wide, put_entries}
 
 -- A stop that is to come: it lets so many calls pass, and comes in the next. The outcome decides what it leaves.
 pub record ArmedStop : Type 0 where
   pub calls : ℕ
   pub outcome : ℕ
 
--- The last entry of the store, which is its state; the entries before, the last one first; and the stop that is armed.
+-- The state of the store, which its last entry keeps; those of the entries before, the last one first: the store was
+-- made with the oldest one, and each later one put; and the stop that is armed.
 pub record Disk : Type 0 where
   pub state : Stored
   pub older : List Stored
@@ -28,10 +30,15 @@ made_disk mask = record { state = first_entry mask; older = []; armed = None }
 abbrev pub put_calls : ℕ
 put_calls = 4
 
--- To open a store is to open the file, to sync it, to read its head, and to read each gate with the entry behind it:
--- those of the entries, and the closed one.
+-- How many calls read the gates in front of the entries, each with the entry behind it: one for each, and for a
+-- migration entry a second one. The tag of the store changes none of them.
+abbrev pub passing_calls : Disk → ℕ
+passing_calls d = length (entry_reads (first_seat (made_wide d.state d.older) []) (put_entries [] d.state d.older))
+
+-- To open a store is to open the file, to sync it, to read its head, and to read each gate: those in front of the
+-- entries, and the closed one.
 abbrev pub opening_calls : Disk → ℕ
-opening_calls d = 3 + (length d.older + 1) + 1
+opening_calls d = 3 + passing_calls d + 1
 
 -- No stop comes within so many calls.
 abbrev pub lets_pass : Option ArmedStop → ℕ → Bool
@@ -64,13 +71,13 @@ with_entry e d = record d { state = e; older = d.state ∷ d.older }
 abbrev pub after_put : Stored → Disk → Disk
 after_put e d = after_calls put_calls (with_entry e d)
 
--- The place of the closed gate behind the entries.
-abbrev pub gate_of : Disk → ℕ
-gate_of d = gate_behind (d.state ∷ d.older)
-
 -- The seat of the next entry, where the store has this tag.
 abbrev pub seat_of : List ℕ → Disk → Seat
-seat_of tag d = seat_behind tag (d.state ∷ d.older)
+seat_of tag d = seat_behind tag d.state d.older
+
+-- The place of the closed gate behind the entries, which is the same whatever tag the store has.
+abbrev pub gate_of : Disk → ℕ
+gate_of d = (seat_of [] d).gate
 
 -- Whether the byte of a gate that was being written is 1 as a stop with this outcome leaves it: outcome 0 leaves what
 -- was there before, and the gate was closed; outcome 1 what was written; and any other a byte of its own making.

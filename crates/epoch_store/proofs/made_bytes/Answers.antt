@@ -1,5 +1,6 @@
-use Rattle.std.proofs.Common.{◌≡◌, ℕ, List, [], ◌∷◌, ◌++◌, ap, ◌∙◌, sym, append_assoc, codes}
-use Rattle.epoch_store.specs.Store.{spelled}
+use Rattle.std.proofs.Common.{◌≡◌, ℕ, List, [], ◌∷◌, ◌++◌, None, ap, ◌∙◌, sym, append_assoc}
+use Rattle.epoch_store.specs.Seat.{needs_wide}
+use Rattle.epoch_store.specs.Store.{entry_with, magic, spelled}
 use Rattle.epoch_store.proofs.made_bytes.Goals as goal
 
 joined : (m t s : List ℕ) → (m ++ t ++ 1 ∷ []) ++ (s ++ 0 ∷ []) ≡ (m ++ t ++ 1 ∷ s) ++ 0 ∷ []
@@ -7,5 +8,6 @@ joined m t s = sym (append_assoc (m ++ t ++ 1 ∷ []) s (0 ∷ [])) ∙ ap (λ (
 
 pub returns : goal.returns
 returns c =
-    rw (c.put_piece-4.ensures, c.put_piece-3.ensures, c.put_piece-2.ensures, c.put_piece.ensures, c.new-bytes.ensures, c.entry_bytes.ensures)
-    (joined (codes "FFSTORE1") c.args.tag.now (spelled c.args.first))
+    let wide = needs_wide c.args.first.mask.0 in
+    rw (c.put_piece-4.ensures, c.put_piece-3.ensures, c.put_piece-2.ensures, c.put_piece.ensures, c.new-bytes.ensures, c.magic.ensures, c.deref.ensures.0, c.entry_bytes.ensures, c.needs_wide-wide.ensures)
+    (joined (magic wide) c.args.tag.now (spelled wide (entry_with None c.args.first)))

@@ -1,6 +1,6 @@
 use Rattle.std.proofs.Common.{◌≡◌, ◌≤◌, length, arith, ◌∙◌}
 use Rattle.epoch_store.specs.Calls.{HasLength}
-use Rattle.epoch_store.proofs.OpenLemmas.{opened_torn, measured, made_store}
+use Rattle.epoch_store.proofs.MakeLemmas.{opened_torn, measured, made_store}
 use Rattle.ports.proofs.SinceLemmas.{Fails-torn}
 use Rattle.std.proofs.Common.{ap, ◌∷◌, [], subst, List, ℕ}
 use Rattle.std.proofs.lemmas.Result.{err_from_is_err_and}
@@ -11,11 +11,11 @@ use Rattle.epoch_store.proofs.make.Goals as goal
 
 pub returns-in_err-open_file-clause-any_moment : goal.returns-in_err-open_file-clause-any_moment
 returns-in_err-open_file-clause-any_moment g c =
-    opened_torn 0 58 (g.D.Disk.state c.args.disk.now).moments (g.D.Disk.state c.open_file.new.disk).moments c.open_file.result c.open_file.ensures.opens
+    opened_torn 0 _ (g.D.Disk.state c.args.disk.now).moments (g.D.Disk.state c.open_file.new.disk).moments c.open_file.result c.open_file.ensures.opens
 
 pub returns-in_err-len-clause-any_moment : goal.returns-in_err-len-clause-any_moment
 returns-in_err-len-clause-any_moment g c =
-    Fails-torn 0 58 (g.D.Disk.state c.args.disk.now).moments (g.D.Disk.state c.len.new.self).moments (rw c.in_ok-open_file.ensures.opens at c.in_err-len.ensures.stays)
+    Fails-torn 0 _ (g.D.Disk.state c.args.disk.now).moments (g.D.Disk.state c.len.new.self).moments (rw c.in_ok-open_file.ensures.opens at c.in_err-len.ensures.stays)
 
 pub returns-clause-store : goal.returns-clause-store
 returns-clause-store g c =

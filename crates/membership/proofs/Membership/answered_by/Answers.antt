@@ -1,4 +1,5 @@
 use Rattle.std.proofs.Common.{◌≡◌, ℕ, zero, suc, Option, None, false, get_or, replicate, refl, sym, ap, ◌∙◌, rules}
+use Rattle.ff_ids.specs.declared.TheConstants.{MAX_RINGS}
 use Rattle.removal_timer.specs.Kept.{entry_at}
 use Rattle.membership.specs.Life.{Life}
 use Rattle.membership.proofs.Membership.answered_by.Goals as goal
@@ -16,4 +17,4 @@ returns-then-not-is_accused c = λ ring lt.
     let m = c.args.note.now.member in
     let off : c.is_accused.result ≡ false = search (rules, c.if-not-is_accused.true) in
     let nothing : entry_at m ring c.args.self.now.kept ≡ None = sym (ap (λ (l : Life). entry_at m ring l.kept) c.self.view_is) ∙ c.is_accused.ensures.none off ring in
-    rw nothing (nobody-at 31 ring)
+    rw nothing (nobody-at MAX_RINGS ring)

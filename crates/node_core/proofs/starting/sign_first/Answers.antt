@@ -8,6 +8,7 @@ use Rattle.node_core.proofs.SpendLemmas.{lives-signed, first-lives}
 use Rattle.std.proofs.Common.{rules, subst}
 use Rattle.ports.specs.DiskSteps.{runs_on}
 use Rattle.epoch_store.specs.Asked.{put_calls}
+use Rattle.epoch_store.specs.Seat.{next_seat}
 use Rattle.records.specs.Signing.{CheckedRecord}
 use Rattle.signer.specs.declared.SignFault.{SignFault}
 use Rattle.signer.specs.Signing.{stored_after}
@@ -35,7 +36,11 @@ returns-in-Ok-clause-puts g c =
     c.in-Ok.ensures.follows ∙ ap (λ (k : ℕ). runs_on (put_calls s.seat (stored_after s.state (next_note s.state c.args.me (record { 0 = k })))) (g.D.Disk.state c.args.disk.now).model) mask
 
 pub returns-in-Ok-clause-seat : goal.returns-in-Ok-clause-seat
-returns-in-Ok-clause-seat g c = ap (λ (x : SignerState). x.seat) c.in-Ok.ensures.after
+returns-in-Ok-clause-seat g c =
+    let s : SignerState = c.args.signer.now in
+    let mask : c.first_mask-mask.result.0 ≡ first_mask c.args.group.now.t s.state.mask.0 = search rules in
+    ap (λ (x : SignerState). x.seat) c.in-Ok.ensures.after
+    ∙ ap (λ (k : ℕ). next_seat s.seat (stored_after s.state (next_note s.state c.args.me (record { 0 = k })))) mask
 
 pub returns-in-Err-Exhausted-clause-puts : goal.returns-in-Err-Exhausted-clause-puts
 returns-in-Err-Exhausted-clause-puts g c =
