@@ -23,8 +23,10 @@ unfolding judge_line
 heads = (refl, refl, refl, refl, refl, refl)
 
 operators : (judge (opening commands.Secret) (codes "fireflies 1 secret" ++ 10 ∷ []) ≡ Ok (lines.Secret secret.Header))
+    × (judge (opening commands.Migrate) (codes "fireflies 1 migrate" ++ 10 ∷ []) ≡ Ok (lines.Migrate secret.Header))
+    × (judge (opening commands.Migrate) (codes "fireflies 1 secret" ++ 10 ∷ []) ≡ Err bad.Header)
     × (judge (opening commands.Roster) (codes "fireflies 1 roster" ++ 10 ∷ []) ≡ Ok (lines.Roster roster.Header))
     × (judge (opening commands.Kit) (codes "fireflies 1 kit" ++ 10 ∷ []) ≡ Ok (lines.Kit kit.Header))
     × (judge (opening commands.Kit) (codes "fireflies 1 roster" ++ 10 ∷ []) ≡ Err bad.Header)
 unfolding judge_line
-operators = (refl, refl, refl, refl)
+operators = (refl, refl, refl, refl, refl, refl)

@@ -13,6 +13,9 @@ use Rattle.schedule_world.specs.Rows as world_rows
 use Rattle.schedule_texts.specs.declared.secret.SecretText.TheVariants as secret_form
 use Rattle.schedule_texts.specs.SecretGrammar as secret
 use Rattle.schedule_texts.specs.SecretRows as secret_rows
+use Rattle.schedule_texts.specs.declared.migrate.MigrateText.TheVariants as migrate_form
+use Rattle.schedule_texts.specs.MigrateGrammar as migrate
+use Rattle.schedule_texts.specs.MigrateRows as migrate_rows
 use Rattle.schedule_texts.specs.declared.roster.RosterText.TheVariants as roster_form
 use Rattle.schedule_texts.specs.RosterGrammar as roster
 use Rattle.schedule_texts.specs.RosterRows as roster_rows
@@ -34,6 +37,7 @@ abbrev pub form_of : Command → Text
 form_of commands.Replay = texts.Schedule
 form_of commands.Verify = texts.Verify verify_form.Start
 form_of commands.Secret = texts.Secret secret_form.Start
+form_of commands.Migrate = texts.Migrate migrate_form.Start
 form_of commands.Roster = texts.Roster roster_form.Start
 form_of commands.Kit = texts.Kit kit_form.Start
 
@@ -43,6 +47,7 @@ IsSound (texts.Direct d) = direct.IsSound d
 IsSound (texts.World w) = world.IsSound w
 IsSound (texts.Verify v) = verify.IsSound v
 IsSound (texts.Secret t) = secret.IsSound t
+IsSound (texts.Migrate t) = migrate.IsSound t
 IsSound (texts.Roster t) = roster.IsSound t
 IsSound (texts.Kit t) = kit.IsSound t
 
@@ -52,6 +57,7 @@ is_ended (texts.Direct d) = direct_rows.is_ended d
 is_ended (texts.World w) = world_rows.is_ended w
 is_ended (texts.Verify v) = verify_rows.is_ended v
 is_ended (texts.Secret t) = secret_rows.is_ended t
+is_ended (texts.Migrate t) = migrate_rows.is_ended t
 is_ended (texts.Roster t) = roster_rows.is_ended t
 is_ended (texts.Kit t) = kit_rows.is_ended t
 
@@ -67,6 +73,7 @@ row_for (texts.Direct d) ws = row_of_line lines.Direct (direct_rows.row_for d ws
 row_for (texts.World w) ws = row_of_line lines.World (world_rows.row_for w ws)
 row_for (texts.Verify v) ws = row_of_line lines.Verify (verify_rows.row_for v ws)
 row_for (texts.Secret t) ws = row_of_line lines.Secret (secret_rows.row_for t ws)
+row_for (texts.Migrate t) ws = row_of_line lines.Migrate (migrate_rows.row_for t ws)
 row_for (texts.Roster t) ws = row_of_line lines.Roster (roster_rows.row_for t ws)
 row_for (texts.Kit t) ws = row_of_line lines.Kit (kit_rows.row_for t ws)
 
@@ -78,6 +85,7 @@ Spells (texts.Direct d) ws (lines.Direct l) = direct.IsDirect d ws l
 Spells (texts.World w) ws (lines.World l) = world.IsWorld w ws l
 Spells (texts.Verify v) ws (lines.Verify l) = verify.IsVerify v ws l
 Spells (texts.Secret t) ws (lines.Secret l) = secret.IsSecret t ws l
+Spells (texts.Migrate t) ws (lines.Migrate l) = migrate.IsMigrate t ws l
 Spells (texts.Roster t) ws (lines.Roster l) = roster.IsRoster t ws l
 Spells (texts.Kit t) ws (lines.Kit l) = kit.IsKit t ws l
 Spells _ ws _ = ⊥
@@ -87,6 +95,7 @@ TakesMemory (lines.Direct l) = direct_rows.TakesMemory l
 TakesMemory (lines.World l) = world_rows.TakesMemory l
 TakesMemory (lines.Verify l) = verify_rows.TakesMemory l
 TakesMemory (lines.Secret l) = secret_rows.TakesMemory l
+TakesMemory (lines.Migrate l) = secret_rows.TakesMemory l
 TakesMemory (lines.Roster l) = roster_rows.TakesMemory l
 TakesMemory (lines.Kit l) = kit_rows.TakesMemory l
 
@@ -97,6 +106,7 @@ after (texts.Direct d) (lines.Direct l) = texts.Direct (direct.after d l)
 after (texts.World w) (lines.World l) = texts.World (world.after w l)
 after (texts.Verify v) (lines.Verify l) = texts.Verify (verify.after v l)
 after (texts.Secret t) (lines.Secret l) = texts.Secret (secret.after t l)
+after (texts.Migrate t) (lines.Migrate l) = texts.Migrate (migrate.after t l)
 after (texts.Roster t) (lines.Roster l) = texts.Roster (roster.after t l)
 after (texts.Kit t) (lines.Kit l) = texts.Kit (kit.after t l)
 after text _ = text

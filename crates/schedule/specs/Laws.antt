@@ -17,6 +17,8 @@ use Rattle.schedule_world.specs.Grammar as world
 use Rattle.schedule_world.specs.Laws.{world-spelled, world-taken}
 use Rattle.schedule_texts.specs.SecretRows as secret_rows
 use Rattle.schedule_texts.specs.SecretLaws.{secret-spelled, secret-taken}
+use Rattle.schedule_texts.specs.MigrateRows as migrate_rows
+use Rattle.schedule_texts.specs.MigrateLaws.{migrate-spelled, migrate-taken}
 use Rattle.schedule_texts.specs.RosterRows as roster_rows
 use Rattle.schedule_texts.specs.RosterLaws.{roster-spelled, roster-taken}
 use Rattle.schedule_texts.specs.KitRows as kit_rows
@@ -74,6 +76,9 @@ text-spelled (texts.Verify v) first args l e =
 text-spelled (texts.Secret t) first args l e =
     let m = row_of_line-ok lines.Secret (secret_rows.row_for t (first ∷ args)) args l e in
     subst (Spells (texts.Secret t) (first ∷ args)) m.2 (secret-spelled t first args m.0 m.1)
+text-spelled (texts.Migrate t) first args l e =
+    let m = row_of_line-ok lines.Migrate (migrate_rows.row_for t (first ∷ args)) args l e in
+    subst (Spells (texts.Migrate t) (first ∷ args)) m.2 (migrate-spelled t first args m.0 m.1)
 text-spelled (texts.Roster t) first args l e =
     let m = row_of_line-ok lines.Roster (roster_rows.row_for t (first ∷ args)) args l e in
     subst (Spells (texts.Roster t) (first ∷ args)) m.2 (roster-spelled t first args m.0 m.1)
@@ -99,6 +104,8 @@ text-taken (texts.Verify v) first args (lines.Verify l) sound h =
     row_of_line-line lines.Verify (verify_rows.row_for v (first ∷ args)) args l (verify-taken v first args l sound h)
 text-taken (texts.Secret t) first args (lines.Secret l) sound h =
     row_of_line-line lines.Secret (secret_rows.row_for t (first ∷ args)) args l (secret-taken t first args l sound h)
+text-taken (texts.Migrate t) first args (lines.Migrate l) sound h =
+    row_of_line-line lines.Migrate (migrate_rows.row_for t (first ∷ args)) args l (migrate-taken t first args l sound h)
 text-taken (texts.Roster t) first args (lines.Roster l) sound h =
     row_of_line-line lines.Roster (roster_rows.row_for t (first ∷ args)) args l (roster-taken t first args l sound h)
 text-taken (texts.Kit t) first args (lines.Kit l) sound h =

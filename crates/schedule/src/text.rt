@@ -7,7 +7,9 @@ ghost use Rattle.schedule.specs.Forms.{IsSound, Spells, TakesMemory, after, form
 
 use line_text::{Form, LineFault, Words};
 use schedule_direct::{Direct, DirectLine};
-use schedule_texts::{KitLine, KitText, RosterLine, RosterText, SecretLine, SecretText};
+use schedule_texts::{
+    KitLine, KitText, MigrateText, RosterLine, RosterText, SecretLine, SecretText,
+};
 use schedule_world::{WorldLine, WorldText};
 use std::alloc::Global;
 use verify_text::{Verify, VerifyLine};
@@ -21,6 +23,8 @@ pub enum Command {
     Verify,
     /// The secret of an authority's key, for which a store is made.
     Secret,
+    /// The two groups of a store that moves from one to the other.
+    Migrate,
     /// The members whose certificates an authority is asked for.
     Roster,
     /// What a member starts from.
@@ -38,6 +42,8 @@ pub enum Line {
     Verify(VerifyLine),
     /// A line of the text of a secret.
     Secret(SecretLine),
+    /// A line of the text of a store that moves.
+    Migrate(SecretLine),
     /// A line of a roster.
     Roster(RosterLine),
     /// A line of the text of a member.
@@ -57,6 +63,8 @@ pub enum Text {
     Verify(Verify),
     /// The text of a secret.
     Secret(SecretText),
+    /// The text of a store that moves.
+    Migrate(MigrateText),
     /// A roster.
     Roster(RosterText),
     /// The text of a member.
@@ -72,6 +80,7 @@ impl Text {
             Command::Replay => Text::Schedule,
             Command::Verify => Text::Verify(Verify::Start),
             Command::Secret => Text::Secret(SecretText::Start),
+            Command::Migrate => Text::Migrate(MigrateText::Start),
             Command::Roster => Text::Roster(RosterText::Start),
             Command::Kit => Text::Kit(KitText::Start),
         }
@@ -106,7 +115,8 @@ fn schedule_text(line: &Line) -> Text
             world.advance(line);
             Text::World(world)
         }
-        Line::Verify(_) | Line::Secret(_) | Line::Roster(_) | Line::Kit(_) => Text::Schedule,
+        Line::Verify(_) | Line::Secret(_) | Line::Migrate(_) | Line::Roster(_) | Line::Kit(_) =>
+            Text::Schedule,
     }
 }
 
@@ -134,6 +144,7 @@ impl Form for Text {
             Text::World(world) => world.is_ended(),
             Text::Verify(verify) => verify.is_ended(),
             Text::Secret(secret) => secret.is_ended(),
+            Text::Migrate(migrate) => migrate.is_ended(),
             Text::Roster(roster) => roster.is_ended(),
             Text::Kit(kit) => kit.is_ended(),
         }
@@ -146,6 +157,7 @@ impl Form for Text {
             Text::World(world) => Ok(Line::World(world.judge(alloc, words)?)),
             Text::Verify(verify) => Ok(Line::Verify(verify.judge(alloc, words)?)),
             Text::Secret(secret) => Ok(Line::Secret(secret.judge(alloc, words)?)),
+            Text::Migrate(migrate) => Ok(Line::Migrate(migrate.judge(alloc, words)?)),
             Text::Roster(roster) => Ok(Line::Roster(roster.judge(alloc, words)?)),
             Text::Kit(kit) => Ok(Line::Kit(kit.judge(alloc, words)?)),
         }
@@ -161,6 +173,7 @@ impl Form for Text {
             (Text::World(world), Line::World(line)) => world.advance(line),
             (Text::Verify(verify), Line::Verify(line)) => verify.advance(line),
             (Text::Secret(secret), Line::Secret(line)) => secret.advance(line),
+            (Text::Migrate(migrate), Line::Migrate(line)) => migrate.advance(line),
             (Text::Roster(roster), Line::Roster(line)) => roster.advance(line),
             (Text::Kit(kit), Line::Kit(line)) => kit.advance(line),
             _ => {}

@@ -2,6 +2,7 @@
 use Rattle.std.proofs.Common.{◌≡◌, ℕ, true, false, ◌++◌, [], ◌∷◌, List, Result, Ok, Err, refl, codes}
 use Rattle.std.specs.Prelude.{replicate}
 use Rattle.hex.proofs.OnLiterals.{hex_on_literals}
+use Rattle.ff_ids.specs.declared.Group.{Group}
 use Rattle.lms_ots.specs.declared.kind.OtsKind.TheVariants.{W1, W2, W4, W8}
 use Rattle.lms_tree.specs.declared.kind.TreeKind.TheVariants.{H5, H10, H15}
 use Rattle.lms_tree.specs.Lms.{key_in}
@@ -16,12 +17,18 @@ use Rattle.schedule_texts.specs.declared.secret.SecretText.{SecretText}
 use Rattle.schedule_texts.specs.declared.secret.SecretText.TheVariants as secret
 use Rattle.schedule_texts.specs.declared.roster.RosterText.{RosterText}
 use Rattle.schedule_texts.specs.declared.roster.RosterText.TheVariants as roster
+use Rattle.schedule_texts.specs.declared.migrate.MigrateText.{MigrateText}
+use Rattle.schedule_texts.specs.declared.migrate.MigrateText.TheVariants as migrate
 use Rattle.schedule_texts.specs.SecretGrammar as secret_text
+use Rattle.schedule_texts.specs.MigrateGrammar as migrate_text
 use Rattle.schedule_texts.specs.RosterGrammar as roster_text
 
 -- the line with a line feed, where so much has been read
 abbrev at : SecretText → List ℕ → Result SecretLine BadWord
 at form text = secret_text.judge (record { number = 3; form = form }) (text ++ 10 ∷ [])
+
+abbrev moving : MigrateText → List ℕ → Result SecretLine BadWord
+moving form text = migrate_text.judge (record { number = 4; form = form }) (text ++ 10 ∷ [])
 
 abbrev below : RosterText → List ℕ → Result RosterLine BadWord
 below form text = roster_text.judge (record { number = 7; form = form }) (text ++ 10 ∷ [])
@@ -70,6 +77,52 @@ secrets : (at secret.Kinded (codes "secret 0000000000000000000000000000000000000
     × (at secret.Ended (codes "end") ≡ Err bad.AfterEnd)
 unfolding judge_line key_in hex_on_literals
 secrets = (refl, refl, refl, refl, refl, refl, refl)
+
+-- ## A store that moves
+
+abbrev left : Group
+left = record { tag = replicate 16 0; t = 1; timeout = 4; period = 1; misses = 2 }
+
+abbrev from_left : MigrateText
+from_left = migrate.Left left
+
+move_heads : (moving migrate.Start (codes "fireflies 1 migrate") ≡ Ok secret_lines.Header)
+    × (moving migrate.Start (codes "fireflies 1 secret") ≡ Err bad.Header)
+    × (at secret.Start (codes "fireflies 1 migrate") ≡ Err bad.Header)
+    × (moving migrate.Headed (codes "group 1 4 1 2 00000000000000000000000000000000") ≡ Ok (secret_lines.Group left))
+    × (migrate_text.after migrate.Headed (secret_lines.Group left) ≡ from_left)
+unfolding judge_line key_in hex_on_literals
+move_heads = (refl, refl, refl, refl, refl)
+
+-- The group again that is left is refused at its tag, whatever its other numbers are; bad words before the tag come first.
+moves : (moving from_left (codes "group 2 4 1 2 00000000000000000000000000000000") ≡ Ok (secret_lines.Group (record { tag = replicate 16 0; t = 2; timeout = 4; period = 1; misses = 2 })))
+    × (moving from_left (codes "group 1 4 1 2 000000000000000000000000000000aA") ≡ Ok (secret_lines.Group (record { tag = replicate 15 0 ++ 170 ∷ []; t = 1; timeout = 4; period = 1; misses = 2 })))
+    × (moving from_left (codes "group 1 4 1 2 00000000000000000000000000000000") ≡ Err bad.Limit)
+    × (moving from_left (codes "group 1 5 2 3 00000000000000000000000000000000") ≡ Err bad.Limit)
+    × (moving (migrate.Left (record { tag = replicate 16 170; t = 1; timeout = 4; period = 1; misses = 2 })) (codes "group 1 4 1 2 aAaAaAaAaAaAaAaAAAAAAAAAAAAAAAAA") ≡ Err bad.Limit)
+    × (moving from_left (codes "group 1 4 x 2 00000000000000000000000000000000") ≡ Err bad.Number)
+    × (moving from_left (codes "group 1 4 1 2 0000000000000000000000000000000") ≡ Err bad.Hex)
+    × (moving from_left (codes "group 1 4 1 2") ≡ Err bad.Count)
+    × (migrate_text.after from_left (secret_lines.Group (record { tag = replicate 16 0; t = 2; timeout = 4; period = 1; misses = 2 })) ≡ migrate.Moved secret.Grouped)
+unfolding judge_line key_in hex_on_literals
+moves = (refl, refl, refl, refl, refl, refl, refl, refl, refl)
+
+-- The second group has a place of its own, and behind it the lines come as in a secret's text.
+move_places : (moving from_left (codes "kinds 1 5") ≡ Err bad.Order)
+    × (moving migrate.Headed (codes "kinds 1 5") ≡ Err bad.Order)
+    × (moving (migrate.Moved secret.Grouped) (codes "kinds 1 5") ≡ Ok (secret_lines.Kinds (record { ots = W1; tree = H5 })))
+    × (moving (migrate.Moved secret.Grouped) (codes "group 1 4 1 2 00000000000000000000000000000000") ≡ Err bad.Order)
+    × (moving (migrate.Moved secret.Grouped) (codes "kinds 3 5") ≡ Err bad.Limit)
+    × (moving (migrate.Moved secret.Kinded) (codes "secret 00000000000000000000000000000000000000000000000000000000000000fF") ≡ Ok (secret_lines.Secret (replicate 31 0 ++ 255 ∷ [])))
+    × (moving (migrate.Moved secret.Kinded) (codes "secret 00") ≡ Err bad.Limit)
+    × (moving (migrate.Moved secret.Kinded) (codes "end") ≡ Err bad.Order)
+    × (moving (migrate.Moved secret.Given) (codes "end") ≡ Ok secret_lines.End)
+    × (moving (migrate.Moved secret.Given) (codes "cert 1 2 00") ≡ Err bad.Word)
+    × (moving (migrate.Moved secret.Ended) (codes "end") ≡ Err bad.AfterEnd)
+unfolding judge_line key_in hex_on_literals
+move_places = (refl, refl, refl, refl, refl, refl, refl, refl, refl, refl, refl)
+
+-- ## Certificates that are asked for
 
 -- where member 1 is named, and 0 and 2 are not
 abbrev one_named : RosterText

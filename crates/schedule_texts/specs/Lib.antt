@@ -3,6 +3,9 @@ pub mod Shared
 pub mod SecretRows
 pub mod SecretGrammar
 pub mod SecretLaws
+pub mod MigrateRows
+pub mod MigrateGrammar
+pub mod MigrateLaws
 pub mod RosterRows
 pub mod RosterGrammar
 pub mod RosterLaws

@@ -20,12 +20,16 @@ IsSecret form ws l = Spells secret_table form ws l
 
 -- ## Behind a line
 
+-- what has been read behind this line, wherever it stands
+abbrev pub text_behind : SecretLine → SecretText
+text_behind lines.Header = secret.Headed
+text_behind (lines.Group g) = secret.Grouped
+text_behind (lines.Kinds k) = secret.Kinded
+text_behind (lines.Secret s) = secret.Given
+text_behind lines.End = secret.Ended
+
 abbrev pub after : SecretText → SecretLine → SecretText
-after form lines.Header = secret.Headed
-after form (lines.Group g) = secret.Grouped
-after form (lines.Kinds k) = secret.Kinded
-after form (lines.Secret s) = secret.Given
-after form lines.End = secret.Ended
+after form l = text_behind l
 
 -- ## A reader of the form
 

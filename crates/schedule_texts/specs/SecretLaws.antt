@@ -12,16 +12,18 @@ use Rattle.schedule_texts.specs.declared.secret.LineWord.TheVariants as words
 use Rattle.schedule_texts.specs.SecretRows.{fields, fields_of, line, line_of, line_word, may_stand, parts, reads, row_for, secret_table, word_text}
 use Rattle.schedule_texts.specs.SecretGrammar.{IsSecret, IsSound}
 
-named : (word : LineWord) → line_word (word_text word) ≡ Some word
+-- Each line word is found by its text.
+pub named : (word : LineWord) → line_word (word_text word) ≡ Some word
 named words.End = refl
 named _ = refl
 
-parted : (form : SecretText) (word : LineWord) (vs : Values (fields word)) → parts (made_of (fields word) (line word) vs) ≡ Line word vs
-parted form words.End vs = refl
-parted form _ vs = refl
+-- A line that is made of values has these.
+pub parted : (word : LineWord) (vs : Values (fields word)) → parts (made_of (fields word) (line word) vs) ≡ Line word vs
+parted words.End vs = refl
+parted _ vs = refl
 
 sound : IsSoundTable secret_table
-sound = record { named = named; headed = λ form. refl; parted = parted }
+sound = record { named = named; headed = λ form. refl; parted = λ form. parted }
 
 -- What is taken as a line is one.
 pub secret-spelled : (form : SecretText) (first : List ℕ) (args : List (List ℕ)) (l : SecretLine) → row_line (row_for form (first ∷ args)) args ≡ Ok l → IsSecret form (first ∷ args) l
@@ -31,7 +33,8 @@ secret-spelled form first args l e = table-spelled secret_table sound form first
 pub secret-taken : (form : SecretText) (first : List ℕ) (args : List (List ℕ)) (l : SecretLine) → IsSound form → IsSecret form (first ∷ args) l → row_line (row_for form (first ∷ args)) args ≡ Ok l
 secret-taken form first args l good h = table-taken secret_table sound form first args l h
 
-line_is : (word : LineWord) → line_of word ≡ line_from (fields word) (line word)
+-- What the words are read as is the line that they make.
+pub line_is : (word : LineWord) → line_of word ≡ line_from (fields word) (line word)
 line_is words.End = refl
 line_is _ = refl
 

@@ -1,6 +1,7 @@
-//! Floor: texts. The text that makes a key's store, the text that asks an authority for certificates, and the text of a
-//! member: its group, its own secret, the authority's key, and the certificates that it begins with, each checked as
-//! its line is read. Only a member's own key and signatures take memory. `authority` and `node_command` call it.
+//! Floor: texts. The text that makes a key's store, the text that moves one to another group, the text that asks an
+//! authority for certificates, and the text of a member: its group, its own secret, the authority's key, and the
+//! certificates that it begins with, each checked as its line is read. Only a member's own key and signatures take
+//! memory. `authority` and `node_command` call it.
 #![tactic(auto)]
 
 mod kit;
@@ -8,6 +9,7 @@ mod kit_cert;
 mod kit_line;
 mod kit_read;
 mod line;
+mod migrate;
 mod roster;
 mod secret;
 mod shared;
@@ -15,6 +17,7 @@ mod shared;
 pub use kit::{KitText, Owner};
 pub use kit_line::KitLine;
 pub use line::{Kinds, RosterLine, SecretLine};
+pub use migrate::MigrateText;
 pub use roster::RosterText;
 pub use secret::SecretText;
 pub use shared::{read_group, read_kinds, read_secret, take_key, take_port};

@@ -12,10 +12,11 @@ pub struct Kinds {
     pub tree: TreeKind,
 }
 
-/// One line of the text that makes the store of an authority's key.
+/// One line of the text that makes the store of an authority's key, or of the text that moves a key's store to another
+/// group.
 #[derive(Clone, Copy, Debug, PartialEq, Eq)]
 pub enum SecretLine {
-    /// `fireflies 1 secret`
+    /// `fireflies 1 secret`, or `fireflies 1 migrate`.
     Header,
     /// `group T TIMEOUT PERIOD MISSES TAG`: the tolerance, 1 to 31; the timeout in ticks, 1 to 10,000; the period,
     /// 1 to 1,000; the misses, 1 to 16; and the tag in 16 bytes.

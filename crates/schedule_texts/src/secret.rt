@@ -1,9 +1,9 @@
 //! The text that makes the store of an authority's key, line by line.
 
 ghost use Rattle.std.specs.Prelude.{◌≡◌};
-ghost use Rattle.line_text.specs.Frame.{fields_line};
-ghost use Rattle.schedule_texts.specs.SecretRows.{TakesMemory, fields_of, is_ended, line_of, may_stand, reads, row_for, secret_table};
-ghost use Rattle.schedule_texts.specs.SecretGrammar.{IsSecret, IsSound, after};
+ghost use Rattle.line_text.specs.Frame.{fields_line, word_or_bad};
+ghost use Rattle.schedule_texts.specs.SecretRows.{TakesMemory, fields_of, is_ended, line_of, line_word, may_stand, reads, row_for, secret_table};
+ghost use Rattle.schedule_texts.specs.SecretGrammar.{IsSecret, IsSound, after, text_behind};
 
 use crate::line::SecretLine;
 use crate::shared::{read_group, read_kinds, read_secret};
@@ -36,8 +36,25 @@ pub enum LineWord {
     End,
 }
 
+/// The line word that a word is.
+pub(crate) fn line_word(word: &[u8]) -> Result<LineWord, BadWord>
+    ensures { result ≡ word_or_bad (line_word word.now) }
+{
+    if word == b"group".as_slice() {
+        Ok(LineWord::Group)
+    } else if word == b"kinds".as_slice() {
+        Ok(LineWord::Kinds)
+    } else if word == b"secret".as_slice() {
+        Ok(LineWord::Secret)
+    } else if word == b"end".as_slice() {
+        Ok(LineWord::End)
+    } else {
+        Err(BadWord::Word)
+    }
+}
+
 /// Whether a line with this word may stand here.
-fn may_stand(form: SecretText, word: LineWord) -> bool
+pub(crate) fn may_stand(form: SecretText, word: LineWord) -> bool
     ensures { result ≡ may_stand form word }
 {
     match form {
@@ -50,7 +67,7 @@ fn may_stand(form: SecretText, word: LineWord) -> bool
 }
 
 /// The line of this line word.
-fn line_of(word: LineWord, args: Words) -> Result<SecretLine, BadWord>
+pub(crate) fn line_of(word: LineWord, args: Words) -> Result<SecretLine, BadWord>
     ensures { result ≡ fields_line (fields_of word) (line_of word) args.entry }
 {
     match word {
@@ -60,6 +77,21 @@ fn line_of(word: LineWord, args: Words) -> Result<SecretLine, BadWord>
         LineWord::End => {
             args.exactly(0)?;
             Ok(SecretLine::End)
+        }
+    }
+}
+
+impl SecretText {
+    /// What has been read behind this line.
+    pub(crate) fn behind(line: &SecretLine) -> SecretText
+        ensures { result ≡ text_behind line.now }
+    {
+        match line {
+            SecretLine::Header => SecretText::Headed,
+            SecretLine::Group(_) => SecretText::Grouped,
+            SecretLine::Kinds(_) => SecretText::Kinded,
+            SecretLine::Secret(_) => SecretText::Given,
+            SecretLine::End => SecretText::Ended,
         }
     }
 }
@@ -93,17 +125,7 @@ impl TableForm for SecretText {
     }
 
     fn line_word(word: &[u8]) -> Result<LineWord, BadWord> {
-        if word == b"group".as_slice() {
-            Ok(LineWord::Group)
-        } else if word == b"kinds".as_slice() {
-            Ok(LineWord::Kinds)
-        } else if word == b"secret".as_slice() {
-            Ok(LineWord::Secret)
-        } else if word == b"end".as_slice() {
-            Ok(LineWord::End)
-        } else {
-            Err(BadWord::Word)
-        }
+        line_word(word)
     }
 
     fn line_of(
@@ -148,13 +170,7 @@ impl Form for SecretText {
     }
 
     fn advance(&mut self, line: &SecretLine) {
-        *self = match line {
-            SecretLine::Header => SecretText::Headed,
-            SecretLine::Group(_) => SecretText::Grouped,
-            SecretLine::Kinds(_) => SecretText::Kinded,
-            SecretLine::Secret(_) => SecretText::Given,
-            SecretLine::End => SecretText::Ended,
-        };
+        *self = SecretText::behind(line);
     }
 
     ghost spelled = { secret-spelled };

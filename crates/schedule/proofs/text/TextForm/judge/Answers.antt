@@ -4,6 +4,7 @@ use Rattle.line_text.proofs.FrameLemmas.{row_of_line-line}
 use Rattle.schedule_direct.specs.Rows as direct
 use Rattle.schedule_world.specs.Rows as world
 use Rattle.schedule_texts.specs.SecretRows as secret
+use Rattle.schedule_texts.specs.MigrateRows as migrate
 use Rattle.schedule_texts.specs.RosterRows as roster
 use Rattle.schedule_texts.specs.KitRows as kit
 use Rattle.verify_text.specs.Rows as verify
@@ -47,6 +48,15 @@ returns-in_err-judge-in-Secret c =
 pub returns-in_ok-judge-in-Secret : goal.returns-in_ok-judge-in-Secret
 returns-in_ok-judge-in-Secret c =
     rw c.in-Secret.is (row_of_line-line lines.Secret (secret.row_for c.in-Secret.secret c.args.words) (behind c.args.words) c.in_ok-judge-in-Secret.field-0 c.in_ok-judge-in-Secret.ensures)
+
+pub returns-in_err-judge-in-Migrate : goal.returns-in_err-judge-in-Migrate
+returns-in_err-judge-in-Migrate c =
+    let x = answers-of lines.Migrate secret.TakesMemory TakesMemory (λ l t. t) (migrate.row_for c.in-Migrate.migrate c.args.words) (behind c.args.words) (Err c.in_err-judge-in-Migrate.field-0.0) c.in_err-judge-in-Migrate.ensures in
+    rw c.in-Migrate.is (search (rules, x))
+
+pub returns-in_ok-judge-in-Migrate : goal.returns-in_ok-judge-in-Migrate
+returns-in_ok-judge-in-Migrate c =
+    rw c.in-Migrate.is (row_of_line-line lines.Migrate (migrate.row_for c.in-Migrate.migrate c.args.words) (behind c.args.words) c.in_ok-judge-in-Migrate.field-0 c.in_ok-judge-in-Migrate.ensures)
 
 pub returns-in_err-judge-in-Roster : goal.returns-in_err-judge-in-Roster
 returns-in_err-judge-in-Roster c =
