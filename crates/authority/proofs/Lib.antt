@@ -4,3 +4,5 @@ pub mod MakingLemmas
 pub mod SigningLemmas
 pub mod OpeningLemmas
 pub mod EnrolLemmas
+pub mod MovedLemmas
+pub mod MigratingLemmas

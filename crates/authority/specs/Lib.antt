@@ -6,3 +6,5 @@ pub mod Making
 pub mod Lines
 pub mod Signing
 pub mod Enrolling
+pub mod Moved
+pub mod Migrating

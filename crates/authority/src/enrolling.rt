@@ -20,14 +20,14 @@ use std::alloc::Global;
 
 /// A key that was made anew, and its store.
 #[derive(Drop)]
-struct Opened {
-    tree: Tree,
-    leaves: Leaves,
-    store: Store,
+pub(crate) struct Opened {
+    pub(crate) tree: Tree,
+    pub(crate) leaves: Leaves,
+    pub(crate) store: Store,
 }
 
 /// Makes the key of the setting, and opens its store in the file of that name.
-fn open_store<D: Disk>(
+pub(crate) fn open_store<D: Disk>(
     alloc: Global,
     name: &str,
     setting: &Setting,

@@ -23,6 +23,8 @@ mod making;
 #[cfg(test)]
 mod memory_ports;
 #[cfg(test)]
+mod migrating;
+#[cfg(test)]
 mod replaying;
 #[cfg(test)]
 mod roster_lines;
