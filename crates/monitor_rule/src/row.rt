@@ -417,7 +417,9 @@ impl Row {
         low
     }
 
-    /// As `halve`, where some hints may not tell.
+    /// As `halve`, where some hints may not tell. Apart, so that a search by hints saves no registers.
+    #[cold]
+    #[inline(never)]
     fn halve_by_places<L: Ledger>(
         &self,
         slots: &Slots,

@@ -3,5 +3,6 @@ mod QueueLemmas
 mod SlotLemmas
 mod HeldLemmas
 mod SortLemmas
+mod MarkLemmas
 mod TallyLemmas
 mod WaitLemmas

@@ -39,7 +39,8 @@ pub struct Timers {
     slots: Vec<Option<Entry>>,
     /// The numbers of the filled slots, in order of the time since when their entries stand.
     queue: Queue,
-    /// How many of the entries are against each member, and by it: who has none is found without a look at the slots.
+    /// How many of the entries are against each member, and on which rings, and how many by it: who has none is found
+    /// without a look at the slots.
     tallies: Tallies,
 }
 
@@ -332,10 +333,7 @@ impl Timers {
     pub fn standing(&self, accused: MemberId, ring: RingNo) -> Option<(AccBody, u64)>
         ensures { result ≡ entry_at accused ring.0 self.now.entries }
     {
-        if !self.tallies.against.is_any(accused) {
-            return None;
-        }
-        if ring.0 < MAX_RINGS {
+        if ring.0 < MAX_RINGS && self.tallies.marks.is_set(accused, ring) {
             kept_in(&self.slots, number_of(accused, ring))
         } else {
             None

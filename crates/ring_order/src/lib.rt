@@ -78,6 +78,17 @@ impl Places {
         self.count += 1;
     }
 
+    /// Appends the place that a number stands for.
+    fn push_number(&mut self, number: u32)
+        requires { length self.old < MAX_RINGS }
+        ensures { self.new ≡ self.old ++ place_of_number number ∷ [] }
+    {
+        let index = self.count as usize;
+        self.tails[index] = number;
+        self.rows[index] = place_of(number);
+        self.count += 1;
+    }
+
     /// The member of this number on the ring.
     fn spot(&self, ring: RingNo, number: MemberId) -> Spot
         requires { ring.0 < length self.now }
@@ -193,7 +204,7 @@ pub fn number_places(places: &[u32]) -> Places
 {
     let mut all = Places::new();
     for place in places {
-        all.push(place_of(*place));
+        all.push_number(*place);
     }
     all
 }

@@ -1,10 +1,12 @@
-use Rattle.std.proofs.Common.{◌≡◌, List, Some, set, vec_capacity, ap, sym, subst, ◌∙◌, arith}
+use Rattle.std.proofs.Common.{◌≡◌, ◌<◌, List, Some, set, vec_capacity, ap, sym, subst, ◌∙◌, arith}
+use Rattle.ff_ids.specs.declared.TheConstants.{MAX_RINGS}
 use Rattle.ff_ids.specs.Steps.{with_kept}
-use Rattle.removal_timer.specs.Kept.{Kept, entries_in}
+use Rattle.removal_timer.specs.Kept.{Kept, IsOwn, entries_in}
 use Rattle.removal_timer.specs.Tally.{is_against, is_by, AreTallied}
 use Rattle.removal_timer.proofs.SlotLemmas.{Entry}
 use Rattle.removal_timer.proofs.TallyLemmas.{count-few, AreTallied-more}
-use Rattle.removal_timer.proofs.HeldLemmas.{IsSet, IsSet-of}
+use Rattle.removal_timer.proofs.MarkLemmas.{AreOwn, marks-room}
+use Rattle.removal_timer.proofs.HeldLemmas.{IsSet, IsSet-of, IsReached-of}
 use Rattle.removal_timer.proofs.Timers.set.Goals as goal
 
 pub push-requires-clause-absent : goal.push-requires-clause-absent
@@ -27,12 +29,33 @@ add-requires-clause-by c = λ lt.
     let s = c.self.inside in
     omega (arith, c.self.invariant.tallied.by c.args.acc.accuser lt, count-few (is_by c.args.acc.accuser) s.slots.items, c.self.invariant.queued.few)
 
+pub add-requires-clause-ring : goal.add-requires-clause-ring
+add-requires-clause-ring c =
+    omega (arith, c.requires.ring, ap (λ (k : Kept). k.rings) c.self.view_is, c.self.invariant.few)
+
+pub add-requires-clause-room : goal.add-requires-clause-room
+add-requires-clause-room c = λ lt.
+    let s = c.self.inside in
+    let slots = c.reach.new.slots.items in
+    let n = c.number_of-number.result in
+    let p : Entry = (c.args.acc, c.args.now) in
+    let ring : c.args.acc.ring.0 < MAX_RINGS = omega (arith, c.requires.ring, ap (λ (k : Kept). k.rings) c.self.view_is, c.self.invariant.few) in
+    let own : IsOwn n p = record { ring = ring; number = sym c.number_of-number.ensures.value } in
+    let is = IsSet-of s.rings s.timeout (vec_capacity s.slots) s.slots.items slots s.queue s.tallies c.args.self.now n p c.self.invariant c.self.view_is c.reach.ensures.few c.reach.ensures.same c.number_of-number.ensures.value c.reach.ensures.reached c.requires.free c.requires.ring c.requires.in_time in
+    let reached = IsReached-of s.slots.items slots s.queue c.self.invariant.queued c.reach.ensures.few c.reach.ensures.same in
+    let before : AreTallied (entries_in slots) s.tallies = subst (λ (es : List Entry). AreTallied es s.tallies) (sym reached.entries) c.self.invariant.tallied in
+    marks-room slots n p s.tallies.marks before.marks reached.queued.own own is.0.free c.reach.ensures.reached lt
+
 is_tallied : (c : goal.After-push) → AreTallied (entries_in (set c.reach.new.slots.items c.number_of-number.result (Some (c.args.acc, c.args.now)))) c.add.new.self
 is_tallied c =
     let s = c.self.inside in
     let is = is_set c in
-    let before : AreTallied (entries_in c.reach.new.slots.items) s.tallies = subst (λ (es : List Entry). AreTallied es s.tallies) (sym (is.1 ∙ sym (ap (λ (k : Kept). k.entries) c.self.view_is))) c.self.invariant.tallied in
-    rw c.add.ensures.value (AreTallied-more c.reach.new.slots.items c.number_of-number.result (c.args.acc, c.args.now) s.tallies before is.0.free c.reach.ensures.reached c.add.ensures.accused c.add.ensures.accuser)
+    let slots = c.reach.new.slots.items in
+    let reached = IsReached-of s.slots.items slots s.queue c.self.invariant.queued c.reach.ensures.few c.reach.ensures.same in
+    let before : AreTallied (entries_in slots) s.tallies = subst (λ (es : List Entry). AreTallied es s.tallies) (sym reached.entries) c.self.invariant.tallied in
+    let ring : c.args.acc.ring.0 < MAX_RINGS = omega (arith, c.requires.ring, ap (λ (k : Kept). k.rings) c.self.view_is, c.self.invariant.few) in
+    let own : IsOwn c.number_of-number.result (c.args.acc, c.args.now) = record { ring = ring; number = sym c.number_of-number.ensures.value } in
+    rw c.add.ensures.value (AreTallied-more c.reach.new.slots.items c.number_of-number.result (c.args.acc, c.args.now) s.tallies before reached.queued.own is.0.queued.own own is.0.free c.reach.ensures.reached c.add.ensures.accused c.add.ensures.accuser)
 
 pub invariant_of-self : goal.invariant_of-self
 invariant_of-self c =
