@@ -42,4 +42,4 @@ not_opened name tag first Fault a b older newer opened is = record { left_out = 
 not_opened name tag first (Taken len) a b older newer opened is = absurd opened
 not_opened name tag first (Broken place byte) a b older newer opened is = absurd opened
 not_opened name tag first (OtherKey place byte) a b older newer opened is = absurd opened
-not_opened name tag first OutOfMemory a b older newer opened is = record { left_out = 3; made = is }
+not_opened name tag first OutOfMemory a b older newer opened is = is

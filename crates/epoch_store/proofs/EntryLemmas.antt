@@ -1,5 +1,5 @@
 -- An entry has one spelling, and a spelling one entry.
-use Rattle.std.proofs.Common.{◌≡◌, ℕ, ◌+◌, ◌-◌, ◌<◌, Bool, true, false, Option, None, Some, List, ◌++◌, length, take, drop, refl, sym, ap, ◌∙◌, arith, append_assoc, length-append, lit<}
+use Rattle.std.proofs.Common.{◌≡◌, ℕ, ◌+◌, ◌-◌, ◌<◌, Bool, true, false, Option, None, Some, List, ◌∷◌, ◌++◌, length, take, drop, refl, sym, ap, ◌∙◌, arith, append_assoc, length-append, lit<}
 use Rattle.std.specs.Int.{w32, w64, to_be_bytes, from_be_bytes}
 use Rattle.std.proofs.lemmas.Nat.{from_be_bytes-to_be_bytes_4, from_be_bytes-to_be_bytes_8}
 use Rattle.std.proofs.lemmas.List.{take_at, drop_at}
@@ -64,6 +64,11 @@ marked_in wide bytes marked =
     let cut : drop 12 (drop 1 bytes) ≡ mask_bytes wide (mark wide) ++ marked.rest =
     ap (λ (b : List ℕ). drop 12 (drop 1 b)) marked.begins ∙ drop_at marked.before (mask_bytes wide (mark wide) ++ marked.rest) 12 marked.twelve in
     ap (from_mask wide) cut ∙ mask_again wide (mark wide) marked.rest (mark_fits wide)
+
+-- an entry that keeps its mask isn't marked
+pub kept_unmarked : (wide : Bool) (bytes : List ℕ) (s : Stored) (rest : List ℕ) → FitsMask wide None s.mask.0 → bytes ≡ 1 ∷ (spelled_by wide None s ++ rest) → IsMarked wide bytes → ⊥
+kept_unmarked wide bytes s rest fits is marked =
+    fits.1 (sym (shown_in wide None s rest fits) ∙ ap (λ (b : List ℕ). from_mask wide (drop 12 (drop 1 b))) (sym is) ∙ marked_in wide bytes marked)
 
 -- ---- one entry
 

@@ -88,7 +88,7 @@ tag_past wide seat None mask long held = long
 tag_past false seat (Some tag) mask long held = held
 tag_past true seat (Some tag) mask long held = held
 
-chain_tag : (first : Seat) (entries : List Entry) → length first.tag ≡ 32 → IsChain first entries → length (seat_from first entries).tag ≡ 32
+pub chain_tag : (first : Seat) (entries : List Entry) → length first.tag ≡ 32 → IsChain first entries → length (seat_from first entries).tag ≡ 32
 chain_tag first [] long chain = long
 chain_tag first (e ∷ older) long chain =
     let seat : Seat = seat_from first older in

@@ -6,16 +6,11 @@ use Rattle.std.proofs.lemmas.Bool.{and_parts, and_from, cases_Bool, eq-eqb, ltb-
 use Rattle.epoch_store.specs.declared.Stored.{Stored}
 use Rattle.epoch_store.specs.declared.entry.Entry.{Entry}
 use Rattle.epoch_store.specs.declared.seat.Seat.{Seat}
-use Rattle.epoch_store.specs.Seat.{behind, behind_by, first_seat, seat_from, width_by}
-use Rattle.epoch_store.specs.Reading.{Reading, Finds, Differs, FitsMask, IsClosed, IsOpenEntry, ReadsBehind, ReadsFrom, Reads, closes, closes_by, first_broken, head_by, head_seat, mask_stands, own_mask_stands, width_of, wrong_field}
-use Rattle.epoch_store.specs.Store.{Comes, IsChain, IsEntryOf, IsHeld, StoreAt, StoreOf, entry_with, front, magic, spelled, spelled_by}
-use Rattle.epoch_store.proofs.EntryLemmas.{length-moves}
+use Rattle.epoch_store.specs.Seat.{behind, first_seat, seat_from, width_by}
+use Rattle.epoch_store.specs.Reading.{Reading, Finds, Differs, FitsMask, IsClosed, IsOpenEntry, ReadsBehind, ReadsFrom, Reads, closes, closes_by, first_broken, head_by, head_seat, last_kept, mask_stands, own_mask_stands, width_of, wrong_field}
+use Rattle.epoch_store.specs.Store.{Comes, IsChain, IsEntryOf, IsHeld, StoreAt, StoreOf, entry_with, front, magic, spelled}
+use Rattle.epoch_store.proofs.FileLemmas.{chain_tag, front-length, gate_past, store_tag}
 use Rattle.epoch_store.proofs.OnceLemmas.{reads_once}
-
--- the state of the last entry, if there is one
-abbrev pub head_of : List Entry → Option Stored
-head_of [] = None
-head_of (e ∷ older) = Some e.kept
 
 -- ---- rules
 
@@ -46,7 +41,7 @@ first_keeps wide None mask stands = refl
 first_keeps wide (Some tag) mask stands = cc
 
 -- an entry with no wrong field may come after these
-chained : (first : Seat) (entries : List Entry) (e : Entry) → wrong_field (seat_from first entries).wide (head_of entries) e ≡ None → FitsMask (seat_from first entries).wide e.moved e.kept.mask.0 → IsChain first entries → IsChain first (e ∷ entries)
+chained : (first : Seat) (entries : List Entry) (e : Entry) → wrong_field (seat_from first entries).wide (last_kept entries) e ≡ None → FitsMask (seat_from first entries).wide e.moved e.kept.mask.0 → IsChain first entries → IsChain first (e ∷ entries)
 chained first [] e none fits chain =
     let wide = first.wide in
     let s = e.kept in
@@ -90,7 +85,7 @@ keeps_first : (moved : Option (List ℕ)) → moved ≡ None → is_some moved �
 keeps_first moved none some = let clash : false ≡ true = sym (ap is_some none) ∙ some in cc
 
 -- an entry that may come after these has no wrong field
-not_wrong : (first : Seat) (entries : List Entry) (e : Entry) → IsEntryOf (seat_from first entries).wide e → Comes entries e → wrong_field (seat_from first entries).wide (head_of entries) e ≡ None
+not_wrong : (first : Seat) (entries : List Entry) (e : Entry) → IsEntryOf (seat_from first entries).wide e → Comes entries e → wrong_field (seat_from first entries).wide (last_kept entries) e ≡ None
 not_wrong first [] e entry comes =
     let wide = first.wide in
     let s = e.kept in
@@ -104,50 +99,9 @@ not_wrong first (b ∷ older) e entry comes =
     (and_from _ _ (le-leb _ _ entry.keeps.next_small) (lt-ltb _ _ comes.next_rises)) (and_from _ _ (le-leb _ _ entry.keeps.epoch_small) (le-leb _ _ comes.epoch_stays))
     (stands_held wide (Some b.kept) e.moved s.mask.0 entry.holds entry.keeps.mask_small (λ some. refl)) (own_held e.moved s.mask.0 entry.keeps.mask_small)
 
--- ---- places
-
 held_tag : (wide : Bool) (tag : List ℕ) (mask : ℕ) → IsHeld wide (Some tag) mask → length tag ≡ 32
 held_tag false tag mask held = held
 held_tag true tag mask held = held
-
--- the tag that is in force has 32 bytes
-abbrev tag_by : Option (List ℕ) → Seat → List ℕ
-tag_by moved seat = (behind_by moved seat).tag
-
-tag_long_by : (seat : Seat) (moved : Option (List ℕ)) (mask : ℕ) → length seat.tag ≡ 32 → IsHeld seat.wide moved mask → length (tag_by moved seat) ≡ 32
-tag_long_by seat None mask long held = long
-tag_long_by seat (Some tag) mask long held = held_tag seat.wide tag mask held
-
-pub tag_long : (first : Seat) (entries : List Entry) → length first.tag ≡ 32 → IsChain first entries → length (seat_from first entries).tag ≡ 32
-tag_long first [] long chain = long
-tag_long first (e ∷ older) long chain = tag_long_by (seat_from first older) e.moved e.kept.mask.0 (tag_long first older long chain.2) chain.0.holds
-
-gate_by : (seat : Seat) (moved : Option (List ℕ)) (s : Stored) → IsHeld seat.wide moved s.mask.0 → (behind_by moved seat).gate ≡ seat.gate + suc (length (spelled_by seat.wide moved s))
-gate_by seat None s held = by_width seat.wide
-  where
-    by_width : (wide : Bool) → seat.gate + width_by wide ≡ seat.gate + suc (length (spelled_by wide None s))
-    by_width false = refl
-    by_width true = refl
-gate_by seat (Some tag) s held = by_width seat.wide
-  where
-    by_width : (wide : Bool) → seat.gate + width_by wide + 40 ≡ seat.gate + suc (length (spelled_by wide (Some tag) s))
-    by_width false = omega (arith, length-moves false tag s (held_tag seat.wide tag s.mask.0 held))
-    by_width true = omega (arith, length-moves true tag s (held_tag seat.wide tag s.mask.0 held))
-
--- the gate behind an entry stands where its bytes end
-pub behind_gate : (seat : Seat) (e : Entry) → IsHeld seat.wide e.moved e.kept.mask.0 → (behind seat e).gate ≡ seat.gate + suc (length (spelled seat.wide e))
-behind_gate seat e held = gate_by seat e.moved e.kept held
-
-magic_long : (wide : Bool) → length (magic wide) ≡ 8
-magic_long false = refl
-magic_long true = refl
-
--- the gate behind some entries stands where their bytes end
-pub front_gate : (wide : Bool) (header : List ℕ) (entries : List Entry) → length header ≡ 32 → IsChain (first_seat wide header) entries → (seat_from (first_seat wide header) entries).gate ≡ length (front wide header entries)
-front_gate wide header [] long chain = omega (arith, long, magic_long wide, length-append (magic wide) header)
-front_gate wide header (e ∷ older) long chain =
-    let seat = seat_from (first_seat wide header) older in
-    omega (arith, behind_gate seat e chain.0.holds, front_gate wide header older long chain.2, length-append (front wide header older) (1 ∷ spelled seat.wide e))
 
 -- ---- prefixes
 
@@ -164,7 +118,7 @@ whole_prefix (x ∷ xs) (y ∷ ys) all =
       | inr other ↦ let h : suc (length xs) ≤ 0 = rw other at all in absurd (omega arith)
     ]
 
-self_prefix : (xs more : List ℕ) → common_prefix_len nat_eq xs (xs ++ more) ≡ length xs
+pub self_prefix : (xs more : List ℕ) → common_prefix_len nat_eq xs (xs ++ more) ≡ length xs
 self_prefix [] more = refl
 self_prefix (x ∷ xs) more = let same : eqb x x ≡ true = eq-eqb x x refl in rw same (let rest = self_prefix xs more in omega arith)
 
@@ -268,14 +222,14 @@ begins_with x (y ∷ xs) rest is = let same : y ≡ x = cc in ap (λ (z : ℕ). 
 
 -- what a reading finds behind these entries is the store of the file
 found_from : (tag image : List ℕ) (wide : Bool) (header : List ℕ) → length tag ≡ 32 → length header ≡ 32 → (before : Option Stored) (seat : Seat) (reading : Reading) → ReadsFrom tag image before seat reading
-    → (entries : List Entry) → image ≡ front wide header entries ++ drop seat.gate image → seat ≡ seat_from (first_seat wide header) entries → IsChain (first_seat wide header) entries → before ≡ head_of entries → (state : Stored) (at : Seat) → reading ≡ Finds state at → StoreAt tag image state at
+    → (entries : List Entry) → image ≡ front wide header entries ++ drop seat.gate image → seat ≡ seat_from (first_seat wide header) entries → IsChain (first_seat wide header) entries → before ≡ last_kept entries → (state : Stored) (at : Seat) → reading ≡ Finds state at → StoreAt tag image state at
 found_from tag image wide header size long before seat reading (ReadsFrom.ends _ _ s stands) [] bytes place chain last state at is = let no : None ≡ Some s = sym last ∙ stands.1 in cc
 found_from tag image wide header size long before seat reading (ReadsFrom.ends _ _ s stands) (e ∷ older) bytes place chain last state at is =
     let ends = closed_by tag s seat state at is in
     let kept : e.kept ≡ s = let both : Some e.kept ≡ Some s = sym last ∙ stands.1 in cc in
     let first : e.kept ≡ state = kept ∙ ends.one_state in
     let shut = begins_with stands.0.gate (drop seat.gate image) stands.0.rest stands.0.begins in
-    let in_force : length seat.tag ≡ 32 = subst (λ (z : Seat). length z.tag ≡ 32) (sym place) (tag_long (first_seat wide header) (e ∷ older) long chain) in
+    let in_force : length seat.tag ≡ 32 = subst (λ (z : Seat). length z.tag ≡ 32) (sym place) (chain_tag (first_seat wide header) (e ∷ older) long chain) in
     let P : Stored → Type 0 = λ z. StoreAt tag image z at in
     let Q : Seat → Type 0 = λ z. StoreAt tag image e.kept z in
     subst P first (subst Q ends.one_seat (record {
@@ -296,12 +250,12 @@ found_from tag image wide header size long before seat reading (ReadsFrom.breaks
 found_from tag image wide header size long before seat reading (ReadsFrom.goes _ _ e _ stands more) entries bytes place chain last state at is =
     let first = first_seat wide header in
     let here : seat.wide ≡ (seat_from first entries).wide = ap (λ (z : Seat). z.wide) place in
-    let fine : wrong_field (seat_from first entries).wide (head_of entries) e ≡ None =
-    subst (λ (w : Bool). wrong_field w (head_of entries) e ≡ None) here (subst (λ (b : Option Stored). wrong_field seat.wide b e ≡ None) last stands.1) in
+    let fine : wrong_field (seat_from first entries).wide (last_kept entries) e ≡ None =
+    subst (λ (w : Bool). wrong_field w (last_kept entries) e ≡ None) here (subst (λ (b : Option Stored). wrong_field seat.wide b e ≡ None) last stands.1) in
     let fits : FitsMask (seat_from first entries).wide e.moved e.kept.mask.0 = subst (λ (w : Bool). FitsMask w e.moved e.kept.mask.0) here stands.0.mask_fits in
     let longer_chain = chained first entries e fine fits chain in
     let held : IsHeld seat.wide e.moved e.kept.mask.0 = subst (λ (w : Bool). IsHeld w e.moved e.kept.mask.0) (sym here) longer_chain.0.holds in
-    let gate : (behind seat e).gate ≡ seat.gate + suc (length (spelled seat.wide e)) = behind_gate seat e held in
+    let gate : (behind seat e).gate ≡ seat.gate + suc (length (spelled seat.wide e)) = omega (arith, gate_past seat e held) in
     let entry : List ℕ = 1 ∷ spelled seat.wide e in
     let behind_it : drop (behind seat e).gate image ≡ stands.0.rest =
     ap (λ (n : ℕ). drop n image) gate ∙ sym (drop-drop (length entry) seat.gate image) ∙ ap (drop (length entry)) stands.0.begins ∙ drop_at entry stands.0.rest (length entry) refl in
@@ -332,7 +286,7 @@ fits_held true None mask held small = (omega (arith, small), λ (same : mask ≡
 fits_held wide (Some tag) mask held small = (omega (arith, small), held_tag wide tag mask held)
 
 -- an entry of a chain stands in its seat
-pub stands_in_chain : (first : Seat) (older : List Entry) (e : Entry) (bytes rest : List ℕ) → IsChain first (e ∷ older) → bytes ≡ 1 ∷ (spelled (seat_from first older).wide e ++ rest) → IsOpenEntry (seat_from first older).wide bytes e × (wrong_field (seat_from first older).wide (head_of older) e ≡ None)
+pub stands_in_chain : (first : Seat) (older : List Entry) (e : Entry) (bytes rest : List ℕ) → IsChain first (e ∷ older) → bytes ≡ 1 ∷ (spelled (seat_from first older).wide e ++ rest) → IsOpenEntry (seat_from first older).wide bytes e × (wrong_field (seat_from first older).wide (last_kept older) e ≡ None)
 stands_in_chain first older e bytes rest chain begins =
     let entry = chain.0 in (
       record {
@@ -348,11 +302,11 @@ stands_in_chain first older e bytes rest chain begins =
 -- the bytes from a gate on, these being all in front of it
 pub from_gate : (wide : Bool) (header : List ℕ) (entries : List Entry) (rest image : List ℕ) → length header ≡ 32 → IsChain (first_seat wide header) entries → image ≡ front wide header entries ++ rest → drop (seat_from (first_seat wide header) entries).gate image ≡ rest
 from_gate wide header entries rest image long chain bytes =
-    ap (drop (seat_from (first_seat wide header) entries).gate) bytes ∙ drop_at (front wide header entries) rest (seat_from (first_seat wide header) entries).gate (sym (front_gate wide header entries long chain))
+    ap (drop (seat_from (first_seat wide header) entries).gate) bytes ∙ drop_at (front wide header entries) rest (seat_from (first_seat wide header) entries).gate (front-length wide header entries long chain)
 
 -- a reading behind these entries is one from the first seat on
 back : (tag image : List ℕ) (wide : Bool) (header : List ℕ) (entries : List Entry) (rest : List ℕ) (reading : Reading) → length header ≡ 32 → IsChain (first_seat wide header) entries → image ≡ front wide header entries ++ rest
-    → ReadsFrom tag image (head_of entries) (seat_from (first_seat wide header) entries) reading → ReadsFrom tag image None (first_seat wide header) reading
+    → ReadsFrom tag image (last_kept entries) (seat_from (first_seat wide header) entries) reading → ReadsFrom tag image None (first_seat wide header) reading
 back tag image wide header [] rest reading long chain bytes reads = reads
 back tag image wide header (e ∷ older) rest reading long chain bytes reads =
     let seat = seat_from (first_seat wide header) older in
@@ -360,7 +314,7 @@ back tag image wide header (e ∷ older) rest reading long chain bytes reads =
     let shape : image ≡ front wide header older ++ (entry ++ rest) = bytes ∙ append_assoc (front wide header older) entry rest in
     let cut = from_gate wide header older (entry ++ rest) image long chain.2 shape in
     let stands = stands_in_chain (first_seat wide header) older e (drop seat.gate image) rest chain cut in
-    back tag image wide header older (entry ++ rest) reading long chain.2 shape (ReadsFrom.goes (head_of older) seat e reading stands reads)
+    back tag image wide header older (entry ++ rest) reading long chain.2 shape (ReadsFrom.goes (last_kept older) seat e reading stands reads)
 
 -- a file begins with the header and the tag, whatever entries follow
 front_of : (wide : Bool) (header : List ℕ) (entries : List Entry) (rest : List ℕ) → (more : List ℕ) × (front wide header entries ++ rest ≡ front wide header [] ++ more)
@@ -374,7 +328,7 @@ front_of wide header (e ∷ older) rest =
 pub head_found : (wide : Bool) (header : List ℕ) (entries : List Entry) (rest image : List ℕ) → length header ≡ 32 → image ≡ front wide header entries ++ rest → head_seat (take 40 image) ≡ Ok (first_seat wide header)
 head_found wide header entries rest image long bytes =
     let begins = front_of wide header entries rest in
-    let size : length (front wide header []) ≡ 40 = omega (arith, long, magic_long wide, length-append (magic wide) header) in
+    let size : length (front wide header []) ≡ 40 = front-length wide header [] long tt in
     let head : take 40 image ≡ front wide header [] = ap (take 40) (bytes ∙ begins.1) ∙ take_at (front wide header []) begins.0 40 size in
     ap head_seat head ∙ head_made wide header long
 
@@ -383,20 +337,32 @@ closes_same tag state seat size in_force =
     let same : common_prefix_len nat_eq tag seat.tag ≡ 32 = ap (common_prefix_len nat_eq tag) in_force ∙ self_whole tag ∙ size in
     ap (λ (n : ℕ). closes_by n state seat) same
 
--- the store of a file is what each reading of it finds
-pub store_found : (tag image : List ℕ) (state : Stored) (seat : Seat) → length tag ≡ 32 → StoreAt tag image state seat → Reads tag image (Finds state seat)
-store_found tag image state seat size store =
+-- a store's file is read up to its closed gate, whichever tag is asked
+store_read : (tag asked image : List ℕ) (state : Stored) (seat : Seat) → StoreAt tag image state seat → Reads asked image (closes asked state seat)
+store_read tag asked image state seat store =
     let first = first_seat store.wide store.header in
     let entries = entry_with store.moved state ∷ store.older in
-    let cut = from_gate store.wide store.header entries (store.shut ∷ store.rest) image store.long store.chain store.bytes in
+    let bytes = store.shut ∷ store.rest in
+    let cut = from_gate store.wide store.header entries bytes image store.long store.chain store.bytes in
     let here = seat_from first entries in
     let closed : IsClosed (drop here.gate image) = record { gate = store.shut; rest = store.rest; begins = cut; closed = store.closed } in
-    let ends : ReadsFrom tag image (Some state) here (closes tag state here) = ReadsFrom.ends (Some state) here state (closed, refl) in
-    let same : closes tag state here ≡ Finds state seat = ap (closes tag state) (sym store.place) ∙ closes_same tag state seat size store.in_force in
-    let reads = back tag image store.wide store.header entries (store.shut ∷ store.rest) (Finds state seat) store.long store.chain store.bytes (subst (ReadsFrom tag image (Some state) here) same ends) in
-    subst (λ (head : Result Seat ℕ). ReadsBehind tag image head (Finds state seat)) (sym (head_found store.wide store.header entries (store.shut ∷ store.rest) image store.long store.bytes)) reads
+    let ends : ReadsFrom asked image (Some state) here (closes asked state here) = ReadsFrom.ends (Some state) here state (closed, refl) in
+    let there : ReadsFrom asked image (Some state) here (closes asked state seat) = subst (λ (s : Seat). ReadsFrom asked image (Some state) here (closes asked state s)) (sym store.place) ends in
+    let reads = back asked image store.wide store.header entries bytes (closes asked state seat) store.long store.chain store.bytes there in
+    subst (λ (head : Result Seat ℕ). ReadsBehind asked image head (closes asked state seat)) (sym (head_found store.wide store.header entries bytes image store.long store.bytes)) reads
+
+-- the store of a file is what each reading of it finds
+pub store_found : (tag image : List ℕ) (state : Stored) (seat : Seat) → length tag ≡ 32 → StoreAt tag image state seat → Reads tag image (Finds state seat)
+store_found tag image state seat size store = subst (Reads tag image) (closes_same tag state seat size store.in_force) (store_read tag tag image state seat store)
+
+-- one file is a store of one tag and one state
+pub one_store : (image tag other : List ℕ) (a b : Stored) → StoreOf tag image a → StoreOf other image b → (a ≡ b) × (tag ≡ other)
+one_store image tag other a b x y =
+    let size : length tag ≡ 32 = ap length (sym x.1.in_force) ∙ store_tag tag image a x.0 x.1 in
+    let same = reads_once tag image (closes tag b y.0) (Finds a x.0) (store_read other tag image b y.0 y.1) (store_found tag image a x.0 size x.1) in
+    let ends = closed_by tag b y.0 a x.0 same in
+    (sym ends.one_state, sym x.1.in_force ∙ ap (λ (s : Seat). s.tag) (sym ends.one_seat) ∙ y.1.in_force)
 
 -- a file has one state
 pub one_state : (tag image : List ℕ) (a b : Stored) → length tag ≡ 32 → StoreOf tag image a → StoreOf tag image b → a ≡ b
-one_state tag image a b size x y =
-    let same = reads_once tag image (Finds a x.0) (Finds b y.0) (store_found tag image a x.0 size x.1) (store_found tag image b y.0 size y.1) in cc
+one_state tag image a b size x y = (one_store image tag tag a b x y).0

@@ -14,10 +14,10 @@ use Rattle.epoch_store.specs.declared.seat.Seat.{Seat}
 use Rattle.epoch_store.specs.Seat.{behind, behind_by, header_length, moved_length, seat_from, width, width_by}
 use Rattle.epoch_store.specs.declared.StoreError.{StoreError}
 use Rattle.epoch_store.specs.declared.StoreError.TheVariants.{Fault, Taken, Broken, OtherKey, OutOfMemory}
-use Rattle.epoch_store.specs.Reading.{Reading, Finds, Breaks, Differs, ReadsFrom, closes, wrong_field}
+use Rattle.epoch_store.specs.Reading.{Reading, Finds, Breaks, Differs, ReadsFrom, StandsIn, closes, last_kept, wrong_field}
 use Rattle.epoch_store.specs.Calls.{FindsGate, IsAfter, IsBehindMark, IsNotTaken, IsPlaced, Judges, OnRead, ReadsEntries, ReadsGate, ReadsHead, StoreState, answer_of, is_fault}
 use Rattle.epoch_store.specs.Store.{IsEntry}
-use Rattle.epoch_store.specs.Asked.{ClosedIn, MarkedIn, Passed, PassesGates, Reaches, ReadsGates, ReadsOneGate, ReadsUpTo, entry_reads, gate_reads}
+use Rattle.epoch_store.specs.Asked.{ClosedIn, Passed, PassesIn, ReadsGates, ReadsMark, ReadsOneGate, ReadsUpTo, entry_reads, gate_reads}
 use Rattle.epoch_store.specs.Followed.{ReadsGatesFrom, ReadsOneGateFrom, ReadsOnUpTo}
 use Rattle.epoch_store.proofs.CallLemmas.{joined, with_calls-append}
 use Rattle.epoch_store.proofs.ReadLemmas.{kept_small}
@@ -25,7 +25,7 @@ use Rattle.epoch_store.proofs.ReadLemmas.{kept_small}
 -- ---- one gate
 
 -- what was read behind a mark
-pub behind_mark_calls : (seat : Seat) (moments : List Moment) (result : Result Gate StoreError) (older middle newer : Option (List DiskCall)) → IsBehindMark seat result → MarkedIn moments seat
+pub behind_mark_calls : (seat : Seat) (moments : List Moment) (result : Result Gate StoreError) (older middle newer : Option (List DiskCall)) → IsBehindMark seat result → ReadsMark moments seat true
     → middle ≡ with_call (ToRead seat.gate (width seat)) older → newer ≡ with_call (ToRead (seat.gate + width seat) moved_length) middle → ReadsOneGate seat moments result older newer
 behind_mark_calls seat moments (Ok (Shut state)) older middle newer near marked first second = absurd near
 behind_mark_calls seat moments (Ok (Open e)) older middle newer near marked first second =
@@ -39,7 +39,7 @@ behind_mark_calls seat moments (Err (Broken place byte)) older middle newer near
 behind_mark_calls seat moments (Err (OtherKey place byte)) older middle newer near marked first second = near
 behind_mark_calls seat moments (Err OutOfMemory) older middle newer near marked first second = near
 
-pub behind_mark_follows : (seat : Seat) (moments : List Moment) (result : Result Gate StoreError) (older middle newer : Option DiskState) → IsBehindMark seat result → MarkedIn moments seat
+pub behind_mark_follows : (seat : Seat) (moments : List Moment) (result : Result Gate StoreError) (older middle newer : Option DiskState) → IsBehindMark seat result → ReadsMark moments seat true
     → came_to middle false ≡ runs_on (ToRead seat.gate (width seat) ∷ []) older → came_to newer (is_fault result) ≡ runs_on (ToRead (seat.gate + width seat) moved_length ∷ []) middle → ReadsOneGateFrom seat moments result older newer
 behind_mark_follows seat moments (Ok (Shut state)) older middle newer near marked first second = absurd near
 behind_mark_follows seat moments (Ok (Open e)) older middle newer near marked first second =
@@ -64,89 +64,86 @@ near_mark seat before e bytes (Err (OtherKey place byte)) some judges small = ju
 near_mark seat before e bytes (Err OutOfMemory) some judges small = judges
 
 -- an entry that moves nothing
-pub kept_calls : (seat : Seat) (moments : List Moment) (before : Option Stored) (e : Entry) (bytes : List ℕ) (result : Result Gate StoreError) (older newer : Option (List DiskCall)) → e.moved ≡ None → Judges seat before e bytes result
+pub kept_calls : (seat : Seat) (moments : List Moment) (before : Option Stored) (e : Entry) (bytes : List ℕ) (result : Result Gate StoreError) (older newer : Option (List DiskCall)) → e.moved ≡ None → ReadsMark moments seat false → Judges seat before e bytes result
     → newer ≡ with_call (ToRead seat.gate (width seat)) older → ReadsOneGate seat moments result older newer
-kept_calls seat moments before e bytes (Ok (Shut state)) older newer none judges is = absurd judges
-kept_calls seat moments before e bytes (Ok (Open found)) older newer none judges is =
+kept_calls seat moments before e bytes (Ok (Shut state)) older newer none unmarked judges is = absurd judges
+kept_calls seat moments before e bytes (Ok (Open found)) older newer none unmarked judges is =
     let plain : is_some found.moved ≡ false = ap (λ (x : Entry). is_some x.moved) judges.0 ∙ ap is_some none in
     subst (λ (moved : Bool). newer ≡ with_calls (gate_reads seat moved) older) (sym plain) is
-kept_calls seat moments before e bytes (Err Fault) older newer none judges is = absurd judges
-kept_calls seat moments before e bytes (Err (Taken len)) older newer none judges is = judges
-kept_calls seat moments before e bytes (Err (Broken place byte)) older newer none judges is =
+kept_calls seat moments before e bytes (Err Fault) older newer none unmarked judges is = absurd judges
+kept_calls seat moments before e bytes (Err (Taken len)) older newer none unmarked judges is = judges
+kept_calls seat moments before e bytes (Err (Broken place byte)) older newer none unmarked judges is =
     let small = kept_small seat.wide before e judges.0 none judges.1 in
-    (false, tt, omega (arith, judges.2), omega (arith, judges.2, small), is)
-kept_calls seat moments before e bytes (Err (OtherKey place byte)) older newer none judges is = judges
-kept_calls seat moments before e bytes (Err OutOfMemory) older newer none judges is = judges
+    (false, unmarked, omega (arith, judges.2), omega (arith, judges.2, small), is)
+kept_calls seat moments before e bytes (Err (OtherKey place byte)) older newer none unmarked judges is = judges
+kept_calls seat moments before e bytes (Err OutOfMemory) older newer none unmarked judges is = judges
 
-pub kept_follows : (seat : Seat) (moments : List Moment) (before : Option Stored) (e : Entry) (bytes : List ℕ) (result : Result Gate StoreError) (older newer : Option DiskState) → e.moved ≡ None → Judges seat before e bytes result
+pub kept_follows : (seat : Seat) (moments : List Moment) (before : Option Stored) (e : Entry) (bytes : List ℕ) (result : Result Gate StoreError) (older newer : Option DiskState) → e.moved ≡ None → ReadsMark moments seat false → Judges seat before e bytes result
     → came_to newer false ≡ runs_on (ToRead seat.gate (width seat) ∷ []) older → ReadsOneGateFrom seat moments result older newer
-kept_follows seat moments before e bytes (Ok (Shut state)) older newer none judges is = absurd judges
-kept_follows seat moments before e bytes (Ok (Open found)) older newer none judges is =
+kept_follows seat moments before e bytes (Ok (Shut state)) older newer none unmarked judges is = absurd judges
+kept_follows seat moments before e bytes (Ok (Open found)) older newer none unmarked judges is =
     let plain : is_some found.moved ≡ false = ap (λ (x : Entry). is_some x.moved) judges.0 ∙ ap is_some none in
     subst (λ (moved : Bool). came_to newer false ≡ runs_on (gate_reads seat moved) older) (sym plain) is
-kept_follows seat moments before e bytes (Err Fault) older newer none judges is = absurd judges
-kept_follows seat moments before e bytes (Err (Taken len)) older newer none judges is = judges
-kept_follows seat moments before e bytes (Err (Broken place byte)) older newer none judges is =
+kept_follows seat moments before e bytes (Err Fault) older newer none unmarked judges is = absurd judges
+kept_follows seat moments before e bytes (Err (Taken len)) older newer none unmarked judges is = judges
+kept_follows seat moments before e bytes (Err (Broken place byte)) older newer none unmarked judges is =
     let small = kept_small seat.wide before e judges.0 none judges.1 in
-    (false, tt, omega (arith, judges.2), omega (arith, judges.2, small), is)
-kept_follows seat moments before e bytes (Err (OtherKey place byte)) older newer none judges is = judges
-kept_follows seat moments before e bytes (Err OutOfMemory) older newer none judges is = judges
+    (false, unmarked, omega (arith, judges.2), omega (arith, judges.2, small), is)
+kept_follows seat moments before e bytes (Err (OtherKey place byte)) older newer none unmarked judges is = judges
+kept_follows seat moments before e bytes (Err OutOfMemory) older newer none unmarked judges is = judges
 
 -- ---- gates, one after the other
 
--- reading comes to the gate, where the file is modelled
-abbrev pub ReachesIn : List Moment → Option Stored → Seat → List DiskCall → Type 0
-ReachesIn [] before seat reads = Unit {0}
-ReachesIn (now ∷ past) before seat reads = Reaches now.image before seat reads
-
-passes_in : (moments : List Moment) (before : Option Stored) (seat : Seat) (reads : List DiskCall) → ReachesIn moments before seat reads → PassesGates moments seat reads
-passes_in [] before seat reads reached = tt
-passes_in (now ∷ past) before seat reads reached = (before, reached)
-
 -- the gates in front of this one were read, from the first one on
 pub record GatesRead (moments : List Moment) (first : Seat) (before : Option Stored) (seat : Seat) (older newer : Option (List DiskCall)) (was now : Option DiskState) : Type 0 where
-  pub reads : List DiskCall
   pub entries : List Entry
+  pub passes : PassesIn moments first entries
+  pub last : before ≡ last_kept entries
   pub ends : seat ≡ seat_from first entries
-  pub are : reads ≡ entry_reads first entries
-  pub reached : ReachesIn moments before seat reads
-  pub made : newer ≡ with_calls reads older
-  pub came : came_to now false ≡ runs_on reads was
+  pub made : newer ≡ with_calls (entry_reads first entries) older
+  pub came : came_to now false ≡ runs_on (entry_reads first entries) was
 
 pub none_read : (moments : List Moment) (first : Seat) (older : Option (List DiskCall)) (was : Option DiskState) → ReadsHead moments (Ok first) → GatesRead moments first None first older older was was
-none_read moments first older was head = record { reads = []; entries = []; ends = refl; are = refl; reached = begins moments head; made = refl; came = runs_none was }
+none_read moments first older was head = record { entries = []; passes = begins moments head; last = refl; ends = refl; made = refl; came = runs_none was }
   where
-    begins : (moments : List Moment) → ReadsHead moments (Ok first) → ReachesIn moments None first []
+    begins : (moments : List Moment) → ReadsHead moments (Ok first) → PassesIn moments first []
     begins [] head = tt
-    begins (now ∷ past) head = Reaches.begins first head
+    begins (now ∷ past) head = head
 
 pub one_more : (moments : List Moment) (first : Seat) (before : Option Stored) (seat : Seat) (e : Entry) (older middle newer : Option (List DiskCall)) (was mid now : Option DiskState) → GatesRead moments first before seat older middle was mid
     → ReadsOneGate seat moments (Ok (Open e)) middle newer → ReadsOneGateFrom seat moments (Ok (Open e)) mid now → ReadsGate before seat moments (Ok (Open e)) → GatesRead moments first (Some e.kept) (behind seat e) older newer was now
 one_more moments first before seat e older middle newer was mid now read calls follows stands =
-    let more = gate_reads seat (is_some e.moved) in record {
-      reads = more ++ read.reads;
+    let more = gate_reads seat (is_some e.moved) in
+    let reads = entry_reads first read.entries in
+    record {
       entries = e ∷ read.entries;
+      passes = further moments read.passes stands;
+      last = refl;
       ends = ap (λ (z : Seat). behind z e) read.ends;
-      are = (λ i. gate_reads (read.ends i) (is_some e.moved) ++ read.are i);
-      reached = further moments read.reads read.reached stands;
-      made = calls ∙ ap (with_calls more) read.made ∙ sym (with_calls-append more read.reads older);
-      came = then_runs more read.reads was mid now false read.came follows;
+      made =
+          calls
+          ∙ ap (with_calls more) read.made
+          ∙ sym (with_calls-append more reads older)
+          ∙ ap (λ (z : Seat). with_calls (gate_reads z (is_some e.moved) ++ reads) older) read.ends;
+      came = then_runs more reads was mid now false read.came follows ∙ ap (λ (z : Seat). runs_on (gate_reads z (is_some e.moved) ++ reads) was) read.ends;
     }
   where
-    further : (moments : List Moment) (reads : List DiskCall) → ReachesIn moments before seat reads → ReadsGate before seat moments (Ok (Open e)) → ReachesIn moments (Some e.kept) (behind seat e) (gate_reads seat (is_some e.moved) ++ reads)
-    further [] reads reached stands = tt
-    further (now ∷ past) reads reached stands = Reaches.passes before seat e reads reached stands
+    further : (moments : List Moment) → PassesIn moments first read.entries → ReadsGate before seat moments (Ok (Open e)) → PassesIn moments first (e ∷ read.entries)
+    further [] passes stands = tt
+    further (now ∷ past) passes stands =
+        let here = subst (λ (b : Option Stored). StandsIn now.image b seat (Ok (Open e))) read.last stands in
+        (passes, subst (λ (z : Seat). StandsIn now.image (last_kept read.entries) z (Ok (Open e))) read.ends here)
 
 -- ---- the last gate
 
-passed_of : (moments : List Moment) (first : Seat) (before : Option Stored) (seat : Seat) (older newer : Option (List DiskCall)) (was now : Option DiskState) → first.gate ≡ header_length → (read : GatesRead moments first before seat older newer was now) → Passed moments seat read.reads
+passed_of : (moments : List Moment) (first : Seat) (before : Option Stored) (seat : Seat) (older newer : Option (List DiskCall)) (was now : Option DiskState) → first.gate ≡ header_length → (read : GatesRead moments first before seat older newer was now) → Passed moments seat (entry_reads first read.entries)
 passed_of moments first before seat older newer was now begins read = record {
   first = first;
   entries = read.entries;
   begins = begins;
+  passes = read.passes;
   ends = read.ends;
-  are = read.are;
-  passes = passes_in moments before seat read.reads read.reached;
+  are = refl;
 }
 
 bare : (more reads : List DiskCall) (older : Option (List DiskCall)) → with_calls (more ++ reads) older ≡ with_calls (more ++ (reads ++ [])) older
@@ -162,19 +159,19 @@ closed_in (now ∷ past) before seat state stands = stands.0
 pub up_to : (moments : List Moment) (first : Seat) (before : Option Stored) (seat : Seat) (state : Stored) (older middle newer : Option (List DiskCall)) (was mid : Option DiskState) → first.gate ≡ header_length → GatesRead moments first before seat older middle was mid
     → ReadsOneGate seat moments (Ok (Shut state)) middle newer → ReadsGate before seat moments (Ok (Shut state)) → ReadsUpTo [] moments seat older newer
 up_to moments first before seat state older middle newer was mid begins read calls stands = record {
-  reads = read.reads;
+  reads = entry_reads first read.entries;
   passed = passed_of moments first before seat older middle was mid begins read;
   closed = closed_in moments before seat state stands;
-  made = calls ∙ ap (with_calls (gate_reads seat false)) read.made ∙ sym (with_calls-append (gate_reads seat false) read.reads older) ∙ bare (gate_reads seat false) read.reads older;
+  made = calls ∙ ap (with_calls (gate_reads seat false)) read.made ∙ sym (with_calls-append (gate_reads seat false) (entry_reads first read.entries) older) ∙ bare (gate_reads seat false) (entry_reads first read.entries) older;
 }
 
-pub on_up_to : (moments : List Moment) (first : Seat) (before : Option Stored) (seat : Seat) (state : Stored) (older middle : Option (List DiskCall)) (was mid now : Option DiskState) → GatesRead moments first before seat older middle was mid
+pub on_up_to : (moments : List Moment) (first : Seat) (before : Option Stored) (seat : Seat) (state : Stored) (older middle : Option (List DiskCall)) (was mid now : Option DiskState) → first.gate ≡ header_length → GatesRead moments first before seat older middle was mid
     → ReadsOneGateFrom seat moments (Ok (Shut state)) mid now → ReadsGate before seat moments (Ok (Shut state)) → ReadsOnUpTo [] moments seat was now
-on_up_to moments first before seat state older middle was mid now read follows stands = record {
-  reads = read.reads;
-  passes = passes_in moments before seat read.reads read.reached;
+on_up_to moments first before seat state older middle was mid now begins read follows stands = record {
+  reads = entry_reads first read.entries;
+  passed = passed_of moments first before seat older middle was mid begins read;
   closed = closed_in moments before seat state stands;
-  came = then_runs (gate_reads seat false) read.reads was mid now false read.came follows ∙ bare_on (gate_reads seat false) read.reads was;
+  came = then_runs (gate_reads seat false) (entry_reads first read.entries) was mid now false read.came follows ∙ bare_on (gate_reads seat false) (entry_reads first read.entries) was;
 }
 
 -- the answer at the closed gate
@@ -210,51 +207,51 @@ refused_calls Fault moments first before seat older middle newer was mid begins 
     inr (record {
       seat = seat;
       moved = calls.0;
-      reads = read.reads;
+      reads = entry_reads first read.entries;
       passed = passed_of moments first before seat older middle was mid begins read;
       marked = calls.1;
-      made = subst (λ (r : List DiskCall). AsFarAs (gate_reads seat calls.0 ++ r) older newer) (sym (append-nil read.reads)) (joined (gate_reads seat calls.0) read.reads older middle newer read.made calls.2);
+      made = subst (λ (r : List DiskCall). AsFarAs (gate_reads seat calls.0 ++ r) older newer) (sym (append-nil (entry_reads first read.entries))) (joined (gate_reads seat calls.0) (entry_reads first read.entries) older middle newer read.made calls.2);
     })
 refused_calls (Taken len) moments first before seat older middle newer was mid begins read calls = calls
 refused_calls (Broken place byte) moments first before seat older middle newer was mid begins read calls =
     inr (record {
       seat = seat;
       moved = calls.0;
-      reads = read.reads;
+      reads = entry_reads first read.entries;
       passed = passed_of moments first before seat older middle was mid begins read;
       marked = calls.1;
       from_gate = calls.2;
       within = calls.3;
-      made = calls.4 ∙ ap (with_calls (gate_reads seat calls.0)) read.made ∙ sym (with_calls-append (gate_reads seat calls.0) read.reads older) ∙ bare (gate_reads seat calls.0) read.reads older;
+      made = calls.4 ∙ ap (with_calls (gate_reads seat calls.0)) read.made ∙ sym (with_calls-append (gate_reads seat calls.0) (entry_reads first read.entries) older) ∙ bare (gate_reads seat calls.0) (entry_reads first read.entries) older;
     })
 refused_calls (OtherKey place byte) moments first before seat older middle newer was mid begins read calls = absurd calls
 refused_calls OutOfMemory moments first before seat older middle newer was mid begins read calls = absurd calls
 
-pub refused_follows : (error : StoreError) (moments : List Moment) (first : Seat) (before : Option Stored) (seat : Seat) (older middle : Option (List DiskCall)) (was mid now : Option DiskState) → GatesRead moments first before seat older middle was mid
+pub refused_follows : (error : StoreError) (moments : List Moment) (first : Seat) (before : Option Stored) (seat : Seat) (older middle : Option (List DiskCall)) (was mid now : Option DiskState) → first.gate ≡ header_length → GatesRead moments first before seat older middle was mid
     → ReadsOneGateFrom seat moments (Err error) mid now → ReadsGatesFrom [] moments (Err error) was now
-refused_follows Fault moments first before seat older middle was mid now read follows =
+refused_follows Fault moments first before seat older middle was mid now begins read follows =
     inr (record {
       seat = seat;
       moved = follows.0;
-      reads = read.reads;
-      passes = passes_in moments before seat read.reads read.reached;
+      reads = entry_reads first read.entries;
+      passed = passed_of moments first before seat older middle was mid begins read;
       marked = follows.1;
-      came = then_runs (gate_reads seat follows.0) read.reads was mid now true read.came follows.2 ∙ bare_on (gate_reads seat follows.0) read.reads was;
+      came = then_runs (gate_reads seat follows.0) (entry_reads first read.entries) was mid now true read.came follows.2 ∙ bare_on (gate_reads seat follows.0) (entry_reads first read.entries) was;
     })
-refused_follows (Taken len) moments first before seat older middle was mid now read follows = follows
-refused_follows (Broken place byte) moments first before seat older middle was mid now read follows =
+refused_follows (Taken len) moments first before seat older middle was mid now begins read follows = follows
+refused_follows (Broken place byte) moments first before seat older middle was mid now begins read follows =
     inr (record {
       seat = seat;
       moved = follows.0;
-      reads = read.reads;
-      passes = passes_in moments before seat read.reads read.reached;
+      reads = entry_reads first read.entries;
+      passed = passed_of moments first before seat older middle was mid begins read;
       marked = follows.1;
       from_gate = follows.2;
       within = follows.3;
-      came = then_runs (gate_reads seat follows.0) read.reads was mid now false read.came follows.4 ∙ bare_on (gate_reads seat follows.0) read.reads was;
+      came = then_runs (gate_reads seat follows.0) (entry_reads first read.entries) was mid now false read.came follows.4 ∙ bare_on (gate_reads seat follows.0) (entry_reads first read.entries) was;
     })
-refused_follows (OtherKey place byte) moments first before seat older middle was mid now read follows = absurd follows
-refused_follows OutOfMemory moments first before seat older middle was mid now read follows = absurd follows
+refused_follows (OtherKey place byte) moments first before seat older middle was mid now begins read follows = absurd follows
+refused_follows OutOfMemory moments first before seat older middle was mid now begins read follows = absurd follows
 
 -- ---- what is read
 

@@ -12,3 +12,5 @@ pub mod StopLemmas
 pub mod EntryLemmas
 pub mod GateLemmas
 pub mod MakeLemmas
+pub mod MarkLemmas
+pub mod LawLemmas

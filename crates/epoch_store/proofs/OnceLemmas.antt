@@ -8,7 +8,7 @@ use Rattle.epoch_store.specs.declared.seat.Seat.{Seat}
 use Rattle.epoch_store.specs.Seat.{behind, header_length, moved_length, width_by}
 use Rattle.epoch_store.specs.Store.{spelled, spelled_by}
 use Rattle.epoch_store.specs.Reading.{Reading, Breaks, FitsMask, IsClosed, IsCut, IsMarked, IsOpenEntry, ReadsBehind, ReadsFrom, Reads, Stands, StandsIn, closes, head_seat, wrong_field}
-use Rattle.epoch_store.proofs.EntryLemmas.{from_mask, length-keeps, length-moves, marked_in, same_entry, shown_in}
+use Rattle.epoch_store.proofs.EntryLemmas.{kept_unmarked, length-keeps, length-moves, same_entry}
 
 pub closed_open : (bytes rest : List ℕ) → IsClosed bytes → bytes ≡ 1 ∷ rest → ⊥
 closed_open bytes rest closed is = closed.closed (ap (λ (b : List ℕ). get_or b 0 0) (sym closed.begins ∙ is))
@@ -27,8 +27,7 @@ entry_long wide (Some tag) s rest fits = omega (arith, length-moves wide tag s f
 
 -- an entry that is cut behind a mark would be a migration entry
 marked_long : (wide : Bool) (bytes : List ℕ) (moved : Option (List ℕ)) (s : Stored) (rest : List ℕ) → FitsMask wide moved s.mask.0 → bytes ≡ 1 ∷ (spelled_by wide moved s ++ rest) → IsMarked wide bytes → length bytes < width_by wide + moved_length → ⊥
-marked_long wide bytes None s rest fits is marked short =
-    fits.1 (sym (shown_in wide None s rest fits) ∙ ap (λ (b : List ℕ). from_mask wide (drop 12 (drop 1 b))) (sym is) ∙ marked_in wide bytes marked)
+marked_long wide bytes None s rest fits is marked short = kept_unmarked wide bytes s rest fits is marked
 marked_long wide bytes (Some tag) s rest fits is marked short =
     omega (arith, short, ap length is, length-moves wide tag s fits.1, length-append (spelled_by wide (Some tag) s) rest)
 

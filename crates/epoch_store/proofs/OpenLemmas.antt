@@ -5,12 +5,13 @@ use Rattle.ports.specs.MemoryDisk.{DiskState}
 use Rattle.ports.specs.DiskSteps.{came_to, runs_on}
 use Rattle.ports.proofs.RunLemmas.{then_runs, runs_on_no_further}
 use Rattle.epoch_store.specs.Seat.{header_length}
+use Rattle.epoch_store.specs.declared.entry.Entry.{Entry}
 use Rattle.epoch_store.specs.declared.seat.Seat.{Seat}
 use Rattle.epoch_store.specs.declared.StoreError.{StoreError}
 use Rattle.epoch_store.specs.declared.StoreError.TheVariants.{Fault, Taken, Broken, OtherKey, OutOfMemory}
-use Rattle.epoch_store.specs.Reading.{Reading, Finds, Breaks, Differs, IsClosed, IsMarked, ReadsBehind, Reads, head_seat}
+use Rattle.epoch_store.specs.Reading.{Reading, Finds, Breaks, Differs, IsClosed, ReadsBehind, Reads, head_seat}
 use Rattle.epoch_store.specs.Calls.{StoreState, SettlesAs, same, OnRead, AnswersAs, OpensAs, ReadsHead, ReadsEntries, EntriesAnswer, answer_of, IsOpened, HoldsStore, is_fault}
-use Rattle.epoch_store.specs.Asked.{ClosedIn, Passed, PassesGates, Reaches, ReadsGates, ReadsMark, ReadsTo, ReadsUpTo, RefusedInHead, StopsReading, gate_reads, open_calls}
+use Rattle.epoch_store.specs.Asked.{AsksToOpen, ClosedIn, MarkedIn, Passed, Passes, PassesIn, ReadsGates, ReadsMark, ReadsTo, ReadsUpTo, RefusedInHead, StopsReading, gate_reads, open_calls}
 use Rattle.epoch_store.specs.Followed.{FailsReading, OpensFile, ReadsGatesFrom, ReadsOnTo, ReadsOnUpTo}
 use Rattle.epoch_store.specs.Store.{StoreAt, IsSettled}
 use Rattle.epoch_store.proofs.OnceLemmas.{reads_once}
@@ -148,7 +149,7 @@ read_after first earlier moments (Err Fault) older middle newer is read = stops_
 read_after first earlier moments (Err (Taken len)) older middle newer is read = read
 read_after first earlier moments (Err (Broken place byte)) older middle newer is read = to_after first earlier moments place older middle newer is read
 read_after first earlier moments (Err (OtherKey place byte)) older middle newer is read = (read.0, up_to_after first earlier moments read.0 older middle newer is read.1)
-read_after first earlier moments (Err OutOfMemory) older middle newer is read = far_after first earlier older middle newer is read
+read_after first earlier moments (Err OutOfMemory) older middle newer is read = read
 
 -- a head that is refused
 pub head_only : (error : StoreError) (moments : List Moment) (older newer : Option (List DiskCall)) → RefusedInHead {T = Seat} (Err error) → newer ≡ with_call (ToRead 0 header_length) older → ReadsGates (ToRead 0 header_length ∷ []) moments (Err error) older newer
@@ -159,12 +160,21 @@ head_only (OtherKey place byte) moments older newer refused is = absurd refused
 head_only OutOfMemory moments older newer refused is = absurd refused
 
 -- a file that was not opened
-pub not_opened_to_read : (name : List ℕ) (error : StoreError) (moments a b : List Moment) (older newer : Option (List DiskCall)) → IsOpened a b (Err error) → newer ≡ with_call (ToOpen name) older → ReadsGates (open_calls name) moments (Err error) older newer
+pub not_opened_to_read : (name : List ℕ) (error : StoreError) (moments a b : List Moment) (older newer : Option (List DiskCall)) → IsOpened a b (Err error) → newer ≡ with_call (ToOpen name) older → AsksToOpen name moments (Err error) older newer
 not_opened_to_read name Fault moments a b older newer opened is = inl (record { left_out = 2; made = is })
 not_opened_to_read name (Taken len) moments a b older newer opened is = opened
 not_opened_to_read name (Broken place byte) moments a b older newer opened is = absurd opened
 not_opened_to_read name (OtherKey place byte) moments a b older newer opened is = absurd opened
-not_opened_to_read name OutOfMemory moments a b older newer opened is = record { left_out = 2; made = is }
+not_opened_to_read name OutOfMemory moments a b older newer opened is = is
+
+-- a file that was opened and read
+pub opened_to_read : (name : List ℕ) (moments : List Moment) (result : Result StoreState StoreError) (older newer : Option (List DiskCall)) → ReadsGates (open_calls name) moments result older newer → AsksToOpen name moments result older newer
+opened_to_read name moments (Ok store) older newer read = read
+opened_to_read name moments (Err Fault) older newer read = read
+opened_to_read name moments (Err (Taken len)) older newer read = read
+opened_to_read name moments (Err (Broken place byte)) older newer read = read
+opened_to_read name moments (Err (OtherKey place byte)) older newer read = read
+opened_to_read name moments (Err OutOfMemory) older newer read = absurd read
 
 -- ---- the state of the disk
 
@@ -176,7 +186,7 @@ after_runs more reads first earlier failed older middle newer is came =
 on_up_to_after : (first earlier : List DiskCall) (moments : List Moment) (seat : Seat) (older middle newer : Option DiskState) → came_to middle false ≡ runs_on earlier older → ReadsOnUpTo first moments seat middle newer → ReadsOnUpTo (first ++ earlier) moments seat older newer
 on_up_to_after first earlier moments seat older middle newer is read = record {
   reads = read.reads;
-  passes = read.passes;
+  passed = read.passed;
   closed = read.closed;
   came = after_runs (gate_reads seat false) read.reads first earlier false older middle newer is read.came;
 }
@@ -187,7 +197,7 @@ fails_after first earlier moments older middle newer is (inr read) = inr (record
   seat = read.seat;
   moved = read.moved;
   reads = read.reads;
-  passes = read.passes;
+  passed = read.passed;
   marked = read.marked;
   came = after_runs (gate_reads read.seat read.moved) read.reads first earlier true older middle newer is read.came;
 })
@@ -198,7 +208,7 @@ on_to_after first earlier moments place older middle newer is (inr read) = inr (
   seat = read.seat;
   moved = read.moved;
   reads = read.reads;
-  passes = read.passes;
+  passed = read.passed;
   marked = read.marked;
   from_gate = read.from_gate;
   within = read.within;
@@ -241,14 +251,13 @@ unsynced_to_read name moments older middle newer opened synced =
 
 -- ---- a file with the same contents was read
 
-passes_same : (a b : List Moment) (seat : Seat) (reads : List DiskCall) → SettlesAs same a b → PassesGates b seat reads → PassesGates a seat reads
-passes_same [] b seat reads settles passes = tt
-passes_same (was ∷ older) [] seat reads settles passes = absurd settles
-passes_same (was ∷ older) (now ∷ past) seat reads settles passes =
-    (passes.0, subst (λ (image : List ℕ). Reaches image passes.0 seat reads) (ap (λ (m : Moment). m.image) settles) passes.1)
+passes_same : (a b : List Moment) (first : Seat) (entries : List Entry) → SettlesAs same a b → PassesIn b first entries → PassesIn a first entries
+passes_same [] b first entries settles passes = tt
+passes_same (was ∷ older) [] first entries settles passes = absurd settles
+passes_same (was ∷ older) (now ∷ past) first entries settles passes = subst (λ (image : List ℕ). Passes image first entries) (ap (λ (m : Moment). m.image) settles) passes
 
 passed_same : (a b : List Moment) (seat : Seat) (reads : List DiskCall) → SettlesAs same a b → Passed b seat reads → Passed a seat reads
-passed_same a b seat reads settles p = record { first = p.first; entries = p.entries; begins = p.begins; ends = p.ends; are = p.are; passes = passes_same a b seat reads settles p.passes }
+passed_same a b seat reads settles p = record { first = p.first; entries = p.entries; begins = p.begins; passes = passes_same a b p.first p.entries settles p.passes; ends = p.ends; are = p.are }
 
 closed_same : (a b : List Moment) (seat : Seat) → SettlesAs same a b → ClosedIn b seat → ClosedIn a seat
 closed_same [] b seat settles closed = tt
@@ -256,10 +265,9 @@ closed_same (was ∷ older) [] seat settles closed = absurd settles
 closed_same (was ∷ older) (now ∷ past) seat settles closed = subst (λ (image : List ℕ). IsClosed (drop seat.gate image)) (ap (λ (m : Moment). m.image) settles) closed
 
 marked_same : (a b : List Moment) (seat : Seat) (moved : Bool) → SettlesAs same a b → ReadsMark b seat moved → ReadsMark a seat moved
-marked_same a b seat false settles marked = tt
-marked_same [] b seat true settles marked = tt
-marked_same (was ∷ older) [] seat true settles marked = absurd settles
-marked_same (was ∷ older) (now ∷ past) seat true settles marked = subst (λ (image : List ℕ). IsMarked seat.wide (drop seat.gate image)) (ap (λ (m : Moment). m.image) settles) marked
+marked_same [] b seat moved settles marked = tt
+marked_same (was ∷ older) [] seat moved settles marked = absurd settles
+marked_same (was ∷ older) (now ∷ past) seat moved settles marked = subst (λ (image : List ℕ). MarkedIn image seat moved) (ap (λ (m : Moment). m.image) settles) marked
 
 up_to_same : (first : List DiskCall) (a b : List Moment) (seat : Seat) (older newer : Option (List DiskCall)) → SettlesAs same a b → ReadsUpTo first b seat older newer → ReadsUpTo first a seat older newer
 up_to_same first a b seat older newer settles r = record { reads = r.reads; passed = passed_same a b seat r.reads settles r.passed; closed = closed_same a b seat settles r.closed; made = r.made }
@@ -275,14 +283,14 @@ calls_same first a b (Err (OtherKey place byte)) older newer settles read = (rea
 calls_same first a b (Err OutOfMemory) older newer settles read = read
 
 on_up_to_same : (first : List DiskCall) (a b : List Moment) (seat : Seat) (older newer : Option DiskState) → SettlesAs same a b → ReadsOnUpTo first b seat older newer → ReadsOnUpTo first a seat older newer
-on_up_to_same first a b seat older newer settles r = record { reads = r.reads; passes = passes_same a b seat r.reads settles r.passes; closed = closed_same a b seat settles r.closed; came = r.came }
+on_up_to_same first a b seat older newer settles r = record { reads = r.reads; passed = passed_same a b seat r.reads settles r.passed; closed = closed_same a b seat settles r.closed; came = r.came }
 
 pub gates_same : (first : List DiskCall) (a b : List Moment) (result : Result StoreState StoreError) (older newer : Option DiskState) → SettlesAs same a b → ReadsGatesFrom first b result older newer → ReadsGatesFrom first a result older newer
 gates_same first a b (Ok store) older newer settles read = on_up_to_same first a b store.seat older newer settles read
 gates_same first a b (Err Fault) older newer settles (inl came) = inl came
-gates_same first a b (Err Fault) older newer settles (inr r) = inr (record { seat = r.seat; moved = r.moved; reads = r.reads; passes = passes_same a b r.seat r.reads settles r.passes; marked = marked_same a b r.seat r.moved settles r.marked; came = r.came })
+gates_same first a b (Err Fault) older newer settles (inr r) = inr (record { seat = r.seat; moved = r.moved; reads = r.reads; passed = passed_same a b r.seat r.reads settles r.passed; marked = marked_same a b r.seat r.moved settles r.marked; came = r.came })
 gates_same first a b (Err (Taken len)) older newer settles read = read
 gates_same first a b (Err (Broken place byte)) older newer settles (inl head) = inl head
-gates_same first a b (Err (Broken place byte)) older newer settles (inr r) = inr (record { seat = r.seat; moved = r.moved; reads = r.reads; passes = passes_same a b r.seat r.reads settles r.passes; marked = marked_same a b r.seat r.moved settles r.marked; from_gate = r.from_gate; within = r.within; came = r.came })
+gates_same first a b (Err (Broken place byte)) older newer settles (inr r) = inr (record { seat = r.seat; moved = r.moved; reads = r.reads; passed = passed_same a b r.seat r.reads settles r.passed; marked = marked_same a b r.seat r.moved settles r.marked; from_gate = r.from_gate; within = r.within; came = r.came })
 gates_same first a b (Err (OtherKey place byte)) older newer settles read = (read.0, on_up_to_same first a b read.0 older newer settles read.1)
 gates_same first a b (Err OutOfMemory) older newer settles read = read

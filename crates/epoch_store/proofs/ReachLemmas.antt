@@ -7,11 +7,11 @@ use Rattle.epoch_store.specs.declared.entry.Gate.TheVariants.{Open}
 use Rattle.epoch_store.specs.declared.seat.Seat.{Seat}
 use Rattle.epoch_store.specs.Seat.{behind, first_seat, header_length, seat_from}
 use Rattle.epoch_store.specs.Store.{IsChain, front, mark, mask_bytes, spelled, spelled_by}
-use Rattle.epoch_store.specs.Reading.{FitsMask, IsClosed, IsMarked, StandsIn, head_seat}
-use Rattle.epoch_store.specs.Asked.{Reaches, entry_reads, gate_reads}
-use Rattle.epoch_store.proofs.EntryLemmas.{from_mask, marked_in, shown_in}
+use Rattle.epoch_store.specs.Reading.{FitsMask, IsClosed, IsMarked, StandsIn, head_seat, last_kept}
+use Rattle.epoch_store.specs.Asked.{Passes, entry_reads, gate_reads}
+use Rattle.epoch_store.proofs.EntryLemmas.{kept_unmarked}
 use Rattle.epoch_store.proofs.OnceLemmas.{closed_open, stands_once}
-use Rattle.epoch_store.proofs.FoundLemmas.{from_gate, head_of, stands_in_chain}
+use Rattle.epoch_store.proofs.FoundLemmas.{from_gate, stands_in_chain}
 
 -- reading goes on from a seat to the closed gate: the reads until then, and all of them
 pub data GoesOn (image : List ℕ) : Option Stored → Seat → List DiskCall → Seat → List DiskCall → Type 0 where
@@ -36,13 +36,14 @@ past_entry image before seat e reads shut all stands (GoesOn.goes _ _ f _ _ _ ot
     let same = same_open image before seat e f stands other in
     subst (λ (x : Entry). GoesOn image (Some x.kept) (behind seat x) (gate_reads seat (is_some x.moved) ++ reads) shut all) same more
 
--- it goes on from each seat that was reached
-pub goes_from : (image : List ℕ) (first : Seat) (shut : Seat) (all : List DiskCall) → head_seat (take header_length image) ≡ Ok first → GoesOn image None first [] shut all → (before : Option Stored) (seat : Seat) (reads : List DiskCall) → Reaches image before seat reads → GoesOn image before seat reads shut all
-goes_from image first shut all head whole before seat reads (Reaches.begins other is) =
-    let same : first ≡ other = ok_same first other (sym head ∙ is) in
+-- it goes on behind the entries that it passes
+pub goes_from : (image : List ℕ) (first : Seat) (shut : Seat) (all : List DiskCall) → head_seat (take header_length image) ≡ Ok first → GoesOn image None first [] shut all → (start : Seat) (entries : List Entry) → Passes image start entries
+    → GoesOn image (last_kept entries) (seat_from start entries) (entry_reads start entries) shut all
+goes_from image first shut all head whole start [] is =
+    let same : first ≡ start = ok_same first start (sym head ∙ is) in
     subst (λ (z : Seat). GoesOn image None z [] shut all) same whole
-goes_from image first shut all head whole before seat reads (Reaches.passes earlier at e reads' reached stands) =
-    past_entry image earlier at e reads' shut all stands (goes_from image first shut all head whole earlier at reads' reached)
+goes_from image first shut all head whole start (e ∷ older) passes =
+    past_entry image (last_kept older) (seat_from start older) e (entry_reads start older) shut all passes.1 (goes_from image first shut all head whole start older passes.0)
 
 -- the reads until a seat are the last ones of all
 pub front_of_all : (image : List ℕ) (before : Option Stored) (seat : Seat) (reads : List DiskCall) (shut : Seat) (all : List DiskCall) → GoesOn image before seat reads shut all → (more : List DiskCall) × (all ≡ more ++ reads)
@@ -61,16 +62,15 @@ pub at_mark : (image : List ℕ) (before : Option Stored) (seat : Seat) (reads :
 at_mark image before seat reads shut all (GoesOn.stops _ _ _ closed) marked = absurd (closed_open (drop seat.gate image) (marked.before ++ (mask_bytes seat.wide (mark seat.wide) ++ marked.rest)) closed marked.begins)
 at_mark image before seat reads shut all (GoesOn.goes _ _ e _ _ _ stands rest) marked =
     let later = front_of_all image (Some e.kept) (behind seat e) (gate_reads seat (is_some e.moved) ++ reads) shut all rest in
-    (later.0, later.1 ∙ ap (λ (moved : Bool). later.0 ++ (gate_reads seat moved ++ reads)) (moves e.moved (drop seat.gate image) e.kept stands.0.rest stands.0.mask_fits stands.0.begins marked))
+    (later.0, later.1 ∙ ap (λ (moved : Bool). later.0 ++ (gate_reads seat moved ++ reads)) (moves e.moved stands.0.mask_fits stands.0.begins))
   where
-    moves : (moved : Option (List ℕ)) (bytes : List ℕ) (s : Stored) (behind_it : List ℕ) → FitsMask seat.wide moved s.mask.0 → bytes ≡ 1 ∷ (spelled_by seat.wide moved s ++ behind_it) → IsMarked seat.wide bytes → is_some moved ≡ true
-    moves None bytes s behind_it fits is marked =
-        absurd (fits.1 (sym (shown_in seat.wide None s behind_it fits) ∙ ap (λ (b : List ℕ). from_mask seat.wide (drop 12 (drop 1 b))) (sym is) ∙ marked_in seat.wide bytes marked))
-    moves (Some tag) bytes s behind_it fits is marked = refl
+    moves : (moved : Option (List ℕ)) → FitsMask seat.wide moved e.kept.mask.0 → drop seat.gate image ≡ 1 ∷ (spelled_by seat.wide moved e.kept ++ stands.0.rest) → is_some moved ≡ true
+    moves None fits is = absurd (kept_unmarked seat.wide (drop seat.gate image) e.kept stands.0.rest fits is marked)
+    moves (Some tag) fits is = refl
 
 -- the file of these entries is read to the closed gate behind them
 goes_behind : (image : List ℕ) (wide : Bool) (header : List ℕ) (entries : List Entry) (rest : List ℕ) (shut : Seat) (all : List DiskCall) → length header ≡ 32 → IsChain (first_seat wide header) entries → image ≡ front wide header entries ++ rest
-    → GoesOn image (head_of entries) (seat_from (first_seat wide header) entries) (entry_reads (first_seat wide header) entries) shut all → GoesOn image None (first_seat wide header) [] shut all
+    → GoesOn image (last_kept entries) (seat_from (first_seat wide header) entries) (entry_reads (first_seat wide header) entries) shut all → GoesOn image None (first_seat wide header) [] shut all
 goes_behind image wide header [] rest shut all long chain bytes more = more
 goes_behind image wide header (e ∷ older) rest shut all long chain bytes more =
     let seat = seat_from (first_seat wide header) older in
@@ -78,11 +78,11 @@ goes_behind image wide header (e ∷ older) rest shut all long chain bytes more 
     let shape : image ≡ front wide header older ++ (entry ++ rest) = bytes ∙ append_assoc (front wide header older) entry rest in
     let cut = from_gate wide header older (entry ++ rest) image long chain.2 shape in
     let stands = stands_in_chain (first_seat wide header) older e (drop seat.gate image) rest chain cut in
-    goes_behind image wide header older (entry ++ rest) shut all long chain.2 shape (GoesOn.goes (head_of older) seat e (entry_reads (first_seat wide header) older) shut all stands more)
+    goes_behind image wide header older (entry ++ rest) shut all long chain.2 shape (GoesOn.goes (last_kept older) seat e (entry_reads (first_seat wide header) older) shut all stands more)
 
 pub goes_whole : (image : List ℕ) (wide : Bool) (header : List ℕ) (entries : List Entry) (shut : ℕ) (rest : List ℕ) → length header ≡ 32 → IsChain (first_seat wide header) entries → (shut ≡ 1 → ⊥) → image ≡ front wide header entries ++ shut ∷ rest
     → GoesOn image None (first_seat wide header) [] (seat_from (first_seat wide header) entries) (entry_reads (first_seat wide header) entries)
 goes_whole image wide header entries shut rest long chain closed bytes =
     let cut = from_gate wide header entries (shut ∷ rest) image long chain bytes in
     goes_behind image wide header entries (shut ∷ rest) (seat_from (first_seat wide header) entries) (entry_reads (first_seat wide header) entries) long chain bytes
-    (GoesOn.stops (head_of entries) (seat_from (first_seat wide header) entries) (entry_reads (first_seat wide header) entries) (record { gate = shut; rest = rest; begins = cut; closed = closed }))
+    (GoesOn.stops (last_kept entries) (seat_from (first_seat wide header) entries) (entry_reads (first_seat wide header) entries) (record { gate = shut; rest = rest; begins = cut; closed = closed }))

@@ -14,7 +14,7 @@ use Rattle.epoch_store.specs.declared.StoreError.{StoreError}
 use Rattle.epoch_store.specs.declared.StoreError.TheVariants.{Fault, Taken, Broken, OtherKey, OutOfMemory}
 use Rattle.epoch_store.specs.Reading.{FitsMask, IsClosed, IsCut, IsMarked, IsOpenEntry, first_broken, head_seat, is_above, is_at_least, mask_stands, own_mask_stands, wrong_field}
 use Rattle.epoch_store.specs.Looks.{IsMoved, Looks}
-use Rattle.epoch_store.specs.Asked.{MarkedIn}
+use Rattle.epoch_store.specs.Asked.{ReadsMark}
 use Rattle.epoch_store.specs.Calls.{ChecksHead, FindsGate, HasBytes, IsAfter, IsPlaced, Judges, OnRead, ReadsEntries, ReadsGate, ReadsHead, StoreState, answer_of}
 use Rattle.epoch_store.proofs.EntryLemmas.{length-keeps}
 use Rattle.ports.specs.Disk.{Moment, ReadsPart}
@@ -91,7 +91,7 @@ wrong_small : (wide : Bool) (before : Option Stored) (e : Entry) (at : ℕ) → 
 wrong_small wide before e at is =
     first_small (nat_le e.kept.next 32768 && is_above before e.kept.next) (nat_le e.kept.epoch e.kept.next && is_at_least before e.kept.epoch) (mask_stands wide before e.moved e.kept.mask.0) (own_mask_stands e.moved e.kept.mask.0) (width_by wide + 32) at is
 
-width_some : (wide : Bool) → 17 ≤ width_by wide
+pub width_some : (wide : Bool) → 17 ≤ width_by wide
 width_some false = omega arith
 width_some true = omega arith
 
@@ -127,7 +127,7 @@ gate_cut (now ∷ past) before seat bytes place part looks at =
       sym (ap (slice_get now.image) size ∙ sym (slice_get-drop seat.gate (length rest) now.image) ∙ slice_get-end rest),
     )
 
-closed_in : (image bytes : List ℕ) (seat : Seat) → bytes ≡ take (width seat) (drop seat.gate image) → IsClosed bytes → IsClosed (drop seat.gate image)
+pub closed_in : (image bytes : List ℕ) (seat : Seat) → bytes ≡ take (width seat) (drop seat.gate image) → IsClosed bytes → IsClosed (drop seat.gate image)
 closed_in image bytes seat part closed = record {
   gate = closed.gate;
   rest = drop 1 (drop seat.gate image);
@@ -250,7 +250,7 @@ is_marked : (seat : Seat) (s : Stored) (bytes rest behind : List ℕ) → Looks 
 is_marked seat s bytes rest behind looks marked is = record { before = numbers s; rest = behind; twelve = length-numbers s; begins = marked_begins seat s bytes rest behind looks marked is }
 
 -- the mark that was read stands in the file
-pub marked_there : (moments : List Moment) (seat : Seat) (s : Stored) (bytes : List ℕ) → HasBytes moments seat bytes → Looks seat.wide bytes (looks.Fields s) → s.mask.0 ≡ mark seat.wide → MarkedIn moments seat
+pub marked_there : (moments : List Moment) (seat : Seat) (s : Stored) (bytes : List ℕ) → HasBytes moments seat bytes → Looks seat.wide bytes (looks.Fields s) → s.mask.0 ≡ mark seat.wide → ReadsMark moments seat true
 marked_there [] seat s bytes part looks marked = tt
 marked_there (now ∷ past) seat s bytes part looks marked =
     let rest : List ℕ = drop seat.gate now.image in

@@ -1,17 +1,17 @@
 -- The disk calls that each call of a store makes, the last one first.
-use Rattle.std.specs.Prelude.{◌≡◌, ℕ, ◌+◌, ◌<◌, ◌≤◌, ◌⊎◌, Bool, true, false, is_some, Option, None, Some, List, [], ◌∷◌, ◌++◌, drop, take, Result, Ok, Err}
+use Rattle.std.specs.Prelude.{◌≡◌, ℕ, ◌+◌, ◌<◌, ◌≤◌, ◌⊎◌, Bool, true, false, is_some, Option, List, [], ◌∷◌, ◌++◌, drop, take, Result, Ok, Err}
 use Rattle.ports.specs.Disk.{Moment}
-use Rattle.ports.specs.DiskCalls.{DiskCall, ToOpen, ToMeasure, ToRead, ToWrite, ToSync, with_calls, AsFarAs}
+use Rattle.ports.specs.DiskCalls.{DiskCall, ToOpen, ToMeasure, ToRead, ToWrite, ToSync, with_call, with_calls, AsFarAs}
 use Rattle.epoch_store.specs.declared.Stored.{Stored}
 use Rattle.epoch_store.specs.declared.entry.Entry.{Entry}
 use Rattle.epoch_store.specs.declared.entry.Gate.{Gate}
 use Rattle.epoch_store.specs.declared.entry.Gate.TheVariants.{Shut, Open}
 use Rattle.epoch_store.specs.declared.seat.Seat.{Seat}
-use Rattle.epoch_store.specs.Seat.{behind, entry_for, header_length, moved_length, seat_from, width}
+use Rattle.epoch_store.specs.Seat.{entry_for, header_length, moved_length, seat_from, width}
 use Rattle.epoch_store.specs.declared.StoreError.{StoreError}
 use Rattle.epoch_store.specs.declared.StoreError.TheVariants.{Fault, Taken, Broken, OtherKey, OutOfMemory}
 use Rattle.epoch_store.specs.Calls.{StoreState}
-use Rattle.epoch_store.specs.Reading.{IsClosed, IsMarked, StandsIn, head_seat}
+use Rattle.epoch_store.specs.Reading.{IsClosed, IsMarked, StandsIn, head_seat, last_kept}
 use Rattle.epoch_store.specs.Store.{spelled, made}
 
 -- to make a store
@@ -50,35 +50,34 @@ abbrev pub Makes : {T E : Type 0} → Result T E → List DiskCall → Option (L
 Makes (Ok value) all older newer = newer ≡ with_calls all older
 Makes (Err error) all older newer = AsFarAs all older newer
 
--- a store is made: a file that is taken is opened and measured, and no more
+-- a store is made: a file that is taken is opened and measured, and no more; where memory is refused, it is opened alone
 abbrev pub MakesStore : List ℕ → List ℕ → Stored → Result Unit StoreError → Option (List DiskCall) → Option (List DiskCall) → Type 0
 MakesStore name tag first (Ok value) older newer = newer ≡ with_calls (make_calls name tag first) older
 MakesStore name tag first (Err Fault) older newer = AsFarAs (make_calls name tag first) older newer
 MakesStore name tag first (Err (Taken len)) older newer = newer ≡ with_calls (ToMeasure ∷ ToOpen name ∷ []) older
-MakesStore name tag first (Err (Broken place byte)) older newer = AsFarAs (make_calls name tag first) older newer
-MakesStore name tag first (Err (OtherKey place byte)) older newer = AsFarAs (make_calls name tag first) older newer
-MakesStore name tag first (Err OutOfMemory) older newer = AsFarAs (make_calls name tag first) older newer
+MakesStore name tag first (Err (Broken place byte)) older newer = ⊥
+MakesStore name tag first (Err (OtherKey place byte)) older newer = ⊥
+MakesStore name tag first (Err OutOfMemory) older newer = newer ≡ with_call (ToOpen name) older
 
--- reading from the first seat on comes to this one, behind this state; these reads passed the gates before
-pub data Reaches (image : List ℕ) : Option Stored → Seat → List DiskCall → Type 0 where
-  begins : (first : Seat) → head_seat (take header_length image) ≡ Ok first → Reaches image None first []
-  passes : (before : Option Stored) (seat : Seat) (e : Entry) (reads : List DiskCall) → Reaches image before seat reads → StandsIn image before seat (Ok (Open e))
-      → Reaches image (Some e.kept) (behind seat e) (gate_reads seat (is_some e.moved) ++ reads)
+-- this is the file's first seat, and from there on reading passes these entries, the last one first
+abbrev pub Passes : List ℕ → Seat → List Entry → Type 0
+Passes image first [] = head_seat (take header_length image) ≡ Ok first
+Passes image first (e ∷ older) = Passes image first older × StandsIn image (last_kept older) (seat_from first older) (Ok (Open e))
 
--- these reads pass the gates before a seat, where the file is modelled
-abbrev pub PassesGates : List Moment → Seat → List DiskCall → Type 0
-PassesGates [] seat reads = Unit {0}
-PassesGates (now ∷ past) seat reads = (before : Option Stored) × Reaches now.image before seat reads
+-- reading passes these entries, where the file is modelled
+abbrev pub PassesIn : List Moment → Seat → List Entry → Type 0
+PassesIn [] first entries = Unit {0}
+PassesIn (now ∷ past) first entries = Passes now.image first entries
 
--- a migration entry's mark stands in the seat, where the file is modelled
-abbrev pub MarkedIn : List Moment → Seat → Type 0
-MarkedIn [] seat = Unit {0}
-MarkedIn (now ∷ past) seat = IsMarked seat.wide (drop seat.gate now.image)
+-- a migration entry's mark stands in this seat of the file, or none does
+abbrev pub MarkedIn : List ℕ → Seat → Bool → Type 0
+MarkedIn image seat false = IsMarked seat.wide (drop seat.gate image) → ⊥
+MarkedIn image seat true = IsMarked seat.wide (drop seat.gate image)
 
--- what stands behind a mark is read where there is one
+-- where the file is modelled, what stands behind a mark is read exactly where one stands in the seat
 abbrev pub ReadsMark : List Moment → Seat → Bool → Type 0
-ReadsMark moments seat false = Unit {0}
-ReadsMark moments seat true = MarkedIn moments seat
+ReadsMark [] seat moved = Unit {0}
+ReadsMark (now ∷ past) seat moved = MarkedIn now.image seat moved
 
 -- the calls that read what stands in a seat
 abbrev pub ReadsOneGate : Seat → List Moment → Result Gate StoreError → Option (List DiskCall) → Option (List DiskCall) → Type 0
@@ -96,15 +95,15 @@ abbrev pub ClosedIn : List Moment → Seat → Type 0
 ClosedIn [] seat = Unit {0}
 ClosedIn (now ∷ past) seat = IsClosed (drop seat.gate now.image)
 
--- gates that were passed from the first one on, each with its entry, up to this seat; the reads of them are these, and the
--- entries are those of the file, where it is modelled
+-- the gates in front of this seat were passed from the first one on, each with its entry, by these reads; the entries are
+-- those of the file, where it is modelled
 pub record Passed (moments : List Moment) (seat : Seat) (reads : List DiskCall) : Type 0 where
   pub first : Seat
   pub entries : List Entry
   pub begins : first.gate ≡ header_length
+  pub passes : PassesIn moments first entries
   pub ends : seat ≡ seat_from first entries
   pub are : reads ≡ entry_reads first entries
-  pub passes : PassesGates moments seat reads
 
 -- after some calls, each gate was read up to the closed one in this seat
 pub record ReadsUpTo (first : List DiskCall) (moments : List Moment) (seat : Seat) (older newer : Option (List DiskCall)) : Type 0 where
@@ -148,7 +147,17 @@ ReadsGates first moments (Err Fault) older newer = StopsReading first moments ol
 ReadsGates first moments (Err (Taken len)) older newer = ⊥
 ReadsGates first moments (Err (Broken place byte)) older newer = ReadsTo first moments place older newer
 ReadsGates first moments (Err (OtherKey place byte)) older newer = (seat : Seat) × ReadsUpTo first moments seat older newer
-ReadsGates first moments (Err OutOfMemory) older newer = AsFarAs first older newer
+ReadsGates first moments (Err OutOfMemory) older newer = ⊥
+
+-- a store is opened: its file is opened, its head is read, and then its gates; where memory is refused, the file was opened,
+-- and no more
+abbrev pub AsksToOpen : List ℕ → List Moment → Result StoreState StoreError → Option (List DiskCall) → Option (List DiskCall) → Type 0
+AsksToOpen name moments (Ok store) older newer = ReadsGates (open_calls name) moments (Ok store) older newer
+AsksToOpen name moments (Err Fault) older newer = ReadsGates (open_calls name) moments (Err Fault) older newer
+AsksToOpen name moments (Err (Taken len)) older newer = ⊥
+AsksToOpen name moments (Err (Broken place byte)) older newer = ReadsGates (open_calls name) moments (Err (Broken place byte)) older newer
+AsksToOpen name moments (Err (OtherKey place byte)) older newer = ReadsGates (open_calls name) moments (Err (OtherKey place byte)) older newer
+AsksToOpen name moments (Err OutOfMemory) older newer = newer ≡ with_call (ToOpen name) older
 
 -- a head is refused at a place within it
 abbrev pub RefusedInHead : {T : Type 0} → Result T StoreError → Type 0

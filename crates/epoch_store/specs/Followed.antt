@@ -12,7 +12,7 @@ use Rattle.epoch_store.specs.declared.StoreError.TheVariants.{Fault, Taken, Brok
 use Rattle.epoch_store.specs.declared.entry.Gate.TheVariants.{Shut, Open}
 use Rattle.epoch_store.specs.declared.entry.Gate.{Gate}
 use Rattle.epoch_store.specs.Calls.{StoreState}
-use Rattle.epoch_store.specs.Asked.{ClosedIn, PassesGates, ReadsMark, gate_reads, make_calls, reads_length}
+use Rattle.epoch_store.specs.Asked.{ClosedIn, Passed, ReadsMark, gate_reads, make_calls, reads_length}
 
 -- the file was opened or not; memory is refused only where the state isn't modelled
 abbrev pub OpensFile : List ℕ → Option DiskState → Option DiskState → Result Unit StoreError → Type 0
@@ -28,8 +28,8 @@ abbrev pub MakesFrom : List ℕ → List ℕ → Stored → Result Unit StoreErr
 MakesFrom name tag first (Ok value) older newer = came_to newer false ≡ runs_on (make_calls name tag first) older
 MakesFrom name tag first (Err Fault) older newer = came_to newer true ≡ runs_on (make_calls name tag first) older
 MakesFrom name tag first (Err (Taken len)) older newer = came_to newer false ≡ runs_on (ToMeasure ∷ ToOpen name ∷ []) older
-MakesFrom name tag first (Err (Broken place byte)) older newer = Unit {0}
-MakesFrom name tag first (Err (OtherKey place byte)) older newer = Unit {0}
+MakesFrom name tag first (Err (Broken place byte)) older newer = ⊥
+MakesFrom name tag first (Err (OtherKey place byte)) older newer = ⊥
 MakesFrom name tag first (Err OutOfMemory) older newer = older ≡ None
 
 -- ---- the gates
@@ -49,7 +49,7 @@ ReadsOneGateFrom seat moments (Err OutOfMemory) older newer = ⊥
 -- after some calls, each gate was read up to the closed one in this seat
 pub record ReadsOnUpTo (first : List DiskCall) (moments : List Moment) (seat : Seat) (older newer : Option DiskState) : Type 0 where
   pub reads : List DiskCall
-  pub passes : PassesGates moments seat reads
+  pub passed : Passed moments seat reads
   pub closed : ClosedIn moments seat
   pub came : came_to newer false ≡ runs_on (gate_reads seat false ++ (reads ++ first)) older
 
@@ -58,7 +58,7 @@ pub record ReadsOnToBreak (first : List DiskCall) (moments : List Moment) (place
   pub seat : Seat
   pub moved : Bool
   pub reads : List DiskCall
-  pub passes : PassesGates moments seat reads
+  pub passed : Passed moments seat reads
   pub marked : ReadsMark moments seat moved
   pub from_gate : seat.gate ≤ place
   pub within : place < seat.gate + reads_length seat moved
@@ -69,12 +69,12 @@ abbrev pub ReadsOnTo : List DiskCall → List Moment → ℕ → Option DiskStat
 ReadsOnTo first moments place older newer =
     ((place < header_length) × (came_to newer false ≡ runs_on first older)) ⊎ ReadsOnToBreak first moments place older newer
 
--- one of the calls failed that read a gate, or what stands behind its mark; reading passes the gates before
+-- one of the calls failed that read a gate, or what stands behind its mark; the gates before were passed
 pub record FailsAtGate (first : List DiskCall) (moments : List Moment) (older newer : Option DiskState) : Type 0 where
   pub seat : Seat
   pub moved : Bool
   pub reads : List DiskCall
-  pub passes : PassesGates moments seat reads
+  pub passed : Passed moments seat reads
   pub marked : ReadsMark moments seat moved
   pub came : came_to newer true ≡ runs_on (gate_reads seat moved ++ (reads ++ first)) older
 

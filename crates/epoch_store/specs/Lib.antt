@@ -6,3 +6,4 @@ pub mod Calls
 pub mod Asked
 pub mod Followed
 pub mod Placed
+pub mod Laws

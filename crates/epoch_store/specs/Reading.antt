@@ -8,6 +8,7 @@ use Rattle.epoch_store.specs.declared.entry.Entry.{Entry}
 use Rattle.epoch_store.specs.declared.entry.Gate.{Gate}
 use Rattle.epoch_store.specs.declared.entry.Gate.TheVariants.{Shut, Open}
 use Rattle.epoch_store.specs.declared.seat.Seat.{Seat}
+use Rattle.epoch_store.specs.declared.seat.TheConstants.{NARROW_RINGS}
 use Rattle.epoch_store.specs.Seat.{behind, first_seat, header_length, moved_length, width_by}
 use Rattle.epoch_store.specs.Store.{mark, mask_bytes, spelled}
 
@@ -52,7 +53,7 @@ is_at_least (Some before) epoch = nat_le before.epoch epoch
 
 -- the bits that a mask of an entry may have
 abbrev pub mask_room : Bool → ℕ
-mask_room false = 31
+mask_room false = NARROW_RINGS
 mask_room true = MAX_RINGS
 
 -- a mask has no bit too many; a mark stands in no first entry
@@ -72,6 +73,11 @@ wrong_field wide before e = first_broken (
     (5, nat_le e.kept.epoch e.kept.next && is_at_least before e.kept.epoch) ∷
     (13, mask_stands wide before e.moved e.kept.mask.0) ∷
     (width_by wide + 32, own_mask_stands e.moved e.kept.mask.0) ∷ [])
+
+-- the state of the last entry, if there is one
+abbrev pub last_kept : List Entry → Option Stored
+last_kept [] = None
+last_kept (e ∷ older) = Some e.kept
 
 -- ---- what stands at a gate
 

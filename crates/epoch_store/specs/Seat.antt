@@ -3,6 +3,7 @@ use Rattle.std.specs.Prelude.{ℕ, ◌+◌, ◌*◌, ◌^◌, Bool, true, false,
 use Rattle.epoch_store.specs.declared.Stored.{Stored}
 use Rattle.epoch_store.specs.declared.entry.Entry.{Entry}
 use Rattle.epoch_store.specs.declared.seat.Seat.{Seat}
+use Rattle.epoch_store.specs.declared.seat.TheConstants.{NARROW_RINGS}
 
 -- how many bytes the header and its tag have
 abbrev pub header_length : ℕ
@@ -23,7 +24,7 @@ width seat = width_by seat.wide
 
 -- a narrow entry doesn't hold this mask
 abbrev pub needs_wide : ℕ → Bool
-needs_wide mask = nat_le (2 ^ 31) mask
+needs_wide mask = nat_le (2 ^ NARROW_RINGS) mask
 
 -- the first seat of a file whose header has this tag, and says so of the width
 abbrev pub first_seat : Bool → List ℕ → Seat

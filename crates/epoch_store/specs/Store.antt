@@ -6,6 +6,7 @@ use Rattle.ff_ids.specs.declared.Mask.{Mask}
 use Rattle.epoch_store.specs.declared.Stored.{Stored}
 use Rattle.epoch_store.specs.declared.entry.Entry.{Entry}
 use Rattle.epoch_store.specs.declared.seat.Seat.{Seat}
+use Rattle.epoch_store.specs.declared.seat.TheConstants.{NARROW_RINGS}
 use Rattle.epoch_store.specs.Seat.{entry_for, first_seat, made_first, seat_behind, seat_from}
 use Rattle.ports.specs.Disk.{Moment, Leaves, settled}
 
@@ -52,9 +53,9 @@ pub record IsEntry (e : Stored) : Type 0 where
   pub epoch_small : e.epoch ≤ e.next
   pub mask_small : e.mask.0 < 2 ^ MAX_RINGS
 
--- a narrow entry holds masks without a bit at or above 31, and a migration entry has a tag of 32 bytes
+-- a narrow entry holds masks without a bit at or above NARROW_RINGS, and a migration entry has a tag of 32 bytes
 abbrev pub IsHeld : Bool → Option (List ℕ) → ℕ → Type 0
-IsHeld false None mask = mask < 2 ^ 31
+IsHeld false None mask = mask < 2 ^ NARROW_RINGS
 IsHeld true None mask = Unit {0}
 IsHeld wide (Some tag) mask = length tag ≡ 32
 

@@ -24,10 +24,11 @@ ghost use Rattle.epoch_store.specs.Calls.{StoreState, is_fault, SettlesAs, same,
 ghost use Rattle.epoch_store.specs.Reading.{closes};
 ghost use Rattle.epoch_store.specs.Looks.{Looks};
 ghost use Rattle.epoch_store.specs.declared.entry.Look.TheVariants.{Fields};
-ghost use Rattle.epoch_store.specs.Asked.{entry_calls, put_calls, open_calls, Makes, MakesStore, ReadsGates, ReadsOneGate, RefusedInHead};
+ghost use Rattle.epoch_store.specs.Asked.{entry_calls, put_calls, open_calls, AsksToOpen, Makes, MakesStore, ReadsGates, ReadsOneGate, RefusedInHead};
 ghost use Rattle.epoch_store.specs.Followed.{OpensFile, MakesFrom, ReadsGatesFrom, ReadsOneGateFrom};
 
 mod entry;
+pub mod laws;
 mod seat;
 
 use arrayvec::ArrayVec;
@@ -389,7 +390,7 @@ impl Store {
     pub fn open<D: Disk>(disk: &mut D, name: &str, tag: &[u8; 32]) -> Result<Store, StoreError>
         ensures faults { (D.state disk.new).faults
             ≡ counted (is_fault result) (D.state disk.old).faults }
-        ensures calls { ReadsGates (open_calls name.now) (D.state disk.old).moments result
+        ensures calls { AsksToOpen name.now (D.state disk.old).moments result
             (D.state disk.old).calls (D.state disk.new).calls }
         ensures follows { ReadsGatesFrom (open_calls name.now) (D.state disk.old).moments
             result (D.state disk.old).model (D.state disk.new).model }

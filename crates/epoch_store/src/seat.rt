@@ -22,7 +22,7 @@ const NARROW_LEN: usize = 17;
 /// How many bytes stand behind a migration entry's mark: a tag and a mask.
 pub(crate) const MOVED_LEN: usize = 40;
 
-/// How many rings the mask of a narrow entry may have.
+/// No narrow entry holds a mask with a bit at or above this one.
 pub(crate) const NARROW_RINGS: u8 = 31;
 
 /// Where the next entry of a store goes.
@@ -97,7 +97,8 @@ impl Seat {
     }
 }
 
-/// Room for a file of so many entries, of which at most one is a migration entry, and a closed gate behind them.
+/// Room for a file of so many entries, of which at most one is a migration entry, and a closed gate behind them:
+/// `laws::file_is_bounded` says so.
 pub fn store_len(entries: usize) -> usize
     requires { entries ≤ 2 ^ 20 }
     ensures { result ≡ store_length entries }

@@ -10,10 +10,10 @@ use Rattle.epoch_store.specs.declared.seat.Seat.{Seat}
 use Rattle.epoch_store.specs.Seat.{behind, moved_length, width}
 use Rattle.epoch_store.specs.declared.StoreError.{StoreError}
 use Rattle.epoch_store.specs.declared.StoreError.TheVariants.{Fault, Taken, Broken, OtherKey, OutOfMemory}
-use Rattle.epoch_store.specs.Asked.{Reaches, ReadsMark, entry_reads, gate_reads, open_calls}
+use Rattle.epoch_store.specs.Asked.{Passed, ReadsMark, entry_reads, gate_reads, open_calls}
 use Rattle.epoch_store.specs.Calls.{AnswersAs, StoreState, answer_of}
 use Rattle.epoch_store.specs.Followed.{FailsReading, ReadsOnUpTo}
-use Rattle.epoch_store.specs.Reading.{Finds, IsMarked}
+use Rattle.epoch_store.specs.Reading.{Finds, IsMarked, last_kept}
 use Rattle.epoch_store.specs.Store.{StoreAt, front, made_wide, put_entries}
 use Rattle.epoch_store.proofs.FoundLemmas.{head_found, store_found}
 use Rattle.epoch_store.proofs.ReachLemmas.{GoesOn, at_closed, at_mark, front_of_all, goes_from, goes_whole}
@@ -45,15 +45,17 @@ gates_of tag e = entry_reads (first_of tag e.state e.older) (put_entries tag e.s
 abbrev whole_reads : List ℕ → Disk → List DiskCall
 whole_reads tag e = gate_reads (seat_of tag e) false ++ gates_of tag e
 
--- reading goes on to the closed gate from each seat that it reaches
-held_goes : (tag : List ℕ) (n : ℕ) (d : DiskState) (e : Disk) (before : Option Stored) (seat : Seat) (reads : List DiskCall) → HoldsDisk tag n d e → Reaches (moment_of d).image before seat reads → GoesOn (moment_of d).image before seat reads (seat_of tag e) (gates_of tag e)
-held_goes tag n d e before seat reads h reached =
+-- reading goes on to the closed gate behind the gates that it passes
+held_goes : (tag : List ℕ) (n : ℕ) (d : DiskState) (e : Disk) (seat : Seat) (reads : List DiskCall) → HoldsDisk tag n d e → (p : Passed (moment_of d ∷ past_of d.start d.log) seat reads) → GoesOn (moment_of d).image (last_kept p.entries) seat reads (seat_of tag e) (gates_of tag e)
+held_goes tag n d e seat reads h p =
     let image : List ℕ = (moment_of d).image in
     let wide : Bool = made_wide e.state e.older in
     let entries = put_entries tag e.state e.older in
     let bytes : image ≡ front wide tag entries ++ h.shut ∷ h.rest = ap (λ (m : Moment). m.image) h.file in
     let whole = subst (λ (s : Seat). GoesOn image None (first_of tag e.state e.older) [] s (gates_of tag e)) (sym (seats_are tag e.state e.older)) (goes_whole image wide tag entries h.shut h.rest h.long h.chain h.closed bytes) in
-    goes_from image (first_of tag e.state e.older) (seat_of tag e) (gates_of tag e) (head_found wide tag entries (h.shut ∷ h.rest) image h.long bytes) whole before seat reads reached
+    let course = goes_from image (first_of tag e.state e.older) (seat_of tag e) (gates_of tag e) (head_found wide tag entries (h.shut ∷ h.rest) image h.long bytes) whole p.first p.entries p.passes in
+    let there = subst (λ (s : Seat). GoesOn image (last_kept p.entries) s (entry_reads p.first p.entries) (seat_of tag e) (gates_of tag e)) (sym p.ends) course in
+    subst (λ (calls : List DiskCall). GoesOn image (last_kept p.entries) seat calls (seat_of tag e) (gates_of tag e)) (sym p.are) there
 
 answer_is : (tag image : List ℕ) (state : Stored) (seat : Seat) (result : Result StoreState StoreError) → length tag ≡ 32 → StoreAt tag image state seat → AnswersAs tag image result → result ≡ Ok (record { state = state; seat = seat; failed = false })
 answer_is tag image state seat result long store a = a.answer ∙ ap (answer_of image) (sym (a.only (Finds state seat) (store_found tag image state seat long store)))
@@ -66,7 +68,7 @@ came_same x y same = cc
 read_whole : (tag name : List ℕ) (n : ℕ) (seat : Seat) (d r : DiskState) (e : Disk) → HoldsDisk tag n d e → ReadsOnUpTo (open_calls name) (moment_of d ∷ past_of d.start d.log) seat (Some d) (Some r)
     → (lets_pass e.armed (opening_calls e) ≡ true) × HoldsDisk tag n r (after_calls (opening_calls e) e)
 read_whole tag name n seat d r e h up =
-    let last = at_closed (moment_of d).image up.passes.0 seat up.reads (seat_of tag e) (gates_of tag e) (held_goes tag n d e up.passes.0 seat up.reads h up.passes.1) up.closed in
+    let last = at_closed (moment_of d).image (last_kept up.passed.entries) seat up.reads (seat_of tag e) (gates_of tag e) (held_goes tag n d e seat up.reads h up.passed) up.closed in
     let same : gate_reads seat false ++ (up.reads ++ open_calls name) ≡ all_reads tag name e =
     ap (λ (s : Seat). gate_reads s false ++ (up.reads ++ open_calls name)) last.0 ∙ ap (λ (calls : List DiskCall). gate_reads (seat_of tag e) false ++ (calls ++ open_calls name)) last.1 in
     let so : runs (all_reads tag name e) d ≡ record { disk = r; failed = false } = ap (λ (calls : List DiskCall). runs calls d) (sym same) ∙ sym (came_same _ _ up.came) in
@@ -109,8 +111,8 @@ read_failed tag name n d r e h (inl opening) =
     all_fail tag name n d r e (whole_reads tag e) (open_calls name) h (sym (append_assoc (gate_reads (seat_of tag e) false) (gates_of tag e) (open_calls name))) (came_same _ _ opening)
 read_failed tag name n d r e h (inr gate) =
     let own : List DiskCall = gate_reads gate.seat gate.moved in
-    let course = held_goes tag n d e gate.passes.0 gate.seat gate.reads h gate.passes.1 in
-    let parts = some_first (moment_of d).image gate.passes.0 gate.seat gate.reads (seat_of tag e) (gates_of tag e) (moment_of d) (past_of d.start d.log) gate.moved refl course gate.marked in
+    let course = held_goes tag n d e gate.seat gate.reads h gate.passed in
+    let parts = some_first (moment_of d).image (last_kept gate.passed.entries) gate.seat gate.reads (seat_of tag e) (gates_of tag e) (moment_of d) (past_of d.start d.log) gate.moved refl course gate.marked in
     let same : all_reads tag name e ≡ parts.0 ++ (own ++ (gate.reads ++ open_calls name)) =
     sym (append_assoc (gate_reads (seat_of tag e) false) (gates_of tag e) (open_calls name))
     ∙ ap (λ (calls : List DiskCall). calls ++ open_calls name) parts.1

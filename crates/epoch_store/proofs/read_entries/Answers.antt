@@ -46,7 +46,7 @@ pub returns-in-Ok-Shut-clause-follows : goal.returns-in-Ok-Shut-clause-follows
 returns-in-Ok-Shut-clause-follows g c =
     let moments = (g.D.Disk.state c.args.disk.now).moments in
     closed_follows c.args.tag.now c.in-Ok-Shut.state c.loop-state.seat moments c.close.result _ _ c.close.ensures.answer
-    (on_up_to moments c.args.first c.loop-state.before c.loop-state.seat c.in-Ok-Shut.state _ _ _ _ _ c.loop-state.invariant.read
+    (on_up_to moments c.args.first c.loop-state.before c.loop-state.seat c.in-Ok-Shut.state _ _ _ _ _ c.requires.begins.0 c.loop-state.invariant.read
     (rw c.in-Ok-Shut.field-0-is at c.in-Ok-Shut.ensures.follows) (rw (c.in-Ok-Shut.field-0-is, c.loop-state.invariant.told) at c.in-Ok-Shut.ensures.reads))
 
 pub returns-in-Err-clause-reads : goal.returns-in-Err-clause-reads
@@ -61,4 +61,4 @@ returns-in-Err-clause-calls g c =
 pub returns-in-Err-clause-follows : goal.returns-in-Err-clause-follows
 returns-in-Err-clause-follows g c =
     let P : List Moment → Type 0 = λ m. ReadsOneGateFrom c.loop-state.seat m (Err c.in-Err.error) (g.D.Disk.state c.loop-state.disk).model (g.D.Disk.state c.read_gate.new.disk).model in
-    refused_follows c.in-Err.error (g.D.Disk.state c.args.disk.now).moments c.args.first c.loop-state.before c.loop-state.seat _ _ _ _ _ c.loop-state.invariant.read (subst P c.loop-state.invariant.told c.in-Err.ensures.follows)
+    refused_follows c.in-Err.error (g.D.Disk.state c.args.disk.now).moments c.args.first c.loop-state.before c.loop-state.seat _ _ _ _ _ c.requires.begins.0 c.loop-state.invariant.read (subst P c.loop-state.invariant.told c.in-Err.ensures.follows)

@@ -1,4 +1,4 @@
-use Rattle.epoch_store.proofs.OpenLemmas.{calls_same, gates_after, gates_same, not_opened_to_read, opens_before, read_after, settled_store, settles_on, settles_same, unopened_to_read, unsynced_to_read}
+use Rattle.epoch_store.proofs.OpenLemmas.{calls_same, gates_after, gates_same, not_opened_to_read, opened_to_read, opens_before, read_after, settled_store, settles_on, settles_same, unopened_to_read, unsynced_to_read}
 use Rattle.epoch_store.proofs.MakeLemmas.{opened_stays}
 use Rattle.ports.proofs.SinceLemmas.{Fails-trans, Settles-fails}
 use Rattle.std.proofs.Common.{[], ◌∷◌, ap, ◌∙◌, false}
@@ -39,9 +39,9 @@ returns-in_err-open_file-clause-calls g c =
 pub returns-clause-calls : goal.returns-clause-calls
 returns-clause-calls g c =
     let settles = rw c.in_ok-open_file.ensures.opens at (settles_same (g.D.Disk.state c.open_file.new.disk).moments (g.D.Disk.state c.sync.new.self).moments c.in_ok-sync.ensures.settles) in
-    calls_same (ToRead 0 40 ∷ ToSync ∷ ToOpen c.args.name.now ∷ []) (g.D.Disk.state c.args.disk.now).moments (g.D.Disk.state c.sync.new.self).moments c.read_store.result (g.D.Disk.state c.args.disk.now).calls (g.D.Disk.state c.read_store.new.disk).calls settles
+    opened_to_read c.args.name.now (g.D.Disk.state c.args.disk.now).moments c.read_store.result _ _ (calls_same (ToRead 0 40 ∷ ToSync ∷ ToOpen c.args.name.now ∷ []) (g.D.Disk.state c.args.disk.now).moments (g.D.Disk.state c.sync.new.self).moments c.read_store.result (g.D.Disk.state c.args.disk.now).calls (g.D.Disk.state c.read_store.new.disk).calls settles
     (read_after (ToRead 0 40 ∷ []) (ToSync ∷ ToOpen c.args.name.now ∷ []) (g.D.Disk.state c.sync.new.self).moments c.read_store.result (g.D.Disk.state c.args.disk.now).calls (g.D.Disk.state c.sync.new.self).calls (g.D.Disk.state c.read_store.new.disk).calls
-    (c.sync.ensures.called ∙ ap (with_call ToSync) c.open_file.ensures.called) c.read_store.ensures.calls)
+    (c.sync.ensures.called ∙ ap (with_call ToSync) c.open_file.ensures.called) c.read_store.ensures.calls))
 
 pub returns-in_err-open_file-clause-follows : goal.returns-in_err-open_file-clause-follows
 returns-in_err-open_file-clause-follows g c =
