@@ -1,13 +1,13 @@
 -- No index and no epoch comes twice, over any lives.
-use Rattle.std.proofs.Common.{◌≡◌, ℕ, ◌+◌, ◌<◌, ◌≤◌, inl, inr, List, [], ◌∷◌, ◌++◌, length, refl, sym, ap, ◌∙◌, subst, arith, append_assoc}
+use Rattle.std.proofs.Common.{◌≡◌, ℕ, ◌+◌, ◌<◌, ◌≤◌, ◌⊎◌, inl, inr, List, [], ◌∷◌, ◌++◌, refl, sym, ap, ◌∙◌, subst, arith, append_assoc}
 use Rattle.std.specs.List.{AllByRecursion}
 use Rattle.records.specs.declared.Body.{Body}
 use Rattle.records.specs.declared.Body.TheVariants.{Certificate, Note, Accusation}
 use Rattle.epoch_store.specs.declared.Stored.{Stored}
-use Rattle.epoch_store.specs.Store.{StoreOf}
-use Rattle.epoch_store.proofs.FoundLemmas.{one_state}
+use Rattle.epoch_store.specs.Store.{StoreOf, migrated}
 use Rattle.signer.specs.Signing.{stored_after, MayComeNext}
-use Rattle.signer.specs.Lives.{Spent, spent_by, state_after, MayCome, IsLeft, PastLife, AreLives, all_spent, epochs_of, indexes, left_by, note_epochs, IsRising, OnceOverLives, SpentOnce}
+use Rattle.signer.specs.Lives.{Spent, spent_by, state_after, MayCome, IsLeft, Life, Move, PastLife, AreLives, all_spent, epochs_of, indexes, left_by, note_epochs, IsRising, OnceOverLives, SpentOnce}
+use Rattle.epoch_store.proofs.FoundLemmas.{one_store}
 
 -- each number is in this range
 abbrev Between : ℕ → ℕ → List ℕ → Type 0
@@ -85,15 +85,17 @@ epochs-append [] b = refl
 epochs-append (s ∷ a) b = ap (λ (xs : List ℕ). epochs_of s.body ++ xs) (epochs-append a b) ∙ sym (append_assoc (epochs_of s.body) (note_epochs a) (note_epochs b))
 
 -- what is left stands for no less than what was signed
-pub record LeftAt (tag file : List ℕ) (s : Stored) : Type 0 where
+pub record LeftAt (file : List ℕ) (s : Stored) : Type 0 where
+  pub tag : List ℕ
   pub state : Stored
   pub store : StoreOf tag file state
   pub next : s.next ≤ state.next
   pub epoch : s.epoch ≤ state.epoch
 
-left_at : (tag file : List ℕ) (s : Stored) → IsLeft tag file s → LeftAt tag file s
-left_at tag file s (inl store) = record { state = s; store = store; next = omega arith; epoch = omega arith }
+left_at : (tag file : List ℕ) (s : Stored) → IsLeft tag file s → LeftAt file s
+left_at tag file s (inl store) = record { tag = tag; state = s; store = store; next = omega arith; epoch = omega arith }
 left_at tag file s (inr tried) = record {
+  tag = tag;
   state = stored_after s tried.0;
   store = tried.2;
   next = omega (arith, next_rises s tried.0);
@@ -115,43 +117,71 @@ joined a b c d first second x next epoch y = record {
   epochs_rising = rw (epochs-append first second) (rising-append (a.epoch + 1) (b.epoch + 1) (d.epoch + 1) (note_epochs first) (note_epochs second) x.epochs_within (wider (c.epoch + 1) (d.epoch + 1) (b.epoch + 1) (d.epoch + 1) (note_epochs second) (omega arith) (omega arith) y.epochs_within) x.epochs_rising y.epochs_rising);
 }
 
-lives_spend : (tag before : List ℕ) (s : Stored) (lives : List PastLife) → length tag ≡ 32 → StoreOf tag before s → AreLives tag before lives → SpendsAbove s (all_spent lives)
-lives_spend tag before s [] size store are = record { end = s; spends_so = record { next = omega arith; epoch = omega arith; within = tt; rising = tt; epochs_within = tt; epochs_rising = tt } }
-lives_spend tag before s (life ∷ later) size store are =
-    let this = are.0 in
-    let same : this.opened ≡ s = one_state tag before this.opened s size this.found store in
-    let mine = spends this.opened this.bodies this.may_come in
-    let left = left_at tag life.left (state_after this.opened this.bodies) this.left in
-    let rest = lives_spend tag life.left left.state later size left.store are.1 in
-    let spent : Spends this.opened (state_after this.opened this.bodies) life.spent = rw this.spent_is mine in
+-- what was found, what was spent from there on, and what was left
+pub record Passes (before after : List ℕ) (spent : List Spent) : Type 0 where
+  pub tag : List ℕ
+  pub opened : Stored
+  pub found : StoreOf tag before opened
+  pub end : Stored
+  pub spends_so : Spends opened end spent
+  pub left : LeftAt after end
+
+pub nothing : (s : Stored) → Spends s s []
+nothing s = record { next = omega arith; epoch = omega arith; within = tt; rising = tt; epochs_within = tt; epochs_rising = tt }
+
+passes : (before after : List ℕ) (spent : List Spent) → Life before after spent ⊎ Move before after spent → Passes before after spent
+passes before after spent (inl life) = record {
+  tag = life.tag;
+  opened = life.opened;
+  found = life.found;
+  end = state_after life.opened life.bodies;
+  spends_so = rw life.spent_is (spends life.opened life.bodies life.may_come);
+  left = left_at life.tag after (state_after life.opened life.bodies) life.left;
+}
+passes before after spent (inr move) = record {
+  tag = move.tag;
+  opened = move.opened;
+  found = move.found;
+  end = move.opened;
+  spends_so = rw move.spent_none (nothing move.opened);
+  left = elim move.left [
+    | inl still ↦ record { tag = move.tag; state = move.opened; store = still; next = omega arith; epoch = omega arith }
+    | inr moved ↦ record { tag = move.other; state = migrated move.opened move.mask; store = moved; next = omega arith; epoch = omega arith }
+  ];
+}
+
+lives_spend : (tag before : List ℕ) (s : Stored) (lives : List PastLife) → StoreOf tag before s → AreLives before lives → SpendsAbove s (all_spent lives)
+lives_spend tag before s [] store are = record { end = s; spends_so = nothing s }
+lives_spend tag before s (life ∷ later) store are =
+    let this = passes before life.left life.spent are.0 in
+    let same : this.opened ≡ s = (one_store before this.tag tag this.opened s this.found store).0 in
+    let rest = lives_spend this.left.tag life.left this.left.state later this.left.store are.1 in
     let P : Stored → Type 0 = λ z. Spends z rest.end (life.spent ++ all_spent later) in
     record {
       end = rest.end;
-      spends_so = subst P same (joined this.opened (state_after this.opened this.bodies) left.state rest.end life.spent (all_spent later) spent left.next left.epoch rest.spends_so);
+      spends_so = subst P same (joined this.opened this.end this.left.state rest.end life.spent (all_spent later) this.spends_so this.left.next this.left.epoch rest.spends_so);
     }
 
 pub once : OnceOverLives
-once tag before [] size are = record { indexes_rise = tt; epochs_rise = tt }
-once tag before (life ∷ later) size are =
-    let all = lives_spend tag before are.0.opened (life ∷ later) size are.0.found are in
+once before [] are = record { indexes_rise = tt; epochs_rise = tt }
+once before (life ∷ later) are =
+    let this = passes before life.left life.spent are.0 in
+    let all = lives_spend this.tag before this.opened (life ∷ later) this.found are in
     record { indexes_rise = all.spends_so.rising; epochs_rise = all.spends_so.epochs_rising }
 
 -- what was spent in all
 pub spent_once : SpentOnce
-spent_once tag before after spent size lived = rw lived.spent_is (once tag before lived.lives size lived.are)
+spent_once tag before after spent lived = rw lived.spent_is (once before lived.lives lived.are)
 
 -- so does what a life spends that is not over, behind those that are
-pub living_spend : (tag before : List ℕ) (s : Stored) (earlier : List PastLife) (opened : Stored) (bodies : List Body) → length tag ≡ 32 → StoreOf tag before s → AreLives tag before earlier → StoreOf tag (left_by before earlier) opened → MayCome opened bodies → SpendsAbove s (all_spent earlier ++ spent_by opened bodies)
-living_spend tag before s [] opened bodies size store are found may =
-    let same : opened ≡ s = one_state tag before opened s size found store in
+pub living_spend : (tag now before : List ℕ) (s : Stored) (earlier : List PastLife) (opened : Stored) (bodies : List Body) → StoreOf tag before s → AreLives before earlier → StoreOf now (left_by before earlier) opened → MayCome opened bodies → SpendsAbove s (all_spent earlier ++ spent_by opened bodies)
+living_spend tag now before s [] opened bodies store are found may =
+    let same : opened ≡ s = (one_store before now tag opened s found store).0 in
     record { end = state_after opened bodies; spends_so = subst (λ (z : Stored). Spends z (state_after opened bodies) (spent_by opened bodies)) same (spends opened bodies may) }
-living_spend tag before s (life ∷ later) opened bodies size store are found may =
-    let this = are.0 in
-    let same : this.opened ≡ s = one_state tag before this.opened s size this.found store in
-    let mine = spends this.opened this.bodies this.may_come in
-    let left = left_at tag life.left (state_after this.opened this.bodies) this.left in
-    let rest = living_spend tag life.left left.state later opened bodies size left.store are.1 found may in
-    let spent : Spends this.opened (state_after this.opened this.bodies) life.spent = rw this.spent_is mine in
+living_spend tag now before s (life ∷ later) opened bodies store are found may =
+    let this = passes before life.left life.spent are.0 in
+    let same : this.opened ≡ s = (one_store before this.tag tag this.opened s this.found store).0 in
+    let rest = living_spend this.left.tag now life.left this.left.state later opened bodies this.left.store are.1 found may in
     let others : List Spent = all_spent later ++ spent_by opened bodies in
-    let all : Spends this.opened rest.end (life.spent ++ others) = joined this.opened (state_after this.opened this.bodies) left.state rest.end life.spent others spent left.next left.epoch rest.spends_so in
+    let all : Spends this.opened rest.end (life.spent ++ others) = joined this.opened this.end this.left.state rest.end life.spent others this.spends_so this.left.next this.left.epoch rest.spends_so in
     record { end = rest.end; spends_so = subst (λ (xs : List Spent). Spends s rest.end xs) (sym (append_assoc life.spent (all_spent later) (spent_by opened bodies))) (subst (λ (z : Stored). Spends z rest.end (life.spent ++ others)) same all) }

@@ -1,10 +1,11 @@
 -- How lives go on, call after call.
 use Rattle.std.proofs.Common.{◌≡◌, ℕ, ◌⊎◌, inl, inr, true, false, List, [], ◌∷◌, ◌++◌, refl, sym, ap, ◌∙◌, subst, Result, Ok, Err, OnOk, append-nil, append_assoc}
+use Rattle.ff_ids.specs.declared.Mask.{Mask}
 use Rattle.records.specs.declared.Body.{Body}
 use Rattle.records.specs.Signing.{CheckedRecord}
 use Rattle.epoch_store.specs.declared.Stored.{Stored}
 use Rattle.epoch_store.specs.declared.seat.Seat.{Seat}
-use Rattle.epoch_store.specs.Store.{StoreOf, IsSettled, LeavesEither}
+use Rattle.epoch_store.specs.Store.{StoreOf, IsSettled, LeavesEither, LeavesOneOf, migrated}
 use Rattle.epoch_store.proofs.PutLemmas.{settled_leaves_state}
 use Rattle.ports.specs.Disk.{Moment, Leaves, Since, IsAmong, settled}
 use Rattle.ports.specs.DiskLaws.{settled_leaves}
@@ -13,7 +14,7 @@ use Rattle.ports.proofs.SinceLemmas.{Since-same, Since-weaken, newest_has}
 use Rattle.signer.specs.declared.SignFault.{SignFault}
 use Rattle.signer.specs.declared.SignFault.TheVariants.{OutOfMemory, Closed, Exhausted, StoreFault}
 use Rattle.signer.specs.Signing.{SignerState, stored_after, MayComeNext, AnswersBy, after_signing, OnIdle}
-use Rattle.signer.specs.Lives.{Spent, spent_by, state_after, MayCome, IsLeft, Life, PastLife, AreLives, all_spent, left_by, Lived, EndsLives, EndsNow, IsLiving, spent_in, NothingSpent, KeptByOpening, KeptByCrash}
+use Rattle.signer.specs.Lives.{Spent, spent_by, state_after, MayCome, IsLeft, Life, Move, PastLife, AreLives, all_spent, left_by, Lived, EndsLives, EndsNow, IsLiving, spent_in, EndsEither, MovesLives, NothingSpent, KeptByOpening, KeptByMove, KeptByCrash, KeptBehindMove}
 
 spent_by-push : (s : Stored) (bodies : List Body) (b : Body) → spent_by s (bodies ++ b ∷ []) ≡ spent_by s bodies ++ record { index = (state_after s bodies).next; body = b } ∷ []
 spent_by-push s [] b = refl
@@ -27,10 +28,11 @@ MayCome-push : (s : Stored) (bodies : List Body) (b : Body) → MayCome s bodies
 MayCome-push s [] b may next = (next, tt)
 MayCome-push s (x ∷ bodies) b may next = (may.0, MayCome-push (stored_after s x) bodies b may.1 next)
 
--- one life more
-AreLives-push : (tag before : List ℕ) (lives : List PastLife) (life : PastLife) → AreLives tag before lives → Life tag (left_by before lives) life.left life.spent → AreLives tag before (lives ++ life ∷ [])
-AreLives-push tag before [] life are last = (last, tt)
-AreLives-push tag before (first ∷ lives) life are last = (are.0, AreLives-push tag first.left lives life are.1 last)
+-- one life or one move more
+AreLives-push : (before : List ℕ) (lives : List PastLife) (life : PastLife) → AreLives before lives → Life (left_by before lives) life.left life.spent ⊎ Move (left_by before lives) life.left life.spent
+    → AreLives before (lives ++ life ∷ [])
+AreLives-push before [] life are last = (last, tt)
+AreLives-push before (first ∷ lives) life are last = (are.0, AreLives-push first.left lives life are.1 last)
 
 left_by-push : (before : List ℕ) (lives : List PastLife) (life : PastLife) → left_by before (lives ++ life ∷ []) ≡ life.left
 left_by-push before [] life = refl
@@ -40,15 +42,28 @@ all_spent-push : (lives : List PastLife) (life : PastLife) → all_spent (lives 
 all_spent-push [] life = append-nil life.spent
 all_spent-push (first ∷ lives) life = ap (λ (rest : List Spent). first.spent ++ rest) (all_spent-push lives life) ∙ sym (append_assoc first.spent (all_spent lives) life.spent)
 
-lived_with : (tag before c : List ℕ) (spent : List Spent) (earlier : List PastLife) (opened : Stored) (bodies : List Body) → AreLives tag before earlier → StoreOf tag (left_by before earlier) opened → MayCome opened bodies → spent ≡ all_spent earlier ++ spent_by opened bodies → IsLeft tag c (state_after opened bodies) → Lived tag before c spent
-lived_with tag before c spent earlier opened bodies are found may is left =
-    let life : PastLife = record { left = c; spent = spent_by opened bodies } in
+lived-push : (tag before c : List ℕ) (spent more : List Spent) (earlier : List PastLife) → AreLives before earlier → spent ≡ all_spent earlier → Life (left_by before earlier) c more ⊎ Move (left_by before earlier) c more
+    → (state : Stored) × StoreOf tag c state → Lived tag before c (spent ++ more)
+lived-push tag before c spent more earlier are is last store =
+    let life : PastLife = record { left = c; spent = more } in
     record {
       lives = earlier ++ life ∷ [];
-      are = AreLives-push tag before earlier life are (record { opened = opened; bodies = bodies; found = found; may_come = may; spent_is = refl; left = left });
+      are = AreLives-push before earlier life are last;
       left = sym (left_by-push before earlier life);
-      spent_is = is ∙ sym (all_spent-push earlier life);
+      spent_is = ap (λ (z : List Spent). z ++ more) is ∙ sym (all_spent-push earlier life);
+      store = store;
     }
+
+-- what is left is a store of the tag
+left-store : (tag c : List ℕ) (s : Stored) → IsLeft tag c s → (state : Stored) × StoreOf tag c state
+left-store tag c s (inl same) = (s, same)
+left-store tag c s (inr further) = (stored_after s further.0, further.2)
+
+lived_with : (tag before c : List ℕ) (spent : List Spent) (earlier : List PastLife) (opened : Stored) (bodies : List Body) → AreLives before earlier → StoreOf tag (left_by before earlier) opened → MayCome opened bodies → spent ≡ all_spent earlier ++ spent_by opened bodies → IsLeft tag c (state_after opened bodies) → Lived tag before c spent
+lived_with tag before c spent earlier opened bodies are found may is left =
+    rw is (lived-push tag before c (all_spent earlier) (spent_by opened bodies) earlier are refl
+    (inl (record { tag = tag; opened = opened; bodies = bodies; found = found; may_come = may; spent_is = refl; left = left }))
+    (left-store tag c (state_after opened bodies) left))
 
 -- a file of the state, or of the next one, ends the lives
 ends_with : (tag before c : List ℕ) (spent : List Spent) (s : SignerState) (moments : List Moment) (body : Body) → IsLiving tag before spent s moments → s.closed ≡ false → MayComeNext s.state body → StoreOf tag c s.state ⊎ StoreOf tag c (stored_after s.state body) → Lived tag before c spent
@@ -78,7 +93,7 @@ newest tag before spent [] newer now since = absurd now
 newest tag before spent (now ∷ past) [] at since = none_left now past since.more since.grew
 newest tag before spent (now ∷ past) (m ∷ later) at since = newest_has (EndsLives tag before spent) now m past later at since
 
-settled_ends : (tag before : List ℕ) (spent : List Spent) (earlier : List PastLife) (opened : Stored) (bodies : List Body) (state : Stored) (seat : Seat) (now : Moment) (past : List Moment) → AreLives tag before earlier → StoreOf tag (left_by before earlier) opened → MayCome opened bodies → spent ≡ all_spent earlier ++ spent_by opened bodies → state ≡ state_after opened bodies → IsSettled tag state seat (now ∷ past) → EndsLives tag before spent now
+settled_ends : (tag before : List ℕ) (spent : List Spent) (earlier : List PastLife) (opened : Stored) (bodies : List Body) (state : Stored) (seat : Seat) (now : Moment) (past : List Moment) → AreLives before earlier → StoreOf tag (left_by before earlier) opened → MayCome opened bodies → spent ≡ all_spent earlier ++ spent_by opened bodies → state ≡ state_after opened bodies → IsSettled tag state seat (now ∷ past) → EndsLives tag before spent now
 settled_ends tag before spent earlier opened bodies state seat now past are found may is at settled = λ c leaves.
     let Q : Stored → Type 0 = λ z. IsLeft tag c z in
     lived_with tag before c spent earlier opened bodies are found may is (subst Q at (inl (settled_leaves_state tag state seat (now ∷ past) settled c leaves)))
@@ -88,7 +103,7 @@ told : (P : Moment → Type 0) (tag before : List ℕ) (spent : List Spent) (old
 told P tag before spent [] newer at since none = at
 told P tag before spent (now ∷ past) newer at since none = none_left now past since.more (sym none ∙ since.grew)
 
-now_settled : (tag before : List ℕ) (spent : List Spent) (earlier : List PastLife) (opened : Stored) (bodies : List Body) (state : Stored) (seat : Seat) (moments : List Moment) → (moments ≡ [] → ⊥) → AreLives tag before earlier → StoreOf tag (left_by before earlier) opened → MayCome opened bodies → spent ≡ all_spent earlier ++ spent_by opened bodies → state ≡ state_after opened bodies → IsSettled tag state seat moments → EndsNow tag before spent moments
+now_settled : (tag before : List ℕ) (spent : List Spent) (earlier : List PastLife) (opened : Stored) (bodies : List Body) (state : Stored) (seat : Seat) (moments : List Moment) → (moments ≡ [] → ⊥) → AreLives before earlier → StoreOf tag (left_by before earlier) opened → MayCome opened bodies → spent ≡ all_spent earlier ++ spent_by opened bodies → state ≡ state_after opened bodies → IsSettled tag state seat moments → EndsNow tag before spent moments
 now_settled tag before spent earlier opened bodies state seat [] some are found may is at settled = some refl
 now_settled tag before spent earlier opened bodies state seat (now ∷ past) some are found may is at settled = settled_ends tag before spent earlier opened bodies state seat now past are found may is at settled
 
@@ -163,9 +178,11 @@ begins_life tag before spent s (now ∷ past) at ends =
 
 -- no life has begun
 pub nothing_spent : NothingSpent
-nothing_spent tag now past is = λ c leaves.
+nothing_spent tag state now past is store = λ c leaves.
     let P : Moment → Type 0 = λ m. Leaves m c in
-    record { lives = []; are = tt; left = settled_only now.image c (subst P is leaves); spent_is = refl }
+    let same = settled_only now.image c (subst P is leaves) in
+    let Q : List ℕ → Type 0 = λ file. StoreOf tag file state in
+    record { lives = []; are = tt; left = same; spent_is = refl; store = (state, subst Q (sym same) store) }
 
 -- an opening
 pub kept_by_opening : KeptByOpening
@@ -179,3 +196,68 @@ pub kept_by_crash : KeptByCrash
 kept_by_crash tag before spent now past c ends leaves = λ d left.
     let P : List ℕ → Type 0 = λ file. Lived tag before file spent in
     subst P (sym (settled_only c d left)) (ends c leaves)
+
+-- lives that end in a file that is a store of another tag
+pub lived-under : (tag other before c : List ℕ) (spent : List Spent) (state : Stored) → StoreOf other c state → Lived tag before c spent → Lived other before c spent
+lived-under tag other before c spent state store lived = record { lives = lived.lives; are = lived.are; left = lived.left; spent_is = lived.spent_is; store = (state, store) }
+
+-- a settled file is left as it is
+pub settled-leaves : (now : Moment) → now ≡ settled now.image → Leaves now now.image
+settled-leaves now is = subst (λ (m : Moment). Leaves m now.image) (sym is) (settled_leaves now.image)
+
+-- each file that a settled moment leaves ends lives, where its own does
+pub ends-settled : (tag before : List ℕ) (spent : List Spent) (now : Moment) → now ≡ settled now.image → Lived tag before now.image spent → EndsLives tag before spent now
+ends-settled tag before spent now is lived = λ c leaves.
+    let same = settled_only now.image c (subst (λ (m : Moment). Leaves m c) is leaves) in
+    subst (λ (file : List ℕ). Lived tag before file spent) (sym same) lived
+
+-- a file of the store, or of the moved one, ends lives with a move more
+moved-ends : (tag other before file c : List ℕ) (spent : List Spent) (opened : Stored) (mask : Mask) → StoreOf tag file opened → Lived tag before file spent → StoreOf tag c opened ⊎ StoreOf other c (migrated opened mask) → Lived tag before c spent ⊎ Lived other before c spent
+moved-ends tag other before file c spent opened mask found lived left = by left
+  where
+    move : Move (left_by before lived.lives) c []
+    move = record { tag = tag; opened = opened; other = other; mask = mask; found = subst (λ (f : List ℕ). StoreOf tag f opened) lived.left found; spent_none = refl; left = left }
+
+    ends : (t : List ℕ) → (state : Stored) × StoreOf t c state → Lived t before c spent
+    ends t store = subst (λ (z : List Spent). Lived t before c z) (append-nil spent) (lived-push t before c spent [] lived.lives lived.are lived.spent_is (inr move) store)
+
+    by : StoreOf tag c opened ⊎ StoreOf other c (migrated opened mask) → Lived tag before c spent ⊎ Lived other before c spent
+    by (inl still) = inl (ends tag (opened, still))
+    by (inr moved) = inr (ends other (migrated opened mask, moved))
+
+moves : (tag other : List ℕ) (opened : Stored) (seat : Seat) (mask : Mask) (older newer : List Moment) → IsSettled tag opened seat older → Since (LeavesOneOf tag opened other (migrated opened mask)) older newer → MovesLives tag other older newer
+moves tag other opened seat mask [] newer at since before spent ends = absurd ends
+moves tag other opened seat mask (now ∷ past) newer at since before spent ends =
+    let lived = ends now.image (settled-leaves now at.0) in
+    Since-weaken (LeavesOneOf tag opened other (migrated opened mask)) (EndsEither tag other before spent) (now ∷ past) newer
+    (λ m one c leaves. moved-ends tag other before now.image c spent opened mask (seat, at.1) lived (one c leaves)) since
+
+-- where the newest moment is settled as a store of the other tag, its file ends lives under that
+either-settled : (tag other before : List ℕ) (spent : List Spent) (state : Stored) (seat : Seat) (now : Moment) (past : List Moment) → IsSettled other state seat (now ∷ past) → EndsEither tag other before spent now → EndsLives other before spent now
+either-settled tag other before spent state seat now past at ends =
+    ends-settled other before spent now at.0 (elim (ends now.image (settled-leaves now at.0)) [
+      | inl one ↦ lived-under tag other before now.image spent state (seat, at.1) one
+      | inr moved ↦ moved
+    ])
+
+newest-either : (tag other before : List ℕ) (spent : List Spent) (older newer : List Moment) → EndsNow tag before spent older → Since (EndsEither tag other before spent) older newer → (state : Stored) (seat : Seat) → IsSettled other state seat newer → EndsNow other before spent newer
+newest-either tag other before spent [] newer ends since state seat at = absurd ends
+newest-either tag other before spent (now ∷ past) [] ends since state seat at = none_left now past since.more since.grew
+newest-either tag other before spent (now ∷ past) (m ∷ later) ends since state seat at =
+    let either : EndsEither tag other before spent now = λ c leaves. inl (ends c leaves) in
+    either-settled tag other before spent state seat m later at (newest_has (EndsEither tag other before spent) now m past later either since)
+
+-- a move
+pub kept_by_move : KeptByMove
+kept_by_move tag other opened seat mask older newer at since =
+    let all = moves tag other opened seat mask older newer at since in (
+      all,
+      λ behind settled before spent ends. newest-either tag other before spent older newer ends (all before spent ends) (migrated opened mask) behind settled,
+    )
+
+-- a crash within a move
+pub kept_behind_move : KeptBehindMove
+kept_behind_move tag other before spent now c ends leaves = elim (ends c leaves) [
+  | inl one ↦ inl (ends-settled tag before spent (settled c) refl one)
+  | inr moved ↦ inr (ends-settled other before spent (settled c) refl moved)
+]

@@ -1,12 +1,15 @@
--- The lives of a key: what each found in the store, what it signed, and what a crash left of the store. Over all
--- of them no index is spent twice, and no two notes have one epoch.
-use Rattle.std.specs.Prelude.{◌≡◌, ℕ, ◌<◌, ◌⊎◌, false, List, [], ◌∷◌, ◌++◌, length, Result, Ok, Err}
+-- The lives of a key, and the moves of its store from one tag to another between them: what each found in the store,
+-- what it signed, and what a crash left of the store. Over all of them, whatever their tags, no index is spent twice,
+-- and no two notes have one epoch.
+use Rattle.std.specs.Prelude.{◌≡◌, ℕ, ◌<◌, ◌⊎◌, false, List, [], ◌∷◌, ◌++◌, Result, Ok, Err}
 use Rattle.std.specs.List.{AllByRecursion}
+use Rattle.ff_ids.specs.declared.Mask.{Mask}
 use Rattle.records.specs.declared.Body.{Body}
 use Rattle.records.specs.declared.Body.TheVariants.{Certificate, Note, Accusation}
 use Rattle.ports.specs.Disk.{Moment, Leaves, Fails, Since, settled, stays}
 use Rattle.epoch_store.specs.declared.Stored.{Stored}
-use Rattle.epoch_store.specs.Store.{StoreOf, IsSettled}
+use Rattle.epoch_store.specs.declared.seat.Seat.{Seat}
+use Rattle.epoch_store.specs.Store.{StoreOf, IsSettled, LeavesOneOf, migrated}
 use Rattle.signer.specs.declared.SignFault.{SignFault}
 use Rattle.signer.specs.Signing.{SignerState, stored_after, MayComeNext}
 
@@ -34,8 +37,9 @@ MayCome s (b ∷ bodies) = MayComeNext s b × MayCome (stored_after s b) bodies
 abbrev pub IsLeft : List ℕ → List ℕ → Stored → Type 0
 IsLeft tag file s = StoreOf tag file s ⊎ ((tried : Body) × MayComeNext s tried × StoreOf tag file (stored_after s tried))
 
--- a life of the key with this store's tag: it found the one file and left the other, and spent this
-pub record Life (tag before after : List ℕ) (spent : List Spent) : Type 0 where
+-- a life of the key: it found the one file, a store of this tag, and left the other, and spent this
+pub record Life (before after : List ℕ) (spent : List Spent) : Type 0 where
+  pub tag : List ℕ
   pub opened : Stored
   pub bodies : List Body
   pub found : StoreOf tag before opened
@@ -43,15 +47,26 @@ pub record Life (tag before after : List ℕ) (spent : List Spent) : Type 0 wher
   pub spent_is : spent ≡ spent_by opened bodies
   pub left : IsLeft tag after (state_after opened bodies)
 
--- a life that is over: the file that it left, and what it spent
+-- a move of the store to another tag and another mask: it found the one file, a store of the first tag, and left the
+-- other, which is still that store or the one that moved; nothing was spent
+pub record Move (before after : List ℕ) (spent : List Spent) : Type 0 where
+  pub tag : List ℕ
+  pub opened : Stored
+  pub other : List ℕ
+  pub mask : Mask
+  pub found : StoreOf tag before opened
+  pub spent_none : spent ≡ []
+  pub left : StoreOf tag after opened ⊎ StoreOf other after (migrated opened mask)
+
+-- a life or a move that is over: the file that it left, and what it spent
 pub record PastLife : Type 0 where
   pub left : List ℕ
   pub spent : List Spent
 
--- lives one after the other, each of which finds what the one before has left
-abbrev pub AreLives : List ℕ → List ℕ → List PastLife → Type 0
-AreLives tag before [] = Unit {0}
-AreLives tag before (life ∷ later) = Life tag before life.left life.spent × AreLives tag life.left later
+-- lives and moves one after the other, under whatever tags, each of which finds what the one before has left
+abbrev pub AreLives : List ℕ → List PastLife → Type 0
+AreLives before [] = Unit {0}
+AreLives before (life ∷ later) = (Life before life.left life.spent ⊎ Move before life.left life.spent) × AreLives life.left later
 
 -- what they spent, in order
 abbrev pub all_spent : List PastLife → List Spent
@@ -82,23 +97,25 @@ pub record IsOnce (spent : List Spent) : Type 0 where
   pub indexes_rise : IsRising (indexes spent)
   pub epochs_rise : IsRising (note_epochs spent)
 
--- over any lives, whatever each of them found and left
+-- over any lives and moves, whatever each of them found and left
 abbrev pub OnceOverLives : Type 0
-OnceOverLives = (tag before : List ℕ) (lives : List PastLife) → length tag ≡ 32 → AreLives tag before lives → IsOnce (all_spent lives)
+OnceOverLives = (before : List ℕ) (lives : List PastLife) → AreLives before lives → IsOnce (all_spent lives)
 
 -- the file that the last of these lives left
 abbrev pub left_by : List ℕ → List PastLife → List ℕ
 left_by before [] = before
 left_by before (life ∷ later) = left_by life.left later
 
--- lives from the one file to the other, which spent this in all
+-- lives and moves from the one file to the other, which spent this in all; the last file is a store of this tag
 pub record Lived (tag before after : List ℕ) (spent : List Spent) : Type 0 where
   pub lives : List PastLife
-  pub are : AreLives tag before lives
+  pub are : AreLives before lives
   pub left : after ≡ left_by before lives
   pub spent_is : spent ≡ all_spent lives
+  pub store : (state : Stored) × StoreOf tag after state
 
--- each file that a crash at this moment may leave ends lives that began with the one file and spent this
+-- each file that a crash at this moment may leave is a store of this tag, and ends lives that began with the one file and
+-- spent this
 abbrev pub EndsLives : List ℕ → List ℕ → List Spent → Moment → Type 0
 EndsLives tag before spent moment = (c : List ℕ) → Leaves moment c → Lived tag before c spent
 
@@ -107,13 +124,13 @@ abbrev pub EndsNow : List ℕ → List ℕ → List Spent → List Moment → Ty
 EndsNow tag before spent [] = ⊥
 EndsNow tag before spent (now ∷ past) = EndsLives tag before spent now
 
--- lives of which the last is not over: they began with this file and have spent this so far; unless the disk has
--- failed, the file is settled with what the signer keeps; and a crash ends them with exactly this spent
+-- lives of which the last, in a store of this tag, is not over: they began with this file and have spent this so far;
+-- unless the disk has failed, the file is settled with what the signer keeps; and a crash ends them with exactly this spent
 pub record IsLiving (tag before : List ℕ) (spent : List Spent) (s : SignerState) (moments : List Moment) : Type 0 where
   pub earlier : List PastLife
   pub opened : Stored
   pub bodies : List Body
-  pub are : AreLives tag before earlier
+  pub are : AreLives before earlier
   pub found : StoreOf tag (left_by before earlier) opened
   pub may_come : MayCome opened bodies
   pub spent_is : spent ≡ all_spent earlier ++ spent_by opened bodies
@@ -153,10 +170,38 @@ abbrev pub KeptByCrash : Type 0
 KeptByCrash = (tag before : List ℕ) (spent : List Spent) (now : Moment) (past : List Moment) (c : List ℕ)
     → EndsNow tag before spent (now ∷ past) → Leaves now c → EndsNow tag before spent (settled c ∷ [])
 
--- nothing is spent where the file is settled and no life has begun
-abbrev pub NothingSpent : Type 0
-NothingSpent = (tag : List ℕ) (now : Moment) (past : List Moment) → now ≡ settled now.image → EndsNow tag now.image [] (now ∷ past)
+-- each file that a crash at this moment may leave ends such lives, under the one tag or the other
+abbrev pub EndsEither : List ℕ → List ℕ → List ℕ → List Spent → Moment → Type 0
+EndsEither tag other before spent moment = (c : List ℕ) → Leaves moment c → Lived tag before c spent ⊎ Lived other before c spent
 
--- and what was spent, was spent once
+-- the store is moved from the one tag to the other, and nothing spent: where crashes ended lives under the one, each of them
+-- does so at each new moment under the one or the other
+abbrev pub MovesLives : List ℕ → List ℕ → List Moment → List Moment → Type 0
+MovesLives tag other older newer = (before : List ℕ) (spent : List Spent) → EndsNow tag before spent older
+    → Since (EndsEither tag other before spent) older newer
+
+-- and in the end under the other
+abbrev pub MovedLives : List ℕ → List ℕ → List Moment → List Moment → Type 0
+MovedLives tag other older newer = (before : List ℕ) (spent : List Spent) → EndsNow tag before spent older → EndsNow other before spent newer
+
+-- so it is over what the move of a store does, and in the end where the store is settled as the one that moved
+abbrev pub KeptByMove : Type 0
+KeptByMove = (tag other : List ℕ) (opened : Stored) (seat : Seat) (mask : Mask) (older newer : List Moment)
+    → IsSettled tag opened seat older → Since (LeavesOneOf tag opened other (migrated opened mask)) older newer
+    → MovesLives tag other older newer
+    × ((behind : Seat) → IsSettled other (migrated opened mask) behind newer → MovedLives tag other older newer)
+
+-- once the disk came up with a file that a crash within a move has left, the lives have ended under the one tag or the other
+abbrev pub KeptBehindMove : Type 0
+KeptBehindMove = (tag other before : List ℕ) (spent : List Spent) (now : Moment) (c : List ℕ)
+    → EndsEither tag other before spent now → Leaves now c
+    → EndsNow tag before spent (settled c ∷ []) ⊎ EndsNow other before spent (settled c ∷ [])
+
+-- nothing is spent where the file is a settled store and no life has begun
+abbrev pub NothingSpent : Type 0
+NothingSpent = (tag : List ℕ) (state : Stored) (now : Moment) (past : List Moment) → now ≡ settled now.image → StoreOf tag now.image state
+    → EndsNow tag now.image [] (now ∷ past)
+
+-- and what was spent, was spent once, over whatever lives and moves
 abbrev pub SpentOnce : Type 0
-SpentOnce = (tag before after : List ℕ) (spent : List Spent) → length tag ≡ 32 → Lived tag before after spent → IsOnce spent
+SpentOnce = (tag before after : List ℕ) (spent : List Spent) → Lived tag before after spent → IsOnce spent

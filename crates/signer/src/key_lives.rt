@@ -1,10 +1,11 @@
-//! A key through calls in any order: openings, signatures, stops within any call of the disk, and crashes.
+//! A key through calls in any order: openings, signatures, moves of its store, stops within any call of the disk, and
+//! crashes.
 
 ghost use Rattle.std.specs.Prelude.{◌≡◌, ◌<◌, ◌^◌, ℕ, List, length, Some, None, IfOk};
 ghost use Rattle.std.specs.Vec.{vec_capacity};
 ghost use Rattle.ff_ids.specs.declared.TheConstants.{MAX_RINGS};
 ghost use Rattle.signer.specs.Lives.{Spent};
-ghost use Rattle.signer.specs.Played.{told, IsQuiet, Stands, HandsOut, AreOnce, with_record};
+ghost use Rattle.signer.specs.Played.{told, IsQuiet, Under, under_after, EndsSomeNow, Stands, HandsOut, AreOnce, with_record};
 
 use crate::Signer;
 use epoch_store::{Store, make};
@@ -18,11 +19,12 @@ use std::alloc::Global;
 
 const NAME: &str = "store";
 
-/// What a member keeps outside its store: its group, the tag of its store, and what its key is made from.
+/// The greatest next index that a store keeps.
+const MOST: u32 = 32_768;
+
+/// What a member keeps outside its store: what its key is made from.
 #[derive(Clone, Copy)]
 pub struct Holder {
-    pub group: Group,
-    pub tag: [u8; 32],
     pub tree: TreeKind,
     pub ots: OtsKind,
     pub id: [u8; 16],
@@ -32,8 +34,11 @@ pub struct Holder {
 /// What comes about.
 #[derive(Clone, Copy)]
 pub enum Act {
-    /// The store is opened, and a signer over it in place of the one before.
-    Open,
+    /// The store is opened under this tag, and a signer of this group over it in place of the one before.
+    Open(Group, [u8; 32]),
+    /// The store is opened under the first tag, and moved to the second one and this mask, which has no bit at or above
+    /// `MAX_RINGS`. No signer is left.
+    Move([u8; 32], [u8; 32], Mask),
     /// A note is signed, if a signer is there.
     SignNote(MemberId, Mask),
     /// An accusation is signed, if a signer is there.
@@ -45,12 +50,19 @@ pub enum Act {
 }
 
 /// Opens the store and a signer over it, if nothing fails.
-fn reopen(alloc: Global, holder: &Holder, disk: &mut MemoryDisk) -> Option<Signer>
+fn reopen(
+    alloc: Global,
+    holder: &Holder,
+    disk: &mut MemoryDisk,
+    group: Group,
+    tag: &[u8; 32],
+) -> Option<Signer>
     ensures { (before : List ℕ) (spent : List Spent)
-        → Stands holder.now before spent None (told disk.old)
-        → Stands holder.now before spent result (told disk.new) }
+        → EndsSomeNow before spent (told disk.old)
+        → Stands holder.now (record { group = group; tag = tag.now }) before spent result
+        (told disk.new) }
 {
-    let Ok(store) = Store::open(disk, NAME, &holder.tag) else {
+    let Ok(store) = Store::open(disk, NAME, tag) else {
         return None;
     };
     let Ok(key) = SecretKey::make(alloc, holder.tree, holder.ots, holder.id, holder.seed) else {
@@ -60,7 +72,22 @@ fn reopen(alloc: Global, holder: &Holder, disk: &mut MemoryDisk) -> Option<Signe
     if store.state().next > tree.index_count() {
         return None;
     }
-    Some(Signer::open(holder.group, tree, leaves, store))
+    Some(Signer::open(group, tree, leaves, store))
+}
+
+/// Opens the store and moves it, if nothing fails.
+fn move_store(disk: &mut MemoryDisk, tag: &[u8; 32], other: &[u8; 32], mask: Mask)
+    requires { mask.0 < 2 ^ MAX_RINGS }
+    ensures { (before : List ℕ) (spent : List Spent)
+        → EndsSomeNow before spent (told disk.old)
+        → EndsSomeNow before spent (told disk.new) }
+{
+    let Ok(mut store) = Store::open(disk, NAME, tag) else {
+        return;
+    };
+    if store.state().next < MOST {
+        let _ = store.migrate(disk, other, mask);
+    }
 }
 
 fn sign_note(
@@ -72,9 +99,9 @@ fn sign_note(
     mask: Mask,
 ) -> (Option<Signer>, Option<Checked>)
     requires { mask.0 < 2 ^ MAX_RINGS }
-    ensures { (before : List ℕ) (spent : List Spent)
-        → Stands holder.now before spent signer (told disk.old)
-        → HandsOut holder.now before spent result.1 result.0 (told disk.new) }
+    ensures { (under : Under) (before : List ℕ) (spent : List Spent)
+        → Stands holder.now under before spent signer (told disk.old)
+        → HandsOut holder.now under before spent result.1 result.0 (told disk.new) }
 {
     let _ = holder;
     let Some(mut signer) = signer else {
@@ -93,9 +120,9 @@ fn sign_accusation(
     signer: Option<Signer>,
     acc: AccBody,
 ) -> (Option<Signer>, Option<Checked>)
-    ensures { (before : List ℕ) (spent : List Spent)
-        → Stands holder.now before spent signer (told disk.old)
-        → HandsOut holder.now before spent result.1 result.0 (told disk.new) }
+    ensures { (under : Under) (before : List ℕ) (spent : List Spent)
+        → Stands holder.now under before spent signer (told disk.old)
+        → HandsOut holder.now under before spent result.1 result.0 (told disk.new) }
 {
     let _ = holder;
     let Some(mut signer) = signer else {
@@ -115,12 +142,18 @@ fn turn(
     signer: Option<Signer>,
     act: Act,
 ) -> (Option<Signer>, Option<Checked>)
-    ensures { (before : List ℕ) (spent : List Spent)
-        → Stands holder.now before spent signer (told disk.old)
-        → HandsOut holder.now before spent result.1 result.0 (told disk.new) }
+    ensures { (under : Under) (before : List ℕ) (spent : List Spent)
+        → Stands holder.now under before spent signer (told disk.old)
+        → HandsOut holder.now (under_after act under) before spent result.1 result.0
+        (told disk.new) }
 {
     match act {
-        Act::Open => (reopen(alloc, holder, disk), None),
+        Act::Open(group, tag) => (reopen(alloc, holder, disk, group, &tag), None),
+        Act::Move(tag, other, mask) if mask.0 < 1 << MAX_RINGS => {
+            move_store(disk, &tag, &other, mask);
+            (None, None)
+        }
+        Act::Move(..) => (signer, None),
         Act::SignNote(member, mask) if mask.0 < 1 << MAX_RINGS => {
             sign_note(alloc, holder, disk, signer, member, mask)
         }
@@ -148,7 +181,7 @@ fn keep(records: &mut Vec<Checked>, handed: Option<Checked>)
     }
 }
 
-/// Does all the acts on a disk whose file is settled, and gives the records that were handed out.
+/// Does all the acts on a disk whose file is a settled store, and gives the records that were handed out.
 fn play_on(
     alloc: Global,
     holder: &Holder,
@@ -168,12 +201,13 @@ fn play_on(
     Ok(records)
 }
 
-/// Makes a store on a disk in memory that fails at the calls numbered in `fail`, and does all the acts. Whatever
-/// they are, the records that were handed out are signed by leaves whose indexes rise strictly, and so do the epochs
-/// of the notes among them.
+/// Makes a store with this tag on a disk in memory that fails at the calls numbered in `fail`, and does all the acts.
+/// Whatever they are, under whatever tags and for whatever groups, the records that were handed out are signed by leaves
+/// whose indexes rise strictly, and so do the epochs of the notes among them.
 pub fn play(
     alloc: Global,
     holder: &Holder,
+    tag: &[u8; 32],
     room: usize,
     changes: usize,
     fail: Vec<u64>,
@@ -182,7 +216,7 @@ pub fn play(
     ensures { IfOk result (λ records. AreOnce holder.now records.items) }
 {
     let mut disk = MemoryDisk::new(alloc, room, changes, fail)?;
-    match make(&mut disk, NAME, &holder.tag, Mask(7)) {
+    match make(&mut disk, NAME, tag, Mask(7)) {
         Ok(()) => play_on(alloc, holder, &mut disk, acts),
         Err(_) => Ok(Vec::new(alloc)),
     }
