@@ -63,7 +63,7 @@ not-made name tag mask s between old new (store.Taken len) tag_is mask_is faults
 not-made name tag mask s between old new (store.Broken place byte) tag_is mask_is faults calls taken refused moments = absurd taken
 not-made name tag mask s between old new (store.OtherKey place byte) tag_is mask_is faults calls taken refused moments = absurd taken
 not-made name tag mask s between old new store.OutOfMemory tag_is mask_is faults calls taken refused moments =
-    (refl, record { faults = faults; calls = own (λ t f. AsFarAs (make_calls name t f) old.calls new.calls) tag mask s tag_is mask_is calls; same = refused })
+    (refl, record { faults = faults; calls = record { left_out = 0; made = calls }; same = refused })
 
 -- a text that was read whole, and what came behind that
 pub went : (name : List ℕ) (s : Setting) (was between now : IoState) (old new : OfDisk) (r : Result (Unit {0}) Halt) → IsSecret was between s → MakesBehind name s between now old new r → Makes name was now old new r

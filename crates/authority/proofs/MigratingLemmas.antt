@@ -17,6 +17,8 @@ use Rattle.ports.specs.DiskCalls.{AsFarAs, with_calls}
 use Rattle.ports.specs.Outside.{OfDisk}
 use Rattle.ports.proofs.SinceLemmas.{Since-same, Since-trans, Since-weaken}
 use Rattle.schedule_texts.specs.declared.migrate.MigrateText.TheVariants as migrate
+use Rattle.signer.specs.Lives.{EndsEither, EndsLives, MovedLives, MovesLives}
+use Rattle.signer.proofs.LivingLemmas.{kept_by_move, kept_by_opening}
 use Rattle.whole_text.specs.Gathered.{IsUnfinished, nothing}
 use Rattle.whole_text.proofs.WholeLemmas.{never-unwritten}
 use Rattle.authority.specs.declared.halt.Halt.{Halt}
@@ -26,7 +28,7 @@ use Rattle.authority.specs.Halts.{halt_of}
 use Rattle.authority.specs.Enrolling.{IsOpened, OpensStore}
 use Rattle.authority.specs.Moved.{IsMigration, left_setting, migrate_judging}
 use Rattle.authority.specs.Telling.{is_writable}
-use Rattle.authority.specs.Migrating.{FailsToMove, IsMigrated, IsMoved, LeavesOne, Migrates, MigratesBehind, MovesOpened, MovingFails, count_of, new_tag, old_tag, state_moved}
+use Rattle.authority.specs.Migrating.{FailsToMove, IsMigrated, IsMoved, LeavesOne, Migrates, MigratesBehind, MovesOpened, MovingFails, count_of, new_tag, old_tag, seat_moved, state_moved}
 
 -- ## The move
 
@@ -60,6 +62,10 @@ not-moved m o seat tag mask old new tag_is mask_is faults calls any = record {
 
 -- ## Behind the opening
 
+-- the mask of the moved store
+abbrev mask_moved : Moving → Mask
+mask_moved m = record { 0 = all_rings m.setting.group.t }
+
 -- the opening leaves what a crash before would have left
 kept : (m : Moving) (o : Stored) (older newer : List Moment) → LeavesState (old_tag m) o older → Fails stays older newer → Since (LeavesOne m o) older newer
 kept m o [] newer leaves fails = subst (λ ms. Since (LeavesOne m o) [] ms) (sym fails) (Since-same (LeavesOne m o) [])
@@ -72,6 +78,25 @@ any-behind : (name : List ℕ) (m : Moving) (o : Stored) (seat : Seat) (old mid 
 any-behind name m o seat old mid new open_ any leaves =
     Since-trans (LeavesOne m o) old.moments mid.moments new.moments (kept m o old.moments mid.moments leaves open_.kept) (any (old_tag m) open_.settled)
 
+-- and so do the lives of the key
+lives-behind : (name : List ℕ) (m : Moving) (o : Stored) (seat : Seat) (old mid new : OfDisk) → IsOpened name (left_setting m) o seat old mid
+    → ((tag : List ℕ) → IsSettled tag o seat mid.moments → Since (LeavesOneOf tag o (new_tag m) (state_moved m o)) mid.moments new.moments)
+    → MovesLives (old_tag m) (new_tag m) old.moments new.moments
+lives-behind name m o seat old mid new open_ any before spent ends =
+    let tag = old_tag m in
+    let kept = kept_by_opening tag before spent old.moments mid.moments ends open_.kept in
+    let moved = kept_by_move tag (new_tag m) o seat (mask_moved m) mid.moments new.moments open_.settled (any tag open_.settled) in
+    Since-trans (EndsEither tag (new_tag m) before spent) old.moments mid.moments new.moments
+    (Since-weaken (EndsLives tag before spent) (EndsEither tag (new_tag m) before spent) old.moments mid.moments (λ moment lived c leaves. inl (lived c leaves)) kept.0)
+    (moved.0 before spent kept.1)
+
+lives-moved : (name : List ℕ) (m : Moving) (o : Stored) (seat : Seat) (old mid new : OfDisk) → IsOpened name (left_setting m) o seat old mid → IsMoved m o seat mid new → MovedLives (old_tag m) (new_tag m) old.moments new.moments
+lives-moved name m o seat old mid new open_ h before spent ends =
+    let tag = old_tag m in
+    let kept = kept_by_opening tag before spent old.moments mid.moments ends open_.kept in
+    let moved = kept_by_move tag (new_tag m) o seat (mask_moved m) mid.moments new.moments open_.settled (h.any_moment tag open_.settled) in
+    moved.1 (seat_moved m o seat) (h.left tag open_.settled) before spent kept.1
+
 migrated-behind : (name : List ℕ) (m : Moving) (o : Stored) (seat : Seat) (old mid new : OfDisk) → IsOpened name (left_setting m) o seat old mid → o.next < count_of m → IsMoved m o seat mid new → IsMigrated name m old new o
 migrated-behind name m o seat old mid new open_ within h = record {
   faults = h.faults ∙ open_.faults;
@@ -81,6 +106,8 @@ migrated-behind name m o seat old mid new open_ within h = record {
   calls = record { between = mid.calls; opened = open_.calls; made = h.calls };
   left = h.left (old_tag m) open_.settled;
   any_moment = any-behind name m o seat old mid new open_ h.any_moment;
+  lives = lives-moved name m o seat old mid new open_ h;
+  any_life = lives-behind name m o seat old mid new open_ h.any_moment;
 }
 
 fails-behind : (name : List ℕ) (m : Moving) (o : Stored) (seat : Seat) (old mid new : OfDisk) → IsOpened name (left_setting m) o seat old mid → o.next < count_of m → FailsToMove m o seat mid new → MovingFails name m old new
@@ -92,6 +119,7 @@ fails-behind name m o seat old mid new open_ within h = record {
   faults = h.faults ∙ ap next_count open_.faults;
   calls = record { between = mid.calls; opened = open_.calls; last = h.calls };
   any_moment = any-behind name m o seat old mid new open_ h.any_moment;
+  any_life = lives-behind name m o seat old mid new open_ h.any_moment;
 }
 
 -- what came behind the opening

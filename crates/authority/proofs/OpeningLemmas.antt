@@ -4,7 +4,7 @@ use Rattle.epoch_store.specs.declared.seat.Seat.{Seat}
 use Rattle.epoch_store.specs.declared.StoreError.{StoreError}
 use Rattle.epoch_store.specs.declared.StoreError.TheVariants as store
 use Rattle.epoch_store.specs.declared.Stored.{Stored}
-use Rattle.epoch_store.specs.Asked.{ReadsGates, ReadsUpTo, open_calls}
+use Rattle.epoch_store.specs.Asked.{AsksToOpen, ReadsUpTo, open_calls}
 use Rattle.epoch_store.specs.Calls.{HoldsStore, IsNotTaken, OnRead, OpensAs, SettlesAs, StoreState, is_fault, same}
 use Rattle.epoch_store.specs.Store.{IsSettled, StoreAt}
 use Rattle.ports.specs.Count.{counted}
@@ -35,7 +35,7 @@ opened name s tag st old new tag_is faults calls settles is moments = record {
 abbrev failed : StoreError → Result StoreState StoreError
 failed e = Err e
 
-pub not-opened : (name : List ℕ) (s : Setting) (tag : List ℕ) (old new : OfDisk) (e : StoreError) → tag ≡ tag_of s → new.faults ≡ counted (is_fault (failed e)) old.faults → ReadsGates (open_calls name) old.moments (failed e) old.calls new.calls → OpensAs tag old.moments (failed e) → IsNotTaken (failed e)
+pub not-opened : (name : List ℕ) (s : Setting) (tag : List ℕ) (old new : OfDisk) (e : StoreError) → tag ≡ tag_of s → new.faults ≡ counted (is_fault (failed e)) old.faults → AsksToOpen name old.moments (failed e) old.calls new.calls → OpensAs tag old.moments (failed e) → IsNotTaken (failed e)
     → OnRead (failed e) (SettlesAs same old.moments new.moments) → Fails stays old.moments new.moments → OpensStore name s old new (Err (halt_for e))
 not-opened name s tag old new store.Fault tag_is faults calls reads taken settles moments = record { faults = faults; calls = calls; moments = moments }
 not-opened name s tag old new (store.Taken len) tag_is faults calls reads taken settles moments = absurd taken
@@ -43,8 +43,8 @@ not-opened name s tag old new (store.Broken place byte) tag_is faults calls read
     record { faults = faults; error = store.Broken place byte; is = refl; calls = calls; reads = subst (λ t. OpensAs t old.moments (failed (store.Broken place byte))) tag_is reads; settles = settles; kept = moments }
 not-opened name s tag old new (store.OtherKey place byte) tag_is faults calls reads taken settles moments =
     record { faults = faults; error = store.OtherKey place byte; is = refl; calls = calls; reads = subst (λ t. OpensAs t old.moments (failed (store.OtherKey place byte))) tag_is reads; settles = settles; kept = moments }
-not-opened name s tag old new store.OutOfMemory tag_is faults calls reads taken settles moments = record { faults = faults; calls = calls; moments = moments }
+not-opened name s tag old new store.OutOfMemory tag_is faults calls reads taken settles moments = record { faults = faults; calls = record { left_out = 0; made = calls }; moments = moments }
 
 -- nothing was opened
 pub unopened : (name : List ℕ) (disk : OfDisk) → IsUnopened name disk disk
-unopened name disk = record { faults = refl; calls = record { left_out = 3; made = refl }; moments = Fails-same disk.moments disk.moments refl }
+unopened name disk = record { faults = refl; calls = record { left_out = 1; made = refl }; moments = Fails-same disk.moments disk.moments refl }

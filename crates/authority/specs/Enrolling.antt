@@ -13,7 +13,7 @@ use Rattle.play.specs.declared.stop.Stop.{Stop}
 use Rattle.play.specs.declared.stop.Stop.TheVariants as stop
 use Rattle.ports.specs.Count.{next_count}
 use Rattle.ports.specs.Disk.{Fails, Moment, Since, stays}
-use Rattle.ports.specs.DiskCalls.{AsFarAs, DiskCall, with_calls}
+use Rattle.ports.specs.DiskCalls.{AsFarAs, DiskCall, ToOpen, with_calls}
 use Rattle.records.specs.declared.Body.TheVariants.{Certificate}
 use Rattle.records.specs.declared.CertBody.{CertBody}
 use Rattle.schedule_texts.specs.declared.line.RosterLine.{RosterLine}
@@ -59,10 +59,10 @@ pub record OpeningFails (name : List ℕ) (old new : OfDisk) : Type 0 where
   pub calls : StopsReading (open_calls name) old.moments old.calls new.calls
   pub moments : Fails stays old.moments new.moments
 
--- Memory was refused as the store was opened, or before: each crash leaves what it would have left before.
+-- Memory was refused as the file of this name was opened, or before: each crash leaves what it would have left before.
 pub record IsUnopened (name : List ℕ) (old new : OfDisk) : Type 0 where
   pub faults : new.faults ≡ old.faults
-  pub calls : AsFarAs (open_calls name) old.calls new.calls
+  pub calls : AsFarAs (ToOpen name ∷ []) old.calls new.calls
   pub moments : Fails stays old.moments new.moments
 
 -- the key with its leaves, and the store

@@ -81,10 +81,10 @@ pub record HasFailed (name : List ℕ) (s : Setting) (old new : OfDisk) : Type 0
   pub calls : AsFarAs (make_calls name (tag_of s) (first_of s)) old.calls new.calls
   pub moments : Fails (torn_at 0 (length (made (tag_of s) (first_of s)))) old.moments new.moments
 
--- Memory was refused, and the file is as it was.
-pub record IsUnmade (name : List ℕ) (s : Setting) (old new : OfDisk) : Type 0 where
+-- Memory was refused as the file of this name was opened, or before, and it is as it was.
+pub record IsUnmade (name : List ℕ) (old new : OfDisk) : Type 0 where
   pub faults : new.faults ≡ old.faults
-  pub calls : AsFarAs (make_calls name (tag_of s) (first_of s)) old.calls new.calls
+  pub calls : AsFarAs (ToOpen name ∷ []) old.calls new.calls
   pub same : new.moments ≡ old.moments
 
 -- ## The whole
@@ -99,7 +99,7 @@ MakesBehind name s between now old new (Err halt.StoreFault) = (now ≡ between)
 MakesBehind name s between now old new (Err (halt.StoreBroken place byte)) = ⊥
 MakesBehind name s between now old new (Err (halt.StoreTaken len)) = (now ≡ between) × IsTaken name len old new
 MakesBehind name s between now old new (Err (halt.Exhausted next)) = ⊥
-MakesBehind name s between now old new (Err halt.OutOfMemory) = (now ≡ between) × IsUnmade name s old new
+MakesBehind name s between now old new (Err halt.OutOfMemory) = (now ≡ between) × IsUnmade name old new
 
 -- The text was read whole, and nothing written or done for it yet; and so it went on.
 pub record Went (was : IoState) (Rest : Setting → IoState → Type 0) : Type 0 where

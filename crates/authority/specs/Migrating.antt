@@ -19,6 +19,7 @@ use Rattle.ports.specs.DiskCalls.{AsFarAs, DiskCall, with_calls}
 use Rattle.ports.specs.Outside.{OfDisk}
 use Rattle.schedule_texts.specs.declared.line.SecretLine.{SecretLine}
 use Rattle.schedule_texts.specs.declared.migrate.MigrateText.TheVariants as migrate
+use Rattle.signer.specs.Lives.{MovedLives, MovesLives}
 use Rattle.text_trace.specs.Trace.{Continuation}
 use Rattle.whole_text.specs.Gathered.{IsUnfinished, owed_whole}
 use Rattle.authority.specs.declared.halt.Halt.{Halt}
@@ -119,7 +120,9 @@ pub record OpensAndMoves (name : List ℕ) (m : Moving) (o : Stored) (seat : Sea
 
 -- A store of the key in the old group was found under this name, with an index left. It is now settled as the store of the key in
 -- the new group, with the next index raised by 1, the epoch found, and each ring of the new group enabled: each crash leaves such a
--- store. Where a crash before left the store that was found, each crash between left that one or this one.
+-- store. Where a crash before left the store that was found, each crash between left that one or this one. Where crashes before
+-- ended lives of the key in the old group, each crash now ends them in the new group, with nothing more spent, and each crash between
+-- in the one or the other.
 pub record IsMigrated (name : List ℕ) (m : Moving) (old new : OfDisk) (o : Stored) : Type 0 where
   pub faults : new.faults ≡ old.faults
   pub seat : Seat
@@ -128,6 +131,8 @@ pub record IsMigrated (name : List ℕ) (m : Moving) (old new : OfDisk) (o : Sto
   pub calls : OpensAndMoves name m o seat old.moments old.calls new.calls
   pub left : IsSettled (new_tag m) (state_moved m o) (seat_moved m o seat) new.moments
   pub any_moment : LeavesState (old_tag m) o old.moments → Since (LeavesOne m o) old.moments new.moments
+  pub lives : MovedLives (old_tag m) (new_tag m) old.moments new.moments
+  pub any_life : MovesLives (old_tag m) (new_tag m) old.moments new.moments
 
 -- The store moved, and its line was written.
 pub record AllMigrated (name : List ℕ) (m : Moving) (between now : IoState) (old new : OfDisk) : Type 0 where
@@ -148,7 +153,8 @@ pub record OpensAndFails (name : List ℕ) (m : Moving) (o : Stored) (seat : Sea
   pub last : AsFarAs (move_calls m o seat) between new
 
 -- The store was found with an index left, and the disk failed in its move: where a crash before left the store that was found, each
--- crash leaves that one or the moved one.
+-- crash leaves that one or the moved one. Where crashes before ended lives of the key in the old group, each crash ends them in the
+-- one or the other, with nothing more spent.
 pub record MovingFails (name : List ℕ) (m : Moving) (old new : OfDisk) : Type 0 where
   pub opened : Stored
   pub seat : Seat
@@ -157,6 +163,7 @@ pub record MovingFails (name : List ℕ) (m : Moving) (old new : OfDisk) : Type 
   pub faults : new.faults ≡ next_count old.faults
   pub calls : OpensAndFails name m opened seat old.moments old.calls new.calls
   pub any_moment : LeavesState (old_tag m) opened old.moments → Since (LeavesOne m opened) old.moments new.moments
+  pub any_life : MovesLives (old_tag m) (new_tag m) old.moments new.moments
 
 -- The key has no index left: the store was opened, and no more.
 pub record IsUsedUp (name : List ℕ) (m : Moving) (next : ℕ) (old new : OfDisk) : Type 0 where

@@ -1,19 +1,15 @@
 -- How a member's store is opened and its life begun.
 use Rattle.std.proofs.Common.{◌≡◌, ℕ, ◌≤◌, true, false, List, [], ◌∷◌, Result, Ok, Err, refl, sym, ap, subst, ◌∙◌, inl, inr, append-nil, arith}
-use Rattle.std.specs.Prelude.{IfErr}
 use Rattle.epoch_store.specs.declared.seat.Seat.{Seat}
 use Rattle.epoch_store.specs.declared.StoreError.{StoreError}
 use Rattle.epoch_store.specs.declared.StoreError.TheVariants as store
 use Rattle.epoch_store.specs.declared.Stored.{Stored}
-use Rattle.epoch_store.specs.Asked.{ReadsGates, open_calls}
+use Rattle.epoch_store.specs.Asked.{AsksToOpen}
 use Rattle.epoch_store.specs.Calls.{HoldsStore, IsNotTaken, OnRead, OpensAs, SettlesAs, StoreState, is_fault, same}
 use Rattle.epoch_store.specs.Store.{IsSettled, StoreAt}
 use Rattle.journal.specs.declared.event.Event as journal
-use Rattle.line_text.specs.declared.bad_word.BadWord.{BadWord}
 use Rattle.lms_tree.specs.Leaves.{index_count}
 use Rattle.lms_tree.specs.Lms.{public_of}
-use Rattle.play.specs.declared.stop.Stop.{Stop}
-use Rattle.play.specs.declared.stop.Stop.TheVariants as stop
 use Rattle.ports.specs.Count.{counted}
 use Rattle.ports.specs.Disk.{Fails, Moment, stays}
 use Rattle.ports.proofs.SinceLemmas.{Since-trans, Since-weaken}
@@ -30,12 +26,11 @@ use Rattle.node_core.specs.Begins.{MayRefuse, is_store_fault}
 use Rattle.node_core.specs.Playing.{Kept, setting_of}
 use Rattle.node_core.specs.Rolls.{recs_of}
 use Rattle.node_core.specs.Spending.{LivesOn, SpendsIn, SpendsUntold, spent_told}
-use Rattle.node_command.specs.declared.halt.NodeHalt.{NodeHalt}
 use Rattle.node_command.specs.declared.halt.NodeHalt.TheVariants as halt
 use Rattle.node_command.specs.declared.kit.Member.{Member}
-use Rattle.node_command.specs.Halts.{IsOfOpening, IsOfStart, IsServed, halt_by, halt_for, halt_of}
+use Rattle.node_command.specs.Halts.{IsOfOpening, IsOfStart, halt_by, halt_for}
 use Rattle.node_command.specs.Members.{tag_of}
-use Rattle.node_command.specs.Opening.{Begins, Ends, EndsFronts, Fresh, IsFound, OpensFile, Tells, setting_for, start_of}
+use Rattle.node_command.specs.Opening.{Begins, Ends, EndsFronts, Fresh, IsBroken, IsFound, OpensFile, Tells, setting_for, start_of}
 use Rattle.ports.specs.Outside.{OfDisk}
 
 -- ## The store
@@ -43,14 +38,17 @@ use Rattle.ports.specs.Outside.{OfDisk}
 abbrev failed : StoreError → Result StoreState StoreError
 failed e = Err e
 
+-- it is no store of the member's key
+broken-by : (m : Member) (tag : List ℕ) (old new : OfDisk) (e : StoreError) → tag ≡ tag_of m → new.faults ≡ old.faults → OpensAs tag old.moments (failed e) → SettlesAs same old.moments new.moments → Fails stays old.moments new.moments → IsBroken m (halt_for e) old new
+broken-by m tag old new e tag_is faults reads settles moments =
+    record { faults = faults; error = e; is = refl; reads = subst (λ t. OpensAs t old.moments (failed e)) tag_is reads; settles = settles; moments = moments }
+
 pub not-opened : (m : Member) (tag : List ℕ) (old new : OfDisk) (told : List journal.Event) (e : StoreError) → tag ≡ tag_of m → new.faults ≡ counted (is_fault (failed e)) old.faults
     → OpensAs tag old.moments (failed e) → IsNotTaken (failed e) → OnRead (failed e) (SettlesAs same old.moments new.moments) → Fails stays old.moments new.moments → Begins m old new told (Err (halt_for e))
 not-opened m tag old new told store.Fault tag_is faults reads taken settles moments = inl (record { faults = faults; moments = moments })
 not-opened m tag old new told (store.Taken len) tag_is faults reads taken settles moments = absurd taken
-not-opened m tag old new told (store.Broken place byte) tag_is faults reads taken settles moments =
-    record { faults = faults; error = store.Broken place byte; is = refl; reads = subst (λ t. OpensAs t old.moments (failed (store.Broken place byte))) tag_is reads; settles = settles; moments = moments }
-not-opened m tag old new told (store.OtherKey place byte) tag_is faults reads taken settles moments =
-    record { faults = faults; error = store.OtherKey place byte; is = refl; reads = subst (λ t. OpensAs t old.moments (failed (store.OtherKey place byte))) tag_is reads; settles = settles; moments = moments }
+not-opened m tag old new told (store.Broken place byte) tag_is faults reads taken settles moments = broken-by m tag old new (store.Broken place byte) tag_is faults reads settles moments
+not-opened m tag old new told (store.OtherKey place byte) tag_is faults reads taken settles moments = broken-by m tag old new (store.OtherKey place byte) tag_is faults reads settles moments
 not-opened m tag old new told store.OutOfMemory tag_is faults reads taken settles moments = inl (record { faults = faults; moments = moments })
 
 pub of-opening : (T : Type 0) (e : StoreError) → IsNotTaken {T = T} (Err e) → IsOfOpening e
@@ -115,7 +113,7 @@ fresh-at : (m : Member) (st : StoreState) (old mid : List Moment) → Tells old 
 fresh-at m st [] mid told settles is begun = absurd told
 fresh-at m st (was ∷ older) [] told settles is begun = absurd settles
 fresh-at m st (was ∷ older) (now ∷ past) told settles is begun =
-    (now.image, (st.seat, is.1), begun (tag_of m) now.image [] (now ∷ past) is (nothing_spent (tag_of m) now past is.0))
+    (now.image, (st.seat, is.1), begun (tag_of m) now.image [] (now ∷ past) is (nothing_spent (tag_of m) st.state now past is.0 (st.seat, is.1)))
 
 -- what is spent behind the opening
 fronts-so : (m : Member) (st : StoreState) (old mid new : OfDisk) (later : SignerState) (spent : List Spent) → Opened m st old mid → Begun m st mid.moments → LivesOn spent (signer_of m st) later mid.moments new.moments → EndsFronts m spent old new
@@ -212,44 +210,17 @@ not-started-from m st told old mid new signer fault h is begins faults cause spe
 -- ## The file
 
 -- which was refused, or not opened
-pub file-read : (T : Type 0) (name tag : List ℕ) (old new : OfDisk) (e : StoreError) → OpensAs tag old.moments (failed e) → ReadsGates (open_calls name) old.moments (failed e) old.calls new.calls → OpensFile {T = T} name old new (Err (halt_for e))
-file-read T name tag old new store.Fault reads calls = tt
-file-read T name tag old new (store.Taken len) reads calls = tt
-file-read T name tag old new (store.Broken place byte) reads calls = record { error = store.Broken place byte; is = refl; tag = tag; reads = reads; calls = calls }
-file-read T name tag old new (store.OtherKey place byte) reads calls = record { error = store.OtherKey place byte; is = refl; tag = tag; reads = reads; calls = calls }
-file-read T name tag old new store.OutOfMemory reads calls = tt
+pub file-read : (T : Type 0) (m : Member) (name tag : List ℕ) (old new : OfDisk) (e : StoreError) → tag ≡ tag_of m → new.faults ≡ counted (is_fault (failed e)) old.faults
+    → OpensAs tag old.moments (failed e) → OnRead (failed e) (SettlesAs same old.moments new.moments) → Fails stays old.moments new.moments → AsksToOpen name old.moments (failed e) old.calls new.calls → OpensFile {T = T} m name old new (Err (halt_for e))
+unfolding broken-by
+file-read T m name tag old new store.Fault tag_is faults reads settles moments calls = tt
+file-read T m name tag old new (store.Taken len) tag_is faults reads settles moments calls = tt
+file-read T m name tag old new (store.Broken place byte) tag_is faults reads settles moments calls = record { broken = broken-by m tag old new (store.Broken place byte) tag_is faults reads settles moments; calls = calls }
+file-read T m name tag old new (store.OtherKey place byte) tag_is faults reads settles moments calls = record { broken = broken-by m tag old new (store.OtherKey place byte) tag_is faults reads settles moments; calls = calls }
+file-read T m name tag old new store.OutOfMemory tag_is faults reads settles moments calls = tt
 
-pub file-started : (T : Type 0) (name : List ℕ) (old new : OfDisk) (fault : NodeFault) → OpensFile {T = T} name old new (Err (halt_by fault))
-file-started T name old new node.StoreFault = tt
-file-started T name old new node.OutOfMemory = tt
-file-started T name old new (node.Exhausted next) = tt
-file-started T name old new node.Ended = tt
-
-pub file-behind : (S T : Type 0) (name : List ℕ) (old new : OfDisk) (h : NodeHalt) → OpensFile {T = S} name old new (Err h) → OpensFile {T = T} name old new (Err h)
-file-behind S T name old new (halt.Refused line w) o = tt
-file-behind S T name old new halt.ReadFault o = tt
-file-behind S T name old new halt.WriteFault o = tt
-file-behind S T name old new halt.StoreFault o = tt
-file-behind S T name old new (halt.StoreBroken place byte) o = o
-file-behind S T name old new halt.LinkFault o = tt
-file-behind S T name old new (halt.Exhausted next) o = tt
-file-behind S T name old new halt.OutOfMemory o = tt
-
--- the life had begun
-pub file-served : (name : List ℕ) (old new : OfDisk) (result : Result (Unit {0}) NodeHalt) → IfErr result IsServed → OpensFile name old new result
-file-served name old new (Ok x) h = tt
-file-served name old new (Err (halt.Refused line w)) h = tt
-file-served name old new (Err halt.ReadFault) h = tt
-file-served name old new (Err halt.WriteFault) h = tt
-file-served name old new (Err halt.StoreFault) h = tt
-file-served name old new (Err (halt.StoreBroken place byte)) h = absurd h
-file-served name old new (Err halt.LinkFault) h = tt
-file-served name old new (Err (halt.Exhausted next)) h = tt
-file-served name old new (Err halt.OutOfMemory) h = tt
-
--- the text wasn't read
-pub file-unread : (name : List ℕ) (old new : OfDisk) (s : Stop BadWord) → OpensFile {T = Unit {0}} name old new (Err (halt_of s))
-file-unread name old new (stop.Refused line w) = tt
-file-unread name old new stop.ReadFault = tt
-file-unread name old new stop.WriteFault = tt
-file-unread name old new stop.OutOfMemory = tt
+pub file-started : (T : Type 0) (m : Member) (name : List ℕ) (old new : OfDisk) (fault : NodeFault) → OpensFile {T = T} m name old new (Err (halt_by fault))
+file-started T m name old new node.StoreFault = tt
+file-started T m name old new node.OutOfMemory = tt
+file-started T m name old new (node.Exhausted next) = tt
+file-started T m name old new node.Ended = tt

@@ -41,7 +41,7 @@ use Rattle.node_command.specs.declared.kit.Member.{Member}
 use Rattle.node_command.specs.declared.stay.Stay.{Stay}
 use Rattle.node_command.specs.Halts.{IsBehind, IsServed, halt_of, is_writable, is_write_fault}
 use Rattle.node_command.specs.Members.{IsMember, kit_judging, own_port, tag_of}
-use Rattle.node_command.specs.Opening.{Begins, IsBegun, setting_for, start_of}
+use Rattle.node_command.specs.Opening.{Begins, IsBegun, OpensFile, setting_for, start_of}
 use Rattle.ports.specs.Outside.{OfDisk}
 use Rattle.node_command.specs.Spendings.{IsSpentFrom}
 use Rattle.node_command.specs.Journal.{Environment, IsLived, IsUnsent, Lives, environment, bound_for, end_line, lines_of}
@@ -111,7 +111,7 @@ above low high (x ∷ xs) all = (omega (arith, all.0.0), above low high xs all.1
 -- what lives spend that go on from a store
 pub spent-from : (m : Member) (stored : Stored) (image : List ℕ) (spent : List Spent) (s : SignerState) (moments : List Moment) → StoreOf (tag_of m) image stored → IsLiving (tag_of m) image spent s moments → IsSpentFrom stored spent
 spent-from m stored image spent s moments store living =
-    let a = living_spend (tag_of m) image stored living.earlier living.opened living.bodies (tag-long m) store living.are living.found living.may_come in
+    let a = living_spend (tag_of m) (tag_of m) image stored living.earlier living.opened living.bodies store living.are living.found living.may_come in
     let x = subst (λ (xs : List Spent). SpendsTo stored a.end xs) (sym living.spent_is) a.spends_so in
     record {
       once = record { indexes_rise = x.rising; epochs_rise = x.epochs_rising };
@@ -305,46 +305,46 @@ begins-behind m old new events halt.OutOfMemory b = tt
 -- ## The store
 
 -- it was not opened, or the life not begun
-pub begins-cause : (m : Member) (old new : OfDisk) (events : List journal.Event) (h : NodeHalt) → Begins m old new events (Err h) → IsStoreCause m old new (Err h)
-begins-cause m old new events (halt.Refused line w) b = tt
-begins-cause m old new events halt.ReadFault b = tt
-begins-cause m old new events halt.WriteFault b = tt
-begins-cause m old new events halt.StoreFault b = tt
-begins-cause m old new events (halt.StoreBroken place byte) b = b
-begins-cause m old new events halt.LinkFault b = tt
-begins-cause m old new events (halt.Exhausted next) b = b
-begins-cause m old new events halt.OutOfMemory b = tt
+pub begins-cause : (m : Member) (name : List ℕ) (old new : OfDisk) (events : List journal.Event) (h : NodeHalt) → Begins m old new events (Err h) → OpensFile {T = Kept} m name old new (Err h) → IsStoreCause m name old new (Err h)
+begins-cause m name old new events (halt.Refused line w) b o = tt
+begins-cause m name old new events halt.ReadFault b o = tt
+begins-cause m name old new events halt.WriteFault b o = tt
+begins-cause m name old new events halt.StoreFault b o = tt
+begins-cause m name old new events (halt.StoreBroken place byte) b o = o
+begins-cause m name old new events halt.LinkFault b o = tt
+begins-cause m name old new events (halt.Exhausted next) b o = b
+begins-cause m name old new events halt.OutOfMemory b o = tt
 
 -- the life had begun
-pub served-cause : (m : Member) (old new : OfDisk) (result : Result (Unit {0}) NodeHalt) → IfErr result IsServed → IsStoreCause m old new result
-served-cause m old new (Ok x) h = tt
-served-cause m old new (Err (halt.Refused line w)) h = absurd h
-served-cause m old new (Err halt.ReadFault) h = absurd h
-served-cause m old new (Err halt.WriteFault) h = tt
-served-cause m old new (Err halt.StoreFault) h = tt
-served-cause m old new (Err (halt.StoreBroken place byte)) h = absurd h
-served-cause m old new (Err halt.LinkFault) h = tt
-served-cause m old new (Err (halt.Exhausted next)) h = absurd h
-served-cause m old new (Err halt.OutOfMemory) h = tt
+pub served-cause : (m : Member) (name : List ℕ) (old new : OfDisk) (result : Result (Unit {0}) NodeHalt) → IfErr result IsServed → IsStoreCause m name old new result
+served-cause m name old new (Ok x) h = tt
+served-cause m name old new (Err (halt.Refused line w)) h = absurd h
+served-cause m name old new (Err halt.ReadFault) h = absurd h
+served-cause m name old new (Err halt.WriteFault) h = tt
+served-cause m name old new (Err halt.StoreFault) h = tt
+served-cause m name old new (Err (halt.StoreBroken place byte)) h = absurd h
+served-cause m name old new (Err halt.LinkFault) h = tt
+served-cause m name old new (Err (halt.Exhausted next)) h = absurd h
+served-cause m name old new (Err halt.OutOfMemory) h = tt
 
 -- the text was read
-pub read-cause : (was between : IoState) (m : Member) (old new : OfDisk) (result : Result (Unit {0}) NodeHalt) → IsMember was between m → IsStoreCause m old new result → IsCaused was old new result
-read-cause was between m old new (Ok x) read h = tt
-read-cause was between m old new (Err (halt.Refused line w)) read h = tt
-read-cause was between m old new (Err halt.ReadFault) read h = tt
-read-cause was between m old new (Err halt.WriteFault) read h = tt
-read-cause was between m old new (Err halt.StoreFault) read h = tt
-read-cause was between m old new (Err (halt.StoreBroken place byte)) read h = record { member = m; between = between; read = read; cause = h }
-read-cause was between m old new (Err halt.LinkFault) read h = tt
-read-cause was between m old new (Err (halt.Exhausted next)) read h = record { member = m; between = between; read = read; cause = h }
-read-cause was between m old new (Err halt.OutOfMemory) read h = tt
+pub read-cause : (name : List ℕ) (was between : IoState) (m : Member) (old new : OfDisk) (result : Result (Unit {0}) NodeHalt) → IsMember was between m → IsStoreCause m name old new result → IsCaused name was old new result
+read-cause name was between m old new (Ok x) read h = tt
+read-cause name was between m old new (Err (halt.Refused line w)) read h = tt
+read-cause name was between m old new (Err halt.ReadFault) read h = tt
+read-cause name was between m old new (Err halt.WriteFault) read h = tt
+read-cause name was between m old new (Err halt.StoreFault) read h = tt
+read-cause name was between m old new (Err (halt.StoreBroken place byte)) read h = record { member = m; between = between; read = read; cause = h }
+read-cause name was between m old new (Err halt.LinkFault) read h = tt
+read-cause name was between m old new (Err (halt.Exhausted next)) read h = record { member = m; between = between; read = read; cause = h }
+read-cause name was between m old new (Err halt.OutOfMemory) read h = tt
 
 -- it wasn't
-pub cut-cause : (was : IoState) (old new : OfDisk) (s : Stop BadWord) → IsCaused was old new (Err (halt_of s))
-cut-cause was old new (stop.Refused line w) = tt
-cut-cause was old new stop.ReadFault = tt
-cut-cause was old new stop.WriteFault = tt
-cut-cause was old new stop.OutOfMemory = tt
+pub cut-cause : (name : List ℕ) (was : IoState) (old new : OfDisk) (s : Stop BadWord) → IsCaused name was old new (Err (halt_of s))
+cut-cause name was old new (stop.Refused line w) = tt
+cut-cause name was old new stop.ReadFault = tt
+cut-cause name was old new stop.WriteFault = tt
+cut-cause name was old new stop.OutOfMemory = tt
 
 -- what was taken where the text was cut off
 pub cut-takes : (was now : IoState) (old new : OfDisk) (s : Stop BadWord) → IsUnfinished kit_judging kit.Start was now s → new ≡ old → Takes was now old new (Err (halt_of s))

@@ -42,20 +42,6 @@ start_of m stored = started (setting_for m) (nonce_seed m.own.secret stored.next
 abbrev pub IsFound : Member → Stored → OfDisk → Type 0
 IsFound m stored old = (seat : Seat) × HoldsStore (tag_of m) stored seat old.moments
 
--- A store was refused: the calls made were those that open the file of this name, and read its gates up to the one at which it
--- breaks, or up to the closed one where its reading comes to another tag; as its reading says, which breaks for each tag or none.
-pub record IsRefused (name : List ℕ) (h : NodeHalt) (old new : OfDisk) : Type 0 where
-  pub error : StoreError
-  pub is : halt_for error ≡ h
-  pub tag : List ℕ
-  pub reads : OpensAs tag old.moments (Err error)
-  pub calls : ReadsGates (open_calls name) old.moments (Err error) old.calls new.calls
-
-abbrev pub OpensFile : {T : Type 0} → List ℕ → OfDisk → OfDisk → Result T NodeHalt → Type 0
-OpensFile name old new (Ok value) = Unit {0}
-OpensFile name old new (Err (halt.StoreBroken place byte)) = IsRefused name (halt.StoreBroken place byte) old new
-OpensFile name old new (Err other) = Unit {0}
-
 -- The disk failed as the store was opened: each crash leaves what it would have left before.
 pub record OpeningFails (old new : OfDisk) : Type 0 where
   pub faults : new.faults ≡ next_count old.faults
@@ -69,6 +55,17 @@ pub record IsBroken (m : Member) (h : NodeHalt) (old new : OfDisk) : Type 0 wher
   pub reads : OpensAs (tag_of m) old.moments (Err error)
   pub settles : SettlesAs same old.moments new.moments
   pub moments : Fails stays old.moments new.moments
+
+-- And the calls made were those that open the file of this name, and read its gates up to the one at which it breaks, or up to
+-- the closed one where its reading comes to another tag.
+pub record IsRefused (m : Member) (name : List ℕ) (h : NodeHalt) (old new : OfDisk) : Type 0 where
+  pub broken : IsBroken m h old new
+  pub calls : ReadsGates (open_calls name) old.moments (Err broken.error) old.calls new.calls
+
+abbrev pub OpensFile : {T : Type 0} → Member → List ℕ → OfDisk → OfDisk → Result T NodeHalt → Type 0
+OpensFile m name old new (Ok value) = Unit {0}
+OpensFile m name old new (Err (halt.StoreBroken place byte)) = IsRefused m name (halt.StoreBroken place byte) old new
+OpensFile m name old new (Err other) = Unit {0}
 
 -- where crashes end the lives of the key so at first, each crash now ends them with these spent beside
 abbrev pub Ends : Member → List Spent → OfDisk → OfDisk → Type 0

@@ -26,7 +26,7 @@ use Rattle.node_command.specs.declared.kit.Member.{Member}
 use Rattle.node_command.specs.declared.stay.Stay.{Stay}
 use Rattle.node_command.specs.Halts.{is_write_fault}
 use Rattle.node_command.specs.Members.{IsMember, kit_judging, own_port, tag_of}
-use Rattle.node_command.specs.Opening.{Ends, IsBegun, IsBroken, IsFound, IsUnopened, IsUnstarted, IsUsedUp, OpeningFails, StartFails, Tells, setting_for, start_of}
+use Rattle.node_command.specs.Opening.{Ends, IsBegun, IsBroken, IsFound, IsRefused, IsUnopened, IsUnstarted, IsUsedUp, OpeningFails, StartFails, Tells, setting_for, start_of}
 use Rattle.ports.specs.Outside.{OfDisk}
 use Rattle.node_command.specs.Spendings.{IsSpentFrom, kept_behind}
 use Rattle.node_command.specs.Journal.{Environment, Lives, bound_for, course_of, journal_of}
@@ -137,23 +137,23 @@ Runs feed was now old new result = Went was now old new (λ m between after. Run
 -- ## What holds whether or not link and clock are modelled
 
 -- The store was found broken, or used up, where it is so by its reading.
-abbrev pub IsStoreCause : Member → OfDisk → OfDisk → Result (Unit {0}) NodeHalt → Type 0
-IsStoreCause m old new (Err (halt.StoreBroken place byte)) = IsBroken m (halt.StoreBroken place byte) old new
-IsStoreCause m old new (Err (halt.Exhausted next)) = IsUsedUp m next old new
-IsStoreCause m old new other = Unit {0}
+abbrev pub IsStoreCause : Member → List ℕ → OfDisk → OfDisk → Result (Unit {0}) NodeHalt → Type 0
+IsStoreCause m name old new (Err (halt.StoreBroken place byte)) = IsRefused m name (halt.StoreBroken place byte) old new
+IsStoreCause m name old new (Err (halt.Exhausted next)) = IsUsedUp m next old new
+IsStoreCause m name old new other = Unit {0}
 
 -- The same of the member that the text sets up.
-pub record IsCausedBy (was : play.IoState) (old new : OfDisk) (result : Result (Unit {0}) NodeHalt) : Type 0 where
+pub record IsCausedBy (name : List ℕ) (was : play.IoState) (old new : OfDisk) (result : Result (Unit {0}) NodeHalt) : Type 0 where
   pub member : Member
   pub between : play.IoState
   pub read : IsMember was between member
-  pub cause : IsStoreCause member old new result
+  pub cause : IsStoreCause member name old new result
 
 -- A store is answered as broken, or as used up, only where it is so by its reading.
-abbrev pub IsCaused : play.IoState → OfDisk → OfDisk → Result (Unit {0}) NodeHalt → Type 0
-IsCaused was old new (Err (halt.StoreBroken place byte)) = IsCausedBy was old new (Err (halt.StoreBroken place byte))
-IsCaused was old new (Err (halt.Exhausted next)) = IsCausedBy was old new (Err (halt.Exhausted next))
-IsCaused was old new other = Unit {0}
+abbrev pub IsCaused : List ℕ → play.IoState → OfDisk → OfDisk → Result (Unit {0}) NodeHalt → Type 0
+IsCaused name was old new (Err (halt.StoreBroken place byte)) = IsCausedBy name was old new (Err (halt.StoreBroken place byte))
+IsCaused name was old new (Err (halt.Exhausted next)) = IsCausedBy name was old new (Err (halt.Exhausted next))
+IsCaused name was old new other = Unit {0}
 
 -- The whole text was taken, none of whose lines is refused, and nothing was read behind it. Whether a write failed is said.
 pub record TookWhole (was now : play.IoState) (failed : Bool) : Type 0 where

@@ -25,7 +25,7 @@ pub fn begin<D: Disk>(
     requires untold { events.old ≡ [] }
     ensures begins { Begins member
         (D.state disk.old) (D.state disk.new) events.new result }
-    ensures opened { OpensFile name.now (D.state disk.old) (D.state disk.new) result }
+    ensures opened { OpensFile member name.now (D.state disk.old) (D.state disk.new) result }
 {
     let Member {
         group,

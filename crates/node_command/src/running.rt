@@ -7,7 +7,6 @@ ghost use Rattle.ports.specs.Link.{LinkState};
 ghost use Rattle.node_command.specs.Halts.{IsBehind, is_writable, is_write_fault};
 ghost use Rattle.node_command.specs.Journal.{environment, bound_for};
 ghost use Rattle.node_command.specs.Members.{IsSoundMember};
-ghost use Rattle.node_command.specs.Opening.{OpensFile};
 ghost use Rattle.node_command.specs.Spendings.{Spends, SpendsBehind};
 ghost use Rattle.node_command.specs.Written.{LinesRest};
 ghost use Rattle.node_command.specs.Running.{NetInputs, IsCaused, IsStoreCause, Runs, RunsBehind, RunsOnce, Takes};
@@ -45,9 +44,8 @@ fn begin_and_live<D: Disk, L: Link, C: Clock, O: Sink>(
         → Rose (D.state disk.old).faults (D.state disk.new).faults) }
     ensures bound { IfErr result (λ h. h ≢ NodeHalt.LinkFault) }
     ensures behind { IfErr result IsBehind }
-    ensures cause { IsStoreCause member
+    ensures cause { IsStoreCause member name.now
         (D.state disk.old) (D.state disk.new) result }
-    ensures opened { OpensFile name.now (D.state disk.old) (D.state disk.new) result }
     ensures spends { SpendsBehind member (O.state out.old).taken (O.state out.new).taken
         (D.state disk.old) (D.state disk.new)
         (L.state link.old).faults (L.state link.new).faults result }
@@ -99,9 +97,8 @@ fn bind_and_live<D: Disk, L: Link, C: Clock, O: Sink>(
     ensures behind { IfErr result IsBehind }
     ensures unwritten { IfErr result (λ h. h ≡ NodeHalt.LinkFault → out.new ≡ out.old) }
     ensures undone { IfErr result (λ h. h ≡ NodeHalt.LinkFault → disk.new ≡ disk.old) }
-    ensures cause { IsStoreCause member
+    ensures cause { IsStoreCause member name.now
         (D.state disk.old) (D.state disk.new) result }
-    ensures opened { OpensFile name.now (D.state disk.old) (D.state disk.new) result }
     ensures spends { SpendsBehind member (O.state out.old).taken (O.state out.new).taken
         (D.state disk.old) (D.state disk.new)
         (L.state link.old).faults (L.state link.new).faults result }
@@ -143,10 +140,9 @@ fn read_and_run<S: Source, O: Sink, D: Disk, L: Link, C: Clock>(
         (io (S.state input.old) (O.state out.old))
         (io (S.state input.new) (O.state out.new))
         (D.state disk.old) (D.state disk.new) result }
-    ensures cause { IsCaused
+    ensures cause { IsCaused name.now
         (io (S.state input.old) (O.state out.old))
         (D.state disk.old) (D.state disk.new) result }
-    ensures opened { OpensFile name.now (D.state disk.old) (D.state disk.new) result }
     ensures spends { Spends
         (io (S.state input.old) (O.state out.old))
         (io (S.state input.new) (O.state out.new))
@@ -197,10 +193,9 @@ pub fn run_node<S: Source, O: Sink, D: Disk, L: Link, C: Clock>(
         (io (S.state input.old) (O.state out.old))
         (io (S.state input.new) (O.state out.new))
         (D.state disk.old) (D.state disk.new) result }
-    ensures cause { IsCaused
+    ensures cause { IsCaused name.now
         (io (S.state input.old) (O.state out.old))
         (D.state disk.old) (D.state disk.new) result }
-    ensures opened { OpensFile name.now (D.state disk.old) (D.state disk.new) result }
     ensures runs { (feed : NetInputs) → (L.state link.old).contents ≡ Some feed.link
         → (C.state clock.old).coming ≡ Some feed.readings
         → (C.state clock.old).reading ≡ feed.reading → stay ≡ feed.stay

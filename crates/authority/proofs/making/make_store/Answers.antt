@@ -23,5 +23,5 @@ returns-in-Err-prepare-clause-makes g c = inr (record {
   setting = c.in-Ok.setting;
   between = io (g.S.Source.state c.read_secret_text.new.input) (g.O.Sink.state c.read_secret_text.new.out);
   read = c.in-Ok.ensures.sets;
-  rest = (refl, record { faults = refl; calls = record { left_out = 4; made = refl }; same = refl });
+  rest = (refl, record { faults = refl; calls = record { left_out = 1; made = refl }; same = refl });
 })

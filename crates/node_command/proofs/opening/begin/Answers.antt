@@ -5,7 +5,7 @@ use Rattle.epoch_store.specs.Calls.{StoreState}
 use Rattle.epoch_store.specs.declared.Stored.{Stored}
 use Rattle.node_core.specs.Playing.{Kept}
 use Rattle.node_command.specs.Members.{tag_of}
-use Rattle.node_command.proofs.OpenLemmas.{file-started, opened, used-up, of-opening, of-start, signer_of, started-from, not-started-from}
+use Rattle.node_command.proofs.OpenLemmas.{file-read, file-started, opened, used-up, of-opening, of-start, signer_of, started-from, not-started-from}
 use Rattle.node_command.proofs.opening.begin.Goals as goal
 
 pub returns-then-next-index_count : goal.returns-then-next-index_count
@@ -25,6 +25,13 @@ unopened-requires g c = of-opening StoreState c.in-Err.error c.in-Err.ensures.no
 
 pub unstarted-requires : goal.unstarted-requires
 unstarted-requires g c = of-start c.open-signer.result c.in-Err-start.fault c.in-Err-start.ensures.cause
+
+pub returns-in-Err-clause-opened : goal.returns-in-Err-clause-opened
+returns-in-Err-clause-opened g c =
+    let m = c.args.member in
+    let tag : c.store_tag.result ≡ tag_of m = c.store_tag.ensures ∙ ap (store_tag m.group) c.public-public.ensures in
+    let e = c.in-Err.ensures in
+    rw c.unopened.ensures (file-read Kept m c.args.name.now c.store_tag.result (g.D.Disk.state c.args.disk.now) (g.D.Disk.state c.open.new.disk) c.in-Err.error tag e.faults e.reads e.settles e.any_moment e.calls)
 
 pub open-signer-requires-clause-within : goal.open-signer-requires-clause-within
 open-signer-requires-clause-within g c =
@@ -63,7 +70,7 @@ returns-in-Err-start g c =
     let is : c.open-signer.result ≡ signer_of m st = c.open-signer.ensures.value ∙ ap (λ k. record (signer_of m st) { key = k }) c.split-tree.ensures.tree in
     let e = c.in-Err-start.ensures in
     record {
-      opened = rw c.unstarted.ensures (file-started Kept c.args.name.now old new c.in-Err-start.fault);
+      opened = rw c.unstarted.ensures (file-started Kept m c.args.name.now old new c.in-Err-start.fault);
       begins = rw c.unstarted.ensures
           (not-started-from m st c.start.new.events old mid new c.open-signer.result c.in-Err-start.fault h is c.open-signer.ensures.begins e.faults e.cause e.spends);
     }

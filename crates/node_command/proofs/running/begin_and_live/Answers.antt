@@ -3,7 +3,6 @@ use Rattle.ports.specs.Count.{counted}
 use Rattle.node_core.specs.Playing.{Kept}
 use Rattle.node_command.specs.Journal.{environment, bound_for}
 use Rattle.node_command.specs.Opening.{setting_for, start_of}
-use Rattle.node_command.proofs.OpenLemmas.{file-behind, file-served}
 use Rattle.node_command.proofs.RunLemmas.{begins-behind, begins-bound, begins-cause, begins-rose, begins-writable, begun-unsent, calm-behind, lived-run, not-begun, rose-behind, served-cause}
 use Rattle.node_command.proofs.SpendLemmas.{begun-spends, unbegun-spends}
 use Rattle.node_command.proofs.running.begin_and_live.Goals as goal
@@ -55,13 +54,7 @@ returns-clause-behind g c = begins-behind c.args.member _ _ c.begin.new.events c
 
 pub returns-in-Ok-clause-cause : goal.returns-in-Ok-clause-cause
 returns-in-Ok-clause-cause g c =
-    served-cause c.args.member (g.D.Disk.state c.args.disk.now) (g.D.Disk.state c.live-ended.new.disk) c.live-ended.result c.live-ended.ensures.served
+    served-cause c.args.member c.args.name.now (g.D.Disk.state c.args.disk.now) (g.D.Disk.state c.live-ended.new.disk) c.live-ended.result c.live-ended.ensures.served
 
 pub returns-clause-cause : goal.returns-clause-cause
-returns-clause-cause g c = begins-cause c.args.member _ _ c.begin.new.events c.in-Err.halt c.in-Err.ensures.begins
-
-pub returns-in-Ok-clause-opened : goal.returns-in-Ok-clause-opened
-returns-in-Ok-clause-opened g c = file-served c.args.name.now (g.D.Disk.state c.args.disk.now) (g.D.Disk.state c.live-ended.new.disk) c.live-ended.result c.live-ended.ensures.served
-
-pub returns-clause-opened : goal.returns-clause-opened
-returns-clause-opened g c = file-behind Kept (Unit {0}) c.args.name.now (g.D.Disk.state c.args.disk.now) (g.D.Disk.state c.begin.new.disk) c.in-Err.halt c.in-Err.ensures.opened
+returns-clause-cause g c = begins-cause c.args.member c.args.name.now _ _ c.begin.new.events c.in-Err.halt c.in-Err.ensures.begins c.in-Err.ensures.opened

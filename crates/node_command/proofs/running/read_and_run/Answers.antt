@@ -6,7 +6,6 @@ use Rattle.node_command.specs.declared.halt.NodeHalt.TheVariants as halt
 use Rattle.node_command.specs.Halts.{is_writable}
 use Rattle.node_command.specs.Journal.{environment}
 use Rattle.node_command.specs.Running.{IsCaused}
-use Rattle.node_command.proofs.OpenLemmas.{file-unread}
 use Rattle.node_command.proofs.RunLemmas.{cut-cause, cut-takes, read-cause, same-out, stop-unlinked, stop-unstored, unread, unread-writable, went, whole-takes}
 use Rattle.node_command.proofs.SpendLemmas.{cut-spends, read-spends, ungathered-spends}
 use Rattle.node_command.proofs.running.read_and_run.Goals as goal
@@ -66,11 +65,11 @@ pub returns-in-Err-clause-cause : goal.returns-in-Err-clause-cause
 returns-in-Err-clause-cause g c =
     let was = io (g.S.Source.state c.args.input.now) (g.O.Sink.state c.args.out.now) in
     let disk = g.D.Disk.state c.args.disk.now in
-    subst (λ (h : NodeHalt). IsCaused was disk disk (Err h)) (sym c.from.ensures) (cut-cause was disk disk c.in-Err.stop)
+    subst (λ (h : NodeHalt). IsCaused c.args.name.now was disk disk (Err h)) (sym c.from.ensures) (cut-cause c.args.name.now was disk disk c.in-Err.stop)
 
 pub returns-in-Ok-member_of-clause-cause : goal.returns-in-Ok-member_of-clause-cause
 returns-in-Ok-member_of-clause-cause g c =
-    read-cause _ _ c.in-Ok-member_of.member (g.D.Disk.state c.args.disk.now) (g.D.Disk.state c.bind_and_live.new.disk) c.bind_and_live.result
+    read-cause c.args.name.now _ _ c.in-Ok-member_of.member (g.D.Disk.state c.args.disk.now) (g.D.Disk.state c.bind_and_live.new.disk) c.bind_and_live.result
     (record { lines = c.in-Ok.lines.items; whole = c.in-Ok.ensures.whole; is = c.in-Ok-member_of.ensures.value; sound = c.in-Ok-member_of.ensures.sound }) c.bind_and_live.ensures.cause
 
 pub returns-in-Err-clause-spends : goal.returns-in-Err-clause-spends
@@ -85,6 +84,3 @@ returns-in-Ok-member_of-clause-spends g c =
     let now = io (g.S.Source.state c.read_whole.new.input) (g.O.Sink.state c.bind_and_live.new.out) in
     read-spends _ between now c.in-Ok-member_of.member (g.D.Disk.state c.args.disk.now) (g.D.Disk.state c.bind_and_live.new.disk) _ _ c.bind_and_live.result
     (record { lines = c.in-Ok.lines.items; whole = c.in-Ok.ensures.whole; is = c.in-Ok-member_of.ensures.value; sound = c.in-Ok-member_of.ensures.sound }) c.bind_and_live.ensures.spends
-
-pub returns-in-Err-clause-opened : goal.returns-in-Err-clause-opened
-returns-in-Err-clause-opened g c = rw c.from.ensures (file-unread c.args.name.now (g.D.Disk.state c.args.disk.now) (g.D.Disk.state c.args.disk.now) c.in-Err.stop)
